@@ -1,0 +1,10 @@
+pub mod Summing
+pub mod StoredLemmas
+pub mod NumberLemmas
+pub mod PlainLemmas
+pub mod PlainSpells
+pub mod CharacterLemmas
+pub mod BicLemmas
+pub mod IsinLemmas
+pub mod DayLemmas
+pub mod SpellingLaws

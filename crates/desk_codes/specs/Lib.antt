@@ -1,0 +1,10 @@
+pub mod ShortText
+pub mod Characters
+pub mod Reference
+pub mod Account
+pub mod CheckDigit
+pub mod Isin
+pub mod Bic
+pub mod Currency
+pub mod Number
+pub mod Day
