@@ -1,0 +1,97 @@
+//! What a participant instructs.
+ghost use Rattle.std.specs.Prelude.{◌≡◌, ◌<◌, ◌≤◌, true, length, is_some};
+ghost use Rattle.std.specs.Option.{ForSome};
+ghost use Rattle.desk_codes.specs.Number.{plain};
+ghost use Rattle.desk_codes.specs.Currency.{decimals_of};
+ghost use Rattle.desk_msg.specs.MessageType.{is_instruction, is_against_payment};
+
+use crate::mt::Mt;
+use desk_codes::{AccountId, Bic, Ccy, Day, Isin, Reference};
+use std::marker::Model;
+
+/// Whether a security is counted in units or by face amount (ISO 15022, field 36B, quantity type code).
+#[derive(Clone, Copy, Debug, PartialEq, Eq, PartialOrd, Ord)]
+pub enum Kind {
+    /// UNIT
+    Unit,
+    /// FAMT
+    FaceAmount,
+}
+
+/// The type of a settlement transaction, as TRAD: four letters or digits (ISO 15022, field 22F,
+/// qualifier SETR).
+#[derive(Clone, Copy, Debug, PartialEq, Eq, PartialOrd, Ord)]
+pub struct SettlementType {
+    code: [u8; 4],
+}
+
+impl Model for SettlementType {
+    ghost use Rattle.std.specs.Prelude.{List, ℕ, All};
+    ghost use Rattle.desk_codes.specs.Characters.{IsCodeChar};
+
+    ghost Value = { List ℕ };
+
+    ghost view = { λ settlement. settlement.code };
+
+    ghost invariant = { λ settlement. All IsCodeChar settlement.code };
+
+    ghost inverse = { λ text. record { code = text } };
+}
+
+/// An amount of money above 0, in minor units, whose written form has at most 15 characters (ISO 15022,
+/// format 15d).
+#[derive(Clone, Copy, Debug, PartialEq, Eq)]
+pub struct Cash {
+    pub ccy: Ccy,
+    pub amount: u64,
+    ghost some: { 0 < amount },
+    ghost short: { length (plain amount (decimals_of ccy)) ≤ 15 },
+}
+
+/// An instruction to receive or deliver securities, free or against payment: a new MT540, MT541, MT542 or
+/// MT543. `cash` is there exactly against payment.
+#[derive(Clone, Copy, Debug, PartialEq, Eq)]
+pub struct Instruction {
+    pub mt: Mt,
+    /// The sender's reference (20C SEME)
+    pub reference: Reference,
+    /// The settlement date (98A or 98C SETT)
+    pub day: Day,
+    /// The security (35B)
+    pub isin: Isin,
+    pub kind: Kind,
+    /// How much of the security, in units or by face amount (36B SETT)
+    pub quantity: u64,
+    /// The sender's safekeeping account (97A SAFE)
+    pub account: AccountId,
+    pub settlement: SettlementType,
+    /// The other side: the delivering agent of a receipt (95P DEAG), the receiving agent of a delivery
+    /// (95P REAG)
+    pub counterparty: Bic,
+    /// The place of settlement (95P PSET)
+    pub place: Bic,
+    /// The settlement amount (19A SETT)
+    pub cash: Option<Cash>,
+    ghost instructs: { is_instruction mt ≡ true },
+    ghost some: { 0 < quantity },
+    ghost short: { length (plain quantity 0) ≤ 15 },
+    ghost paid: { is_some cash ≡ is_against_payment mt },
+}
+
+/// A request to cancel the sender's own instruction of the same type (function CANC).
+#[derive(Clone, Copy, Debug, PartialEq, Eq)]
+pub struct CancelOrder {
+    pub mt: Mt,
+    /// The sender's reference (20C SEME)
+    pub reference: Reference,
+    /// The reference of the instruction to cancel (20C PREV)
+    pub previous: Reference,
+    ghost instructs: { is_instruction mt ≡ true },
+}
+
+/// What a message of a participant says.
+#[derive(Clone, Copy, Debug, PartialEq, Eq)]
+pub enum Message {
+    New(Instruction),
+    Cancel(CancelOrder),
+}

@@ -1,0 +1,11 @@
+//! The messages of settlement, category 5 of ISO 15022: what a participant instructs.
+//!
+//! An `Instruction` or a `CancelOrder` keeps the conditions of the profile in its type, so that nothing
+//! above tests them again. Begin with `instruction.rt`.
+#![tactic(auto)]
+
+mod instruction;
+mod mt;
+
+pub use instruction::{CancelOrder, Cash, Instruction, Kind, Message, SettlementType};
+pub use mt::Mt;
