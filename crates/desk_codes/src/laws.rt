@@ -9,24 +9,20 @@ ghost use Rattle.desk_codes.specs.Number.{Spells, plain};
 pub fn one_check_digit()
     ensures { (text : List ℕ) (digit : ℕ) → digit < 10
         → ((weighed_sum (expanded text) + digit) % 10 ≡ 0) ↔ (digit ≡ check_of text) }
-{
-}
+{}
 
 /// A text spells one value.
 pub fn one_value()
     ensures { (text : List ℕ) (a b d : ℕ) → Spells text a d → Spells text b d → a ≡ b }
-{
-}
+{}
 
 /// What is written spells the value.
 pub fn written_spells()
     ensures { (value d : ℕ) → value < 2 ^ 64 → d ≤ 3 → Spells (plain value d) value d }
-{
-}
+{}
 
 /// No text that spells a value is shorter than the written one. So what was read is written back to a
 /// text no longer than what was read.
 pub fn shortest_spelling()
     ensures { (text : List ℕ) (value d : ℕ) → value < 2 ^ 64 → d ≤ 3 → Spells text value d → length (plain value d) ≤ length text }
-{
-}
+{}
