@@ -1,0 +1,31 @@
+//! The program's words, and its answers over a writer in memory.
+use crate::run::run;
+use crate::words::{Call, call_of};
+use std::test::Fail;
+
+#[test]
+fn reads_words(rt: HostRuntime) -> Result<(), Fail> {
+    let alloc = rt.alloc();
+    assert_eq!(rt; call_of(alloc, &["desk", "isin", "US0378331005"])?, Some(Call::Isin("US0378331005")));
+    assert_eq!(rt; call_of(alloc, &["desk", "isin", ""])?, Some(Call::Isin("")));
+    assert!(rt; call_of(alloc, &["desk", "isin"]).is_err_and(|e| e.exit_code() == 2));
+    assert!(rt; call_of(alloc, &["desk", "nothing"]).is_err_and(|e| e.exit_code() == 2));
+    assert!(rt; call_of(alloc, &["desk", "--help"]).is_err_and(|e| e.exit_code() == 0));
+    Ok(())
+}
+
+#[test]
+fn answers(rt: HostRuntime) -> Result<(), Fail> {
+    for (code, status, line) in [
+        ("US0378331005", 0, b"valid\n".as_slice()),
+        ("US0378331004", 1, b"check 5\n".as_slice()),
+        ("us0378331005", 1, b"prefix\n".as_slice()),
+        ("US03783310-5", 1, b"body\n".as_slice()),
+        ("", 1, b"length\n".as_slice()),
+    ] {
+        let mut printed = Vec::new(rt.alloc());
+        assert_eq!(rt; run(rt.alloc(), &["desk", "isin", code], &mut printed), status);
+        assert_eq!(rt; printed.as_slice(), line);
+    }
+    Ok(())
+}
