@@ -1,2 +1,3 @@
 pub mod LinesLemmas
 pub mod StepLemmas
+pub mod WrittenLemmas
