@@ -1,3 +1,6 @@
 pub mod LinesLemmas
 pub mod StepLemmas
 pub mod WrittenLemmas
+pub mod SignLemmas
+pub mod ReadingLemmas
+pub mod FaultLemmas
