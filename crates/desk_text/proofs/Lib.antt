@@ -4,3 +4,4 @@ pub mod WrittenLemmas
 pub mod SignLemmas
 pub mod ReadingLemmas
 pub mod FaultLemmas
+pub mod ExactLemmas
