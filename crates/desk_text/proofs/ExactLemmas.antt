@@ -64,7 +64,7 @@ first_bad front after at k e before bad = record {
   least = λ j lt.
       let le : j ≤ k - 1 = omega arith in
       let shorter : take j front ≡ take j (front ++ at ∷ after) =
-          sym (ap (take j) (before_end_of front after at k e)) ∙ take-take j (k - 1) (front ++ at ∷ after) le in
+      sym (ap (take j) (before_end_of front after at k e)) ∙ take-take j (k - 1) (front ++ at ∷ after) le in
       subst Begins shorter (begins-front (take j front) (drop j front) (subst Begins (sym (take-append-drop j front)) before));
 }
 
@@ -158,12 +158,12 @@ place lines m fault a =
     let can : CanEnd [] false 2 (map sign_of s.before) = subst (λ (z : List Sign). CanEnd [] false 2 z) (sym s.front_is) a.can in
     let before : Begins (first ∷ s.before) = begins-can s.before can in
     let bad : Begins ((first ∷ s.before) ++ s.at ∷ []) → ⊥ = λ b.
-        let read = read-tree (((first ∷ s.before) ++ s.at ∷ []) ++ b.more) b.items b.tree in
-        let signs : map sign_of ((s.before ++ s.at ∷ []) ++ b.more) ≡ a.front ++ a.bad ∷ map sign_of b.more =
-            ap (map sign_of) (append_assoc s.before (s.at ∷ []) b.more) ∙ map-append sign_of s.before (s.at ∷ b.more)
-            ∙ ap (λ z. z ++ sign_of s.at ∷ map sign_of b.more) s.front_is ∙ ap (λ z. a.front ++ z ∷ map sign_of b.more) s.bad_is in
-        let other : read_lines (((first ∷ s.before) ++ s.at ∷ []) ++ b.more) ≡ Err fault = ap (λ z. read_from z [] false 2) signs ∙ a.never (map sign_of b.more) in
-        cc in
+    let read = read-tree (((first ∷ s.before) ++ s.at ∷ []) ++ b.more) b.items b.tree in
+    let signs : map sign_of ((s.before ++ s.at ∷ []) ++ b.more) ≡ a.front ++ a.bad ∷ map sign_of b.more =
+    ap (map sign_of) (append_assoc s.before (s.at ∷ []) b.more) ∙ map-append sign_of s.before (s.at ∷ b.more)
+    ∙ ap (λ z. z ++ sign_of s.at ∷ map sign_of b.more) s.front_is ∙ ap (λ z. a.front ++ z ∷ map sign_of b.more) s.bad_is in
+    let other : read_lines (((first ∷ s.before) ++ s.at ∷ []) ++ b.more) ≡ Err fault = ap (λ z. read_from z [] false 2) signs ∙ a.never (map sign_of b.more) in
+    cc in
     let are : first ∷ lines ≡ (first ∷ s.before) ++ s.at ∷ s.after = ap (λ z. first ∷ z) s.are in
     record {
       front = s.before;
@@ -204,4 +204,65 @@ not_misnested lines m p n = elim (p.why) [
   | inl ended ↦ n.unended (subst (λ (z : List (List ℕ)). Contains z (codes "-}")) (sym (place_front lines m (BadLine m) p)) (Contains-append_right (codes "{4:" ∷ []) p.front (codes "-}") (end_line p.front ended)))
   | inr odd ↦ let same : p.at ≡ n.line = same_Some p.at n.line (sym (place_line lines m (BadLine m) p) ∙ n.is) in
       odd_wrong n.names p.at (subst (λ (z : List ℕ). IsRight n.names z) (sym same) n.right) odd
+]
+
+-- What reading gives is what the definitions say.
+
+-- the fault of lines, whatever the length of their text
+abbrev pub FaultOfLines : List (List ℕ) → TextFault → Type 0
+FaultOfLines lines NotBlock = IsFirstBad lines 1 ⊎ (Begins lines × ((items : Items) → IsTree lines items → ⊥))
+FaultOfLines lines (BadLine k) = (1 < k) × IsFirstBad lines k × (IsMisnested lines k → ⊥)
+FaultOfLines lines (BadNesting k) = (1 < k) × IsFirstBad lines k × IsMisnested lines k
+FaultOfLines lines TooLong = ⊥
+FaultOfLines lines Memory = ⊥
+
+from_lines : (text : List ℕ) (fault : TextFault) → length text ≤ 65536 → FaultOfLines (lines_of text) fault → IsFault text fault
+from_lines text NotBlock short f = (short, f)
+from_lines text (BadLine k) short f = (short, f.0, f.1, f.2)
+from_lines text (BadNesting k) short f = (short, f.0, f.1, f.2)
+from_lines text TooLong short f = absurd f
+from_lines text Memory short f = absurd f
+
+located_fault : (lines : List (List ℕ)) (fault : TextFault) → IsLocated (map sign_of lines) [] false 2 fault → read_lines (codes "{4:" ∷ lines) ≡ Err fault → FaultOfLines (codes "{4:" ∷ lines) fault
+located_fault lines NotBlock l e = inr (begins-can lines l, no_tree (codes "{4:" ∷ lines) NotBlock e)
+located_fault lines (BadLine m) l e =
+    let p = place lines m (BadLine m) l in
+    let n = p.number in (omega arith, p.bad, not_misnested lines m p)
+located_fault lines (BadNesting m) l e =
+    let p = place lines m (BadNesting m) l in
+    let n = p.number in (omega arith, p.bad, misnested lines m p)
+located_fault lines TooLong l e = l
+located_fault lines Memory l e = l
+
+-- the first line is another
+other_first : (first : List ℕ) (lines : List (List ℕ)) → bytes_eq first (codes "{4:") ≡ false → IsFirstBad (first ∷ lines) 1
+other_first first lines other = first_bad [] lines first 1 refl nothing_begins (λ b.
+    let h = read-tree ((first ∷ []) ++ b.more) b.items b.tree in
+    let wrong : read_lines ((first ∷ []) ++ b.more) ≡ Err NotBlock = ap (λ c. cond c (read_from (map sign_of b.more) [] false 2) (Err NotBlock)) other in
+    cc)
+
+seen_fault : (P : TextFault → Type 0) (a b : TextFault) → ◌≡◌ {A = Result Rest TextFault} (Err a) (Err b) → P a → P b
+seen_fault P a b e p = let same : a ≡ b = cc in subst P same p
+
+pub lines_fault : (lines : List (List ℕ)) (fault : TextFault) → read_lines lines ≡ Err fault → FaultOfLines lines fault
+lines_fault [] fault e = seen_fault (λ f. FaultOfLines [] f) NotBlock fault e (inr (nothing_begins, no_tree [] NotBlock refl))
+lines_fault (first ∷ lines) fault e = elim (chosen (bytes_eq first (codes "{4:")) (read_from (map sign_of lines) [] false 2) (Err NotBlock) (Err fault) e) [
+  | inl (same, r) ↦ let P : List ℕ → Type 0 = λ z. FaultOfLines (z ∷ lines) fault in
+      subst P (sym (same_bytes first (codes "{4:") same)) (located_fault lines fault (located (map sign_of lines) [] false 2 fault (right-signs lines) tt r) r)
+  | inr (other, r) ↦ seen_fault (λ f. FaultOfLines (first ∷ lines) f) NotBlock fault r (inl (other_first first lines other))
+]
+
+abbrev pub IsExact : List ℕ → Result Rest TextFault → Type 0
+IsExact text (Ok rest) = (length text ≤ 65536) × IsBlock text rest.fields
+IsExact text (Err fault) = IsFault text fault
+
+short_exact : (text : List ℕ) → length text ≤ 65536 → (r : Result Rest TextFault) → read_lines (lines_of text) ≡ r → IsExact text r
+short_exact text short (Ok rest) e =
+    let b = block-read (lines_of text) rest e in (short, record { items = b.items; tree = b.tree; fields = b.fields })
+short_exact text short (Err fault) e = from_lines text fault short (lines_fault (lines_of text) fault e)
+
+pub reads_exactly : (text : List ℕ) (r : Result Rest TextFault) → read_text text ≡ r → IsExact text r
+reads_exactly text r e = elim (chosen (nat_lt 65536 (length text)) (Err TooLong) (read_lines (lines_of text)) r e) [
+  | inl (long, same) ↦ subst (λ (z : Result Rest TextFault). IsExact text z) same (let lt : 65536 < length text = grind (arith, nat_tests, long) in lt)
+  | inr (short, same) ↦ short_exact text (let le : length text ≤ 65536 = grind (arith, nat_tests, short) in le) r same
 ]

@@ -5,3 +5,4 @@ pub mod SignLemmas
 pub mod ReadingLemmas
 pub mod FaultLemmas
 pub mod ExactLemmas
+pub mod SeenLemmas

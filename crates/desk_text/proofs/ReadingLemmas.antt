@@ -43,8 +43,8 @@ Tail (name ∷ within) k signs found =
     × (found ≡ fields_from (name ∷ within) k items ++ more) × (j ≡ k + length (lines_of_items items) + 1) × Tail within j rest more
 
 Tail-field : (within : List (List ℕ)) (k : ℕ) (tag first : List ℕ) (more : List (List ℕ)) (signs : List Sign) (found : List Found) →
-  IsTrue (is_tag tag) → IsTrue (is_first first) → IsTrue (list_all is_further more) → Tail within (k + 1 + length more) signs found
-  → Tail within k (begins tag first ∷ (map further more ++ signs)) (record { path = reverse within; tag = tag; values = first ∷ more; line = k } ∷ found)
+    IsTrue (is_tag tag) → IsTrue (is_first first) → IsTrue (list_all is_further more) → Tail within (k + 1 + length more) signs found
+    → Tail within k (begins tag first ∷ (map further more ++ signs)) (record { path = reverse within; tag = tag; values = first ∷ more; line = k } ∷ found)
 Tail-field [] k tag first more signs found t f m (items, n, es, right, ef) = (
   field tag first more items,
   n,
@@ -74,7 +74,7 @@ Tail-open [] k name signs found room n (inner, rest, more, j, es, right, ef, ej,
   ap (λ z. opens name ∷ z) es ∙ ap (λ z. opens name ∷ (signs_of inner ++ closes name ∷ z)) es' ∙ ap (λ z. opens name ∷ z) (sym (append_assoc (signs_of inner) (closes name ∷ signs_of items) (ends ∷ replicate m (further [])))),
   (room, n, right, right'),
   let at : j ≡ k + 2 + length (lines_of_items inner) = omega arith in
-  ef ∙ ap (λ z. fields_from (name ∷ []) (k + 1) inner ++ z) (ef' ∙ ap (λ z. fields_from [] z items) at),
+      ef ∙ ap (λ z. fields_from (name ∷ []) (k + 1) inner ++ z) (ef' ∙ ap (λ z. fields_from [] z items) at),
 )
 Tail-open (top ∷ within) k name signs found room n (inner, rest, more, j, es, right, ef, ej, (items, rest', more', j', es', right', ef', ej', tail)) = (
   sequence name inner items,
@@ -84,8 +84,8 @@ Tail-open (top ∷ within) k name signs found room n (inner, rest, more, j, es, 
   ap (λ z. opens name ∷ z) es ∙ ap (λ z. opens name ∷ (signs_of inner ++ closes name ∷ z)) es' ∙ ap (λ z. opens name ∷ z) (sym (append_assoc (signs_of inner) (closes name ∷ signs_of items) (closes top ∷ rest'))),
   (room, n, right, right'),
   let at : j ≡ k + 2 + length (lines_of_items inner) = omega arith in
-  ef ∙ ap (λ z. fields_from (name ∷ top ∷ within) (k + 1) inner ++ z) (ef' ∙ ap (λ z. fields_from (top ∷ within) z items ++ more') at)
-  ∙ sym (append_assoc (fields_from (name ∷ top ∷ within) (k + 1) inner) (fields_from (top ∷ within) (k + 2 + length (lines_of_items inner)) items) more'),
+      ef ∙ ap (λ z. fields_from (name ∷ top ∷ within) (k + 1) inner ++ z) (ef' ∙ ap (λ z. fields_from (top ∷ within) z items ++ more') at)
+      ∙ sym (append_assoc (fields_from (name ∷ top ∷ within) (k + 1) inner) (fields_from (top ∷ within) (k + 2 + length (lines_of_items inner)) items) more'),
   omega (arith, length-append (lines_of_items inner) (closing name ∷ lines_of_items items)),
   tail,
 )
@@ -257,13 +257,13 @@ read-stop (further line ∷ signs) stop within goes_on k = elim stop [ ]
 read-stop (strange ∷ signs) stop within goes_on k = elim stop [ ]
 
 field_found : (path : List (List ℕ)) (tag first : List ℕ) (k : ℕ) (more : List (List ℕ)) (found : List Found) (r : Result Rest TextFault) →
-  with_field (record { path = path; tag = tag; values = first ∷ []; line = k }) (with_values more (with_fields found r)) ≡ with_fields (record { path = path; tag = tag; values = first ∷ more; line = k } ∷ found) r
+    with_field (record { path = path; tag = tag; values = first ∷ []; line = k }) (with_values more (with_fields found r)) ≡ with_fields (record { path = path; tag = tag; values = first ∷ more; line = k } ∷ found) r
 field_found path tag first k more found (Ok rest) =
     ap (λ (z : List (List ℕ)). Ok (record { values = []; fields = record { path = path; tag = tag; values = first ∷ z; line = k } ∷ (found ++ rest.fields) })) (append-nil more)
 field_found path tag first k more found (Err fault) = refl
 
 pub read-items : (items : Items) (within : List (List ℕ)) (goes_on : Bool) (k j : ℕ) (rest : List Sign) → AreItems (length within) items → IsStop rest → j ≡ k + length (lines_of_items items)
-  → read_from (signs_of items ++ rest) within goes_on k ≡ with_fields (fields_from within k items) (read_from rest within false j)
+    → read_from (signs_of items ++ rest) within goes_on k ≡ with_fields (fields_from within k items) (read_from rest within false j)
 read-items none within goes_on k j rest right stop e =
     let here : k ≡ j = omega arith in
     read-stop rest stop within goes_on k ∙ ap (λ z. with_fields [] (read_from rest within false z)) here
@@ -333,7 +333,6 @@ read-tree lines items tree =
     ∙ ap (with_fields (fields_of items)) (read-blanks tree.blanks (j + 1))
     ∙ ap (λ (z : List Found). Ok (record { values = []; fields = z })) (append-nil (fields_of items))
 
-
 -- Lines that are read are a block.
 
 -- no sign is strange
@@ -399,10 +398,10 @@ tail-block lines found (items, n, es, right, ef) =
       tree = record {
         blanks = n;
         are = ap (λ z. codes "{4:" ∷ z) (
-          are ∙ ap (map line_of) es ∙ map-append line_of (signs_of items) end
-          ∙ ap (λ z. z ++ codes "-}" ∷ map line_of (replicate n (further []))) (lines-items items)
-          ∙ ap (λ z. lines_of_items items ++ codes "-}" ∷ z) (lines-blanks n)
-        );
+            are ∙ ap (map line_of) es ∙ map-append line_of (signs_of items) end
+            ∙ ap (λ z. z ++ codes "-}" ∷ map line_of (replicate n (further []))) (lines-items items)
+            ∙ ap (λ z. lines_of_items items ++ codes "-}" ∷ z) (lines-blanks n)
+            );
         right = right;
       };
       fields = ef;
