@@ -6,3 +6,4 @@ pub mod ReadingLemmas
 pub mod FaultLemmas
 pub mod ExactLemmas
 pub mod SeenLemmas
+pub mod PartLemmas

@@ -228,7 +228,7 @@ values_more : (line : List ℕ) (values : List (List ℕ)) (r : Result Rest Text
 values_more line values (Ok rest) = refl
 values_more line values (Err fault) = refl
 
-read-further : (more : List (List ℕ)) (signs : List Sign) (within : List (List ℕ)) (k j : ℕ) → j ≡ k + length more → read_from (map further more ++ signs) within true k ≡ with_values more (read_from signs within true j)
+pub read-further : (more : List (List ℕ)) (signs : List Sign) (within : List (List ℕ)) (k j : ℕ) → j ≡ k + length more → read_from (map further more ++ signs) within true k ≡ with_values more (read_from signs within true j)
 read-further [] signs within k j e =
     let here : k ≡ j = omega arith in
     ap (λ z. read_from signs within true z) here ∙ values_none (read_from signs within true j)
@@ -293,7 +293,7 @@ pub right-signs : (lines : List (List ℕ)) → AreRight (map sign_of lines)
 right-signs [] = tt
 right-signs (line ∷ lines) = ((sign-sound line).right, right-signs lines)
 
-further-signs : (more : List (List ℕ)) → IsTrue (list_all is_further more) → map sign_of more ≡ map further more
+pub further-signs : (more : List (List ℕ)) → IsTrue (list_all is_further more) → map sign_of more ≡ map further more
 further-signs [] e = refl
 further-signs (line ∷ more) e =
     let parts = both (is_further line) (list_all is_further more) e in
