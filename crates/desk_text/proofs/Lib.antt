@@ -7,3 +7,4 @@ pub mod FaultLemmas
 pub mod ExactLemmas
 pub mod SeenLemmas
 pub mod PartLemmas
+pub mod LawLemmas

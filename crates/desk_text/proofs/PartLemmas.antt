@@ -48,7 +48,7 @@ name_line : (name : List ℕ) → IsTrue (is_name name) → IsLine name
 name_line name e =
     from_test (λ c. is_capital c || is_digit c) name_char name (both (nat_lt 0 (length name) && nat_le (length name) 16) (list_all (λ c. is_capital c || is_digit c) name) e).1
 
-first_is_line : (line : List ℕ) → IsTrue (is_first line) → IsLine line
+pub first_is_line : (line : List ℕ) → IsTrue (is_first line) → IsLine line
 first_is_line line e = from_test is_printable printable_line line e
 
 further_is_line : (line : List ℕ) → IsTrue (is_further line) → IsLine line
@@ -114,7 +114,7 @@ part_lines (close_part name ∷ parts) (top ∷ within) names right =
 
 -- The lines of a text that was written.
 
-one_line : (line rest : List ℕ) → IsLine line → lines_of (ended line ++ rest) ≡ line ∷ lines_of rest
+pub one_line : (line rest : List ℕ) → IsLine line → lines_of (ended line ++ rest) ≡ line ∷ lines_of rest
 one_line line rest is =
     let with_return : IsLine (line ++ 13 ∷ []) = All-append (λ c. c ≢ 10) line (13 ∷ []) is (from_test (λ c. not (eqb c 10)) (λ c h. grind (arith, nat_tests, h)) (13 ∷ []) refl) in
     ap lines_of (append_assoc line (13 ∷ 10 ∷ []) rest ∙ sym (append_assoc line (13 ∷ []) (10 ∷ rest)))

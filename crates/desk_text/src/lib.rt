@@ -10,6 +10,7 @@
 
 pub mod faults;
 pub mod fields;
+pub mod laws;
 pub mod lines;
 pub mod reading;
 pub mod spelling;
