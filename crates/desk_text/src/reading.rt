@@ -18,7 +18,7 @@ pub const DEEPEST: usize = 16;
 
 /// What was read so far, before `-}`.
 #[derive(Drop)]
-pub struct Reader<'a> {
+struct Reader<'a> {
     /// The names of the open sequences, the outermost first.
     names: Vec<&'a [u8]>,
     fields: Vec<Field<'a>>,
