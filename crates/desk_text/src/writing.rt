@@ -71,10 +71,10 @@ fn append_lines(out: &mut Vec<u8>, tag: &[u8], value: &[u8]) -> Result<(), Alloc
     ensures ok { OnOk result (out.new.items ≡ out.old.items ++ written (lines_of_part (field_part tag.now value.now))) }
     ensures err { OnErr result (out.new.items ≡ out.old.items) }
 {
-    let start = out.len();
+    let before = out.len();
     append_all(out, &[b":", tag, b":"])?;
     if let Err(error) = append_value(out, value) {
-        out.truncate(start);
+        out.truncate(before);
         return Err(error);
     }
     Ok(())
