@@ -99,7 +99,7 @@ no_end_line : (lines : List (List ℕ)) → NoEnd (map sign_of lines) → AllByR
 no_end_line [] n = tt
 no_end_line (line ∷ lines) n = (λ e. n.0 (ap sign_of e), no_end_line lines n.1)
 
-end_line : (lines : List (List ℕ)) → HasEnd (map sign_of lines) → Contains lines (codes "-}")
+pub end_line : (lines : List (List ℕ)) → HasEnd (map sign_of lines) → Contains lines (codes "-}")
 end_line [] h = absurd h
 end_line (line ∷ lines) (inl e) =
     let not_strange : sign_of line ≢ strange = λ s. let h = e in cc in

@@ -31,7 +31,7 @@ pub record CanEnd (within : List (List ℕ)) (goes_on : Bool) (k : ℕ) (front :
   pub rest : Rest
   pub reads : read_from (front ++ map sign_of more) within goes_on k ≡ Ok rest
 
-always_ends : (within : List (List ℕ)) → AreNames within → (goes_on : Bool) (k : ℕ) → CanEnd within goes_on k []
+pub always_ends : (within : List (List ℕ)) → AreNames within → (goes_on : Bool) (k : ℕ) → CanEnd within goes_on k []
 always_ends [] names goes_on k = record { more = codes "-}" ∷ []; rest = nothing; reads = refl }
 always_ends (name ∷ within) names goes_on k =
     let c = always_ends within names.1 false (k + 1) in
@@ -96,7 +96,7 @@ pub record IsStep (sign : Sign) (within : List (List ℕ)) (goes_on : Bool) (k :
   pub reads : (more : List Sign) → read_from (sign ∷ more) within goes_on k ≡ wrap (read_from more within' goes_on' (k + 1))
   pub unended : sign ≢ ends
 
-step-can : (sign : Sign) (within : List (List ℕ)) (goes_on : Bool) (k : ℕ) (within' : List (List ℕ)) (goes_on' : Bool) → IsStep sign within goes_on k within' goes_on' → (front : List Sign) → CanEnd within' goes_on' (k + 1) front → CanEnd within goes_on k (sign ∷ front)
+pub step-can : (sign : Sign) (within : List (List ℕ)) (goes_on : Bool) (k : ℕ) (within' : List (List ℕ)) (goes_on' : Bool) → IsStep sign within goes_on k within' goes_on' → (front : List Sign) → CanEnd within' goes_on' (k + 1) front → CanEnd within goes_on k (sign ∷ front)
 step-can sign within goes_on k within' goes_on' s front c =
     let o = s.ok c.rest in
     record { more = c.more; rest = o.0; reads = s.reads (front ++ map sign_of c.more) ∙ ap s.wrap c.reads ∙ o.1 }
@@ -130,7 +130,7 @@ step-located sign within goes_on k within' goes_on' s signs Memory l = l
 
 -- Each kind of sign that goes on.
 
-open_step : (name : List ℕ) (within : List (List ℕ)) (goes_on : Bool) (k : ℕ) → nat_lt (length within) 16 ≡ true → IsStep (opens name) within goes_on k (name ∷ within) false
+pub open_step : (name : List ℕ) (within : List (List ℕ)) (goes_on : Bool) (k : ℕ) → nat_lt (length within) 16 ≡ true → IsStep (opens name) within goes_on k (name ∷ within) false
 open_step name within goes_on k fits = record {
   wrap = λ r. r;
   ok = λ rest. (rest, refl);
@@ -139,7 +139,7 @@ open_step name within goes_on k fits = record {
   unended = λ e. let h = e in cc;
 }
 
-close_step : (name top : List ℕ) (within : List (List ℕ)) (goes_on : Bool) (k : ℕ) → bytes_eq top name ≡ true → IsStep (closes name) (top ∷ within) goes_on k within false
+pub close_step : (name top : List ℕ) (within : List (List ℕ)) (goes_on : Bool) (k : ℕ) → bytes_eq top name ≡ true → IsStep (closes name) (top ∷ within) goes_on k within false
 close_step name top within goes_on k same = record {
   wrap = λ r. r;
   ok = λ rest. (rest, refl);
@@ -148,7 +148,7 @@ close_step name top within goes_on k same = record {
   unended = λ e. let h = e in cc;
 }
 
-field_step : (tag first : List ℕ) (within : List (List ℕ)) (goes_on : Bool) (k : ℕ) → IsStep (begins tag first) within goes_on k within true
+pub field_step : (tag first : List ℕ) (within : List (List ℕ)) (goes_on : Bool) (k : ℕ) → IsStep (begins tag first) within goes_on k within true
 field_step tag first within goes_on k = record {
   wrap = with_field (record { path = reverse within; tag = tag; values = first ∷ []; line = k });
   ok = λ rest. (record { values = []; fields = record { path = reverse within; tag = tag; values = (first ∷ []) ++ rest.values; line = k } ∷ rest.fields }, refl);
@@ -157,7 +157,7 @@ field_step tag first within goes_on k = record {
   unended = λ e. let h = e in cc;
 }
 
-value_step : (line : List ℕ) (within : List (List ℕ)) (k : ℕ) → IsStep (further line) within true k within true
+pub value_step : (line : List ℕ) (within : List (List ℕ)) (k : ℕ) → IsStep (further line) within true k within true
 value_step line within k = record {
   wrap = with_value line;
   ok = λ rest. (record rest { values = line ∷ rest.values }, refl);

@@ -8,3 +8,4 @@ pub mod ExactLemmas
 pub mod SeenLemmas
 pub mod PartLemmas
 pub mod LawLemmas
+pub mod OpenLemmas

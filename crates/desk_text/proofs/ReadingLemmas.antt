@@ -119,7 +119,7 @@ pub record IsBlank (signs : List Sign) (rest : Rest) : Type 0 where
   pub are : signs ≡ replicate n (further [])
   pub gives : rest ≡ nothing
 
-after-ok : (signs : List Sign) (k : ℕ) (rest : Rest) → read_after signs k ≡ Ok rest → IsBlank signs rest
+pub after-ok : (signs : List Sign) (k : ℕ) (rest : Rest) → read_after signs k ≡ Ok rest → IsBlank signs rest
 after-ok [] k rest e = record { n = 0; are = refl; gives = let h = e in cc }
 after-ok (further [] ∷ signs) k rest e =
     let b = after-ok signs (k + 1) rest e in
@@ -138,7 +138,7 @@ pub record IsFront (r : Result Rest TextFault) (values : List (List ℕ)) (field
   pub values_are : rest.values ≡ values ++ before.values
   pub fields_are : rest.fields ≡ fields ++ before.fields
 
-with_value-ok : (line : List ℕ) (r : Result Rest TextFault) (rest : Rest) → with_value line r ≡ Ok rest → IsFront r (line ∷ []) [] rest
+pub with_value-ok : (line : List ℕ) (r : Result Rest TextFault) (rest : Rest) → with_value line r ≡ Ok rest → IsFront r (line ∷ []) [] rest
 with_value-ok line (Ok before) rest e =
     let same : record before { values = line ∷ before.values } ≡ rest = cc in
     record { before = before; is = refl; values_are = sym (ap (λ (z : Rest). z.values) same); fields_are = sym (ap (λ (z : Rest). z.fields) same) }
@@ -151,7 +151,7 @@ pub record IsField (x : Found) (r : Result Rest TextFault) (rest : Rest) : Type 
   pub values_are : rest.values ≡ []
   pub fields_are : rest.fields ≡ record x { values = x.values ++ before.values } ∷ before.fields
 
-with_field-ok : (x : Found) (r : Result Rest TextFault) (rest : Rest) → with_field x r ≡ Ok rest → IsField x r rest
+pub with_field-ok : (x : Found) (r : Result Rest TextFault) (rest : Rest) → with_field x r ≡ Ok rest → IsField x r rest
 with_field-ok x (Ok before) rest e =
     let after : Rest = record { values = []; fields = record x { values = x.values ++ before.values } ∷ before.fields } in
     let same : after ≡ rest = cc in

@@ -1,5 +1,5 @@
 -- Why a text is no block that is read.
-use Rattle.std.specs.Prelude.{◌≡◌, ℕ, ◌+◌, ◌-◌, ◌<◌, ◌≤◌, ◌⊎◌, List, [], ◌∷◌, ◌++◌, length, take, codes, IsTrue, slice_get, Some, Contains}
+use Rattle.std.specs.Prelude.{◌≡◌, ℕ, ◌+◌, ◌-◌, ◌<◌, ◌≤◌, ◌⊎◌, List, [], ◌∷◌, ◌++◌, length, map, take, codes, IsTrue, slice_get, Some, Contains}
 use Rattle.desk_text.specs.declared.faults.TextFault.{TextFault}
 use Rattle.desk_text.specs.declared.faults.TextFault.TheVariants.{NotBlock, BadLine, BadNesting, TooLong, Memory}
 use Rattle.desk_text.specs.Lines.{lines_of}
@@ -17,8 +17,13 @@ pub record IsFirstBad (lines : List (List ℕ)) (k : ℕ) : Type 0 where
   pub bad : Begins (take k lines) → ⊥
   pub least : (j : ℕ) → j < k → Begins (take j lines)
 
+-- These names are open after the lines, the innermost first: closing them, and `-}`, makes the lines a block.
+pub record AreOpen (lines names : List (List ℕ)) : Type 0 where
+  pub items : Items
+  pub tree : IsTree (lines ++ (map closing names ++ codes "-}" ∷ [])) items
+
 -- The line is right where these names are open, the innermost first, whatever line stands before it.
--- (A further line of a value hangs on the line before it, and on no names.)
+-- (A further line of a value hangs on the line before it, and on no names. The law `right_lines` says that this is the grammar.)
 pub data IsRight (names : List (List ℕ)) (line : List ℕ) : Type 0 where
   is_opening : (name : List ℕ) → line ≡ opening name → IsTrue (is_name name) → length names < 16 → IsRight names line
   is_closing : (name : List ℕ) (outer : List (List ℕ)) → line ≡ closing name → IsTrue (is_name name) → names ≡ name ∷ outer → IsRight names line

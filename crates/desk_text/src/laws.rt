@@ -1,10 +1,10 @@
 //! Laws above the definitions. Each function has an empty body: its contract is the law.
-ghost use Rattle.std.specs.Prelude.{◌≡◌, ◌≢◌, ◌≤◌, ◌++◌, ◌∷◌, [], List, ℕ, All, IsTrue, length};
+ghost use Rattle.std.specs.Prelude.{◌≡◌, ◌≢◌, ◌≤◌, ◌++◌, ◌∷◌, [], List, ℕ, All, IsTrue, Contains, codes, ◌⊎◌, length};
 ghost use Rattle.desk_text.specs.declared.faults.TextFault.{TextFault};
 ghost use Rattle.desk_text.specs.Lines.{lines_of, value_lines};
-ghost use Rattle.desk_text.specs.BlockGrammar.{Items, IsTree, is_first};
+ghost use Rattle.desk_text.specs.BlockGrammar.{Items, IsTree, is_first, is_further};
 ghost use Rattle.desk_text.specs.Fields.{Found, IsBlock};
-ghost use Rattle.desk_text.specs.BlockFault.{IsFault};
+ghost use Rattle.desk_text.specs.BlockFault.{Begins, AreOpen, IsRight, IsFault};
 ghost use Rattle.desk_text.specs.Written.{Part, AreParts, block_text, fields_written, is_value};
 
 /// A line may end with LF or with CR LF, and the last with nothing.
@@ -18,6 +18,16 @@ pub fn line_ends()
 pub fn one_tree()
     ensures tree { (lines : List (List ℕ)) (a b : Items) → IsTree lines a → IsTree lines b → a ≡ b }
     ensures fields { (text : List ℕ) (a b : List Found) → IsBlock text a → IsBlock text b → a ≡ b }
+{}
+
+/// What lines may follow goes by the names that are open, and by these alone, but for further lines of a value.
+pub fn right_lines()
+    // Lines that begin a block, and haven't ended it, have one list of open names.
+    ensures names { (lines : List (List ℕ)) → Begins lines → lines ≢ [] → (Contains lines (codes "-}") → ⊥) → (names : List (List ℕ)) × AreOpen lines names }
+    ensures one { (lines a b : List (List ℕ)) → AreOpen lines a → AreOpen lines b → a ≡ b }
+    // A line that is right under them may follow, and so may no other but a further line.
+    ensures follows { (lines names : List (List ℕ)) (line : List ℕ) → AreOpen lines names → IsRight names line → Begins (lines ++ line ∷ []) }
+    ensures only { (lines names : List (List ℕ)) (line : List ℕ) → AreOpen lines names → Begins (lines ++ line ∷ []) → IsRight names line ⊎ IsTrue (is_further line) }
 {}
 
 /// A text that is no block has exactly one fault, and a block of at most 65,536 bytes has none.
