@@ -1,22 +1,22 @@
 -- Reading a text gives exactly what the definitions say: the fields of a block, or the one fault.
-use Rattle.std.proofs.Common.{◌≡◌, ◌≢◌, ℕ, ◌+◌, ◌-◌, ◌<◌, ◌≤◌, zero, suc, nat_lt, Bool, true, false, cond, List, [], ◌∷◌, ◌++◌, length, map, take, drop, codes, Option, Some, None, Result, Ok, Err, refl, sym, ap, ◌∙◌, subst, arith, append_assoc, append-nil, length-append, ◌⊎◌, inl, inr}
+use Rattle.std.proofs.Common.{◌≡◌, ◌≢◌, ℕ, ◌+◌, ◌-◌, ◌<◌, ◌≤◌, nat_lt, false, cond, List, [], ◌∷◌, ◌++◌, length, map, take, drop, codes, Some, Result, Ok, Err, refl, sym, ap, ◌∙◌, subst, arith, append_assoc, length-append, ◌⊎◌, inl, inr}
 use Rattle.std.proofs.lemmas.Bool.Decides.{nat_tests}
 use Rattle.std.proofs.lemmas.List.{map-append, take_at, take-take, take-append-drop, length-map}
 use Rattle.std.proofs.lemmas.List.Elements.{All-from_recursion, All-contains, Contains-append_right}
 use Rattle.std.proofs.lemmas.Option.{same_Some}
-use Rattle.std.specs.Prelude.{IsTrue, slice_get, Contains}
+use Rattle.std.specs.Prelude.{slice_get, Contains}
 use Rattle.std.specs.List.{AllByRecursion}
 use Rattle.std.specs.Str.{bytes_eq}
 use Rattle.desk_text.specs.declared.faults.TextFault.{TextFault}
 use Rattle.desk_text.specs.declared.faults.TextFault.TheVariants.{NotBlock, BadLine, BadNesting, TooLong, Memory}
 use Rattle.desk_text.specs.Lines.{lines_of}
-use Rattle.desk_text.specs.BlockGrammar.{Items, none, IsTree, is_name, is_tag, is_first, opening, closing, field_line}
-use Rattle.desk_text.specs.Fields.{Found, IsBlock, fields_of}
+use Rattle.desk_text.specs.BlockGrammar.{Items, none, IsTree}
+use Rattle.desk_text.specs.Fields.{IsBlock}
 use Rattle.desk_text.specs.BlockFault.{Begins, IsFirstBad, IsRight, is_opening, is_closing, is_field, is_end, IsMisnested, IsFault}
-use Rattle.desk_text.specs.Reading.{Sign, opens, closes, begins, further, ends, strange, sign_of, Rest, nothing, read_from, read_lines, read_text}
+use Rattle.desk_text.specs.Reading.{Sign, opens, closes, begins, further, ends, strange, sign_of, Rest, read_from, read_lines, read_text}
 use Rattle.desk_text.proofs.SignLemmas.{same_bytes, line_of, IsSigned, sign-sound, opening-sign, closing-sign, field-sign}
 use Rattle.desk_text.proofs.ReadingLemmas.{chosen, right-signs, read-tree, block-read}
-use Rattle.desk_text.proofs.FaultLemmas.{CanEnd, NoEnd, HasEnd, IsNest, nest_open, nest_close, nest_end, IsOdd, odd_strange, odd_further, IsWhy, IsAt, IsLocated, located}
+use Rattle.desk_text.proofs.FaultLemmas.{CanEnd, NoEnd, HasEnd, IsNest, nest_open, nest_close, nest_end, IsOdd, IsWhy, IsAt, IsLocated, located}
 
 -- Lines that begin a block.
 

@@ -1,23 +1,14 @@
 -- Where a text stops being the beginning of a block.
-use Rattle.std.proofs.Common.{◌≡◌, ◌≢◌, ℕ, ◌+◌, ◌-◌, ◌<◌, ◌≤◌, zero, suc, nat_lt, Bool, true, false, cond, eqb, List, [], ◌∷◌, ◌++◌, length, map, take, drop, reverse, replicate, codes, get_or, Option, Some, None, Result, Ok, Err, refl, sym, ap, ◌∙◌, subst, arith, append_assoc, append-nil, length-append, ◌⊎◌, inl, inr}
-use Rattle.std.proofs.lemmas.Bool.Decides.{nat_tests}
-use Rattle.std.proofs.lemmas.Bool.{cases_lt}
-use Rattle.std.proofs.lemmas.List.{map-append, take_at, take-take, take-append-drop, length-map}
-use Rattle.std.proofs.lemmas.List.Elements.{All-from_recursion, All-contains, Contains-append_right}
-use Rattle.std.proofs.lemmas.Option.{same_Some}
-use Rattle.std.specs.Prelude.{IsTrue, slice_get, Contains}
-use Rattle.std.specs.List.{list_all, AllByRecursion}
+use Rattle.std.proofs.Common.{◌≡◌, ◌≢◌, ℕ, ◌+◌, nat_lt, Bool, true, false, cond, List, [], ◌∷◌, ◌++◌, length, map, reverse, codes, Result, Ok, Err, refl, sym, ap, ◌∙◌, subst, arith, ◌⊎◌, inl, inr}
+use Rattle.std.specs.Prelude.{IsTrue}
 use Rattle.std.specs.Str.{bytes_eq}
 use Rattle.desk_text.specs.declared.faults.TextFault.{TextFault}
 use Rattle.desk_text.specs.declared.faults.TextFault.TheVariants.{NotBlock, BadLine, BadNesting, TooLong, Memory}
-use Rattle.desk_text.specs.Lines.{lines_of}
-use Rattle.desk_text.specs.BlockGrammar.{Items, none, lines_of_items, AreItems, IsTree, is_name, is_tag, is_first, is_further, opening, closing, field_line}
-use Rattle.desk_text.specs.Fields.{Found, IsBlock, fields_of}
-use Rattle.desk_text.specs.BlockFault as fault
-use Rattle.desk_text.specs.BlockFault.{Begins, IsFirstBad, IsRight, IsMisnested, IsFault}
-use Rattle.desk_text.specs.Reading.{Sign, opens, closes, begins, further, ends, strange, sign_of, Rest, nothing, with_field, with_value, read_after, read_from, read_lines, read_text}
-use Rattle.desk_text.proofs.SignLemmas.{both, same_bytes, IsRightSign, sign-sound, opening-sign, closing-sign, field-sign, further-sign}
-use Rattle.desk_text.proofs.ReadingLemmas.{chosen, same_name, AreRight, right-signs, read-tree, block-read, IsBlockOf}
+use Rattle.desk_text.specs.BlockGrammar.{is_name, closing}
+use Rattle.desk_text.specs.Fields.{Found}
+use Rattle.desk_text.specs.Reading.{Sign, opens, closes, begins, further, ends, strange, sign_of, Rest, nothing, with_field, with_value, read_after, read_from}
+use Rattle.desk_text.proofs.SignLemmas.{closing-sign}
+use Rattle.desk_text.proofs.ReadingLemmas.{chosen, same_name, AreRight}
 
 -- Completions.
 

@@ -1,8 +1,8 @@
 -- One tree, one fault.
-use Rattle.std.proofs.Common.{◌≡◌, ◌≢◌, ℕ, ◌+◌, ◌-◌, ◌<◌, ◌≤◌, zero, suc, nat_lt, Bool, true, false, eqb, List, [], ◌∷◌, ◌++◌, length, map, take, drop, replicate, get_or, codes, All, Result, Ok, Err, refl, sym, ap, ◌∙◌, subst, arith, append_assoc, append-nil, ◌⊎◌, inl, inr}
+use Rattle.std.proofs.Common.{◌≡◌, ◌≢◌, ℕ, ◌<◌, ◌≤◌, List, [], ◌∷◌, ◌++◌, length, map, take, drop, replicate, codes, All, Result, Ok, Err, refl, sym, ap, ◌∙◌, subst, arith, append_assoc, append-nil, ◌⊎◌, inl, inr}
 use Rattle.std.proofs.lemmas.Bool.{cases_lt}
 use Rattle.std.proofs.lemmas.List.{map-append, take-append-drop}
-use Rattle.std.proofs.lemmas.List.Elements.{All-nil, All-cons, All-append, All-head, All-tail}
+use Rattle.std.proofs.lemmas.List.Elements.{All-head, All-tail}
 use Rattle.std.specs.Prelude.{IsTrue}
 use Rattle.desk_text.specs.declared.faults.TextFault.{TextFault}
 use Rattle.desk_text.specs.declared.faults.TextFault.TheVariants.{NotBlock, BadLine, BadNesting, TooLong, Memory}
@@ -12,7 +12,7 @@ use Rattle.desk_text.specs.Fields.{Found, IsBlock, fields_of}
 use Rattle.desk_text.specs.BlockFault.{Begins, IsFirstBad, IsMisnested, IsFault}
 use Rattle.desk_text.specs.Written.{Part, AreParts, block_text, fields_written, is_value}
 use Rattle.desk_text.specs.Reading.{Sign, opens, closes, begins, further, ends, strange, sign_of, strip_return, Rest, read_text}
-use Rattle.desk_text.proofs.LinesLemmas.{lines_of-line, lines_of-last, strip_return-at, value_lines-last, value_one, not_return}
+use Rattle.desk_text.proofs.LinesLemmas.{lines_of-line, lines_of-last, value_lines-last, value_one, not_return}
 use Rattle.desk_text.proofs.ReadingLemmas.{signs_of, IsStop, at_close, at_end, items-signs, blank-signs}
 use Rattle.desk_text.proofs.ExactLemmas.{begins-front, begins-from_tree, reads_exactly, IsExact}
 use Rattle.desk_text.proofs.PartLemmas.{first_is_line, one_line, parts-block}

@@ -1,8 +1,8 @@
 -- Lines, one after another.
-use Rattle.std.proofs.Common.{◌≡◌, ◌≢◌, ℕ, Bool, true, false, cond, ◌&&◌, eqb, List, [], ◌∷◌, ◌++◌, length, ◌<◌, ◌-◌, ◌≤◌, suc, take, drop, get_or, Some, All, refl, sym, ap, ◌∙◌, arith, append_assoc}
+use Rattle.std.proofs.Common.{◌≡◌, ◌≢◌, ℕ, Bool, true, false, cond, ◌&&◌, eqb, List, [], ◌∷◌, ◌++◌, length, ◌<◌, ◌-◌, ◌≤◌, suc, take, drop, get_or, Some, All, refl, sym, ap, ◌∙◌, arith}
 use Rattle.std.proofs.lemmas.Bool.Decides.{nat_tests}
 use Rattle.std.proofs.lemmas.List.Elements.{All-head, All-tail}
-use Rattle.desk_text.specs.Lines.{lines_of, lines_more, is_return_feed, onto_first, value_lines}
+use Rattle.desk_text.specs.Lines.{lines_of, onto_first, value_lines}
 use Rattle.std.proofs.Math.Bool.{and-true}
 use Rattle.std.specs.List.{list_all}
 use Rattle.desk_text.specs.BlockGrammar.{is_first, is_further}

@@ -1,18 +1,18 @@
 -- The names that are open after lines, and the lines that may follow.
-use Rattle.std.proofs.Common.{◌≡◌, ◌≢◌, ℕ, ◌+◌, ◌<◌, zero, suc, nat_lt, Bool, true, false, cond, List, [], ◌∷◌, ◌++◌, length, map, reverse, replicate, codes, Result, Ok, Err, refl, sym, ap, ◌∙◌, subst, arith, append_assoc, ◌⊎◌, inl, inr}
+use Rattle.std.proofs.Common.{◌≡◌, ◌≢◌, ℕ, ◌+◌, zero, suc, nat_lt, Bool, true, false, cond, List, [], ◌∷◌, ◌++◌, length, map, reverse, replicate, codes, Result, Ok, Err, refl, sym, ap, ◌∙◌, subst, arith, append_assoc, ◌⊎◌, inl, inr}
 use Rattle.std.proofs.lemmas.Bool.Decides.{nat_tests}
 use Rattle.std.proofs.lemmas.List.{map-append}
 use Rattle.std.proofs.lemmas.List.Elements.{Contains-append_right}
 use Rattle.std.specs.Prelude.{IsTrue, Contains}
 use Rattle.std.specs.Str.{bytes_eq}
 use Rattle.desk_text.specs.declared.faults.TextFault.{TextFault}
-use Rattle.desk_text.specs.declared.faults.TextFault.TheVariants.{NotBlock, BadLine, BadNesting, TooLong, Memory}
-use Rattle.desk_text.specs.BlockGrammar.{Items, IsTree, is_name, is_further, closing}
+use Rattle.desk_text.specs.declared.faults.TextFault.TheVariants.{NotBlock, BadNesting}
+use Rattle.desk_text.specs.BlockGrammar.{is_name, is_further, closing}
 use Rattle.desk_text.specs.Fields.{Found}
 use Rattle.desk_text.specs.BlockFault.{Begins, AreOpen, IsRight, is_opening, is_closing, is_field, is_end}
-use Rattle.desk_text.specs.Reading.{Sign, opens, closes, begins, further, ends, strange, sign_of, Rest, nothing, with_field, with_value, read_after, read_from, read_lines}
+use Rattle.desk_text.specs.Reading.{Sign, opens, closes, begins, further, ends, strange, sign_of, Rest, nothing, read_from, read_lines}
 use Rattle.desk_text.proofs.SignLemmas.{same_bytes, IsSigned, sign-sound, opening-sign, closing-sign, field-sign}
-use Rattle.desk_text.proofs.ReadingLemmas.{chosen, same_name, AreRight, right-signs, IsBlank, after-ok, with_field-ok, with_value-ok, read-tree, block-read}
+use Rattle.desk_text.proofs.ReadingLemmas.{chosen, same_name, AreRight, right-signs, after-ok, with_field-ok, with_value-ok, read-tree, block-read}
 use Rattle.desk_text.proofs.FaultLemmas.{AreNames, CanEnd, always_ends, NoEnd, HasEnd, IsStep, step-can, open_step, close_step, field_step, value_step}
 use Rattle.desk_text.proofs.ExactLemmas.{begins-read, end_line}
 

@@ -1,19 +1,18 @@
 -- The text of parts is a block of their fields.
-use Rattle.std.proofs.Common.{◌≡◌, ◌≢◌, ℕ, ◌+◌, ◌<◌, ◌≤◌, suc, nat_lt, Bool, true, false, not, cond, ◌&&◌, ◌||◌, eqb, List, [], ◌∷◌, ◌++◌, length, map, drop, reverse, codes, All, Result, Ok, Err, refl, sym, ap, ◌∙◌, subst, arith, append_assoc, append-nil}
+use Rattle.std.proofs.Common.{◌≡◌, ◌≢◌, ℕ, ◌+◌, nat_lt, Bool, true, false, not, cond, ◌&&◌, ◌||◌, eqb, List, [], ◌∷◌, ◌++◌, length, map, reverse, codes, All, Ok, Err, refl, sym, ap, ◌∙◌, subst, arith, append_assoc, append-nil}
 use Rattle.std.proofs.lemmas.Bool.Decides.{nat_tests}
 use Rattle.std.proofs.lemmas.List.{map-append}
 use Rattle.std.proofs.lemmas.List.Elements.{All-nil, All-cons, All-append}
 use Rattle.std.specs.Prelude.{IsTrue, nat_le}
-use Rattle.std.specs.List.{list_all, flat_map, AllByRecursion}
-use Rattle.desk_text.specs.declared.faults.TextFault.{TextFault}
+use Rattle.std.specs.List.{list_all, flat_map}
 use Rattle.desk_text.specs.declared.faults.TextFault.TheVariants.{BadNesting}
 use Rattle.desk_text.specs.Lines.{lines_of, value_lines, ended, written}
 use Rattle.desk_text.specs.BlockGrammar.{is_printable, is_digit, is_capital, is_any_tag, is_name, is_tag, is_first, is_further, opening, closing, field_line}
 use Rattle.desk_text.specs.Fields.{Found, IsBlock}
-use Rattle.desk_text.specs.Written.{Part, open_part, field_part, close_part, tagged, lines_of_part, are_lines, is_value, AreParts, fields_of_parts, fields_written, block_text, finished}
-use Rattle.desk_text.specs.Reading.{Sign, ends, sign_of, Rest, with_field, read_from, read_lines}
+use Rattle.desk_text.specs.Written.{Part, open_part, field_part, close_part, tagged, lines_of_part, are_lines, AreParts, fields_of_parts, fields_written, block_text, finished}
+use Rattle.desk_text.specs.Reading.{sign_of, with_field, read_from, read_lines}
 use Rattle.desk_text.proofs.LinesLemmas.{lines_of-line, strip_return-at}
-use Rattle.desk_text.proofs.SignLemmas.{both, not_so, opening-sign, closing-sign, field-sign}
+use Rattle.desk_text.proofs.SignLemmas.{both, opening-sign, closing-sign, field-sign}
 use Rattle.desk_text.proofs.ReadingLemmas.{same_name, with_values, read-further, further-signs, block-read}
 use Rattle.desk_text.proofs.FaultLemmas.{AreNames}
 

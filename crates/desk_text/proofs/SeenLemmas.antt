@@ -1,5 +1,5 @@
 -- What was returned, and what reading gives.
-use Rattle.std.proofs.Common.{◌≡◌, ℕ, List, [], Result, Ok, Err}
+use Rattle.std.proofs.Common.{ℕ, List, [], Result, Ok, Err}
 use Rattle.desk_text.specs.declared.fields.Block.{Block}
 use Rattle.desk_text.specs.declared.faults.TextFault.{TextFault}
 use Rattle.desk_text.specs.declared.faults.TextFault.TheVariants.{NotBlock, BadLine, BadNesting, TooLong, Memory}

@@ -1,10 +1,10 @@
 -- The reader's steps, over plain lists.
-use Rattle.std.proofs.Common.{◌≡◌, ℕ, ◌+◌, Bool, true, false, cond, ◌&&◌, eqb, codes, nat_lt, List, [], ◌∷◌, ◌++◌, length, map, reverse, Option, Some, None, Result, Ok, Err, refl, sym, ap, ◌∙◌, subst, append_assoc, append-nil}
+use Rattle.std.proofs.Common.{◌≡◌, ℕ, ◌+◌, Bool, true, false, cond, ◌&&◌, eqb, codes, nat_lt, List, [], ◌∷◌, ◌++◌, length, map, reverse, Option, Some, None, Result, Ok, Err, refl, sym, ap, ◌∙◌, append_assoc, append-nil}
 use Rattle.std.proofs.lemmas.List.{map_push}
 use Rattle.std.specs.Str.{bytes_eq}
 use Rattle.desk_text.specs.declared.fields.Field.{Field}
 use Rattle.desk_text.specs.declared.faults.TextFault.{TextFault}
-use Rattle.desk_text.specs.declared.faults.TextFault.TheVariants.{NotBlock, BadLine, BadNesting, TooLong, Memory}
+use Rattle.desk_text.specs.declared.faults.TextFault.TheVariants.{BadLine, BadNesting}
 use Rattle.desk_text.specs.Lines.{lines_of}
 use Rattle.desk_text.specs.BlockGrammar.{is_name, is_tag, is_first, is_further}
 use Rattle.desk_text.specs.Fields.{Found}

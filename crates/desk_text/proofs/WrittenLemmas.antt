@@ -1,8 +1,7 @@
 -- What is written, over plain lists.
-use Rattle.std.proofs.Common.{◌≡◌, ℕ, ◌+◌, ◌<◌, ◌≤◌, Bool, true, false, cond, eqb, min, List, [], ◌∷◌, ◌++◌, length, take, refl, sym, ap, ◌∙◌, arith, append_assoc, append-nil}
+use Rattle.std.proofs.Common.{◌≡◌, ℕ, ◌≤◌, Bool, true, false, cond, eqb, min, List, [], ◌∷◌, ◌++◌, length, take, refl, sym, ap, ◌∙◌, arith, append_assoc, append-nil}
 use Rattle.std.proofs.lemmas.List.{take-append-le, length-take}
 use Rattle.desk_text.specs.Lines.{value_lines, onto_first, ended, written}
-use Rattle.desk_text.specs.BlockGrammar.{field_line}
 use Rattle.desk_text.specs.Written.{tagged}
 
 -- the front of a buffer stays

@@ -1,5 +1,5 @@
 -- Parts, without where they lie in memory.
-use Rattle.std.specs.Prelude.{◌≡◌, ℕ, ◌<◌, List, [], ◌∷◌, length, IsTrue}
+use Rattle.std.specs.Prelude.{◌≡◌, ℕ, ◌<◌, List, ◌∷◌, length, IsTrue}
 use Rattle.desk_text.specs.declared.parts.BlockPart.{BlockPart}
 use Rattle.desk_text.specs.declared.parts.BlockPart.TheVariants.{Open, Field, Close}
 use Rattle.desk_text.specs.BlockGrammar.{is_name, is_tag}

@@ -1,10 +1,10 @@
 -- Reading a block line by line, with a stack of open names.
-use Rattle.std.specs.Prelude.{ℕ, ◌+◌, nat_lt, Bool, true, false, not, ◌&&◌, ◌==◌, List, [], ◌∷◌, ◌++◌, length, map, reverse, codes, Option, Some, None, Result, Ok, Err, if◌then◌else◌}
+use Rattle.std.specs.Prelude.{ℕ, ◌+◌, nat_lt, Bool, true, false, ◌&&◌, ◌==◌, List, [], ◌∷◌, ◌++◌, length, map, reverse, codes, Option, Some, None, Result, Ok, Err, if◌then◌else◌}
 use Rattle.std.specs.Str.{bytes_eq}
 use Rattle.desk_text.specs.declared.faults.TextFault.{TextFault}
-use Rattle.desk_text.specs.declared.faults.TextFault.TheVariants.{NotBlock, BadLine, BadNesting, TooLong, Memory}
+use Rattle.desk_text.specs.declared.faults.TextFault.TheVariants.{NotBlock, BadLine, BadNesting, TooLong}
 use Rattle.desk_text.specs.Lines.{lines_of}
-use Rattle.desk_text.specs.BlockGrammar.{is_digit, is_capital, is_name, is_tag, is_first, is_further}
+use Rattle.desk_text.specs.BlockGrammar.{is_name, is_tag, is_first, is_further}
 use Rattle.desk_text.specs.Fields.{Found}
 
 -- a line without the CR at its end, if it has one

@@ -1,7 +1,6 @@
 -- What the code holds, without where it lies in memory.
-use Rattle.std.specs.Prelude.{◌≡◌, ◌≤◌, ℕ, ◌+◌, Bool, List, [], ◌∷◌, length, map, reverse, Result, Ok, Err, Vec}
+use Rattle.std.specs.Prelude.{◌≤◌, ℕ, List, length, map, Result, Ok, Err}
 use Rattle.std.specs.Borrow.{Bor}
-use Rattle.std.specs.declared.alloc.Global.{Global}
 use Rattle.desk_text.specs.declared.lines.Line.{Line}
 use Rattle.desk_text.specs.declared.lines.Line.TheVariants.{Opening, Closing, Start, Further, End, Strange}
 use Rattle.desk_text.specs.declared.fields.Field.{Field}
@@ -10,7 +9,7 @@ use Rattle.desk_text.specs.declared.faults.TextFault.{TextFault}
 use Rattle.desk_text.specs.declared.faults.TextFault.TheVariants.{NotBlock, BadLine, BadNesting, TooLong, Memory}
 use Rattle.desk_text.specs.Fields.{Found, IsBlock}
 use Rattle.desk_text.specs.BlockFault.{IsFault}
-use Rattle.desk_text.specs.Reading.{Sign, opens, closes, begins, further, ends, strange, Rest, nothing, read_from, read_after, after_found}
+use Rattle.desk_text.specs.Reading.{Sign, opens, closes, begins, further, ends, strange}
 
 abbrev pub texts : List (Bor (List ℕ)) → List (List ℕ)
 texts lines = map (λ line. line.now) lines

@@ -1,4 +1,4 @@
-use Rattle.std.proofs.Common.{◌<◌, length, sym, arith}
+use Rattle.std.proofs.Common.{sym}
 use Rattle.desk_text.proofs.LinesLemmas.{strip_return-none, strip_return-some, some_length}
 use Rattle.desk_text.proofs.lines.without_return.Goals as goal
 

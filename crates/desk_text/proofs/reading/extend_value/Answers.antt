@@ -1,4 +1,4 @@
-use Rattle.std.proofs.Common.{◌≡◌, [], ◌∷◌, ◌++◌, map, refl}
+use Rattle.std.proofs.Common.{refl}
 use Rattle.std.proofs.lemmas.List.{map_push}
 use Rattle.desk_text.proofs.StepLemmas.{extended}
 use Rattle.desk_text.proofs.reading.extend_value.Goals as goal

@@ -1,4 +1,4 @@
-use Rattle.std.proofs.Common.{arith, sym, ◌∙◌, [], map}
+use Rattle.std.proofs.Common.{arith, [], map}
 use Rattle.desk_text.specs.Lines.{lines_of}
 use Rattle.desk_text.specs.Reading.{sign_of}
 use Rattle.desk_text.specs.Steps.{within, found_by}

@@ -1,4 +1,4 @@
-use Rattle.std.proofs.Common.{◌≡◌, ◌≤◌, ◌++◌, take, length, vec_len}
+use Rattle.std.proofs.Common.{◌≡◌, ◌++◌, take, length, vec_len}
 use Rattle.desk_text.specs.Lines.{value_lines, written}
 use Rattle.desk_text.proofs.writing.append_value.Given as goal
 
