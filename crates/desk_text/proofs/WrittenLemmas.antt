@@ -1,8 +1,9 @@
 -- What is written, over plain lists.
 use Rattle.std.proofs.Common.{◌≡◌, ℕ, ◌≤◌, Bool, true, false, cond, eqb, min, List, [], ◌∷◌, ◌++◌, length, take, refl, sym, ap, ◌∙◌, arith, append_assoc, append-nil}
-use Rattle.std.proofs.lemmas.List.{take-append-le, length-take}
+use Rattle.std.proofs.lemmas.List.{take-append-le, length-take, flat_map_more}
 use Rattle.desk_text.specs.Lines.{value_lines, onto_first, ended, written}
-use Rattle.desk_text.specs.Written.{tagged}
+use Rattle.std.specs.List.{flat_map}
+use Rattle.desk_text.specs.Written.{tagged, Draft, Part, after, lines_of_part}
 
 -- the front of a buffer stays
 
@@ -51,3 +52,13 @@ tagged_text tag value =
 pub field_text : (out mid now tag value : List ℕ) → mid ≡ out ++ (58 ∷ (tag ++ 58 ∷ [])) → now ≡ mid ++ written (value_lines value) → now ≡ out ++ written (tagged tag (value_lines value))
 field_text out mid now tag value a b =
     b ∙ ap (λ z. z ++ written (value_lines value)) a ∙ append_assoc out (58 ∷ (tag ++ 58 ∷ [])) (written (value_lines value)) ∙ ap (λ z. out ++ z) (tagged_text tag value)
+
+-- one part more
+
+pub written-append : (a b : List (List ℕ)) → written (a ++ b) ≡ written a ++ written b
+written-append [] b = refl
+written-append (line ∷ a) b = ap (λ z. ended line ++ z) (written-append a b) ∙ sym (append_assoc (ended line) (written a) (written b))
+
+pub draft-more : (draft : Draft) (parts : List Part) (part : Part) → draft.text ≡ written (flat_map lines_of_part parts) → (after part draft).text ≡ written (flat_map lines_of_part (parts ++ part ∷ []))
+draft-more draft parts part e =
+    ap (λ z. z ++ written (lines_of_part part)) e ∙ sym (written-append (flat_map lines_of_part parts) (lines_of_part part)) ∙ ap written (flat_map_more lines_of_part [] parts part)

@@ -1,11 +1,12 @@
 //! Laws above the definitions. Each function has an empty body: its contract is the law.
 ghost use Rattle.std.specs.Prelude.{◌≡◌, ◌≢◌, ◌≤◌, ◌++◌, ◌∷◌, [], List, ℕ, All, IsTrue, Contains, codes, ◌⊎◌, length};
+ghost use Rattle.std.specs.List.{flat_map};
 ghost use Rattle.desk_text.specs.declared.faults.TextFault.{TextFault};
-ghost use Rattle.desk_text.specs.Lines.{lines_of, value_lines};
+ghost use Rattle.desk_text.specs.Lines.{lines_of, value_lines, written};
 ghost use Rattle.desk_text.specs.BlockGrammar.{Items, IsTree, is_first, is_further};
 ghost use Rattle.desk_text.specs.Fields.{Found, IsBlock};
 ghost use Rattle.desk_text.specs.BlockFault.{Begins, AreOpen, IsRight, IsFault};
-ghost use Rattle.desk_text.specs.Written.{Part, AreParts, block_text, fields_written, is_value};
+ghost use Rattle.desk_text.specs.Written.{Part, Draft, AreParts, after, lines_of_part, block_text, fields_written, is_value};
 
 /// A line may end with LF or with CR LF, and the last with nothing.
 pub fn line_ends()
@@ -35,6 +36,11 @@ pub fn one_fault()
     ensures some { (text : List ℕ) → ((found : List Found) → IsBlock text found → ⊥) → (fault : TextFault) × IsFault text fault }
     ensures only { (text : List ℕ) (a b : TextFault) → IsFault text a → IsFault text b → a ≡ b }
     ensures none { (text : List ℕ) (found : List Found) (fault : TextFault) → length text ≤ 65536 → IsBlock text found → IsFault text fault → ⊥ }
+{}
+
+/// A writer that holds the lines of parts holds, after one part more, the lines of these parts with it.
+pub fn parts_add_up()
+    ensures { (draft : Draft) (parts : List Part) (part : Part) → draft.text ≡ written (flat_map lines_of_part parts) → (after part draft).text ≡ written (flat_map lines_of_part (parts ++ part ∷ [])) }
 {}
 
 /// What was written is read back: the text of parts is a block of the fields written, and of no others.
