@@ -1,1 +1,2 @@
 pub mod LinesLemmas
+pub mod StepLemmas

@@ -28,10 +28,14 @@ pub enum Line<'a> {
 fn without_return(line: &[u8]) -> &[u8]
     ensures { result.now ≡ strip_return line.now }
 {
-    match line {
-        [front @ .., b'\r'] => front,
-        _ => line,
+    if line.is_empty() {
+        return line;
     }
+    let front = line.len() - 1;
+    if line[front] == b'\r' {
+        return &line[..front];
+    }
+    line
 }
 
 /// The first line of a text, without its end, and what comes after it. None at the end of the text.
@@ -45,7 +49,7 @@ pub fn next_line(text: &[u8]) -> Option<(&[u8], &[u8])>
     }
     match split_feed(text) {
         Some((line, rest)) => Some((without_return(line), rest)),
-        None => Some((text, &text[text.len()..])),
+        None => Some((text, &text[..0])),
     }
 }
 
@@ -53,10 +57,16 @@ pub fn next_line(text: &[u8]) -> Option<(&[u8], &[u8])>
 fn split_tag(line: &[u8]) -> Option<(&[u8], &[u8])>
     ensures { option_map (λ parts. (parts.0.now, parts.1.now)) result ≡ tag_split line.now }
 {
-    if line.len() > 2 && line[2] == b':' {
+    if line.len() < 3 {
+        return None;
+    }
+    if line[2] == b':' {
         return Some((&line[..2], &line[3..]));
     }
-    if line.len() > 3 && line[3] == b':' {
+    if line.len() < 4 {
+        return None;
+    }
+    if line[3] == b':' {
         return Some((&line[..3], &line[4..]));
     }
     None

@@ -1,14 +1,14 @@
 //! Reading a block.
-ghost use Rattle.std.specs.Prelude.{◌≡◌, ◌+◌, ◌≤◌, ◌<◌, ◌^◌, [], false, length, map};
+ghost use Rattle.std.specs.Prelude.{◌≡◌, ◌+◌, ◌≤◌, ◌<◌, ◌^◌, [], ◌∷◌, OnOk, false, length, map};
 ghost use Rattle.desk_text.specs.Lines.{lines_of};
-ghost use Rattle.desk_text.specs.Reading.{sign_of, read_from, read_text};
-ghost use Rattle.desk_text.specs.Seen.{Reads, sign_seen};
+ghost use Rattle.desk_text.specs.Reading.{sign_of, read_from, read_text, extend_last};
+ghost use Rattle.desk_text.specs.Seen.{Reads, found_of, sign_seen};
 ghost use Rattle.desk_text.specs.Steps.{Takes, After, Gives};
 
 use crate::faults::TextFault;
 use crate::fields::{Block, Field};
 use crate::lines::{Line, next_line, read_line};
-use std::alloc::Global;
+use std::alloc::{AllocError, Global};
 
 /// The most bytes of a block that is read.
 pub const LONGEST_TEXT: usize = 65_536;
@@ -27,11 +27,14 @@ pub struct Reader<'a> {
 }
 
 /// Adds a line to the value of the last field.
-fn extend_value<'a>(fields: &mut Vec<Field<'a>>, line: &'a [u8]) -> Result<(), TextFault> {
-    if let Some(mut field) = fields.pop() {
-        field.values.push(line)?;
-        fields.push(field)?;
-    }
+fn extend_value<'a>(fields: &mut Vec<Field<'a>>, line: &'a [u8]) -> Result<(), AllocError>
+    ensures { OnOk result (map found_of fields.new.items ≡ extend_last (map found_of fields.old.items) (line.entry.now ∷ [])) }
+{
+    let Some(mut field) = fields.pop() else {
+        return Ok(());
+    };
+    field.values.push(line)?;
+    fields.push(field)?;
     Ok(())
 }
 

@@ -1,22 +1,31 @@
 //! What names, tags and values are made of.
-ghost use Rattle.std.specs.Prelude.{◌≡◌, ◌≢◌, ◌∷◌, ◌++◌, All, IfSome, IfNone};
+ghost use Rattle.std.specs.Prelude.{◌≡◌, ◌≢◌, ◌∷◌, ◌++◌, ◌||◌, All, IfSome, IfNone};
 ghost use Rattle.std.specs.List.{list_all};
 ghost use Rattle.desk_text.specs.Lines.{value_lines};
-ghost use Rattle.desk_text.specs.BlockGrammar.{is_printable, is_name as spells_name, is_any_tag, is_tag as spells_tag, is_first, is_further};
+ghost use Rattle.desk_text.specs.BlockGrammar.{is_capital, is_digit, is_name as spells_name, is_any_tag, is_tag as spells_tag, is_first, is_further};
 ghost use Rattle.desk_text.specs.Written.{is_value as spells_value};
 
 /// The longest name of a sequence.
 pub const LONGEST_NAME: usize = 16;
 
+fn are_name_characters(name: &[u8]) -> bool
+    ensures { result ≡ list_all (λ c. is_capital c || is_digit c) name.now }
+{
+    name.iter()
+        .all(|c| c.is_ascii_uppercase() || c.is_ascii_digit())
+}
+
 /// Whether a sequence may have this name: 1 to 16 characters A to Z or 0 to 9.
 pub fn is_name(name: &[u8]) -> bool
     ensures { result ≡ spells_name name.now }
 {
-    !name.is_empty()
-        && name.len() <= LONGEST_NAME
-        && name
-            .iter()
-            .all(|c| c.is_ascii_uppercase() || c.is_ascii_digit())
+    if name.is_empty() {
+        return false;
+    }
+    if name.len() > LONGEST_NAME {
+        return false;
+    }
+    are_name_characters(name)
 }
 
 /// Two digits, and at most one letter A to Z.
