@@ -1,1 +1,4 @@
 pub mod MessageType
+pub mod Words
+pub mod OwnText
+pub mod StatusText

@@ -4,8 +4,12 @@
 //! above tests them again. Begin with `instruction.rt`.
 #![tactic(auto)]
 
+mod fault;
 mod instruction;
 mod mt;
+mod status;
 
+pub use fault::{MsgFault, Word};
 pub use instruction::{CancelOrder, Cash, Instruction, Kind, Message, SettlementType};
 pub use mt::Mt;
+pub use status::{Case, Own, Reason};
