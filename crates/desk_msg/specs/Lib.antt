@@ -2,3 +2,5 @@ pub mod MessageType
 pub mod Words
 pub mod OwnText
 pub mod StatusText
+pub mod Profile
+pub mod Reads
