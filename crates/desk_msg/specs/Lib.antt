@@ -4,3 +4,4 @@ pub mod OwnText
 pub mod StatusText
 pub mod Profile
 pub mod Reads
+pub mod Finding

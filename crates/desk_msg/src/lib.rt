@@ -5,6 +5,7 @@
 #![tactic(auto)]
 
 mod fault;
+mod find;
 mod function;
 mod instruction;
 mod mt;

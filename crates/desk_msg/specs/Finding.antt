@@ -1,0 +1,33 @@
+-- What is found among the fields that the code holds.
+use Rattle.std.specs.Prelude.{◌≡◌, ℕ, ◌<◌, Bool, List, [], ◌∷◌, length, map, Option, Some, None, Result, Ok, Err}
+use Rattle.std.specs.Borrow.{Bor}
+use Rattle.std.specs.List.{filter}
+use Rattle.desk_text.specs.declared.fields.Field.{Field}
+use Rattle.desk_text.specs.Fields.{Found}
+use Rattle.desk_text.specs.Seen.{texts, found_of}
+use Rattle.desk_msg.specs.declared.fault.Word.{Word}
+use Rattle.desk_msg.specs.declared.fault.MsgFault.{MsgFault}
+use Rattle.desk_msg.specs.declared.fault.MsgFault.TheVariants.{Missing, Repeated, BadValue, Function}
+use Rattle.desk_msg.specs.Profile.{Row, Said, Says}
+use Rattle.desk_msg.specs.Reads.{belongs, Gives, Fails}
+
+-- the fields without where they lie in memory
+abbrev pub found_all : List Field → List Found
+found_all fields = map found_of fields
+
+-- those of the fields that stand in these sequences, with one of these tags and a value that begins so
+abbrev pub found_among : List (Bor (List ℕ)) → List (Bor (List ℕ)) → List ℕ → List Field → List Found
+found_among path tags begins fields = filter (belongs (texts path) (texts tags) begins) (found_all fields)
+
+-- the one field of a list; else the fault: it is missing, or it is repeated
+abbrev pub IsOne : Word → List Found → Result (Bor Field) MsgFault → Type 0
+IsOne word found (Ok field) = found ≡ found_of field.now ∷ []
+IsOne word found (Err (Missing w)) = (w ≡ word) × (found ≡ [])
+IsOne word found (Err (Repeated w)) = (w ≡ word) × (1 < length found)
+IsOne word found (Err (BadValue w)) = ⊥
+IsOne word found (Err Function) = ⊥
+
+-- what reading a row gives: what its value says, or how it fails
+abbrev pub ReadsRow : {X : Type 0} → List Found → Row → (X → Said) → Result X MsgFault → Type 0
+ReadsRow fields row said (Ok x) = Gives fields row (said x)
+ReadsRow fields row said (Err fault) = Fails fields row fault
