@@ -8,6 +8,9 @@ use Rattle.desk_text.specs.Seen.{texts, found_of}
 use Rattle.desk_msg.specs.declared.fault.Word.{Word}
 use Rattle.desk_msg.specs.declared.fault.MsgFault.{MsgFault}
 use Rattle.desk_msg.specs.declared.fault.MsgFault.TheVariants.{Missing, Repeated, BadValue, Function}
+use Rattle.desk_codes.specs.declared.currency.Ccy.{Ccy}
+use Rattle.desk_msg.specs.declared.instruction.Kind.{Kind}
+use Rattle.desk_msg.specs.declared.instruction.Cash.{Cash}
 use Rattle.desk_msg.specs.Profile.{Row, Said, Says}
 use Rattle.desk_msg.specs.Reads.{belongs, Gives, Fails}
 
@@ -31,3 +34,26 @@ IsOne word found (Err Function) = ⊥
 abbrev pub ReadsRow : {X : Type 0} → List Found → Row → (X → Said) → Result X MsgFault → Type 0
 ReadsRow fields row said (Ok x) = Gives fields row (said x)
 ReadsRow fields row said (Err fault) = Fails fields row fault
+
+-- a value of which this holds, seen so; or none, where it holds of none
+abbrev pub IsFound : {X Y : Type 0} → (X → Y) → (Y → Type 0) → Option X → Type 0
+IsFound view P (Some x) = P (view x)
+IsFound view P None = (y : _) → P y → ⊥
+
+-- the text that a slice holds
+abbrev pub text_in : Bor (List ℕ) → List ℕ
+text_in slice = slice.now
+
+-- the text itself, as a contract sees a code
+abbrev pub code_itself : List ℕ → List ℕ
+code_itself text = text
+
+-- how a security is counted, and the number
+abbrev pub kinded : Kind × Bor (List ℕ) → Kind × List ℕ
+kinded found = (found.0, found.1.now)
+
+abbrev pub quantity_itself : Kind × ℕ → Kind × ℕ
+quantity_itself quantity = quantity
+
+abbrev pub amount_of_cash : Cash → Ccy × ℕ
+amount_of_cash cash = (cash.ccy, cash.amount)

@@ -107,27 +107,35 @@ pub data Said : Type 0 where
 
 -- the value has one line, which begins so, and this is the rest of it
 abbrev pub Bears : List ℕ → Found → List ℕ → Type 0
-Bears begins field rest = field.values ≡ (begins ++ rest) ∷ []
+Bears begins field text = field.values ≡ (begins ++ text) ∷ []
+
+-- of the rest of the value behind that beginning P holds
+abbrev pub Behind : List ℕ → Found → (List ℕ → Type 0) → Type 0
+Behind begins field P = (text : List ℕ) × Bears begins field text × P text
 
 -- so many characters A to Z or 0 to 9
 abbrev pub IsCode : ℕ → List ℕ → Type 0
 IsCode n text = (length text ≡ n) × All IsCodeChar text
 
 -- four characters, or these, a slash and four more
-abbrev pub IsFunctionValue : Found → List ℕ → Type 0
-IsFunctionValue field function =
-    IsCode 4 function × (Bears [] field function ⊎ ((further : List ℕ) × IsCode 4 further × Bears [] field (function ++ 47 ∷ further)))
+abbrev pub IsFunctionText : List ℕ → List ℕ → Type 0
+IsFunctionText text function =
+    IsCode 4 function × ((text ≡ function) ⊎ ((further : List ℕ) × IsCode 4 further × (text ≡ function ++ 47 ∷ further)))
+
+abbrev pub IsReferenceText : List ℕ → List ℕ → Type 0
+IsReferenceText text reference = IsReference reference × (text ≡ reference)
+
+-- a text, and six digits behind it
+abbrev pub IsTimed : List ℕ → List ℕ → Type 0
+IsTimed text front = (time : List ℕ) × (length time ≡ 6) × All IsDigit time × (text ≡ front ++ time)
 
 -- eight digits of a day; under 98C six digits more, of any value
-abbrev pub IsDayValue : List ℕ → Found → List ℕ → Type 0
-IsDayValue begins field day =
-    IsDay day
-    × (((field.tag ≡ codes "98A") × Bears (begins ++ codes "/") field day)
-        ⊎ ((time : List ℕ) × (field.tag ≡ codes "98C") × (length time ≡ 6) × All IsDigit time × Bears (begins ++ codes "/") field (day ++ time)))
+abbrev pub IsDayText : List ℕ → List ℕ → List ℕ → Type 0
+IsDayText tag text day = IsDay day × (((tag ≡ codes "98A") × (text ≡ day)) ⊎ ((tag ≡ codes "98C") × IsTimed text day))
 
--- `ISIN`, a space and the code; further lines are free
-abbrev pub IsSecurityValue : Found → List ℕ → Type 0
-IsSecurityValue field isin = IsIsin isin × ((further : List (List ℕ)) × (field.values ≡ (codes "ISIN " ++ isin) ∷ further))
+-- `ISIN`, a space and the code
+abbrev pub IsSecurityText : List ℕ → List ℕ → Type 0
+IsSecurityText line isin = IsIsin isin × (line ≡ codes "ISIN " ++ isin)
 
 -- the code of how a security is counted
 abbrev pub code_of_kind : Kind → List ℕ
@@ -135,38 +143,43 @@ code_of_kind Units = codes "UNIT"
 code_of_kind FaceAmount = codes "FAMT"
 
 -- how the security is counted, a slash and the number
-abbrev pub IsQuantityValue : List ℕ → Found → Kind → ℕ → Type 0
-IsQuantityValue begins field kind quantity =
-    (number : List ℕ) × ReadsNumber number 0 (Ok quantity) × Bears (begins ++ codes "/" ++ code_of_kind kind ++ codes "/") field number
+abbrev pub IsQuantityText : List ℕ → Kind → ℕ → Type 0
+IsQuantityText text kind quantity = (number : List ℕ) × (text ≡ code_of_kind kind ++ 47 ∷ number) × ReadsNumber number 0 (Ok quantity)
 
--- four characters; an issuer code of up to eight may stand between the slashes
-abbrev pub IsSettlementValue : List ℕ → Found → List ℕ → Type 0
-IsSettlementValue begins field settlement =
-    IsCode 4 settlement × ((issuer : List ℕ) × (length issuer ≤ 8) × All IsCodeChar issuer × Bears (begins ++ issuer ++ codes "/") field settlement)
+abbrev pub IsAccountText : List ℕ → List ℕ → Type 0
+IsAccountText text account = IsAccount account × (text ≡ account)
 
-abbrev pub IsPartyValue : List ℕ → Found → List ℕ → Type 0
-IsPartyValue begins field party = (text : List ℕ) × ReadsBic text (Ok party) × Bears (begins ++ codes "/") field text
+-- an issuer code of at most eight characters or none, a slash and four characters
+abbrev pub IsSettlementText : List ℕ → List ℕ → Type 0
+IsSettlementText text settlement =
+    IsCode 4 settlement × ((issuer : List ℕ) × (length issuer ≤ 8) × All IsCodeChar issuer × (text ≡ issuer ++ 47 ∷ settlement))
+
+abbrev pub IsPartyText : List ℕ → List ℕ → Type 0
+IsPartyText text party = ReadsBic text (Ok party)
 
 -- the currency and the number
-abbrev pub IsAmountValue : List ℕ → Found → Ccy → ℕ → Type 0
-IsAmountValue begins field ccy amount =
-    (number : List ℕ) × ReadsNumber number (decimals_of ccy) (Ok amount) × Bears (begins ++ codes "/" ++ letters_of ccy) field number
+abbrev pub IsAmountText : List ℕ → Ccy → ℕ → Type 0
+IsAmountText text ccy amount = (number : List ℕ) × (text ≡ letters_of ccy ++ number) × ReadsNumber number (decimals_of ccy) (Ok amount)
 
--- what a text is that the value of a field says
+-- `:QUAL//`, where the value begins `:QUAL/`
+abbrev pub slashed : List ℕ → List ℕ
+slashed begins = begins ++ 47 ∷ []
+
+-- What text the value of a field says, by the form of the row and what the value begins with. The lines of a security after the first are free.
 abbrev pub SaysText : Form → List ℕ → Found → List ℕ → Type 0
-SaysText function_form begins field text = IsFunctionValue field text
-SaysText reference_form begins field text = IsReference text × Bears (begins ++ codes "/") field text
-SaysText day_form begins field text = IsDayValue begins field text
-SaysText security_form begins field text = IsSecurityValue field text
-SaysText account_form begins field text = IsAccount text × Bears (begins ++ codes "/") field text
-SaysText settlement_form begins field text = IsSettlementValue begins field text
-SaysText party_form begins field text = IsPartyValue begins field text
-SaysText quantity_form begins field text = ⊥
-SaysText amount_form begins field text = ⊥
+SaysText function_form begins field said = Behind begins field (λ text. IsFunctionText text said)
+SaysText reference_form begins field said = Behind (slashed begins) field (λ text. IsReferenceText text said)
+SaysText day_form begins field said = Behind (slashed begins) field (λ text. IsDayText field.tag text said)
+SaysText security_form begins field said = (line : List ℕ) × (further : List (List ℕ)) × (field.values ≡ line ∷ further) × IsSecurityText line said
+SaysText account_form begins field said = Behind (slashed begins) field (λ text. IsAccountText text said)
+SaysText settlement_form begins field said = Behind begins field (λ text. IsSettlementText text said)
+SaysText party_form begins field said = Behind (slashed begins) field (λ text. IsPartyText text said)
+SaysText quantity_form begins field said = ⊥
+SaysText amount_form begins field said = ⊥
 
--- the value of a field says this, by the form of the row
+-- the value of a field says this
 abbrev pub Says : Row → Found → Said → Type 0
-Says row field (text_said text) = SaysText row.form row.begins field text
-Says row field (quantity_said kind quantity) = (row.form ≡ quantity_form) × IsQuantityValue row.begins field kind quantity
-Says row field (amount_said ccy amount) = (row.form ≡ amount_form) × IsAmountValue row.begins field ccy amount
+Says row field (text_said said) = SaysText row.form row.begins field said
+Says row field (quantity_said kind quantity) = (row.form ≡ quantity_form) × Behind (slashed row.begins) field (λ text. IsQuantityText text kind quantity)
+Says row field (amount_said ccy amount) = (row.form ≡ amount_form) × Behind (slashed row.begins) field (λ text. IsAmountText text ccy amount)
 Says row field unsaid = ⊥

@@ -4,12 +4,14 @@
 //! above tests them again. Begin with `instruction.rt`.
 #![tactic(auto)]
 
+mod characters;
 mod fault;
 mod find;
 mod function;
 mod instruction;
 mod mt;
 mod status;
+mod value;
 
 pub use fault::{MsgFault, Word};
 pub use instruction::{CancelOrder, Cash, Instruction, Kind, Message, SettlementType};
