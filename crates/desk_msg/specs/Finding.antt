@@ -11,7 +11,7 @@ use Rattle.desk_msg.specs.declared.fault.MsgFault.TheVariants.{Missing, Repeated
 use Rattle.desk_codes.specs.declared.currency.Ccy.{Ccy}
 use Rattle.desk_msg.specs.declared.instruction.Kind.{Kind}
 use Rattle.desk_msg.specs.declared.instruction.Cash.{Cash}
-use Rattle.desk_msg.specs.Profile.{Row, Said, Says}
+use Rattle.desk_msg.specs.Profile.{Row, Said, Says, Bears}
 use Rattle.desk_msg.specs.Reads.{belongs, Gives, Fails}
 
 -- the fields without where they lie in memory
@@ -57,3 +57,11 @@ quantity_itself quantity = quantity
 
 abbrev pub amount_of_cash : Cash → Ccy × ℕ
 amount_of_cash cash = (cash.ccy, cash.amount)
+
+-- the text behind a beginning, in the one field of a list; else the fault
+abbrev pub IsOneText : Word → List Found → List ℕ → Result (Bor (List ℕ)) MsgFault → Type 0
+IsOneText word found begins (Ok text) = (field : Found) × (found ≡ field ∷ []) × Bears begins field text.now
+IsOneText word found begins (Err (Missing w)) = (w ≡ word) × (found ≡ [])
+IsOneText word found begins (Err (Repeated w)) = (w ≡ word) × (1 < length found)
+IsOneText word found begins (Err (BadValue w)) = (w ≡ word) × ((field : Found) × (found ≡ field ∷ []) × ((text : List ℕ) → Bears begins field text → ⊥))
+IsOneText word found begins (Err Function) = ⊥

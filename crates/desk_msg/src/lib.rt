@@ -10,6 +10,7 @@ mod find;
 mod function;
 mod instruction;
 mod mt;
+mod rows;
 mod status;
 mod value;
 

@@ -22,7 +22,7 @@ fn text_behind<'a>(text: &'a [u8], begins: &[u8]) -> Option<&'a [u8]>
 }
 
 /// What a value of one line has behind its beginning.
-fn value_behind<'a>(field: &Field<'a>, begins: &[u8]) -> Option<&'a [u8]>
+pub fn value_behind<'a>(field: &Field<'a>, begins: &[u8]) -> Option<&'a [u8]>
     ensures { IsFound text_in (Bears begins.now (found_of field.now)) result }
 {
     match field.values.as_slice() {
@@ -38,8 +38,22 @@ fn is_code(text: &[u8]) -> bool
     text.len() == 4 && are_code_chars(text)
 }
 
+/// A reference.
+pub fn reference_of(text: &[u8]) -> Option<Reference>
+    ensures { IsFound code_itself (IsReferenceText text.now) result }
+{
+    Reference::read(text)
+}
+
+/// A safekeeping account.
+pub fn account_of(text: &[u8]) -> Option<AccountId>
+    ensures { IsFound code_itself (IsAccountText text.now) result }
+{
+    AccountId::read(text)
+}
+
 /// The function's four characters; behind them a slash and four more may stand.
-fn function_of(text: &[u8]) -> Option<&[u8]>
+pub fn function_of(text: &[u8]) -> Option<&[u8]>
     ensures { IsFound text_in (IsFunctionText text.entry.now) result }
 {
     if text.len() < 4 {
@@ -94,7 +108,7 @@ fn day_before_time(text: &[u8]) -> Option<Day>
 }
 
 /// A day, under 98C with a time of six digits.
-fn day_under(tag: &[u8], text: &[u8]) -> Option<Day>
+pub fn day_under(tag: &[u8], text: &[u8]) -> Option<Day>
     ensures { IsFound code_itself (IsDayText tag.now text.now) result }
 {
     if tag == b"98A".as_slice() {
@@ -120,7 +134,7 @@ fn kind_and_number(text: &[u8]) -> Option<(Kind, &[u8])>
 }
 
 /// A quantity: how the security is counted, and the number in whole units.
-fn quantity_of(text: &[u8]) -> Option<(Kind, u64)>
+pub fn quantity_of(text: &[u8]) -> Option<(Kind, u64)>
     ensures { IsFound quantity_itself (λ quantity. IsQuantityText text.now quantity.0 quantity.1) result }
 {
     let (kind, number) = kind_and_number(text)?;
@@ -131,7 +145,7 @@ fn quantity_of(text: &[u8]) -> Option<(Kind, u64)>
 }
 
 /// The type of a settlement transaction, behind an issuer code or none.
-fn settlement_of(text: &[u8]) -> Option<SettlementType>
+pub fn settlement_of(text: &[u8]) -> Option<SettlementType>
     ensures { IsFound code_itself (IsSettlementText text.now) result }
 {
     if text.len() < 5 {
@@ -146,7 +160,7 @@ fn settlement_of(text: &[u8]) -> Option<SettlementType>
 }
 
 /// An amount: its currency, and the number in minor units.
-fn amount_of(text: &[u8]) -> Option<Cash>
+pub fn amount_of(text: &[u8]) -> Option<Cash>
     ensures { IsFound amount_of_cash (λ cash. IsAmountText text.now cash.0 cash.1) result }
 {
     if text.len() < 3 {
@@ -161,7 +175,7 @@ fn amount_of(text: &[u8]) -> Option<Cash>
 }
 
 /// A security, in the first line of its field.
-fn security_of(line: &[u8]) -> Option<Isin>
+pub fn security_of(line: &[u8]) -> Option<Isin>
     ensures { IsFound code_itself (IsSecurityText line.now) result }
 {
     let code = text_behind(line, b"ISIN ")?;
@@ -172,7 +186,7 @@ fn security_of(line: &[u8]) -> Option<Isin>
 }
 
 /// A party.
-fn party_of(text: &[u8]) -> Option<Bic>
+pub fn party_of(text: &[u8]) -> Option<Bic>
     ensures { IsFound code_itself (IsPartyText text.now) result }
 {
     match Bic::parse(text) {
