@@ -16,7 +16,7 @@ not_feed c ne = grind (arith, nat_tests)
 is_not : (c d : ℕ) → c ≢ d → eqb c d ≡ false
 is_not c d ne = grind (arith, nat_tests)
 
-not_return : (c : ℕ) → c ≢ 13 → eqb c 13 ≡ false
+pub not_return : (c : ℕ) → c ≢ 13 → eqb c 13 ≡ false
 not_return c ne = grind (arith, nat_tests)
 
 -- a value's lines

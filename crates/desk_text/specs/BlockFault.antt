@@ -20,10 +20,10 @@ pub record IsFirstBad (lines : List (List ℕ)) (k : ℕ) : Type 0 where
 -- The line is right where these names are open, the innermost first, whatever line stands before it.
 -- (A further line of a value hangs on the line before it, and on no names.)
 pub data IsRight (names : List (List ℕ)) (line : List ℕ) : Type 0 where
-  opens : (name : List ℕ) → line ≡ opening name → IsTrue (is_name name) → length names < 16 → IsRight names line
-  closes : (name : List ℕ) (outer : List (List ℕ)) → line ≡ closing name → IsTrue (is_name name) → names ≡ name ∷ outer → IsRight names line
-  begins : (tag first : List ℕ) → line ≡ field_line tag first → IsTrue (is_tag tag) → IsTrue (is_first first) → IsRight names line
-  ends : line ≡ codes "-}" → names ≡ [] → IsRight names line
+  is_opening : (name : List ℕ) → line ≡ opening name → IsTrue (is_name name) → length names < 16 → IsRight names line
+  is_closing : (name : List ℕ) (outer : List (List ℕ)) → line ≡ closing name → IsTrue (is_name name) → names ≡ name ∷ outer → IsRight names line
+  is_field : (tag first : List ℕ) → line ≡ field_line tag first → IsTrue (is_tag tag) → IsTrue (is_first first) → IsRight names line
+  is_end : line ≡ codes "-}" → names ≡ [] → IsRight names line
 
 -- No `-}` came before line k, and it is right under some list of open names.
 pub record IsMisnested (lines : List (List ℕ)) (k : ℕ) : Type 0 where

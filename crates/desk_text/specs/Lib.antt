@@ -6,3 +6,4 @@ pub mod Written
 pub mod Reading
 pub mod Seen
 pub mod Steps
+pub mod PartsSeen

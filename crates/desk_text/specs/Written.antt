@@ -1,5 +1,5 @@
 -- What a writer writes, part by part.
-use Rattle.std.specs.Prelude.{◌≡◌, ℕ, ◌+◌, ◌<◌, Bool, false, ◌&&◌, List, [], ◌∷◌, ◌++◌, length, reverse, drop, codes, IsTrue}
+use Rattle.std.specs.Prelude.{◌≡◌, ℕ, ◌+◌, ◌<◌, Bool, false, ◌&&◌, List, [], ◌∷◌, ◌++◌, length, reverse, take, drop, codes, IsTrue}
 use Rattle.std.specs.List.{flat_map, list_all}
 use Rattle.desk_text.specs.Lines.{value_lines, written}
 use Rattle.desk_text.specs.BlockGrammar.{is_name, is_tag, is_first, is_further, opening, closing, field_line}
@@ -21,9 +21,13 @@ lines_of_part (open_part name) = opening name ∷ []
 lines_of_part (field_part tag value) = tagged tag (value_lines value)
 lines_of_part (close_part name) = closing name ∷ []
 
+-- the first line, as it is written
+abbrev pub first_line : List ℕ
+first_line = written (codes "{4:" ∷ [])
+
 -- the text of a block whose lines so far are written, `{4:` and `-}` left out
 abbrev pub finished : List ℕ → List ℕ
-finished text = written (codes "{4:" ∷ []) ++ text ++ codes "-}"
+finished text = first_line ++ text ++ codes "-}"
 
 -- The one text of a block with these parts: CR LF after each line but `-}`, and nothing after that.
 abbrev pub block_text : List Part → List ℕ
@@ -78,3 +82,7 @@ after part draft = record { text = draft.text ++ written (lines_of_part part); n
 abbrev pub innermost : List (List ℕ) → List ℕ
 innermost [] = []
 innermost (name ∷ names) = name
+
+-- a buffer with the first line in front, where it holds anything
+pub record IsStarted (buffer : List ℕ) : Type 0 where
+  pub start : 0 < length buffer → take 5 buffer ≡ first_line

@@ -10,13 +10,16 @@
 
 pub mod faults;
 pub mod fields;
+pub mod laws;
 pub mod lines;
+pub mod parts;
 pub mod reading;
 pub mod spelling;
 pub mod writing;
 
 pub use faults::TextFault;
 pub use fields::{Block, Field};
+pub use parts::{BlockPart, write_block};
 pub use reading::read_block;
 pub use spelling::{is_name, is_tag, is_value};
 pub use writing::BlockWriter;

@@ -1,10 +1,10 @@
 //! Writing a block.
-ghost use Rattle.std.specs.Prelude.{◌≡◌, ◌≢◌, ◌≤◌, ◌<◌, ◌+◌, ◌++◌, ◌∷◌, [], List, length, take, vec_len, OnOk, OnErr, IfOk, IsTrue, codes};
+ghost use Rattle.std.specs.Prelude.{◌≡◌, ◌≢◌, ◌≤◌, ◌<◌, ◌+◌, ◌++◌, ◌∷◌, [], List, length, take, drop, vec_len, OnOk, OnErr, IfOk, IsTrue, codes};
 ghost use Rattle.std.specs.List.{flat_map};
 ghost use Rattle.desk_text.specs.Lines.{value_lines, written};
 ghost use Rattle.desk_text.specs.BlockGrammar.{is_name, is_tag};
 ghost use Rattle.desk_text.specs.Fields.{IsBlock};
-ghost use Rattle.desk_text.specs.Written.{Part, open_part, field_part, close_part, is_value, AreParts, lines_of_part, fields_written, fresh, after, innermost, finished};
+ghost use Rattle.desk_text.specs.Written.{Part, open_part, field_part, close_part, is_value, AreParts, lines_of_part, fields_written, fresh, after, innermost, finished, first_line, IsStarted};
 
 use crate::spelling::split_feed;
 use std::alloc::{AllocError, Global};
@@ -29,6 +29,30 @@ fn append_all(out: &mut Vec<u8>, pieces: &[&[u8]]) -> Result<(), AllocError>
     Ok(())
 }
 
+/// Sees to it that the first line stands in front.
+fn begin(buffer: &mut Vec<u8>) -> Result<(), AllocError>
+    requires { IsStarted buffer.old.items }
+    ensures ok { OnOk result (take 5 buffer.new.items ≡ first_line) }
+    ensures same { drop 5 buffer.new.items ≡ drop 5 buffer.old.items }
+    ensures started { IsStarted buffer.new.items }
+{
+    if buffer.is_empty() {
+        return append_all(buffer, &[FIRST_LINE]);
+    }
+    Ok(())
+}
+
+/// Adds the line of an opening or a closing.
+fn append_name(buffer: &mut Vec<u8>, front: &[u8], name: &[u8]) -> Result<(), AllocError>
+    requires { IsStarted buffer.old.items }
+    ensures ok { OnOk result (drop 5 buffer.new.items ≡ drop 5 buffer.old.items ++ written ((front.now ++ name.now) ∷ [])) }
+    ensures err { OnErr result (drop 5 buffer.new.items ≡ drop 5 buffer.old.items) }
+    ensures started { IsStarted buffer.new.items }
+{
+    begin(buffer)?;
+    append_all(buffer, &[front, name, b"\r\n"])
+}
+
 /// Adds the lines of a value, each with CR LF. What stood there stays in front, whatever the answer.
 fn append_value(out: &mut Vec<u8>, value: &[u8]) -> Result<(), AllocError>
     ensures ok { OnOk result (out.new.items ≡ out.old.items ++ written (value_lines value.now)) }
@@ -42,8 +66,8 @@ fn append_value(out: &mut Vec<u8>, value: &[u8]) -> Result<(), AllocError>
     append_all(out, &[rest, b"\r\n"])
 }
 
-/// Adds the lines of a field, or nothing.
-fn append_field(out: &mut Vec<u8>, tag: &[u8], value: &[u8]) -> Result<(), AllocError>
+/// Adds the lines of a field.
+fn append_lines(out: &mut Vec<u8>, tag: &[u8], value: &[u8]) -> Result<(), AllocError>
     ensures ok { OnOk result (out.new.items ≡ out.old.items ++ written (lines_of_part (field_part tag.now value.now))) }
     ensures err { OnErr result (out.new.items ≡ out.old.items) }
 {
@@ -54,6 +78,28 @@ fn append_field(out: &mut Vec<u8>, tag: &[u8], value: &[u8]) -> Result<(), Alloc
         return Err(error);
     }
     Ok(())
+}
+
+/// Adds the lines of a field.
+fn append_field(buffer: &mut Vec<u8>, tag: &[u8], value: &[u8]) -> Result<(), AllocError>
+    requires { IsStarted buffer.old.items }
+    ensures ok { OnOk result (drop 5 buffer.new.items ≡ drop 5 buffer.old.items ++ written (lines_of_part (field_part tag.now value.now))) }
+    ensures err { OnErr result (drop 5 buffer.new.items ≡ drop 5 buffer.old.items) }
+    ensures started { IsStarted buffer.new.items }
+{
+    begin(buffer)?;
+    append_lines(buffer, tag, value)
+}
+
+/// Adds `-}`.
+fn append_end(buffer: &mut Vec<u8>) -> Result<(), AllocError>
+    requires { IsStarted buffer.old.items }
+    ensures ok { OnOk result (buffer.new.items ≡ finished (drop 5 buffer.old.items)) }
+    ensures err { OnErr result (drop 5 buffer.new.items ≡ drop 5 buffer.old.items) }
+    ensures started { IsStarted buffer.new.items }
+{
+    begin(buffer)?;
+    append_all(buffer, &[b"-}"])
 }
 
 /// A block in the making, part by part (ISO 15022, block 4). It writes CR LF after each line, and nothing after `-}`.
@@ -69,14 +115,14 @@ pub struct BlockWriter {
 }
 
 impl Model for BlockWriter {
-    ghost use Rattle.std.specs.Prelude.{◌≡◌, ◌<◌, ℕ, length, take, drop, map, reverse, codes, ◌++◌, ◌∷◌, []};
-    ghost use Rattle.desk_text.specs.Written.{Draft};
+    ghost use Rattle.std.specs.Prelude.{drop, map, reverse};
+    ghost use Rattle.desk_text.specs.Written.{Draft, IsStarted};
 
     ghost Value = { Draft };
 
     ghost view = { λ writer. record { text = drop 5 writer.text.items; names = reverse (map (λ name. name.items) writer.names.items) } };
 
-    ghost invariant = { λ writer. 0 < length writer.text.items → take 5 writer.text.items ≡ codes "{4:" ++ 13 ∷ 10 ∷ [] };
+    ghost invariant = { λ writer. IsStarted writer.text.items };
 }
 
 impl BlockWriter {
@@ -98,16 +144,6 @@ impl BlockWriter {
         self.names.len()
     }
 
-    /// Sees to it that the first line stands.
-    fn begin(&mut self) -> Result<(), AllocError>
-        ensures { self.new ≡ self.old }
-    {
-        if self.text.is_empty() {
-            append_all(&mut self.text, &[FIRST_LINE])?;
-        }
-        Ok(())
-    }
-
     /// Opens a sequence of this name. At most 16 may be open.
     pub fn open(&mut self, name: &[u8]) -> Result<(), AllocError>
         requires name { IsTrue (is_name name.now) }
@@ -115,10 +151,9 @@ impl BlockWriter {
         ensures ok { OnOk result (self.new ≡ after (open_part name.now) self.old) }
         ensures err { OnErr result (self.new ≡ self.old) }
     {
-        self.begin()?;
         let copy = Vec::from_slice(self.alloc, name)?;
         self.names.reserve(1)?;
-        append_all(&mut self.text, &[b":16R:", name, b"\r\n"])?;
+        append_name(&mut self.text, b":16R:", name)?;
         self.names.push(copy).unwrap();
         Ok(())
     }
@@ -130,7 +165,6 @@ impl BlockWriter {
         ensures ok { OnOk result (self.new ≡ after (field_part tag.now value.now) self.old) }
         ensures err { OnErr result (self.new ≡ self.old) }
     {
-        self.begin()?;
         append_field(&mut self.text, tag, value)
     }
 
@@ -140,11 +174,9 @@ impl BlockWriter {
         ensures ok { OnOk result (self.new ≡ after (close_part (innermost self.old.names)) self.old) }
         ensures err { OnErr result (self.new ≡ self.old) }
     {
-        self.begin()?;
-        if let Some(name) = self.names.last() {
-            append_all(&mut self.text, &[b":16S:", name, b"\r\n"])?;
-        }
-        let _closed = self.names.pop();
+        let last = self.names.len() - 1;
+        append_name(&mut self.text, b":16S:", &self.names[last])?;
+        self.names.truncate(last);
         Ok(())
     }
 
@@ -157,8 +189,7 @@ impl BlockWriter {
         ensures anew { OnOk result (self.new ≡ fresh) }
         ensures err { OnErr result (self.new ≡ self.old) }
     {
-        self.begin()?;
-        append_all(&mut self.text, &[b"-}"])?;
+        append_end(&mut self.text)?;
         Ok(mem::replace(&mut self.text, Vec::new(self.alloc)))
     }
 }
