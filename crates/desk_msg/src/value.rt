@@ -1,9 +1,9 @@
 //! What the value of a field says, by its form. Each function finds its answer exactly where the text has
 //! that form.
-ghost use Rattle.std.specs.Prelude.{◌≡◌, ◌↔◌, ◌++◌, ◌∷◌, List, ℕ, IsTrue};
+ghost use Rattle.std.specs.Prelude.{◌≡◌, ◌↔◌, ◌++◌, ◌∷◌, [], List, ℕ, IsTrue, codes};
 ghost use Rattle.desk_codes.specs.Day.{IsDay};
 ghost use Rattle.desk_text.specs.Seen.{found_of};
-ghost use Rattle.desk_msg.specs.Profile.{Bears, Behind, IsCode, IsFunctionText, IsReferenceText, IsDayText, IsTimed, IsQuantityText, IsAccountText, IsSettlementText, IsPartyText, IsSecurityText, IsAmountText, SaysText, security_form, code_of_kind};
+ghost use Rattle.desk_msg.specs.Profile.{Bears, Behind, IsCode, IsFunctionText, IsReferenceText, IsDayText, IsTimed, IsQuantityText, IsAccountText, IsSettlementText, IsPartyText, IsSecurityText, IsAmountText, SaysText, security_form, day_form, code_of_kind};
 ghost use Rattle.desk_msg.specs.Finding.{IsFound, text_in, code_itself, kinded, quantity_itself, amount_of_cash};
 
 use crate::characters::{are_code_chars, are_digits};
@@ -108,7 +108,7 @@ fn day_before_time(text: &[u8]) -> Option<Day>
 }
 
 /// A day, under 98C with a time of six digits.
-pub fn day_under(tag: &[u8], text: &[u8]) -> Option<Day>
+fn day_under(tag: &[u8], text: &[u8]) -> Option<Day>
     ensures { IsFound code_itself (IsDayText tag.now text.now) result }
 {
     if tag == b"98A".as_slice() {
@@ -175,7 +175,7 @@ pub fn amount_of(text: &[u8]) -> Option<Cash>
 }
 
 /// A security, in the first line of its field.
-pub fn security_of(line: &[u8]) -> Option<Isin>
+fn security_of(line: &[u8]) -> Option<Isin>
     ensures { IsFound code_itself (IsSecurityText line.now) result }
 {
     let code = text_behind(line, b"ISIN ")?;
@@ -192,5 +192,23 @@ pub fn party_of(text: &[u8]) -> Option<Bic>
     match Bic::parse(text) {
         Ok(bic) => Some(bic),
         Err(_) => None,
+    }
+}
+
+/// The day of a field, by its tag.
+pub fn day_in(field: &Field) -> Option<Day>
+    ensures { IsFound code_itself (SaysText day_form (codes ":SETT/") (found_of field.now)) result }
+{
+    let text = value_behind(field, b":SETT//")?;
+    day_under(field.tag, text)
+}
+
+/// The security of a field, whose further lines are free.
+pub fn security_in(field: &Field) -> Option<Isin>
+    ensures { IsFound code_itself (SaysText security_form [] (found_of field.now)) result }
+{
+    match field.values.as_slice() {
+        [line, ..] => security_of(line),
+        [] => None,
     }
 }

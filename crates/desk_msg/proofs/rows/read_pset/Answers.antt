@@ -1,8 +1,11 @@
-use Rattle.std.proofs.Common.{rules, ◌≡◌, ◌++◌, ◌∷◌, [], ℕ, ◌+◌, ◌-◌, ◌*◌, ◌<◌, ◌≤◌, length, ◌/◌, ◌%◌, Bool, true, false, nat_eq, nat_lt, List, slice_index_or, slice_set, bit_and, bit_or, Fits, w8, w32, w64, Bor, MutBor}
-use Rattle.desk_msg.specs.Profile.{text_said, seme_row, prev_row, date_row, security_row, safe_row, setr_row, pset_row, deag_row, reag_row, function_row, quantity_row, amount_row}
-use Rattle.desk_msg.specs.Finding.{found_all, found_among, IsOneText, ReadsRow}
+use Rattle.std.proofs.Common.{codes}
+use Rattle.desk_msg.specs.Profile.{IsPartyText, pset_row}
+use Rattle.desk_msg.specs.Finding.{found_all}
+use Rattle.desk_msg.proofs.RowLemmas.{row_text}
 use Rattle.desk_msg.proofs.rows.read_pset.Goals as goal
 
--- src/rows.rt:48:1
 pub returns : goal.returns
-returns c = ?
+returns c =
+    let one = c.in_ok-text.ensures in
+    row_text IsPartyText (found_all c.args.fields.now) pset_row (codes ":PSET//") c.in_ok-text.text.now (λ e. cc) (λ e. cc) (λ field y h. h) (λ field y h. h)
+    (record { field = one.0; only = one.1; bears = one.2 }) c.party_of.result c.ok_or.result c.party_of.ensures c.ok_or.ensures.value
