@@ -1,16 +1,17 @@
 -- What a row gives, from what its value says.
-use Rattle.std.proofs.Common.{◌≡◌, ◌≢◌, ◌<◌, ℕ, List, [], ◌∷◌, ◌++◌, length, sym, ◌∙◌, ap, subst, refl, inl, inr, ◌⊎◌, Option, Some, None, Result, Ok, Err, Bor}
+use Rattle.std.proofs.Common.{◌≡◌, ◌≢◌, ◌<◌, ℕ, List, [], ◌∷◌, ◌++◌, length, sym, ◌∙◌, ap, subst, refl, inl, inr, ◌⊎◌, Option, Some, None, Result, Ok, Err, Bor, slice_get}
 use Rattle.std.specs.Option.{ok_or}
 use Rattle.desk_codes.specs.declared.currency.Ccy.{Ccy}
 use Rattle.desk_text.specs.Fields.{Found}
+use Rattle.desk_text.specs.Seen.{texts}
 use Rattle.desk_msg.specs.declared.instruction.Kind.{Kind}
 use Rattle.desk_msg.specs.declared.fault.Word.{Word}
 use Rattle.desk_msg.specs.declared.fault.MsgFault.{MsgFault}
 use Rattle.desk_msg.specs.declared.fault.MsgFault.TheVariants.{Missing, Repeated, BadValue, Function}
-use Rattle.desk_msg.specs.Profile.{Row, Form, quantity_form, amount_form, Said, text_said, quantity_said, amount_said, unsaid, Says, SaysText, Bears, Behind, slashed, IsQuantityText, IsAmountText}
+use Rattle.desk_msg.specs.Profile.{Row, Form, quantity_form, amount_form, Said, text_said, quantity_said, amount_said, unsaid, Says, SaysText, Bears, Behind, slashed, IsQuantityText, IsAmountText, IsSecurityText, security_form}
 use Rattle.desk_msg.specs.Reads.{belonging, Gives, IsBad, Fails}
 use Rattle.desk_msg.specs.Finding.{IsFound, IsOneText, ReadsRow, text_in, code_itself, quantity_itself}
-use Rattle.desk_msg.proofs.ValueLemmas.{one_behind}
+use Rattle.desk_msg.proofs.ValueLemmas.{one_behind, one_head}
 
 -- the text of the one field, or that it has none behind the beginning
 pub one_text : (word : Word) (found : List Found) (begins : List ℕ) (field : Found) (r : Option (Bor (List ℕ))) (res : Result (Bor (List ℕ)) MsgFault) → found ≡ field ∷ [] → IsFound text_in (Bears begins field) r → res ≡ ok_or r (BadValue word) → IsOneText word found begins res
@@ -80,3 +81,16 @@ says_amount row field (amount_said ccy amount) a h = ((ccy, amount), h.1)
 says_amount row field (text_said text) a h = absurd (no_text row.form row.begins field text (inr a) h)
 says_amount row field (quantity_said kind quantity) a h = let both : amount_form ≡ quantity_form = sym a ∙ h.0 in cc
 says_amount row field unsaid a h = absurd h
+
+first_line : (lines : List (Bor (List ℕ))) (line : Bor (List ℕ)) → Some line ≡ slice_get lines 0 → (more : List (List ℕ)) × (texts lines ≡ line.now ∷ more)
+first_line [] line e = cc
+first_line (top ∷ lines) line e = let same : line ≡ top = cc in (texts lines, ap (λ (l : Bor (List ℕ)). l.now ∷ texts lines) (sym same))
+
+-- the security of a field is that of its first line
+pub security_found : (field : Found) (lines : List (Bor (List ℕ))) (line : Bor (List ℕ)) (r : Option (List ℕ)) → field.values ≡ texts lines → Some line ≡ slice_get lines 0 → IsFound code_itself (IsSecurityText line.now) r → IsFound code_itself (SaysText security_form [] field) r
+security_found field lines line (Some isin) are first found = let split = first_line lines line first in (line.now, split.0, are ∙ split.1, found)
+security_found field lines line None are first found = λ y h.
+    let split = first_line lines line first in
+    let both : h.0 ∷ h.1 ≡ line.now ∷ split.0 = sym h.2 ∙ (are ∙ split.1) in
+    let Q : List ℕ → Type 0 = λ t. IsSecurityText t y in
+    found y (subst Q (one_head h.0 line.now h.1 split.0 both) h.3)

@@ -1,5 +1,5 @@
 -- What is found among the fields that the code holds.
-use Rattle.std.specs.Prelude.{◌≡◌, ℕ, ◌<◌, Bool, List, [], ◌∷◌, length, map, Option, Some, None, Result, Ok, Err}
+use Rattle.std.specs.Prelude.{◌≡◌, ℕ, ◌<◌, Bool, true, false, List, [], ◌∷◌, length, map, Option, Some, None, Result, Ok, Err}
 use Rattle.std.specs.Borrow.{Bor}
 use Rattle.std.specs.List.{filter}
 use Rattle.desk_text.specs.declared.fields.Field.{Field}
@@ -11,8 +11,13 @@ use Rattle.desk_msg.specs.declared.fault.MsgFault.TheVariants.{Missing, Repeated
 use Rattle.desk_codes.specs.declared.currency.Ccy.{Ccy}
 use Rattle.desk_msg.specs.declared.instruction.Kind.{Kind}
 use Rattle.desk_msg.specs.declared.instruction.Cash.{Cash}
-use Rattle.desk_msg.specs.Profile.{Row, Said, Says, Bears}
-use Rattle.desk_msg.specs.Reads.{belongs, Gives, Fails}
+use Rattle.desk_msg.specs.declared.instruction.Instruction.{Instruction}
+use Rattle.desk_msg.specs.declared.instruction.CancelOrder.{CancelOrder}
+use Rattle.desk_msg.specs.declared.mt.Mt.{Mt}
+use Rattle.desk_msg.specs.declared.function.FunctionCode.TheVariants.{Newm, Canc}
+use Rattle.desk_msg.specs.MessageType.{is_against_payment}
+use Rattle.desk_msg.specs.Profile.{Row, Said, amount_said, Says, Bears, amount_row, rows_of}
+use Rattle.desk_msg.specs.Reads.{belongs, Gives, Fails, FailsFirst, GiveAll, instructed, cancelled}
 
 -- the fields without where they lie in memory
 abbrev pub found_all : List Field → List Found
@@ -65,3 +70,18 @@ IsOneText word found begins (Err (Missing w)) = (w ≡ word) × (found ≡ [])
 IsOneText word found begins (Err (Repeated w)) = (w ≡ word) × (1 < length found)
 IsOneText word found begins (Err (BadValue w)) = (w ≡ word) × ((field : Found) × (found ≡ field ∷ []) × ((text : List ℕ) → Bears begins field text → ⊥))
 IsOneText word found begins (Err Function) = ⊥
+
+-- the amount, against payment; free of payment there is none, and nothing is looked for
+abbrev pub ReadsPayment : Mt → List Found → Result (Option Cash) MsgFault → Type 0
+ReadsPayment mt fields (Ok (Some cash)) = (is_against_payment mt ≡ true) × Gives fields amount_row (amount_said cash.ccy cash.amount)
+ReadsPayment mt fields (Ok None) = is_against_payment mt ≡ false
+ReadsPayment mt fields (Err fault) = (is_against_payment mt ≡ true) × Fails fields amount_row fault
+
+-- the rows behind the function that a new instruction has, and those that a cancellation has
+abbrev pub ReadsInstruction : Mt → List Found → Result Instruction MsgFault → Type 0
+ReadsInstruction mt fields (Ok i) = (i.mt ≡ mt) × GiveAll fields (rows_of mt Newm) (instructed i)
+ReadsInstruction mt fields (Err fault) = FailsFirst fields (rows_of mt Newm) fault
+
+abbrev pub ReadsCancellation : Mt → List Found → Result CancelOrder MsgFault → Type 0
+ReadsCancellation mt fields (Ok c) = (c.mt ≡ mt) × GiveAll fields (rows_of mt Canc) (cancelled c)
+ReadsCancellation mt fields (Err fault) = FailsFirst fields (rows_of mt Canc) fault

@@ -207,8 +207,6 @@ pub fn day_in(field: &Field) -> Option<Day>
 pub fn security_in(field: &Field) -> Option<Isin>
     ensures { IsFound code_itself (SaysText security_form [] (found_of field.now)) result }
 {
-    match field.values.as_slice() {
-        [line, ..] => security_of(line),
-        [] => None,
-    }
+    let line = field.values.first()?;
+    security_of(line)
 }
