@@ -1,3 +1,4 @@
 pub mod ValueLemmas
 pub mod FormLemmas
 pub mod RowLemmas
+pub mod MessageLemmas

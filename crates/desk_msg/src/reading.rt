@@ -79,6 +79,23 @@ fn read_cancellation(mt: Mt, fields: &[Field]) -> Result<CancelOrder, MsgFault>
     })
 }
 
+/// A message.
+fn read_fields(mt: Mt, fields: &[Field]) -> Result<Message, MsgFault>
+    requires { is_instruction mt ≡ true }
+    ensures { Reads mt (found_all fields.now) result }
+{
+    match read_function(fields)? {
+        FunctionCode::Newm => {
+            let instruction = read_instruction(mt, fields)?;
+            Ok(Message::New(instruction))
+        }
+        FunctionCode::Canc => {
+            let order = read_cancellation(mt, fields)?;
+            Ok(Message::Cancel(order))
+        }
+    }
+}
+
 /// The message that the fields of a block are, for an instruction's type (MT540 to MT543).
 ///
 /// The used fields are looked for one after another; the fault is that of the first one that is missing, is
@@ -87,9 +104,5 @@ pub fn read_message(mt: Mt, block: &Block) -> Result<Message, MsgFault>
     requires { is_instruction mt ≡ true }
     ensures { Reads mt (found_in block.now) result }
 {
-    let fields = block.fields();
-    match read_function(fields)? {
-        FunctionCode::Newm => Ok(Message::New(read_instruction(mt, fields)?)),
-        FunctionCode::Canc => Ok(Message::Cancel(read_cancellation(mt, fields)?)),
-    }
+    read_fields(mt, block.fields())
 }
