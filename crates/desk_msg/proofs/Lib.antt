@@ -2,3 +2,4 @@ pub mod ValueLemmas
 pub mod FormLemmas
 pub mod RowLemmas
 pub mod MessageLemmas
+pub mod LineLemmas

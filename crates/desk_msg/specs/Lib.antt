@@ -5,3 +5,4 @@ pub mod StatusText
 pub mod Profile
 pub mod Reads
 pub mod Finding
+pub mod FieldsText

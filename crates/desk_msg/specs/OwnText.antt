@@ -1,11 +1,8 @@
 -- What the desk's own texts are made of.
 use Rattle.std.specs.Prelude.{ℕ, zero, suc, ◌+◌, ◌/◌, ◌%◌, List, [], ◌∷◌, ◌++◌, codes}
-use Rattle.std.specs.Fmt.{decimal}
 use Rattle.desk_text.specs.Written.{Part, open_part, field_part, close_part}
-use Rattle.desk_msg.specs.declared.mt.Mt.{Mt}
 use Rattle.desk_msg.specs.declared.status.Own.{Own}
 use Rattle.desk_msg.specs.declared.status.Own.TheVariants.{Answer, Sent}
-use Rattle.desk_msg.specs.MessageType.{number_of_type}
 
 -- the last k decimal digits of a number, as characters
 unfoldable pub last_digits : ℕ → ℕ → List ℕ

@@ -1,6 +1,5 @@
 -- The status advice (ISO 15022, MT548) as the parts that it is written in.
 use Rattle.std.specs.Prelude.{ℕ, ◌<◌, ◌≤◌, ◌^◌, List, [], ◌∷◌, ◌++◌, codes}
-use Rattle.std.specs.Fmt.{decimal}
 use Rattle.desk_text.specs.Written.{Part, field_part, block_text}
 use Rattle.desk_msg.specs.declared.mt.Mt.{Mt}
 use Rattle.desk_msg.specs.declared.status.Own.{Own}
@@ -9,7 +8,7 @@ use Rattle.desk_msg.specs.declared.status.Reason.{Reason}
 use Rattle.desk_msg.specs.declared.status.Reason.TheVariants.{Future, Lack, Money}
 use Rattle.desk_msg.specs.declared.status.Case.{Case}
 use Rattle.desk_msg.specs.declared.status.Case.TheVariants.{Unmatched, Matched, Cancelled, CancelDone, NewRefused, CancelRefused}
-use Rattle.desk_msg.specs.MessageType.{number_of_type}
+use Rattle.desk_msg.specs.MessageType.{digits_of_type}
 use Rattle.desk_msg.specs.OwnText.{last_digits, own_reference, generic_part, sequence_parts}
 
 -- INST where the advice is about an instruction, CAST where it is about a cancellation
@@ -56,15 +55,17 @@ statuses_of (CancelRefused number) = refusal_parts (codes "CPRC") number
 -- the type and the reference of the message that the advice is about
 abbrev pub link_parts : Mt → List ℕ → List Part
 link_parts mt reference =
-    sequence_parts (codes "LINK") (generic_part (codes "13A") (codes "LINK") (decimal (number_of_type mt)) ∷ generic_part (codes "20C") (codes "RELA") reference ∷ [])
+    sequence_parts (codes "LINK") (generic_part (codes "13A") (codes "LINK") (digits_of_type mt) ∷ generic_part (codes "20C") (codes "RELA") reference ∷ [])
+
+-- what stands before the statuses
+abbrev pub header_parts : Own → Mt → List ℕ → List ℕ → List Part
+header_parts own mt reference function =
+    generic_part (codes "20C") (codes "SEME") (own_reference own) ∷ field_part (codes "23G") function ∷ link_parts mt reference
 
 -- a status advice about the message of that type and reference
 unfoldable pub advice_parts : Own → Mt → List ℕ → Case → List Part
 advice_parts own mt reference about =
-    sequence_parts (codes "GENL") (
-        generic_part (codes "20C") (codes "SEME") (own_reference own)
-        ∷ field_part (codes "23G") (function_of_advice about)
-        ∷ (link_parts mt reference ++ statuses_of about))
+    sequence_parts (codes "GENL") (header_parts own mt reference (function_of_advice about) ++ statuses_of about)
 
 -- its text
 unfoldable pub advice : Own → Mt → List ℕ → Case → List ℕ

@@ -19,6 +19,20 @@ pub enum Kind {
     FaceAmount,
 }
 
+impl Kind {
+    ghost use Rattle.desk_msg.specs.Profile.{code_of_kind};
+
+    /// The quantity type code, four letters.
+    pub fn as_str(self) -> &'static str
+        ensures { result.now ≡ code_of_kind self }
+    {
+        match self {
+            Kind::Unit => "UNIT",
+            Kind::FaceAmount => "FAMT",
+        }
+    }
+}
+
 /// The type of a settlement transaction, as TRAD: four letters or digits (ISO 15022, field 22F,
 /// qualifier SETR).
 #[derive(Clone, Copy, Debug, PartialEq, Eq, PartialOrd, Ord)]

@@ -6,16 +6,20 @@
 
 mod characters;
 mod fault;
+
 mod find;
 mod function;
 mod instruction;
+mod lines;
 mod mt;
+mod pieces;
 mod reading;
 mod rows;
 mod status;
 mod value;
 
 pub use fault::{MsgFault, Word};
+pub use lines::fields_text;
 pub use instruction::{CancelOrder, Cash, Instruction, Kind, Message, SettlementType};
 pub use mt::Mt;
 pub use reading::read_message;
