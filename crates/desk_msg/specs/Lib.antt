@@ -6,3 +6,4 @@ pub mod Profile
 pub mod Reads
 pub mod Finding
 pub mod FieldsText
+pub mod AdviceParts

@@ -84,3 +84,12 @@ IsCase Unmatched = Unit {0}
 IsCase (Matched reason) = Unit {0}
 IsCase Cancelled = Unit {0}
 IsCase CancelDone = Unit {0}
+
+-- the number of a refusal; 0 in another case
+abbrev pub refused_number : Case → ℕ
+refused_number (NewRefused number) = number
+refused_number (CancelRefused number) = number
+refused_number Unmatched = 0
+refused_number (Matched reason) = 0
+refused_number Cancelled = 0
+refused_number CancelDone = 0

@@ -5,6 +5,7 @@
 #![tactic(auto)]
 
 mod characters;
+mod digits;
 mod fault;
 
 mod find;
@@ -23,4 +24,4 @@ pub use lines::fields_text;
 pub use instruction::{CancelOrder, Cash, Instruction, Kind, Message, SettlementType};
 pub use mt::Mt;
 pub use reading::read_message;
-pub use status::{Case, Own, Reason};
+pub use status::{Case, Own, Reason, status_text};
