@@ -7,3 +7,4 @@ pub mod Reads
 pub mod Finding
 pub mod FieldsText
 pub mod AdviceParts
+pub mod Refused
