@@ -33,14 +33,17 @@ row_said {X} view said P fields row begins text into out has (Some x) res found 
     subst R (sym e) (record { field = has.field; only = has.only; says = into has.field (view x) (text, has.bears, found) })
 row_said {X} view said P fields row begins text into out has None res found e =
     let R : Result X MsgFault → Type 0 = ReadsRow fields row (λ x. said (view x)) in
-    subst R (sym e) (refl, record {
-      field = has.field;
-      only = has.only;
-      none = λ z h.
-          let says = out has.field z h in
-          let Q : List ℕ → Type 0 = λ t. P t says.0 in
-          found says.0 (subst Q (one_behind begins has.field says.1.0 text says.1.1 has.bears) says.1.2);
-    })
+    subst R (sym e) (
+      refl,
+      record {
+        field = has.field;
+        only = has.only;
+        none = λ z h.
+            let says = out has.field z h in
+            let Q : List ℕ → Type 0 = λ t. P t says.0 in
+            found says.0 (subst Q (one_behind begins has.field says.1.0 text says.1.1 has.bears) says.1.2);
+      },
+    )
 
 -- a row of another form than a quantity and an amount says a text
 pub says_text : (row : Row) (field : Found) (z : Said) → row.form ≢ quantity_form → row.form ≢ amount_form → Says row field z → (y : List ℕ) × SaysText row.form row.begins field y

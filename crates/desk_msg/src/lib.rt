@@ -7,7 +7,6 @@
 mod characters;
 mod digits;
 mod fault;
-
 mod find;
 mod function;
 mod instruction;
@@ -21,9 +20,14 @@ mod status;
 mod value;
 
 pub use fault::{MsgFault, Word};
-pub use lines::fields_text;
 pub use instruction::{CancelOrder, Cash, Instruction, Kind, Message, SettlementType};
+pub use lines::fields_text;
 pub use mt::Mt;
 pub use reading::read_message;
 pub use refusal::{ReadFault, Refusal, read_instruction_text, refusal_text};
 pub use status::{Case, Own, Reason, status_text};
+
+#[cfg(test)]
+mod tests;
+#[cfg(test)]
+mod vectors;

@@ -18,7 +18,12 @@ fn add_line(text: &mut Vec<u8>, name: &[u8], value: &[u8]) -> Result<(), AllocEr
 }
 
 /// A name, a space and a number.
-fn named_number(alloc: Global, name: &[u8], value: u64, decimals: usize) -> Result<Vec<u8>, AllocError>
+fn named_number(
+    alloc: Global,
+    name: &[u8],
+    value: u64,
+    decimals: usize,
+) -> Result<Vec<u8>, AllocError>
     requires { decimals ≤ 3 }
     ensures { IfOk result (λ text. text.items ≡ named name.now (plain value decimals)) }
 {

@@ -10,7 +10,10 @@ use crate::fault::MsgFault;
 use crate::function::FunctionCode;
 use crate::instruction::{CancelOrder, Cash, Instruction, Message};
 use crate::mt::Mt;
-use crate::rows::{read_amount, read_date, read_deag, read_function, read_prev, read_pset, read_quantity, read_reag, read_safe, read_security, read_seme, read_setr};
+use crate::rows::{
+    read_amount, read_date, read_deag, read_function, read_prev, read_pset, read_quantity,
+    read_reag, read_safe, read_security, read_seme, read_setr,
+};
 use desk_codes::Bic;
 use desk_text::{Block, Field};
 

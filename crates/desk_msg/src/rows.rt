@@ -8,7 +8,10 @@ use crate::fault::{MsgFault, Word};
 use crate::find::find_field;
 use crate::function::FunctionCode;
 use crate::instruction::{Cash, Kind, SettlementType};
-use crate::value::{account_of, amount_of, day_in, function_of, party_of, quantity_of, reference_of, security_in, settlement_of, value_behind};
+use crate::value::{
+    account_of, amount_of, day_in, function_of, party_of, quantity_of, reference_of, security_in,
+    settlement_of, value_behind,
+};
 use desk_codes::{AccountId, Bic, Day, Isin, Reference};
 use desk_text::Field;
 
@@ -31,7 +34,14 @@ fn text_of_one<'a>(
 pub fn read_seme(fields: &[Field]) -> Result<Reference, MsgFault>
     ensures { ReadsRow (found_all fields.now) seme_row text_said result }
 {
-    let text = text_of_one(fields, Word::Seme, &[b"GENL"], &[b"20C"], b":SEME/", b":SEME//")?;
+    let text = text_of_one(
+        fields,
+        Word::Seme,
+        &[b"GENL"],
+        &[b"20C"],
+        b":SEME/",
+        b":SEME//",
+    )?;
     reference_of(text).ok_or(MsgFault::BadValue(Word::Seme))
 }
 
@@ -39,7 +49,14 @@ pub fn read_seme(fields: &[Field]) -> Result<Reference, MsgFault>
 pub fn read_prev(fields: &[Field]) -> Result<Reference, MsgFault>
     ensures { ReadsRow (found_all fields.now) prev_row text_said result }
 {
-    let text = text_of_one(fields, Word::Prev, &[b"GENL", b"LINK"], &[b"20C"], b":PREV/", b":PREV//")?;
+    let text = text_of_one(
+        fields,
+        Word::Prev,
+        &[b"GENL", b"LINK"],
+        &[b"20C"],
+        b":PREV/",
+        b":PREV//",
+    )?;
     reference_of(text).ok_or(MsgFault::BadValue(Word::Prev))
 }
 
@@ -47,7 +64,14 @@ pub fn read_prev(fields: &[Field]) -> Result<Reference, MsgFault>
 pub fn read_pset(fields: &[Field]) -> Result<Bic, MsgFault>
     ensures { ReadsRow (found_all fields.now) pset_row text_said result }
 {
-    let text = text_of_one(fields, Word::Pset, &[b"SETDET", b"SETPRTY"], &[b"95P"], b":PSET/", b":PSET//")?;
+    let text = text_of_one(
+        fields,
+        Word::Pset,
+        &[b"SETDET", b"SETPRTY"],
+        &[b"95P"],
+        b":PSET/",
+        b":PSET//",
+    )?;
     party_of(text).ok_or(MsgFault::BadValue(Word::Pset))
 }
 
@@ -72,7 +96,13 @@ pub fn read_function(fields: &[Field]) -> Result<FunctionCode, MsgFault>
 pub fn read_date(fields: &[Field]) -> Result<Day, MsgFault>
     ensures { ReadsRow (found_all fields.now) date_row text_said result }
 {
-    let field = find_field(fields, Word::Date, &[b"TRADDET"], &[b"98A", b"98C"], b":SETT/")?;
+    let field = find_field(
+        fields,
+        Word::Date,
+        &[b"TRADDET"],
+        &[b"98A", b"98C"],
+        b":SETT/",
+    )?;
     day_in(field).ok_or(MsgFault::BadValue(Word::Date))
 }
 
@@ -88,7 +118,14 @@ pub fn read_security(fields: &[Field]) -> Result<Isin, MsgFault>
 pub fn read_quantity(fields: &[Field]) -> Result<(Kind, u64), MsgFault>
     ensures { ReadsRow (found_all fields.now) quantity_row (λ q. quantity_said q.0 q.1) result }
 {
-    let text = text_of_one(fields, Word::Field36B, &[b"FIAC"], &[b"36B"], b":SETT/", b":SETT//")?;
+    let text = text_of_one(
+        fields,
+        Word::Field36B,
+        &[b"FIAC"],
+        &[b"36B"],
+        b":SETT/",
+        b":SETT//",
+    )?;
     quantity_of(text).ok_or(MsgFault::BadValue(Word::Field36B))
 }
 
@@ -96,7 +133,14 @@ pub fn read_quantity(fields: &[Field]) -> Result<(Kind, u64), MsgFault>
 pub fn read_safe(fields: &[Field]) -> Result<AccountId, MsgFault>
     ensures { ReadsRow (found_all fields.now) safe_row text_said result }
 {
-    let text = text_of_one(fields, Word::Safe, &[b"FIAC"], &[b"97A"], b":SAFE/", b":SAFE//")?;
+    let text = text_of_one(
+        fields,
+        Word::Safe,
+        &[b"FIAC"],
+        &[b"97A"],
+        b":SAFE/",
+        b":SAFE//",
+    )?;
     account_of(text).ok_or(MsgFault::BadValue(Word::Safe))
 }
 
@@ -104,7 +148,14 @@ pub fn read_safe(fields: &[Field]) -> Result<AccountId, MsgFault>
 pub fn read_setr(fields: &[Field]) -> Result<SettlementType, MsgFault>
     ensures { ReadsRow (found_all fields.now) setr_row text_said result }
 {
-    let text = text_of_one(fields, Word::Setr, &[b"SETDET"], &[b"22F"], b":SETR/", b":SETR/")?;
+    let text = text_of_one(
+        fields,
+        Word::Setr,
+        &[b"SETDET"],
+        &[b"22F"],
+        b":SETR/",
+        b":SETR/",
+    )?;
     settlement_of(text).ok_or(MsgFault::BadValue(Word::Setr))
 }
 
@@ -112,7 +163,14 @@ pub fn read_setr(fields: &[Field]) -> Result<SettlementType, MsgFault>
 pub fn read_deag(fields: &[Field]) -> Result<Bic, MsgFault>
     ensures { ReadsRow (found_all fields.now) deag_row text_said result }
 {
-    let text = text_of_one(fields, Word::Deag, &[b"SETDET", b"SETPRTY"], &[b"95P"], b":DEAG/", b":DEAG//")?;
+    let text = text_of_one(
+        fields,
+        Word::Deag,
+        &[b"SETDET", b"SETPRTY"],
+        &[b"95P"],
+        b":DEAG/",
+        b":DEAG//",
+    )?;
     party_of(text).ok_or(MsgFault::BadValue(Word::Deag))
 }
 
@@ -120,7 +178,14 @@ pub fn read_deag(fields: &[Field]) -> Result<Bic, MsgFault>
 pub fn read_reag(fields: &[Field]) -> Result<Bic, MsgFault>
     ensures { ReadsRow (found_all fields.now) reag_row text_said result }
 {
-    let text = text_of_one(fields, Word::Reag, &[b"SETDET", b"SETPRTY"], &[b"95P"], b":REAG/", b":REAG//")?;
+    let text = text_of_one(
+        fields,
+        Word::Reag,
+        &[b"SETDET", b"SETPRTY"],
+        &[b"95P"],
+        b":REAG/",
+        b":REAG//",
+    )?;
     party_of(text).ok_or(MsgFault::BadValue(Word::Reag))
 }
 
@@ -128,6 +193,13 @@ pub fn read_reag(fields: &[Field]) -> Result<Bic, MsgFault>
 pub fn read_amount(fields: &[Field]) -> Result<Cash, MsgFault>
     ensures { ReadsRow (found_all fields.now) amount_row (λ cash. amount_said cash.ccy cash.amount) result }
 {
-    let text = text_of_one(fields, Word::Field19A, &[b"SETDET", b"AMT"], &[b"19A"], b":SETT/", b":SETT//")?;
+    let text = text_of_one(
+        fields,
+        Word::Field19A,
+        &[b"SETDET", b"AMT"],
+        &[b"19A"],
+        b":SETT/",
+        b":SETT//",
+    )?;
     amount_of(text).ok_or(MsgFault::BadValue(Word::Field19A))
 }

@@ -129,7 +129,11 @@ fn add_status<'a>(parts: &mut Vec<BlockPart<'a>>, status: &'a [u8]) -> Result<()
 }
 
 /// Adds a status up to its reason.
-fn open_reason<'a>(parts: &mut Vec<BlockPart<'a>>, status: &'a [u8], reason: &'a [u8]) -> Result<(), AllocError>
+fn open_reason<'a>(
+    parts: &mut Vec<BlockPart<'a>>,
+    status: &'a [u8],
+    reason: &'a [u8],
+) -> Result<(), AllocError>
     ensures { OnOk result (parts_seen parts.new.items ≡ parts_seen parts.old.items ++ reason_front status.now reason.now) }
 {
     add(parts, BlockPart::Open(b"STAT"))?;
@@ -149,7 +153,11 @@ fn close_reason(parts: &mut Vec<BlockPart<'_>>) -> Result<(), AllocError>
 }
 
 /// Adds a status with its reason.
-fn add_reasoned<'a>(parts: &mut Vec<BlockPart<'a>>, status: &'a [u8], reason: &'a [u8]) -> Result<(), AllocError>
+fn add_reasoned<'a>(
+    parts: &mut Vec<BlockPart<'a>>,
+    status: &'a [u8],
+    reason: &'a [u8],
+) -> Result<(), AllocError>
     ensures { OnOk result (parts_seen parts.new.items ≡ parts_seen parts.old.items ++ status_of status.now (reason_of reason.now [])) }
 {
     open_reason(parts, status, reason)?;
@@ -158,7 +166,11 @@ fn add_reasoned<'a>(parts: &mut Vec<BlockPart<'a>>, status: &'a [u8], reason: &'
 }
 
 /// Adds a refusal with its narrative.
-fn add_refusal<'a>(parts: &mut Vec<BlockPart<'a>>, status: &'a [u8], narrative: &'a [u8]) -> Result<(), AllocError>
+fn add_refusal<'a>(
+    parts: &mut Vec<BlockPart<'a>>,
+    status: &'a [u8],
+    narrative: &'a [u8],
+) -> Result<(), AllocError>
     ensures { OnOk result (parts_seen parts.new.items ≡ parts_seen parts.old.items
         ++ status_of status.now (reason_of (codes ":REJT//NARR") (field_part (codes "70D") narrative.now ∷ []))) }
 {
@@ -169,7 +181,11 @@ fn add_refusal<'a>(parts: &mut Vec<BlockPart<'a>>, status: &'a [u8], narrative: 
 }
 
 /// Adds the statuses of a case; the narrative is that of a refusal.
-fn add_statuses<'a>(parts: &mut Vec<BlockPart<'a>>, about: Case, narrative: &'a [u8]) -> Result<(), AllocError>
+fn add_statuses<'a>(
+    parts: &mut Vec<BlockPart<'a>>,
+    about: Case,
+    narrative: &'a [u8],
+) -> Result<(), AllocError>
     requires { narrative.now ≡ codes ":REAS//DESK " ++ last_digits 2 (refused_number about) }
     ensures { OnOk result (parts_seen parts.new.items ≡ parts_seen parts.old.items ++ statuses_of about) }
 {

@@ -20,17 +20,17 @@ pub returns-clause-text : goal.returns-clause-text
 unfolding advice
 returns-clause-text c =
     let parts = advice_values c.args.own c.args.mt c.args.reference.now c.args.about c.own_value-sender.result c.deref.result.now c.deref-2.result.now
-        c.own_value-sender.ensures
-        (value_is c.deref.result.now c.in_ok-link.link.items (codes ":LINK//") c.as_bytes.result.now (digits_of_type c.args.mt) c.deref.ensures.value c.in_ok-link.ensures (c.as_bytes.ensures.value ∙ c.as_str.ensures))
-        (value_is c.deref-2.result.now c.in_ok-related.related.items (codes ":RELA//") c.as_bytes-2.result.now c.args.reference.now c.deref-2.ensures.value c.in_ok-related.ensures c.as_bytes-2.ensures.bytes) in
+    c.own_value-sender.ensures
+    (value_is c.deref.result.now c.in_ok-link.link.items (codes ":LINK//") c.as_bytes.result.now (digits_of_type c.args.mt) c.deref.ensures.value c.in_ok-link.ensures (c.as_bytes.ensures.value ∙ c.as_str.ensures))
+    (value_is c.deref-2.result.now c.in_ok-related.related.items (codes ":RELA//") c.as_bytes-2.result.now c.args.reference.now c.deref-2.ensures.value c.in_ok-related.ensures c.as_bytes-2.ensures.bytes) in
     let P : List Part → Type 0 = λ ps. IfOk c.write_advice.result (λ text. text.items ≡ block_text ps) in
     subst P parts c.write_advice.ensures.text
 
 pub returns-clause-block : goal.returns-clause-block
 returns-clause-block c =
     let parts = advice_values c.args.own c.args.mt c.args.reference.now c.args.about c.own_value-sender.result c.deref.result.now c.deref-2.result.now
-        c.own_value-sender.ensures
-        (value_is c.deref.result.now c.in_ok-link.link.items (codes ":LINK//") c.as_bytes.result.now (digits_of_type c.args.mt) c.deref.ensures.value c.in_ok-link.ensures (c.as_bytes.ensures.value ∙ c.as_str.ensures))
-        (value_is c.deref-2.result.now c.in_ok-related.related.items (codes ":RELA//") c.as_bytes-2.result.now c.args.reference.now c.deref-2.ensures.value c.in_ok-related.ensures c.as_bytes-2.ensures.bytes) in
+    c.own_value-sender.ensures
+    (value_is c.deref.result.now c.in_ok-link.link.items (codes ":LINK//") c.as_bytes.result.now (digits_of_type c.args.mt) c.deref.ensures.value c.in_ok-link.ensures (c.as_bytes.ensures.value ∙ c.as_str.ensures))
+    (value_is c.deref-2.result.now c.in_ok-related.related.items (codes ":RELA//") c.as_bytes-2.result.now c.args.reference.now c.deref-2.ensures.value c.in_ok-related.ensures c.as_bytes-2.ensures.bytes) in
     let P : List Part → Type 0 = λ ps. IfOk c.write_advice.result (λ text. IsBlock text.items (fields_written ps)) in
     subst P parts c.write_advice.ensures.block
