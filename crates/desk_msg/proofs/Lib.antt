@@ -6,3 +6,5 @@ pub mod LineLemmas
 pub mod DigitsLemmas
 pub mod PrintableLemmas
 pub mod AdviceLemmas
+pub mod SaidLaws
+pub mod ReadingLaws

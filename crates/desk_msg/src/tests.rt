@@ -159,7 +159,7 @@ fn refuses_changed_deliveries(rt: HostRuntime) -> Result<(), Fail> {
         ("EUR1000,50", "NEUR1000,50", "refused 7 19A"),
         ("EUR1000,50", "EUR1,005", "refused 7 19A"),
         // the first word that fails is named
-        (":16R:GENL\n", ":16R:GENX\n", "refused 3 7"),
+        (":16R:GENL\n", ":16R:GENX\n", "refused 3 6"),
         (":16R:SETDET\n", ":16R:SETDET\n:20C::SEME//A2\n", DELIVERY),
         (":16R:GENL\n", ":20C::SEME//A2\n:16R:GENL\n", DELIVERY),
         ("SETR//TRAD", "SETR/DTCYID/TRAD", DELIVERY),
