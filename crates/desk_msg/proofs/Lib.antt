@@ -8,3 +8,5 @@ pub mod PrintableLemmas
 pub mod AdviceLemmas
 pub mod SaidLaws
 pub mod ReadingLaws
+pub mod SameMessages
+pub mod MessageLaws

@@ -98,7 +98,7 @@ pub plain_rows : (mt : Mt) (function : FunctionCode) → ArePlain (rows_of mt fu
 plain_rows mt Newm = plain_seven mt
 plain_rows mt Canc = ((λ e. cc), ((λ e. cc), tt))
 
-one_text_code : (x y : List ℕ) → text_said x ≡ text_said y → x ≡ y
+pub one_text_code : (x y : List ℕ) → text_said x ≡ text_said y → x ≡ y
 one_text_code x y e = cc
 
 other_codes : codes "NEWM" ≡ codes "CANC" → ⊥

@@ -22,7 +22,7 @@ mod value;
 
 pub use fault::{MsgFault, Word};
 pub use instruction::{CancelOrder, Cash, Instruction, Kind, Message, SettlementType};
-pub use laws::one_fault;
+pub use laws::one_reading;
 pub use lines::fields_text;
 pub use mt::Mt;
 pub use reading::read_message;
