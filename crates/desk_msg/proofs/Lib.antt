@@ -1,0 +1,12 @@
+pub mod ValueLemmas
+pub mod FormLemmas
+pub mod RowLemmas
+pub mod MessageLemmas
+pub mod LineLemmas
+pub mod DigitsLemmas
+pub mod PrintableLemmas
+pub mod AdviceLemmas
+pub mod SaidLaws
+pub mod ReadingLaws
+pub mod SameMessages
+pub mod MessageLaws
