@@ -1,1 +1,2 @@
 pub mod IsinAnswer
+pub mod ReadAnswer

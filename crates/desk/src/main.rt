@@ -5,7 +5,9 @@
 //! the two. Begin with `run.rt`.
 #![tactic(auto)]
 
+mod input;
 mod isin;
+mod read;
 mod run;
 #[cfg(test)]
 mod tests;
@@ -15,10 +17,11 @@ use std::process::ExitCode;
 use std::{env, io};
 
 fn main(rt: HostRuntime) -> io::Result<ExitCode> {
+    let mut reader = rt.stdin();
     let mut writer = io::writer(&rt);
     let status = match env::args(&rt) {
         Ok(words) => match words.collect::<Vec<String>>(rt.alloc()) {
-            Ok(words) => run::run(rt.alloc(), words.as_slice(), &mut writer),
+            Ok(words) => run::run(rt.alloc(), words.as_slice(), &mut reader, &mut writer),
             Err(_) => run::tell_memory(&mut writer),
         },
         Err(_) => run::tell_unreadable_words(&mut writer),

@@ -1,22 +1,30 @@
 //! What the words ask for, answered.
 
 use crate::isin::answer_isin;
+use crate::read::answer_read;
 use crate::words::{Call, call_of};
 use clap::error::{Error, ErrorKind};
 use std::alloc::Global;
 use std::convert::AsStr;
-use std::io::{self, Write};
+use std::io::{self, Read, Write};
 
 /// The exit statuses of the program.
 const USAGE: u8 = 2;
+
 const FAULT: u8 = 3;
 
 /// Answers what the words ask for, on the writer, and gives the exit status: 0 done, 1 refused, 2 usage,
 /// 3 fault.
-pub fn run<S: AsStr, W: Write>(alloc: Global, words: &[S], writer: &mut W) -> u8 {
+pub fn run<S: AsStr, R: Read, W: Write>(
+    alloc: Global,
+    words: &[S],
+    reader: &mut R,
+    writer: &mut W,
+) -> u8 {
     let answered = match call_of(alloc, words) {
         Ok(Some(Call::Isin(code))) => answer_isin(code.as_bytes(), writer),
-        Ok(None) => return tell_unreadable_words(writer),
+        Ok(Some(Call::Read(mt))) if mt.is_instruction() => answer_read(alloc, mt, reader, writer),
+        Ok(_) => return tell_unreadable_words(writer),
         Err(error) => tell_usage(&error, writer),
     };
     answered.unwrap_or(FAULT)
@@ -40,6 +48,8 @@ pub fn tell_memory<W: Write>(writer: &mut W) -> u8 {
 
 /// Prints usage for words that are no text, with status 2.
 pub fn tell_unreadable_words<W: Write>(writer: &mut W) -> u8 {
-    let _ = writer.write_all(b"error: the words are no text\n\nUsage: desk <COMMAND>\n\nFor more information, try '--help'.\n");
+    let _ = writer.write_all(
+        b"error: the words are no text\n\nUsage: desk <COMMAND>\n\nFor more information, try '--help'.\n",
+    );
     USAGE
 }

@@ -1,14 +1,27 @@
 //! The program's words, and its answers over a writer in memory.
 use crate::run::run;
 use crate::words::{Call, call_of};
+use desk_msg::Mt;
+use std::io::{self, ErrorKind, Read};
 use std::test::Fail;
 
 #[test]
 fn reads_words(rt: HostRuntime) -> Result<(), Fail> {
     let alloc = rt.alloc();
-    assert_eq!(rt; call_of(alloc, &["desk", "isin", "US0378331005"])?, Some(Call::Isin("US0378331005")));
-    assert_eq!(rt; call_of(alloc, &["desk", "isin", ""])?, Some(Call::Isin("")));
+    assert_eq!(rt;
+        call_of(alloc, &["desk", "isin", "US0378331005"])?,
+        Some(Call::Isin("US0378331005"))
+    );
+    assert_eq!(rt;
+        call_of(alloc, &["desk", "isin", ""])?,
+        Some(Call::Isin(""))
+    );
     assert!(rt; call_of(alloc, &["desk", "isin"]).is_err_and(|e| e.exit_code() == 2));
+    assert_eq!(rt;
+        call_of(alloc, &["desk", "read", "543"])?,
+        Some(Call::Read(Mt::Mt543))
+    );
+    assert!(rt; call_of(alloc, &["desk", "read", "544"]).is_err_and(|e| e.exit_code() == 2));
     assert!(rt; call_of(alloc, &["desk", "nothing"]).is_err_and(|e| e.exit_code() == 2));
     assert!(rt; call_of(alloc, &["desk", "--help"]).is_err_and(|e| e.exit_code() == 0));
     Ok(())
@@ -24,7 +37,65 @@ fn answers(rt: HostRuntime) -> Result<(), Fail> {
         ("", 1, b"length\n".as_slice()),
     ] {
         let mut printed = Vec::new(rt.alloc());
-        assert_eq!(rt; run(rt.alloc(), &["desk", "isin", code], &mut printed), status);
+        assert_eq!(rt;
+            run(
+                rt.alloc(),
+                &["desk", "isin", code],
+                &mut b"".as_slice(),
+                &mut printed
+            ),
+            status
+        );
+        assert_eq!(rt; printed.as_slice(), line);
+    }
+    Ok(())
+}
+
+/// A reader that fails at once.
+#[derive(Drop)]
+struct Broken;
+
+impl Read for Broken {
+    fn read(&mut self, _buffer: &mut [u8]) -> io::Result<usize> {
+        Err(ErrorKind::Other.into())
+    }
+}
+
+#[test]
+fn a_reader_that_fails(rt: HostRuntime) -> Result<(), Fail> {
+    let mut printed = Vec::new(rt.alloc());
+    assert_eq!(rt;
+        run(
+            rt.alloc(),
+            &["desk", "read", "540"],
+            &mut Broken,
+            &mut printed
+        ),
+        3
+    );
+    assert_eq!(rt; printed.as_slice(), b"fault io\n".as_slice());
+    Ok(())
+}
+
+#[test]
+fn texts_too_long(rt: HostRuntime) -> Result<(), Fail> {
+    for (length, line) in [
+        (65_536, b"refused 1\n".as_slice()),
+        (65_537, b"refused 4\n".as_slice()),
+        (80_000, b"refused 4\n".as_slice()),
+    ] {
+        let text = vec![in rt.alloc(); b'x'; length]?;
+        let mut printed = Vec::new(rt.alloc());
+        let mut reader = text.as_slice();
+        assert_eq!(rt;
+            run(
+                rt.alloc(),
+                &["desk", "read", "540"],
+                &mut reader,
+                &mut printed
+            ),
+            1
+        );
         assert_eq!(rt; printed.as_slice(), line);
     }
     Ok(())

@@ -1,6 +1,9 @@
 //! The words of the command line.
+ghost use Rattle.std.specs.Prelude.{◌≡◌, true, IfSome};
+ghost use Rattle.desk_msg.specs.MessageType.{is_instruction, number_of_type};
 
-use clap::{Arg, ArgMatches, Command, Error};
+use clap::{Arg, ArgMatches, Command, Error, value_parser};
+use desk_msg::Mt;
 use std::alloc::{AllocError, Global};
 use std::convert::AsStr;
 
@@ -9,6 +12,8 @@ use std::convert::AsStr;
 pub enum Call<'a> {
     /// Whether a code is an ISIN
     Isin(&'a str),
+    /// What a message of a type says
+    Read(Mt),
 }
 
 /// Reads the words, the program's own name first. An error is help that was asked for, words that fit no
@@ -24,6 +29,7 @@ pub fn call_of<'a, S: AsStr>(alloc: Global, words: &'a [S]) -> Result<Option<Cal
 fn subcommand_call<'a>(name: &str, inner: &ArgMatches<'a>) -> Option<Call<'a>> {
     match name {
         "isin" => Some(Call::Isin(inner.get_str("code")?)),
+        "read" => Some(Call::Read(instruction_type(inner.get_one::<u16>("mt")?)?)),
         _ => None,
     }
 }
@@ -32,11 +38,36 @@ fn desk<'a>(alloc: Global) -> Result<Command<'a>, AllocError> {
     Command::new(alloc, "desk")
         .about("The settlement desk of a small securities depository")
         .subcommand_required(true)
-        .subcommand(isin(alloc)?)
+        .subcommand(isin(alloc)?)?
+        .subcommand(read(alloc)?)
 }
 
 fn isin<'a>(alloc: Global) -> Result<Command<'a>, AllocError> {
     Command::new(alloc, "isin")
         .about("Checks the identification number of a security")
         .arg(Arg::new(alloc, "code").value_name("CODE").required(true))
+}
+
+fn read<'a>(alloc: Global) -> Result<Command<'a>, AllocError> {
+    Command::new(alloc, "read")
+        .about("Reads a settlement instruction, block 4, from standard input")
+        .arg(
+            Arg::new(alloc, "mt")
+                .value_name("MT")
+                .required(true)
+                .value_parser(value_parser!(u16).range(540..=543)),
+        )
+}
+
+/// The type of an instruction by its number.
+fn instruction_type(number: u16) -> Option<Mt>
+    ensures { IfSome result (λ mt. (is_instruction mt ≡ true) × (number_of_type mt ≡ number)) }
+{
+    match number {
+        540 => Some(Mt::Mt540),
+        541 => Some(Mt::Mt541),
+        542 => Some(Mt::Mt542),
+        543 => Some(Mt::Mt543),
+        _ => None,
+    }
 }
