@@ -1,5 +1,5 @@
 -- Messages with the same parts are the same.
-use Rattle.std.proofs.Common.{◌≡◌, ◌≢◌, ◌<◌, ◌≤◌, ℕ, Bool, true, false, List, [], ◌∷◌, length, sym, ◌∙◌, ap, subst, refl, Option, Some, None, Result, Ok, Err, is_some}
+use Rattle.std.proofs.Common.{◌≡◌, ◌<◌, ◌≤◌, ℕ, true, List, length, ◌∙◌, ap, subst, Option, is_some}
 use Rattle.std.proofs.Props.{props}
 use Rattle.desk_codes.specs.Number.{plain}
 use Rattle.desk_codes.specs.Currency.{decimals_of}
