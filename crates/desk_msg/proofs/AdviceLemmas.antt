@@ -1,11 +1,7 @@
 -- The parts of an advice are right.
-use Rattle.std.proofs.Common.{◌≡◌, ℕ, ◌<◌, ◌≤◌, ◌+◌, Bool, true, false, List, [], ◌∷◌, ◌++◌, length, codes, refl, All, IsTrue, arith, lit<, ◌∙◌, ap, sym, append_assoc}
-use Rattle.std.specs.List.{list_all}
-use Rattle.std.proofs.lemmas.List.Sums.{list_all-from_AllPass}
+use Rattle.std.proofs.Common.{◌≡◌, ℕ, List, [], ◌∷◌, ◌++◌, codes, refl, IsTrue, lit<, ◌∙◌, ap, append_assoc}
 use Rattle.desk_codes.specs.Reference.{IsReference}
-use Rattle.desk_codes.specs.Characters.{IsPrintable}
-use Rattle.desk_text.specs.BlockGrammar.{is_printable, is_first}
-use Rattle.desk_text.specs.Written.{Part, open_part, field_part, close_part, is_value, AreParts}
+use Rattle.desk_text.specs.Written.{Part, field_part, close_part, is_value, AreParts}
 use Rattle.desk_text.proofs.LawLemmas.{value-right}
 use Rattle.desk_msg.specs.declared.mt.Mt.{Mt}
 use Rattle.desk_msg.specs.declared.status.Own.{Own}
@@ -18,7 +14,7 @@ use Rattle.desk_msg.specs.OwnText.{last_digits, own_reference}
 use Rattle.std.proofs.lemmas.List.{append-nil}
 use Rattle.desk_msg.specs.MessageType.{digits_of_type}
 use Rattle.desk_msg.specs.StatusText.{code_of_reason, statuses_of, function_of_advice, advice_parts}
-use Rattle.desk_msg.specs.AdviceParts.{status_of, reason_of, header_of, parts_of}
+use Rattle.desk_msg.specs.AdviceParts.{status_of, reason_of, parts_of}
 use Rattle.desk_msg.proofs.PrintableLemmas.{digits-printable, printable_text}
 
 -- the sequence that an advice is in

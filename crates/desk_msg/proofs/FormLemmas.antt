@@ -1,8 +1,8 @@
 -- What a text that has a form can't be else.
-use Rattle.std.proofs.Common.{◌≡◌, ◌≢◌, ◌⊎◌, ℕ, suc, ◌+◌, ◌-◌, ◌*◌, ◌<◌, ◌≤◌, ◌^◌, ◌==◌, Bool, true, false, if◌then◌else◌, List, [], ◌∷◌, ◌++◌, length, take, drop, get_or, All, codes, sym, ◌∙◌, ap, subst, refl, inl, inr, arith, length-append, Option, Some, None, Result, Ok, Err}
+use Rattle.std.proofs.Common.{◌≡◌, ℕ, ◌<◌, ◌≤◌, ◌^◌, ◌==◌, if◌then◌else◌, List, [], ◌∷◌, ◌++◌, length, take, drop, get_or, sym, ◌∙◌, ap, subst, refl, inl, inr, arith, length-append, Option, Some, None, Ok, Err}
 use Rattle.std.proofs.lemmas.Grind.{common_steps}
 use Rattle.std.proofs.Math.Seq.{take-append_seam, drop-append_seam}
-use Rattle.desk_codes.specs.Number.{IsShaped, IsExact, Spells, ReadsNumber, plain}
+use Rattle.desk_codes.specs.Number.{IsExact, ReadsNumber, plain}
 use Rattle.desk_codes.specs.declared.number.NumberFault.{NumberFault}
 use Rattle.desk_codes.specs.declared.number.NumberFault.TheVariants.{Shape, TooLong, Decimals, Zero}
 use Rattle.desk_codes.specs.Currency.{letters_of, decimals_of}
@@ -13,7 +13,7 @@ use Rattle.desk_codes.proofs.SpellingLaws.{one_value_each, plain_shortest}
 use Rattle.desk_codes.specs.Day.{IsDay}
 use Rattle.desk_msg.specs.declared.instruction.Kind.{Kind}
 use Rattle.desk_msg.specs.declared.instruction.Kind.TheVariants.{Unit as Units, FaceAmount}
-use Rattle.desk_msg.specs.Profile.{IsCode, IsFunctionText, IsTimed, IsDayText, IsAmountText, IsQuantityText, code_of_kind}
+use Rattle.desk_msg.specs.Profile.{IsCode, IsFunctionText, IsTimed, IsAmountText, IsQuantityText, code_of_kind}
 use Rattle.desk_msg.specs.Finding.{IsFound, code_itself}
 
 -- two splits of a text whose fronts are equally long are one

@@ -1,10 +1,9 @@
 -- Fields read as one message.
-use Rattle.std.proofs.Common.{◌≡◌, ◌≢◌, ℕ, Bool, true, false, List, [], ◌∷◌, codes, sym, ◌∙◌, ap, subst, refl, Option, Some, None, Result, Ok, Err, is_some}
+use Rattle.std.proofs.Common.{◌≡◌, ℕ, false, List, codes, sym, ◌∙◌, ap, refl, Option, Some, None, Result, Ok, Err, is_some}
 use Rattle.desk_codes.specs.declared.currency.Ccy.{Ccy}
 use Rattle.desk_text.specs.Fields.{Found}
 use Rattle.desk_msg.specs.declared.mt.Mt.{Mt}
 use Rattle.desk_msg.specs.declared.mt.Mt.TheVariants.{Mt540, Mt541, Mt542, Mt543, Mt544, Mt545, Mt546, Mt547}
-use Rattle.desk_msg.specs.declared.function.FunctionCode.{FunctionCode}
 use Rattle.desk_msg.specs.declared.function.FunctionCode.TheVariants.{Newm, Canc}
 use Rattle.desk_msg.specs.declared.instruction.Kind.{Kind}
 use Rattle.desk_msg.specs.declared.instruction.Cash.{Cash}
@@ -14,8 +13,8 @@ use Rattle.desk_msg.specs.declared.instruction.Message.{Message}
 use Rattle.desk_msg.specs.declared.instruction.Message.TheVariants.{New, Cancel}
 use Rattle.desk_msg.specs.declared.fault.MsgFault.{MsgFault}
 use Rattle.desk_msg.specs.MessageType.{is_against_payment}
-use Rattle.desk_msg.specs.Profile.{Row, Said, text_said, quantity_said, amount_said, unsaid, function_row, seme_row, prev_row, date_row, security_row, quantity_row, safe_row, setr_row, pset_row, counterparty_row, payment_rows, amount_row, rows_of}
-use Rattle.desk_msg.specs.Reads.{Gives, GiveAll, instructed, cancelled, cash_said, Reads}
+use Rattle.desk_msg.specs.Profile.{Row, text_said, quantity_said, amount_said, function_row, seme_row, prev_row, date_row, security_row, quantity_row, safe_row, setr_row, pset_row, counterparty_row, payment_rows, amount_row}
+use Rattle.desk_msg.specs.Reads.{Gives, GiveAll, instructed, cash_said, Reads}
 use Rattle.desk_msg.proofs.ReadingLaws.{one_given, one_text_code, one_function, one_fault, message_no_fault}
 use Rattle.desk_msg.proofs.SameMessages.{same_cash, same_order, same_instruction}
 

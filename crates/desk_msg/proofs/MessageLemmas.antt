@@ -1,5 +1,5 @@
 -- What the parts of a message that was read keep.
-use Rattle.std.proofs.Common.{◌≡◌, ◌<◌, ◌≤◌, ◌^◌, ℕ, Bool, true, false, List, length, sym, ◌∙◌, refl, Option, Some, None, Result, Ok, Err, is_some, arith}
+use Rattle.std.proofs.Common.{◌≡◌, ◌<◌, ◌≤◌, ◌^◌, ℕ, List, length, sym, Option, Some, None, Ok, is_some, arith}
 use Rattle.desk_codes.specs.Number.{plain}
 use Rattle.desk_text.specs.Fields.{Found}
 use Rattle.desk_msg.specs.declared.mt.Mt.{Mt}

@@ -1,11 +1,11 @@
 -- Values of one line.
-use Rattle.std.proofs.Common.{◌≡◌, ℕ, zero, suc, ◌+◌, ◌<◌, ◌≤◌, ◌/◌, ◌%◌, Bool, true, false, ◌&&◌, nat_le, List, [], ◌∷◌, ◌++◌, All, refl, sym, ◌∙◌, ap, append_assoc, arith}
+use Rattle.std.proofs.Common.{◌≡◌, ℕ, zero, suc, ◌+◌, ◌<◌, ◌≤◌, ◌/◌, ◌%◌, true, ◌&&◌, List, [], ◌∷◌, ◌++◌, All, refl, sym, ◌∙◌, ap, append_assoc, arith}
 use Rattle.std.specs.List.{list_all}
 use Rattle.std.proofs.lemmas.List.Folds.{list_all-append}
 use Rattle.std.proofs.lemmas.List.Elements.{All-head, All-tail}
 use Rattle.std.proofs.lemmas.Bool.Decides.{nat_tests}
 use Rattle.desk_codes.specs.Characters.{IsPrintable}
-use Rattle.desk_text.specs.BlockGrammar.{is_printable, is_first}
+use Rattle.desk_text.specs.BlockGrammar.{is_printable}
 use Rattle.desk_msg.specs.OwnText.{last_digits}
 
 printable_by : (c : ℕ) → 32 ≤ c → c ≤ 126 → is_printable c ≡ true

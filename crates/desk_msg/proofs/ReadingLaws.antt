@@ -1,18 +1,18 @@
 -- Fields read as one message, or have one fault.
-use Rattle.std.proofs.Common.{◌≡◌, ◌≢◌, ◌⊎◌, ◌<◌, ◌≤◌, ℕ, Bool, true, false, List, [], ◌∷◌, length, codes, sym, ◌∙◌, ap, subst, refl, inl, inr, arith, Option, Some, None, Result, Ok, Err, is_some, get_or}
+use Rattle.std.proofs.Common.{◌≡◌, ◌≢◌, ◌<◌, ℕ, List, [], ◌∷◌, length, codes, sym, ◌∙◌, ap, subst, refl, inl, inr, arith, Ok, Err, get_or}
 use Rattle.desk_text.specs.Fields.{Found}
 use Rattle.desk_msg.specs.declared.mt.Mt.{Mt}
 use Rattle.desk_msg.specs.declared.mt.Mt.TheVariants.{Mt540, Mt541, Mt542, Mt543, Mt544, Mt545, Mt546, Mt547}
 use Rattle.desk_msg.specs.declared.function.FunctionCode.{FunctionCode}
 use Rattle.desk_msg.specs.declared.function.FunctionCode.TheVariants.{Newm, Canc}
 use Rattle.desk_msg.specs.declared.fault.Word.{Word}
-use Rattle.desk_msg.specs.declared.fault.Word.TheVariants.{Field23G, Seme, Prev, Date, Field35B, Field36B, Safe, Setr, Pset, Deag, Reag, Field19A, Rela, Eset}
+use Rattle.desk_msg.specs.declared.fault.Word.TheVariants.{Field23G}
 use Rattle.desk_msg.specs.declared.fault.MsgFault.{MsgFault}
 use Rattle.desk_msg.specs.declared.fault.MsgFault.TheVariants.{Missing, Repeated, BadValue, Function}
 use Rattle.desk_msg.specs.declared.instruction.Message.{Message}
 use Rattle.desk_msg.specs.declared.instruction.Message.TheVariants.{New, Cancel}
 use Rattle.desk_msg.specs.Profile.{Row, Said, Says, text_said, function_row, rows_of}
-use Rattle.desk_msg.specs.Reads.{belonging, Gives, IsBad, IsOtherFunction, Fails, FailsFirst, GiveAll, code_of_function, instructed, cancelled, Reads}
+use Rattle.desk_msg.specs.Reads.{belonging, Gives, IsBad, Fails, FailsFirst, GiveAll, code_of_function, instructed, cancelled, Reads}
 use Rattle.desk_msg.proofs.SaidLaws.{one_said}
 
 one_found : (f g : Found) (fs gs : List Found) → f ∷ fs ≡ g ∷ gs → f ≡ g

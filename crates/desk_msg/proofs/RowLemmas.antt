@@ -1,5 +1,5 @@
 -- What a row gives, from what its value says.
-use Rattle.std.proofs.Common.{◌≡◌, ◌≢◌, ◌<◌, ℕ, List, [], ◌∷◌, ◌++◌, length, sym, ◌∙◌, ap, subst, refl, inl, inr, ◌⊎◌, Option, Some, None, Result, Ok, Err, Bor, slice_get}
+use Rattle.std.proofs.Common.{◌≡◌, ◌≢◌, ℕ, List, [], ◌∷◌, sym, ◌∙◌, ap, subst, refl, inl, inr, ◌⊎◌, Option, Some, None, Result, Bor, slice_get}
 use Rattle.std.specs.Option.{ok_or}
 use Rattle.desk_codes.specs.declared.currency.Ccy.{Ccy}
 use Rattle.desk_text.specs.Fields.{Found}
@@ -7,10 +7,10 @@ use Rattle.desk_text.specs.Seen.{texts}
 use Rattle.desk_msg.specs.declared.instruction.Kind.{Kind}
 use Rattle.desk_msg.specs.declared.fault.Word.{Word}
 use Rattle.desk_msg.specs.declared.fault.MsgFault.{MsgFault}
-use Rattle.desk_msg.specs.declared.fault.MsgFault.TheVariants.{Missing, Repeated, BadValue, Function}
+use Rattle.desk_msg.specs.declared.fault.MsgFault.TheVariants.{BadValue}
 use Rattle.desk_msg.specs.Profile.{Row, Form, quantity_form, amount_form, Said, text_said, quantity_said, amount_said, unsaid, Says, SaysText, Bears, Behind, slashed, IsQuantityText, IsAmountText, IsSecurityText, security_form}
-use Rattle.desk_msg.specs.Reads.{belonging, Gives, IsBad, Fails}
-use Rattle.desk_msg.specs.Finding.{IsFound, IsOneText, ReadsRow, text_in, code_itself, quantity_itself}
+use Rattle.desk_msg.specs.Reads.{belonging}
+use Rattle.desk_msg.specs.Finding.{IsFound, IsOneText, ReadsRow, text_in, code_itself}
 use Rattle.desk_msg.proofs.ValueLemmas.{one_behind, one_head}
 
 -- the text of the one field, or that it has none behind the beginning

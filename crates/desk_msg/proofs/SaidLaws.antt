@@ -1,16 +1,16 @@
 -- A value says one thing.
-use Rattle.std.proofs.Common.{◌≡◌, ◌≢◌, ◌⊎◌, ◌<◌, ◌≤◌, ◌+◌, ℕ, List, [], ◌∷◌, ◌++◌, length, take, codes, sym, ◌∙◌, ap, subst, refl, inl, inr, arith, length-append, Result, Ok}
+use Rattle.std.proofs.Common.{◌≡◌, ℕ, List, ◌∷◌, ◌++◌, length, take, codes, sym, ◌∙◌, ap, subst, inl, inr, arith, Ok}
 use Rattle.std.proofs.lemmas.Grind.{common_steps}
 use Rattle.std.proofs.lemmas.List.{append_cancel_left}
 use Rattle.std.proofs.Math.Seq.{take-append_seam}
-use Rattle.desk_codes.specs.Number.{Spells, ReadsNumber}
+use Rattle.desk_codes.specs.Number.{Spells}
 use Rattle.desk_codes.specs.Bic.{ReadsBic}
-use Rattle.desk_codes.specs.Currency.{letters_of, decimals_of}
+use Rattle.desk_codes.specs.Currency.{decimals_of}
 use Rattle.desk_codes.specs.declared.currency.Ccy.{Ccy}
 use Rattle.desk_codes.proofs.SpellingLaws.{one_value_each}
 use Rattle.desk_text.specs.Fields.{Found}
 use Rattle.desk_msg.specs.declared.instruction.Kind.{Kind}
-use Rattle.desk_msg.specs.Profile.{Row, Form, function_form, reference_form, day_form, security_form, quantity_form, account_form, settlement_form, party_form, amount_form, Said, text_said, quantity_said, amount_said, unsaid, Says, SaysText, Bears, Behind, slashed, IsCode, IsFunctionText, IsDayText, IsTimed, IsSettlementText, IsQuantityText, IsAmountText}
+use Rattle.desk_msg.specs.Profile.{Row, Form, function_form, reference_form, day_form, security_form, quantity_form, account_form, settlement_form, party_form, amount_form, Said, text_said, quantity_said, amount_said, unsaid, Says, SaysText, Behind, slashed, IsFunctionText, IsDayText, IsSettlementText, IsQuantityText, IsAmountText}
 use Rattle.desk_msg.proofs.ValueLemmas.{one_behind, one_head}
 use Rattle.desk_msg.proofs.FormLemmas.{one_cut_back, one_quantity_text, one_amount_text}
 use Rattle.desk_msg.proofs.RowLemmas.{no_text}

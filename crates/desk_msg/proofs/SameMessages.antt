@@ -1,5 +1,5 @@
 -- Messages with the same parts are the same.
-use Rattle.std.proofs.Common.{◌≡◌, ◌≢◌, ◌<◌, ◌≤◌, ℕ, Bool, true, false, List, [], ◌∷◌, length, sym, ◌∙◌, ap, subst, refl, Option, Some, None, Result, Ok, Err, is_some}
+use Rattle.std.proofs.Common.{◌≡◌, ◌<◌, ◌≤◌, ℕ, true, List, length, ◌∙◌, ap, subst, Option, is_some}
 use Rattle.std.proofs.Props.{props}
 use Rattle.desk_codes.specs.Number.{plain}
 use Rattle.desk_codes.specs.Currency.{decimals_of}
@@ -63,8 +63,8 @@ unfolding order_of
 same_order a b e f g =
     by_facts OrderFacts order_of order_facts (record { mt = a.mt; reference = a.reference; previous = a.previous }) (record { mt = b.mt; reference = b.reference; previous = b.previous })
     (ap (λ (x : Mt). as_order (record { mt = x; reference = a.reference; previous = a.previous })) e
-        ∙ ap (λ (x : List ℕ). as_order (record { mt = b.mt; reference = x; previous = a.previous })) f
-        ∙ ap (λ (x : List ℕ). as_order (record { mt = b.mt; reference = b.reference; previous = x })) g)
+    ∙ ap (λ (x : List ℕ). as_order (record { mt = b.mt; reference = x; previous = a.previous })) f
+    ∙ ap (λ (x : List ℕ). as_order (record { mt = b.mt; reference = b.reference; previous = x })) g)
     (record { instructs = a.instructs }) (record { instructs = b.instructs })
 
 pub record Shown : Type 0 where
@@ -102,15 +102,15 @@ same_instruction a b e0 e1 e2 e3 e4 e5 e6 e7 e8 e9 e10 =
     (record { mt = a.mt; reference = a.reference; day = a.day; isin = a.isin; kind = a.kind; quantity = a.quantity; account = a.account; settlement = a.settlement; counterparty = a.counterparty; place = a.place; cash = a.cash })
     (record { mt = b.mt; reference = b.reference; day = b.day; isin = b.isin; kind = b.kind; quantity = b.quantity; account = b.account; settlement = b.settlement; counterparty = b.counterparty; place = b.place; cash = b.cash })
     (ap (λ (x : Mt). as_shown (record { mt = x; reference = a.reference; day = a.day; isin = a.isin; kind = a.kind; quantity = a.quantity; account = a.account; settlement = a.settlement; counterparty = a.counterparty; place = a.place; cash = a.cash })) e0
-        ∙ ap (λ (x : List ℕ). as_shown (record { mt = b.mt; reference = x; day = a.day; isin = a.isin; kind = a.kind; quantity = a.quantity; account = a.account; settlement = a.settlement; counterparty = a.counterparty; place = a.place; cash = a.cash })) e1
-        ∙ ap (λ (x : List ℕ). as_shown (record { mt = b.mt; reference = b.reference; day = x; isin = a.isin; kind = a.kind; quantity = a.quantity; account = a.account; settlement = a.settlement; counterparty = a.counterparty; place = a.place; cash = a.cash })) e2
-        ∙ ap (λ (x : List ℕ). as_shown (record { mt = b.mt; reference = b.reference; day = b.day; isin = x; kind = a.kind; quantity = a.quantity; account = a.account; settlement = a.settlement; counterparty = a.counterparty; place = a.place; cash = a.cash })) e3
-        ∙ ap (λ (x : Kind). as_shown (record { mt = b.mt; reference = b.reference; day = b.day; isin = b.isin; kind = x; quantity = a.quantity; account = a.account; settlement = a.settlement; counterparty = a.counterparty; place = a.place; cash = a.cash })) e4
-        ∙ ap (λ (x : ℕ). as_shown (record { mt = b.mt; reference = b.reference; day = b.day; isin = b.isin; kind = b.kind; quantity = x; account = a.account; settlement = a.settlement; counterparty = a.counterparty; place = a.place; cash = a.cash })) e5
-        ∙ ap (λ (x : List ℕ). as_shown (record { mt = b.mt; reference = b.reference; day = b.day; isin = b.isin; kind = b.kind; quantity = b.quantity; account = x; settlement = a.settlement; counterparty = a.counterparty; place = a.place; cash = a.cash })) e6
-        ∙ ap (λ (x : List ℕ). as_shown (record { mt = b.mt; reference = b.reference; day = b.day; isin = b.isin; kind = b.kind; quantity = b.quantity; account = b.account; settlement = x; counterparty = a.counterparty; place = a.place; cash = a.cash })) e7
-        ∙ ap (λ (x : List ℕ). as_shown (record { mt = b.mt; reference = b.reference; day = b.day; isin = b.isin; kind = b.kind; quantity = b.quantity; account = b.account; settlement = b.settlement; counterparty = x; place = a.place; cash = a.cash })) e8
-        ∙ ap (λ (x : List ℕ). as_shown (record { mt = b.mt; reference = b.reference; day = b.day; isin = b.isin; kind = b.kind; quantity = b.quantity; account = b.account; settlement = b.settlement; counterparty = b.counterparty; place = x; cash = a.cash })) e9
-        ∙ ap (λ (x : Option Cash). as_shown (record { mt = b.mt; reference = b.reference; day = b.day; isin = b.isin; kind = b.kind; quantity = b.quantity; account = b.account; settlement = b.settlement; counterparty = b.counterparty; place = b.place; cash = x })) e10)
+    ∙ ap (λ (x : List ℕ). as_shown (record { mt = b.mt; reference = x; day = a.day; isin = a.isin; kind = a.kind; quantity = a.quantity; account = a.account; settlement = a.settlement; counterparty = a.counterparty; place = a.place; cash = a.cash })) e1
+    ∙ ap (λ (x : List ℕ). as_shown (record { mt = b.mt; reference = b.reference; day = x; isin = a.isin; kind = a.kind; quantity = a.quantity; account = a.account; settlement = a.settlement; counterparty = a.counterparty; place = a.place; cash = a.cash })) e2
+    ∙ ap (λ (x : List ℕ). as_shown (record { mt = b.mt; reference = b.reference; day = b.day; isin = x; kind = a.kind; quantity = a.quantity; account = a.account; settlement = a.settlement; counterparty = a.counterparty; place = a.place; cash = a.cash })) e3
+    ∙ ap (λ (x : Kind). as_shown (record { mt = b.mt; reference = b.reference; day = b.day; isin = b.isin; kind = x; quantity = a.quantity; account = a.account; settlement = a.settlement; counterparty = a.counterparty; place = a.place; cash = a.cash })) e4
+    ∙ ap (λ (x : ℕ). as_shown (record { mt = b.mt; reference = b.reference; day = b.day; isin = b.isin; kind = b.kind; quantity = x; account = a.account; settlement = a.settlement; counterparty = a.counterparty; place = a.place; cash = a.cash })) e5
+    ∙ ap (λ (x : List ℕ). as_shown (record { mt = b.mt; reference = b.reference; day = b.day; isin = b.isin; kind = b.kind; quantity = b.quantity; account = x; settlement = a.settlement; counterparty = a.counterparty; place = a.place; cash = a.cash })) e6
+    ∙ ap (λ (x : List ℕ). as_shown (record { mt = b.mt; reference = b.reference; day = b.day; isin = b.isin; kind = b.kind; quantity = b.quantity; account = b.account; settlement = x; counterparty = a.counterparty; place = a.place; cash = a.cash })) e7
+    ∙ ap (λ (x : List ℕ). as_shown (record { mt = b.mt; reference = b.reference; day = b.day; isin = b.isin; kind = b.kind; quantity = b.quantity; account = b.account; settlement = b.settlement; counterparty = x; place = a.place; cash = a.cash })) e8
+    ∙ ap (λ (x : List ℕ). as_shown (record { mt = b.mt; reference = b.reference; day = b.day; isin = b.isin; kind = b.kind; quantity = b.quantity; account = b.account; settlement = b.settlement; counterparty = b.counterparty; place = x; cash = a.cash })) e9
+    ∙ ap (λ (x : Option Cash). as_shown (record { mt = b.mt; reference = b.reference; day = b.day; isin = b.isin; kind = b.kind; quantity = b.quantity; account = b.account; settlement = b.settlement; counterparty = b.counterparty; place = b.place; cash = x })) e10)
     (record { instructs = a.instructs; some = a.some; short = a.short; paid = a.paid })
     (record { instructs = b.instructs; some = b.some; short = b.short; paid = b.paid })

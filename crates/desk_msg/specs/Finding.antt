@@ -1,5 +1,5 @@
 -- What is found among the fields that the code holds.
-use Rattle.std.specs.Prelude.{◌≡◌, ℕ, ◌<◌, Bool, true, false, List, [], ◌∷◌, length, map, Option, Some, None, Result, Ok, Err}
+use Rattle.std.specs.Prelude.{◌≡◌, ℕ, ◌<◌, true, false, List, [], ◌∷◌, length, map, Option, Some, None, Result, Ok, Err}
 use Rattle.std.specs.Borrow.{Bor}
 use Rattle.std.specs.List.{filter}
 use Rattle.desk_text.specs.declared.fields.Field.{Field}
@@ -16,7 +16,7 @@ use Rattle.desk_msg.specs.declared.instruction.CancelOrder.{CancelOrder}
 use Rattle.desk_msg.specs.declared.mt.Mt.{Mt}
 use Rattle.desk_msg.specs.declared.function.FunctionCode.TheVariants.{Newm, Canc}
 use Rattle.desk_msg.specs.MessageType.{is_against_payment}
-use Rattle.desk_msg.specs.Profile.{Row, Said, amount_said, Says, Bears, amount_row, rows_of}
+use Rattle.desk_msg.specs.Profile.{Row, Said, amount_said, Bears, amount_row, rows_of}
 use Rattle.desk_msg.specs.Reads.{belongs, Gives, Fails, FailsFirst, GiveAll, instructed, cancelled}
 
 -- the fields without where they lie in memory

@@ -1,5 +1,5 @@
 -- What the desk's own texts are made of.
-use Rattle.std.specs.Prelude.{ℕ, zero, suc, ◌+◌, ◌/◌, ◌%◌, List, [], ◌∷◌, ◌++◌, codes}
+use Rattle.std.specs.Prelude.{ℕ, zero, suc, ◌+◌, ◌/◌, ◌%◌, List, [], ◌∷◌, ◌++◌}
 use Rattle.desk_text.specs.Written.{Part, open_part, field_part, close_part}
 use Rattle.desk_msg.specs.declared.status.Own.{Own}
 use Rattle.desk_msg.specs.declared.status.Own.TheVariants.{Answer, Sent}

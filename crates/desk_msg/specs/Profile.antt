@@ -1,5 +1,5 @@
 -- The profile of the settlement instructions MT540 to MT543 (ISO 15022): the used fields as a table, and what their values say.
-use Rattle.std.specs.Prelude.{◌≡◌, ◌⊎◌, ℕ, ◌≤◌, Bool, true, false, if◌then◌else◌, List, [], ◌∷◌, ◌++◌, length, All, codes, Option, Some, None, Result, Ok}
+use Rattle.std.specs.Prelude.{◌≡◌, ◌⊎◌, ℕ, ◌≤◌, if◌then◌else◌, List, [], ◌∷◌, ◌++◌, length, All, codes, Ok}
 use Rattle.desk_codes.specs.Characters.{IsCodeChar, IsDigit}
 use Rattle.desk_codes.specs.Reference.{IsReference}
 use Rattle.desk_codes.specs.Account.{IsAccount}
@@ -14,7 +14,7 @@ use Rattle.desk_msg.specs.declared.mt.Mt.{Mt}
 use Rattle.desk_msg.specs.declared.function.FunctionCode.{FunctionCode}
 use Rattle.desk_msg.specs.declared.function.FunctionCode.TheVariants.{Newm, Canc}
 use Rattle.desk_msg.specs.declared.fault.Word.{Word}
-use Rattle.desk_msg.specs.declared.fault.Word.TheVariants.{Field23G, Seme, Prev, Date, Field35B, Field36B, Safe, Setr, Pset, Deag, Reag, Field19A, Rela, Eset}
+use Rattle.desk_msg.specs.declared.fault.Word.TheVariants.{Field23G, Seme, Prev, Date, Field35B, Field36B, Safe, Setr, Pset, Deag, Reag, Field19A}
 use Rattle.desk_msg.specs.declared.instruction.Kind.{Kind}
 use Rattle.desk_msg.specs.declared.instruction.Kind.TheVariants.{Unit as Units, FaceAmount}
 use Rattle.desk_msg.specs.MessageType.{is_against_payment, is_delivery}

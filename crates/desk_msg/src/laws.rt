@@ -9,5 +9,4 @@ ghost use Rattle.desk_msg.specs.Reads.{Reads};
 /// Fields read as one message or have one fault, and never both.
 pub fn one_reading()
     ensures { (mt : Mt) (fields : List Found) (a b : Result Message MsgFault) → Reads mt fields a → Reads mt fields b → a ≡ b }
-{
-}
+{}

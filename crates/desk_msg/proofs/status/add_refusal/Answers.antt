@@ -1,4 +1,4 @@
-use Rattle.std.proofs.Common.{codes, ◌∷◌, []}
+use Rattle.std.proofs.Common.{codes, ◌∷◌}
 use Rattle.desk_text.specs.Written.{field_part}
 use Rattle.desk_msg.specs.AdviceParts.{parts_seen, reason_front, reason_back}
 use Rattle.desk_msg.proofs.PrintableLemmas.{next_part, next_parts}

@@ -1,5 +1,4 @@
-use Rattle.std.proofs.Common.{◌≡◌, ◌∷◌, ◌++◌, [], ℕ, ap, codes, sym, ◌∙◌}
-use Rattle.desk_msg.specs.OwnText.{last_digits}
+use Rattle.std.proofs.Common.{◌++◌, ap, codes}
 use Rattle.desk_msg.proofs.PrintableLemmas.{two_digits}
 use Rattle.desk_msg.proofs.status.refusal_value.Goals as goal
 

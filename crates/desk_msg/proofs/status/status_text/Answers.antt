@@ -2,8 +2,7 @@ use Rattle.std.proofs.Common.{◌≡◌, ◌∙◌, subst, sym, List, ℕ, codes
 use Rattle.desk_text.specs.Fields.{IsBlock}
 use Rattle.desk_text.specs.Written.{Part, block_text, fields_written, is_value}
 use Rattle.desk_msg.specs.MessageType.{digits_of_type}
-use Rattle.desk_msg.specs.StatusText.{advice, advice_parts}
-use Rattle.desk_msg.specs.AdviceParts.{parts_of}
+use Rattle.desk_msg.specs.StatusText.{advice}
 use Rattle.desk_msg.proofs.AdviceLemmas.{own_right, related_right, advice_values, value_is}
 use Rattle.desk_msg.proofs.status.status_text.Goals as goal
 

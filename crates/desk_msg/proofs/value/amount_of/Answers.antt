@@ -1,6 +1,6 @@
-use Rattle.std.proofs.Common.{◌≡◌, ◌++◌, ◌<◌, ◌≤◌, ◌^◌, length, ap, sym, ◌∙◌, subst, ℕ, Result, Ok, Err, arith}
+use Rattle.std.proofs.Common.{◌++◌, ◌<◌, ◌^◌, ap, sym, ◌∙◌, subst, ℕ, Ok, Err, arith}
 use Rattle.desk_codes.specs.Number.{ReadsNumber}
-use Rattle.desk_codes.specs.Currency.{letters_of, decimals_of}
+use Rattle.desk_codes.specs.Currency.{decimals_of}
 use Rattle.desk_msg.proofs.FormLemmas.{plain_fits, amount_excludes, few_decimals}
 use Rattle.desk_msg.proofs.value.amount_of.Goals as goal
 

@@ -2,7 +2,7 @@ use Rattle.std.proofs.Common.{codes}
 use Rattle.desk_text.specs.Seen.{found_of}
 use Rattle.desk_msg.specs.Profile.{IsDayText}
 use Rattle.desk_msg.specs.Finding.{code_itself}
-use Rattle.desk_msg.proofs.ValueLemmas.{found_behind, none_behind}
+use Rattle.desk_msg.proofs.ValueLemmas.{found_behind}
 use Rattle.desk_msg.proofs.value.day_in.Goals as goal
 
 pub returns : goal.returns

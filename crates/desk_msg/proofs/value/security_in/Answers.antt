@@ -1,4 +1,4 @@
-use Rattle.std.proofs.Common.{◌∙◌, sym, ap, slice_get}
+use Rattle.std.proofs.Common.{sym, ap}
 use Rattle.desk_text.specs.Seen.{found_of, texts}
 use Rattle.desk_msg.proofs.RowLemmas.{security_found}
 use Rattle.desk_msg.proofs.value.security_in.Goals as goal
