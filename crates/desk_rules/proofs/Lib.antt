@@ -1,3 +1,5 @@
 pub mod Decided
 pub mod HistoryLemmas
 pub mod PairingLemmas
+pub mod SettlementLemmas
+pub mod SettlementGrowth

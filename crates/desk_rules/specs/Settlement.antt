@@ -5,6 +5,7 @@ use Rattle.desk_codes.specs.Number.{number_of}
 use Rattle.desk_rules.specs.declared.entry.Entry.{Entry}
 use Rattle.desk_rules.specs.declared.pair.Pair.{Pair}
 use Rattle.desk_rules.specs.declared.pair.Settled.{Settled}
+use Rattle.desk_rules.specs.declared.pair.Place.{Place}
 use Rattle.desk_rules.specs.History.{Instructed, before, entry_at, instruction_at, run_day}
 use Rattle.desk_rules.specs.Cancelled.{is_cancelled}
 use Rattle.desk_rules.specs.Covered.{is_covered}
@@ -33,13 +34,14 @@ abbrev pub is_by : Option ℕ → ℕ → Bool
 is_by None day = false
 is_by (Some run) day = nat_le day run
 
+-- neither side of a pair was cancelled
+abbrev pub stands : List Entry → Pair → Bool
+stands history p = not (is_cancelled history p.earlier) && not (is_cancelled history p.later)
+
 -- a pair is due in a run: it is numbered below the run and due by its day, and neither side was cancelled
 abbrev pub is_due : List Entry → ℕ → Pair → Bool
 is_due history run p =
-    is_by (option_and_then run_day (entry_at history run)) (day_of history p)
-    && nat_lt p.later run
-    && not (is_cancelled (before run history) p.earlier)
-    && not (is_cancelled (before run history) p.later)
+    is_by (option_and_then run_day (entry_at history run)) (day_of history p) && nat_lt p.later run && stands (before run history) p
 
 -- a pair is in none of these settlements, of runs below this one
 abbrev pub IsUnsettled : List Settled → ℕ → Pair → Type 0
@@ -58,3 +60,21 @@ pub record Settles (history : List Entry) (pairs : List Pair) (settled : List Se
 pub record IsSettlement (history : List Entry) (pairs : List Pair) (settled : List Settled) : Type 0 where
   pub exact : (s : Settled) → Contains settled s ↔ Settles history pairs (settled_before history s settled) s
   pub in_order : AllPairs (λ s t. precedes history s t ≡ true) settled
+
+-- a pair is above a place in the order of a run; with no place every pair is
+abbrev pub is_above : List Entry → Option Place → Pair → Bool
+is_above history None p = true
+is_above history (Some place) p =
+    nat_lt (number_of place.day) (day_of history p) || (number_of place.day == day_of history p && nat_lt place.number p.later)
+
+-- a pair that the run may yet settle: above the place, due, and in no earlier run
+pub record IsOpen (history : List Entry) (pairs : List Pair) (settled : List Settled) (run : ℕ) (place : Option Place) (p : Pair) : Type 0 where
+  pub paired : Contains pairs p
+  pub due : is_due history run p ≡ true
+  pub unsettled : IsUnsettled settled run p
+  pub above : is_above history place p ≡ true
+
+-- the next pair that the run takes: the least of the open ones
+pub record IsNext (history : List Entry) (pairs : List Pair) (settled : List Settled) (run : ℕ) (place : Option Place) (p : Pair) : Type 0 where
+  pub is_open : IsOpen history pairs settled run place p
+  pub least : (q : Pair) → IsOpen history pairs settled run place q → is_sooner history q p ≡ false

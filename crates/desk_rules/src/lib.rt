@@ -6,5 +6,5 @@ mod pair;
 mod verdict;
 
 pub use entry::{Entry, Holding, Payment, Sender};
-pub use pair::{Lack, Pair, Settled};
+pub use pair::{Lack, Pair, Place, Settled};
 pub use verdict::{Refusal, Verdict};

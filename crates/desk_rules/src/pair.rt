@@ -1,5 +1,7 @@
 //! Pairs of opposite instructions, and their settlement.
 
+use desk_codes::Day;
+
 /// Two opposite instructions by their entry numbers. The pair's number is that of the later entry.
 #[derive(Clone, Copy, Debug, PartialEq, Eq)]
 pub struct Pair {
@@ -13,6 +15,13 @@ pub struct Settled {
     /// The run's entry number
     pub run: u64,
     pub pair: Pair,
+}
+
+/// A place in the order in which a run takes pairs: by settlement day, then by number.
+#[derive(Clone, Copy, Debug, PartialEq, Eq)]
+pub struct Place {
+    pub day: Day,
+    pub number: u64,
 }
 
 /// What an uncovered pair lacks.
