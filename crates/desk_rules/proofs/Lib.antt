@@ -3,3 +3,5 @@ pub mod HistoryLemmas
 pub mod PairingLemmas
 pub mod SettlementLemmas
 pub mod SettlementGrowth
+pub mod SameContent
+pub mod Deciding

@@ -2,9 +2,13 @@
 #![tactic(auto)]
 
 mod entry;
+mod opposite;
 mod pair;
+mod same;
 mod verdict;
 
 pub use entry::{Entry, Holding, Payment, Sender};
+pub use opposite::are_opposite;
 pub use pair::{Lack, Pair, Place, Settled};
+pub use same::same_entry;
 pub use verdict::{Refusal, Verdict};
