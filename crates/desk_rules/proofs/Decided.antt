@@ -40,10 +40,10 @@ In-push_cases xs y x i = elim (In-cases xs (y ∷ []) x i) [ inl l ↦ inl l | i
 
 -- A filter.
 
-filter_yes : {X : Type 0} (p : X → Bool) (y : X) (ys : List X) → p y ≡ true → filter p (y ∷ ys) ≡ y ∷ filter p ys
+pub filter_yes : {X : Type 0} (p : X → Bool) (y : X) (ys : List X) → p y ≡ true → filter p (y ∷ ys) ≡ y ∷ filter p ys
 filter_yes p y ys e = rw e refl
 
-filter_no : {X : Type 0} (p : X → Bool) (y : X) (ys : List X) → p y ≡ false → filter p (y ∷ ys) ≡ filter p ys
+pub filter_no : {X : Type 0} (p : X → Bool) (y : X) (ys : List X) → p y ≡ false → filter p (y ∷ ys) ≡ filter p ys
 filter_no p y ys e = rw e refl
 
 pub In-filter : {X : Type 0} (p : X → Bool) (xs : List X) (x : X) → In (filter p xs) x → In xs x × (p x ≡ true)

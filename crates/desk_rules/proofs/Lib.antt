@@ -5,3 +5,4 @@ pub mod SettlementLemmas
 pub mod SettlementGrowth
 pub mod SameContent
 pub mod Deciding
+pub mod Existence
