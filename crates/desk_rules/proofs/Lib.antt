@@ -6,3 +6,4 @@ pub mod SettlementGrowth
 pub mod SameContent
 pub mod Deciding
 pub mod Existence
+pub mod PairingLaws

@@ -1,5 +1,5 @@
 -- Which instructions of a history are paired.
-use Rattle.std.specs.Prelude.{◌≡◌, ◌≢◌, ℕ, ◌<◌, ◌↔◌, nat_lt, false, List, Contains, AllPairs, filter}
+use Rattle.std.specs.Prelude.{◌≡◌, ◌≢◌, ◌⊎◌, ℕ, ◌<◌, ◌↔◌, nat_lt, false, List, Contains, AllPairs, filter}
 use Rattle.desk_rules.specs.declared.entry.Entry.{Entry}
 use Rattle.desk_rules.specs.declared.pair.Pair.{Pair}
 use Rattle.desk_rules.specs.History.{before}
@@ -32,3 +32,7 @@ pub record IsMate (history : List Entry) (pairs : List Pair) (p : Pair) : Type 0
 pub record IsPairing (history : List Entry) (pairs : List Pair) : Type 0 where
   pub exact : (p : Pair) → Contains pairs p ↔ IsMate history (pairs_below p.later pairs) p
   pub rising : AllPairs (λ p q. p.later < q.later) pairs
+
+-- an entry is one of the two of a pair
+abbrev pub IsSide : Pair → ℕ → Type 0
+IsSide p k = (p.earlier ≡ k) ⊎ (p.later ≡ k)

@@ -2,12 +2,14 @@
 #![tactic(auto)]
 
 mod entry;
+mod laws;
 mod opposite;
 mod pair;
 mod same;
 mod verdict;
 
 pub use entry::{Entry, Holding, Payment, Sender};
+pub use laws::{fronts, one_pair_each, one_pairing, one_settlement, opposites, settles_once};
 pub use opposite::are_opposite;
 pub use pair::{Lack, Pair, Place, Settled};
 pub use same::same_entry;
