@@ -11,7 +11,7 @@ use Rattle.desk_rules.specs.declared.pair.Place.{Place}
 use Rattle.desk_rules.specs.History.{Instructed, instructed, entry_at, before, instruction_at, run_day}
 use Rattle.desk_rules.specs.Pairing.{pairs_below, IsCandidate, IsMate, IsPairing}
 use Rattle.desk_rules.specs.Covered.{is_covered}
-use Rattle.desk_rules.specs.Settlement.{instructed_day, day_of, is_sooner, precedes, settled_before, is_due, IsUnsettled, Settles, IsSettlement, is_above, IsOpen, IsNext}
+use Rattle.desk_rules.specs.Settlement.{instructed_day, day_of, is_sooner, precedes, settled_before, is_due, IsUnsettled, Settles, IsSettlement, place_of, is_above, IsOpen, IsNext}
 use Rattle.desk_rules.proofs.Decided.{In, In-from_Contains, Contains-from_In, In-left, Ordered, filter-In, filter_yes, filter_no}
 use Rattle.desk_rules.proofs.HistoryLemmas.{entry_at-end}
 use Rattle.desk_rules.proofs.PairingLemmas.{pair_same, lower, pairing_alone, pairing_mated, one_pairing}
@@ -91,21 +91,8 @@ next_or_none h ps settled n place = elim (least_open h ps settled n place ps (λ
   | inr none ↦ inr (λ p o. none p (In-from_Contains ps p o.paired) o)
 ]
 
--- The place of a pair.
-
-abbrev pub instructed_date : Option Instructed → List ℕ
-instructed_date None = []
-instructed_date (Some i) = i.instruction.day
-
-abbrev pub place_of : List Entry → Pair → Place
-place_of h q = record { day = instructed_date (instruction_at h q.later); number = q.later }
-
-date_day : (o : Option Instructed) → number_of (instructed_date o) ≡ instructed_day o
-date_day None = refl
-date_day (Some i) = refl
-
 pub place_of-is : (h : List Entry) (q : Pair) → IsPlaceOf h (place_of h q) q
-place_of-is h q = record { day = date_day (instruction_at h q.later); number = refl }
+place_of-is h q = record { day = refl; number = refl }
 
 -- With each pair that a run takes, fewer are above the place.
 

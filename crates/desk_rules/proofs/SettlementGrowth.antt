@@ -126,16 +126,16 @@ unsettled_before h settled n p none s c lt =
 pub below_above : (h : List Entry) (place : Option Place) (p q : Pair) → is_above h place p ≡ false → is_above h place q ≡ true → is_sooner h p q ≡ true
 below_above h None p q low high = absurd (cc)
 below_above h (Some place) p q low high =
-    let not_day : number_of place.day < day_of h p → ⊥ = λ lt. both_ways _ low (above_day h place p lt) in
-    let not_number : number_of place.day ≡ day_of h p → place.number < p.later → ⊥ = λ same lt. both_ways _ low (above_number h place p same lt) in
+    let not_day : place.day < day_of h p → ⊥ = λ lt. both_ways _ low (above_day h place p lt) in
+    let not_number : place.day ≡ day_of h p → place.number < p.later → ⊥ = λ same lt. both_ways _ low (above_number h place p same lt) in
     elim (above_true h place q high) [
-      | inl day ↦ elim (cases_lt (number_of place.day) (day_of h p)) [ inl lt ↦ absurd (not_day lt) | inr ge ↦ sooner_day h p q (omega arith) ]
+      | inl day ↦ elim (cases_lt (place.day) (day_of h p)) [ inl lt ↦ absurd (not_day lt) | inr ge ↦ sooner_day h p q (omega arith) ]
       | inr both ↦
-          let same : number_of place.day ≡ day_of h q = both.0 in
+          let same : place.day ≡ day_of h q = both.0 in
           let less : place.number < q.later = both.1 in
-          elim (cases_lt (number_of place.day) (day_of h p)) [
+          elim (cases_lt (place.day) (day_of h p)) [
             | inl lt ↦ absurd (not_day lt)
-            | inr ge ↦ elim (cases_lt (day_of h p) (number_of place.day)) [
+            | inr ge ↦ elim (cases_lt (day_of h p) (place.day)) [
                 | inl lt ↦ sooner_day h p q (omega arith)
                 | inr le ↦ elim (cases_lt place.number p.later) [
                     | inl lt ↦ absurd (not_number (omega arith) lt)
@@ -147,16 +147,16 @@ below_above h (Some place) p q low high =
 
 -- the place of a pair
 pub record IsPlaceOf (h : List Entry) (place : Place) (p : Pair) : Type 0 where
-  pub day : number_of place.day ≡ day_of h p
+  pub day : place.day ≡ day_of h p
   pub number : place.number ≡ p.later
 
 -- what isn't above the place of q comes before q, or has its day and number
 pub at_place : (h : List Entry) (place : Place) (p q : Pair) → IsPlaceOf h place q → is_above h (Some place) p ≡ false → (is_sooner h p q ≡ true) ⊎ (p.later ≡ q.later)
 at_place h place p q is low =
-    let day : number_of place.day ≡ day_of h q = is.day in
+    let day : place.day ≡ day_of h q = is.day in
     let number : place.number ≡ q.later = is.number in
-    let not_day : number_of place.day < day_of h p → ⊥ = λ lt. both_ways _ low (above_day h place p lt) in
-    let not_number : number_of place.day ≡ day_of h p → place.number < p.later → ⊥ = λ same lt. both_ways _ low (above_number h place p same lt) in
+    let not_day : place.day < day_of h p → ⊥ = λ lt. both_ways _ low (above_day h place p lt) in
+    let not_number : place.day ≡ day_of h p → place.number < p.later → ⊥ = λ same lt. both_ways _ low (above_number h place p same lt) in
     elim (cases_order (day_of h p) (day_of h q)) [
       | inl same ↦ elim (cases_order p.later q.later) [
           | inl e ↦ inr e
@@ -168,16 +168,16 @@ at_place h place p q is low =
 -- q itself, and what is sooner, isn't above its place
 pub own_place : (h : List Entry) (place : Place) (q : Pair) → IsPlaceOf h place q → is_above h (Some place) q ≡ false
 own_place h place q is =
-    let day : number_of place.day ≡ day_of h q = is.day in
+    let day : place.day ≡ day_of h q = is.day in
     let number : place.number ≡ q.later = is.number in
     false_from_ne_true (is_above h (Some place) q) (λ e. elim (above_true h place q e) [ inl lt ↦ omega arith | inr both ↦ (let lt : place.number < q.later = both.1 in omega arith) ])
 
 pub sooner_place : (h : List Entry) (place : Place) (p q : Pair) → IsPlaceOf h place q → is_sooner h p q ≡ true → is_above h (Some place) p ≡ false
 sooner_place h place p q is less =
-    let day : number_of place.day ≡ day_of h q = is.day in
+    let day : place.day ≡ day_of h q = is.day in
     let number : place.number ≡ q.later = is.number in
     false_from_ne_true (is_above h (Some place) p) (λ e. elim (sooner_true h p q less) [
-      | inl l ↦ elim (above_true h place p e) [ inl lt ↦ omega arith | inr both ↦ (let same : number_of place.day ≡ day_of h p = both.0 in omega arith) ]
+      | inl l ↦ elim (above_true h place p e) [ inl lt ↦ omega arith | inr both ↦ (let same : place.day ≡ day_of h p = both.0 in omega arith) ]
       | inr l ↦
           let same : day_of h p ≡ day_of h q = l.0 in
           let lower : p.later < q.later = l.1 in

@@ -41,17 +41,17 @@ precedes_run h s t lt = or_left (nat_lt s.run t.run) _ (lt-ltb s.run t.run lt)
 pub precedes_pair : (h : List Entry) (s t : Settled) → s.run ≡ t.run → is_sooner h s.pair t.pair ≡ true → precedes h s t ≡ true
 precedes_pair h s t same e = or_right (nat_lt s.run t.run) _ (and_from _ _ (eq-eqb s.run t.run same) e)
 
-pub above_true : (h : List Entry) (place : Place) (p : Pair) → is_above h (Some place) p ≡ true → (number_of place.day < day_of h p) ⊎ ((number_of place.day ≡ day_of h p) × (place.number < p.later))
-above_true h place p e = elim (or_cases (nat_lt (number_of place.day) (day_of h p)) (number_of place.day == day_of h p && nat_lt place.number p.later) e) [
+pub above_true : (h : List Entry) (place : Place) (p : Pair) → is_above h (Some place) p ≡ true → (place.day < day_of h p) ⊎ ((place.day ≡ day_of h p) × (place.number < p.later))
+above_true h place p e = elim (or_cases (nat_lt (place.day) (day_of h p)) (place.day == day_of h p && nat_lt place.number p.later) e) [
   | inl lt ↦ inl (ltb-true _ _ lt)
-  | inr both ↦ let parts = and_parts (number_of place.day == day_of h p) (nat_lt place.number p.later) both in inr (eqb-true _ _ parts.0, ltb-true _ _ parts.1)
+  | inr both ↦ let parts = and_parts (place.day == day_of h p) (nat_lt place.number p.later) both in inr (eqb-true _ _ parts.0, ltb-true _ _ parts.1)
 ]
 
-pub above_day : (h : List Entry) (place : Place) (p : Pair) → number_of place.day < day_of h p → is_above h (Some place) p ≡ true
-above_day h place p lt = or_left (nat_lt (number_of place.day) (day_of h p)) _ (lt-ltb _ _ lt)
+pub above_day : (h : List Entry) (place : Place) (p : Pair) → place.day < day_of h p → is_above h (Some place) p ≡ true
+above_day h place p lt = or_left (nat_lt (place.day) (day_of h p)) _ (lt-ltb _ _ lt)
 
-pub above_number : (h : List Entry) (place : Place) (p : Pair) → number_of place.day ≡ day_of h p → place.number < p.later → is_above h (Some place) p ≡ true
-above_number h place p same lt = or_right (nat_lt (number_of place.day) (day_of h p)) _ (and_from _ _ (eq-eqb _ _ same) (lt-ltb _ _ lt))
+pub above_number : (h : List Entry) (place : Place) (p : Pair) → place.day ≡ day_of h p → place.number < p.later → is_above h (Some place) p ≡ true
+above_number h place p same lt = or_right (nat_lt (place.day) (day_of h p)) _ (and_from _ _ (eq-eqb _ _ same) (lt-ltb _ _ lt))
 
 pub sooner_strict_never : (h : List Entry) (p : Pair) → is_sooner h p p ≡ true → ⊥
 sooner_strict_never h p e = elim (sooner_true h p p e) [ inl lt ↦ omega arith | inr both ↦ (let l : p.later < p.later = both.1 in omega arith) ]

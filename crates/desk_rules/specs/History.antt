@@ -6,6 +6,7 @@ use Rattle.desk_msg.specs.declared.instruction.Kind.{Kind}
 use Rattle.desk_codes.specs.Number.{number_of}
 use Rattle.desk_rules.specs.declared.entry.Sender.{Sender}
 use Rattle.desk_rules.specs.declared.entry.Sender.TheVariants.{Operator, Participant as FromParticipant}
+pub use Rattle.desk_rules.specs.declared.entry.Instructed.{Instructed}
 use Rattle.desk_rules.specs.declared.entry.Entry.{Entry}
 use Rattle.desk_rules.specs.declared.entry.Entry.TheVariants.{Participant, Account, Security, Issue, Redeem, PayIn, PayOut, Instruct, Cancel, Run}
 
@@ -17,11 +18,6 @@ entry_at history (suc n) = slice_get history n
 -- the entries numbered below n
 abbrev pub before : ℕ → List Entry → List Entry
 before n history = take (n - 1) history
-
--- an instruction, and who sent it
-pub record Instructed : Type 0 where
-  pub sender : List ℕ
-  pub instruction : Instruction
 
 -- what an entry instructs
 abbrev pub instructed : Entry → Option Instructed

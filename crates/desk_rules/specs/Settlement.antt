@@ -61,11 +61,15 @@ pub record IsSettlement (history : List Entry) (pairs : List Pair) (settled : Li
   pub exact : (s : Settled) → Contains settled s ↔ Settles history pairs (settled_before history s settled) s
   pub in_order : AllPairs (λ s t. precedes history s t ≡ true) settled
 
+-- the place of a pair
+abbrev pub place_of : List Entry → Pair → Place
+place_of history p = record { day = day_of history p; number = p.later }
+
 -- a pair is above a place in the order of a run; with no place every pair is
 abbrev pub is_above : List Entry → Option Place → Pair → Bool
 is_above history None p = true
 is_above history (Some place) p =
-    nat_lt (number_of place.day) (day_of history p) || (number_of place.day == day_of history p && nat_lt place.number p.later)
+    nat_lt (place.day) (day_of history p) || (place.day == day_of history p && nat_lt place.number p.later)
 
 -- a pair that the run may yet settle: above the place, due, and in no earlier run
 pub record IsOpen (history : List Entry) (pairs : List Pair) (settled : List Settled) (run : ℕ) (place : Option Place) (p : Pair) : Type 0 where

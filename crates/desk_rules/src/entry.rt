@@ -1,5 +1,5 @@
 //! What the desk's history is made of.
-ghost use Rattle.std.specs.Prelude.{◌≡◌, ◌<◌, ◌≤◌, ◌↔◌, IsTrue};
+ghost use Rattle.std.specs.Prelude.{◌<◌, ◌≤◌};
 
 use desk_codes::{AccountId, Bic, Ccy, Day, Isin, Reference};
 use desk_msg::{CancelOrder, Cash, Instruction, Kind, Mt};
@@ -10,6 +10,13 @@ pub enum Sender {
     Operator,
     /// A participant, by its BIC
     Participant(Bic),
+}
+
+/// An instruction, and the participant that sent it.
+#[derive(Clone, Copy, Debug, PartialEq, Eq)]
+pub struct Instructed {
+    pub sender: Bic,
+    pub instruction: Instruction,
 }
 
 /// So much of a security put on an account, or taken off it.

@@ -8,7 +8,7 @@ mod pair;
 mod same;
 mod verdict;
 
-pub use entry::{Entry, Holding, Payment, Sender};
+pub use entry::{Entry, Holding, Instructed, Payment, Sender};
 pub use laws::{fronts, one_pair_each, one_pairing, one_settlement, opposites, settles_once};
 pub use opposite::are_opposite;
 pub use pair::{Lack, Pair, Place, Settled};

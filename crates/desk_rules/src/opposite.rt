@@ -2,15 +2,16 @@
 ghost use Rattle.std.specs.Prelude.{◌≡◌, ◌↔◌, IsTrue};
 ghost use Rattle.desk_rules.specs.Opposite.{AreOpposite};
 
+use crate::entry::Instructed;
 use crate::same::same_cash;
-use desk_codes::Bic;
-use desk_msg::Instruction;
 
 /// Whether two instructions, with their senders, are opposite: one delivers what the other receives, and each
 /// names the other's sender.
-pub fn are_opposite(a_sender: Bic, a: Instruction, b_sender: Bic, b: Instruction) -> bool
-    ensures { IsTrue result ↔ AreOpposite (record { sender = a_sender; instruction = a }) (record { sender = b_sender; instruction = b }) }
+pub fn are_opposite(first: &Instructed, second: &Instructed) -> bool
+    ensures { IsTrue result ↔ AreOpposite first.now second.now }
 {
+    let a = first.instruction;
+    let b = second.instruction;
     if a.mt.is_delivery() == b.mt.is_delivery() {
         return false;
     }
@@ -32,8 +33,8 @@ pub fn are_opposite(a_sender: Bic, a: Instruction, b_sender: Bic, b: Instruction
     if !same_cash(a.cash, b.cash) {
         return false;
     }
-    if a.counterparty != b_sender {
+    if a.counterparty != second.sender {
         return false;
     }
-    b.counterparty == a_sender
+    b.counterparty == first.sender
 }

@@ -1,7 +1,5 @@
 //! Pairs of opposite instructions, and their settlement.
 
-use desk_codes::Day;
-
 /// Two opposite instructions by their entry numbers. The pair's number is that of the later entry.
 #[derive(Clone, Copy, Debug, PartialEq, Eq)]
 pub struct Pair {
@@ -20,7 +18,8 @@ pub struct Settled {
 /// A place in the order in which a run takes pairs: by settlement day, then by number.
 #[derive(Clone, Copy, Debug, PartialEq, Eq)]
 pub struct Place {
-    pub day: Day,
+    /// The settlement day, as the number YYYYMMDD
+    pub day: u64,
     pub number: u64,
 }
 
