@@ -262,7 +262,7 @@ books_grow h (e ∷ g) ps settled is =
     grows_on h g e ps settled one (books_grow (h ++ e ∷ []) g (ps ++ one.more_pairs) (settled ++ one.more_settled) one.books)
 
 -- the empty history
-no_books : HasBooks [] [] []
+pub no_books : HasBooks [] [] []
 no_books = record {
   pairing = record {
     exact = λ p. ((λ c. absurd (In-from_Contains [] p c)), (λ m. let k = known m.candidate.opposite.second p.later m.candidate.opposite.is_second in absurd k));

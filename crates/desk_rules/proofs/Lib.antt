@@ -7,3 +7,5 @@ pub mod SameContent
 pub mod Deciding
 pub mod Existence
 pub mod PairingLaws
+pub mod PlainLemmas
+pub mod ShortNumbers

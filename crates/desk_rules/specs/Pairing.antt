@@ -1,5 +1,5 @@
 -- Which instructions of a history are paired.
-use Rattle.std.specs.Prelude.{◌≡◌, ◌≢◌, ◌⊎◌, ℕ, ◌<◌, ◌↔◌, nat_lt, false, List, Contains, AllPairs, filter}
+use Rattle.std.specs.Prelude.{◌≡◌, ◌≢◌, ◌⊎◌, ℕ, ◌<◌, ◌↔◌, nat_lt, Bool, false, ◌==◌, ◌||◌, List, Contains, AllPairs, filter}
 use Rattle.desk_rules.specs.declared.entry.Entry.{Entry}
 use Rattle.desk_rules.specs.declared.pair.Pair.{Pair}
 use Rattle.desk_rules.specs.History.{before}
@@ -36,3 +36,6 @@ pub record IsPairing (history : List Entry) (pairs : List Pair) : Type 0 where
 -- an entry is one of the two of a pair
 abbrev pub IsSide : Pair → ℕ → Type 0
 IsSide p k = (p.earlier ≡ k) ⊎ (p.later ≡ k)
+
+abbrev pub has_side : ℕ → Pair → Bool
+has_side k p = p.earlier == k || p.later == k

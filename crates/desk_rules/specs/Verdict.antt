@@ -21,7 +21,7 @@ use Rattle.desk_rules.specs.declared.verdict.Verdict.{Verdict}
 use Rattle.desk_rules.specs.declared.verdict.Verdict.TheVariants.{Accept, Repeat, Refuse}
 use Rattle.desk_rules.specs.History.{Instructed, entry_at, before, instruction_at, run_day, sender_of, reference_of, number_of_key}
 use Rattle.desk_rules.specs.Cancelled.{is_cancelled}
-use Rattle.desk_rules.specs.Pairing.{IsPairing}
+use Rattle.desk_rules.specs.Pairing.{IsPairing, has_side}
 use Rattle.desk_rules.specs.Balances.{issued, redeemed, credits, debits, paid_in, paid_out, cash_credits, cash_debits}
 use Rattle.desk_rules.specs.Settlement.{IsSettlement}
 
@@ -137,9 +137,6 @@ pub record AreBooks (books : Books) : Type 0 where
   pub settlement : IsSettlement books.history books.pairs books.settled
 
 -- an instruction is a side of one of the pairs, of one of the settled ones
-abbrev pub has_side : ℕ → Pair → Bool
-has_side k p = p.earlier == k || p.later == k
-
 abbrev pub is_paired : Books → ℕ → Bool
 is_paired books k = list_any (has_side k) books.pairs
 

@@ -5,6 +5,7 @@ mod entry;
 mod laws;
 mod opposite;
 mod pair;
+pub mod plain;
 mod same;
 mod verdict;
 

@@ -1,0 +1,1 @@
+//! Which pairs the runs settle.
