@@ -62,7 +62,7 @@ before-front h g n le = take-append-le (n - 1) h g (omega arith)
 pub before-all : (h g : List Entry) (n : ℕ) → n ≡ length h + 1 → before n (h ++ g) ≡ h
 before-all h g n is = before-front h g n (omega arith) ∙ take_all (n - 1) h (omega arith)
 
-take-take : {X : Type 0} (m n : ℕ) (xs : List X) → m ≤ n → take m (take n xs) ≡ take m xs
+pub take-take : {X : Type 0} (m n : ℕ) (xs : List X) → m ≤ n → take m (take n xs) ≡ take m xs
 take-take zero n xs le = refl
 take-take (suc m) zero xs le = absurd (omega arith)
 take-take (suc m) (suc n) [] le = refl
