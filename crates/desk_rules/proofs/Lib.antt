@@ -9,3 +9,5 @@ pub mod Existence
 pub mod PairingLaws
 pub mod PlainLemmas
 pub mod ShortNumbers
+pub mod Accepted
+pub mod BalanceLemmas

@@ -6,3 +6,4 @@ pub mod Balances
 pub mod Covered
 pub mod Settlement
 pub mod Verdict
+pub mod Laws
