@@ -153,7 +153,7 @@ pub record Decided {X : Type 0} (lt : X → X → Bool) (B : X → Type 0) (Cond
   pub order : Ordered lt xs
 
 -- what stands before a member
-front_of : {X : Type 0} (lt : X → X → Bool) → IsStrict lt → (front rest : List X) (x : X) → Ordered lt (front ++ x ∷ rest) → filter (λ t. lt t x) (front ++ x ∷ rest) ≡ front
+pub front_of : {X : Type 0} (lt : X → X → Bool) → IsStrict lt → (front rest : List X) (x : X) → Ordered lt (front ++ x ∷ rest) → filter (λ t. lt t x) (front ++ x ∷ rest) ≡ front
 front_of {X} lt strict front rest x o = filter-front (λ t. lt t x) front (x ∷ rest)
     (λ z i. Ordered-across lt front (x ∷ rest) o z x i (inl refl))
     (λ z i. elim i [

@@ -232,7 +232,7 @@ entry_books h e ps settled is =
           }
     ]
 
-same_books : (h g : List Entry) (ps qs : List Pair) (ss ts : List Settled) → h ≡ g → ps ≡ qs → ss ≡ ts → HasBooks h ps ss → HasBooks g qs ts
+pub same_books : (h g : List Entry) (ps qs : List Pair) (ss ts : List Settled) → h ≡ g → ps ≡ qs → ss ≡ ts → HasBooks h ps ss → HasBooks g qs ts
 same_books h g ps qs ss ts a b c is =
     let P : List Entry → Type 0 = λ z. HasBooks z ps ss in
     let Q : List Pair → Type 0 = λ z. HasBooks g z ss in

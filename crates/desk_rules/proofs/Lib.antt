@@ -11,3 +11,4 @@ pub mod PlainLemmas
 pub mod ShortNumbers
 pub mod Accepted
 pub mod BalanceLemmas
+pub mod NonNegative
