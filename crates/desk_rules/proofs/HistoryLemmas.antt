@@ -76,7 +76,7 @@ length-before h n some le = omega (arith, length-take (n - 1) h)
 
 -- An instruction by its number.
 
-some_before : {X Y : Type 0} (f : X → Option Y) (o : Option X) (y : Y) → option_and_then f o ≡ Some y → (x : X) × (o ≡ Some x) × (f x ≡ Some y)
+pub some_before : {X Y : Type 0} (f : X → Option Y) (o : Option X) (y : Y) → option_and_then f o ≡ Some y → (x : X) × (o ≡ Some x) × (f x ≡ Some y)
 some_before f None y e = absurd (cc)
 some_before f (Some x) y e = (x, refl, e)
 

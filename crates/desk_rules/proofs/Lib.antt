@@ -12,3 +12,4 @@ pub mod ShortNumbers
 pub mod Accepted
 pub mod BalanceLemmas
 pub mod NonNegative
+pub mod Conservation
