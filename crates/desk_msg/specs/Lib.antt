@@ -1,1 +1,10 @@
 pub mod MessageType
+pub mod Words
+pub mod OwnText
+pub mod StatusText
+pub mod Profile
+pub mod Reads
+pub mod Finding
+pub mod FieldsText
+pub mod AdviceParts
+pub mod Refused

@@ -5,6 +5,7 @@ ghost use Rattle.desk_codes.specs.Number.{plain};
 ghost use Rattle.desk_codes.specs.Currency.{decimals_of};
 ghost use Rattle.desk_msg.specs.MessageType.{is_instruction, is_against_payment};
 
+use crate::characters::are_code_chars;
 use crate::mt::Mt;
 use desk_codes::{AccountId, Bic, Ccy, Day, Isin, Reference};
 use std::marker::Model;
@@ -16,6 +17,20 @@ pub enum Kind {
     Unit,
     /// FAMT
     FaceAmount,
+}
+
+impl Kind {
+    ghost use Rattle.desk_msg.specs.Profile.{code_of_kind};
+
+    /// The quantity type code, four letters.
+    pub fn as_str(self) -> &'static str
+        ensures { result.now ≡ code_of_kind self }
+    {
+        match self {
+            Kind::Unit => "UNIT",
+            Kind::FaceAmount => "FAMT",
+        }
+    }
 }
 
 /// The type of a settlement transaction, as TRAD: four letters or digits (ISO 15022, field 22F,
@@ -36,6 +51,31 @@ impl Model for SettlementType {
     ghost invariant = { λ settlement. All IsCodeChar settlement.code };
 
     ghost inverse = { λ text. record { code = text } };
+}
+
+impl SettlementType {
+    ghost use Rattle.desk_msg.specs.Profile.{IsCode};
+    ghost use Rattle.desk_msg.specs.Finding.{IsFound, code_itself};
+
+    /// The type that four letters or digits name; None for any other text.
+    pub fn read(text: &[u8]) -> Option<SettlementType>
+        ensures { IsFound code_itself (λ settlement. IsCode 4 settlement × (text.now ≡ settlement)) result }
+    {
+        if text.len() != 4 || !are_code_chars(text) {
+            return None;
+        }
+        let mut code = [0; 4];
+        code.copy_from_slice(text);
+        Some(SettlementType { code })
+    }
+
+    /// Its four characters.
+    pub fn as_bytes(&self) -> &[u8]
+        ensures bytes { result.now ≡ self.now }
+        ensures code { IsCode 4 self.now }
+    {
+        &self.code
+    }
 }
 
 /// An amount of money above 0, in minor units, whose written form has at most 15 characters (ISO 15022,

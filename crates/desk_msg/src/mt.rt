@@ -1,6 +1,6 @@
 //! The types of settlement messages.
 ghost use Rattle.std.specs.Prelude.{◌≡◌};
-ghost use Rattle.desk_msg.specs.MessageType.{number_of_type, is_instruction, is_against_payment, is_delivery};
+ghost use Rattle.desk_msg.specs.MessageType.{number_of_type, digits_of_type, is_instruction, is_against_payment, is_delivery};
 
 /// A message type of settlement (ISO 15022, category 5): 540 to 543 instruct, 544 to 547 confirm.
 #[derive(Clone, Copy, Debug, PartialEq, Eq, PartialOrd, Ord)]
@@ -37,6 +37,22 @@ impl Mt {
             Mt::Mt545 => 545,
             Mt::Mt546 => 546,
             Mt::Mt547 => 547,
+        }
+    }
+
+    /// The number as text, three digits.
+    pub fn as_str(self) -> &'static str
+        ensures { result.now ≡ digits_of_type self }
+    {
+        match self {
+            Mt::Mt540 => "540",
+            Mt::Mt541 => "541",
+            Mt::Mt542 => "542",
+            Mt::Mt543 => "543",
+            Mt::Mt544 => "544",
+            Mt::Mt545 => "545",
+            Mt::Mt546 => "546",
+            Mt::Mt547 => "547",
         }
     }
 

@@ -1,0 +1,98 @@
+-- The parts of an advice are right.
+use Rattle.std.proofs.Common.{◌≡◌, ℕ, ◌<◌, ◌≤◌, ◌+◌, Bool, true, false, List, [], ◌∷◌, ◌++◌, length, codes, refl, All, IsTrue, arith, lit<, ◌∙◌, ap, sym, append_assoc}
+use Rattle.std.specs.List.{list_all}
+use Rattle.std.proofs.lemmas.List.Sums.{list_all-from_AllPass}
+use Rattle.desk_codes.specs.Reference.{IsReference}
+use Rattle.desk_codes.specs.Characters.{IsPrintable}
+use Rattle.desk_text.specs.BlockGrammar.{is_printable, is_first}
+use Rattle.desk_text.specs.Written.{Part, open_part, field_part, close_part, is_value, AreParts}
+use Rattle.desk_text.proofs.LawLemmas.{value-right}
+use Rattle.desk_msg.specs.declared.mt.Mt.{Mt}
+use Rattle.desk_msg.specs.declared.status.Own.{Own}
+use Rattle.desk_msg.specs.declared.status.Own.TheVariants.{Answer, Sent}
+use Rattle.desk_msg.specs.declared.status.Reason.{Reason}
+use Rattle.desk_msg.specs.declared.status.Reason.TheVariants.{Future, Lack, Money}
+use Rattle.desk_msg.specs.declared.status.Case.{Case}
+use Rattle.desk_msg.specs.declared.status.Case.TheVariants.{Unmatched, Matched, Cancelled, CancelDone, NewRefused, CancelRefused}
+use Rattle.desk_msg.specs.OwnText.{last_digits, own_reference}
+use Rattle.std.proofs.lemmas.List.{append-nil}
+use Rattle.desk_msg.specs.MessageType.{digits_of_type}
+use Rattle.desk_msg.specs.StatusText.{code_of_reason, statuses_of, function_of_advice, advice_parts}
+use Rattle.desk_msg.specs.AdviceParts.{status_of, reason_of, header_of, parts_of}
+use Rattle.desk_msg.proofs.PrintableLemmas.{digits-printable, printable_text}
+
+-- the sequence that an advice is in
+abbrev general : List (List ℕ)
+general = codes "GENL" ∷ []
+
+status_right : (status : List ℕ) (rest : List Part) → IsTrue (is_value status) → AreParts general rest → AreParts general (status_of status [] ++ rest)
+status_right status rest v h = (refl, lit< tt, (refl, v, (refl, h)))
+
+reasoned_right : (status reason : List ℕ) (rest : List Part) → IsTrue (is_value status) → IsTrue (is_value reason) → AreParts general rest → AreParts general (status_of status (reason_of reason []) ++ rest)
+reasoned_right status reason rest v w h = (refl, lit< tt, (refl, v, (refl, lit< tt, (refl, w, (refl, (refl, h))))))
+
+refusal_right : (status : List ℕ) (number : ℕ) (rest : List Part) → IsTrue (is_value status) → AreParts general rest → AreParts general (status_of status (reason_of (codes ":REJT//NARR") (field_part (codes "70D") (codes ":REAS//DESK " ++ last_digits 2 number) ∷ [])) ++ rest)
+refusal_right status number rest v h =
+    (refl, lit< tt, (refl, v, (refl, lit< tt, (refl, refl, (refl, value-right (codes ":REAS//DESK " ++ last_digits 2 number) (digits-printable 2 number), (refl, (refl, h)))))))
+
+pending_right : (reason : Reason) → IsTrue (is_value (codes ":PEND//" ++ code_of_reason reason))
+pending_right Future = refl
+pending_right Lack = refl
+pending_right Money = refl
+
+closed : AreParts general (close_part (codes "GENL") ∷ [])
+closed = (refl, refl)
+
+-- the closing of the whole
+last : List Part
+last = close_part (codes "GENL") ∷ []
+
+pub statuses_right : (about : Case) → AreParts general (statuses_of about ++ close_part (codes "GENL") ∷ [])
+unfolding last
+statuses_right Unmatched =
+    status_right (codes ":IPRC//PACK") (status_of (codes ":MTCH//NMAT") (reason_of (codes ":NMAT//CMIS") []) ++ last) refl
+    (reasoned_right (codes ":MTCH//NMAT") (codes ":NMAT//CMIS") last refl refl closed)
+statuses_right (Matched reason) =
+    let pending : List Part = status_of (codes ":SETT//PEND") (reason_of (codes ":PEND//" ++ code_of_reason reason) []) ++ last in
+    status_right (codes ":IPRC//PACK") (status_of (codes ":MTCH//MACH") [] ++ pending) refl
+    (status_right (codes ":MTCH//MACH") pending refl (reasoned_right (codes ":SETT//PEND") (codes ":PEND//" ++ code_of_reason reason) last refl (pending_right reason) closed))
+statuses_right Cancelled = status_right (codes ":IPRC//CAND") last refl closed
+statuses_right CancelDone = status_right (codes ":CPRC//CAND") last refl closed
+statuses_right (NewRefused number) = refusal_right (codes ":IPRC//REJT") number last refl closed
+statuses_right (CancelRefused number) = refusal_right (codes ":CPRC//REJT") number last refl closed
+
+function_right : (about : Case) → IsTrue (is_value (function_of_advice about))
+function_right Unmatched = refl
+function_right (Matched reason) = refl
+function_right Cancelled = refl
+function_right CancelDone = refl
+function_right (NewRefused number) = refl
+function_right (CancelRefused number) = refl
+
+pub parts_right : (own link related : List ℕ) (about : Case) → IsTrue (is_value own) → IsTrue (is_value link) → IsTrue (is_value related) → AreParts [] (parts_of own link related about)
+parts_right own link related about o l r =
+    (refl, lit< tt, (refl, o, (refl, function_right about, (refl, lit< tt, (refl, l, (refl, r, (refl, statuses_right about)))))))
+
+pub own_right : (own : Own) → IsTrue (is_value (codes ":SEME//" ++ own_reference own))
+own_right (Answer entries) = value-right (codes ":SEME//" ++ own_reference (Answer entries)) (digits-printable 15 entries)
+own_right (Sent n) = value-right (codes ":SEME//" ++ own_reference (Sent n)) (digits-printable 15 n)
+
+pub related_right : (reference : List ℕ) → IsReference reference → IsTrue (is_value (codes ":RELA//" ++ reference))
+related_right reference is = value-right (codes ":RELA//" ++ reference) (printable_text reference is.printable)
+
+-- the parts, from what was added one after another
+pub parts_are : (n h s z front statuses back : List Part) → n ≡ [] → h ≡ n ++ front → s ≡ h ++ statuses → z ≡ s ++ back → z ≡ front ++ (statuses ++ back)
+parts_are n h s z front statuses back none eh es ez =
+    ez ∙ ap (λ w. w ++ back) (es ∙ ap (λ w. w ++ statuses) (eh ∙ ap (λ w. w ++ front) none)) ∙ append_assoc front statuses back
+
+-- the parts of these values are those of the advice
+pub advice_values : (own : Own) (mt : Mt) (reference : List ℕ) (about : Case) (o l r : List ℕ) → o ≡ codes ":SEME//" ++ own_reference own → l ≡ codes ":LINK//" ++ digits_of_type mt → r ≡ codes ":RELA//" ++ reference → parts_of o l r about ≡ advice_parts own mt reference about
+unfolding advice_parts
+advice_values own mt reference about o l r eo el er =
+    ap (λ v. parts_of v l r about) eo
+    ∙ ap (λ v. parts_of (codes ":SEME//" ++ own_reference own) v r about) el
+    ∙ ap (λ v. parts_of (codes ":SEME//" ++ own_reference own) (codes ":LINK//" ++ digits_of_type mt) v about) er
+
+-- the pieces of a value, in a row
+pub value_is : (value items front piece text : List ℕ) → value ≡ items → items ≡ front ++ (piece ++ []) → piece ≡ text → value ≡ front ++ text
+value_is value items front piece text ev ei ep = ev ∙ ei ∙ ap (λ w. front ++ w) (append-nil piece ∙ ep)

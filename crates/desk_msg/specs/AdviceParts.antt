@@ -1,0 +1,42 @@
+-- The parts of an advice by their values.
+use Rattle.std.specs.Prelude.{ℕ, List, [], ◌∷◌, ◌++◌, map, codes}
+use Rattle.desk_text.specs.declared.parts.BlockPart.{BlockPart}
+use Rattle.desk_text.specs.Written.{Part, open_part, field_part, close_part}
+use Rattle.desk_msg.specs.declared.status.Case.{Case}
+use Rattle.desk_msg.specs.StatusText.{function_of_advice, statuses_of}
+use Rattle.desk_text.specs.PartsSeen.{part_seen}
+
+abbrev pub parts_seen : List BlockPart → List Part
+parts_seen parts = map part_seen parts
+
+abbrev pub header_of : List ℕ → List ℕ → List ℕ → List ℕ → List Part
+header_of own function link related =
+    field_part (codes "20C") own
+    ∷ field_part (codes "23G") function
+    ∷ open_part (codes "LINK")
+    ∷ field_part (codes "13A") link
+    ∷ field_part (codes "20C") related
+    ∷ close_part (codes "LINK")
+    ∷ []
+
+-- a status, and the parts of its reason
+abbrev pub status_of : List ℕ → List Part → List Part
+status_of status reason = open_part (codes "STAT") ∷ field_part (codes "25D") status ∷ (reason ++ close_part (codes "STAT") ∷ [])
+
+-- a reason, and the parts of its narrative
+abbrev pub reason_of : List ℕ → List Part → List Part
+reason_of reason narrative = open_part (codes "REAS") ∷ field_part (codes "24B") reason ∷ (narrative ++ close_part (codes "REAS") ∷ [])
+
+-- a status up to its reason
+abbrev pub reason_front : List ℕ → List ℕ → List Part
+reason_front status reason =
+    open_part (codes "STAT") ∷ field_part (codes "25D") status ∷ open_part (codes "REAS") ∷ field_part (codes "24B") reason ∷ []
+
+-- the end of a reason and its status
+abbrev pub reason_back : List Part
+reason_back = close_part (codes "REAS") ∷ close_part (codes "STAT") ∷ []
+
+-- the parts of an advice with these values
+abbrev pub parts_of : List ℕ → List ℕ → List ℕ → Case → List Part
+parts_of own link related about =
+    open_part (codes "GENL") ∷ (header_of own (function_of_advice about) link related ++ statuses_of about ++ close_part (codes "GENL") ∷ [])

@@ -1,0 +1,10 @@
+//! The function of an instruction.
+
+/// What the sender of an instruction's type wants (ISO 15022, field 23G).
+#[derive(Clone, Copy, Debug, PartialEq, Eq)]
+pub enum FunctionCode {
+    /// NEWM: a new instruction
+    Newm,
+    /// CANC: to cancel an earlier one
+    Canc,
+}

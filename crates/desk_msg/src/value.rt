@@ -1,0 +1,212 @@
+//! What the value of a field says, by its form. Each function finds its answer exactly where the text has
+//! that form.
+ghost use Rattle.std.specs.Prelude.{◌≡◌, ◌↔◌, ◌++◌, ◌∷◌, [], List, ℕ, IsTrue, codes};
+ghost use Rattle.desk_codes.specs.Day.{IsDay};
+ghost use Rattle.desk_text.specs.Seen.{found_of};
+ghost use Rattle.desk_msg.specs.Profile.{Bears, Behind, IsCode, IsFunctionText, IsReferenceText, IsDayText, IsTimed, IsQuantityText, IsAccountText, IsSettlementText, IsPartyText, IsSecurityText, IsAmountText, SaysText, security_form, day_form, code_of_kind};
+ghost use Rattle.desk_msg.specs.Finding.{IsFound, text_in, code_itself, kinded, quantity_itself, amount_of_cash};
+
+use crate::characters::{are_code_chars, are_digits};
+use crate::instruction::{Cash, Kind, SettlementType};
+use desk_codes::{AccountId, Bic, Ccy, Day, Isin, Reference, read_number};
+use desk_text::Field;
+
+/// What a text has behind its beginning.
+fn text_behind<'a>(text: &'a [u8], begins: &[u8]) -> Option<&'a [u8]>
+    ensures { IsFound text_in (λ rest. text.entry.now ≡ begins.now ++ rest) result }
+{
+    if !text.starts_with(begins) {
+        return None;
+    }
+    Some(&text[begins.len()..])
+}
+
+/// What a value of one line has behind its beginning.
+pub fn value_behind<'a>(field: &Field<'a>, begins: &[u8]) -> Option<&'a [u8]>
+    ensures { IsFound text_in (Bears begins.now (found_of field.now)) result }
+{
+    match field.values.as_slice() {
+        [line] => text_behind(line, begins),
+        _ => None,
+    }
+}
+
+/// Whether a text is four letters or digits.
+fn is_code(text: &[u8]) -> bool
+    ensures { IsTrue result ↔ IsCode 4 text.now }
+{
+    text.len() == 4 && are_code_chars(text)
+}
+
+/// A reference.
+pub fn reference_of(text: &[u8]) -> Option<Reference>
+    ensures { IsFound code_itself (IsReferenceText text.now) result }
+{
+    Reference::read(text)
+}
+
+/// A safekeeping account.
+pub fn account_of(text: &[u8]) -> Option<AccountId>
+    ensures { IsFound code_itself (IsAccountText text.now) result }
+{
+    AccountId::read(text)
+}
+
+/// The function's four characters; behind them a slash and four more may stand.
+pub fn function_of(text: &[u8]) -> Option<&[u8]>
+    ensures { IsFound text_in (IsFunctionText text.entry.now) result }
+{
+    if text.len() < 4 {
+        return None;
+    }
+    let (function, further) = text.split_at(4);
+    if !are_code_chars(function) {
+        return None;
+    }
+    if further.is_empty() {
+        return Some(function);
+    }
+    let subfunction = text_behind(further, b"/")?;
+    if !is_code(subfunction) {
+        return None;
+    }
+    Some(function)
+}
+
+/// A day of eight digits.
+fn day_of(text: &[u8]) -> Option<Day>
+    ensures { IsFound code_itself (λ day. IsDay day × (text.now ≡ day)) result }
+{
+    if text.len() != 8 {
+        return None;
+    }
+    let mut digits = [0; 8];
+    digits.copy_from_slice(text);
+    Day::read(&digits)
+}
+
+/// What stands before six digits at the end.
+fn text_before_time(text: &[u8]) -> Option<&[u8]>
+    ensures { IsFound text_in (IsTimed text.entry.now) result }
+{
+    if text.len() < 6 {
+        return None;
+    }
+    let (front, time) = text.split_at(text.len() - 6);
+    if !are_digits(time) {
+        return None;
+    }
+    Some(front)
+}
+
+/// A day before a time of six digits.
+fn day_before_time(text: &[u8]) -> Option<Day>
+    ensures { IsFound code_itself (λ day. IsDay day × IsTimed text.now day) result }
+{
+    let front = text_before_time(text)?;
+    day_of(front)
+}
+
+/// A day, under 98C with a time of six digits.
+fn day_under(tag: &[u8], text: &[u8]) -> Option<Day>
+    ensures { IsFound code_itself (IsDayText tag.now text.now) result }
+{
+    if tag == b"98A".as_slice() {
+        return day_of(text);
+    }
+    if tag == b"98C".as_slice() {
+        return day_before_time(text);
+    }
+    None
+}
+
+/// How a security is counted, and the number behind the slash.
+fn kind_and_number(text: &[u8]) -> Option<(Kind, &[u8])>
+    ensures { IsFound kinded (λ found. text.entry.now ≡ code_of_kind found.0 ++ 47 ∷ found.1) result }
+{
+    if let Some(number) = text_behind(text, b"UNIT/") {
+        return Some((Kind::Unit, number));
+    }
+    if let Some(number) = text_behind(text, b"FAMT/") {
+        return Some((Kind::FaceAmount, number));
+    }
+    None
+}
+
+/// A quantity: how the security is counted, and the number in whole units.
+pub fn quantity_of(text: &[u8]) -> Option<(Kind, u64)>
+    ensures { IsFound quantity_itself (λ quantity. IsQuantityText text.now quantity.0 quantity.1) result }
+{
+    let (kind, number) = kind_and_number(text)?;
+    match read_number(number, 0) {
+        Ok(quantity) => Some((kind, quantity)),
+        Err(_) => None,
+    }
+}
+
+/// The type of a settlement transaction, behind an issuer code or none.
+pub fn settlement_of(text: &[u8]) -> Option<SettlementType>
+    ensures { IsFound code_itself (IsSettlementText text.now) result }
+{
+    if text.len() < 5 {
+        return None;
+    }
+    let (issuer, rest) = text.split_at(text.len() - 5);
+    if issuer.len() > 8 || !are_code_chars(issuer) {
+        return None;
+    }
+    let code = text_behind(rest, b"/")?;
+    SettlementType::read(code)
+}
+
+/// An amount: its currency, and the number in minor units.
+pub fn amount_of(text: &[u8]) -> Option<Cash>
+    ensures { IsFound amount_of_cash (λ cash. IsAmountText text.now cash.0 cash.1) result }
+{
+    if text.len() < 3 {
+        return None;
+    }
+    let (letters, number) = text.split_at(3);
+    let ccy = Ccy::parse(letters)?;
+    match read_number(number, ccy.decimals()) {
+        Ok(amount) => Some(Cash { ccy, amount }),
+        Err(_) => None,
+    }
+}
+
+/// A security, in the first line of its field.
+fn security_of(line: &[u8]) -> Option<Isin>
+    ensures { IsFound code_itself (IsSecurityText line.now) result }
+{
+    let code = text_behind(line, b"ISIN ")?;
+    match Isin::parse(code) {
+        Ok(isin) => Some(isin),
+        Err(_) => None,
+    }
+}
+
+/// A party.
+pub fn party_of(text: &[u8]) -> Option<Bic>
+    ensures { IsFound code_itself (IsPartyText text.now) result }
+{
+    match Bic::parse(text) {
+        Ok(bic) => Some(bic),
+        Err(_) => None,
+    }
+}
+
+/// The day of a field, by its tag.
+pub fn day_in(field: &Field) -> Option<Day>
+    ensures { IsFound code_itself (SaysText day_form (codes ":SETT/") (found_of field.now)) result }
+{
+    let text = value_behind(field, b":SETT//")?;
+    day_under(field.tag, text)
+}
+
+/// The security of a field, whose further lines are free.
+pub fn security_in(field: &Field) -> Option<Isin>
+    ensures { IsFound code_itself (SaysText security_form [] (found_of field.now)) result }
+{
+    let line = field.values.first()?;
+    security_of(line)
+}

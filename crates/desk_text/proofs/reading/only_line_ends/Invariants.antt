@@ -1,0 +1,13 @@
+use Rattle.std.proofs.Common.{◌≡◌, ◌<◌, ◌+◌, ◌^◌, length, map}
+use Rattle.desk_text.specs.Lines.{lines_of}
+use Rattle.desk_text.specs.Reading.{sign_of, read_after}
+use Rattle.desk_text.proofs.reading.only_line_ends.Given as goal
+
+abbrev pub invariant-loop-line : goal.invariant-loop-line
+invariant-loop-line l = record {
+  small : l.number + length l.rest < 2 ^ 32;
+  same : read_after (map sign_of (lines_of l.rest)) l.number ≡ read_after (map sign_of (lines_of l.fn.text)) l.fn.number;
+}
+
+abbrev pub decreases-loop-line : goal.decreases-loop-line
+decreases-loop-line l = length l.rest

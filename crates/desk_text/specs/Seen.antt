@@ -1,0 +1,41 @@
+-- What the code holds, without where it lies in memory.
+use Rattle.std.specs.Prelude.{◌≡◌, ◌≤◌, ℕ, ◌+◌, Bool, List, [], ◌∷◌, length, map, reverse, Result, Ok, Err, Vec}
+use Rattle.std.specs.Borrow.{Bor}
+use Rattle.std.specs.declared.alloc.Global.{Global}
+use Rattle.desk_text.specs.declared.lines.Line.{Line}
+use Rattle.desk_text.specs.declared.lines.Line.TheVariants.{Opening, Closing, Start, Further, End, Strange}
+use Rattle.desk_text.specs.declared.fields.Field.{Field}
+use Rattle.desk_text.specs.declared.fields.Block.{Block}
+use Rattle.desk_text.specs.declared.faults.TextFault.{TextFault}
+use Rattle.desk_text.specs.declared.faults.TextFault.TheVariants.{NotBlock, BadLine, BadNesting, TooLong, Memory}
+use Rattle.desk_text.specs.Fields.{Found, IsBlock}
+use Rattle.desk_text.specs.BlockFault.{IsFault}
+use Rattle.desk_text.specs.Reading.{Sign, opens, closes, begins, further, ends, strange, Rest, nothing, read_from, read_after, after_found}
+
+abbrev pub texts : List (Bor (List ℕ)) → List (List ℕ)
+texts lines = map (λ line. line.now) lines
+
+abbrev pub sign_seen : Line → Sign
+sign_seen (Opening name) = opens name.now
+sign_seen (Closing name) = closes name.now
+sign_seen (Start tag first) = begins tag.now first.now
+sign_seen (Further line) = further line.now
+sign_seen End = ends
+sign_seen Strange = strange
+
+-- a field as the grammar sees it
+abbrev pub found_of : Field → Found
+found_of f = record { path = texts f.path.items; tag = f.tag.now; values = texts f.values.items; line = f.line }
+
+-- the fields of a block that was read
+abbrev pub found_in : Block → List Found
+found_in block = map found_of block.fields.items
+
+-- What reading a text gives: the fields of a block of at most 65,536 bytes, or the one fault. Of want of memory nothing is said.
+abbrev pub Reads : List ℕ → Result Block TextFault → Type 0
+Reads text (Ok block) = (length text ≤ 65536) × IsBlock text (found_in block)
+Reads text (Err NotBlock) = IsFault text NotBlock
+Reads text (Err (BadLine k)) = IsFault text (BadLine k)
+Reads text (Err (BadNesting k)) = IsFault text (BadNesting k)
+Reads text (Err TooLong) = IsFault text TooLong
+Reads text (Err Memory) = Unit {0}

@@ -1,0 +1,42 @@
+//! Why a text is no block.
+ghost use Rattle.std.specs.Prelude.{◌≡◌};
+ghost use Rattle.desk_text.specs.declared.faults.TextFault.TheVariants.{Memory};
+
+use std::alloc::{AllocError, AllocFailed};
+use thiserror::Error;
+
+/// Why a text isn't read. Lines are counted from 1.
+#[derive(Clone, Copy, Debug, PartialEq, Eq, Error)]
+pub enum TextFault {
+    /// The first line isn't `{4:`, or no `-}` came.
+    #[error("no block")]
+    NotBlock,
+    /// A line that stands in no block's place here.
+    #[error("line {0} is wrong")]
+    BadLine(usize),
+    /// A closing that doesn't fit, a seventeenth opening, or `-}` with a sequence open.
+    #[error("line {0} is nested wrongly")]
+    BadNesting(usize),
+    /// More than 65,536 bytes.
+    #[error("too long")]
+    TooLong,
+    /// A growth was refused.
+    #[error("out of memory")]
+    Memory,
+}
+
+impl From<AllocError> for TextFault {
+    ghost from_gives = { λ _ fault. fault ≡ Memory };
+
+    fn from(_error: AllocError) -> TextFault {
+        TextFault::Memory
+    }
+}
+
+impl<T: Drop> From<AllocFailed<T>> for TextFault {
+    ghost from_gives = { λ _ fault. fault ≡ Memory };
+
+    fn from(_error: AllocFailed<T>) -> TextFault {
+        TextFault::Memory
+    }
+}

@@ -1,0 +1,31 @@
+//! The fields of a block.
+ghost use Rattle.std.specs.Prelude.{◌≡◌};
+
+/// A field. Its parts are slices of the text that was read.
+#[derive(Debug, Drop)]
+pub struct Field<'a> {
+    /// The names of the sequences that it stands in, the outermost first.
+    pub path: Vec<&'a [u8]>,
+    /// Two digits, and at most one letter.
+    pub tag: &'a [u8],
+    /// The lines of its value, one at least.
+    pub values: Vec<&'a [u8]>,
+    /// The number of the line `:tag:`, counted from 1.
+    pub line: usize,
+}
+
+/// A block that was read.
+#[derive(Debug, Drop)]
+pub struct Block<'a> {
+    /// Its fields, in order.
+    pub fields: Vec<Field<'a>>,
+}
+
+impl<'a> Block<'a> {
+    /// Its fields, in order.
+    pub fn fields(&self) -> &[Field<'a>]
+        ensures { result.now ≡ self.now.fields.items }
+    {
+        &self.fields
+    }
+}

@@ -1,0 +1,25 @@
+//! Block 4 of ISO 15022 texts: bytes from strangers become fields or the first fault, and fields become bytes.
+//!
+//! `read_block` gives the fields of a text exactly where it is a block of at most 65,536 bytes, and else the one
+//! fault that the text has, with its line. `BlockWriter` writes the one canonical text of the parts it is given, and
+//! `reads_back` says that this text is a block of just these fields.
+//!
+//! Begin with specs/BlockGrammar.antt (the tree of a block and its lines), then Fields, BlockFault and Written; the
+//! laws above them are in `laws`.
+#![tactic(auto)]
+
+pub mod faults;
+pub mod fields;
+pub mod laws;
+pub mod lines;
+pub mod parts;
+pub mod reading;
+pub mod spelling;
+pub mod writing;
+
+pub use faults::TextFault;
+pub use fields::{Block, Field};
+pub use parts::{BlockPart, write_block};
+pub use reading::read_block;
+pub use spelling::{is_name, is_tag, is_value};
+pub use writing::BlockWriter;

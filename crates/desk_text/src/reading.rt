@@ -1,0 +1,158 @@
+//! Reading a block.
+ghost use Rattle.std.specs.Prelude.{◌≡◌, ◌+◌, ◌≤◌, ◌<◌, ◌^◌, [], ◌∷◌, OnOk, false, length, map};
+ghost use Rattle.desk_text.specs.Lines.{lines_of};
+ghost use Rattle.desk_text.specs.Reading.{sign_of, read_from, read_text, extend_last};
+ghost use Rattle.desk_text.specs.Seen.{Reads, found_of, sign_seen};
+ghost use Rattle.desk_text.specs.Steps.{Takes, After, Gives};
+
+use crate::faults::TextFault;
+use crate::fields::{Block, Field};
+use crate::lines::{Line, next_line, read_line};
+use std::alloc::{AllocError, Global};
+
+/// The most bytes of a block that is read.
+pub const LONGEST_TEXT: usize = 65_536;
+
+/// The most sequences that may be open.
+pub const DEEPEST: usize = 16;
+
+/// What was read so far, before `-}`.
+#[derive(Drop)]
+pub struct Reader<'a> {
+    /// The names of the open sequences, the outermost first.
+    names: Vec<&'a [u8]>,
+    fields: Vec<Field<'a>>,
+    /// Whether the last line belongs to a field, whose value may go on.
+    goes_on: bool,
+}
+
+/// Adds a line to the value of the last field.
+fn extend_value<'a>(fields: &mut Vec<Field<'a>>, line: &'a [u8]) -> Result<(), AllocError>
+    ensures { OnOk result (map found_of fields.new.items ≡ extend_last (map found_of fields.old.items) (line.entry.now ∷ [])) }
+{
+    let Some(mut field) = fields.pop() else {
+        return Ok(());
+    };
+    field.values.push(line)?;
+    fields.push(field)?;
+    Ok(())
+}
+
+impl<'a> Reader<'a> {
+    /// Takes one line, the one of that number. Answers whether it is `-}`, which ends the block.
+    fn take(&mut self, alloc: Global, line: Line<'a>, number: usize) -> Result<bool, TextFault>
+        ensures { Takes self.old (sign_seen line.entry) number result self.new }
+    {
+        match line {
+            Line::Opening(name) => {
+                if self.names.len() >= DEEPEST {
+                    return Err(TextFault::BadNesting(number));
+                }
+                self.names.push(name)?;
+                self.goes_on = false;
+                Ok(false)
+            }
+            Line::Closing(name) => match self.names.pop() {
+                Some(top) if top == name => {
+                    self.goes_on = false;
+                    Ok(false)
+                }
+                _ => Err(TextFault::BadNesting(number)),
+            },
+            Line::Start(tag, first) => {
+                let path = self.names.clone()?;
+                let values = Vec::from_slice(alloc, &[first])?;
+                self.fields.push(Field {
+                    path,
+                    tag,
+                    values,
+                    line: number,
+                })?;
+                self.goes_on = true;
+                Ok(false)
+            }
+            Line::Further(further) => {
+                if !self.goes_on {
+                    return Err(TextFault::BadLine(number));
+                }
+                extend_value(&mut self.fields, further)?;
+                Ok(false)
+            }
+            Line::End => {
+                if !self.names.is_empty() {
+                    return Err(TextFault::BadNesting(number));
+                }
+                Ok(true)
+            }
+            Line::Strange => Err(TextFault::BadLine(number)),
+        }
+    }
+}
+
+/// After `-}`, from the line of that number on, only line ends may come.
+fn only_line_ends(text: &[u8], number: usize) -> Result<(), TextFault>
+    requires { number + length text.now < 2 ^ 32 }
+    ensures { After text.now number result }
+{
+    let mut rest = text;
+    let mut number = number;
+    while let Some((line, after)) = next_line(rest) {
+        if !line.is_empty() {
+            return Err(TextFault::BadLine(number));
+        }
+        rest = after;
+        number += 1;
+    }
+    Ok(())
+}
+
+/// Reads the lines after the first.
+fn read_items<'a>(alloc: Global, text: &'a [u8]) -> Result<Block<'a>, TextFault>
+    requires { length text.now ≤ 65536 }
+    ensures { Gives result (read_from (map sign_of (lines_of text.now)) [] false 2) }
+{
+    let mut reader = Reader {
+        names: Vec::new(alloc),
+        fields: Vec::new(alloc),
+        goes_on: false,
+    };
+    let mut rest = text;
+    let mut number = 2usize;
+    while let Some((line, after)) = next_line(rest) {
+        let is_end = reader.take(alloc, read_line(line), number)?;
+        if is_end {
+            only_line_ends(after, number + 1)?;
+            return Ok(Block {
+                fields: reader.fields,
+            });
+        }
+        rest = after;
+        number += 1;
+    }
+    Err(TextFault::NotBlock)
+}
+
+/// Reads line by line.
+fn scan<'a>(alloc: Global, text: &'a [u8]) -> Result<Block<'a>, TextFault>
+    ensures { Gives result (read_text text.now) }
+{
+    if text.len() > LONGEST_TEXT {
+        return Err(TextFault::TooLong);
+    }
+    match next_line(text) {
+        Some((b"{4:", rest)) => read_items(alloc, rest),
+        _ => Err(TextFault::NotBlock),
+    }
+}
+
+/// The fields of a text that is a block, else its fault (ISO 15022, block 4).
+///
+/// Lines are counted from 1. NotBlock: the first line isn't `{4:`, or the text has no `-}`. BadLine: a byte outside
+/// 0x20 to 0x7E, a CR not before LF, or a line that is right under no open sequences, as anything after `-}`.
+/// BadNesting: a closing that doesn't fit, a seventeenth open sequence, `-}` with a sequence open. TooLong: more than
+/// 65,536 bytes; this goes before all others. Memory: a growth was refused.
+pub fn read_block<'a>(alloc: Global, text: &'a [u8]) -> Result<Block<'a>, TextFault>
+    ensures { Reads text.now result }
+{
+    scan(alloc, text)
+}
