@@ -15,3 +15,6 @@ pub use opposite::are_opposite;
 pub use pair::{Lack, Pair, Place, Settled};
 pub use same::same_entry;
 pub use verdict::{Refusal, Verdict};
+
+#[cfg(test)]
+mod tests;
