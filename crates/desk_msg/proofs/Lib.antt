@@ -6,3 +6,7 @@ pub mod LineLemmas
 pub mod DigitsLemmas
 pub mod PrintableLemmas
 pub mod AdviceLemmas
+pub mod SaidLaws
+pub mod ReadingLaws
+pub mod SameMessages
+pub mod MessageLaws

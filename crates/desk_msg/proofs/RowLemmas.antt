@@ -67,7 +67,7 @@ row_field fields row field q a only None res found e =
     subst R (sym e) (refl, record { field = field; only = only; none = λ z h. let said = says_text row field z q a h in found said.0 said.1 })
 
 -- of these forms no value says a text
-no_text : (form : Form) (begins : List ℕ) (field : Found) (text : List ℕ) → (form ≡ quantity_form) ⊎ (form ≡ amount_form) → SaysText form begins field text → ⊥
+pub no_text : (form : Form) (begins : List ℕ) (field : Found) (text : List ℕ) → (form ≡ quantity_form) ⊎ (form ≡ amount_form) → SaysText form begins field text → ⊥
 no_text form begins field text (inl e) h = let P : Form → Type 0 = λ f. SaysText f begins field text in subst P e h
 no_text form begins field text (inr e) h = let P : Form → Type 0 = λ f. SaysText f begins field text in subst P e h
 

@@ -8,3 +8,5 @@ pub mod Finding
 pub mod FieldsText
 pub mod AdviceParts
 pub mod Refused
+pub mod ConfirmationText
+pub mod Confirms

@@ -10,6 +10,7 @@ mod fault;
 mod find;
 mod function;
 mod instruction;
+mod laws;
 mod lines;
 mod mt;
 mod pieces;
@@ -21,6 +22,7 @@ mod value;
 
 pub use fault::{MsgFault, Word};
 pub use instruction::{CancelOrder, Cash, Instruction, Kind, Message, SettlementType};
+pub use laws::one_reading;
 pub use lines::fields_text;
 pub use mt::Mt;
 pub use reading::read_message;

@@ -3,14 +3,16 @@ ghost use Rattle.std.specs.Prelude.{◌≡◌, true};
 ghost use Rattle.desk_msg.specs.MessageType.{is_instruction};
 
 use crate::vectors::{
-    DELIVER_AGAINST_PAYMENT, RECEIVE_AGAINST_PAYMENT, SENT_MATCHED, STATUS_CANCELLED,
-    STATUS_MATCHED, STATUS_REFUSED, STATUS_UNMATCHED,
+    CHANGED_DELIVERIES, CHANGED_RECEIPTS, DELIVER_AGAINST_PAYMENT, OTHER_TEXTS,
+    RECEIVE_AGAINST_PAYMENT, SENT_MATCHED, STATUS_CANCELLED, STATUS_MATCHED, STATUS_REFUSED,
+    STATUS_UNMATCHED,
 };
 use crate::{
     Case, Mt, Own, ReadFault, Reason, fields_text, read_instruction_text, refusal_text, status_text,
 };
 use desk_codes::Reference;
 use std::alloc::{AllocError, Global};
+use std::process::Abort;
 use std::test::Fail;
 
 /// What a text is, as text: the fields of its message, or the refusal.
@@ -56,124 +58,29 @@ fn reads_worked_messages(rt: HostRuntime) -> Result<(), Fail> {
     Ok(())
 }
 
-/// Each word missing, twice, and with a bad value; and what is refused beside.
+/// A text with one change, and what is answered to it.
+fn check_change(rt: &impl Abort, alloc: Global, mt: Mt, base: &str, row: &str) -> Result<(), Fail>
+    requires { is_instruction mt ≡ true }
+{
+    let (from, rest) = row.split_once("|").ok_or("no change")?;
+    let (to, want) = rest.split_once("|").ok_or("no answer")?;
+    let from = from.replace(alloc, "~", "\n")?;
+    let to = to.replace(alloc, "~", "\n")?;
+    let text = base.replace(alloc, from.as_str(), &to)?;
+    let read = outcome(alloc, mt, &text)?;
+    let want = if want == "read" { DELIVERY } else { want };
+    assert_eq!(rt; read.as_slice(), want.as_bytes(), "at {row}");
+    Ok(())
+}
+
+/// Each word missing, twice, and with a bad value; and what is read all the same.
 #[test]
-fn refuses_changed_deliveries(rt: HostRuntime) -> Result<(), Fail> {
-    let alloc = rt.alloc();
-    for (from, to, want) in [
-        (":23G:NEWM\n", "", "refused 5 23G"),
-        (":23G:NEWM\n", ":23G:NEWM\n:23G:CANC\n", "refused 6 23G"),
-        (":23G:NEWM", ":23G:NEW", "refused 7 23G"),
-        (":23G:NEWM", ":23G:NEWM/", "refused 7 23G"),
-        (":23G:NEWM", ":23G:PREA", "refused 8"),
-        (":20C::SEME//A1\n", "", "refused 5 SEME"),
-        (
-            ":20C::SEME//A1\n",
-            ":20C::SEME//A1\n:20C::SEME/A1\n",
-            "refused 6 SEME",
-        ),
-        ("SEME//A1", "SEME//A1/", "refused 7 SEME"),
-        ("SEME//A1", "SEME/A1", "refused 7 SEME"),
-        ("SEME//A1", "SEME//A1\nB", "refused 7 SEME"),
-        (":98A::SETT//20240229\n", "", "refused 5 DATE"),
-        (
-            ":98A::SETT//20240229\n",
-            ":98A::SETT//20240229\n:98C::SETT//20240229101500\n",
-            "refused 6 DATE",
-        ),
-        ("SETT//20240229", "SETT//20240230", "refused 7 DATE"),
-        (
-            ":98A::SETT//20240229",
-            ":98A::SETT//20240229101500",
-            "refused 7 DATE",
-        ),
-        (
-            ":98A::SETT//20240229",
-            ":98C::SETT//20240229",
-            "refused 7 DATE",
-        ),
-        (
-            ":35B:ISIN DE0007164600\n",
-            ":35A:ISIN DE0007164600\n",
-            "refused 5 35B",
-        ),
-        (":16R:FIA\n", ":35B:\n:16R:FIA\n", "refused 6 35B"),
-        ("DE0007164600", "DE0007164601", "refused 7 35B"),
-        ("ISIN DE0007164600", "ISIN DE0007164600 ", "refused 7 35B"),
-        (":36B::SETT//UNIT/400,\n", "", "refused 5 36B"),
-        (
-            ":36B::SETT//UNIT/400,\n",
-            ":36B::SETT//UNIT/400,\n:36B::SETT//FAMT/1,\n",
-            "refused 6 36B",
-        ),
-        ("UNIT/400,", "AMOR/400,", "refused 7 36B"),
-        ("UNIT/400,", "UNIT/0,", "refused 7 36B"),
-        ("UNIT/400,", "UNIT/400,5", "refused 7 36B"),
-        ("UNIT/400,", "UNIT/999999999999999,", "refused 7 36B"),
-        (":97A::SAFE//A-1\n", ":97B::SAFE//A-1\n", "refused 5 SAFE"),
-        (
-            ":97A::SAFE//A-1\n",
-            ":97A::SAFE//A-1\n:97A::SAFE//A-2\n",
-            "refused 6 SAFE",
-        ),
-        ("SAFE//A-1", "SAFE//", "refused 7 SAFE"),
-        (":22F::SETR//TRAD\n", "", "refused 5 SETR"),
-        (
-            ":22F::SETR//TRAD\n",
-            ":22F::SETR//TRAD\n:22F::SETR/DTCC/TRAD\n",
-            "refused 6 SETR",
-        ),
-        ("SETR//TRAD", "SETR///TRAD", "refused 7 SETR"),
-        ("SETR//TRAD", "SETR/ABCDEFGHI/TRAD", "refused 7 SETR"),
-        (":95P::PSET//DESKDEFF\n", "", "refused 5 PSET"),
-        (
-            ":95P::PSET//DESKDEFF\n",
-            ":95P::PSET//DESKDEFF\n:95P::PSET//DESKDEFF\n",
-            "refused 6 PSET",
-        ),
-        ("PSET//DESKDEFF", "PSET//DESK1EFF", "refused 7 PSET"),
-        (
-            ":95P::REAG//BETADEFFXXX",
-            ":95R::REAG//BETADEFFXXX",
-            "refused 5 REAG",
-        ),
-        (
-            ":95P::REAG//BETADEFFXXX",
-            ":95P::DEAG//BETADEFFXXX",
-            "refused 5 REAG",
-        ),
-        (
-            ":95P::BUYR//BETADEFF",
-            ":95P::REAG//BETADEFF",
-            "refused 6 REAG",
-        ),
-        ("REAG//BETADEFFXXX", "REAG//BETADE", "refused 7 REAG"),
-        (":19A::SETT//EUR1000,50\n", "", "refused 5 19A"),
-        (
-            ":19A::SETT//EUR1000,50\n",
-            ":19A::SETT//EUR1000,50\n:19A::SETT//EUR1000,50\n",
-            "refused 6 19A",
-        ),
-        ("EUR1000,50", "JPY1000,50", "refused 7 19A"),
-        ("EUR1000,50", "XXX1,", "refused 7 19A"),
-        ("EUR1000,50", "NEUR1000,50", "refused 7 19A"),
-        ("EUR1000,50", "EUR1,005", "refused 7 19A"),
-        // the first word that fails is named
-        (":16R:GENL\n", ":16R:GENX\n", "refused 3 7"),
-        (":16R:SETDET\n", ":16R:SETDET\n:20C::SEME//A2\n", DELIVERY),
-        (":16R:GENL\n", ":20C::SEME//A2\n:16R:GENL\n", DELIVERY),
-        ("SETR//TRAD", "SETR/DTCYID/TRAD", DELIVERY),
-        (
-            ":98A::SETT//20240229",
-            ":98C::SETT//20240229999999",
-            DELIVERY,
-        ),
-        ("UNIT/400,", "UNIT/0400,00", DELIVERY),
-        (":98A::TRAD//20240227\n", ":20C::PREV//\n", DELIVERY),
-    ] {
-        let text = DELIVER_AGAINST_PAYMENT.replace(alloc, from, to)?;
-        let read = outcome(alloc, Mt::Mt543, &text)?;
-        assert_eq!(rt; read.as_slice(), want.as_bytes(), "at {from} for {to}");
+fn refuses_changed_messages(rt: HostRuntime) -> Result<(), Fail> {
+    for row in CHANGED_DELIVERIES.lines() {
+        check_change(&rt, rt.alloc(), Mt::Mt543, DELIVER_AGAINST_PAYMENT, row)?;
+    }
+    for row in CHANGED_RECEIPTS.lines() {
+        check_change(&rt, rt.alloc(), Mt::Mt541, RECEIVE_AGAINST_PAYMENT, row)?;
     }
     Ok(())
 }
@@ -181,43 +88,14 @@ fn refuses_changed_deliveries(rt: HostRuntime) -> Result<(), Fail> {
 #[test]
 fn refuses_worked_texts(rt: HostRuntime) -> Result<(), Fail> {
     let alloc = rt.alloc();
-    for (text, want) in [
-        ("", "refused 1"),
-        ("{4:\n", "refused 1"),
-        ("{4:\n:16R:GENL\n:16S:GENL\n", "refused 1"),
-        ("{4:\n:16R:SETDET\n:16S:FIAC\n-}\n", "refused 3 3"),
-        ("{4:\nabc\n-}\n", "refused 2 2"),
-        ("{4:\n-}\n", "refused 5 23G"),
-        (DELIVER_AGAINST_PAYMENT, "refused 5 DEAG"),
-        (
-            "{4:\n:16R:GENL\n:23G:CANC\n:20C::SEME//X1\n:16S:GENL\n-}\n",
-            "refused 5 PREV",
-        ),
-        (
-            "{4:\n:16R:GENL\n:23G:CANC\n:20C::SEME//X1\n:16R:LINK\n:20C::PREV//A1\n:20C::PREV//A1\n:16S:LINK\n:16S:GENL\n-}\n",
-            "refused 6 PREV",
-        ),
-        (
-            "{4:\n:16R:GENL\n:23G:CANC\n:20C::SEME//X1\n:16R:LINK\n:20C::PREV///A1\n:16S:LINK\n:16S:GENL\n-}\n",
-            "refused 7 PREV",
-        ),
-    ] {
-        let read = outcome(alloc, Mt::Mt540, text)?;
-        assert_eq!(rt; read.as_slice(), want.as_bytes(), "at {text}");
+    for row in OTHER_TEXTS.lines() {
+        let (text, want) = row.split_once("|").ok_or("no answer")?;
+        let text = text.replace(alloc, "~", "\n")?;
+        let read = outcome(alloc, Mt::Mt540, &text)?;
+        assert_eq!(rt; read.as_slice(), want.as_bytes(), "at {row}");
     }
-    for (from, to, want) in [
-        (":95P::DEAG//ALPHDEFF\n", "", "refused 5 DEAG"),
-        (
-            ":95P::DEAG//ALPHDEFF\n",
-            ":95P::DEAG//ALPHDEFF\n:95P::DEAG//ALPHDEFF\n",
-            "refused 6 DEAG",
-        ),
-        ("DEAG//ALPHDEFF", "DEAG//", "refused 7 DEAG"),
-    ] {
-        let text = RECEIVE_AGAINST_PAYMENT.replace(alloc, from, to)?;
-        let read = outcome(alloc, Mt::Mt541, &text)?;
-        assert_eq!(rt; read.as_slice(), want.as_bytes(), "at {from} for {to}");
-    }
+    let read = outcome(alloc, Mt::Mt540, DELIVER_AGAINST_PAYMENT)?;
+    assert_eq!(rt; read.as_slice(), b"refused 5 DEAG".as_slice());
     Ok(())
 }
 

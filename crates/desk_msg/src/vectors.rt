@@ -180,3 +180,80 @@ pub const STATUS_CANCELLED: &str = "\
 :16S:STAT\r\n\
 :16S:GENL\r\n\
 -}";
+
+/// Changes of the delivery against payment: what is changed, to what, and what is answered (`read`: the same
+/// fields). `~` stands for a line feed.
+pub const CHANGED_DELIVERIES: &str = "\
+:23G:NEWM~||refused 5 23G\n\
+:23G:NEWM~|:23G:NEWM~:23G:CANC~|refused 6 23G\n\
+:23G:NEWM|:23G:NEW|refused 7 23G\n\
+:23G:NEWM|:23G:NEWM/|refused 7 23G\n\
+:23G:NEWM|:23G:PREA|refused 8\n\
+:20C::SEME//A1~||refused 5 SEME\n\
+:20C::SEME//A1~|:20C::SEME//A1~:20C::SEME/A1~|refused 6 SEME\n\
+SEME//A1|SEME//A1/|refused 7 SEME\n\
+SEME//A1|SEME/A1|refused 7 SEME\n\
+SEME//A1|SEME//A1~B|refused 7 SEME\n\
+:98A::SETT//20240229~||refused 5 DATE\n\
+:98A::SETT//20240229~|:98A::SETT//20240229~:98C::SETT//20240229101500~|refused 6 DATE\n\
+SETT//20240229|SETT//20240230|refused 7 DATE\n\
+:98A::SETT//20240229|:98A::SETT//20240229101500|refused 7 DATE\n\
+:98A::SETT//20240229|:98C::SETT//20240229|refused 7 DATE\n\
+:35B:ISIN DE0007164600~|:35A:ISIN DE0007164600~|refused 5 35B\n\
+:16R:FIA~|:35B:~:16R:FIA~|refused 6 35B\n\
+DE0007164600|DE0007164601|refused 7 35B\n\
+ISIN DE0007164600|ISIN DE0007164600 |refused 7 35B\n\
+:36B::SETT//UNIT/400,~||refused 5 36B\n\
+:36B::SETT//UNIT/400,~|:36B::SETT//UNIT/400,~:36B::SETT//FAMT/1,~|refused 6 36B\n\
+UNIT/400,|AMOR/400,|refused 7 36B\n\
+UNIT/400,|UNIT/0,|refused 7 36B\n\
+UNIT/400,|UNIT/400,5|refused 7 36B\n\
+UNIT/400,|UNIT/999999999999999,|refused 7 36B\n\
+:97A::SAFE//A-1~|:97B::SAFE//A-1~|refused 5 SAFE\n\
+:97A::SAFE//A-1~|:97A::SAFE//A-1~:97A::SAFE//A-2~|refused 6 SAFE\n\
+SAFE//A-1|SAFE//|refused 7 SAFE\n\
+:22F::SETR//TRAD~||refused 5 SETR\n\
+:22F::SETR//TRAD~|:22F::SETR//TRAD~:22F::SETR/DTCC/TRAD~|refused 6 SETR\n\
+SETR//TRAD|SETR///TRAD|refused 7 SETR\n\
+SETR//TRAD|SETR/ABCDEFGHI/TRAD|refused 7 SETR\n\
+:95P::PSET//DESKDEFF~||refused 5 PSET\n\
+:95P::PSET//DESKDEFF~|:95P::PSET//DESKDEFF~:95P::PSET//DESKDEFF~|refused 6 PSET\n\
+PSET//DESKDEFF|PSET//DESK1EFF|refused 7 PSET\n\
+:95P::REAG//BETADEFFXXX|:95R::REAG//BETADEFFXXX|refused 5 REAG\n\
+:95P::REAG//BETADEFFXXX|:95P::DEAG//BETADEFFXXX|refused 5 REAG\n\
+:95P::BUYR//BETADEFF|:95P::REAG//BETADEFF|refused 6 REAG\n\
+REAG//BETADEFFXXX|REAG//BETADE|refused 7 REAG\n\
+:19A::SETT//EUR1000,50~||refused 5 19A\n\
+:19A::SETT//EUR1000,50~|:19A::SETT//EUR1000,50~:19A::SETT//EUR1000,50~|refused 6 19A\n\
+EUR1000,50|JPY1000,50|refused 7 19A\n\
+EUR1000,50|XXX1,|refused 7 19A\n\
+EUR1000,50|NEUR1000,50|refused 7 19A\n\
+EUR1000,50|EUR1,005|refused 7 19A\n\
+:16R:GENL~|:16R:GENX~|refused 3 6\n\
+:16R:SETDET~|:16R:SETDET~:20C::SEME//A2~|read\n\
+:16R:GENL~|:20C::SEME//A2~:16R:GENL~|read\n\
+SETR//TRAD|SETR/DTCYID/TRAD|read\n\
+:98A::SETT//20240229|:98C::SETT//20240229999999|read\n\
+UNIT/400,|UNIT/0400,00|read\n\
+:98A::TRAD//20240227~|:20C::PREV//~|read\n\
+";
+
+/// Changes of the receipt against payment.
+pub const CHANGED_RECEIPTS: &str = "\
+:95P::DEAG//ALPHDEFF~||refused 5 DEAG\n\
+:95P::DEAG//ALPHDEFF~|:95P::DEAG//ALPHDEFF~:95P::DEAG//ALPHDEFF~|refused 6 DEAG\n\
+DEAG//ALPHDEFF|DEAG//|refused 7 DEAG\n\
+";
+
+/// Texts of an MT540, and what is answered.
+pub const OTHER_TEXTS: &str = "\
+|refused 1\n\
+{4:~|refused 1\n\
+{4:~:16R:GENL~:16S:GENL~|refused 1\n\
+{4:~:16R:SETDET~:16S:FIAC~-}~|refused 3 3\n\
+{4:~abc~-}~|refused 2 2\n\
+{4:~-}~|refused 5 23G\n\
+{4:~:16R:GENL~:23G:CANC~:20C::SEME//X1~:16S:GENL~-}~|refused 5 PREV\n\
+{4:~:16R:GENL~:23G:CANC~:20C::SEME//X1~:16R:LINK~:20C::PREV//A1~:20C::PREV//A1~:16S:LINK~:16S:GENL~-}~|refused 6 PREV\n\
+{4:~:16R:GENL~:23G:CANC~:20C::SEME//X1~:16R:LINK~:20C::PREV///A1~:16S:LINK~:16S:GENL~-}~|refused 7 PREV\n\
+";

@@ -1,0 +1,72 @@
+-- What a confirmation says of a settlement.
+use Rattle.std.specs.Prelude.{◌≡◌, ◌≢◌, ◌⊎◌, ℕ, List, [], ◌∷◌, ◌++◌, codes, if◌then◌else◌, Option, Some, None, is_some, Result, Ok, Err}
+use Rattle.desk_codes.specs.declared.currency.Ccy.{Ccy}
+use Rattle.desk_text.specs.Fields.{Found}
+use Rattle.desk_msg.specs.declared.mt.Mt.{Mt}
+use Rattle.desk_msg.specs.declared.fault.Word.{Word}
+use Rattle.desk_msg.specs.declared.fault.Word.TheVariants.{Field23G, Seme, Prev, Date, Field35B, Field36B, Safe, Setr, Pset, Deag, Reag, Field19A, Rela, Eset}
+use Rattle.desk_msg.specs.declared.fault.MsgFault.{MsgFault}
+use Rattle.desk_msg.specs.declared.fault.MsgFault.TheVariants.{Missing, Repeated, BadValue, Function}
+use Rattle.desk_msg.specs.declared.instruction.Kind.{Kind}
+use Rattle.desk_msg.specs.MessageType.{is_against_payment}
+use Rattle.desk_msg.specs.Profile.{Row, row, within, within_two, reference_form, day_form, quantity_form, amount_form, function_row, security_row, safe_row, Said, text_said, quantity_said, amount_said, unsaid}
+use Rattle.desk_msg.specs.Reads.{Gives, Fails, FailsFirst, GiveAll}
+
+-- what was settled: the reference of the instruction, the day, the security and how much of it, the account, and the amount
+pub record Confirmed : Type 0 where
+  pub related : List ℕ
+  pub day : List ℕ
+  pub isin : List ℕ
+  pub kind : Kind
+  pub quantity : ℕ
+  pub account : List ℕ
+  pub cash : Option (Ccy × ℕ)
+
+abbrev pub rela_row : Row
+rela_row = row Rela (within_two (codes "GENL") (codes "LINK")) (codes "20C" ∷ []) (codes ":RELA/") reference_form
+
+abbrev pub eset_row : Row
+eset_row = row Eset (within (codes "TRADDET")) (codes "98A" ∷ []) (codes ":ESET/") day_form
+
+abbrev pub settled_row : Row
+settled_row = row Field36B (within (codes "FIAC")) (codes "36B" ∷ []) (codes ":ESTT/") quantity_form
+
+abbrev pub paid_row : Row
+paid_row = row Field19A (within_two (codes "SETDET") (codes "AMT")) (codes "19A" ∷ []) (codes ":ESTT/") amount_form
+
+-- The rows behind the function that a confirmation of a type has, in the order in which they are looked for.
+abbrev pub confirmation_rows : Mt → List Row
+confirmation_rows mt = rela_row ∷ eset_row ∷ security_row ∷ settled_row ∷ safe_row ∷ (if is_against_payment mt then paid_row ∷ [] else [])
+
+abbrev pub paid_said : Option (Ccy × ℕ) → Said
+paid_said None = unsaid
+paid_said (Some cash) = amount_said cash.0 cash.1
+
+-- what was settled has under each word
+abbrev pub confirmed : Confirmed → Word → Said
+confirmed c Field23G = text_said (codes "NEWM")
+confirmed c Rela = text_said c.related
+confirmed c Eset = text_said c.day
+confirmed c Field35B = text_said c.isin
+confirmed c Field36B = quantity_said c.kind c.quantity
+confirmed c Safe = text_said c.account
+confirmed c Field19A = paid_said c.cash
+confirmed c Seme = unsaid
+confirmed c Prev = unsaid
+confirmed c Date = unsaid
+confirmed c Setr = unsaid
+confirmed c Pset = unsaid
+confirmed c Deag = unsaid
+confirmed c Reag = unsaid
+
+-- how the function of a confirmation fails: as a row does, or it is another than NEWM
+abbrev pub FailsConfirming : List Found → MsgFault → Type 0
+FailsConfirming fields Function = (function : List ℕ) × Gives fields function_row (text_said function) × (function ≢ codes "NEWM")
+FailsConfirming fields (Missing word) = Fails fields function_row (Missing word)
+FailsConfirming fields (Repeated word) = Fails fields function_row (Repeated word)
+FailsConfirming fields (BadValue word) = Fails fields function_row (BadValue word)
+
+-- What fields of a confirmation's type say: what was settled, where each row has exactly one field whose value gives the part, and nothing is asked of other fields. Free of payment there is no amount. Else the fault is that of the first row that fails.
+abbrev pub Confirms : Mt → List Found → Result Confirmed MsgFault → Type 0
+Confirms mt fields (Ok c) = (is_some c.cash ≡ is_against_payment mt) × GiveAll fields (function_row ∷ confirmation_rows mt) (confirmed c)
+Confirms mt fields (Err fault) = FailsConfirming fields fault ⊎ (Gives fields function_row (text_said (codes "NEWM")) × FailsFirst fields (confirmation_rows mt) fault)
