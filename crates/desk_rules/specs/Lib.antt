@@ -7,3 +7,7 @@ pub mod Covered
 pub mod Settlement
 pub mod Verdict
 pub mod Laws
+pub mod Reply
+pub mod Sent
+pub mod Moves
+pub mod Content
