@@ -1,0 +1,15 @@
+pub mod Decided
+pub mod HistoryLemmas
+pub mod PairingLemmas
+pub mod SettlementLemmas
+pub mod SettlementGrowth
+pub mod SameContent
+pub mod Deciding
+pub mod Existence
+pub mod PairingLaws
+pub mod PlainLemmas
+pub mod ShortNumbers
+pub mod Accepted
+pub mod BalanceLemmas
+pub mod NonNegative
+pub mod Conservation

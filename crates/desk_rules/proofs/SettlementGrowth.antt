@@ -1,0 +1,299 @@
+-- How the settlement grows with a history: by runs alone, and in a run by the due pairs that are covered, in order.
+use Rattle.std.proofs.Common.{◌≡◌, ◌≢◌, ℕ, zero, suc, ◌+◌, ◌<◌, ◌≤◌, ◌↔◌, ◌⊎◌, inl, inr, Bool, true, false, not, ◌&&◌, ◌||◌, ◌==◌, nat_lt, nat_le, List, [], ◌∷◌, ◌++◌, Contains, AllPairs, filter, length, Option, Some, None, refl, sym, ◌∙◌, ap, subst, arith, append-nil, length-append}
+use Rattle.std.specs.Prelude.{option_and_then}
+use Rattle.std.proofs.lemmas.Bool.{cases_Bool, cases_lt, cases_eq, cases_order, ltb-true, lt-ltb, le-ltb, leb-true, eqb-true, eq-eqb, and_parts, and_from, or_cases, or_left, or_right, both_ways, false_from_ne_true}
+use Rattle.desk_codes.specs.Number.{number_of}
+use Rattle.desk_rules.specs.declared.entry.Entry.{Entry}
+use Rattle.desk_rules.specs.declared.pair.Pair.{Pair}
+use Rattle.desk_rules.specs.declared.pair.Settled.{Settled}
+use Rattle.desk_rules.specs.declared.pair.Place.{Place}
+use Rattle.desk_rules.specs.History.{Instructed, entry_at, before, instruction_at, run_day}
+use Rattle.desk_rules.specs.Pairing.{IsPairing}
+use Rattle.desk_rules.specs.Covered.{is_covered}
+use Rattle.desk_rules.specs.Settlement.{instructed_day, day_of, is_sooner, precedes, settled_before, is_by, stands, is_due, IsUnsettled, Settles, IsSettlement, is_above, IsOpen, IsNext}
+use Rattle.desk_rules.proofs.Decided.{In, In-from_Contains, Contains-from_In, In-left, In-right, In-cases, In-push_cases, In-filter, filter-In, filter-front, Ordered, Ordered-from_AllPairs, AllPairs-from_Ordered, IsStrict, IsTotalOn, Decided, one_list, grow_out, grow_in, Decided-same}
+use Rattle.desk_rules.proofs.HistoryLemmas.{entry_at-known, entry_at-front, entry_at-end, before-front, before-all, instruction_at-front}
+use Rattle.desk_rules.proofs.PairingLemmas.{pair_same, lower}
+use Rattle.desk_rules.proofs.SettlementLemmas.{sooner_true, sooner_day, sooner_number, precedes_true, precedes_run, precedes_pair, above_true, above_day, above_number, sooner_strict_never, sooner_through, precedes_strict, settled_same, DueFacts, due_facts, due_known, IsRanged, settles_ranged, decided_settlement, settlement_decided, one_number, sooner_total}
+
+-- What a history says of the numbers that it has, it says when it is longer.
+
+pub day_of-front : (h g : List Entry) (p : Pair) → p.later ≤ length h → day_of (h ++ g) p ≡ day_of h p
+day_of-front h g p le = ap (λ o. instructed_day o) (instruction_at-front h g p.later le)
+
+pub is_due-front : (h g : List Entry) (run : ℕ) (p : Pair) → run ≤ length h → p.later < run → is_due (h ++ g) run p ≡ is_due h run p
+is_due-front h g run p le lt = rw (entry_at-front h g run le, day_of-front h g p (omega arith), before-front h g run (omega arith)) refl
+
+pub is_sooner-front : (h g : List Entry) (p q : Pair) → p.later ≤ length h → q.later ≤ length h → is_sooner (h ++ g) p q ≡ is_sooner h p q
+is_sooner-front h g p q a b = rw (day_of-front h g p a, day_of-front h g q b) refl
+
+pub precedes-front : (h g : List Entry) (s t : Settled) → s.pair.later ≤ length h → t.pair.later ≤ length h → precedes (h ++ g) s t ≡ precedes h s t
+precedes-front h g s t a b = ap (λ v. nat_lt s.run t.run || (s.run == t.run && v)) (is_sooner-front h g s.pair t.pair a b)
+
+-- two lists have the same pairs up to a number
+abbrev pub SamePairsTo : ℕ → List Pair → List Pair → Type 0
+SamePairsTo n ps qs = (p : Pair) → p.later ≤ n → Contains ps p ↔ Contains qs p
+
+pub same_pairs_push : (n : ℕ) (ps : List Pair) (q : Pair) → n < q.later → SamePairsTo n ps (ps ++ q ∷ [])
+same_pairs_push n ps q lt p le = (
+  λ c. Contains-from_In (ps ++ q ∷ []) p (In-left ps (q ∷ []) p (In-from_Contains ps p c)),
+  λ c. elim (In-push_cases ps q p (In-from_Contains (ps ++ q ∷ []) p c)) [
+    | inl i ↦ Contains-from_In ps p i
+    | inr e ↦ let same : q.later ≡ p.later = ap (λ z. z.later) e in absurd (omega arith)
+  ],
+)
+
+pub settles_front : (h g : List Entry) (ps qs : List Pair) (settled : List Settled) (s : Settled) → SamePairsTo (length h) ps qs → IsRanged (length h) s → Settles h ps settled s ↔ Settles (h ++ g) qs settled s
+settles_front h g ps qs settled s same r =
+    let numbered : s.pair.later < s.run = r.numbered in
+    let known : s.run ≤ length h = r.run in
+    let due : is_due (h ++ g) s.run s.pair ≡ is_due h s.run s.pair = is_due-front h g s.run s.pair known numbered in
+    let front : before s.run (h ++ g) ≡ before s.run h = before-front h g s.run (omega arith) in (
+      λ c. record {
+        paired = (same s.pair (omega arith)).0 c.paired;
+        due = due ∙ c.due;
+        unsettled = c.unsettled;
+        covered = rw front c.covered;
+      },
+      λ c. record {
+        paired = (same s.pair (omega arith)).1 c.paired;
+        due = sym due ∙ c.due;
+        unsettled = c.unsettled;
+        covered = let e = c.covered in rw front at e;
+      },
+    )
+
+-- the settlement of a history, in the words of a longer one
+settled_in : (h g : List Entry) (ps qs : List Pair) (settled : List Settled) → SamePairsTo (length h) ps qs → IsSettlement h ps settled → Decided (precedes (h ++ g)) (IsRanged (length h)) (Settles (h ++ g) qs) settled
+settled_in h g ps qs settled same is = Decided-same (precedes h) (precedes (h ++ g)) (IsRanged (length h)) (Settles h ps) (Settles (h ++ g) qs) settled (decided_settlement h ps settled is)
+    (λ s t a b. let ra : s.run ≤ length h = a.run in let na : s.pair.later < s.run = a.numbered in let rb : t.run ≤ length h = b.run in let nb : t.pair.later < t.run = b.numbered in sym (precedes-front h g s t (omega arith) (omega arith)))
+    (λ front s r. settles_front h g ps qs front s same r)
+
+by_none : (f : Entry → Option ℕ) (o : Option Entry) (e : Entry) (day : ℕ) → o ≡ Some e → f e ≡ None → is_by (option_and_then f o) day ≡ true → ⊥
+by_none f o e day is none t = let P : Option Entry → Type 0 = λ z. is_by (option_and_then f z) day ≡ true in let Q : Option ℕ → Type 0 = λ z. is_by z day ≡ true in absurd (no_by day (subst Q none (subst P is t)))
+  where
+    no_by : (d : ℕ) → is_by None d ≡ true → ⊥
+    no_by d x = cc
+
+-- An entry that is no run settles nothing.
+pub settlement_alone : (h : List Entry) (e : Entry) (ps qs : List Pair) (settled : List Settled) → SamePairsTo (length h) ps qs → run_day e ≡ None → IsSettlement h ps settled → IsSettlement (h ++ e ∷ []) qs settled
+settlement_alone h e ps qs settled same no_run is =
+    let g = h ++ e ∷ [] in
+    let longer : length g ≡ length h + 1 = length-append h (e ∷ []) in
+    settlement_decided g qs settled (grow_out (precedes g) (precedes_strict g) (IsRanged (length h)) (IsRanged (length g)) (Settles g qs) (Settles g qs) settled
+        (settled_in h (e ∷ []) ps qs settled same is)
+        (λ s r. record { run = let k : s.run ≤ length h = r.run in omega arith; numbered = r.numbered })
+        (λ front s r. ((λ c. c), (λ c. c)))
+        (λ s r. elim (cases_lt s.run (length h + 1)) [
+          | inl lt ↦ inl (record { run = omega arith; numbered = r.numbered })
+          | inr ge ↦ inr (λ c.
+              let most : s.run ≤ length g = r.run in
+              let f = due_facts g s.run s.pair c.due in
+              by_none run_day (entry_at g s.run) e (day_of g s.pair) (entry_at-end h e s.run (omega arith)) no_run f.by)
+        ]))
+
+-- Within a run: what stands in the list so far, up to a place in the order of the run.
+
+-- runs below n, and of run n the pairs that are not above the place
+pub record IsReached (h : List Entry) (n : ℕ) (place : Option Place) (s : Settled) : Type 0 where
+  pub numbered : s.pair.later < s.run
+  pub reached : (s.run < n) ⊎ ((s.run ≡ n) × (is_above h place s.pair ≡ false))
+
+-- the settlement of a history whose last entry is the run n, as far as the place
+abbrev pub IsSettledTo : List Entry → List Pair → ℕ → Option Place → List Settled → Type 0
+IsSettledTo h ps n place settled = Decided (precedes h) (IsReached h n place) (Settles h ps) settled
+
+pub run_begins : (h : List Entry) (e : Entry) (ps : List Pair) (settled : List Settled) → IsSettlement h ps settled → IsSettledTo (h ++ e ∷ []) ps (length h + 1) None settled
+run_begins h e ps settled is =
+    let g = h ++ e ∷ [] in
+    grow_out (precedes g) (precedes_strict g) (IsRanged (length h)) (IsReached g (length h + 1) None) (Settles g ps) (Settles g ps) settled
+        (settled_in h (e ∷ []) ps ps settled (λ p le. ((λ c. c), (λ c. c))) is)
+        (λ s r. record { numbered = r.numbered; reached = inl (let k : s.run ≤ length h = r.run in omega arith) })
+        (λ front s r. ((λ c. c), (λ c. c)))
+        (λ s r. elim r.reached [
+          | inl lt ↦ inl (record { run = omega arith; numbered = r.numbered })
+          | inr both ↦ let never : true ≡ false = both.1 in absurd (cc)
+        ])
+
+-- in the list so far, what stands in the settlements before (n, p) of earlier runs is all that is there of them
+unsettled_before : (h : List Entry) (settled : List Settled) (n : ℕ) (p : Pair) → IsUnsettled (settled_before h (record { run = n; pair = p }) settled) n p → IsUnsettled settled n p
+unsettled_before h settled n p none s c lt =
+    let t : Settled = record { run = n; pair = p } in
+    let i = filter-In (λ x. precedes h x t) settled s (In-from_Contains settled s c) (precedes_run h s t lt) in
+    none s (Contains-from_In (settled_before h t settled) s i) lt
+
+-- a pair that isn't above a place is sooner than one that is
+pub below_above : (h : List Entry) (place : Option Place) (p q : Pair) → is_above h place p ≡ false → is_above h place q ≡ true → is_sooner h p q ≡ true
+below_above h None p q low high = absurd (cc)
+below_above h (Some place) p q low high =
+    let not_day : place.day < day_of h p → ⊥ = λ lt. both_ways _ low (above_day h place p lt) in
+    let not_number : place.day ≡ day_of h p → place.number < p.later → ⊥ = λ same lt. both_ways _ low (above_number h place p same lt) in
+    elim (above_true h place q high) [
+      | inl day ↦ elim (cases_lt (place.day) (day_of h p)) [ inl lt ↦ absurd (not_day lt) | inr ge ↦ sooner_day h p q (omega arith) ]
+      | inr both ↦
+          let same : place.day ≡ day_of h q = both.0 in
+          let less : place.number < q.later = both.1 in
+          elim (cases_lt (place.day) (day_of h p)) [
+            | inl lt ↦ absurd (not_day lt)
+            | inr ge ↦ elim (cases_lt (day_of h p) (place.day)) [
+                | inl lt ↦ sooner_day h p q (omega arith)
+                | inr le ↦ elim (cases_lt place.number p.later) [
+                    | inl lt ↦ absurd (not_number (omega arith) lt)
+                    | inr number ↦ sooner_number h p q (omega arith) (omega arith)
+                  ]
+              ]
+          ]
+    ]
+
+-- the place of a pair
+pub record IsPlaceOf (h : List Entry) (place : Place) (p : Pair) : Type 0 where
+  pub day : place.day ≡ day_of h p
+  pub number : place.number ≡ p.later
+
+-- what isn't above the place of q comes before q, or has its day and number
+pub at_place : (h : List Entry) (place : Place) (p q : Pair) → IsPlaceOf h place q → is_above h (Some place) p ≡ false → (is_sooner h p q ≡ true) ⊎ (p.later ≡ q.later)
+at_place h place p q is low =
+    let day : place.day ≡ day_of h q = is.day in
+    let number : place.number ≡ q.later = is.number in
+    let not_day : place.day < day_of h p → ⊥ = λ lt. both_ways _ low (above_day h place p lt) in
+    let not_number : place.day ≡ day_of h p → place.number < p.later → ⊥ = λ same lt. both_ways _ low (above_number h place p same lt) in
+    elim (cases_order (day_of h p) (day_of h q)) [
+      | inl same ↦ elim (cases_order p.later q.later) [
+          | inl e ↦ inr e
+          | inr o ↦ elim o [ inl less ↦ inl (sooner_number h p q same less) | inr more ↦ absurd (not_number (omega arith) (omega arith)) ]
+        ]
+      | inr o ↦ elim o [ inl less ↦ inl (sooner_day h p q less) | inr more ↦ absurd (not_day (omega arith)) ]
+    ]
+
+-- q itself, and what is sooner, isn't above its place
+pub own_place : (h : List Entry) (place : Place) (q : Pair) → IsPlaceOf h place q → is_above h (Some place) q ≡ false
+own_place h place q is =
+    let day : place.day ≡ day_of h q = is.day in
+    let number : place.number ≡ q.later = is.number in
+    false_from_ne_true (is_above h (Some place) q) (λ e. elim (above_true h place q e) [ inl lt ↦ omega arith | inr both ↦ (let lt : place.number < q.later = both.1 in omega arith) ])
+
+pub sooner_place : (h : List Entry) (place : Place) (p q : Pair) → IsPlaceOf h place q → is_sooner h p q ≡ true → is_above h (Some place) p ≡ false
+sooner_place h place p q is less =
+    let day : place.day ≡ day_of h q = is.day in
+    let number : place.number ≡ q.later = is.number in
+    false_from_ne_true (is_above h (Some place) p) (λ e. elim (sooner_true h p q less) [
+      | inl l ↦ elim (above_true h place p e) [ inl lt ↦ omega arith | inr both ↦ (let same : place.day ≡ day_of h p = both.0 in omega arith) ]
+      | inr l ↦
+          let same : day_of h p ≡ day_of h q = l.0 in
+          let lower : p.later < q.later = l.1 in
+          elim (above_true h place p e) [ inl lt ↦ omega arith | inr both ↦ (let lt : place.number < p.later = both.1 in omega arith) ]
+    ])
+
+-- what may still settle at the run, in any list that goes on from this one, is open
+still_open : (h : List Entry) (ps : List Pair) (settled more : List Settled) (n : ℕ) (place : Option Place) (s : Settled) → s.run ≡ n → is_above h place s.pair ≡ true
+    → Settles h ps (settled_before h s (settled ++ more)) s → IsOpen h ps settled n place s.pair
+still_open h ps settled more n place s same high c = record {
+  paired = c.paired;
+  due = let P : ℕ → Type 0 = λ k. is_due h k s.pair ≡ true in subst P same c.due;
+  unsettled = λ t inside lt.
+      let there = filter-In (λ x. precedes h x s) (settled ++ more) t (In-left settled more t (In-from_Contains settled t inside)) (precedes_run h t s (omega arith)) in
+      c.unsettled t (Contains-from_In (settled_before h s (settled ++ more)) t there) (omega arith);
+  above = high;
+}
+
+-- between a place and that of the next pair nothing but that pair may settle
+nothing_between : (h : List Entry) (ps : List Pair) (settled more : List Settled) (n : ℕ) (place : Option Place) (q : Pair) (next : Place) (s : Settled)
+    → Ordered lower ps → IsNext h ps settled n place q → IsPlaceOf h next q → s.run ≡ n → is_above h place s.pair ≡ true → is_above h (Some next) s.pair ≡ false
+    → Settles h ps (settled_before h s (settled ++ more)) s → s.pair ≡ q
+nothing_between h ps settled more n place q next s o is at same high low c =
+    elim (at_place h next s.pair q at low) [
+      | inl less ↦ absurd (both_ways _ (is.least s.pair (still_open h ps settled more n place s same high c)) less)
+      | inr number ↦ one_number ps o s.pair q (In-from_Contains ps s.pair c.paired) (In-from_Contains ps q is.is_open.paired) number
+    ]
+
+-- all that stands in the list comes before the next pair
+before_next : (h : List Entry) (ps : List Pair) (settled : List Settled) (n : ℕ) (place : Option Place) (q : Pair) → IsNext h ps settled n place q → (s : Settled) → IsReached h n place s → precedes h s (record { run = n; pair = q }) ≡ true
+before_next h ps settled n place q is s r = elim r.reached [
+  | inl lt ↦ precedes_run h s (record { run = n; pair = q }) lt
+  | inr both ↦ precedes_pair h s (record { run = n; pair = q }) both.0 (below_above h place s.pair q both.1 is.is_open.above)
+]
+
+reached_further : (h : List Entry) (ps : List Pair) (settled : List Settled) (n : ℕ) (place : Option Place) (q : Pair) (next : Place) → IsNext h ps settled n place q → IsPlaceOf h next q → (s : Settled) → IsReached h n place s → IsReached h n (Some next) s
+reached_further h ps settled n place q next is at s r = record {
+  numbered = r.numbered;
+  reached = elim r.reached [
+    | inl lt ↦ inl lt
+    | inr both ↦ inr (both.0, sooner_place h next s.pair q at (below_above h place s.pair q both.1 is.is_open.above))
+  ];
+}
+
+-- The next pair is covered, and settles.
+pub run_settles : (h : List Entry) (ps : List Pair) (settled : List Settled) (n : ℕ) (place : Option Place) (q : Pair) (next : Place)
+    → Ordered lower ps → IsSettledTo h ps n place settled → IsNext h ps settled n place q → IsPlaceOf h next q
+    → is_covered (before n h) settled q ≡ true
+    → IsSettledTo h ps n (Some next) (settled ++ record { run = n; pair = q } ∷ [])
+run_settles h ps settled n place q next o d is at covered =
+    let new : Settled = record { run = n; pair = q } in
+    let facts = due_facts h n q is.is_open.due in
+    grow_in (precedes h) (precedes_strict h) (IsReached h n place) (IsReached h n (Some next)) (Settles h ps) (Settles h ps) settled new d
+        (reached_further h ps settled n place q next is at)
+        (record { numbered = facts.numbered; reached = inr (refl, own_place h next q at) })
+        (λ front s r. ((λ c. c), (λ c. c)))
+        (before_next h ps settled n place q is)
+        (record { paired = is.is_open.paired; due = is.is_open.due; unsettled = is.is_open.unsettled; covered = covered })
+        (λ s r. elim r.reached [
+          | inl lt ↦ inl (record { numbered = r.numbered; reached = inl lt })
+          | inr both ↦ elim (cases_Bool (is_above h place s.pair)) [
+              | inr low ↦ inl (record { numbered = r.numbered; reached = inr (both.0, low) })
+              | inl high ↦ inr (elim (cases_eq q.earlier s.pair.earlier) [
+                  | inr differs ↦ inr (λ c. differs (ap (λ p. p.earlier) (sym (nothing_between h ps settled (new ∷ []) n place q next s o is at both.0 high both.1 c))))
+                  | inl earlier ↦ elim (cases_eq q.later s.pair.later) [
+                      | inr differs ↦ inr (λ c. differs (ap (λ p. p.later) (sym (nothing_between h ps settled (new ∷ []) n place q next s o is at both.0 high both.1 c))))
+                      | inl later ↦ inl (settled_same new s (sym both.0) (pair_same q s.pair earlier later))
+                    ]
+                ])
+            ]
+        ])
+
+-- The next pair is not covered, and stays.
+pub run_leaves : (h : List Entry) (ps : List Pair) (settled : List Settled) (n : ℕ) (place : Option Place) (q : Pair) (next : Place)
+    → Ordered lower ps → IsSettledTo h ps n place settled → IsNext h ps settled n place q → IsPlaceOf h next q
+    → is_covered (before n h) settled q ≡ false
+    → IsSettledTo h ps n (Some next) settled
+run_leaves h ps settled n place q next o d is at short =
+    let new : Settled = record { run = n; pair = q } in
+    grow_out (precedes h) (precedes_strict h) (IsReached h n place) (IsReached h n (Some next)) (Settles h ps) (Settles h ps) settled d
+        (reached_further h ps settled n place q next is at)
+        (λ front s r. ((λ c. c), (λ c. c)))
+        (λ s r. elim r.reached [
+          | inl lt ↦ inl (record { numbered = r.numbered; reached = inl lt })
+          | inr both ↦ elim (cases_Bool (is_above h place s.pair)) [
+              | inr low ↦ inl (record { numbered = r.numbered; reached = inr (both.0, low) })
+              | inl high ↦ inr (λ c.
+                  let P : List Settled → Type 0 = λ z. Settles h ps (settled_before h s z) s in
+                  let same : s.pair ≡ q = nothing_between h ps settled [] n place q next s o is at both.0 high both.1 (subst P (sym (append-nil settled)) c) in
+                  let this : s ≡ new = settled_same s new both.0 same in
+                  let Q : Settled → Type 0 = λ z. Settles h ps (settled_before h z settled) z in
+                  let all : settled_before h new settled ≡ settled =
+                      sym (ap (λ z. settled_before h new z) (append-nil settled)) ∙ filter-front (λ x. precedes h x new) settled [] (λ x i. before_next h ps settled n place q is x (d.within x i)) (λ x i. absurd i) in
+                  let R : List Settled → Type 0 = λ z. Settles h ps z new in
+                  let settles : Settles h ps settled new = subst R all (subst Q this c) in
+                  both_ways _ short settles.covered)
+            ]
+        ])
+
+-- No pair is left to take: the settlement is whole.
+pub run_ends : (h : List Entry) (ps : List Pair) (settled : List Settled) (n : ℕ) (place : Option Place)
+    → n ≡ length h → IsSettledTo h ps n place settled → ((p : Pair) → IsOpen h ps settled n place p → ⊥)
+    → IsSettlement h ps settled
+run_ends h ps settled n place last d none =
+    settlement_decided h ps settled (grow_out (precedes h) (precedes_strict h) (IsReached h n place) (IsRanged (length h)) (Settles h ps) (Settles h ps) settled d
+        (λ s r. record { run = elim r.reached [ inl lt ↦ omega arith | inr both ↦ (let e : s.run ≡ n = both.0 in omega arith) ]; numbered = r.numbered })
+        (λ front s r. ((λ c. c), (λ c. c)))
+        (λ s r. elim (cases_lt s.run n) [
+          | inl lt ↦ inl (record { numbered = r.numbered; reached = inl lt })
+          | inr ge ↦
+              let most : s.run ≤ length h = r.run in
+              let same : s.run ≡ n = omega arith in
+              elim (cases_Bool (is_above h place s.pair)) [
+                | inr low ↦ inl (record { numbered = r.numbered; reached = inr (same, low) })
+                | inl high ↦ inr (λ c.
+                    let P : List Settled → Type 0 = λ z. Settles h ps (settled_before h s z) s in
+                    none s.pair (still_open h ps settled [] n place s same high (subst P (sym (append-nil settled)) c)))
+              ]
+        ]))

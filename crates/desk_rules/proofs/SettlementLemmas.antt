@@ -1,0 +1,168 @@
+-- A history has one settlement. It grows by runs alone, and a run takes the due pairs in order.
+use Rattle.std.proofs.Common.{◌≡◌, ◌≢◌, ℕ, zero, suc, ◌+◌, ◌<◌, ◌≤◌, ◌↔◌, ◌⊎◌, inl, inr, Bool, true, false, not, ◌&&◌, ◌||◌, ◌==◌, nat_lt, nat_le, List, [], ◌∷◌, ◌++◌, Contains, AllPairs, filter, length, Option, Some, None, refl, sym, ◌∙◌, ap, subst, arith, append-nil, length-append}
+use Rattle.std.specs.Prelude.{option_and_then}
+use Rattle.std.proofs.lemmas.Bool.{cases_Bool, cases_lt, cases_eq, cases_order, ltb-true, lt-ltb, le-ltb, leb-true, eqb-true, eq-eqb, and_parts, and_from, or_cases, or_left, or_right, both_ways, false_from_ne_true}
+use Rattle.desk_codes.specs.Number.{number_of}
+use Rattle.desk_rules.specs.declared.entry.Entry.{Entry}
+use Rattle.desk_rules.specs.declared.pair.Pair.{Pair}
+use Rattle.desk_rules.specs.declared.pair.Settled.{Settled}
+use Rattle.desk_rules.specs.declared.pair.Place.{Place}
+use Rattle.desk_rules.specs.History.{Instructed, entry_at, before, instruction_at, run_day}
+use Rattle.desk_rules.specs.Pairing.{IsPairing}
+use Rattle.desk_rules.specs.Covered.{is_covered}
+use Rattle.desk_rules.specs.Settlement.{instructed_day, day_of, is_sooner, precedes, settled_before, is_by, stands, is_due, IsUnsettled, Settles, IsSettlement, is_above, IsOpen, IsNext}
+use Rattle.desk_rules.proofs.Decided.{In, In-from_Contains, Contains-from_In, In-left, In-push_cases, In-filter, filter-In, filter-front, Ordered, Ordered-from_AllPairs, AllPairs-from_Ordered, IsStrict, IsTotalOn, Decided, one_list, grow_out, grow_in, Decided-same}
+use Rattle.desk_rules.proofs.HistoryLemmas.{entry_at-known, entry_at-front, entry_at-end, before-front, instruction_at-front}
+use Rattle.desk_rules.proofs.PairingLemmas.{pair_same, lower}
+
+-- The order, in words of numbers.
+
+pub sooner_true : (h : List Entry) (p q : Pair) → is_sooner h p q ≡ true → (day_of h p < day_of h q) ⊎ ((day_of h p ≡ day_of h q) × (p.later < q.later))
+sooner_true h p q e = elim (or_cases (nat_lt (day_of h p) (day_of h q)) (day_of h p == day_of h q && nat_lt p.later q.later) e) [
+  | inl lt ↦ inl (ltb-true (day_of h p) (day_of h q) lt)
+  | inr both ↦ let parts = and_parts (day_of h p == day_of h q) (nat_lt p.later q.later) both in inr (eqb-true (day_of h p) (day_of h q) parts.0, ltb-true p.later q.later parts.1)
+]
+
+pub sooner_day : (h : List Entry) (p q : Pair) → day_of h p < day_of h q → is_sooner h p q ≡ true
+sooner_day h p q lt = or_left (nat_lt (day_of h p) (day_of h q)) _ (lt-ltb (day_of h p) (day_of h q) lt)
+
+pub sooner_number : (h : List Entry) (p q : Pair) → day_of h p ≡ day_of h q → p.later < q.later → is_sooner h p q ≡ true
+sooner_number h p q same lt = or_right (nat_lt (day_of h p) (day_of h q)) _ (and_from _ _ (eq-eqb (day_of h p) (day_of h q) same) (lt-ltb p.later q.later lt))
+
+pub precedes_true : (h : List Entry) (s t : Settled) → precedes h s t ≡ true → (s.run < t.run) ⊎ ((s.run ≡ t.run) × (is_sooner h s.pair t.pair ≡ true))
+precedes_true h s t e = elim (or_cases (nat_lt s.run t.run) (s.run == t.run && is_sooner h s.pair t.pair) e) [
+  | inl lt ↦ inl (ltb-true s.run t.run lt)
+  | inr both ↦ let parts = and_parts (s.run == t.run) (is_sooner h s.pair t.pair) both in inr (eqb-true s.run t.run parts.0, parts.1)
+]
+
+pub precedes_run : (h : List Entry) (s t : Settled) → s.run < t.run → precedes h s t ≡ true
+precedes_run h s t lt = or_left (nat_lt s.run t.run) _ (lt-ltb s.run t.run lt)
+
+pub precedes_pair : (h : List Entry) (s t : Settled) → s.run ≡ t.run → is_sooner h s.pair t.pair ≡ true → precedes h s t ≡ true
+precedes_pair h s t same e = or_right (nat_lt s.run t.run) _ (and_from _ _ (eq-eqb s.run t.run same) e)
+
+pub above_true : (h : List Entry) (place : Place) (p : Pair) → is_above h (Some place) p ≡ true → (place.day < day_of h p) ⊎ ((place.day ≡ day_of h p) × (place.number < p.later))
+above_true h place p e = elim (or_cases (nat_lt (place.day) (day_of h p)) (place.day == day_of h p && nat_lt place.number p.later) e) [
+  | inl lt ↦ inl (ltb-true _ _ lt)
+  | inr both ↦ let parts = and_parts (place.day == day_of h p) (nat_lt place.number p.later) both in inr (eqb-true _ _ parts.0, ltb-true _ _ parts.1)
+]
+
+pub above_day : (h : List Entry) (place : Place) (p : Pair) → place.day < day_of h p → is_above h (Some place) p ≡ true
+above_day h place p lt = or_left (nat_lt (place.day) (day_of h p)) _ (lt-ltb _ _ lt)
+
+pub above_number : (h : List Entry) (place : Place) (p : Pair) → place.day ≡ day_of h p → place.number < p.later → is_above h (Some place) p ≡ true
+above_number h place p same lt = or_right (nat_lt (place.day) (day_of h p)) _ (and_from _ _ (eq-eqb _ _ same) (lt-ltb _ _ lt))
+
+pub sooner_strict_never : (h : List Entry) (p : Pair) → is_sooner h p p ≡ true → ⊥
+sooner_strict_never h p e = elim (sooner_true h p p e) [ inl lt ↦ omega arith | inr both ↦ (let l : p.later < p.later = both.1 in omega arith) ]
+
+pub sooner_through : (h : List Entry) (p q r : Pair) → is_sooner h p q ≡ true → is_sooner h q r ≡ true → is_sooner h p r ≡ true
+sooner_through h p q r e f = elim (sooner_true h p q e) [
+  | inl a ↦ elim (sooner_true h q r f) [ inl b ↦ sooner_day h p r (omega arith) | inr b ↦ sooner_day h p r (let same : day_of h q ≡ day_of h r = b.0 in omega arith) ]
+  | inr a ↦
+      let same : day_of h p ≡ day_of h q = a.0 in
+      let less : p.later < q.later = a.1 in
+      elim (sooner_true h q r f) [
+        | inl b ↦ sooner_day h p r (omega arith)
+        | inr b ↦ (let as_well : day_of h q ≡ day_of h r = b.0 in let more : q.later < r.later = b.1 in sooner_number h p r (omega arith) (omega arith))
+      ]
+]
+
+pub precedes_strict : (h : List Entry) → IsStrict (precedes h)
+precedes_strict h = record {
+  never = λ s e. elim (precedes_true h s s e) [ inl lt ↦ omega arith | inr both ↦ sooner_strict_never h s.pair both.1 ];
+  through = λ s t u e f. elim (precedes_true h s t e) [
+    | inl a ↦ elim (precedes_true h t u f) [ inl b ↦ precedes_run h s u (omega arith) | inr b ↦ precedes_run h s u (let same : t.run ≡ u.run = b.0 in omega arith) ]
+    | inr a ↦
+        let same : s.run ≡ t.run = a.0 in
+        elim (precedes_true h t u f) [
+          | inl b ↦ precedes_run h s u (omega arith)
+          | inr b ↦ precedes_pair h s u (same ∙ b.0) (sooner_through h s.pair t.pair u.pair a.1 b.1)
+        ]
+  ];
+}
+
+pub settled_same : (s t : Settled) → s.run ≡ t.run → s.pair ≡ t.pair → s ≡ t
+settled_same s t a b = let f : ℕ → Pair → Settled = λ n p. record { run = n; pair = p } in ap (λ n. f n s.pair) a ∙ ap (λ p. f t.run p) b
+
+-- What is due.
+
+pub record DueFacts (h : List Entry) (run : ℕ) (p : Pair) : Type 0 where
+  pub by : is_by (option_and_then run_day (entry_at h run)) (day_of h p) ≡ true
+  pub numbered : p.later < run
+  pub stands : stands (before run h) p ≡ true
+
+pub due_facts : (h : List Entry) (run : ℕ) (p : Pair) → is_due h run p ≡ true → DueFacts h run p
+due_facts h run p e =
+    let day = is_by (option_and_then run_day (entry_at h run)) (day_of h p) in
+    let outer = and_parts (day && nat_lt p.later run) (stands (before run h) p) e in
+    let inner = and_parts day (nat_lt p.later run) outer.0 in
+    record { by = inner.0; numbered = ltb-true p.later run inner.1; stands = outer.1 }
+
+by_some : (f : Entry → Option ℕ) (o : Option Entry) (day : ℕ) → is_by (option_and_then f o) day ≡ true → (e : Entry) × (o ≡ Some e)
+by_some f None day e = absurd (cc)
+by_some f (Some x) day e = (x, refl)
+
+pub due_known : (h : List Entry) (run : ℕ) (p : Pair) → is_due h run p ≡ true → run ≤ length h
+due_known h run p e = let f = due_facts h run p e in let s = by_some run_day (entry_at h run) (day_of h p) f.by in let k = entry_at-known h run s.0 s.1 in k.1
+
+-- the runs of a history, and the pairs numbered below them
+pub record IsRanged (n : ℕ) (s : Settled) : Type 0 where
+  pub run : s.run ≤ n
+  pub numbered : s.pair.later < s.run
+
+pub settles_ranged : (h : List Entry) (ps : List Pair) (settled : List Settled) (s : Settled) → Settles h ps settled s → IsRanged (length h) s
+settles_ranged h ps settled s is = let f = due_facts h s.run s.pair is.due in record { run = due_known h s.run s.pair is.due; numbered = f.numbered }
+
+pub decided_settlement : (h : List Entry) (ps : List Pair) (settled : List Settled) → IsSettlement h ps settled → Decided (precedes h) (IsRanged (length h)) (Settles h ps) settled
+decided_settlement h ps settled is = record {
+  exact = λ s b. (
+    λ i. (is.exact s).0 (Contains-from_In settled s i),
+    λ c. In-from_Contains settled s ((is.exact s).1 c),
+  );
+  within = λ s i. settles_ranged h ps (settled_before h s settled) s ((is.exact s).0 (Contains-from_In settled s i));
+  order = Ordered-from_AllPairs (precedes h) settled is.in_order;
+}
+
+pub settlement_decided : (h : List Entry) (ps : List Pair) (settled : List Settled) → Decided (precedes h) (IsRanged (length h)) (Settles h ps) settled → IsSettlement h ps settled
+settlement_decided h ps settled d = record {
+  exact = λ s. (
+    λ c. let i = In-from_Contains settled s c in (d.exact s (d.within s i)).0 i,
+    λ m. Contains-from_In settled s ((d.exact s (settles_ranged h ps (settled_before h s settled) s m)).1 m),
+  );
+  in_order = AllPairs-from_Ordered (precedes h) settled d.order;
+}
+
+-- Pairs of one number are one.
+
+pub one_number : (ps : List Pair) → Ordered lower ps → (p q : Pair) → In ps p → In ps q → p.later ≡ q.later → p ≡ q
+one_number [] o p q i j same = absurd i
+one_number (x ∷ ps) o p q (inl e) (inl f) same = sym e ∙ f
+one_number (x ∷ ps) o p q (inl e) (inr j) same = let lt = ltb-true x.later q.later (o.0 q j) in let also = ap (λ z. z.later) e in absurd (omega arith)
+one_number (x ∷ ps) o p q (inr i) (inl f) same = let lt = ltb-true x.later p.later (o.0 p i) in let also = ap (λ z. z.later) f in absurd (omega arith)
+one_number (x ∷ ps) o p q (inr i) (inr j) same = one_number ps o.1 p q i j same
+
+pub ordered_pairs : (h : List Entry) (ps : List Pair) → IsPairing h ps → Ordered lower ps
+ordered_pairs h ps is = Ordered-from_AllPairs lower ps (λ i j d a b. lt-ltb _ _ (is.rising i j d a b))
+
+-- two pairs are in order, or are one
+pub sooner_total : (h : List Entry) (ps : List Pair) → Ordered lower ps → (p q : Pair) → In ps p → In ps q → (is_sooner h p q ≡ true) ⊎ ((p ≡ q) ⊎ (is_sooner h q p ≡ true))
+sooner_total h ps o p q i j = elim (cases_order (day_of h p) (day_of h q)) [
+  | inl same ↦ elim (cases_order p.later q.later) [
+      | inl number ↦ inr (inl (one_number ps o p q i j number))
+      | inr n ↦ elim n [ inl less ↦ inl (sooner_number h p q same less) | inr more ↦ inr (inr (sooner_number h q p (sym same) more)) ]
+    ]
+  | inr d ↦ elim d [ inl less ↦ inl (sooner_day h p q less) | inr more ↦ inr (inr (sooner_day h q p more)) ]
+]
+
+settles_total : (h : List Entry) (ps : List Pair) → Ordered lower ps → IsTotalOn (precedes h) (Settles h ps)
+settles_total h ps o front s t a b = elim (cases_order s.run t.run) [
+  | inl same ↦ elim (sooner_total h ps o s.pair t.pair (In-from_Contains ps s.pair a.paired) (In-from_Contains ps t.pair b.paired)) [
+      | inl less ↦ inl (precedes_pair h s t same less)
+      | inr n ↦ elim n [ inl e ↦ inr (inl (settled_same s t same e)) | inr more ↦ inr (inr (precedes_pair h t s (sym same) more)) ]
+    ]
+  | inr d ↦ elim d [ inl less ↦ inl (precedes_run h s t less) | inr more ↦ inr (inr (precedes_run h t s more)) ]
+]
+
+pub one_settlement : (h : List Entry) (ps : List Pair) (ss ts : List Settled) → Ordered lower ps → IsSettlement h ps ss → IsSettlement h ps ts → ss ≡ ts
+one_settlement h ps ss ts o s t = one_list (precedes h) (precedes_strict h) (IsRanged (length h)) (Settles h ps) (settles_total h ps o) ss ts (decided_settlement h ps ss s) (decided_settlement h ps ts t)

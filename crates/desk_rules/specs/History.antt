@@ -1,0 +1,94 @@
+-- A history is the list of the accepted entries, numbered from 1. Nothing else is state.
+use Rattle.std.specs.Prelude.{◌≡◌, ℕ, zero, suc, ◌+◌, ◌-◌, ◌==◌, Bool, true, false, ◌&&◌, if◌then◌else◌, List, [], ◌∷◌, take, bytes_eq, slice_get, Option, Some, None, option_and_then}
+use Rattle.std.specs.List.{filter_map}
+use Rattle.desk_msg.specs.declared.instruction.Instruction.{Instruction}
+use Rattle.desk_msg.specs.declared.instruction.Kind.{Kind}
+use Rattle.desk_codes.specs.Number.{number_of}
+use Rattle.desk_rules.specs.declared.entry.Sender.{Sender}
+use Rattle.desk_rules.specs.declared.entry.Sender.TheVariants.{Operator, Participant as FromParticipant}
+pub use Rattle.desk_rules.specs.declared.entry.Instructed.{Instructed}
+use Rattle.desk_rules.specs.declared.entry.Entry.{Entry}
+use Rattle.desk_rules.specs.declared.entry.Entry.TheVariants.{Participant, Account, Security, Issue, Redeem, PayIn, PayOut, Instruct, Cancel, Run}
+
+-- the entry of a number
+abbrev pub entry_at : List Entry → ℕ → Option Entry
+entry_at history zero = None
+entry_at history (suc n) = slice_get history n
+
+-- the entries numbered below n
+abbrev pub before : ℕ → List Entry → List Entry
+before n history = take (n - 1) history
+
+-- what an entry instructs
+abbrev pub instructed : Entry → Option Instructed
+instructed (Participant reference bic) = None
+instructed (Account reference bic account) = None
+instructed (Security reference isin kind) = None
+instructed (Issue holding) = None
+instructed (Redeem holding) = None
+instructed (PayIn payment) = None
+instructed (PayOut payment) = None
+instructed (Instruct sender instruction) = Some (record { sender = sender; instruction = instruction })
+instructed (Cancel sender order) = None
+instructed (Run reference day) = None
+
+-- the instruction of a number
+abbrev pub instruction_at : List Entry → ℕ → Option Instructed
+instruction_at history n = option_and_then instructed (entry_at history n)
+
+-- the day of a run, as the number YYYYMMDD
+abbrev pub run_day : Entry → Option ℕ
+run_day (Participant reference bic) = None
+run_day (Account reference bic account) = None
+run_day (Security reference isin kind) = None
+run_day (Issue holding) = None
+run_day (Redeem holding) = None
+run_day (PayIn payment) = None
+run_day (PayOut payment) = None
+run_day (Instruct sender instruction) = None
+run_day (Cancel sender order) = None
+run_day (Run reference day) = Some (number_of day)
+
+-- who sent an entry, and its reference
+abbrev pub sender_of : Entry → Sender
+sender_of (Participant reference bic) = Operator
+sender_of (Account reference bic account) = Operator
+sender_of (Security reference isin kind) = Operator
+sender_of (Issue holding) = Operator
+sender_of (Redeem holding) = Operator
+sender_of (PayIn payment) = Operator
+sender_of (PayOut payment) = Operator
+sender_of (Instruct sender instruction) = FromParticipant sender
+sender_of (Cancel sender order) = FromParticipant sender
+sender_of (Run reference day) = Operator
+
+abbrev pub reference_of : Entry → List ℕ
+reference_of (Participant reference bic) = reference
+reference_of (Account reference bic account) = reference
+reference_of (Security reference isin kind) = reference
+reference_of (Issue holding) = holding.reference
+reference_of (Redeem holding) = holding.reference
+reference_of (PayIn payment) = payment.reference
+reference_of (PayOut payment) = payment.reference
+reference_of (Instruct sender instruction) = instruction.reference
+reference_of (Cancel sender order) = order.reference
+reference_of (Run reference day) = reference
+
+abbrev pub same_sender : Sender → Sender → Bool
+same_sender Operator Operator = true
+same_sender Operator (FromParticipant b) = false
+same_sender (FromParticipant a) Operator = false
+same_sender (FromParticipant a) (FromParticipant b) = bytes_eq a b
+
+-- an entry of this sender and reference
+abbrev pub has_key : Sender → List ℕ → Entry → Bool
+has_key sender reference entry = same_sender (sender_of entry) sender && bytes_eq (reference_of entry) reference
+
+-- the number of the first entry with this key, where the first of these entries has the number n
+abbrev pub number_from : ℕ → Sender → List ℕ → List Entry → Option ℕ
+number_from n sender reference [] = None
+number_from n sender reference (entry ∷ entries) = if has_key sender reference entry then Some n else number_from (n + 1) sender reference entries
+
+-- the number of the entry with this key
+abbrev pub number_of_key : List Entry → Sender → List ℕ → Option ℕ
+number_of_key history sender reference = number_from 1 sender reference history

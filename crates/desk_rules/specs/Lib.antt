@@ -1,0 +1,13 @@
+pub mod History
+pub mod Opposite
+pub mod Cancelled
+pub mod Pairing
+pub mod Balances
+pub mod Covered
+pub mod Settlement
+pub mod Verdict
+pub mod Laws
+pub mod Reply
+pub mod Sent
+pub mod Moves
+pub mod Content

@@ -1,0 +1,88 @@
+-- What the desk answers to a command.
+use Rattle.std.specs.Prelude.{◌≡◌, ℕ, ◌+◌, ◌==◌, Bool, true, false, not, ◌&&◌, if◌then◌else◌, List, [], ◌++◌, take, length, codes, decimal, count_by, Option, Some, None}
+use Rattle.std.specs.List.{list_any}
+use Rattle.desk_msg.specs.declared.mt.Mt.{Mt}
+use Rattle.desk_msg.specs.declared.status.Own.TheVariants.{Answer}
+use Rattle.desk_msg.specs.declared.status.Reason.TheVariants.{Future}
+use Rattle.desk_msg.specs.declared.status.Case.{Case}
+use Rattle.desk_msg.specs.declared.status.Case.TheVariants.{Unmatched, Matched, CancelDone, NewRefused, CancelRefused}
+use Rattle.desk_msg.specs.StatusText.{advice}
+use Rattle.desk_rules.specs.declared.entry.Entry.{Entry}
+use Rattle.desk_rules.specs.declared.entry.Entry.TheVariants.{Participant, Account, Security, Issue, Redeem, PayIn, PayOut, Instruct, Cancel, Run}
+use Rattle.desk_rules.specs.declared.pair.Pair.{Pair}
+use Rattle.desk_rules.specs.declared.pair.Settled.{Settled}
+use Rattle.desk_rules.specs.declared.reply.Reply.{Reply}
+use Rattle.desk_rules.specs.declared.verdict.Refusal.{Refusal}
+use Rattle.desk_rules.specs.declared.verdict.Verdict.{Verdict}
+use Rattle.desk_rules.specs.declared.verdict.Verdict.TheVariants.{Accept, Repeat, Refuse}
+use Rattle.desk_rules.specs.History.{entry_at}
+use Rattle.desk_rules.specs.Settlement.{is_due}
+use Rattle.desk_rules.specs.Verdict.{Books, AreBooks, is_paired, number_of_refusal}
+
+-- an answer in plain words, and one that is a status advice
+abbrev pub plain_reply : ℕ → List ℕ → Reply
+plain_reply status text = record { status = status; mt = None; text = text }
+
+abbrev pub advice_reply : ℕ → List ℕ → Reply
+advice_reply status text = record { status = status; mt = Some 548; text = text }
+
+-- the pair is among those settled
+abbrev pub same_pair : Pair → Pair → Bool
+same_pair p q = p.earlier == q.earlier && p.later == q.later
+
+abbrev pub is_settled_pair : List Settled → Pair → Bool
+is_settled_pair settled p = list_any (λ s. same_pair s.pair p) settled
+
+-- how many pairs a run settled, and how many that were due in it are not settled
+abbrev pub settled_count : Books → ℕ → ℕ
+settled_count books run = count_by (λ s. s.run == run) books.settled
+
+abbrev pub waiting_count : Books → ℕ → ℕ
+waiting_count books run = count_by (λ p. is_due books.history run p && not (is_settled_pair books.settled p)) books.pairs
+
+abbrev pub accepted_text : ℕ → List ℕ
+accepted_text n = codes "accepted " ++ decimal n
+
+abbrev pub run_text : Books → ℕ → List ℕ
+run_text books n = accepted_text n ++ codes " settled " ++ decimal (settled_count books n) ++ codes " waiting " ++ decimal (waiting_count books n)
+
+-- how an instruction stands right after it was accepted: no run has tried its pair
+abbrev pub first_case : Books → ℕ → Case
+first_case books n = if is_paired books n then Matched Future else Unmatched
+
+-- The reply to the last entry of these books, when it was accepted.
+abbrev pub reply_to : Books → Entry → Reply
+reply_to books (Participant reference bic) = plain_reply 200 (accepted_text (length books.history))
+reply_to books (Account reference bic account) = plain_reply 200 (accepted_text (length books.history))
+reply_to books (Security reference isin kind) = plain_reply 200 (accepted_text (length books.history))
+reply_to books (Issue holding) = plain_reply 200 (accepted_text (length books.history))
+reply_to books (Redeem holding) = plain_reply 200 (accepted_text (length books.history))
+reply_to books (PayIn payment) = plain_reply 200 (accepted_text (length books.history))
+reply_to books (PayOut payment) = plain_reply 200 (accepted_text (length books.history))
+reply_to books (Instruct sender i) =
+    let n = length books.history in advice_reply 200 (advice (Answer n) i.mt i.reference (first_case books n))
+reply_to books (Cancel sender order) = advice_reply 200 (advice (Answer (length books.history)) order.mt order.reference CancelDone)
+reply_to books (Run reference day) = plain_reply 200 (run_text books (length books.history))
+
+-- The reply to an entry that is refused, by a desk of these books.
+abbrev pub refused_reply : Books → Entry → ℕ → Reply
+refused_reply books (Participant reference bic) number = plain_reply 422 (codes "refused " ++ decimal number)
+refused_reply books (Account reference bic account) number = plain_reply 422 (codes "refused " ++ decimal number)
+refused_reply books (Security reference isin kind) number = plain_reply 422 (codes "refused " ++ decimal number)
+refused_reply books (Issue holding) number = plain_reply 422 (codes "refused " ++ decimal number)
+refused_reply books (Redeem holding) number = plain_reply 422 (codes "refused " ++ decimal number)
+refused_reply books (PayIn payment) number = plain_reply 422 (codes "refused " ++ decimal number)
+refused_reply books (PayOut payment) number = plain_reply 422 (codes "refused " ++ decimal number)
+refused_reply books (Instruct sender i) number = advice_reply 422 (advice (Answer (length books.history)) i.mt i.reference (NewRefused number))
+refused_reply books (Cancel sender order) number = advice_reply 422 (advice (Answer (length books.history)) order.mt order.reference (CancelRefused number))
+refused_reply books (Run reference day) number = plain_reply 422 (codes "refused " ++ decimal number)
+
+-- The first reply of the entry n: a function of the history up to it, and of nothing later.
+pub record IsFirstReply (history : List Entry) (n : ℕ) (reply : Reply) : Type 0 where
+  pub is : (books : Books) (entry : Entry) → books.history ≡ take n history → AreBooks books → entry_at history n ≡ Some entry → reply ≡ reply_to books entry
+
+-- The reply to an entry by its verdict: that of the history with it, the first reply again, or the refusal.
+abbrev pub IsReply : Books → Entry → Verdict → Books → Reply → Type 0
+IsReply books entry Accept after reply = reply ≡ reply_to after entry
+IsReply books entry (Repeat n) after reply = IsFirstReply books.history n reply
+IsReply books entry (Refuse refusal) after reply = reply ≡ refused_reply books entry (number_of_refusal refusal)

@@ -1,0 +1,71 @@
+//! What the desk's history is made of.
+ghost use Rattle.std.specs.Prelude.{◌<◌, ◌≤◌};
+
+use desk_codes::{AccountId, Bic, Ccy, Day, Isin, Reference};
+use desk_msg::{CancelOrder, Cash, Instruction, Kind, Mt};
+
+/// Who a command is from. All commands of the operator share one sender.
+#[derive(Clone, Copy, Debug, PartialEq, Eq)]
+pub enum Sender {
+    Operator,
+    /// A participant, by its BIC
+    Participant(Bic),
+}
+
+/// An instruction, and the participant that sent it.
+#[derive(Clone, Copy, Debug, PartialEq, Eq)]
+pub struct Instructed {
+    pub sender: Bic,
+    pub instruction: Instruction,
+}
+
+/// So much of a security put on an account, or taken off it.
+#[derive(Clone, Copy, Debug, PartialEq, Eq)]
+pub struct Holding {
+    pub reference: Reference,
+    pub account: AccountId,
+    pub isin: Isin,
+    /// 1 to 99,999,999,999,999, in units or by face amount
+    pub quantity: u64,
+    ghost some: { 0 < quantity },
+    ghost within: { quantity ≤ 99_999_999_999_999 },
+}
+
+/// So much cash paid in by a participant, or paid out to it.
+#[derive(Clone, Copy, Debug, PartialEq, Eq)]
+pub struct Payment {
+    pub reference: Reference,
+    pub bic: Bic,
+    pub ccy: Ccy,
+    /// 1 to 999,999,999,999,999,999, in minor units
+    pub amount: u64,
+    ghost some: { 0 < amount },
+    ghost within: { amount ≤ 999_999_999_999_999_999 },
+}
+
+/// An accepted command: of the operator, or a message of a participant.
+#[derive(Clone, Copy, Debug, PartialEq, Eq)]
+pub enum Entry {
+    /// A new participant
+    Participant { reference: Reference, bic: Bic },
+    /// A new safekeeping account of a participant
+    Account { reference: Reference, bic: Bic, account: AccountId },
+    /// A new security
+    Security { reference: Reference, isin: Isin, kind: Kind },
+    /// A security issued to an account
+    Issue(Holding),
+    /// A security redeemed from an account
+    Redeem(Holding),
+    /// Cash paid in
+    PayIn(Payment),
+    /// Cash paid out
+    PayOut(Payment),
+    /// An instruction of a participant
+    Instruct { sender: Bic, instruction: Instruction },
+    /// A cancellation of a participant
+    Cancel { sender: Bic, order: CancelOrder },
+    /// A settlement run for the pairs due by a day
+    Run { reference: Reference, day: Day },
+}
+
+

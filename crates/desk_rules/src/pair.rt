@@ -1,0 +1,33 @@
+//! Pairs of opposite instructions, and their settlement.
+
+/// Two opposite instructions by their entry numbers. The pair's number is that of the later entry.
+#[derive(Clone, Copy, Debug, PartialEq, Eq)]
+pub struct Pair {
+    pub earlier: u64,
+    pub later: u64,
+}
+
+/// A pair that a run settled.
+#[derive(Clone, Copy, Debug, PartialEq, Eq)]
+pub struct Settled {
+    /// The run's entry number
+    pub run: u64,
+    pub pair: Pair,
+}
+
+/// A place in the order in which a run takes pairs: by settlement day, then by number.
+#[derive(Clone, Copy, Debug, PartialEq, Eq)]
+pub struct Place {
+    /// The settlement day, as the number YYYYMMDD
+    pub day: u64,
+    pub number: u64,
+}
+
+/// What an uncovered pair lacks.
+#[derive(Clone, Copy, Debug, PartialEq, Eq)]
+pub enum Lack {
+    /// The deliverer holds too little of the security (reason LACK).
+    Securities,
+    /// The payer has too little cash (reason MONY).
+    Money,
+}

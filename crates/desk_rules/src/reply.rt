@@ -1,0 +1,85 @@
+//! What the desk answers, and what it sends.
+ghost use Rattle.std.specs.Prelude.{◌≡◌};
+
+use crate::entry::Entry;
+use desk_codes::Bic;
+use desk_msg::Reason;
+use std::marker::Model;
+
+/// A text of the desk's own.
+#[derive(Debug, Drop)]
+pub struct Text {
+    bytes: Vec<u8>,
+}
+
+impl Model for Text {
+    ghost use Rattle.std.specs.Prelude.{List, ℕ};
+
+    ghost Value = { List ℕ };
+
+    ghost view = { λ text. text.bytes.items };
+}
+
+impl Text {
+    /// The text of these bytes, kept where they lie.
+    pub fn new(bytes: Vec<u8>) -> Text
+        ensures { result ≡ bytes.items }
+    {
+        Text { bytes }
+    }
+
+    /// Its bytes.
+    pub fn as_bytes(&self) -> &[u8]
+        ensures { result.now ≡ self.now }
+    {
+        &self.bytes
+    }
+
+    /// Its bytes, handed on.
+    pub fn into_bytes(self) -> Vec<u8>
+        ensures { result.items ≡ self }
+    {
+        self.bytes
+    }
+}
+
+/// An answer to a command.
+#[derive(Debug, Drop)]
+pub struct Reply {
+    /// 200 where it was accepted, or answered again; 422 where it was refused
+    pub status: u16,
+    /// The message type of the text, where it is a message
+    pub mt: Option<u16>,
+    pub text: Text,
+}
+
+/// An accepted entry, and the reply that it got.
+#[derive(Debug, Drop)]
+pub struct Kept {
+    pub entry: Entry,
+    pub reply: Reply,
+}
+
+/// A message that the desk sent.
+#[derive(Debug, Drop)]
+pub struct Sent {
+    /// The participant that it was sent to
+    pub bic: Bic,
+    /// 548, or 544 to 547
+    pub mt: u16,
+    /// The number of the instruction that it is about
+    pub about: u64,
+    pub text: Text,
+}
+
+/// Where an entry stands.
+#[derive(Clone, Copy, Debug, PartialEq, Eq)]
+pub enum State {
+    /// It is no instruction.
+    Plain,
+    Unmatched,
+    /// Paired and not settled, for this reason
+    Matched(Reason),
+    Cancelled,
+    Settled,
+}
