@@ -107,18 +107,18 @@ share_fits {K} same apart gone come x k n fits all y j =
     elim (cases_if (bytes_eq x y) (quantity_if (same k j) n)) [
       | inr no_share ↦ omega arith
       | inl outer ↦ elim (cases_if (same k j) n) [
-          | inr no_share ↦ (let is : quantity_if (bytes_eq x y) (quantity_if (same k j) n) ≡ quantity_if (same k j) n = outer.1 in omega arith)
-          | inl inner ↦
-              let decides = bytes_eq-Decides x y in
-              let keys : x ≡ y = decides.0 outer.0 in
-              let kinds : k ≡ j = apart k j inner.0 in
-              let P : List ℕ → Type 0 = λ z. gone z k + n ≤ come z k in
-              let Q : K → Type 0 = λ z. gone y z + n ≤ come y z in
-              let there : gone y j + n ≤ come y j = subst Q kinds (subst P keys fits) in
-              let a : quantity_if (bytes_eq x y) (quantity_if (same k j) n) ≡ quantity_if (same k j) n = outer.1 in
-              let b : quantity_if (same k j) n ≡ n = inner.1 in
-              omega arith
-        ]
+        | inr no_share ↦ (let is : quantity_if (bytes_eq x y) (quantity_if (same k j) n) ≡ quantity_if (same k j) n = outer.1 in omega arith)
+        | inl inner ↦
+            let decides = bytes_eq-Decides x y in
+            let keys : x ≡ y = decides.0 outer.0 in
+            let kinds : k ≡ j = apart k j inner.0 in
+            let P : List ℕ → Type 0 = λ z. gone z k + n ≤ come z k in
+            let Q : K → Type 0 = λ z. gone y z + n ≤ come y z in
+            let there : gone y j + n ≤ come y j = subst Q kinds (subst P keys fits) in
+            let a : quantity_if (bytes_eq x y) (quantity_if (same k j) n) ≡ quantity_if (same k j) n = outer.1 in
+            let b : quantity_if (same k j) n ≡ n = inner.1 in
+            omega arith
+      ]
     ]
 
 -- A covered pair leaves no balance below 0.

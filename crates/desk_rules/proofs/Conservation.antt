@@ -464,39 +464,39 @@ module _ (limit : ℕ) (h : List Entry) (was : WasAccepted limit h) where
       let test : is_delivered_by (instruction_at h p.earlier) ≡ is_delivery o.first.instruction.mt = ap is_delivered_by o.is_first in
       elim (cases_Bool (is_delivery o.first.instruction.mt)) [
         | inl e ↦ record {
-            delivery = o.first;
-            receipt = o.second;
-            is_delivery = ap (λ b. instruction_at h (cond b p.earlier p.later)) (test ∙ e) ∙ o.is_first;
-            is_receipt = ap (λ b. instruction_at h (cond b p.later p.earlier)) (test ∙ e) ∙ o.is_second;
-            delivers = first;
-            receives = second;
-            opposite = o.opposite;
-          }
+          delivery = o.first;
+          receipt = o.second;
+          is_delivery = ap (λ b. instruction_at h (cond b p.earlier p.later)) (test ∙ e) ∙ o.is_first;
+          is_receipt = ap (λ b. instruction_at h (cond b p.later p.earlier)) (test ∙ e) ∙ o.is_second;
+          delivers = first;
+          receives = second;
+          opposite = o.opposite;
+        }
         | inr e ↦ record {
-            delivery = o.second;
-            receipt = o.first;
-            is_delivery = ap (λ b. instruction_at h (cond b p.earlier p.later)) (test ∙ e) ∙ o.is_second;
-            is_receipt = ap (λ b. instruction_at h (cond b p.later p.earlier)) (test ∙ e) ∙ o.is_first;
-            delivers = second;
-            receives = first;
-            opposite = opposite_back o.first o.second o.opposite;
-          }
+          delivery = o.second;
+          receipt = o.first;
+          is_delivery = ap (λ b. instruction_at h (cond b p.earlier p.later)) (test ∙ e) ∙ o.is_second;
+          is_receipt = ap (λ b. instruction_at h (cond b p.later p.earlier)) (test ∙ e) ∙ o.is_first;
+          delivers = second;
+          receives = first;
+          opposite = opposite_back o.first o.second o.opposite;
+        }
       ]
 
   same_moved : (p : Pair) → HasSides p → (isin : List ℕ) → sum_by (λ a. quantity_on a isin (receipt_of h p)) (accounts_of h) ≡ sum_by (λ a. quantity_on a isin (delivery_of h p)) (accounts_of h)
   same_moved p s isin =
       let come : sum_by (λ a. quantity_on a isin (receipt_of h p)) (accounts_of h) ≡ quantity_if (bytes_eq s.receipt.instruction.isin isin) s.receipt.instruction.quantity =
-          ap (λ o. sum_by (λ a. quantity_on a isin o) (accounts_of h)) s.is_receipt ∙ moved_once isin s.receipt s.receives in
+      ap (λ o. sum_by (λ a. quantity_on a isin o) (accounts_of h)) s.is_receipt ∙ moved_once isin s.receipt s.receives in
       let gone : sum_by (λ a. quantity_on a isin (delivery_of h p)) (accounts_of h) ≡ quantity_if (bytes_eq s.delivery.instruction.isin isin) s.delivery.instruction.quantity =
-          ap (λ o. sum_by (λ a. quantity_on a isin o) (accounts_of h)) s.is_delivery ∙ moved_once isin s.delivery s.delivers in
+      ap (λ o. sum_by (λ a. quantity_on a isin o) (accounts_of h)) s.is_delivery ∙ moved_once isin s.delivery s.delivers in
       come ∙ sym (ap (λ x. quantity_if (bytes_eq x isin) s.delivery.instruction.quantity) s.opposite.isin ∙ ap (λ n. quantity_if (bytes_eq s.receipt.instruction.isin isin) n) s.opposite.quantity) ∙ sym gone
 
   same_paid : (p : Pair) → HasSides p → (ccy : Ccy) → sum_by (λ b. amount_of b ccy (delivery_of h p)) (participants_of h) ≡ sum_by (λ b. amount_of b ccy (receipt_of h p)) (participants_of h)
   same_paid p s ccy =
       let come : sum_by (λ b. amount_of b ccy (delivery_of h p)) (participants_of h) ≡ cash_in ccy s.delivery.instruction.cash =
-          ap (λ o. sum_by (λ b. amount_of b ccy o) (participants_of h)) s.is_delivery ∙ paid_once ccy s.delivery s.delivers in
+      ap (λ o. sum_by (λ b. amount_of b ccy o) (participants_of h)) s.is_delivery ∙ paid_once ccy s.delivery s.delivers in
       let gone : sum_by (λ b. amount_of b ccy (receipt_of h p)) (participants_of h) ≡ cash_in ccy s.receipt.instruction.cash =
-          ap (λ o. sum_by (λ b. amount_of b ccy o) (participants_of h)) s.is_receipt ∙ paid_once ccy s.receipt s.receives in
+      ap (λ o. sum_by (λ b. amount_of b ccy o) (participants_of h)) s.is_receipt ∙ paid_once ccy s.receipt s.receives in
       come ∙ ap (λ c. cash_in ccy c) s.opposite.cash ∙ sym gone
 
   module _ (ps : List Pair) (settled : List Settled) (pairing : IsPairing h ps) (settlement : IsSettlement h ps settled) where

@@ -49,9 +49,9 @@ pub one_pair_of : (h : List Entry) (ps : List Pair) (p q : Pair) (k : ℕ) → I
 one_pair_of h ps p q k is a b i j = elim (cases_order p.later q.later) [
   | inl same ↦ one_number ps (ordered_pairs h ps is) p q (In-from_Contains ps p a) (In-from_Contains ps q b) same
   | inr o ↦ elim o [
-      | inl less ↦ absurd (no_shared_side h ps p q k is a b less i j)
-      | inr more ↦ absurd (no_shared_side h ps q p k is b a more j i)
-    ]
+    | inl less ↦ absurd (no_shared_side h ps p q k is a b less i j)
+    | inr more ↦ absurd (no_shared_side h ps q p k is b a more j i)
+  ]
 ]
 
 pub settlement_exists : (h : List Entry) (ps : List Pair) → IsPairing h ps → (settled : List Settled) × IsSettlement h ps settled
@@ -86,7 +86,7 @@ pub settled_once : (h : List Entry) (ps : List Pair) (settled : List Settled) (s
 settled_once h ps settled s t is a b same = elim (cases_order s.run t.run) [
   | inl run ↦ settled_same s t run same
   | inr o ↦ elim o [
-      | inl less ↦ absurd (not_again h ps settled s t is a b less same)
-      | inr more ↦ absurd (not_again h ps settled t s is b a more (sym same))
-    ]
+    | inl less ↦ absurd (not_again h ps settled s t is a b less same)
+    | inr more ↦ absurd (not_again h ps settled t s is b a more (sym same))
+  ]
 ]

@@ -66,9 +66,9 @@ pairing_step_alone h i ps lt is none =
     let P : List Entry → Type 0 = λ z. IsPairing z ps in
     let long : length (take i h) ≡ i = length_front h i (omega arith) in
     subst P (sym one.1) (pairing_alone (take i h) one.0 ps is (λ k c.
-        let Q : ℕ → Type 0 = λ n. IsCandidate (take i h ++ one.0 ∷ []) ps n k in
-        let R : List Entry → Type 0 = λ z. IsCandidate z ps (i + 1) k in
-        none k (subst R (sym one.1) (subst Q (ap (λ n. n + 1) long) c))))
+    let Q : ℕ → Type 0 = λ n. IsCandidate (take i h ++ one.0 ∷ []) ps n k in
+    let R : List Entry → Type 0 = λ z. IsCandidate z ps (i + 1) k in
+    none k (subst R (sym one.1) (subst Q (ap (λ n. n + 1) long) c))))
 
 pub pairing_step_mated : (h : List Entry) (i : ℕ) (ps : List Pair) (p : Pair) → i < length h → IsPairing (take i h) ps
     → p.later ≡ i + 1 → IsMate (take (i + 1) h) ps p
@@ -79,7 +79,6 @@ pairing_step_mated h i ps p lt is at mate =
     let R : List Entry → Type 0 = λ z. IsMate z ps p in
     let long : length (take i h) ≡ i = length_front h i (omega arith) in
     subst P (sym one.1) (pairing_mated (take i h) one.0 ps p is (omega arith) (subst R one.1 mate))
-
 
 -- Settlement.
 

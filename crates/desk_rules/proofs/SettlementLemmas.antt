@@ -149,18 +149,18 @@ ordered_pairs h ps is = Ordered-from_AllPairs lower ps (λ i j d a b. lt-ltb _ _
 pub sooner_total : (h : List Entry) (ps : List Pair) → Ordered lower ps → (p q : Pair) → In ps p → In ps q → (is_sooner h p q ≡ true) ⊎ ((p ≡ q) ⊎ (is_sooner h q p ≡ true))
 sooner_total h ps o p q i j = elim (cases_order (day_of h p) (day_of h q)) [
   | inl same ↦ elim (cases_order p.later q.later) [
-      | inl number ↦ inr (inl (one_number ps o p q i j number))
-      | inr n ↦ elim n [ inl less ↦ inl (sooner_number h p q same less) | inr more ↦ inr (inr (sooner_number h q p (sym same) more)) ]
-    ]
+    | inl number ↦ inr (inl (one_number ps o p q i j number))
+    | inr n ↦ elim n [ inl less ↦ inl (sooner_number h p q same less) | inr more ↦ inr (inr (sooner_number h q p (sym same) more)) ]
+  ]
   | inr d ↦ elim d [ inl less ↦ inl (sooner_day h p q less) | inr more ↦ inr (inr (sooner_day h q p more)) ]
 ]
 
 settles_total : (h : List Entry) (ps : List Pair) → Ordered lower ps → IsTotalOn (precedes h) (Settles h ps)
 settles_total h ps o front s t a b = elim (cases_order s.run t.run) [
   | inl same ↦ elim (sooner_total h ps o s.pair t.pair (In-from_Contains ps s.pair a.paired) (In-from_Contains ps t.pair b.paired)) [
-      | inl less ↦ inl (precedes_pair h s t same less)
-      | inr n ↦ elim n [ inl e ↦ inr (inl (settled_same s t same e)) | inr more ↦ inr (inr (precedes_pair h t s (sym same) more)) ]
-    ]
+    | inl less ↦ inl (precedes_pair h s t same less)
+    | inr n ↦ elim n [ inl e ↦ inr (inl (settled_same s t same e)) | inr more ↦ inr (inr (precedes_pair h t s (sym same) more)) ]
+  ]
   | inr d ↦ elim d [ inl less ↦ inl (precedes_run h s t less) | inr more ↦ inr (inr (precedes_run h t s more)) ]
 ]
 

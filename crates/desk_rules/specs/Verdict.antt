@@ -246,8 +246,8 @@ IsVerdictAt limit books entry (Some n) (Refuse refusal) = (refusal ≡ reused_by
 abbrev pub IsVerdict : ℕ → Books → Entry → Verdict → Type 0
 IsVerdict limit books entry verdict =
     MatchBool (is_from_stranger books.history (sender_of entry))
-        (verdict ≡ Refuse SenderUnknown)
-        (IsVerdictAt limit books entry (number_of_key books.history (sender_of entry) (reference_of entry)) verdict)
+    (verdict ≡ Refuse SenderUnknown)
+    (IsVerdictAt limit books entry (number_of_key books.history (sender_of entry) (reference_of entry)) verdict)
 
 -- each entry of a history was accepted in its turn
 pub record WasAccepted (limit : ℕ) (history : List Entry) : Type 0 where
