@@ -1,19 +1,14 @@
 -- Where each entry was accepted in its turn, positions add up to what was issued less what was redeemed, and cash to
 -- what was paid in less what was paid out.
-use Rattle.std.proofs.Common.{◌≡◌, ◌≢◌, ℕ, zero, suc, ◌+◌, ◌-◌, ◌<◌, ◌≤◌, ◌⊎◌, inl, inr, Bool, true, false, not, cond, List, [], ◌∷◌, ◌++◌, Contains, bytes_eq, sum_by, if◌then◌else◌, length, take, drop, Option, Some, None, refl, sym, ◌∙◌, ap, subst, arith, append_assoc, append-nil}
-use Rattle.std.specs.Prelude.{option_and_then, filter_map, is_some, is_none, slice_get}
-use Rattle.std.specs.List.{list_any}
-use Rattle.std.proofs.lemmas.Bool.{cases_Bool, both_ways, false≢true, true≢false, or_cases, or_parts, not-true, not-false}
+use Rattle.std.proofs.Common.{◌≡◌, ℕ, suc, ◌+◌, ◌-◌, ◌⊎◌, inl, inr, Bool, true, false, not, cond, List, [], ◌∷◌, ◌++◌, bytes_eq, sum_by, if◌then◌else◌, drop, Option, Some, None, refl, sym, ◌∙◌, ap, subst, arith, append_assoc, append-nil}
+use Rattle.std.specs.Prelude.{is_some, is_none, slice_get}
+use Rattle.std.proofs.lemmas.Bool.{cases_Bool, both_ways, or_cases, or_parts, not-false}
 use Rattle.std.proofs.lemmas.List.{take-append-drop}
 use Rattle.std.proofs.lemmas.List.Elements.{filter_map-append}
 use Rattle.std.proofs.lemmas.List.Sums.{sum_by-cons}
 use Rattle.std.proofs.lemmas.Slice.Eq.{bytes_eq-Decides}
 use Rattle.desk_codes.specs.declared.currency.Ccy.{Ccy}
-use Rattle.desk_msg.specs.declared.instruction.Instruction.{Instruction}
-use Rattle.desk_msg.specs.declared.instruction.Cash.{Cash}
 use Rattle.desk_msg.specs.MessageType.{is_delivery}
-use Rattle.desk_rules.specs.declared.entry.Holding.{Holding}
-use Rattle.desk_rules.specs.declared.entry.Payment.{Payment}
 use Rattle.desk_rules.specs.declared.entry.Entry.{Entry}
 use Rattle.desk_rules.specs.declared.entry.Entry.TheVariants.{Participant, Account, Security, Issue, Redeem, PayIn, PayOut, Instruct, Cancel, Run}
 use Rattle.desk_rules.specs.declared.pair.Pair.{Pair}
@@ -21,15 +16,15 @@ use Rattle.desk_rules.specs.declared.pair.Settled.{Settled}
 use Rattle.desk_rules.specs.History.{Instructed, instructed, entry_at, before, instruction_at}
 use Rattle.desk_rules.specs.Opposite.{AreOpposite, AreOppositeAt}
 use Rattle.desk_rules.specs.Pairing.{IsPairing}
-use Rattle.desk_rules.specs.Balances.{same_ccy, is_delivered_by, delivery_of, receipt_of, quantity_if, holding_of, holding_on, issued_by, redeemed_by, issued, redeemed, quantity_on, credits, debits, payment_in, payment_of, paid_in_by, paid_out_by, paid_in, paid_out, cash_in, amount_of, cash_credits, cash_debits}
+use Rattle.desk_rules.specs.Balances.{is_delivered_by, delivery_of, receipt_of, quantity_if, holding_of, holding_on, issued_by, redeemed_by, issued, redeemed, quantity_on, credits, debits, payment_in, payment_of, paid_in_by, paid_out_by, paid_in, paid_out, cash_in, amount_of, cash_credits, cash_debits}
 use Rattle.desk_rules.specs.Settlement.{IsSettlement}
-use Rattle.desk_rules.specs.Verdict.{Books, adds_participant, is_participant, is_owner, owner_by, or_else, first_said, owner_of, WasAccepted}
+use Rattle.desk_rules.specs.Verdict.{Books, is_participant, is_owner, or_else, owner_of, WasAccepted}
 use Rattle.desk_rules.specs.Laws.{account_by, participant_by, accounts_of, participants_of}
-use Rattle.desk_rules.proofs.Decided.{In, In-from_Contains, Contains-from_In, In-left, In-push_cases}
-use Rattle.desk_rules.proofs.HistoryLemmas.{entry_at-known, entry_at-some, some_before}
+use Rattle.desk_rules.proofs.Decided.{In, In-left, In-push_cases}
+use Rattle.desk_rules.proofs.HistoryLemmas.{some_before}
 use Rattle.desk_rules.proofs.PairingLaws.{opposite_back}
 use Rattle.desk_rules.proofs.SettlementLemmas.{decided_settlement}
-use Rattle.desk_rules.proofs.Existence.{HasBooks, books_exist}
+use Rattle.desk_rules.proofs.Existence.{books_exist}
 use Rattle.desk_rules.proofs.Accepted.{Passes, passes, accepted_front, accepted_last}
 use Rattle.desk_rules.proofs.BalanceLemmas.{sum_same}
 

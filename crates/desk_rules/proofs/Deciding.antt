@@ -1,7 +1,6 @@
 -- Each condition of the definitions can be decided.
-use Rattle.std.proofs.Common.{◌≡◌, ◌≢◌, ℕ, zero, suc, ◌+◌, ◌<◌, ◌≤◌, ◌↔◌, ◌⊎◌, inl, inr, Bool, true, false, List, [], ◌∷◌, ◌++◌, Contains, length, bytes_eq, nat_lt, Option, Some, None, refl, sym, ◌∙◌, ap, subst, arith}
-use Rattle.std.specs.Prelude.{Decides}
-use Rattle.std.proofs.lemmas.Bool.{cases_Bool, cases_lt, cases_eq, both_ways, false≢true, ltb-true, lt-ltb}
+use Rattle.std.proofs.Common.{◌≡◌, ◌≢◌, ℕ, zero, suc, ◌<◌, ◌⊎◌, inl, inr, Bool, true, false, List, [], ◌∷◌, bytes_eq, Option, Some, None, refl, sym, ◌∙◌, ap, subst, arith}
+use Rattle.std.proofs.lemmas.Bool.{cases_Bool, cases_lt, cases_eq, both_ways, false≢true}
 use Rattle.std.proofs.lemmas.Slice.Eq.{bytes_eq-Decides}
 use Rattle.desk_codes.specs.declared.currency.Ccy.{Ccy}
 use Rattle.desk_codes.specs.declared.currency.Ccy.TheVariants.{Chf, Eur, Gbp, Jpy, Usd}
@@ -11,17 +10,12 @@ use Rattle.desk_msg.specs.declared.instruction.Kind.TheVariants.{Unit as Units, 
 use Rattle.desk_msg.specs.declared.instruction.Cash.{Cash}
 use Rattle.desk_rules.specs.declared.entry.Entry.{Entry}
 use Rattle.desk_rules.specs.declared.pair.Pair.{Pair}
-use Rattle.desk_rules.specs.declared.pair.Settled.{Settled}
-use Rattle.desk_rules.specs.declared.pair.Place.{Place}
-use Rattle.desk_rules.specs.History.{Instructed, entry_at, before, instruction_at}
+use Rattle.desk_rules.specs.History.{Instructed, before, instruction_at}
 use Rattle.desk_rules.specs.Opposite.{AreOpposite, AreOppositeAt}
 use Rattle.desk_rules.specs.Balances.{same_ccy}
 use Rattle.desk_rules.specs.Cancelled.{is_cancelled}
 use Rattle.desk_rules.specs.Pairing.{IsFree, IsCandidate, IsMate}
-use Rattle.desk_rules.specs.Settlement.{is_due, is_above, is_sooner, IsUnsettled, IsOpen, IsNext}
-use Rattle.desk_rules.proofs.Decided.{In, In-from_Contains, Contains-from_In, Ordered}
-use Rattle.desk_rules.proofs.PairingLemmas.{pair_same, lower}
-use Rattle.desk_rules.proofs.SettlementLemmas.{sooner_total, sooner_through, sooner_strict_never}
+use Rattle.desk_rules.proofs.Decided.{In, In-from_Contains, Contains-from_In}
 use Rattle.desk_rules.proofs.SameContent.{cash_same}
 
 -- a fact or its contrary

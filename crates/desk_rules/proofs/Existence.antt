@@ -1,23 +1,22 @@
 -- Each history has a pairing and a settlement, and those of a front of it are their fronts.
-use Rattle.std.proofs.Common.{◌≡◌, ◌≢◌, ℕ, zero, suc, ◌+◌, ◌<◌, ◌≤◌, ◌↔◌, ◌⊎◌, inl, inr, Bool, true, false, List, [], ◌∷◌, ◌++◌, Contains, filter, length, Option, Some, None, refl, sym, ◌∙◌, ap, subst, arith, append_assoc, append-nil, length-append}
+use Rattle.std.proofs.Common.{◌≡◌, ◌≢◌, ℕ, zero, suc, ◌+◌, ◌<◌, ◌≤◌, ◌↔◌, ◌⊎◌, inl, inr, Bool, true, false, List, [], ◌∷◌, ◌++◌, Contains, filter, length, Option, Some, None, refl, sym, ap, subst, arith, append_assoc, append-nil, length-append}
 use Rattle.std.specs.Prelude.{option_and_then}
-use Rattle.std.proofs.lemmas.Bool.{cases_Bool, cases_lt, cases_eq, cases_order, both_ways, lt-ltb, ltb-true, false_from_ne_true}
-use Rattle.desk_codes.specs.Number.{number_of}
+use Rattle.std.proofs.lemmas.Bool.{cases_Bool, cases_lt, cases_eq, both_ways, false_from_ne_true}
 use Rattle.desk_rules.specs.declared.entry.Entry.{Entry}
 use Rattle.desk_rules.specs.declared.entry.Entry.TheVariants.{Participant, Account, Security, Issue, Redeem, PayIn, PayOut, Instruct, Cancel, Run}
 use Rattle.desk_rules.specs.declared.pair.Pair.{Pair}
 use Rattle.desk_rules.specs.declared.pair.Settled.{Settled}
 use Rattle.desk_rules.specs.declared.pair.Place.{Place}
-use Rattle.desk_rules.specs.History.{Instructed, instructed, entry_at, before, instruction_at, run_day}
-use Rattle.desk_rules.specs.Pairing.{pairs_below, IsCandidate, IsMate, IsPairing}
+use Rattle.desk_rules.specs.History.{Instructed, instructed, before, instruction_at, run_day}
+use Rattle.desk_rules.specs.Pairing.{IsCandidate, IsPairing}
 use Rattle.desk_rules.specs.Covered.{is_covered}
-use Rattle.desk_rules.specs.Settlement.{instructed_day, day_of, is_sooner, precedes, settled_before, is_due, IsUnsettled, Settles, IsSettlement, place_of, is_above, IsOpen, IsNext}
-use Rattle.desk_rules.proofs.Decided.{In, In-from_Contains, Contains-from_In, In-left, Ordered, filter-In, filter_yes, filter_no}
+use Rattle.desk_rules.specs.Settlement.{is_sooner, is_due, IsUnsettled, IsSettlement, place_of, is_above, IsOpen, IsNext}
+use Rattle.desk_rules.proofs.Decided.{In, In-from_Contains, Contains-from_In, Ordered, filter_yes, filter_no}
 use Rattle.desk_rules.proofs.HistoryLemmas.{entry_at-end}
 use Rattle.desk_rules.proofs.PairingLemmas.{pair_same, lower, pairing_alone, pairing_mated, one_pairing}
-use Rattle.desk_rules.proofs.SettlementLemmas.{sooner_true, sooner_through, sooner_strict_never, ordered_pairs, one_settlement, one_number, settled_same, precedes_run}
+use Rattle.desk_rules.proofs.SettlementLemmas.{sooner_through, sooner_strict_never, ordered_pairs, one_settlement}
 use Rattle.desk_rules.proofs.SettlementGrowth.{same_pairs_push, settlement_alone, IsSettledTo, IsPlaceOf, run_begins, run_settles, run_leaves, run_ends, below_above, own_place, sooner_place}
-use Rattle.desk_rules.proofs.Deciding.{Either, either_like, both, not_this, either_Bool, either_free, mate_or_none}
+use Rattle.desk_rules.proofs.Deciding.{Either, either_like, both, either_Bool, mate_or_none}
 
 -- The next pair of a run, or none.
 

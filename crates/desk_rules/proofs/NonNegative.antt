@@ -1,28 +1,26 @@
 -- Where each entry was accepted in its turn, no balance is ever below 0.
-use Rattle.std.proofs.Common.{◌≡◌, ◌≢◌, ℕ, zero, suc, ◌+◌, ◌<◌, ◌≤◌, ◌⊎◌, inl, inr, Bool, true, false, List, [], ◌∷◌, ◌++◌, Contains, bytes_eq, filter, length, take, drop, get_or, Option, Some, None, refl, sym, ◌∙◌, ap, subst, arith, append_assoc, append-nil, length-append, nat_lt, add-one}
+use Rattle.std.proofs.Common.{◌≡◌, ℕ, zero, suc, ◌+◌, ◌<◌, ◌≤◌, inl, inr, true, List, [], ◌∷◌, ◌++◌, bytes_eq, filter, length, take, drop, get_or, Option, Some, None, refl, sym, ◌∙◌, ap, subst, arith, append_assoc, append-nil, length-append, add-one}
 use Rattle.std.specs.Prelude.{option_and_then}
-use Rattle.std.proofs.lemmas.Bool.{cases_Bool, both_ways, ltb-true, ltb-false, cases_lt}
+use Rattle.std.proofs.lemmas.Bool.{ltb-true, ltb-false, cases_lt}
 use Rattle.std.proofs.lemmas.List.{take_more, take_all, take-append-drop}
 use Rattle.std.proofs.lemmas.List.Elements.{Contains-get_or, filter-append}
 use Rattle.std.proofs.lemmas.Slice.Eq.{bytes_eq-Decides}
 use Rattle.desk_codes.specs.declared.currency.Ccy.{Ccy}
-use Rattle.desk_rules.specs.declared.entry.Holding.{Holding}
-use Rattle.desk_rules.specs.declared.entry.Payment.{Payment}
 use Rattle.desk_rules.specs.declared.entry.Entry.{Entry}
 use Rattle.desk_rules.specs.declared.entry.Entry.TheVariants.{Participant, Account, Security, Issue, Redeem, PayIn, PayOut, Instruct, Cancel, Run}
 use Rattle.desk_rules.specs.declared.pair.Pair.{Pair}
 use Rattle.desk_rules.specs.declared.pair.Settled.{Settled}
-use Rattle.desk_rules.specs.History.{Instructed, entry_at, before, run_day}
-use Rattle.desk_rules.specs.Pairing.{pairs_below, IsMate, IsPairing}
-use Rattle.desk_rules.specs.Balances.{same_ccy, holding_on, issued_by, redeemed_by, credits, debits, payment_of, paid_in_by, paid_out_by, cash_credits, cash_debits}
+use Rattle.desk_rules.specs.History.{entry_at, before, run_day}
+use Rattle.desk_rules.specs.Pairing.{IsMate, IsPairing}
+use Rattle.desk_rules.specs.Balances.{same_ccy, holding_on, redeemed_by, credits, debits, payment_of, paid_out_by, cash_credits, cash_debits}
 use Rattle.desk_rules.specs.Covered.{is_covered}
-use Rattle.desk_rules.specs.Settlement.{is_by, day_of, is_due, precedes, settled_before, Settles, IsSettlement}
-use Rattle.desk_rules.specs.Verdict.{Books, AreBooks, WasAccepted}
+use Rattle.desk_rules.specs.Settlement.{is_by, day_of, precedes, settled_before, Settles, IsSettlement}
+use Rattle.desk_rules.specs.Verdict.{Books, WasAccepted}
 use Rattle.desk_rules.specs.Laws.{AreNonNegative}
-use Rattle.desk_rules.proofs.Decided.{In, In-from_Contains, Contains-from_In, In-left, In-right, In-cases, filter-In, filter-front, filter-same, filter-none, Ordered, Ordered-across, Ordered-right, IsStrict, not_back, Decided, front_of}
-use Rattle.desk_rules.proofs.HistoryLemmas.{entry_at-known, entry_at-end, before-front, before-all}
+use Rattle.desk_rules.proofs.Decided.{In, In-from_Contains, Contains-from_In, In-left, In-right, In-cases, filter-front, filter-same, filter-none, Ordered-across, Ordered-right, not_back, front_of}
+use Rattle.desk_rules.proofs.HistoryLemmas.{entry_at-end, before-front, before-all}
 use Rattle.desk_rules.proofs.PairingLemmas.{lower, lower_strict, mate_front, decided_pairing}
-use Rattle.desk_rules.proofs.SettlementLemmas.{precedes_strict, precedes_true, DueFacts, due_facts, IsRanged, settles_ranged, decided_settlement}
+use Rattle.desk_rules.proofs.SettlementLemmas.{precedes_strict, precedes_true, due_facts, IsRanged, decided_settlement}
 use Rattle.desk_rules.proofs.SettlementGrowth.{SamePairsTo, precedes-front, settles_front}
 use Rattle.desk_rules.proofs.Existence.{HasBooks, books_exist, books_front, same_books}
 use Rattle.desk_rules.proofs.Deciding.{same_ccy-true}

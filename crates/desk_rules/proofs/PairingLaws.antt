@@ -1,5 +1,5 @@
 -- Laws of pairing and settlement.
-use Rattle.std.proofs.Common.{◌≡◌, ◌≢◌, ℕ, ◌+◌, ◌<◌, ◌≤◌, ◌⊎◌, inl, inr, true, List, [], ◌++◌, Contains, refl, sym, ◌∙◌, ap, subst, arith}
+use Rattle.std.proofs.Common.{◌≡◌, ℕ, ◌<◌, inl, inr, List, ◌++◌, Contains, refl, sym, ◌∙◌, subst, arith}
 use Rattle.std.proofs.lemmas.Bool.{cases_order, lt-ltb}
 use Rattle.desk_rules.specs.declared.entry.Entry.{Entry}
 use Rattle.desk_rules.specs.declared.pair.Pair.{Pair}
@@ -11,7 +11,7 @@ use Rattle.desk_rules.specs.Settlement.{IsSettlement, settled_before, precedes}
 use Rattle.desk_rules.proofs.Decided.{In-from_Contains, Contains-from_In, filter-In}
 use Rattle.desk_rules.proofs.PairingLemmas.{lower, one_pairing as one_pairing_of}
 use Rattle.desk_rules.proofs.SettlementLemmas.{ordered_pairs, one_number, one_settlement as one_settlement_of, settled_same, precedes_run}
-use Rattle.desk_rules.proofs.Existence.{HasBooks, books_exist, books_front}
+use Rattle.desk_rules.proofs.Existence.{books_exist, books_front}
 
 pub opposite_back : (a b : Instructed) → AreOpposite a b → AreOpposite b a
 opposite_back a b o = record {

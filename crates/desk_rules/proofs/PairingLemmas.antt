@@ -1,14 +1,12 @@
 -- A history has one pairing, and the next entry adds at most one pair to it.
-use Rattle.std.proofs.Common.{◌≡◌, ◌≢◌, ℕ, zero, suc, ◌+◌, ◌<◌, ◌≤◌, ◌↔◌, ◌⊎◌, inl, inr, Bool, true, false, nat_lt, List, [], ◌∷◌, ◌++◌, Contains, AllPairs, filter, length, Some, refl, sym, ◌∙◌, ap, subst, arith, append-nil, length-append}
+use Rattle.std.proofs.Common.{◌≡◌, ℕ, ◌+◌, ◌<◌, ◌≤◌, ◌↔◌, inl, inr, Bool, nat_lt, List, [], ◌∷◌, ◌++◌, length, refl, sym, ◌∙◌, ap, subst, arith, append-nil, length-append}
 use Rattle.std.proofs.lemmas.Bool.{cases_lt, cases_eq, cases_order, ltb-true, lt-ltb, le-ltb}
 use Rattle.desk_rules.specs.declared.entry.Entry.{Entry}
 use Rattle.desk_rules.specs.declared.pair.Pair.{Pair}
-use Rattle.desk_rules.specs.History.{Instructed, entry_at, before, instruction_at}
-use Rattle.desk_rules.specs.Opposite.{AreOpposite, AreOppositeAt}
-use Rattle.desk_rules.specs.Cancelled.{is_cancelled}
-use Rattle.desk_rules.specs.Pairing.{pairs_below, IsFree, IsCandidate, IsMate, IsPairing}
-use Rattle.desk_rules.proofs.Decided.{In, In-from_Contains, Contains-from_In, Ordered-from_AllPairs, AllPairs-from_Ordered, filter-front, filter-push_no, IsStrict, IsTotalOn, Decided, one_list, grow_out, grow_in}
-use Rattle.desk_rules.proofs.HistoryLemmas.{entry_at-front, before-front, instruction_at-known, instruction_at-front}
+use Rattle.desk_rules.specs.Opposite.{AreOppositeAt}
+use Rattle.desk_rules.specs.Pairing.{pairs_below, IsCandidate, IsMate, IsPairing}
+use Rattle.desk_rules.proofs.Decided.{In-from_Contains, Contains-from_In, Ordered-from_AllPairs, AllPairs-from_Ordered, filter-front, filter-push_no, IsStrict, IsTotalOn, Decided, one_list, grow_out, grow_in}
+use Rattle.desk_rules.proofs.HistoryLemmas.{before-front, instruction_at-known, instruction_at-front}
 
 pub pair_same : (p q : Pair) → p.earlier ≡ q.earlier → p.later ≡ q.later → p ≡ q
 pair_same p q a b = let f : ℕ → ℕ → Pair = λ m n. record { earlier = m; later = n } in ap (λ m. f m p.later) a ∙ ap (λ n. f q.earlier n) b

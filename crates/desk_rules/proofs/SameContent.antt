@@ -1,5 +1,5 @@
 -- Values with the same content are one: a condition that a type keeps has one proof.
-use Rattle.std.proofs.Common.{◌≡◌, ℕ, ◌+◌, ◌<◌, ◌≤◌, Bool, true, List, length, Option, Some, None, refl, sym, ap, subst, ◌∙◌}
+use Rattle.std.proofs.Common.{◌≡◌, ℕ, ◌<◌, ◌≤◌, true, List, length, Option, ap}
 use Rattle.std.specs.Prelude.{is_some}
 use Rattle.std.proofs.Props.{props}
 use mathlib.Core.HLevel.{Σ_prop_path}

@@ -1,20 +1,18 @@
 -- How the settlement grows with a history: by runs alone, and in a run by the due pairs that are covered, in order.
-use Rattle.std.proofs.Common.{◌≡◌, ◌≢◌, ℕ, zero, suc, ◌+◌, ◌<◌, ◌≤◌, ◌↔◌, ◌⊎◌, inl, inr, Bool, true, false, not, ◌&&◌, ◌||◌, ◌==◌, nat_lt, nat_le, List, [], ◌∷◌, ◌++◌, Contains, AllPairs, filter, length, Option, Some, None, refl, sym, ◌∙◌, ap, subst, arith, append-nil, length-append}
+use Rattle.std.proofs.Common.{◌≡◌, ℕ, ◌+◌, ◌<◌, ◌≤◌, ◌↔◌, ◌⊎◌, inl, inr, true, false, ◌&&◌, ◌||◌, ◌==◌, nat_lt, List, [], ◌∷◌, ◌++◌, Contains, length, Option, Some, None, refl, sym, ◌∙◌, ap, subst, arith, append-nil, length-append}
 use Rattle.std.specs.Prelude.{option_and_then}
-use Rattle.std.proofs.lemmas.Bool.{cases_Bool, cases_lt, cases_eq, cases_order, ltb-true, lt-ltb, le-ltb, leb-true, eqb-true, eq-eqb, and_parts, and_from, or_cases, or_left, or_right, both_ways, false_from_ne_true}
-use Rattle.desk_codes.specs.Number.{number_of}
+use Rattle.std.proofs.lemmas.Bool.{cases_Bool, cases_lt, cases_eq, cases_order, both_ways, false_from_ne_true}
 use Rattle.desk_rules.specs.declared.entry.Entry.{Entry}
 use Rattle.desk_rules.specs.declared.pair.Pair.{Pair}
 use Rattle.desk_rules.specs.declared.pair.Settled.{Settled}
 use Rattle.desk_rules.specs.declared.pair.Place.{Place}
-use Rattle.desk_rules.specs.History.{Instructed, entry_at, before, instruction_at, run_day}
-use Rattle.desk_rules.specs.Pairing.{IsPairing}
+use Rattle.desk_rules.specs.History.{entry_at, before, run_day}
 use Rattle.desk_rules.specs.Covered.{is_covered}
-use Rattle.desk_rules.specs.Settlement.{instructed_day, day_of, is_sooner, precedes, settled_before, is_by, stands, is_due, IsUnsettled, Settles, IsSettlement, is_above, IsOpen, IsNext}
-use Rattle.desk_rules.proofs.Decided.{In, In-from_Contains, Contains-from_In, In-left, In-right, In-cases, In-push_cases, In-filter, filter-In, filter-front, Ordered, Ordered-from_AllPairs, AllPairs-from_Ordered, IsStrict, IsTotalOn, Decided, one_list, grow_out, grow_in, Decided-same}
-use Rattle.desk_rules.proofs.HistoryLemmas.{entry_at-known, entry_at-front, entry_at-end, before-front, before-all, instruction_at-front}
+use Rattle.desk_rules.specs.Settlement.{instructed_day, day_of, is_sooner, precedes, settled_before, is_by, is_due, IsUnsettled, Settles, IsSettlement, is_above, IsOpen, IsNext}
+use Rattle.desk_rules.proofs.Decided.{In-from_Contains, Contains-from_In, In-left, In-push_cases, filter-In, filter-front, Ordered, Decided, grow_out, grow_in, Decided-same}
+use Rattle.desk_rules.proofs.HistoryLemmas.{entry_at-front, entry_at-end, before-front, instruction_at-front}
 use Rattle.desk_rules.proofs.PairingLemmas.{pair_same, lower}
-use Rattle.desk_rules.proofs.SettlementLemmas.{sooner_true, sooner_day, sooner_number, precedes_true, precedes_run, precedes_pair, above_true, above_day, above_number, sooner_strict_never, sooner_through, precedes_strict, settled_same, DueFacts, due_facts, due_known, IsRanged, settles_ranged, decided_settlement, settlement_decided, one_number, sooner_total}
+use Rattle.desk_rules.proofs.SettlementLemmas.{sooner_true, sooner_day, sooner_number, precedes_run, precedes_pair, above_true, above_day, above_number, precedes_strict, settled_same, due_facts, IsRanged, decided_settlement, settlement_decided, one_number}
 
 -- What a history says of the numbers that it has, it says when it is longer.
 

@@ -1,9 +1,8 @@
-use Rattle.std.proofs.Common.{rules, arith, ◌+◌, ◌<◌, ◌≡◌, ◌++◌, ◌∷◌, [], List, true, false, take, length, get_or, Option, Some, None, sym, subst, ◌∙◌}
-use Rattle.std.proofs.lemmas.List.{take_more, take_all}
+use Rattle.std.proofs.Common.{◌+◌, ◌<◌, take, length, get_or, Some, None, sym, ◌∙◌}
+use Rattle.std.proofs.lemmas.List.{take_all}
 use Rattle.std.proofs.lemmas.Bool.{both_ways}
 use Rattle.desk_rules.specs.declared.pair.Pair.{Pair}
-use Rattle.desk_rules.specs.Settlement.{is_sooner}
-use Rattle.desk_rules.proofs.PlainLemmas.{best_none, best_closed, best_first, best_sooner, best_stays, best_taken, best_is, next_from_best}
+use Rattle.desk_rules.proofs.PlainLemmas.{best_closed, best_first, best_sooner, best_stays, best_taken, best_is, next_from_best}
 use Rattle.desk_rules.proofs.plain.settlement.next_pair.Goals as goal
 use Rattle.desk_rules.proofs.plain.settlement.next_pair.Goals.{in-Some, in-None, then-is_better, else-is_better}
 

@@ -1,4 +1,4 @@
-use Rattle.std.proofs.Common.{ap, length, ◌∙◌}
+use Rattle.std.proofs.Common.{ap, ◌∙◌}
 use Rattle.desk_rules.proofs.PlainLemmas.{last_begins, step_settles, step_leaves, step_ends, step_smaller}
 use Rattle.desk_rules.proofs.plain.settlement.settle_last.Goals as goal
 use Rattle.desk_rules.proofs.plain.settlement.settle_last.Goals.{then-is_covered+in_ok-push, else-is_covered}
