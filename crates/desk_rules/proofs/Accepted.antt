@@ -1,14 +1,12 @@
 -- What it says of an entry that it was accepted.
-use Rattle.std.proofs.Common.{◌≡◌, ◌≢◌, ℕ, zero, suc, ◌+◌, ◌<◌, ◌≤◌, ◌⊎◌, inl, inr, Bool, true, false, not, List, [], ◌∷◌, ◌++◌, MatchBool, length, Option, Some, None, refl, sym, ◌∙◌, ap, subst, arith, length-append, nat_lt, nat_le}
-use Rattle.std.proofs.lemmas.Bool.{cases_Bool, both_ways, not-true, not-false}
-use Rattle.desk_rules.specs.declared.entry.Sender.{Sender}
+use Rattle.std.proofs.Common.{◌≡◌, ℕ, ◌+◌, ◌≤◌, inl, inr, Bool, false, List, [], ◌∷◌, ◌++◌, length, Option, Some, None, refl, sym, ◌∙◌, subst, arith, nat_le}
+use Rattle.std.proofs.lemmas.Bool.{cases_Bool}
 use Rattle.desk_rules.specs.declared.entry.Entry.{Entry}
 use Rattle.desk_rules.specs.declared.pair.Pair.{Pair}
 use Rattle.desk_rules.specs.declared.pair.Settled.{Settled}
-use Rattle.desk_rules.specs.declared.verdict.Verdict.{Verdict}
-use Rattle.desk_rules.specs.declared.verdict.Verdict.TheVariants.{Accept, Repeat, Refuse}
-use Rattle.desk_rules.specs.History.{entry_at, before, sender_of, reference_of, number_of_key}
-use Rattle.desk_rules.specs.Verdict.{Books, AreBooks, Check, checks_of, first_failing, is_from_stranger, IsVerdictAt, IsVerdict, WasAccepted}
+use Rattle.desk_rules.specs.declared.verdict.Verdict.TheVariants.{Accept, Refuse}
+use Rattle.desk_rules.specs.History.{sender_of, reference_of, number_of_key}
+use Rattle.desk_rules.specs.Verdict.{Books, Check, checks_of, first_failing, is_from_stranger, IsVerdictAt, IsVerdict, WasAccepted}
 use Rattle.desk_rules.proofs.Decided.{In}
 use Rattle.desk_rules.proofs.HistoryLemmas.{entry_at-known, entry_at-front, entry_at-end, before-front, before-all}
 use Rattle.desk_rules.proofs.Existence.{HasBooks}

@@ -1,6 +1,6 @@
 -- Balances of a longer history and of more settlements.
-use Rattle.std.proofs.Common.{◌≡◌, ◌≢◌, ℕ, zero, suc, ◌+◌, ◌<◌, ◌≤◌, ◌⊎◌, inl, inr, Bool, true, false, List, [], ◌∷◌, ◌++◌, bytes_eq, sum_by, length, Option, Some, None, refl, sym, ◌∙◌, ap, subst, arith, nat_lt, nat_le, cond}
-use Rattle.std.proofs.lemmas.Bool.{cases_Bool, both_ways, leb-true, cases_cond, and_parts}
+use Rattle.std.proofs.Common.{◌≡◌, ℕ, ◌+◌, ◌≤◌, ◌⊎◌, inl, inr, Bool, true, false, List, [], ◌∷◌, ◌++◌, bytes_eq, sum_by, length, Option, Some, None, refl, sym, ◌∙◌, ap, subst, arith, cond}
+use Rattle.std.proofs.lemmas.Bool.{leb-true, cases_cond, and_parts}
 use Rattle.std.proofs.lemmas.List.Sums.{sum_by-cons, sum_by_push}
 use Rattle.std.proofs.lemmas.Slice.Eq.{bytes_eq-Decides}
 use Rattle.desk_codes.specs.declared.currency.Ccy.{Ccy}
@@ -107,18 +107,18 @@ share_fits {K} same apart gone come x k n fits all y j =
     elim (cases_if (bytes_eq x y) (quantity_if (same k j) n)) [
       | inr no_share ↦ omega arith
       | inl outer ↦ elim (cases_if (same k j) n) [
-          | inr no_share ↦ (let is : quantity_if (bytes_eq x y) (quantity_if (same k j) n) ≡ quantity_if (same k j) n = outer.1 in omega arith)
-          | inl inner ↦
-              let decides = bytes_eq-Decides x y in
-              let keys : x ≡ y = decides.0 outer.0 in
-              let kinds : k ≡ j = apart k j inner.0 in
-              let P : List ℕ → Type 0 = λ z. gone z k + n ≤ come z k in
-              let Q : K → Type 0 = λ z. gone y z + n ≤ come y z in
-              let there : gone y j + n ≤ come y j = subst Q kinds (subst P keys fits) in
-              let a : quantity_if (bytes_eq x y) (quantity_if (same k j) n) ≡ quantity_if (same k j) n = outer.1 in
-              let b : quantity_if (same k j) n ≡ n = inner.1 in
-              omega arith
-        ]
+        | inr no_share ↦ (let is : quantity_if (bytes_eq x y) (quantity_if (same k j) n) ≡ quantity_if (same k j) n = outer.1 in omega arith)
+        | inl inner ↦
+            let decides = bytes_eq-Decides x y in
+            let keys : x ≡ y = decides.0 outer.0 in
+            let kinds : k ≡ j = apart k j inner.0 in
+            let P : List ℕ → Type 0 = λ z. gone z k + n ≤ come z k in
+            let Q : K → Type 0 = λ z. gone y z + n ≤ come y z in
+            let there : gone y j + n ≤ come y j = subst Q kinds (subst P keys fits) in
+            let a : quantity_if (bytes_eq x y) (quantity_if (same k j) n) ≡ quantity_if (same k j) n = outer.1 in
+            let b : quantity_if (same k j) n ≡ n = inner.1 in
+            omega arith
+      ]
     ]
 
 -- A covered pair leaves no balance below 0.

@@ -1,19 +1,14 @@
 -- Where each entry was accepted in its turn, positions add up to what was issued less what was redeemed, and cash to
 -- what was paid in less what was paid out.
-use Rattle.std.proofs.Common.{◌≡◌, ◌≢◌, ℕ, zero, suc, ◌+◌, ◌-◌, ◌<◌, ◌≤◌, ◌⊎◌, inl, inr, Bool, true, false, not, cond, List, [], ◌∷◌, ◌++◌, Contains, bytes_eq, sum_by, if◌then◌else◌, length, take, drop, Option, Some, None, refl, sym, ◌∙◌, ap, subst, arith, append_assoc, append-nil}
-use Rattle.std.specs.Prelude.{option_and_then, filter_map, is_some, is_none, slice_get}
-use Rattle.std.specs.List.{list_any}
-use Rattle.std.proofs.lemmas.Bool.{cases_Bool, both_ways, false≢true, true≢false, or_cases, or_parts, not-true, not-false}
+use Rattle.std.proofs.Common.{◌≡◌, ℕ, suc, ◌+◌, ◌-◌, ◌⊎◌, inl, inr, Bool, true, false, not, cond, List, [], ◌∷◌, ◌++◌, bytes_eq, sum_by, if◌then◌else◌, drop, Option, Some, None, refl, sym, ◌∙◌, ap, subst, arith, append_assoc, append-nil}
+use Rattle.std.specs.Prelude.{is_some, is_none, slice_get}
+use Rattle.std.proofs.lemmas.Bool.{cases_Bool, both_ways, or_cases, or_parts, not-false}
 use Rattle.std.proofs.lemmas.List.{take-append-drop}
 use Rattle.std.proofs.lemmas.List.Elements.{filter_map-append}
 use Rattle.std.proofs.lemmas.List.Sums.{sum_by-cons}
 use Rattle.std.proofs.lemmas.Slice.Eq.{bytes_eq-Decides}
 use Rattle.desk_codes.specs.declared.currency.Ccy.{Ccy}
-use Rattle.desk_msg.specs.declared.instruction.Instruction.{Instruction}
-use Rattle.desk_msg.specs.declared.instruction.Cash.{Cash}
 use Rattle.desk_msg.specs.MessageType.{is_delivery}
-use Rattle.desk_rules.specs.declared.entry.Holding.{Holding}
-use Rattle.desk_rules.specs.declared.entry.Payment.{Payment}
 use Rattle.desk_rules.specs.declared.entry.Entry.{Entry}
 use Rattle.desk_rules.specs.declared.entry.Entry.TheVariants.{Participant, Account, Security, Issue, Redeem, PayIn, PayOut, Instruct, Cancel, Run}
 use Rattle.desk_rules.specs.declared.pair.Pair.{Pair}
@@ -21,15 +16,15 @@ use Rattle.desk_rules.specs.declared.pair.Settled.{Settled}
 use Rattle.desk_rules.specs.History.{Instructed, instructed, entry_at, before, instruction_at}
 use Rattle.desk_rules.specs.Opposite.{AreOpposite, AreOppositeAt}
 use Rattle.desk_rules.specs.Pairing.{IsPairing}
-use Rattle.desk_rules.specs.Balances.{same_ccy, is_delivered_by, delivery_of, receipt_of, quantity_if, holding_of, holding_on, issued_by, redeemed_by, issued, redeemed, quantity_on, credits, debits, payment_in, payment_of, paid_in_by, paid_out_by, paid_in, paid_out, cash_in, amount_of, cash_credits, cash_debits}
+use Rattle.desk_rules.specs.Balances.{is_delivered_by, delivery_of, receipt_of, quantity_if, holding_of, holding_on, issued_by, redeemed_by, issued, redeemed, quantity_on, credits, debits, payment_in, payment_of, paid_in_by, paid_out_by, paid_in, paid_out, cash_in, amount_of, cash_credits, cash_debits}
 use Rattle.desk_rules.specs.Settlement.{IsSettlement}
-use Rattle.desk_rules.specs.Verdict.{Books, adds_participant, is_participant, is_owner, owner_by, or_else, first_said, owner_of, WasAccepted}
+use Rattle.desk_rules.specs.Verdict.{Books, is_participant, is_owner, or_else, owner_of, WasAccepted}
 use Rattle.desk_rules.specs.Laws.{account_by, participant_by, accounts_of, participants_of}
-use Rattle.desk_rules.proofs.Decided.{In, In-from_Contains, Contains-from_In, In-left, In-push_cases}
-use Rattle.desk_rules.proofs.HistoryLemmas.{entry_at-known, entry_at-some, some_before}
+use Rattle.desk_rules.proofs.Decided.{In, In-left, In-push_cases}
+use Rattle.desk_rules.proofs.HistoryLemmas.{some_before}
 use Rattle.desk_rules.proofs.PairingLaws.{opposite_back}
 use Rattle.desk_rules.proofs.SettlementLemmas.{decided_settlement}
-use Rattle.desk_rules.proofs.Existence.{HasBooks, books_exist}
+use Rattle.desk_rules.proofs.Existence.{books_exist}
 use Rattle.desk_rules.proofs.Accepted.{Passes, passes, accepted_front, accepted_last}
 use Rattle.desk_rules.proofs.BalanceLemmas.{sum_same}
 
@@ -157,7 +152,7 @@ ownerless (Cancel sender order ∷ h) a none y i = ownerless h a none y i
 ownerless (Run reference day ∷ h) a none y i = ownerless h a none y i
 
 -- an account with an owner is one of the registered ones
-owned : (h : List Entry) (a owner : List ℕ) → owner_of h a ≡ Some owner → In (accounts_of h) a
+pub owned : (h : List Entry) (a owner : List ℕ) → owner_of h a ≡ Some owner → In (accounts_of h) a
 owned [] a owner e = absurd (cc)
 owned (Participant reference bic ∷ h) a owner e = owned h a owner e
 owned (Account reference bic account ∷ h) a owner e = elim (some_else (if bytes_eq account a then Some bic else None) (owner_of h a) owner e) [
@@ -224,7 +219,7 @@ is_some_false : {X : Type 0} (o : Option X) → is_some o ≡ false → o ≡ No
 is_some_false None e = refl
 is_some_false (Some x) e = absurd (cc)
 
-is_none_false : {X : Type 0} (o : Option X) → is_none o ≡ false → (x : X) × (o ≡ Some x)
+pub is_none_false : {X : Type 0} (o : Option X) → is_none o ≡ false → (x : X) × (o ≡ Some x)
 is_none_false None e = absurd (cc)
 is_none_false (Some x) e = (x, refl)
 
@@ -464,39 +459,39 @@ module _ (limit : ℕ) (h : List Entry) (was : WasAccepted limit h) where
       let test : is_delivered_by (instruction_at h p.earlier) ≡ is_delivery o.first.instruction.mt = ap is_delivered_by o.is_first in
       elim (cases_Bool (is_delivery o.first.instruction.mt)) [
         | inl e ↦ record {
-            delivery = o.first;
-            receipt = o.second;
-            is_delivery = ap (λ b. instruction_at h (cond b p.earlier p.later)) (test ∙ e) ∙ o.is_first;
-            is_receipt = ap (λ b. instruction_at h (cond b p.later p.earlier)) (test ∙ e) ∙ o.is_second;
-            delivers = first;
-            receives = second;
-            opposite = o.opposite;
-          }
+          delivery = o.first;
+          receipt = o.second;
+          is_delivery = ap (λ b. instruction_at h (cond b p.earlier p.later)) (test ∙ e) ∙ o.is_first;
+          is_receipt = ap (λ b. instruction_at h (cond b p.later p.earlier)) (test ∙ e) ∙ o.is_second;
+          delivers = first;
+          receives = second;
+          opposite = o.opposite;
+        }
         | inr e ↦ record {
-            delivery = o.second;
-            receipt = o.first;
-            is_delivery = ap (λ b. instruction_at h (cond b p.earlier p.later)) (test ∙ e) ∙ o.is_second;
-            is_receipt = ap (λ b. instruction_at h (cond b p.later p.earlier)) (test ∙ e) ∙ o.is_first;
-            delivers = second;
-            receives = first;
-            opposite = opposite_back o.first o.second o.opposite;
-          }
+          delivery = o.second;
+          receipt = o.first;
+          is_delivery = ap (λ b. instruction_at h (cond b p.earlier p.later)) (test ∙ e) ∙ o.is_second;
+          is_receipt = ap (λ b. instruction_at h (cond b p.later p.earlier)) (test ∙ e) ∙ o.is_first;
+          delivers = second;
+          receives = first;
+          opposite = opposite_back o.first o.second o.opposite;
+        }
       ]
 
   same_moved : (p : Pair) → HasSides p → (isin : List ℕ) → sum_by (λ a. quantity_on a isin (receipt_of h p)) (accounts_of h) ≡ sum_by (λ a. quantity_on a isin (delivery_of h p)) (accounts_of h)
   same_moved p s isin =
       let come : sum_by (λ a. quantity_on a isin (receipt_of h p)) (accounts_of h) ≡ quantity_if (bytes_eq s.receipt.instruction.isin isin) s.receipt.instruction.quantity =
-          ap (λ o. sum_by (λ a. quantity_on a isin o) (accounts_of h)) s.is_receipt ∙ moved_once isin s.receipt s.receives in
+      ap (λ o. sum_by (λ a. quantity_on a isin o) (accounts_of h)) s.is_receipt ∙ moved_once isin s.receipt s.receives in
       let gone : sum_by (λ a. quantity_on a isin (delivery_of h p)) (accounts_of h) ≡ quantity_if (bytes_eq s.delivery.instruction.isin isin) s.delivery.instruction.quantity =
-          ap (λ o. sum_by (λ a. quantity_on a isin o) (accounts_of h)) s.is_delivery ∙ moved_once isin s.delivery s.delivers in
+      ap (λ o. sum_by (λ a. quantity_on a isin o) (accounts_of h)) s.is_delivery ∙ moved_once isin s.delivery s.delivers in
       come ∙ sym (ap (λ x. quantity_if (bytes_eq x isin) s.delivery.instruction.quantity) s.opposite.isin ∙ ap (λ n. quantity_if (bytes_eq s.receipt.instruction.isin isin) n) s.opposite.quantity) ∙ sym gone
 
   same_paid : (p : Pair) → HasSides p → (ccy : Ccy) → sum_by (λ b. amount_of b ccy (delivery_of h p)) (participants_of h) ≡ sum_by (λ b. amount_of b ccy (receipt_of h p)) (participants_of h)
   same_paid p s ccy =
       let come : sum_by (λ b. amount_of b ccy (delivery_of h p)) (participants_of h) ≡ cash_in ccy s.delivery.instruction.cash =
-          ap (λ o. sum_by (λ b. amount_of b ccy o) (participants_of h)) s.is_delivery ∙ paid_once ccy s.delivery s.delivers in
+      ap (λ o. sum_by (λ b. amount_of b ccy o) (participants_of h)) s.is_delivery ∙ paid_once ccy s.delivery s.delivers in
       let gone : sum_by (λ b. amount_of b ccy (receipt_of h p)) (participants_of h) ≡ cash_in ccy s.receipt.instruction.cash =
-          ap (λ o. sum_by (λ b. amount_of b ccy o) (participants_of h)) s.is_receipt ∙ paid_once ccy s.receipt s.receives in
+      ap (λ o. sum_by (λ b. amount_of b ccy o) (participants_of h)) s.is_receipt ∙ paid_once ccy s.receipt s.receives in
       come ∙ ap (λ c. cash_in ccy c) s.opposite.cash ∙ sym gone
 
   module _ (ps : List Pair) (settled : List Settled) (pairing : IsPairing h ps) (settlement : IsSettlement h ps settled) where

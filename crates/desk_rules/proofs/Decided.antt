@@ -1,7 +1,7 @@
 -- Lists in an order, in which each member is decided by those that stand before it. There is one such list, and
 -- it grows at its end.
-use Rattle.std.proofs.Common.{◌≡◌, ◌≢◌, ℕ, zero, suc, ◌+◌, ◌<◌, ◌≤◌, ◌↔◌, ◌⊎◌, inl, inr, Bool, true, false, cond, List, [], ◌∷◌, ◌++◌, Contains, AllPairs, filter, length, get_or, refl, sym, ◌∙◌, ap, subst, arith, append_assoc}
-use Rattle.std.proofs.lemmas.Bool.{cases_Bool, both_ways, false≢true, false_from_ne_true}
+use Rattle.std.proofs.Common.{◌≡◌, zero, suc, ◌<◌, ◌↔◌, ◌⊎◌, inl, inr, Bool, true, false, List, [], ◌∷◌, ◌++◌, Contains, AllPairs, filter, length, get_or, refl, sym, ◌∙◌, ap, subst, arith, append_assoc}
+use Rattle.std.proofs.lemmas.Bool.{cases_Bool, both_ways, false_from_ne_true}
 use Rattle.std.proofs.lemmas.List.{append-nil}
 use Rattle.std.proofs.lemmas.List.Elements.{Contains-get_or, filter-append}
 
@@ -52,9 +52,9 @@ In-filter {X} p (y ∷ ys) x i =
     let P : List X → Type 0 = λ z. In z x in
     elim (cases_Bool (p y)) [
       | inl e ↦ elim (subst P (filter_yes p y ys e) i) [
-          | inl same ↦ (inl same, ap p (sym same) ∙ e)
-          | inr rest ↦ let r = In-filter p ys x rest in (inr r.0, r.1)
-        ]
+        | inl same ↦ (inl same, ap p (sym same) ∙ e)
+        | inr rest ↦ let r = In-filter p ys x rest in (inr r.0, r.1)
+      ]
       | inr e ↦ let r = In-filter p ys x (subst P (filter_no p y ys e) i) in (inr r.0, r.1)
     ]
 
@@ -174,9 +174,9 @@ not_below : {X : Type 0} (lt : X → X → Bool) → IsStrict lt → (front rest
 not_below {X} lt strict front rest x y o below e i = elim (In-cases front (y ∷ rest) x i) [
   | inl j ↦ strict.never x (below x j)
   | inr j ↦ elim j [
-      | inl same ↦ let P : X → Type 0 = λ v. lt x v ≡ true in strict.never x (subst P same e)
-      | inr k ↦ strict.never x (strict.through x y x e ((Ordered-right lt front (y ∷ rest) o).0 x k))
-    ]
+    | inl same ↦ let P : X → Type 0 = λ v. lt x v ≡ true in strict.never x (subst P same e)
+    | inr k ↦ strict.never x (strict.through x y x e ((Ordered-right lt front (y ∷ rest) o).0 x k))
+  ]
 ]
 
 -- Of two that a front lets in, one comes before the other, or they are one.
@@ -221,15 +221,15 @@ module _ {X : Type 0} (lt : X → X → Bool) (strict : IsStrict lt) (B : X → 
       elim (total front x y cx cy) [
         | inl less ↦ absurd (no_gap front ys x y e (d.within x (In-right front (x ∷ xs) x (inl refl))) (λ z i. Ordered-across lt front (x ∷ xs) d.order z x i (inl refl)) less cx)
         | inr o ↦ elim o [
-            | inl same ↦
-                let Q : List X → Type 0 = λ z. Decided lt B Cond z in
-                let d' : Decided lt B Cond (front ++ x ∷ [] ++ xs) = subst Q (sym (append_assoc front (x ∷ []) xs)) d in
-                let P : X → Type 0 = λ z. Decided lt B Cond (front ++ z ∷ [] ++ ys) in
-                let e' : Decided lt B Cond (front ++ x ∷ [] ++ ys) = subst P (sym same) (subst Q (sym (append_assoc front (y ∷ []) ys)) e) in
-                let rest : xs ≡ ys = rests_agree total (front ++ x ∷ []) xs ys d' e' in
-                rw (same, rest) refl
-            | inr more ↦ absurd (no_gap front xs y x d (e.within y (In-right front (y ∷ ys) y (inl refl))) (λ z i. Ordered-across lt front (y ∷ ys) e.order z y i (inl refl)) more cy)
-          ]
+          | inl same ↦
+              let Q : List X → Type 0 = λ z. Decided lt B Cond z in
+              let d' : Decided lt B Cond (front ++ x ∷ [] ++ xs) = subst Q (sym (append_assoc front (x ∷ []) xs)) d in
+              let P : X → Type 0 = λ z. Decided lt B Cond (front ++ z ∷ [] ++ ys) in
+              let e' : Decided lt B Cond (front ++ x ∷ [] ++ ys) = subst P (sym same) (subst Q (sym (append_assoc front (y ∷ []) ys)) e) in
+              let rest : xs ≡ ys = rests_agree total (front ++ x ∷ []) xs ys d' e' in
+              rw (same, rest) refl
+          | inr more ↦ absurd (no_gap front xs y x d (e.within y (In-right front (y ∷ ys) y (inl refl))) (λ z i. Ordered-across lt front (y ∷ ys) e.order z y i (inl refl)) more cy)
+        ]
       ]
 
   -- There is one such list.
@@ -264,7 +264,7 @@ module _ {X : Type 0} (lt : X → X → Bool) (strict : IsStrict lt) (B B' : X �
   grow_in xs y d wider new same above here others =
       let old : (x : X) → B x → filter (λ t. lt t x) (xs ++ y ∷ []) ≡ filter (λ t. lt t x) xs = (λ x b. filter-push_no (λ t. lt t x) xs y (not_back lt strict x y (above x b))) in
       let all : filter (λ t. lt t y) (xs ++ y ∷ []) ≡ xs =
-          filter-front (λ t. lt t y) xs (y ∷ []) (λ z i. above z (d.within z i)) (λ z i. elim i [ inl e ↦ (let P : X → Type 0 = λ v. lt v y ≡ false in subst P e (false_from_ne_true (lt y y) (strict.never y))) | inr n ↦ absurd n ]) in
+      filter-front (λ t. lt t y) xs (y ∷ []) (λ z i. above z (d.within z i)) (λ z i. elim i [ inl e ↦ (let P : X → Type 0 = λ v. lt v y ≡ false in subst P e (false_from_ne_true (lt y y) (strict.never y))) | inr n ↦ absurd n ]) in
       record {
         exact = λ x b'. (
           λ i. elim (In-push_cases xs y x i) [
@@ -313,7 +313,7 @@ pub Decided-narrow : {X : Type 0} (lt : X → X → Bool) (B B' : X → Type 0) 
 Decided-narrow {X} lt B B' Cond front rest d narrower inside above strict = record {
   exact = λ x b'.
       let e : filter (λ t. lt t x) (front ++ rest) ≡ filter (λ t. lt t x) front =
-          filter-append (λ t. lt t x) front rest ∙ rw (filter-none (λ t. lt t x) rest (λ z i. not_back lt strict x z (above z x i b'))) (append-nil (filter (λ t. lt t x) front)) in
+      filter-append (λ t. lt t x) front rest ∙ rw (filter-none (λ t. lt t x) rest (λ z i. not_back lt strict x z (above z x i b'))) (append-nil (filter (λ t. lt t x) front)) in
       let P : List X → Type 0 = λ z. Cond z x in (
         λ i. subst P e ((d.exact x (narrower x b')).0 (In-left front rest x i)),
         λ c. elim (In-cases front rest x ((d.exact x (narrower x b')).1 (subst P (sym e) c))) [

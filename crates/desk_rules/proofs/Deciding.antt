@@ -1,7 +1,6 @@
 -- Each condition of the definitions can be decided.
-use Rattle.std.proofs.Common.{◌≡◌, ◌≢◌, ℕ, zero, suc, ◌+◌, ◌<◌, ◌≤◌, ◌↔◌, ◌⊎◌, inl, inr, Bool, true, false, List, [], ◌∷◌, ◌++◌, Contains, length, bytes_eq, nat_lt, Option, Some, None, refl, sym, ◌∙◌, ap, subst, arith}
-use Rattle.std.specs.Prelude.{Decides}
-use Rattle.std.proofs.lemmas.Bool.{cases_Bool, cases_lt, cases_eq, both_ways, false≢true, ltb-true, lt-ltb}
+use Rattle.std.proofs.Common.{◌≡◌, ◌≢◌, ℕ, zero, suc, ◌<◌, ◌⊎◌, inl, inr, Bool, true, false, List, [], ◌∷◌, bytes_eq, Option, Some, None, refl, sym, ◌∙◌, ap, subst, arith}
+use Rattle.std.proofs.lemmas.Bool.{cases_Bool, cases_lt, cases_eq, both_ways, false≢true}
 use Rattle.std.proofs.lemmas.Slice.Eq.{bytes_eq-Decides}
 use Rattle.desk_codes.specs.declared.currency.Ccy.{Ccy}
 use Rattle.desk_codes.specs.declared.currency.Ccy.TheVariants.{Chf, Eur, Gbp, Jpy, Usd}
@@ -11,17 +10,12 @@ use Rattle.desk_msg.specs.declared.instruction.Kind.TheVariants.{Unit as Units, 
 use Rattle.desk_msg.specs.declared.instruction.Cash.{Cash}
 use Rattle.desk_rules.specs.declared.entry.Entry.{Entry}
 use Rattle.desk_rules.specs.declared.pair.Pair.{Pair}
-use Rattle.desk_rules.specs.declared.pair.Settled.{Settled}
-use Rattle.desk_rules.specs.declared.pair.Place.{Place}
-use Rattle.desk_rules.specs.History.{Instructed, entry_at, before, instruction_at}
+use Rattle.desk_rules.specs.History.{Instructed, before, instruction_at}
 use Rattle.desk_rules.specs.Opposite.{AreOpposite, AreOppositeAt}
 use Rattle.desk_rules.specs.Balances.{same_ccy}
 use Rattle.desk_rules.specs.Cancelled.{is_cancelled}
 use Rattle.desk_rules.specs.Pairing.{IsFree, IsCandidate, IsMate}
-use Rattle.desk_rules.specs.Settlement.{is_due, is_above, is_sooner, IsUnsettled, IsOpen, IsNext}
-use Rattle.desk_rules.proofs.Decided.{In, In-from_Contains, Contains-from_In, Ordered}
-use Rattle.desk_rules.proofs.PairingLemmas.{pair_same, lower}
-use Rattle.desk_rules.proofs.SettlementLemmas.{sooner_total, sooner_through, sooner_strict_never}
+use Rattle.desk_rules.proofs.Decided.{In, In-from_Contains, Contains-from_In}
 use Rattle.desk_rules.proofs.SameContent.{cash_same}
 
 -- a fact or its contrary
@@ -117,19 +111,19 @@ pub either_opposite_at : (h : List Entry) (m n : ℕ) → Either (AreOppositeAt 
 either_opposite_at h m n = elim (cases_Option (instruction_at h m)) [
   | inr none ↦ inr (λ o. let e = o.is_first in cc)
   | inl a ↦ elim (cases_Option (instruction_at h n)) [
-      | inr none ↦ inr (λ o. let e = o.is_second in cc)
-      | inl b ↦ either_like
-            (λ o. record { first = a.0; second = b.0; is_first = a.1; is_second = b.1; opposite = o })
-            (λ o.
-                let some : ◌≡◌ {A = Option Instructed} (Some a.0) (Some o.first) = sym a.1 ∙ o.is_first in
-                let some' : ◌≡◌ {A = Option Instructed} (Some b.0) (Some o.second) = sym b.1 ∙ o.is_second in
-                let e : a.0 ≡ o.first = some_same a.0 o.first some in
-                let f : b.0 ≡ o.second = some_same b.0 o.second some' in
-                let P : Instructed → Type 0 = λ x. AreOpposite x b.0 in
-                let Q : Instructed → Type 0 = λ x. AreOpposite o.first x in
-                subst P (sym e) (subst Q (sym f) o.opposite))
-            (either_opposite a.0 b.0)
-    ]
+    | inr none ↦ inr (λ o. let e = o.is_second in cc)
+    | inl b ↦ either_like
+        (λ o. record { first = a.0; second = b.0; is_first = a.1; is_second = b.1; opposite = o })
+        (λ o.
+        let some : ◌≡◌ {A = Option Instructed} (Some a.0) (Some o.first) = sym a.1 ∙ o.is_first in
+        let some' : ◌≡◌ {A = Option Instructed} (Some b.0) (Some o.second) = sym b.1 ∙ o.is_second in
+        let e : a.0 ≡ o.first = some_same a.0 o.first some in
+        let f : b.0 ≡ o.second = some_same b.0 o.second some' in
+        let P : Instructed → Type 0 = λ x. AreOpposite x b.0 in
+        let Q : Instructed → Type 0 = λ x. AreOpposite o.first x in
+        subst P (sym e) (subst Q (sym f) o.opposite))
+        (either_opposite a.0 b.0)
+  ]
 ]
   where
     some_same : (x y : Instructed) → ◌≡◌ {A = Option Instructed} (Some x) (Some y) → x ≡ y
@@ -142,6 +136,7 @@ either_free ps k = either_like (λ f p c. f p (In-from_Contains ps p c)) (λ f p
   where
     Each : List Pair → Type 0
     Each qs = (p : Pair) → In qs p → (p.earlier ≢ k) × (p.later ≢ k)
+
     each : (qs : List Pair) → Either ((p : Pair) → In qs p → (p.earlier ≢ k) × (p.later ≢ k))
     each [] = inl (λ p i. absurd i)
     each (q ∷ qs) = either_like
@@ -164,9 +159,9 @@ least_below P either zero = inr (λ k lt p. absurd (omega arith))
 least_below P either (suc n) = elim (least_below P either n) [
   | inl found ↦ inl found
   | inr none ↦ elim (either n) [
-      | inl p ↦ inl (n, p, none)
-      | inr not ↦ inr (λ k lt p. elim (cases_lt k n) [ inl less ↦ none k less p | inr ge ↦ (let same : k ≡ n = omega arith in not (subst P same p)) ])
-    ]
+    | inl p ↦ inl (n, p, none)
+    | inr not ↦ inr (λ k lt p. elim (cases_lt k n) [ inl less ↦ none k less p | inr ge ↦ (let same : k ≡ n = omega arith in not (subst P same p)) ])
+  ]
 ]
 
 -- the later entry has a mate, or no candidate

@@ -1,23 +1,22 @@
 -- Each history has a pairing and a settlement, and those of a front of it are their fronts.
-use Rattle.std.proofs.Common.{◌≡◌, ◌≢◌, ℕ, zero, suc, ◌+◌, ◌<◌, ◌≤◌, ◌↔◌, ◌⊎◌, inl, inr, Bool, true, false, List, [], ◌∷◌, ◌++◌, Contains, filter, length, Option, Some, None, refl, sym, ◌∙◌, ap, subst, arith, append_assoc, append-nil, length-append}
+use Rattle.std.proofs.Common.{◌≡◌, ◌≢◌, ℕ, zero, suc, ◌+◌, ◌<◌, ◌≤◌, ◌↔◌, ◌⊎◌, inl, inr, Bool, true, false, List, [], ◌∷◌, ◌++◌, Contains, filter, length, Option, Some, None, refl, sym, ap, subst, arith, append_assoc, append-nil, length-append}
 use Rattle.std.specs.Prelude.{option_and_then}
-use Rattle.std.proofs.lemmas.Bool.{cases_Bool, cases_lt, cases_eq, cases_order, both_ways, lt-ltb, ltb-true, false_from_ne_true}
-use Rattle.desk_codes.specs.Number.{number_of}
+use Rattle.std.proofs.lemmas.Bool.{cases_Bool, cases_lt, cases_eq, both_ways, false_from_ne_true}
 use Rattle.desk_rules.specs.declared.entry.Entry.{Entry}
 use Rattle.desk_rules.specs.declared.entry.Entry.TheVariants.{Participant, Account, Security, Issue, Redeem, PayIn, PayOut, Instruct, Cancel, Run}
 use Rattle.desk_rules.specs.declared.pair.Pair.{Pair}
 use Rattle.desk_rules.specs.declared.pair.Settled.{Settled}
 use Rattle.desk_rules.specs.declared.pair.Place.{Place}
-use Rattle.desk_rules.specs.History.{Instructed, instructed, entry_at, before, instruction_at, run_day}
-use Rattle.desk_rules.specs.Pairing.{pairs_below, IsCandidate, IsMate, IsPairing}
+use Rattle.desk_rules.specs.History.{Instructed, instructed, before, instruction_at, run_day}
+use Rattle.desk_rules.specs.Pairing.{IsCandidate, IsPairing}
 use Rattle.desk_rules.specs.Covered.{is_covered}
-use Rattle.desk_rules.specs.Settlement.{instructed_day, day_of, is_sooner, precedes, settled_before, is_due, IsUnsettled, Settles, IsSettlement, place_of, is_above, IsOpen, IsNext}
-use Rattle.desk_rules.proofs.Decided.{In, In-from_Contains, Contains-from_In, In-left, Ordered, filter-In, filter_yes, filter_no}
+use Rattle.desk_rules.specs.Settlement.{is_sooner, is_due, IsUnsettled, IsSettlement, place_of, is_above, IsOpen, IsNext}
+use Rattle.desk_rules.proofs.Decided.{In, In-from_Contains, Contains-from_In, Ordered, filter_yes, filter_no}
 use Rattle.desk_rules.proofs.HistoryLemmas.{entry_at-end}
 use Rattle.desk_rules.proofs.PairingLemmas.{pair_same, lower, pairing_alone, pairing_mated, one_pairing}
-use Rattle.desk_rules.proofs.SettlementLemmas.{sooner_true, sooner_through, sooner_strict_never, ordered_pairs, one_settlement, one_number, settled_same, precedes_run}
+use Rattle.desk_rules.proofs.SettlementLemmas.{sooner_through, sooner_strict_never, ordered_pairs, one_settlement}
 use Rattle.desk_rules.proofs.SettlementGrowth.{same_pairs_push, settlement_alone, IsSettledTo, IsPlaceOf, run_begins, run_settles, run_leaves, run_ends, below_above, own_place, sooner_place}
-use Rattle.desk_rules.proofs.Deciding.{Either, either_like, both, not_this, either_Bool, either_free, mate_or_none}
+use Rattle.desk_rules.proofs.Deciding.{Either, either_like, both, either_Bool, mate_or_none}
 
 -- The next pair of a run, or none.
 
@@ -26,12 +25,12 @@ either_other : (t : Settled) (run : ℕ) (p : Pair) → Either (t.run < run → 
 either_other t run p = elim (cases_lt t.run run) [
   | inr ge ↦ inl (λ lt e. omega arith)
   | inl lt ↦ elim (cases_eq t.pair.earlier p.earlier) [
-      | inr differs ↦ inl (λ _ e. differs (ap (λ x. x.earlier) e))
-      | inl earlier ↦ elim (cases_eq t.pair.later p.later) [
-          | inr differs ↦ inl (λ _ e. differs (ap (λ x. x.later) e))
-          | inl later ↦ inr (λ f. f lt (pair_same t.pair p earlier later))
-        ]
+    | inr differs ↦ inl (λ _ e. differs (ap (λ x. x.earlier) e))
+    | inl earlier ↦ elim (cases_eq t.pair.later p.later) [
+      | inr differs ↦ inl (λ _ e. differs (ap (λ x. x.later) e))
+      | inl later ↦ inr (λ f. f lt (pair_same t.pair p earlier later))
     ]
+  ]
 ]
 
 pub either_unsettled : (settled : List Settled) (run : ℕ) (p : Pair) → Either (IsUnsettled settled run p)
@@ -57,31 +56,43 @@ either_open h ps settled n place p i = either_like
 -- of some pairs of the list the least that is open, or none is
 least_open : (h : List Entry) (ps : List Pair) (settled : List Settled) (n : ℕ) (place : Option Place) (qs : List Pair) → ((p : Pair) → In qs p → In ps p)
     → ((q : Pair) × IsOpen h ps settled n place q × ((p : Pair) → In qs p → IsOpen h ps settled n place p → is_sooner h p q ≡ false))
-      ⊎ ((p : Pair) → In qs p → IsOpen h ps settled n place p → ⊥)
+    ⊎ ((p : Pair) → In qs p → IsOpen h ps settled n place p → ⊥)
 least_open h ps settled n place [] sub = inr (λ p i. absurd i)
 least_open h ps settled n place (x ∷ qs) sub =
     let IsThis : Pair → Type 0 = λ p. IsOpen h ps settled n place p in
     elim (least_open h ps settled n place qs (λ p i. sub p (inr i))) [
       | inr none ↦ elim (either_open h ps settled n place x (sub x (inl refl))) [
-          | inl o ↦ inl (x, o, λ p i po. elim i [
-              | inl e ↦ (let P : Pair → Type 0 = λ z. is_sooner h z x ≡ false in subst P e (false_from_ne_true (is_sooner h x x) (sooner_strict_never h x)))
-              | inr j ↦ absurd (none p j po)
-            ])
-          | inr closed ↦ inr (λ p i po. elim i [ inl e ↦ closed (subst IsThis (sym e) po) | inr j ↦ none p j po ])
-        ]
+        | inl o ↦ inl (
+          x,
+          o,
+          λ p i po. elim i [
+            | inl e ↦ (let P : Pair → Type 0 = λ z. is_sooner h z x ≡ false in subst P e (false_from_ne_true (is_sooner h x x) (sooner_strict_never h x)))
+            | inr j ↦ absurd (none p j po)
+          ],
+        )
+        | inr closed ↦ inr (λ p i po. elim i [ inl e ↦ closed (subst IsThis (sym e) po) | inr j ↦ none p j po ])
+      ]
       | inl found ↦ elim (either_open h ps settled n place x (sub x (inl refl))) [
-          | inr closed ↦ inl (found.0, found.1, λ p i po. elim i [ inl e ↦ absurd (closed (subst IsThis (sym e) po)) | inr j ↦ found.2 p j po ])
-          | inl o ↦ elim (cases_Bool (is_sooner h x found.0)) [
-              | inl less ↦ inl (x, o, λ p i po. elim i [
-                  | inl e ↦ (let P : Pair → Type 0 = λ z. is_sooner h z x ≡ false in subst P e (false_from_ne_true (is_sooner h x x) (sooner_strict_never h x)))
-                  | inr j ↦ false_from_ne_true (is_sooner h p x) (λ lt. both_ways (is_sooner h p found.0) (found.2 p j po) (sooner_through h p x found.0 lt less))
-                ])
-              | inr more ↦ inl (found.0, found.1, λ p i po. elim i [
-                  | inl e ↦ (let P : Pair → Type 0 = λ z. is_sooner h z found.0 ≡ false in subst P e more)
-                  | inr j ↦ found.2 p j po
-                ])
-            ]
+        | inr closed ↦ inl (found.0, found.1, λ p i po. elim i [ inl e ↦ absurd (closed (subst IsThis (sym e) po)) | inr j ↦ found.2 p j po ])
+        | inl o ↦ elim (cases_Bool (is_sooner h x found.0)) [
+          | inl less ↦ inl (
+            x,
+            o,
+            λ p i po. elim i [
+              | inl e ↦ (let P : Pair → Type 0 = λ z. is_sooner h z x ≡ false in subst P e (false_from_ne_true (is_sooner h x x) (sooner_strict_never h x)))
+              | inr j ↦ false_from_ne_true (is_sooner h p x) (λ lt. both_ways (is_sooner h p found.0) (found.2 p j po) (sooner_through h p x found.0 lt less))
+            ],
+          )
+          | inr more ↦ inl (
+            found.0,
+            found.1,
+            λ p i po. elim i [
+              | inl e ↦ (let P : Pair → Type 0 = λ z. is_sooner h z found.0 ≡ false in subst P e more)
+              | inr j ↦ found.2 p j po
+            ],
+          )
         ]
+      ]
     ]
 
 pub next_or_none : (h : List Entry) (ps : List Pair) (settled : List Settled) (n : ℕ) (place : Option Place)
@@ -196,26 +207,26 @@ entry_books h e ps settled is =
     let Q : List Settled → Type 0 = λ z. IsSettlement g (ps ++ []) z in
     elim (cases_day (run_day e)) [
       | inl none ↦ elim (mate_or_none g ps (length h + 1)) [
-          | inr alone ↦ record {
-              more_pairs = [];
+        | inr alone ↦ record {
+          more_pairs = [];
+          more_settled = [];
+          books = record {
+            pairing = subst P (sym (append-nil ps)) (pairing_alone h e ps is.pairing alone);
+            settlement = subst Q (sym (append-nil settled)) (settlement_alone h e ps (ps ++ []) settled (λ p le. (let R : List Pair → Type 0 = λ z. Contains ps p ↔ Contains z p in subst R (sym (append-nil ps)) ((λ c. c), (λ c. c)))) none is.settlement);
+          };
+        }
+        | inl found ↦
+            let p : Pair = record { earlier = found.0; later = length h + 1 } in
+            let S : List Settled → Type 0 = λ z. IsSettlement g (ps ++ p ∷ []) z in
+            record {
+              more_pairs = p ∷ [];
               more_settled = [];
               books = record {
-                pairing = subst P (sym (append-nil ps)) (pairing_alone h e ps is.pairing alone);
-                settlement = subst Q (sym (append-nil settled)) (settlement_alone h e ps (ps ++ []) settled (λ p le. (let R : List Pair → Type 0 = λ z. Contains ps p ↔ Contains z p in subst R (sym (append-nil ps)) ((λ c. c), (λ c. c)))) none is.settlement);
+                pairing = pairing_mated h e ps p is.pairing refl found.1;
+                settlement = subst S (sym (append-nil settled)) (settlement_alone h e ps (ps ++ p ∷ []) settled (same_pairs_push (length h) ps p (omega arith)) none is.settlement);
               };
             }
-          | inl found ↦
-              let p : Pair = record { earlier = found.0; later = length h + 1 } in
-              let S : List Settled → Type 0 = λ z. IsSettlement g (ps ++ p ∷ []) z in
-              record {
-                more_pairs = p ∷ [];
-                more_settled = [];
-                books = record {
-                  pairing = pairing_mated h e ps p is.pairing refl found.1;
-                  settlement = subst S (sym (append-nil settled)) (settlement_alone h e ps (ps ++ p ∷ []) settled (same_pairs_push (length h) ps p (omega arith)) none is.settlement);
-                };
-              }
-        ]
+      ]
       | inr run ↦
           let pairing : IsPairing g ps = pairing_alone h e ps is.pairing (λ k c. run_unpaired h e ps run.0 k run.1 c) in
           let last : length h + 1 ≡ length g = sym (length-append h (e ∷ [])) in

@@ -1,9 +1,9 @@
 -- Entries by their numbers, in a history that grows.
-use Rattle.std.proofs.Common.{◌≡◌, ℕ, zero, suc, ◌+◌, ◌-◌, ◌<◌, ◌≤◌, List, [], ◌∷◌, ◌++◌, length, take, drop, get_or, slice_get, Option, Some, None, refl, sym, ◌∙◌, ap, subst, arith, length-append, length-take}
+use Rattle.std.proofs.Common.{◌≡◌, ℕ, zero, suc, ◌+◌, ◌-◌, ◌<◌, ◌≤◌, List, [], ◌∷◌, ◌++◌, length, take, slice_get, Option, Some, None, refl, ◌∙◌, ap, arith, length-take}
 use Rattle.std.specs.Prelude.{option_and_then}
-use Rattle.std.proofs.lemmas.List.{take-append-le, take_all, append-nil}
+use Rattle.std.proofs.lemmas.List.{take-append-le, take_all}
 use Rattle.desk_rules.specs.declared.entry.Entry.{Entry}
-use Rattle.desk_rules.specs.History.{Instructed, instructed, entry_at, before, instruction_at, run_day}
+use Rattle.desk_rules.specs.History.{Instructed, instructed, entry_at, before, instruction_at}
 
 -- An element by its place.
 

@@ -1,28 +1,26 @@
 -- Where each entry was accepted in its turn, no balance is ever below 0.
-use Rattle.std.proofs.Common.{◌≡◌, ◌≢◌, ℕ, zero, suc, ◌+◌, ◌<◌, ◌≤◌, ◌⊎◌, inl, inr, Bool, true, false, List, [], ◌∷◌, ◌++◌, Contains, bytes_eq, filter, length, take, drop, get_or, Option, Some, None, refl, sym, ◌∙◌, ap, subst, arith, append_assoc, append-nil, length-append, nat_lt, add-one}
+use Rattle.std.proofs.Common.{◌≡◌, ℕ, zero, suc, ◌+◌, ◌<◌, ◌≤◌, inl, inr, true, List, [], ◌∷◌, ◌++◌, bytes_eq, filter, length, take, drop, get_or, Option, Some, None, refl, sym, ◌∙◌, ap, subst, arith, append_assoc, append-nil, length-append, add-one}
 use Rattle.std.specs.Prelude.{option_and_then}
-use Rattle.std.proofs.lemmas.Bool.{cases_Bool, both_ways, ltb-true, ltb-false, cases_lt}
+use Rattle.std.proofs.lemmas.Bool.{ltb-true, ltb-false, cases_lt}
 use Rattle.std.proofs.lemmas.List.{take_more, take_all, take-append-drop}
 use Rattle.std.proofs.lemmas.List.Elements.{Contains-get_or, filter-append}
 use Rattle.std.proofs.lemmas.Slice.Eq.{bytes_eq-Decides}
 use Rattle.desk_codes.specs.declared.currency.Ccy.{Ccy}
-use Rattle.desk_rules.specs.declared.entry.Holding.{Holding}
-use Rattle.desk_rules.specs.declared.entry.Payment.{Payment}
 use Rattle.desk_rules.specs.declared.entry.Entry.{Entry}
 use Rattle.desk_rules.specs.declared.entry.Entry.TheVariants.{Participant, Account, Security, Issue, Redeem, PayIn, PayOut, Instruct, Cancel, Run}
 use Rattle.desk_rules.specs.declared.pair.Pair.{Pair}
 use Rattle.desk_rules.specs.declared.pair.Settled.{Settled}
-use Rattle.desk_rules.specs.History.{Instructed, entry_at, before, run_day}
-use Rattle.desk_rules.specs.Pairing.{pairs_below, IsMate, IsPairing}
-use Rattle.desk_rules.specs.Balances.{same_ccy, holding_on, issued_by, redeemed_by, credits, debits, payment_of, paid_in_by, paid_out_by, cash_credits, cash_debits}
+use Rattle.desk_rules.specs.History.{entry_at, before, run_day}
+use Rattle.desk_rules.specs.Pairing.{IsMate, IsPairing}
+use Rattle.desk_rules.specs.Balances.{same_ccy, holding_on, redeemed_by, credits, debits, payment_of, paid_out_by, cash_credits, cash_debits}
 use Rattle.desk_rules.specs.Covered.{is_covered}
-use Rattle.desk_rules.specs.Settlement.{is_by, day_of, is_due, precedes, settled_before, Settles, IsSettlement}
-use Rattle.desk_rules.specs.Verdict.{Books, AreBooks, WasAccepted}
+use Rattle.desk_rules.specs.Settlement.{is_by, day_of, precedes, settled_before, Settles, IsSettlement}
+use Rattle.desk_rules.specs.Verdict.{Books, WasAccepted}
 use Rattle.desk_rules.specs.Laws.{AreNonNegative}
-use Rattle.desk_rules.proofs.Decided.{In, In-from_Contains, Contains-from_In, In-left, In-right, In-cases, filter-In, filter-front, filter-same, filter-none, Ordered, Ordered-across, Ordered-right, IsStrict, not_back, Decided, front_of}
-use Rattle.desk_rules.proofs.HistoryLemmas.{entry_at-known, entry_at-end, before-front, before-all}
+use Rattle.desk_rules.proofs.Decided.{In, In-from_Contains, Contains-from_In, In-left, In-right, In-cases, filter-front, filter-same, filter-none, Ordered-across, Ordered-right, not_back, front_of}
+use Rattle.desk_rules.proofs.HistoryLemmas.{entry_at-end, before-front, before-all}
 use Rattle.desk_rules.proofs.PairingLemmas.{lower, lower_strict, mate_front, decided_pairing}
-use Rattle.desk_rules.proofs.SettlementLemmas.{precedes_strict, precedes_true, DueFacts, due_facts, IsRanged, settles_ranged, decided_settlement}
+use Rattle.desk_rules.proofs.SettlementLemmas.{precedes_strict, precedes_true, due_facts, IsRanged, decided_settlement}
 use Rattle.desk_rules.proofs.SettlementGrowth.{SamePairsTo, precedes-front, settles_front}
 use Rattle.desk_rules.proofs.Existence.{HasBooks, books_exist, books_front, same_books}
 use Rattle.desk_rules.proofs.Deciding.{same_ccy-true}
@@ -126,14 +124,14 @@ module _ (h : List Entry) (e : Entry) (ps qs : List Pair) (settled more : List S
             let ranged : IsRanged (length h) x = record { run = old; numbered = facts.numbered } in
             let c' : Settles h ps settled x = (settles_front h (e ∷ []) ps qs settled x same ranged).1 c in
             let all : settled_before h x settled ≡ settled =
-                sym (ap (λ z. settled_before h x z) (append-nil settled)) ∙ filter-front (λ t. precedes h t x) settled []
-                (λ t i.
-                    let r = old_d.within t i in
-                    let known : t.run ≤ length h = r.run in
-                    let low : t.pair.later < t.run = r.numbered in
-                    let low' : x.pair.later < x.run = facts.numbered in
-                    sym (precedes-front h (e ∷ []) t x (omega arith) (omega arith)) ∙ Ordered-across (precedes g) settled (x ∷ rest) d.order t x i (inl refl))
-                (λ t i. absurd i) in
+            sym (ap (λ z. settled_before h x z) (append-nil settled)) ∙ filter-front (λ t. precedes h t x) settled []
+            (λ t i.
+            let r = old_d.within t i in
+            let known : t.run ≤ length h = r.run in
+            let low : t.pair.later < t.run = r.numbered in
+            let low' : x.pair.later < x.run = facts.numbered in
+            sym (precedes-front h (e ∷ []) t x (omega arith) (omega arith)) ∙ Ordered-across (precedes g) settled (x ∷ rest) d.order t x i (inl refl))
+            (λ t i. absurd i) in
             let R : List Settled → Type 0 = λ z. Settles h ps z x in
             let there : In settled x = (old_d.exact x ranged).1 (subst R (sym all) c') in
             let strict = precedes_strict g in
@@ -175,8 +173,8 @@ module _ (h : List Entry) (e : Entry) (ps qs : List Pair) (settled more : List S
       let taken : settled ++ take (suc k) more ≡ settled ++ take k more ++ x ∷ [] = ap (λ z. settled ++ z) (ap (λ n. take n more) (sym (add-one k)) ∙ more_here) ∙ sym (append_assoc settled (take k more) (x ∷ [])) in
       let rest = drop (k + 1) more in
       let whole : settled ++ take k more ++ x ∷ rest ≡ settled ++ more =
-          sym (append_assoc (settled ++ take k more) (x ∷ []) rest) ∙ ap (λ z. z ++ rest) (append_assoc settled (take k more) (x ∷ [])) ∙ ap (λ z. settled ++ z ++ rest) (sym more_here)
-          ∙ append_assoc settled (take (k + 1) more) rest ∙ ap (λ z. settled ++ z) (take-append-drop (k + 1) more) in
+      sym (append_assoc (settled ++ take k more) (x ∷ []) rest) ∙ ap (λ z. z ++ rest) (append_assoc settled (take k more) (x ∷ [])) ∙ ap (λ z. settled ++ z ++ rest) (sym more_here)
+      ∙ append_assoc settled (take (k + 1) more) rest ∙ ap (λ z. settled ++ z) (take-append-drop (k + 1) more) in
       let P : List Settled → Type 0 = λ z. IsSettlement g qs z in
       let dec = decided_settlement g qs (settled ++ take k more ++ x ∷ rest) (subst P (sym whole) longer.settlement) in
       let inside : In (settled ++ take k more ++ x ∷ rest) x = In-right (settled ++ take k more) (x ∷ rest) x (inl refl) in
@@ -196,8 +194,8 @@ module _ (h : List Entry) (e : Entry) (ps qs : List Pair) (settled more : List S
       let more_here : take (k + 1) more ≡ take k more ++ x ∷ [] = take_more more k d lt in
       let rest = drop (k + 1) more in
       let whole : settled ++ take k more ++ x ∷ rest ≡ settled ++ more =
-          sym (append_assoc (settled ++ take k more) (x ∷ []) rest) ∙ ap (λ z. z ++ rest) (append_assoc settled (take k more) (x ∷ [])) ∙ ap (λ z. settled ++ z ++ rest) (sym more_here)
-          ∙ append_assoc settled (take (k + 1) more) rest ∙ ap (λ z. settled ++ z) (take-append-drop (k + 1) more) in
+      sym (append_assoc (settled ++ take k more) (x ∷ []) rest) ∙ ap (λ z. z ++ rest) (append_assoc settled (take k more) (x ∷ [])) ∙ ap (λ z. settled ++ z ++ rest) (sym more_here)
+      ∙ append_assoc settled (take (k + 1) more) rest ∙ ap (λ z. settled ++ z) (take-append-drop (k + 1) more) in
       let P : List Settled → Type 0 = λ z. IsSettlement g qs z in
       let dec = decided_settlement g qs (settled ++ take k more ++ x ∷ rest) (subst P (sym whole) longer.settlement) in
       ap (λ z. settled_before g x z) (sym whole) ∙ front_of (precedes g) (precedes_strict g) (settled ++ take k more) rest x dec.order
@@ -216,7 +214,7 @@ first_pair_is_new h g ps x rest is longer =
           let old_d = decided_pairing h ps is in
           let m' : IsMate h ps x = (mate_front h g ps x old).1 m in
           let all : filter (λ t. lower t x) ps ≡ ps =
-              sym (ap (λ z. filter (λ t. lower t x) z) (append-nil ps)) ∙ filter-front (λ t. lower t x) ps [] (λ t i. Ordered-across lower ps (x ∷ rest) d.order t x i (inl refl)) (λ t i. absurd i) in
+          sym (ap (λ z. filter (λ t. lower t x) z) (append-nil ps)) ∙ filter-front (λ t. lower t x) ps [] (λ t i. Ordered-across lower ps (x ∷ rest) d.order t x i (inl refl)) (λ t i. absurd i) in
           let R : List Pair → Type 0 = λ z. IsMate h z x in
           let there : In ps x = (old_d.exact x old).1 (subst R (sym all) m') in
           absurd (lower_strict.never x (Ordered-across lower ps (x ∷ rest) d.order x x there (inl refl)))
@@ -262,11 +260,11 @@ module _ (limit : ℕ) (h : List Entry) (e : Entry) (ps qs : List Pair) (settled
       let books : Books = record { history = h; pairs = ps; settled = settled } in
       let p = accepted_last limit h e ps settled was is in
       grown_non_negative h e settled
-          (λ s i.
-              let d = decided_settlement h ps settled is.settlement in
-              let w = settled_within h ps settled is (length h) (λ t j. let r = d.within t j in let most : t.run ≤ length h = r.run in omega arith) s i in
-              record { earlier = w.0; later = w.1 })
-          (entry_securities books e p start.now) (entry_cash books e p start.now)
+      (λ s i.
+      let d = decided_settlement h ps settled is.settlement in
+      let w = settled_within h ps settled is (length h) (λ t j. let r = d.within t j in let most : t.run ≤ length h = r.run in omega arith) s i in
+      record { earlier = w.0; later = w.1 })
+      (entry_securities books e p start.now) (entry_cash books e p start.now)
 
   after_some : (more : List Settled) (x : Settled) → In more x → HasBooks (h ++ e ∷ []) qs (settled ++ more) → AreNonNegative (h ++ e ∷ []) (settled ++ more)
   after_some more x i longer =
@@ -283,9 +281,9 @@ module _ (limit : ℕ) (h : List Entry) (e : Entry) (ps qs : List Pair) (settled
       let P : List Settled → Type 0 = λ z. AreNonNegative h (settled ++ z) in
       let there : AreNonNegative h (settled ++ more) = subst P (take_all (length more) more (omega arith)) all in
       grown_non_negative h e (settled ++ more)
-          (λ s j. let w = settled_within g qs (settled ++ more) longer (length h) (λ t k. let r = d.within t k in let most : t.run ≤ length g = r.run in omega arith) s j in record { earlier = w.0; later = w.1 })
-          (λ account isin. let below = there.positions account isin in let none = takes.0 account isin in omega arith)
-          (λ bic ccy. let below = there.cash bic ccy in let none = takes.1 bic ccy in omega arith)
+      (λ s j. let w = settled_within g qs (settled ++ more) longer (length h) (λ t k. let r = d.within t k in let most : t.run ≤ length g = r.run in omega arith) s j in record { earlier = w.0; later = w.1 })
+      (λ account isin. let below = there.positions account isin in let none = takes.0 account isin in omega arith)
+      (λ bic ccy. let below = there.cash bic ccy in let none = takes.1 bic ccy in omega arith)
 
   after_entry : (more : List Settled) → HasBooks (h ++ e ∷ []) qs (settled ++ more) → AreNonNegative (h ++ e ∷ []) (settled ++ more)
   after_entry [] longer = let P : List Settled → Type 0 = AreNonNegative (h ++ e ∷ []) in subst P (sym (append-nil settled)) after_none
@@ -302,9 +300,9 @@ module _ (limit : ℕ) (h : List Entry) (e : Entry) (ps qs : List Pair) (settled
       let low : s.pair.later < s.run = r.numbered in
       let rest_none : filter (λ t. precedes g t s) more ≡ [] = filter-none (λ t. precedes g t s) more (λ t j. not_back (precedes g) (precedes_strict g) s t (Ordered-across (precedes g) settled more d.order s t i j)) in
       let old_same : filter (λ t. precedes g t s) settled ≡ settled_before h s settled = filter-same (λ t. precedes g t s) (λ t. precedes h t s) settled
-          (λ t j. let q = old_d.within t j in let known' : t.run ≤ length h = q.run in let low' : t.pair.later < t.run = q.numbered in precedes-front h (e ∷ []) t s (omega arith) (omega arith)) in
+      (λ t j. let q = old_d.within t j in let known' : t.run ≤ length h = q.run in let low' : t.pair.later < t.run = q.numbered in precedes-front h (e ∷ []) t s (omega arith) (omega arith)) in
       let front : settled_before g s (settled ++ more) ≡ settled_before h s settled =
-          filter-append (λ t. precedes g t s) settled more ∙ ap (λ z. filter (λ t. precedes g t s) settled ++ z) rest_none ∙ append-nil (filter (λ t. precedes g t s) settled) ∙ old_same in
+      filter-append (λ t. precedes g t s) settled more ∙ ap (λ z. filter (λ t. precedes g t s) settled ++ z) rest_none ∙ append-nil (filter (λ t. precedes g t s) settled) ∙ old_same in
       let P : List Settled → Type 0 = λ z. AreNonNegative (before s.run g) (z ++ s ∷ []) in
       let Q : List Entry → Type 0 = λ z. AreNonNegative z (settled_before h s settled ++ s ∷ []) in
       subst P (sym front) (subst Q (sym (before-front h (e ∷ []) s.run (omega arith))) (start.each s i))
@@ -317,7 +315,7 @@ module _ (limit : ℕ) (h : List Entry) (e : Entry) (ps qs : List Pair) (settled
       let lt : k < length more = place.1 in
       let number : s.run ≡ length h + 1 = more_runs h e ps qs settled more is longer same s i in
       let front : settled_before g s (settled ++ more) ≡ settled ++ take k more =
-          ap (λ z. settled_before g z (settled ++ more)) (sym place.2) ∙ member_front h e ps qs settled more is longer same k s lt in
+      ap (λ z. settled_before g z (settled ++ more)) (sym place.2) ∙ member_front h e ps qs settled more is longer same k s lt in
       let taken : take (suc k) more ≡ take k more ++ s ∷ [] = ap (λ n. take n more) (sym (add-one k)) ∙ take_more more k s lt ∙ ap (λ z. take k more ++ z ∷ []) place.2 in
       let all : settled ++ take (suc k) more ≡ settled ++ take k more ++ s ∷ [] = ap (λ z. settled ++ z) taken ∙ sym (append_assoc settled (take k more) (s ∷ [])) in
       let here : AreNonNegative h (settled ++ take (suc k) more) = members_non_negative h e ps qs settled more is longer same start.now (suc k) (omega arith) in

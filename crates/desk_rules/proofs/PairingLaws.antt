@@ -1,5 +1,5 @@
 -- Laws of pairing and settlement.
-use Rattle.std.proofs.Common.{◌≡◌, ◌≢◌, ℕ, ◌+◌, ◌<◌, ◌≤◌, ◌⊎◌, inl, inr, true, List, [], ◌++◌, Contains, refl, sym, ◌∙◌, ap, subst, arith}
+use Rattle.std.proofs.Common.{◌≡◌, ℕ, ◌<◌, inl, inr, List, ◌++◌, Contains, refl, sym, ◌∙◌, subst, arith}
 use Rattle.std.proofs.lemmas.Bool.{cases_order, lt-ltb}
 use Rattle.desk_rules.specs.declared.entry.Entry.{Entry}
 use Rattle.desk_rules.specs.declared.pair.Pair.{Pair}
@@ -11,7 +11,7 @@ use Rattle.desk_rules.specs.Settlement.{IsSettlement, settled_before, precedes}
 use Rattle.desk_rules.proofs.Decided.{In-from_Contains, Contains-from_In, filter-In}
 use Rattle.desk_rules.proofs.PairingLemmas.{lower, one_pairing as one_pairing_of}
 use Rattle.desk_rules.proofs.SettlementLemmas.{ordered_pairs, one_number, one_settlement as one_settlement_of, settled_same, precedes_run}
-use Rattle.desk_rules.proofs.Existence.{HasBooks, books_exist, books_front}
+use Rattle.desk_rules.proofs.Existence.{books_exist, books_front}
 
 pub opposite_back : (a b : Instructed) → AreOpposite a b → AreOpposite b a
 opposite_back a b o = record {
@@ -49,9 +49,9 @@ pub one_pair_of : (h : List Entry) (ps : List Pair) (p q : Pair) (k : ℕ) → I
 one_pair_of h ps p q k is a b i j = elim (cases_order p.later q.later) [
   | inl same ↦ one_number ps (ordered_pairs h ps is) p q (In-from_Contains ps p a) (In-from_Contains ps q b) same
   | inr o ↦ elim o [
-      | inl less ↦ absurd (no_shared_side h ps p q k is a b less i j)
-      | inr more ↦ absurd (no_shared_side h ps q p k is b a more j i)
-    ]
+    | inl less ↦ absurd (no_shared_side h ps p q k is a b less i j)
+    | inr more ↦ absurd (no_shared_side h ps q p k is b a more j i)
+  ]
 ]
 
 pub settlement_exists : (h : List Entry) (ps : List Pair) → IsPairing h ps → (settled : List Settled) × IsSettlement h ps settled
@@ -86,7 +86,7 @@ pub settled_once : (h : List Entry) (ps : List Pair) (settled : List Settled) (s
 settled_once h ps settled s t is a b same = elim (cases_order s.run t.run) [
   | inl run ↦ settled_same s t run same
   | inr o ↦ elim o [
-      | inl less ↦ absurd (not_again h ps settled s t is a b less same)
-      | inr more ↦ absurd (not_again h ps settled t s is b a more (sym same))
-    ]
+    | inl less ↦ absurd (not_again h ps settled s t is a b less same)
+    | inr more ↦ absurd (not_again h ps settled t s is b a more (sym same))
+  ]
 ]

@@ -1,14 +1,12 @@
 -- A history has one pairing, and the next entry adds at most one pair to it.
-use Rattle.std.proofs.Common.{◌≡◌, ◌≢◌, ℕ, zero, suc, ◌+◌, ◌<◌, ◌≤◌, ◌↔◌, ◌⊎◌, inl, inr, Bool, true, false, nat_lt, List, [], ◌∷◌, ◌++◌, Contains, AllPairs, filter, length, Some, refl, sym, ◌∙◌, ap, subst, arith, append-nil, length-append}
+use Rattle.std.proofs.Common.{◌≡◌, ℕ, ◌+◌, ◌<◌, ◌≤◌, ◌↔◌, inl, inr, Bool, nat_lt, List, [], ◌∷◌, ◌++◌, length, refl, sym, ◌∙◌, ap, subst, arith, append-nil, length-append}
 use Rattle.std.proofs.lemmas.Bool.{cases_lt, cases_eq, cases_order, ltb-true, lt-ltb, le-ltb}
 use Rattle.desk_rules.specs.declared.entry.Entry.{Entry}
 use Rattle.desk_rules.specs.declared.pair.Pair.{Pair}
-use Rattle.desk_rules.specs.History.{Instructed, entry_at, before, instruction_at}
-use Rattle.desk_rules.specs.Opposite.{AreOpposite, AreOppositeAt}
-use Rattle.desk_rules.specs.Cancelled.{is_cancelled}
-use Rattle.desk_rules.specs.Pairing.{pairs_below, IsFree, IsCandidate, IsMate, IsPairing}
-use Rattle.desk_rules.proofs.Decided.{In, In-from_Contains, Contains-from_In, Ordered-from_AllPairs, AllPairs-from_Ordered, filter-front, filter-push_no, IsStrict, IsTotalOn, Decided, one_list, grow_out, grow_in}
-use Rattle.desk_rules.proofs.HistoryLemmas.{entry_at-front, before-front, instruction_at-known, instruction_at-front}
+use Rattle.desk_rules.specs.Opposite.{AreOppositeAt}
+use Rattle.desk_rules.specs.Pairing.{pairs_below, IsCandidate, IsMate, IsPairing}
+use Rattle.desk_rules.proofs.Decided.{In-from_Contains, Contains-from_In, Ordered-from_AllPairs, AllPairs-from_Ordered, filter-front, filter-push_no, IsStrict, IsTotalOn, Decided, one_list, grow_out, grow_in}
+use Rattle.desk_rules.proofs.HistoryLemmas.{before-front, instruction_at-known, instruction_at-front}
 
 pub pair_same : (p q : Pair) → p.earlier ≡ q.earlier → p.later ≡ q.later → p ≡ q
 pair_same p q a b = let f : ℕ → ℕ → Pair = λ m n. record { earlier = m; later = n } in ap (λ m. f m p.later) a ∙ ap (λ n. f q.earlier n) b
@@ -110,14 +108,14 @@ mates_total h ps p q a b = elim (cases_order p.later q.later) [
       elim (cases_order p.earlier q.earlier) [
         | inl e ↦ pair_same p q e same
         | inr o ↦ elim o [
-            | inl less ↦ absurd (b.least p.earlier less (subst P same a.candidate))
-            | inr more ↦ absurd (a.least q.earlier more (subst Q (sym same) b.candidate))
-          ]
+          | inl less ↦ absurd (b.least p.earlier less (subst P same a.candidate))
+          | inr more ↦ absurd (a.least q.earlier more (subst Q (sym same) b.candidate))
+        ]
       ]))
   | inr o ↦ elim o [
-      | inl less ↦ inl (lt-ltb p.later q.later less)
-      | inr more ↦ inr (inr (lt-ltb q.later p.later more))
-    ]
+    | inl less ↦ inl (lt-ltb p.later q.later less)
+    | inr more ↦ inr (inr (lt-ltb q.later p.later more))
+  ]
 ]
 
 -- two mates of one entry are one
@@ -146,16 +144,16 @@ pairing_alone h e ps is none =
     let g = h ++ e ∷ [] in
     let longer : length g ≡ length h + 1 = length-append h (e ∷ []) in
     pairing_decided g ps (grow_out lower lower_strict (IsNumbered h) (IsNumbered g) (IsMate h) (IsMate g) ps (decided_pairing h ps is)
-        (λ p b. omega arith)
-        (λ front p b. mate_front h (e ∷ []) front p b)
-        (λ p b. elim (cases_lt p.later (length h + 1)) [
-          | inl lt ↦ inl (omega arith)
-          | inr ge ↦ inr (λ m.
-              let last : p.later ≡ length h + 1 = omega arith in
-              let P : ℕ → Type 0 = λ n. IsCandidate g (pairs_below n ps) n p.earlier in
-              let Q : List Pair → Type 0 = λ z. IsCandidate g z (length h + 1) p.earlier in
-              none p.earlier (subst Q (all_below h ps (length h + 1) is refl) (subst P last m.candidate)))
-        ]))
+    (λ p b. omega arith)
+    (λ front p b. mate_front h (e ∷ []) front p b)
+    (λ p b. elim (cases_lt p.later (length h + 1)) [
+      | inl lt ↦ inl (omega arith)
+      | inr ge ↦ inr (λ m.
+          let last : p.later ≡ length h + 1 = omega arith in
+          let P : ℕ → Type 0 = λ n. IsCandidate g (pairs_below n ps) n p.earlier in
+          let Q : List Pair → Type 0 = λ z. IsCandidate g z (length h + 1) p.earlier in
+          none p.earlier (subst Q (all_below h ps (length h + 1) is refl) (subst P last m.candidate)))
+    ]))
 
 -- an entry that finds a least candidate is paired with it
 pub pairing_mated : (h : List Entry) (e : Entry) (ps : List Pair) (p : Pair) → IsPairing h ps → p.later ≡ length h + 1
@@ -165,20 +163,20 @@ pairing_mated h e ps p is last mate =
     let g = h ++ e ∷ [] in
     let longer : length g ≡ length h + 1 = length-append h (e ∷ []) in
     pairing_decided g (ps ++ p ∷ []) (grow_in lower lower_strict (IsNumbered h) (IsNumbered g) (IsMate h) (IsMate g) ps p (decided_pairing h ps is)
-        (λ q b. omega arith)
-        (omega arith)
-        (λ front q b. mate_front h (e ∷ []) front q b)
-        (λ q b. lt-ltb q.later p.later (omega arith))
-        mate
-        (λ q b. elim (cases_lt q.later (length h + 1)) [
-          | inl lt ↦ inl (omega arith)
-          | inr ge ↦ inr (elim (cases_eq p.earlier q.earlier) [
-              | inl e ↦ inl (pair_same p q e (omega arith))
-              | inr differs ↦ inr (λ m.
-                  let same : p.later ≡ q.later = omega arith in
-                  let dropped : pairs_below q.later (ps ++ p ∷ []) ≡ ps =
-                      filter-push_no (λ x. nat_lt x.later q.later) ps p (le-ltb p.later q.later (omega arith)) ∙ all_below h ps q.later is (omega arith) in
-                  let P : List Pair → Type 0 = λ z. IsMate g z q in
-                  differs (ap (λ x. x.earlier) (mates_one g ps p q mate (subst P dropped m) same)))
-            ])
-        ]))
+    (λ q b. omega arith)
+    (omega arith)
+    (λ front q b. mate_front h (e ∷ []) front q b)
+    (λ q b. lt-ltb q.later p.later (omega arith))
+    mate
+    (λ q b. elim (cases_lt q.later (length h + 1)) [
+      | inl lt ↦ inl (omega arith)
+      | inr ge ↦ inr (elim (cases_eq p.earlier q.earlier) [
+        | inl e ↦ inl (pair_same p q e (omega arith))
+        | inr differs ↦ inr (λ m.
+            let same : p.later ≡ q.later = omega arith in
+            let dropped : pairs_below q.later (ps ++ p ∷ []) ≡ ps =
+            filter-push_no (λ x. nat_lt x.later q.later) ps p (le-ltb p.later q.later (omega arith)) ∙ all_below h ps q.later is (omega arith) in
+            let P : List Pair → Type 0 = λ z. IsMate g z q in
+            differs (ap (λ x. x.earlier) (mates_one g ps p q mate (subst P dropped m) same)))
+      ])
+    ]))

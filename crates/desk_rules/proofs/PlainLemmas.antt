@@ -1,9 +1,9 @@
 -- What the steps of the plain program show.
-use Rattle.std.proofs.Common.{◌≡◌, ◌≢◌, ℕ, zero, suc, ◌+◌, ◌-◌, ◌<◌, ◌≤◌, ◌⊎◌, inl, inr, Bool, true, false, ◌==◌, ◌||◌, List, [], ◌∷◌, ◌++◌, Contains, All, AllPairs, MatchOption, filter, length, take, get_or, Option, Some, None, refl, sym, ◌∙◌, ap, subst, arith, add-one, length-take}
+use Rattle.std.proofs.Common.{◌≡◌, ◌≢◌, ℕ, zero, suc, ◌+◌, ◌-◌, ◌<◌, ◌≤◌, inl, inr, Bool, true, false, ◌==◌, List, [], ◌∷◌, ◌++◌, All, AllPairs, MatchOption, filter, length, take, get_or, Option, Some, None, refl, sym, ◌∙◌, ap, subst, arith, add-one, length-take}
 use Rattle.std.specs.List.{list_any}
 use Rattle.std.proofs.lemmas.List.{take_all, take_more}
 use Rattle.std.proofs.lemmas.List.Elements.{All-contains, Contains-get_or}
-use Rattle.std.proofs.lemmas.Bool.{cases_Bool, both_ways, eqb-true, eqb-false, eq-eqb, or_cases, or_parts, or_left, or_right, lt-ltb, false_from_ne_true}
+use Rattle.std.proofs.lemmas.Bool.{both_ways, eqb-true, eq-eqb, or_cases, or_left, or_right, lt-ltb, false_from_ne_true}
 use Rattle.desk_rules.specs.declared.entry.Entry.{Entry}
 use Rattle.desk_rules.specs.declared.pair.Pair.{Pair}
 use Rattle.desk_rules.specs.declared.pair.Settled.{Settled}
@@ -66,9 +66,9 @@ pairing_step_alone h i ps lt is none =
     let P : List Entry → Type 0 = λ z. IsPairing z ps in
     let long : length (take i h) ≡ i = length_front h i (omega arith) in
     subst P (sym one.1) (pairing_alone (take i h) one.0 ps is (λ k c.
-        let Q : ℕ → Type 0 = λ n. IsCandidate (take i h ++ one.0 ∷ []) ps n k in
-        let R : List Entry → Type 0 = λ z. IsCandidate z ps (i + 1) k in
-        none k (subst R (sym one.1) (subst Q (ap (λ n. n + 1) long) c))))
+    let Q : ℕ → Type 0 = λ n. IsCandidate (take i h ++ one.0 ∷ []) ps n k in
+    let R : List Entry → Type 0 = λ z. IsCandidate z ps (i + 1) k in
+    none k (subst R (sym one.1) (subst Q (ap (λ n. n + 1) long) c))))
 
 pub pairing_step_mated : (h : List Entry) (i : ℕ) (ps : List Pair) (p : Pair) → i < length h → IsPairing (take i h) ps
     → p.later ≡ i + 1 → IsMate (take (i + 1) h) ps p
@@ -79,7 +79,6 @@ pairing_step_mated h i ps p lt is at mate =
     let R : List Entry → Type 0 = λ z. IsMate z ps p in
     let long : length (take i h) ≡ i = length_front h i (omega arith) in
     subst P (sym one.1) (pairing_mated (take i h) one.0 ps p is (omega arith) (subst R one.1 mate))
-
 
 -- Settlement.
 

@@ -1,5 +1,5 @@
 -- Values with the same content are one: a condition that a type keeps has one proof.
-use Rattle.std.proofs.Common.{◌≡◌, ℕ, ◌+◌, ◌<◌, ◌≤◌, Bool, true, List, length, Option, Some, None, refl, sym, ap, subst, ◌∙◌}
+use Rattle.std.proofs.Common.{◌≡◌, ℕ, ◌<◌, ◌≤◌, true, List, length, Option, ap}
 use Rattle.std.specs.Prelude.{is_some}
 use Rattle.std.proofs.Props.{props}
 use mathlib.Core.HLevel.{Σ_prop_path}
@@ -36,8 +36,21 @@ pub instruction_same : (a b : Instruction) → a.mt ≡ b.mt → a.reference ≡
     → a.account ≡ b.account → a.settlement ≡ b.settlement → a.counterparty ≡ b.counterparty → a.place ≡ b.place → a.cash ≡ b.cash → a ≡ b
 instruction_same a b e0 e1 e2 e3 e4 e5 e6 e7 e8 e9 e10 =
     let whole : ((x : Parts) × Keeps x) → Instruction = λ s. record {
-      mt = s.0.0; reference = s.0.1; day = s.0.2; isin = s.0.3; kind = s.0.4; quantity = s.0.5; account = s.0.6; settlement = s.0.7;
-      counterparty = s.0.8; place = s.0.9; cash = s.0.10; instructs = s.1.0; some = s.1.1; short = s.1.2; paid = s.1.3
+      mt = s.0.0;
+      reference = s.0.1;
+      day = s.0.2;
+      isin = s.0.3;
+      kind = s.0.4;
+      quantity = s.0.5;
+      account = s.0.6;
+      settlement = s.0.7;
+      counterparty = s.0.8;
+      place = s.0.9;
+      cash = s.0.10;
+      instructs = s.1.0;
+      some = s.1.1;
+      short = s.1.2;
+      paid = s.1.3;
     } in
     let base : parts_of a ≡ parts_of b = cc in
     let both : ◌≡◌ {A = (x : Parts) × Keeps x} (parts_of a, (a.instructs, a.some, a.short, a.paid)) (parts_of b, (b.instructs, b.some, b.short, b.paid)) = Σ_prop_path (λ x. hlevel props) base in

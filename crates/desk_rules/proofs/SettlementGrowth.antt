@@ -1,20 +1,18 @@
 -- How the settlement grows with a history: by runs alone, and in a run by the due pairs that are covered, in order.
-use Rattle.std.proofs.Common.{◌≡◌, ◌≢◌, ℕ, zero, suc, ◌+◌, ◌<◌, ◌≤◌, ◌↔◌, ◌⊎◌, inl, inr, Bool, true, false, not, ◌&&◌, ◌||◌, ◌==◌, nat_lt, nat_le, List, [], ◌∷◌, ◌++◌, Contains, AllPairs, filter, length, Option, Some, None, refl, sym, ◌∙◌, ap, subst, arith, append-nil, length-append}
+use Rattle.std.proofs.Common.{◌≡◌, ℕ, ◌+◌, ◌<◌, ◌≤◌, ◌↔◌, ◌⊎◌, inl, inr, true, false, ◌&&◌, ◌||◌, ◌==◌, nat_lt, List, [], ◌∷◌, ◌++◌, Contains, length, Option, Some, None, refl, sym, ◌∙◌, ap, subst, arith, append-nil, length-append}
 use Rattle.std.specs.Prelude.{option_and_then}
-use Rattle.std.proofs.lemmas.Bool.{cases_Bool, cases_lt, cases_eq, cases_order, ltb-true, lt-ltb, le-ltb, leb-true, eqb-true, eq-eqb, and_parts, and_from, or_cases, or_left, or_right, both_ways, false_from_ne_true}
-use Rattle.desk_codes.specs.Number.{number_of}
+use Rattle.std.proofs.lemmas.Bool.{cases_Bool, cases_lt, cases_eq, cases_order, both_ways, false_from_ne_true}
 use Rattle.desk_rules.specs.declared.entry.Entry.{Entry}
 use Rattle.desk_rules.specs.declared.pair.Pair.{Pair}
 use Rattle.desk_rules.specs.declared.pair.Settled.{Settled}
 use Rattle.desk_rules.specs.declared.pair.Place.{Place}
-use Rattle.desk_rules.specs.History.{Instructed, entry_at, before, instruction_at, run_day}
-use Rattle.desk_rules.specs.Pairing.{IsPairing}
+use Rattle.desk_rules.specs.History.{entry_at, before, run_day}
 use Rattle.desk_rules.specs.Covered.{is_covered}
-use Rattle.desk_rules.specs.Settlement.{instructed_day, day_of, is_sooner, precedes, settled_before, is_by, stands, is_due, IsUnsettled, Settles, IsSettlement, is_above, IsOpen, IsNext}
-use Rattle.desk_rules.proofs.Decided.{In, In-from_Contains, Contains-from_In, In-left, In-right, In-cases, In-push_cases, In-filter, filter-In, filter-front, Ordered, Ordered-from_AllPairs, AllPairs-from_Ordered, IsStrict, IsTotalOn, Decided, one_list, grow_out, grow_in, Decided-same}
-use Rattle.desk_rules.proofs.HistoryLemmas.{entry_at-known, entry_at-front, entry_at-end, before-front, before-all, instruction_at-front}
+use Rattle.desk_rules.specs.Settlement.{instructed_day, day_of, is_sooner, precedes, settled_before, is_by, is_due, IsUnsettled, Settles, IsSettlement, is_above, IsOpen, IsNext}
+use Rattle.desk_rules.proofs.Decided.{In-from_Contains, Contains-from_In, In-left, In-push_cases, filter-In, filter-front, Ordered, Decided, grow_out, grow_in, Decided-same}
+use Rattle.desk_rules.proofs.HistoryLemmas.{entry_at-front, entry_at-end, before-front, instruction_at-front}
 use Rattle.desk_rules.proofs.PairingLemmas.{pair_same, lower}
-use Rattle.desk_rules.proofs.SettlementLemmas.{sooner_true, sooner_day, sooner_number, precedes_true, precedes_run, precedes_pair, above_true, above_day, above_number, sooner_strict_never, sooner_through, precedes_strict, settled_same, DueFacts, due_facts, due_known, IsRanged, settles_ranged, decided_settlement, settlement_decided, one_number, sooner_total}
+use Rattle.desk_rules.proofs.SettlementLemmas.{sooner_true, sooner_day, sooner_number, precedes_run, precedes_pair, above_true, above_day, above_number, precedes_strict, settled_same, due_facts, IsRanged, decided_settlement, settlement_decided, one_number}
 
 -- What a history says of the numbers that it has, it says when it is longer.
 
@@ -69,7 +67,7 @@ settled_in h g ps qs settled same is = Decided-same (precedes h) (precedes (h ++
     (λ s t a b. let ra : s.run ≤ length h = a.run in let na : s.pair.later < s.run = a.numbered in let rb : t.run ≤ length h = b.run in let nb : t.pair.later < t.run = b.numbered in sym (precedes-front h g s t (omega arith) (omega arith)))
     (λ front s r. settles_front h g ps qs front s same r)
 
-by_none : (f : Entry → Option ℕ) (o : Option Entry) (e : Entry) (day : ℕ) → o ≡ Some e → f e ≡ None → is_by (option_and_then f o) day ≡ true → ⊥
+pub by_none : (f : Entry → Option ℕ) (o : Option Entry) (e : Entry) (day : ℕ) → o ≡ Some e → f e ≡ None → is_by (option_and_then f o) day ≡ true → ⊥
 by_none f o e day is none t = let P : Option Entry → Type 0 = λ z. is_by (option_and_then f z) day ≡ true in let Q : Option ℕ → Type 0 = λ z. is_by z day ≡ true in absurd (no_by day (subst Q none (subst P is t)))
   where
     no_by : (d : ℕ) → is_by None d ≡ true → ⊥
@@ -81,16 +79,16 @@ settlement_alone h e ps qs settled same no_run is =
     let g = h ++ e ∷ [] in
     let longer : length g ≡ length h + 1 = length-append h (e ∷ []) in
     settlement_decided g qs settled (grow_out (precedes g) (precedes_strict g) (IsRanged (length h)) (IsRanged (length g)) (Settles g qs) (Settles g qs) settled
-        (settled_in h (e ∷ []) ps qs settled same is)
-        (λ s r. record { run = let k : s.run ≤ length h = r.run in omega arith; numbered = r.numbered })
-        (λ front s r. ((λ c. c), (λ c. c)))
-        (λ s r. elim (cases_lt s.run (length h + 1)) [
-          | inl lt ↦ inl (record { run = omega arith; numbered = r.numbered })
-          | inr ge ↦ inr (λ c.
-              let most : s.run ≤ length g = r.run in
-              let f = due_facts g s.run s.pair c.due in
-              by_none run_day (entry_at g s.run) e (day_of g s.pair) (entry_at-end h e s.run (omega arith)) no_run f.by)
-        ]))
+    (settled_in h (e ∷ []) ps qs settled same is)
+    (λ s r. record { run = let k : s.run ≤ length h = r.run in omega arith; numbered = r.numbered })
+    (λ front s r. ((λ c. c), (λ c. c)))
+    (λ s r. elim (cases_lt s.run (length h + 1)) [
+      | inl lt ↦ inl (record { run = omega arith; numbered = r.numbered })
+      | inr ge ↦ inr (λ c.
+          let most : s.run ≤ length g = r.run in
+          let f = due_facts g s.run s.pair c.due in
+          by_none run_day (entry_at g s.run) e (day_of g s.pair) (entry_at-end h e s.run (omega arith)) no_run f.by)
+    ]))
 
 -- Within a run: what stands in the list so far, up to a place in the order of the run.
 
@@ -107,13 +105,13 @@ pub run_begins : (h : List Entry) (e : Entry) (ps : List Pair) (settled : List S
 run_begins h e ps settled is =
     let g = h ++ e ∷ [] in
     grow_out (precedes g) (precedes_strict g) (IsRanged (length h)) (IsReached g (length h + 1) None) (Settles g ps) (Settles g ps) settled
-        (settled_in h (e ∷ []) ps ps settled (λ p le. ((λ c. c), (λ c. c))) is)
-        (λ s r. record { numbered = r.numbered; reached = inl (let k : s.run ≤ length h = r.run in omega arith) })
-        (λ front s r. ((λ c. c), (λ c. c)))
-        (λ s r. elim r.reached [
-          | inl lt ↦ inl (record { run = omega arith; numbered = r.numbered })
-          | inr both ↦ let never : true ≡ false = both.1 in absurd (cc)
-        ])
+    (settled_in h (e ∷ []) ps ps settled (λ p le. ((λ c. c), (λ c. c))) is)
+    (λ s r. record { numbered = r.numbered; reached = inl (let k : s.run ≤ length h = r.run in omega arith) })
+    (λ front s r. ((λ c. c), (λ c. c)))
+    (λ s r. elim r.reached [
+      | inl lt ↦ inl (record { run = omega arith; numbered = r.numbered })
+      | inr both ↦ let never : true ≡ false = both.1 in absurd (cc)
+    ])
 
 -- in the list so far, what stands in the settlements before (n, p) of earlier runs is all that is there of them
 unsettled_before : (h : List Entry) (settled : List Settled) (n : ℕ) (p : Pair) → IsUnsettled (settled_before h (record { run = n; pair = p }) settled) n p → IsUnsettled settled n p
@@ -136,12 +134,12 @@ below_above h (Some place) p q low high =
           elim (cases_lt (place.day) (day_of h p)) [
             | inl lt ↦ absurd (not_day lt)
             | inr ge ↦ elim (cases_lt (day_of h p) (place.day)) [
-                | inl lt ↦ sooner_day h p q (omega arith)
-                | inr le ↦ elim (cases_lt place.number p.later) [
-                    | inl lt ↦ absurd (not_number (omega arith) lt)
-                    | inr number ↦ sooner_number h p q (omega arith) (omega arith)
-                  ]
+              | inl lt ↦ sooner_day h p q (omega arith)
+              | inr le ↦ elim (cases_lt place.number p.later) [
+                | inl lt ↦ absurd (not_number (omega arith) lt)
+                | inr number ↦ sooner_number h p q (omega arith) (omega arith)
               ]
+            ]
           ]
     ]
 
@@ -159,9 +157,9 @@ at_place h place p q is low =
     let not_number : place.day ≡ day_of h p → place.number < p.later → ⊥ = λ same lt. both_ways _ low (above_number h place p same lt) in
     elim (cases_order (day_of h p) (day_of h q)) [
       | inl same ↦ elim (cases_order p.later q.later) [
-          | inl e ↦ inr e
-          | inr o ↦ elim o [ inl less ↦ inl (sooner_number h p q same less) | inr more ↦ absurd (not_number (omega arith) (omega arith)) ]
-        ]
+        | inl e ↦ inr e
+        | inr o ↦ elim o [ inl less ↦ inl (sooner_number h p q same less) | inr more ↦ absurd (not_number (omega arith) (omega arith)) ]
+      ]
       | inr o ↦ elim o [ inl less ↦ inl (sooner_day h p q less) | inr more ↦ absurd (not_day (omega arith)) ]
     ]
 
@@ -231,24 +229,24 @@ run_settles h ps settled n place q next o d is at covered =
     let new : Settled = record { run = n; pair = q } in
     let facts = due_facts h n q is.is_open.due in
     grow_in (precedes h) (precedes_strict h) (IsReached h n place) (IsReached h n (Some next)) (Settles h ps) (Settles h ps) settled new d
-        (reached_further h ps settled n place q next is at)
-        (record { numbered = facts.numbered; reached = inr (refl, own_place h next q at) })
-        (λ front s r. ((λ c. c), (λ c. c)))
-        (before_next h ps settled n place q is)
-        (record { paired = is.is_open.paired; due = is.is_open.due; unsettled = is.is_open.unsettled; covered = covered })
-        (λ s r. elim r.reached [
-          | inl lt ↦ inl (record { numbered = r.numbered; reached = inl lt })
-          | inr both ↦ elim (cases_Bool (is_above h place s.pair)) [
-              | inr low ↦ inl (record { numbered = r.numbered; reached = inr (both.0, low) })
-              | inl high ↦ inr (elim (cases_eq q.earlier s.pair.earlier) [
-                  | inr differs ↦ inr (λ c. differs (ap (λ p. p.earlier) (sym (nothing_between h ps settled (new ∷ []) n place q next s o is at both.0 high both.1 c))))
-                  | inl earlier ↦ elim (cases_eq q.later s.pair.later) [
-                      | inr differs ↦ inr (λ c. differs (ap (λ p. p.later) (sym (nothing_between h ps settled (new ∷ []) n place q next s o is at both.0 high both.1 c))))
-                      | inl later ↦ inl (settled_same new s (sym both.0) (pair_same q s.pair earlier later))
-                    ]
-                ])
-            ]
+    (reached_further h ps settled n place q next is at)
+    (record { numbered = facts.numbered; reached = inr (refl, own_place h next q at) })
+    (λ front s r. ((λ c. c), (λ c. c)))
+    (before_next h ps settled n place q is)
+    (record { paired = is.is_open.paired; due = is.is_open.due; unsettled = is.is_open.unsettled; covered = covered })
+    (λ s r. elim r.reached [
+      | inl lt ↦ inl (record { numbered = r.numbered; reached = inl lt })
+      | inr both ↦ elim (cases_Bool (is_above h place s.pair)) [
+        | inr low ↦ inl (record { numbered = r.numbered; reached = inr (both.0, low) })
+        | inl high ↦ inr (elim (cases_eq q.earlier s.pair.earlier) [
+          | inr differs ↦ inr (λ c. differs (ap (λ p. p.earlier) (sym (nothing_between h ps settled (new ∷ []) n place q next s o is at both.0 high both.1 c))))
+          | inl earlier ↦ elim (cases_eq q.later s.pair.later) [
+            | inr differs ↦ inr (λ c. differs (ap (λ p. p.later) (sym (nothing_between h ps settled (new ∷ []) n place q next s o is at both.0 high both.1 c))))
+            | inl later ↦ inl (settled_same new s (sym both.0) (pair_same q s.pair earlier later))
+          ]
         ])
+      ]
+    ])
 
 -- The next pair is not covered, and stays.
 pub run_leaves : (h : List Entry) (ps : List Pair) (settled : List Settled) (n : ℕ) (place : Option Place) (q : Pair) (next : Place)
@@ -258,24 +256,24 @@ pub run_leaves : (h : List Entry) (ps : List Pair) (settled : List Settled) (n :
 run_leaves h ps settled n place q next o d is at short =
     let new : Settled = record { run = n; pair = q } in
     grow_out (precedes h) (precedes_strict h) (IsReached h n place) (IsReached h n (Some next)) (Settles h ps) (Settles h ps) settled d
-        (reached_further h ps settled n place q next is at)
-        (λ front s r. ((λ c. c), (λ c. c)))
-        (λ s r. elim r.reached [
-          | inl lt ↦ inl (record { numbered = r.numbered; reached = inl lt })
-          | inr both ↦ elim (cases_Bool (is_above h place s.pair)) [
-              | inr low ↦ inl (record { numbered = r.numbered; reached = inr (both.0, low) })
-              | inl high ↦ inr (λ c.
-                  let P : List Settled → Type 0 = λ z. Settles h ps (settled_before h s z) s in
-                  let same : s.pair ≡ q = nothing_between h ps settled [] n place q next s o is at both.0 high both.1 (subst P (sym (append-nil settled)) c) in
-                  let this : s ≡ new = settled_same s new both.0 same in
-                  let Q : Settled → Type 0 = λ z. Settles h ps (settled_before h z settled) z in
-                  let all : settled_before h new settled ≡ settled =
-                      sym (ap (λ z. settled_before h new z) (append-nil settled)) ∙ filter-front (λ x. precedes h x new) settled [] (λ x i. before_next h ps settled n place q is x (d.within x i)) (λ x i. absurd i) in
-                  let R : List Settled → Type 0 = λ z. Settles h ps z new in
-                  let settles : Settles h ps settled new = subst R all (subst Q this c) in
-                  both_ways _ short settles.covered)
-            ]
-        ])
+    (reached_further h ps settled n place q next is at)
+    (λ front s r. ((λ c. c), (λ c. c)))
+    (λ s r. elim r.reached [
+      | inl lt ↦ inl (record { numbered = r.numbered; reached = inl lt })
+      | inr both ↦ elim (cases_Bool (is_above h place s.pair)) [
+        | inr low ↦ inl (record { numbered = r.numbered; reached = inr (both.0, low) })
+        | inl high ↦ inr (λ c.
+            let P : List Settled → Type 0 = λ z. Settles h ps (settled_before h s z) s in
+            let same : s.pair ≡ q = nothing_between h ps settled [] n place q next s o is at both.0 high both.1 (subst P (sym (append-nil settled)) c) in
+            let this : s ≡ new = settled_same s new both.0 same in
+            let Q : Settled → Type 0 = λ z. Settles h ps (settled_before h z settled) z in
+            let all : settled_before h new settled ≡ settled =
+            sym (ap (λ z. settled_before h new z) (append-nil settled)) ∙ filter-front (λ x. precedes h x new) settled [] (λ x i. before_next h ps settled n place q is x (d.within x i)) (λ x i. absurd i) in
+            let R : List Settled → Type 0 = λ z. Settles h ps z new in
+            let settles : Settles h ps settled new = subst R all (subst Q this c) in
+            both_ways _ short settles.covered)
+      ]
+    ])
 
 -- No pair is left to take: the settlement is whole.
 pub run_ends : (h : List Entry) (ps : List Pair) (settled : List Settled) (n : ℕ) (place : Option Place)
@@ -283,17 +281,17 @@ pub run_ends : (h : List Entry) (ps : List Pair) (settled : List Settled) (n : �
     → IsSettlement h ps settled
 run_ends h ps settled n place last d none =
     settlement_decided h ps settled (grow_out (precedes h) (precedes_strict h) (IsReached h n place) (IsRanged (length h)) (Settles h ps) (Settles h ps) settled d
-        (λ s r. record { run = elim r.reached [ inl lt ↦ omega arith | inr both ↦ (let e : s.run ≡ n = both.0 in omega arith) ]; numbered = r.numbered })
-        (λ front s r. ((λ c. c), (λ c. c)))
-        (λ s r. elim (cases_lt s.run n) [
-          | inl lt ↦ inl (record { numbered = r.numbered; reached = inl lt })
-          | inr ge ↦
-              let most : s.run ≤ length h = r.run in
-              let same : s.run ≡ n = omega arith in
-              elim (cases_Bool (is_above h place s.pair)) [
-                | inr low ↦ inl (record { numbered = r.numbered; reached = inr (same, low) })
-                | inl high ↦ inr (λ c.
-                    let P : List Settled → Type 0 = λ z. Settles h ps (settled_before h s z) s in
-                    none s.pair (still_open h ps settled [] n place s same high (subst P (sym (append-nil settled)) c)))
-              ]
-        ]))
+    (λ s r. record { run = elim r.reached [ inl lt ↦ omega arith | inr both ↦ (let e : s.run ≡ n = both.0 in omega arith) ]; numbered = r.numbered })
+    (λ front s r. ((λ c. c), (λ c. c)))
+    (λ s r. elim (cases_lt s.run n) [
+      | inl lt ↦ inl (record { numbered = r.numbered; reached = inl lt })
+      | inr ge ↦
+          let most : s.run ≤ length h = r.run in
+          let same : s.run ≡ n = omega arith in
+          elim (cases_Bool (is_above h place s.pair)) [
+            | inr low ↦ inl (record { numbered = r.numbered; reached = inr (same, low) })
+            | inl high ↦ inr (λ c.
+                let P : List Settled → Type 0 = λ z. Settles h ps (settled_before h s z) s in
+                none s.pair (still_open h ps settled [] n place s same high (subst P (sym (append-nil settled)) c)))
+          ]
+    ]))

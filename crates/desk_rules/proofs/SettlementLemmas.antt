@@ -1,19 +1,17 @@
 -- A history has one settlement. It grows by runs alone, and a run takes the due pairs in order.
-use Rattle.std.proofs.Common.{◌≡◌, ◌≢◌, ℕ, zero, suc, ◌+◌, ◌<◌, ◌≤◌, ◌↔◌, ◌⊎◌, inl, inr, Bool, true, false, not, ◌&&◌, ◌||◌, ◌==◌, nat_lt, nat_le, List, [], ◌∷◌, ◌++◌, Contains, AllPairs, filter, length, Option, Some, None, refl, sym, ◌∙◌, ap, subst, arith, append-nil, length-append}
+use Rattle.std.proofs.Common.{◌≡◌, ℕ, ◌<◌, ◌≤◌, ◌⊎◌, inl, inr, true, ◌&&◌, ◌==◌, nat_lt, List, [], ◌∷◌, length, Option, Some, None, refl, sym, ◌∙◌, ap, arith}
 use Rattle.std.specs.Prelude.{option_and_then}
-use Rattle.std.proofs.lemmas.Bool.{cases_Bool, cases_lt, cases_eq, cases_order, ltb-true, lt-ltb, le-ltb, leb-true, eqb-true, eq-eqb, and_parts, and_from, or_cases, or_left, or_right, both_ways, false_from_ne_true}
-use Rattle.desk_codes.specs.Number.{number_of}
+use Rattle.std.proofs.lemmas.Bool.{cases_order, ltb-true, lt-ltb, eqb-true, eq-eqb, and_parts, and_from, or_cases, or_left, or_right}
 use Rattle.desk_rules.specs.declared.entry.Entry.{Entry}
 use Rattle.desk_rules.specs.declared.pair.Pair.{Pair}
 use Rattle.desk_rules.specs.declared.pair.Settled.{Settled}
 use Rattle.desk_rules.specs.declared.pair.Place.{Place}
-use Rattle.desk_rules.specs.History.{Instructed, entry_at, before, instruction_at, run_day}
+use Rattle.desk_rules.specs.History.{entry_at, before, run_day}
 use Rattle.desk_rules.specs.Pairing.{IsPairing}
-use Rattle.desk_rules.specs.Covered.{is_covered}
-use Rattle.desk_rules.specs.Settlement.{instructed_day, day_of, is_sooner, precedes, settled_before, is_by, stands, is_due, IsUnsettled, Settles, IsSettlement, is_above, IsOpen, IsNext}
-use Rattle.desk_rules.proofs.Decided.{In, In-from_Contains, Contains-from_In, In-left, In-push_cases, In-filter, filter-In, filter-front, Ordered, Ordered-from_AllPairs, AllPairs-from_Ordered, IsStrict, IsTotalOn, Decided, one_list, grow_out, grow_in, Decided-same}
-use Rattle.desk_rules.proofs.HistoryLemmas.{entry_at-known, entry_at-front, entry_at-end, before-front, instruction_at-front}
-use Rattle.desk_rules.proofs.PairingLemmas.{pair_same, lower}
+use Rattle.desk_rules.specs.Settlement.{day_of, is_sooner, precedes, settled_before, is_by, stands, is_due, Settles, IsSettlement, is_above}
+use Rattle.desk_rules.proofs.Decided.{In, In-from_Contains, Contains-from_In, Ordered, Ordered-from_AllPairs, AllPairs-from_Ordered, IsStrict, IsTotalOn, Decided, one_list}
+use Rattle.desk_rules.proofs.HistoryLemmas.{entry_at-known}
+use Rattle.desk_rules.proofs.PairingLemmas.{lower}
 
 -- The order, in words of numbers.
 
@@ -149,18 +147,18 @@ ordered_pairs h ps is = Ordered-from_AllPairs lower ps (λ i j d a b. lt-ltb _ _
 pub sooner_total : (h : List Entry) (ps : List Pair) → Ordered lower ps → (p q : Pair) → In ps p → In ps q → (is_sooner h p q ≡ true) ⊎ ((p ≡ q) ⊎ (is_sooner h q p ≡ true))
 sooner_total h ps o p q i j = elim (cases_order (day_of h p) (day_of h q)) [
   | inl same ↦ elim (cases_order p.later q.later) [
-      | inl number ↦ inr (inl (one_number ps o p q i j number))
-      | inr n ↦ elim n [ inl less ↦ inl (sooner_number h p q same less) | inr more ↦ inr (inr (sooner_number h q p (sym same) more)) ]
-    ]
+    | inl number ↦ inr (inl (one_number ps o p q i j number))
+    | inr n ↦ elim n [ inl less ↦ inl (sooner_number h p q same less) | inr more ↦ inr (inr (sooner_number h q p (sym same) more)) ]
+  ]
   | inr d ↦ elim d [ inl less ↦ inl (sooner_day h p q less) | inr more ↦ inr (inr (sooner_day h q p more)) ]
 ]
 
 settles_total : (h : List Entry) (ps : List Pair) → Ordered lower ps → IsTotalOn (precedes h) (Settles h ps)
 settles_total h ps o front s t a b = elim (cases_order s.run t.run) [
   | inl same ↦ elim (sooner_total h ps o s.pair t.pair (In-from_Contains ps s.pair a.paired) (In-from_Contains ps t.pair b.paired)) [
-      | inl less ↦ inl (precedes_pair h s t same less)
-      | inr n ↦ elim n [ inl e ↦ inr (inl (settled_same s t same e)) | inr more ↦ inr (inr (precedes_pair h t s (sym same) more)) ]
-    ]
+    | inl less ↦ inl (precedes_pair h s t same less)
+    | inr n ↦ elim n [ inl e ↦ inr (inl (settled_same s t same e)) | inr more ↦ inr (inr (precedes_pair h t s (sym same) more)) ]
+  ]
   | inr d ↦ elim d [ inl less ↦ inl (precedes_run h s t less) | inr more ↦ inr (inr (precedes_run h t s more)) ]
 ]
 

@@ -1,6 +1,6 @@
 -- What is credited and debited by a history, of which these pairs are settled. A balance is what is credited
 -- less what is debited; it is never computed by a subtraction that stops at 0.
-use Rattle.std.specs.Prelude.{ℕ, ◌+◌, Bool, true, false, ◌&&◌, if◌then◌else◌, List, bytes_eq, sum_by, Option, Some, None, is_some}
+use Rattle.std.specs.Prelude.{ℕ, ◌+◌, Bool, false, if◌then◌else◌, List, bytes_eq, sum_by, Option, Some, None}
 use Rattle.desk_codes.specs.declared.currency.Ccy.{Ccy}
 use Rattle.desk_codes.specs.Currency.{letters_of}
 use Rattle.desk_msg.specs.declared.instruction.Cash.{Cash}

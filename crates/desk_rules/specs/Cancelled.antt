@@ -1,5 +1,5 @@
 -- The instructions that an accepted cancellation names.
-use Rattle.std.specs.Prelude.{ℕ, Bool, true, false, ◌&&◌, ◌==◌, List, drop, bytes_eq, Option, Some, None}
+use Rattle.std.specs.Prelude.{ℕ, Bool, false, ◌&&◌, ◌==◌, List, drop, bytes_eq, Option, Some, None}
 use Rattle.std.specs.List.{list_any}
 use Rattle.desk_msg.specs.MessageType.{number_of_type}
 use Rattle.desk_rules.specs.declared.entry.Entry.{Entry}

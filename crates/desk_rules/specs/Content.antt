@@ -5,7 +5,6 @@ use Rattle.desk_msg.specs.declared.status.Reason.{Reason}
 use Rattle.desk_msg.specs.declared.status.Reason.TheVariants.{Future, Lack as LackReason, Money as MoneyReason}
 use Rattle.desk_rules.specs.declared.entry.Entry.{Entry}
 use Rattle.desk_rules.specs.declared.pair.Pair.{Pair}
-use Rattle.desk_rules.specs.declared.pair.Settled.{Settled}
 use Rattle.desk_rules.specs.declared.pair.Lack.{Lack}
 use Rattle.desk_rules.specs.declared.pair.Lack.TheVariants.{Securities, Money}
 use Rattle.desk_rules.specs.declared.reply.Kept.{Kept}

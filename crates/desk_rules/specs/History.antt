@@ -1,8 +1,5 @@
 -- A history is the list of the accepted entries, numbered from 1. Nothing else is state.
-use Rattle.std.specs.Prelude.{◌≡◌, ℕ, zero, suc, ◌+◌, ◌-◌, ◌==◌, Bool, true, false, ◌&&◌, if◌then◌else◌, List, [], ◌∷◌, take, bytes_eq, slice_get, Option, Some, None, option_and_then}
-use Rattle.std.specs.List.{filter_map}
-use Rattle.desk_msg.specs.declared.instruction.Instruction.{Instruction}
-use Rattle.desk_msg.specs.declared.instruction.Kind.{Kind}
+use Rattle.std.specs.Prelude.{ℕ, zero, suc, ◌+◌, ◌-◌, Bool, true, false, ◌&&◌, if◌then◌else◌, List, [], ◌∷◌, take, bytes_eq, slice_get, Option, Some, None, option_and_then}
 use Rattle.desk_codes.specs.Number.{number_of}
 use Rattle.desk_rules.specs.declared.entry.Sender.{Sender}
 use Rattle.desk_rules.specs.declared.entry.Sender.TheVariants.{Operator, Participant as FromParticipant}

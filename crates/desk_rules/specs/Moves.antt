@@ -1,6 +1,6 @@
 -- What the confirmations among sent messages say of accounts and cash. This knows the messages' texts, types and
 -- addressees, and nothing of how they came about.
-use Rattle.std.specs.Prelude.{◌≡◌, ℕ, ◌==◌, Bool, true, false, not, ◌&&◌, if◌then◌else◌, MatchBool, List, [], ◌∷◌, bytes_eq, sum_by, Option, Some, None, Ok}
+use Rattle.std.specs.Prelude.{◌≡◌, ℕ, ◌==◌, Bool, false, not, MatchBool, List, [], ◌∷◌, bytes_eq, sum_by, Option, Some, None, Ok}
 use Rattle.desk_codes.specs.declared.currency.Ccy.{Ccy}
 use Rattle.desk_text.specs.Fields.{Found, IsBlock}
 use Rattle.desk_msg.specs.declared.mt.Mt.{Mt}

@@ -1,5 +1,5 @@
 -- What the desk sends: an advice to the earlier party of each pair, and two confirmations of each settlement.
-use Rattle.std.specs.Prelude.{ℕ, ◌+◌, ◌==◌, if◌then◌else◌, List, [], ◌∷◌, ◌++◌, length, flat_map, Option, Some, None, option_and_then}
+use Rattle.std.specs.Prelude.{ℕ, ◌+◌, ◌==◌, if◌then◌else◌, List, [], ◌∷◌, ◌++◌, length, flat_map, Option, Some, None}
 use Rattle.std.specs.List.{range_with_len}
 use Rattle.desk_msg.specs.declared.status.Own.TheVariants as owns
 use Rattle.desk_msg.specs.declared.status.Reason.TheVariants.{Future}

@@ -1,16 +1,13 @@
 -- What the desk decides on an entry: the first check that fails, in the order of the table, else Accept.
-use Rattle.std.specs.Prelude.{◌≡◌, ℕ, ◌+◌, nat_lt, nat_le, ◌==◌, Bool, true, false, not, ◌&&◌, ◌||◌, if◌then◌else◌, List, [], ◌∷◌, length, bytes_eq, codes, MatchBool, Option, Some, None, is_none, is_some, option_and_then}
+use Rattle.std.specs.Prelude.{◌≡◌, ℕ, ◌+◌, nat_lt, nat_le, ◌==◌, Bool, true, false, not, if◌then◌else◌, List, [], ◌∷◌, length, bytes_eq, codes, MatchBool, Option, Some, None, is_none, is_some, option_and_then}
 use Rattle.std.specs.List.{list_any}
 use Rattle.desk_codes.specs.Number.{number_of}
-use Rattle.desk_msg.specs.declared.instruction.Instruction.{Instruction}
 use Rattle.desk_msg.specs.declared.instruction.CancelOrder.{CancelOrder}
 use Rattle.desk_msg.specs.declared.instruction.Kind.{Kind}
 use Rattle.desk_msg.specs.declared.instruction.Kind.TheVariants.{Unit as Units, FaceAmount}
 use Rattle.desk_msg.specs.MessageType.{number_of_type}
 use Rattle.desk_rules.specs.declared.entry.Sender.{Sender}
 use Rattle.desk_rules.specs.declared.entry.Sender.TheVariants.{Operator, Participant as FromParticipant}
-use Rattle.desk_rules.specs.declared.entry.Holding.{Holding}
-use Rattle.desk_rules.specs.declared.entry.Payment.{Payment}
 use Rattle.desk_rules.specs.declared.entry.Entry.{Entry}
 use Rattle.desk_rules.specs.declared.entry.Entry.TheVariants.{Participant, Account, Security, Issue, Redeem, PayIn, PayOut, Instruct, Cancel, Run}
 use Rattle.desk_rules.specs.declared.pair.Pair.{Pair}
@@ -246,8 +243,8 @@ IsVerdictAt limit books entry (Some n) (Refuse refusal) = (refusal ≡ reused_by
 abbrev pub IsVerdict : ℕ → Books → Entry → Verdict → Type 0
 IsVerdict limit books entry verdict =
     MatchBool (is_from_stranger books.history (sender_of entry))
-        (verdict ≡ Refuse SenderUnknown)
-        (IsVerdictAt limit books entry (number_of_key books.history (sender_of entry) (reference_of entry)) verdict)
+    (verdict ≡ Refuse SenderUnknown)
+    (IsVerdictAt limit books entry (number_of_key books.history (sender_of entry) (reference_of entry)) verdict)
 
 -- each entry of a history was accepted in its turn
 pub record WasAccepted (limit : ℕ) (history : List Entry) : Type 0 where

@@ -47,11 +47,22 @@ pub struct Payment {
 #[derive(Clone, Copy, Debug, PartialEq, Eq)]
 pub enum Entry {
     /// A new participant
-    Participant { reference: Reference, bic: Bic },
+    Participant {
+        reference: Reference,
+        bic: Bic,
+    },
     /// A new safekeeping account of a participant
-    Account { reference: Reference, bic: Bic, account: AccountId },
+    Account {
+        reference: Reference,
+        bic: Bic,
+        account: AccountId,
+    },
     /// A new security
-    Security { reference: Reference, isin: Isin, kind: Kind },
+    Security {
+        reference: Reference,
+        isin: Isin,
+        kind: Kind,
+    },
     /// A security issued to an account
     Issue(Holding),
     /// A security redeemed from an account
@@ -61,11 +72,18 @@ pub enum Entry {
     /// Cash paid out
     PayOut(Payment),
     /// An instruction of a participant
-    Instruct { sender: Bic, instruction: Instruction },
+    Instruct {
+        sender: Bic,
+        instruction: Instruction,
+    },
     /// A cancellation of a participant
-    Cancel { sender: Bic, order: CancelOrder },
+    Cancel {
+        sender: Bic,
+        order: CancelOrder,
+    },
     /// A settlement run for the pairs due by a day
-    Run { reference: Reference, day: Day },
+    Run {
+        reference: Reference,
+        day: Day,
+    },
 }
-
-

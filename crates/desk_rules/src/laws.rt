@@ -16,22 +16,19 @@ ghost use Rattle.desk_rules.specs.declared.pair.Settled.{Settled};
 pub fn opposites()
     ensures symmetric { (a b : Instructed) → AreOpposite a b → AreOpposite b a }
     ensures never_own { (a : Instructed) → AreOpposite a a → ⊥ }
-{
-}
+{}
 
 /// A history has exactly one pairing.
 pub fn one_pairing()
     ensures exists { (history : List Entry) → (pairs : List Pair) × IsPairing history pairs }
     ensures unique { (history : List Entry) (ps qs : List Pair) → IsPairing history ps → IsPairing history qs → ps ≡ qs }
-{
-}
+{}
 
 /// No entry is in two pairs.
 pub fn one_pair_each()
     ensures { (history : List Entry) (pairs : List Pair) (p q : Pair) (k : ℕ) → IsPairing history pairs
         → Contains pairs p → Contains pairs q → IsSide p k → IsSide q k → p ≡ q }
-{
-}
+{}
 
 /// A history has exactly one settlement.
 pub fn one_settlement()
@@ -39,8 +36,7 @@ pub fn one_settlement()
         → (settled : List Settled) × IsSettlement history pairs settled }
     ensures unique { (history : List Entry) (pairs : List Pair) (ss ts : List Settled) → IsPairing history pairs
         → IsSettlement history pairs ss → IsSettlement history pairs ts → ss ≡ ts }
-{
-}
+{}
 
 /// What is accepted later changes nothing of what was paired and settled: pairing and settlement of a front of a
 /// history are the fronts of its pairing and its settlement.
@@ -50,15 +46,13 @@ pub fn fronts()
     ensures settled { (front rest : List Entry) (ps qs : List Pair) (ss ts : List Settled) → IsPairing front ps
         → IsPairing (front ++ rest) qs → IsSettlement front ps ss → IsSettlement (front ++ rest) qs ts
         → (more : List Settled) × (ts ≡ ss ++ more) }
-{
-}
+{}
 
 /// A pair settles at most once.
 pub fn settles_once()
     ensures { (history : List Entry) (pairs : List Pair) (settled : List Settled) (s t : Settled)
         → IsSettlement history pairs settled → Contains settled s → Contains settled t → s.pair ≡ t.pair → s ≡ t }
-{
-}
+{}
 
 /// Where each entry was accepted in its turn, nothing is made or lost: the positions of all accounts in a security
 /// add up to what was issued less what was redeemed, and the cash of all participants in a currency to what was paid
@@ -67,13 +61,12 @@ pub fn adds_up()
     ensures securities { (limit : ℕ) (history : List Entry) (pairs : List Pair) (settled : List Settled) (isin : List ℕ)
         → WasAccepted limit history → IsPairing history pairs → IsSettlement history pairs settled
         → sum_by (λ account. credits history settled account isin) (accounts_of history) + redeemed history isin
-            ≡ sum_by (λ account. debits history settled account isin) (accounts_of history) + issued history isin }
+        ≡ sum_by (λ account. debits history settled account isin) (accounts_of history) + issued history isin }
     ensures cash { (limit : ℕ) (history : List Entry) (pairs : List Pair) (settled : List Settled) (ccy : Ccy)
         → WasAccepted limit history → IsPairing history pairs → IsSettlement history pairs settled
         → sum_by (λ bic. cash_credits history settled bic ccy) (participants_of history) + paid_out history ccy
-            ≡ sum_by (λ bic. cash_debits history settled bic ccy) (participants_of history) + paid_in history ccy }
-{
-}
+        ≡ sum_by (λ bic. cash_debits history settled bic ccy) (participants_of history) + paid_in history ccy }
+{}
 
 /// Where each entry was accepted in its turn, no position and no cash is below 0: not after the last entry, and not
 /// within a run, after any of the pairs that it settles.
@@ -84,11 +77,9 @@ pub fn never_negative()
     ensures each { (limit : ℕ) (history : List Entry) (pairs : List Pair) (settled : List Settled) (s : Settled)
         → WasAccepted limit history → IsPairing history pairs → IsSettlement history pairs settled → Contains settled s
         → AreNonNegative (before s.run history) (settled_before history s settled ++ s ∷ []) }
-{
-}
+{}
 
 /// What was accepted was accepted at every moment: each front of such a history is one.
 pub fn accepted_fronts()
     ensures { (limit : ℕ) (front rest : List Entry) → WasAccepted limit (front ++ rest) → WasAccepted limit front }
-{
-}
+{}

@@ -1,4 +1,10 @@
-//! The rules of the desk.
+//! The rules of the desk: what it accepts, which instructions it pairs, what its runs settle, and what it answers.
+//!
+//! The only state is the history, a list of accepted entries (`Entry`). The definitions of specs/ say what follows
+//! from it, a module each for pairing, balances, settlement, verdicts, replies and sent messages; the laws in
+//! `laws.rt` say what every history keeps: one pairing, one settlement, each pair settled once, nothing made or lost,
+//! nothing below 0. `plain` computes pairing, settlement and balances straight from the definitions, slowly. Begin
+//! with `entry.rt`, then specs/History.antt.
 #![tactic(auto)]
 
 mod entry;
@@ -11,7 +17,10 @@ mod same;
 mod verdict;
 
 pub use entry::{Entry, Holding, Instructed, Payment, Sender};
-pub use laws::{accepted_fronts, adds_up, fronts, never_negative, one_pair_each, one_pairing, one_settlement, opposites, settles_once};
+pub use laws::{
+    accepted_fronts, adds_up, fronts, never_negative, one_pair_each, one_pairing, one_settlement,
+    opposites, settles_once,
+};
 pub use opposite::are_opposite;
 pub use pair::{Lack, Pair, Place, Settled};
 pub use reply::{Kept, Reply, Sent, State, Text};

@@ -104,22 +104,65 @@ pub fn same_entry(a: &Entry, b: &Entry) -> bool
     ensures { IsTrue result ↔ (a.now ≡ b.now) }
 {
     match (a, b) {
-        (Entry::Participant { reference, bic }, Entry::Participant { reference: r, bic: x }) => reference == r && bic == x,
-        (Entry::Account { reference, bic, account }, Entry::Account { reference: r, bic: x, account: y }) => {
-            reference == r && bic == x && account == y
-        }
-        (Entry::Security { reference, isin, kind }, Entry::Security { reference: r, isin: x, kind: k }) => {
-            reference == r && isin == x && kind == k
-        }
+        (
+            Entry::Participant { reference, bic },
+            Entry::Participant {
+                reference: r,
+                bic: x,
+            },
+        ) => reference == r && bic == x,
+        (
+            Entry::Account {
+                reference,
+                bic,
+                account,
+            },
+            Entry::Account {
+                reference: r,
+                bic: x,
+                account: y,
+            },
+        ) => { reference == r && bic == x && account == y }
+        (
+            Entry::Security {
+                reference,
+                isin,
+                kind,
+            },
+            Entry::Security {
+                reference: r,
+                isin: x,
+                kind: k,
+            },
+        ) => { reference == r && isin == x && kind == k }
         (Entry::Issue(a), Entry::Issue(b)) => same_holding(*a, *b),
         (Entry::Redeem(a), Entry::Redeem(b)) => same_holding(*a, *b),
         (Entry::PayIn(a), Entry::PayIn(b)) => same_payment(*a, *b),
         (Entry::PayOut(a), Entry::PayOut(b)) => same_payment(*a, *b),
-        (Entry::Instruct { sender, instruction }, Entry::Instruct { sender: s, instruction: i }) => {
-            sender == s && same_instruction(*instruction, *i)
-        }
-        (Entry::Cancel { sender, order }, Entry::Cancel { sender: s, order: o }) => sender == s && same_order(*order, *o),
-        (Entry::Run { reference, day }, Entry::Run { reference: r, day: d }) => reference == r && day == d,
+        (
+            Entry::Instruct {
+                sender,
+                instruction,
+            },
+            Entry::Instruct {
+                sender: s,
+                instruction: i,
+            },
+        ) => { sender == s && same_instruction(*instruction, *i) }
+        (
+            Entry::Cancel { sender, order },
+            Entry::Cancel {
+                sender: s,
+                order: o,
+            },
+        ) => sender == s && same_order(*order, *o),
+        (
+            Entry::Run { reference, day },
+            Entry::Run {
+                reference: r,
+                day: d,
+            },
+        ) => reference == r && day == d,
         _ => false,
     }
 }

@@ -1,7 +1,9 @@
 //! Worked rows from outside, through the plain program.
 ghost use Rattle.std.specs.Prelude.{◌<◌, ◌≤◌};
 
-use crate::plain::{cash_credits, cash_debits, credits, debits, lack_of, pairing_of, settlement_of};
+use crate::plain::{
+    cash_credits, cash_debits, credits, debits, lack_of, pairing_of, settlement_of,
+};
 use crate::{Entry, Holding, Lack, Pair, Payment, Settled};
 use desk_codes::{AccountId, Bic, Ccy, Day, Isin, Reference};
 use desk_msg::{Kind, Message, Mt, read_instruction_text};
@@ -109,15 +111,23 @@ fn message(alloc: Global, sender: &str, mt: Mt, text: &str) -> Result<Entry, Fai
 }
 
 fn instruct(alloc: Global, deal: Deal) -> Result<Entry, Fail> {
-    let side = if deal.mt.is_delivery() { "REAG" } else { "DEAG" };
+    let side = if deal.mt.is_delivery() {
+        "REAG"
+    } else {
+        "DEAG"
+    };
     let key = deal.key;
     let day = deal.day;
     let quantity = deal.quantity;
     let account = deal.account;
     let other = deal.other;
     let amount = deal.amount;
-    let front = format!(in alloc; "{{4:\n:16R:GENL\n:20C::SEME//{key}\n:23G:NEWM\n:16S:GENL\n:16R:TRADDET\n:98A::SETT//{day}\n:35B:ISIN {ISIN}\n:16S:TRADDET\n")?;
-    let text = format!(in alloc; "{front}:16R:FIAC\n:36B::SETT//UNIT/{quantity},\n:97A::SAFE//{account}\n:16S:FIAC\n:16R:SETDET\n:22F::SETR//TRAD\n:16R:SETPRTY\n:95P::{side}//{other}\n:16S:SETPRTY\n:16R:SETPRTY\n:95P::PSET//DESKDEFF\n:16S:SETPRTY\n{amount}:16S:SETDET\n-}}\n")?;
+    let front = format!(in alloc;
+        "{{4:\n:16R:GENL\n:20C::SEME//{key}\n:23G:NEWM\n:16S:GENL\n:16R:TRADDET\n:98A::SETT//{day}\n:35B:ISIN {ISIN}\n:16S:TRADDET\n"
+    )?;
+    let text = format!(in alloc;
+        "{front}:16R:FIAC\n:36B::SETT//UNIT/{quantity},\n:97A::SAFE//{account}\n:16S:FIAC\n:16R:SETDET\n:22F::SETR//TRAD\n:16R:SETPRTY\n:95P::{side}//{other}\n:16S:SETPRTY\n:16R:SETPRTY\n:95P::PSET//DESKDEFF\n:16S:SETPRTY\n{amount}:16S:SETDET\n-}}\n"
+    )?;
     message(alloc, deal.sender, deal.mt, text.as_str())
 }
 
@@ -199,8 +209,14 @@ fn settles_a_pair_against_payment(rt: HostRuntime) -> Result<(), Fail> {
     assert_eq!(rt; debits(&entries, &settled, &account("A-1")?, &isin), 400);
     assert_eq!(rt; credits(&entries, &settled, &account("B-1")?, &isin), 400);
     assert_eq!(rt; debits(&entries, &settled, &account("B-1")?, &isin), 0);
-    assert_eq!(rt; cash_credits(&entries, &settled, &bic("ALPHDEFF")?, Ccy::Eur), 100_050);
-    assert_eq!(rt; cash_debits(&entries, &settled, &bic("BETADEFF")?, Ccy::Eur), 100_050);
+    assert_eq!(rt;
+        cash_credits(&entries, &settled, &bic("ALPHDEFF")?, Ccy::Eur),
+        100_050
+    );
+    assert_eq!(rt;
+        cash_debits(&entries, &settled, &bic("BETADEFF")?, Ccy::Eur),
+        100_050
+    );
     Ok(())
 }
 
@@ -208,13 +224,30 @@ fn settles_a_pair_against_payment(rt: HostRuntime) -> Result<(), Fail> {
 fn settles_a_free_pair(rt: HostRuntime) -> Result<(), Fail> {
     let alloc = rt.alloc();
     let mut entries = base(alloc)?;
-    entries.push(instruct(alloc, Deal { mt: Mt::Mt542, amount: "", ..delivery("A1") })?)?;
-    entries.push(instruct(alloc, Deal { mt: Mt::Mt540, amount: "", ..receipt("B1") })?)?;
+    entries.push(instruct(
+        alloc,
+        Deal {
+            mt: Mt::Mt542,
+            amount: "",
+            ..delivery("A1")
+        },
+    )?)?;
+    entries.push(instruct(
+        alloc,
+        Deal {
+            mt: Mt::Mt540,
+            amount: "",
+            ..receipt("B1")
+        },
+    )?)?;
     entries.push(run("R1", b"20240229")?)?;
     let (pairs, settled) = settled(alloc, &entries)?;
     assert_eq!(rt; pairs.as_slice(), [pair(8, 9)].as_slice());
     assert_eq!(rt; settled.as_slice(), [of_run(10, 8, 9)].as_slice());
-    assert_eq!(rt; cash_debits(&entries, &settled, &bic("BETADEFF")?, Ccy::Eur), 0);
+    assert_eq!(rt;
+        cash_debits(&entries, &settled, &bic("BETADEFF")?, Ccy::Eur),
+        0
+    );
     Ok(())
 }
 
@@ -224,7 +257,13 @@ fn pairs_the_least_that_stands(rt: HostRuntime) -> Result<(), Fail> {
     let alloc = rt.alloc();
     let mut entries = base(alloc)?;
     let dollars = ":16R:AMT\n:19A::SETT//USD1000,50\n:16S:AMT\n";
-    entries.push(instruct(alloc, Deal { amount: dollars, ..delivery("A0") })?)?;
+    entries.push(instruct(
+        alloc,
+        Deal {
+            amount: dollars,
+            ..delivery("A0")
+        },
+    )?)?;
     entries.push(instruct(alloc, delivery("A1"))?)?;
     entries.push(instruct(alloc, delivery("A2"))?)?;
     entries.push(instruct(alloc, delivery("A3"))?)?;
@@ -265,15 +304,36 @@ fn settles_a_chain_in_one_pass(rt: HostRuntime) -> Result<(), Fail> {
         amount: "",
         ..receipt("B2")
     };
-    entries.push(instruct(alloc, Deal { sender: "BETADEFF", key: "B1", account: "B-1", other: "GAMMDEFF", ..free })?)?;
-    entries.push(instruct(alloc, Deal { sender: "GAMMDEFF", key: "G1", account: "C-1", other: "BETADEFF", ..taken })?)?;
+    entries.push(instruct(
+        alloc,
+        Deal {
+            sender: "BETADEFF",
+            key: "B1",
+            account: "B-1",
+            other: "GAMMDEFF",
+            ..free
+        },
+    )?)?;
+    entries.push(instruct(
+        alloc,
+        Deal {
+            sender: "GAMMDEFF",
+            key: "G1",
+            account: "C-1",
+            other: "BETADEFF",
+            ..taken
+        },
+    )?)?;
     entries.push(instruct(alloc, free)?)?;
     entries.push(instruct(alloc, taken)?)?;
     entries.push(run("R1", b"20240229")?)?;
     entries.push(run("R2", b"20240229")?)?;
     let (pairs, settled) = settled(alloc, &entries)?;
     assert_eq!(rt; pairs.as_slice(), [pair(9, 10), pair(11, 12)].as_slice());
-    assert_eq!(rt; settled.as_slice(), [of_run(13, 11, 12), of_run(14, 9, 10)].as_slice());
+    assert_eq!(rt;
+        settled.as_slice(),
+        [of_run(13, 11, 12), of_run(14, 9, 10)].as_slice()
+    );
     Ok(())
 }
 
@@ -294,8 +354,20 @@ fn settles_in_order_of_settlement_day(rt: HostRuntime) -> Result<(), Fail> {
         amount: "",
         ..receipt("B1")
     };
-    entries.push(instruct(alloc, Deal { day: "20240302", ..free })?)?;
-    entries.push(instruct(alloc, Deal { day: "20240302", ..taken })?)?;
+    entries.push(instruct(
+        alloc,
+        Deal {
+            day: "20240302",
+            ..free
+        },
+    )?)?;
+    entries.push(instruct(
+        alloc,
+        Deal {
+            day: "20240302",
+            ..taken
+        },
+    )?)?;
     entries.push(instruct(alloc, Deal { key: "A2", ..free })?)?;
     entries.push(instruct(alloc, Deal { key: "B2", ..taken })?)?;
     entries.push(run("R1", b"20240228")?)?;
@@ -303,7 +375,10 @@ fn settles_in_order_of_settlement_day(rt: HostRuntime) -> Result<(), Fail> {
     let (pairs, settled) = settled(alloc, &entries)?;
     assert_eq!(rt; pairs.as_slice(), [pair(8, 9), pair(10, 11)].as_slice());
     assert_eq!(rt; settled.as_slice(), [of_run(13, 10, 11)].as_slice());
-    assert_eq!(rt; lack_of(&entries, &settled, pair(8, 9)), Some(Lack::Securities));
+    assert_eq!(rt;
+        lack_of(&entries, &settled, pair(8, 9)),
+        Some(Lack::Securities)
+    );
     Ok(())
 }
 
@@ -333,13 +408,28 @@ fn transfers_within_an_account(rt: HostRuntime) -> Result<(), Fail> {
     assert_eq!(rt; debits(&entries, &moved, &account("A-1")?, &isin()?), 1000);
 
     let mut entries = base(alloc)?;
-    entries.push(instruct(alloc, Deal { quantity: "1001", ..free })?)?;
-    entries.push(instruct(alloc, Deal { quantity: "1001", ..taken })?)?;
+    entries.push(instruct(
+        alloc,
+        Deal {
+            quantity: "1001",
+            ..free
+        },
+    )?)?;
+    entries.push(instruct(
+        alloc,
+        Deal {
+            quantity: "1001",
+            ..taken
+        },
+    )?)?;
     entries.push(run("R1", b"20240229")?)?;
     let (pairs, moved) = settled(alloc, &entries)?;
     assert_eq!(rt; pairs.as_slice(), [pair(8, 9)].as_slice());
     assert_eq!(rt; moved.len(), 0);
-    assert_eq!(rt; lack_of(&entries, &moved, pair(8, 9)), Some(Lack::Securities));
+    assert_eq!(rt;
+        lack_of(&entries, &moved, pair(8, 9)),
+        Some(Lack::Securities)
+    );
     Ok(())
 }
 
@@ -370,8 +460,14 @@ fn transfers_between_own_accounts(rt: HostRuntime) -> Result<(), Fail> {
     assert_eq!(rt; moved.as_slice(), [of_run(12, 10, 11)].as_slice());
     assert_eq!(rt; debits(&entries, &moved, &account("A-1")?, &isin()?), 10);
     assert_eq!(rt; credits(&entries, &moved, &account("A-2")?, &isin()?), 10);
-    assert_eq!(rt; cash_credits(&entries, &moved, &bic("ALPHDEFF")?, Ccy::Eur), 1000);
-    assert_eq!(rt; cash_debits(&entries, &moved, &bic("ALPHDEFF")?, Ccy::Eur), 500);
+    assert_eq!(rt;
+        cash_credits(&entries, &moved, &bic("ALPHDEFF")?, Ccy::Eur),
+        1000
+    );
+    assert_eq!(rt;
+        cash_debits(&entries, &moved, &bic("ALPHDEFF")?, Ccy::Eur),
+        500
+    );
 
     let mut entries = base(alloc)?;
     entries.push(new_account("C3", "ALPHDEFF", "A-2")?)?;

@@ -87,11 +87,7 @@ fn amount_in(ccy: Ccy, cash: Cash) -> u64
     ensures share { result ≡ quantity_if (same_ccy cash.ccy ccy) cash.amount }
     ensures small { result ≤ 10 ^ 18 }
 {
-    if cash.ccy == ccy {
-        cash.amount
-    } else {
-        0
-    }
+    if cash.ccy == ccy { cash.amount } else { 0 }
 }
 
 fn cash_in(ccy: Ccy, cash: Option<Cash>) -> u64

@@ -9,7 +9,11 @@ use crate::plain::balances::{cash_credits, cash_debits, credits, debits, deliver
 use desk_codes::Bic;
 use desk_msg::{Cash, Instruction};
 
-fn can_deliver_instruction(entries: &[Entry], settled: &[Settled], instruction: &Instruction) -> bool
+fn can_deliver_instruction(
+    entries: &[Entry],
+    settled: &[Settled],
+    instruction: &Instruction,
+) -> bool
     ensures { result ≡ nat_le (debits entries.now settled.now instruction.now.account instruction.now.isin + instruction.now.quantity) (credits entries.now settled.now instruction.now.account instruction.now.isin) }
 {
     let gone = debits(entries, settled, &instruction.account, &instruction.isin);

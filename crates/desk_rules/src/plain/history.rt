@@ -33,7 +33,10 @@ fn instructed(entry: &Entry) -> Option<Instructed>
     ensures { result ≡ instructed entry.now }
 {
     match entry {
-        Entry::Instruct { sender, instruction } => Some(Instructed {
+        Entry::Instruct {
+            sender,
+            instruction,
+        } => Some(Instructed {
             sender: *sender,
             instruction: *instruction,
         }),

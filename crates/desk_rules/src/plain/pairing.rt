@@ -13,7 +13,9 @@ use std::alloc::{AllocError, Global};
 pub fn is_in_pair(pairs: &[Pair], number: u64) -> bool
     ensures { result ≡ list_any (has_side number) pairs.now }
 {
-    pairs.iter().any(|pair| pair.earlier == number || pair.later == number)
+    pairs
+        .iter()
+        .any(|pair| pair.earlier == number || pair.later == number)
 }
 
 fn is_candidate(entries: &[Entry], pairs: &[Pair], later: u64, number: u64) -> bool

@@ -73,7 +73,9 @@ fn is_by(day: Option<u64>, due: u64) -> bool
 pub fn is_due(entries: &[Entry], run: u64, pair: Pair) -> bool
     ensures { result ≡ is_due entries.now run pair }
 {
-    is_by(day_of_run(entries, run), day_of(entries, pair)) && pair.later < run && stands(before(run, entries), pair)
+    is_by(day_of_run(entries, run), day_of(entries, pair))
+        && pair.later < run
+        && stands(before(run, entries), pair)
 }
 
 fn are_others(settled: &[Settled], run: u64, pair: Pair) -> bool
@@ -88,7 +90,14 @@ fn is_unsettled(settled: &[Settled], run: u64, pair: Pair) -> bool
     are_others(settled, run, pair)
 }
 
-fn is_open(entries: &[Entry], pairs: &[Pair], settled: &[Settled], run: u64, place: Option<Place>, pair: Pair) -> bool
+fn is_open(
+    entries: &[Entry],
+    pairs: &[Pair],
+    settled: &[Settled],
+    run: u64,
+    place: Option<Place>,
+    pair: Pair,
+) -> bool
     requires { Contains pairs.now pair }
     ensures { IsTrue result ↔ IsOpen entries.now pairs.now settled.now run place pair }
 {
@@ -96,7 +105,13 @@ fn is_open(entries: &[Entry], pairs: &[Pair], settled: &[Settled], run: u64, pla
 }
 
 /// The next pair that the run of that number takes.
-fn next_pair(entries: &[Entry], pairs: &[Pair], settled: &[Settled], run: u64, place: Option<Place>) -> Option<Pair>
+fn next_pair(
+    entries: &[Entry],
+    pairs: &[Pair],
+    settled: &[Settled],
+    run: u64,
+    place: Option<Place>,
+) -> Option<Pair>
     ensures { MatchOption result ((p : Pair) → IsOpen entries.now pairs.now settled.now run place p → ⊥)
         (IsNext entries.now pairs.now settled.now run place) }
 {
@@ -118,7 +133,11 @@ fn next_pair(entries: &[Entry], pairs: &[Pair], settled: &[Settled], run: u64, p
 
 /// Adds what the last of the entries settles: the due pairs in order, each where what stands before it covers it.
 /// An entry that is no run settles nothing.
-fn settle_last(entries: &[Entry], pairs: &[Pair], settled: &mut Vec<Settled>) -> Result<(), AllocError>
+fn settle_last(
+    entries: &[Entry],
+    pairs: &[Pair],
+    settled: &mut Vec<Settled>,
+) -> Result<(), AllocError>
     requires some { 0 < length entries.now }
     requires rising { AllPairs (λ p q. p.later < q.later) pairs.now }
     requires before { IsSettlement (before (length entries.now) entries.now) pairs.now settled.old.items }
@@ -136,7 +155,11 @@ fn settle_last(entries: &[Entry], pairs: &[Pair], settled: &mut Vec<Settled>) ->
 }
 
 /// The settlement of the entries.
-pub fn settlement_of(alloc: Global, entries: &[Entry], pairs: &[Pair]) -> Result<Vec<Settled>, AllocError>
+pub fn settlement_of(
+    alloc: Global,
+    entries: &[Entry],
+    pairs: &[Pair],
+) -> Result<Vec<Settled>, AllocError>
     requires { IsPairing entries.now pairs.now }
     ensures { IfOk result (λ settled. IsSettlement entries.now pairs.now settled.items) }
 {

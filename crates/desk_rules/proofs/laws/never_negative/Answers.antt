@@ -1,5 +1,5 @@
 use Rattle.desk_rules.proofs.Decided.{In-from_Contains}
-use Rattle.desk_rules.proofs.NonNegative.{NeverNegative, never_negative}
+use Rattle.desk_rules.proofs.NonNegative.{never_negative}
 use Rattle.desk_rules.proofs.laws.never_negative.Goals as goal
 
 pub returns : goal.returns

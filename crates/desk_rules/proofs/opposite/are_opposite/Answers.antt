@@ -1,4 +1,4 @@
-use Rattle.std.proofs.Common.{rules, arith}
+use Rattle.std.proofs.Common.{rules}
 use Rattle.desk_rules.proofs.opposite.are_opposite.Goals as goal
 
 pub returns : goal.returns

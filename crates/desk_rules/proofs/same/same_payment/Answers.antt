@@ -1,4 +1,4 @@
-use Rattle.std.proofs.Common.{rules, arith}
+use Rattle.std.proofs.Common.{rules}
 use Rattle.desk_rules.proofs.SameContent.{payment_same}
 use Rattle.desk_rules.proofs.same.same_payment.Goals as goal
 

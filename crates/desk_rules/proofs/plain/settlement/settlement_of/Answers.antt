@@ -1,4 +1,4 @@
-use Rattle.std.proofs.Common.{rules, arith, List, sym, subst}
+use Rattle.std.proofs.Common.{arith, List, sym, subst}
 use Rattle.desk_rules.specs.declared.entry.Entry.{Entry}
 use Rattle.desk_rules.specs.Settlement.{IsSettlement}
 use Rattle.desk_rules.proofs.PlainLemmas.{front_before}

@@ -1,0 +1,12 @@
+pub mod ListsLemmas
+pub mod LookingLemmas
+pub mod QuantityLemmas
+pub mod AppendLemmas
+pub mod SettleLemmas
+pub mod SearchLemmas
+pub mod ListingLemmas
+pub mod KeyLemmas
+pub mod DecisionLemmas
+pub mod TablesLemmas
+pub mod InstructLemmas
+pub mod ViewLemmas

@@ -1,0 +1,10 @@
+use Rattle.std.proofs.Common.{◌≡◌, ◌<◌, length, ◌++◌, ◌∷◌, [], ap, sym, ◌∙◌, rules}
+use Rattle.desk_register.specs.declared.lists.Change.TheVariants.{Resized}
+use Rattle.desk_register.specs.Lists.{listed, undone}
+use Rattle.desk_register.proofs.ListsLemmas.{before_resized, set_back}
+use Rattle.desk_register.proofs.changes.resize.Goals as goal
+
+pub returns-clause-before : goal.returns-clause-before
+returns-clause-before c =
+    let logged : c.push.new.self.items ≡ c.args.changes.now.items ++ Resized c.args.index c.index-was.result.now ∷ [] = search rules in
+    rw logged (before_resized c.args.changes.now.items (listed c.args.lists.now) c.args.index c.index-was.result.now c.args.quantity (set_back c.args.lists.now.outstanding.items c.args.index c.index-was.result.now c.args.quantity c.index-was.ensures))

@@ -1,0 +1,53 @@
+-- What a verdict is put together from.
+use Rattle.std.specs.Prelude.{◌≡◌, ◌≢◌, ℕ, Bool, true, false, not, if◌then◌else◌, List, [], ◌∷◌, Option, Some, None, MatchOption}
+use Rattle.desk_msg.specs.MessageType.{is_against_payment}
+use Rattle.desk_rules.specs.declared.entry.Entry.{Entry}
+use Rattle.desk_rules.specs.declared.entry.Entry.TheVariants.{Participant, Account, Security, Issue, Redeem, PayIn, PayOut, Instruct, Cancel, Run}
+use Rattle.desk_rules.specs.declared.verdict.Refusal.{Refusal}
+use Rattle.desk_rules.specs.declared.verdict.Verdict.{Verdict}
+use Rattle.desk_rules.specs.declared.pair.Pair.{Pair}
+use Rattle.desk_rules.specs.declared.pair.Settled.{Settled}
+use Rattle.desk_register.specs.declared.register.Stage.{Stage}
+use Rattle.desk_register.specs.declared.register.Stage.TheVariants.{Failed}
+use Rattle.desk_rules.specs.History.{number_of_key, sender_of, reference_of}
+use Rattle.desk_rules.specs.Verdict.{Books, Check, checks_of, IsVerdictAt}
+use Rattle.desk_register.specs.View.{View}
+use Rattle.desk_register.specs.Content.{history_of}
+
+-- the commands that the desk takes: participants, accounts, securities, issues, runs, and free instructions
+abbrev pub is_of_today : Entry → Bool
+is_of_today (Participant reference bic) = true
+is_of_today (Account reference bic account) = true
+is_of_today (Security reference isin kind) = true
+is_of_today (Issue holding) = true
+is_of_today (Redeem holding) = false
+is_of_today (PayIn payment) = false
+is_of_today (PayOut payment) = false
+is_of_today (Instruct sender instruction) = not (is_against_payment instruction.mt)
+is_of_today (Cancel sender order) = false
+is_of_today (Run reference day) = true
+
+-- the refusal of the first check that fails
+abbrev pub first_refusal : List Check → Option Refusal
+first_refusal [] = None
+first_refusal (c ∷ checks) = if c.fails then Some c.refusal else first_refusal checks
+
+-- a history of which nothing is paired or settled: the checks of today's commands read no more
+abbrev pub with_history : List Entry → Books
+with_history history = record { history = history; pairs = []; settled = [] }
+
+-- the verdict on an entry whose key an earlier entry has
+pub record IsVerdictOnKey (history : List Entry) (entry : Entry) (verdict : Verdict) : Type 0 where
+  pub number : ℕ
+  pub is_number : number_of_key history (sender_of entry) (reference_of entry) ≡ Some number
+  pub is_verdict : IsVerdictAt 0 (with_history history) entry (Some number) verdict
+
+-- there is none where the key is new
+abbrev pub IsVerdictIfKnown : List Entry → Entry → Option Verdict → Type 0
+IsVerdictIfKnown history entry None = number_of_key history (sender_of entry) (reference_of entry) ≡ None
+IsVerdictIfKnown history entry (Some verdict) = IsVerdictOnKey history entry verdict
+
+-- Between two views a call read a sure register, of which no call has failed since `begin`: then this holds of
+-- the history.
+abbrev pub Reading : View → View → (List Entry → Type 0) → Type 0
+Reading old new says = new.is_honest → old.is_sure → old.stage ≢ Failed → says (history_of old.content)

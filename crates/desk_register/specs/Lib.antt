@@ -1,0 +1,6 @@
+pub mod Content
+pub mod Looked
+pub mod Lists
+pub mod View
+pub mod Decision
+pub mod Tables

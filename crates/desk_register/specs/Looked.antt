@@ -1,0 +1,153 @@
+-- What the look-ups of a register find in its content.
+use Rattle.std.specs.Prelude.{◌≡◌, ℕ, zero, suc, ◌+◌, ◌<◌, ◌≤◌, ◌⊎◌, Bool, true, false, List, [], ◌∷◌, Option, Some, None, option_map, option_and_then, slice_get, sum_by, is_some}
+use Rattle.std.specs.List.{filter_map}
+use Rattle.std.specs.Ordering.{nat_cmp}
+use Rattle.std.specs.Cmp.Lexicographic.{slice_cmp}
+use Rattle.std.specs.declared.cmp.Ordering.{Ordering}
+use Rattle.std.specs.declared.cmp.Ordering.TheVariants.{Less}
+use Rattle.desk_codes.specs.Number.{number_of}
+use Rattle.desk_rules.specs.declared.entry.Entry.{Entry}
+use Rattle.desk_rules.specs.declared.entry.Entry.TheVariants.{Participant, Account, Security, Issue, Redeem, PayIn, PayOut, Instruct, Cancel, Run}
+use Rattle.desk_rules.specs.declared.reply.Reply.{Reply}
+use Rattle.desk_register.specs.declared.found.Found.{Found}
+use Rattle.desk_rules.specs.declared.pair.Place.{Place}
+use Rattle.desk_rules.specs.declared.reply.State.{State}
+use Rattle.desk_rules.specs.declared.reply.State.TheVariants.{Unmatched, Matched}
+use Rattle.desk_msg.specs.declared.status.Reason.{Reason}
+use Rattle.desk_register.specs.declared.standing.Standing.{Standing}
+use Rattle.desk_rules.specs.declared.entry.Instructed.{Instructed}
+use Rattle.desk_rules.specs.History.{instruction_at}
+use Rattle.desk_rules.specs.Opposite.{AreOpposite}
+use Rattle.desk_rules.specs.Verdict.{kind_of}
+use Rattle.desk_rules.specs.declared.reply.Kept.{Kept}
+use Rattle.desk_register.specs.Content.{Content, history_of}
+
+-- an entry by its number, as a look-up gives it
+pub record Finding : Type 0 where
+  pub number : ℕ
+  pub entry : Entry
+  pub reply : Reply
+  pub standing : Standing
+
+abbrev pub view_of : Found → Finding
+view_of f = record { number = f.number; entry = f.entry; reply = f.reply; standing = f.standing }
+
+-- the entry of a number
+abbrev pub kept_at : List Kept → ℕ → Option Kept
+kept_at register zero = None
+kept_at register (suc n) = slice_get register n
+
+abbrev pub found_at : Content → ℕ → Option Finding
+found_at content n = option_map (λ kept. record { number = n; entry = kept.entry; reply = kept.reply; standing = content.standing n }) (kept_at content.register n)
+
+-- an unmatched instruction of this number is opposite to this one
+pub record IsOppositeAt (content : Content) (i : Instructed) (n : ℕ) : Type 0 where
+  pub other : Instructed
+  pub is_other : instruction_at (history_of content) n ≡ Some other
+  pub opposite : AreOpposite other i
+  pub unmatched : (content.standing n).state ≡ Unmatched
+
+-- the least such number, or there is none
+abbrev pub IsFirstOpposite : Content → Instructed → Option ℕ → Type 0
+IsFirstOpposite content i None = (n : ℕ) → IsOppositeAt content i n → ⊥
+IsFirstOpposite content i (Some n) = IsOppositeAt content i n × ((k : ℕ) → k < n → IsOppositeAt content i k → ⊥)
+
+-- one place is before another: an earlier day, or a lower number on the day
+abbrev pub IsBefore : Place → Place → Type 0
+IsBefore p q = (p.day < q.day) ⊎ ((p.day ≡ q.day) × (p.number < q.number))
+
+-- a place is above another one, or above none
+abbrev pub IsAbove : Option Place → Place → Type 0
+IsAbove None q = Unit {0}
+IsAbove (Some p) q = IsBefore p q
+
+-- a matched pair of this place: its later instruction has the number, and the day
+pub record IsMatchedPair (content : Content) (p : Place) : Type 0 where
+  pub later : Instructed
+  pub mate : ℕ
+  pub reason : Reason
+  pub is_later : instruction_at (history_of content) p.number ≡ Some later
+  pub has_mate : (content.standing p.number).mate ≡ Some mate
+  pub is_earlier : mate < p.number
+  pub matched : (content.standing p.number).state ≡ Matched reason
+  pub day : number_of later.instruction.day ≡ p.day
+
+-- a matched pair that is due by a day, above a place
+pub record IsDue (content : Content) (day : ℕ) (place : Option Place) (p : Place) : Type 0 where
+  pub pair : IsMatchedPair content p
+  pub by : p.day ≤ day
+  pub above : IsAbove place p
+
+-- the first such pair, or there is none
+abbrev pub IsDuePairAfter : Content → ℕ → Option Place → Option Place → Type 0
+IsDuePairAfter content day place None = (p : Place) → IsDue content day place p → ⊥
+IsDuePairAfter content day place (Some p) = IsDue content day place p × ((q : Place) → IsDue content day place q → IsBefore q p → ⊥)
+
+-- one text is before another in the order of bytes
+abbrev pub IsLess : List ℕ → List ℕ → Type 0
+IsLess a b = slice_cmp nat_cmp a b ≡ Less
+
+abbrev pub IsAboveText : Option (List ℕ) → List ℕ → Type 0
+IsAboveText None b = Unit {0}
+IsAboveText (Some a) b = IsLess a b
+
+-- a registered security above one, or above none
+abbrev pub IsListedAbove : List Entry → Option (List ℕ) → List ℕ → Type 0
+IsListedAbove history above isin = (is_some (kind_of history isin) ≡ true) × IsAboveText above isin
+
+-- the first such security, or there is none
+abbrev pub IsSecurityAfter : List Entry → Option (List ℕ) → Option (List ℕ) → Type 0
+IsSecurityAfter history above None = (isin : List ℕ) → IsListedAbove history above isin → ⊥
+IsSecurityAfter history above (Some isin) = IsListedAbove history above isin × ((other : List ℕ) → IsListedAbove history above other → IsLess other isin → ⊥)
+
+-- the account that an entry registers
+abbrev pub account_by : Entry → Option (List ℕ)
+account_by (Participant reference bic) = None
+account_by (Account reference bic account) = Some account
+account_by (Security reference isin kind) = None
+account_by (Issue holding) = None
+account_by (Redeem holding) = None
+account_by (PayIn payment) = None
+account_by (PayOut payment) = None
+account_by (Instruct sender instruction) = None
+account_by (Cancel sender order) = None
+account_by (Run reference day) = None
+
+-- what the account that an entry registers holds, if it registers one
+abbrev pub held_by : (List ℕ → ℕ) → Option (List ℕ) → ℕ
+held_by holds None = 0
+held_by holds (Some account) = holds account
+
+-- what all registered accounts hold of a security
+abbrev pub held_of : Content → List ℕ → ℕ
+held_of content isin = sum_by (λ account. content.position account isin) (filter_map account_by (history_of content))
+
+-- the sooner of two places, where there are two
+abbrev pub IsSooner : Option Place → Option Place → Option Place → Type 0
+IsSooner None candidate sooner = sooner ≡ candidate
+IsSooner (Some best) None sooner = sooner ≡ Some best
+IsSooner (Some best) (Some candidate) sooner = (IsBefore candidate best × (sooner ≡ Some candidate)) ⊎ ((IsBefore candidate best → ⊥) × (sooner ≡ Some best))
+
+-- the security that an entry registers
+abbrev pub security_by : Entry → Option (List ℕ)
+security_by (Participant reference bic) = None
+security_by (Account reference bic account) = None
+security_by (Security reference isin kind) = Some isin
+security_by (Issue holding) = None
+security_by (Redeem holding) = None
+security_by (PayIn payment) = None
+security_by (PayOut payment) = None
+security_by (Instruct sender instruction) = None
+security_by (Cancel sender order) = None
+security_by (Run reference day) = None
+
+-- the security that an entry registers, where it is above one
+abbrev pub IsSecurityOf : Entry → Option (List ℕ) → Option (List ℕ) → Type 0
+IsSecurityOf entry above None = (isin : List ℕ) → security_by entry ≡ Some isin → IsAboveText above isin → ⊥
+IsSecurityOf entry above (Some isin) = (security_by entry ≡ Some isin) × IsAboveText above isin
+
+-- the lesser of two, where there are two
+abbrev pub IsLesser : Option (List ℕ) → Option (List ℕ) → Option (List ℕ) → Type 0
+IsLesser None candidate lesser = lesser ≡ candidate
+IsLesser (Some best) None lesser = lesser ≡ Some best
+IsLesser (Some best) (Some candidate) lesser = (IsLess candidate best × (lesser ≡ Some candidate)) ⊎ ((IsLess candidate best → ⊥) × (lesser ≡ Some best))

@@ -1,0 +1,84 @@
+-- What contracts see of a register, and how its calls change it.
+use Rattle.std.specs.Prelude.{◌≡◌, ℕ, ◌<◌, ◌≤◌, Result, IfErr, OnOk, OnErr}
+use Rattle.desk_register.specs.declared.register.Fault.{Fault}
+use Rattle.desk_register.specs.declared.register.Fault.TheVariants.{Memory, Storage}
+use Rattle.desk_register.specs.declared.register.Stage.{Stage}
+use Rattle.desk_register.specs.declared.register.Stage.TheVariants.{Idle, Begun, Failed}
+use Rattle.desk_register.specs.Content.{Content}
+
+pub record View : Type 1 where
+  -- what it holds now
+  pub content : Content
+  -- what `back` goes back to
+  pub mark : Content
+  -- whether a `begin` is open, and whether a call has failed since
+  pub stage : Stage
+  -- how many answers named the device
+  pub failures : ℕ
+  -- no wrong answer of the device was taken as true; it may be lost at any call
+  pub is_honest : Type 0
+  -- the device has not shut the store, so what it shows is what it holds
+  pub is_sure : Type 0
+
+-- the stage after a call that failed
+abbrev pub fallen : Stage → Stage
+fallen Idle = Idle
+fallen Begun = Failed
+fallen Failed = Failed
+
+module _ (old new : View) where
+  -- of every call
+  pub record IsLater : Type 0 where
+    pub honest : new.is_honest → old.is_honest
+    pub sure : new.is_honest → new.is_sure → old.is_sure
+    pub failures : old.failures ≤ new.failures
+
+  -- a `begin` is open, and what it goes back to is marked
+  pub record Begins : Type 0 where
+    pub stage : new.stage ≡ Begun
+    pub sure : new.is_honest → old.is_sure → new.is_sure
+    pub content : new.is_honest → old.is_sure → new.content ≡ old.content
+    pub mark : new.is_honest → old.is_sure → new.mark ≡ old.content
+
+  -- what was changed since `begin` is kept
+  pub record Commits : Type 0 where
+    pub stage : new.stage ≡ Idle
+    pub sure : new.is_honest → old.is_sure → new.is_sure
+    pub content : new.is_honest → old.is_sure → new.content ≡ old.content
+
+  -- what was changed since `begin` is taken back
+  pub record GoesBack : Type 0 where
+    pub stage : new.stage ≡ Idle
+    pub sure : new.is_honest → new.is_sure
+    pub content : new.is_honest → new.content ≡ old.mark
+
+  -- a call went well: what is marked stays
+  pub record Stays : Type 0 where
+    pub stage : new.stage ≡ old.stage
+    pub sure : new.is_honest → old.is_sure → new.is_sure
+    pub mark : new.is_honest → old.is_sure → new.mark ≡ old.mark
+
+  -- a call failed: what is marked stays, and with no `begin` open the content does
+  pub record Falls : Type 0 where
+    pub stage : new.stage ≡ fallen old.stage
+    pub mark : new.is_honest → new.is_sure → new.mark ≡ old.mark
+    pub content : new.is_honest → new.is_sure → old.stage ≡ Idle → new.content ≡ old.content
+
+-- a storage fault is answered only where the device failed in the call
+abbrev pub Blames : {X : Type 0} → Result X Fault → View → View → Type 0
+Blames result old new = IfErr result (λ fault. fault ≡ Storage → old.failures < new.failures)
+
+-- how a reading call ends: where it goes well nothing has changed
+pub record IsRead {X : Type 0} (result : Result X Fault) (old new : View) : Type 0 where
+  pub same : new.is_honest → old.is_sure → OnOk result (new.content ≡ old.content)
+  pub ok : OnOk result (Stays old new)
+  pub err : OnErr result (Falls old new)
+  pub later : IsLater old new
+  pub blame : Blames result old new
+
+-- how a changing call ends
+pub record IsChange {X : Type 0} (result : Result X Fault) (old new : View) : Type 0 where
+  pub ok : OnOk result (Stays old new)
+  pub err : OnErr result (Falls old new)
+  pub later : IsLater old new
+  pub blame : Blames result old new

@@ -1,0 +1,20 @@
+//! A register that keeps plain lists.
+ghost use Rattle.std.specs.Prelude.{◌≡◌, ◌≢◌, []};
+ghost use Rattle.desk_register.specs.Lists.{listed, undone, AreTotals};
+ghost use Rattle.desk_register.specs.declared.register.Stage.TheVariants.{Idle, Failed};
+
+use crate::lists::{Change, Lists};
+use crate::register::Stage;
+
+/// A register in plain lists. What is changed since `begin` is noted, so that `back` undoes it without a copy
+/// of the whole.
+#[derive(Drop)]
+pub struct ListRegister {
+    pub limit: u64,
+    pub lists: Lists,
+    pub changes: Vec<Change>,
+    pub stage: Stage,
+    ghost idle: { stage ≡ Idle → changes.items ≡ [] },
+    ghost totals: { stage ≢ Failed → AreTotals (listed lists) },
+    ghost totals_marked: { AreTotals (undone changes.items (listed lists)) },
+}
