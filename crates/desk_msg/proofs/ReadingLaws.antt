@@ -83,19 +83,19 @@ given_not_first fields [] part fault plain given fails = fails
 given_not_first fields (row ∷ rows) part fault plain given (inl x) = fails_not_gives fields row (part row.word) fault plain.0 x given.0
 given_not_first fields (row ∷ rows) part fault plain given (inr x) = given_not_first fields rows part fault plain.1 given.1 x.1
 
-plain_seven : (mt : Mt) → ArePlain (rows_of mt Newm)
-plain_seven Mt540 = ((λ e. cc), ((λ e. cc), ((λ e. cc), ((λ e. cc), ((λ e. cc), ((λ e. cc), ((λ e. cc), ((λ e. cc), tt))))))))
-plain_seven Mt541 = ((λ e. cc), ((λ e. cc), ((λ e. cc), ((λ e. cc), ((λ e. cc), ((λ e. cc), ((λ e. cc), ((λ e. cc), ((λ e. cc), tt)))))))))
-plain_seven Mt542 = ((λ e. cc), ((λ e. cc), ((λ e. cc), ((λ e. cc), ((λ e. cc), ((λ e. cc), ((λ e. cc), ((λ e. cc), tt))))))))
-plain_seven Mt543 = ((λ e. cc), ((λ e. cc), ((λ e. cc), ((λ e. cc), ((λ e. cc), ((λ e. cc), ((λ e. cc), ((λ e. cc), ((λ e. cc), tt)))))))))
-plain_seven Mt544 = ((λ e. cc), ((λ e. cc), ((λ e. cc), ((λ e. cc), ((λ e. cc), ((λ e. cc), ((λ e. cc), ((λ e. cc), tt))))))))
-plain_seven Mt545 = ((λ e. cc), ((λ e. cc), ((λ e. cc), ((λ e. cc), ((λ e. cc), ((λ e. cc), ((λ e. cc), ((λ e. cc), ((λ e. cc), tt)))))))))
-plain_seven Mt546 = ((λ e. cc), ((λ e. cc), ((λ e. cc), ((λ e. cc), ((λ e. cc), ((λ e. cc), ((λ e. cc), ((λ e. cc), tt))))))))
-plain_seven Mt547 = ((λ e. cc), ((λ e. cc), ((λ e. cc), ((λ e. cc), ((λ e. cc), ((λ e. cc), ((λ e. cc), ((λ e. cc), ((λ e. cc), tt)))))))))
+plain_new : (mt : Mt) → ArePlain (rows_of mt Newm)
+plain_new Mt540 = ((λ e. cc), ((λ e. cc), ((λ e. cc), ((λ e. cc), ((λ e. cc), ((λ e. cc), ((λ e. cc), ((λ e. cc), tt))))))))
+plain_new Mt541 = ((λ e. cc), ((λ e. cc), ((λ e. cc), ((λ e. cc), ((λ e. cc), ((λ e. cc), ((λ e. cc), ((λ e. cc), ((λ e. cc), tt)))))))))
+plain_new Mt542 = ((λ e. cc), ((λ e. cc), ((λ e. cc), ((λ e. cc), ((λ e. cc), ((λ e. cc), ((λ e. cc), ((λ e. cc), tt))))))))
+plain_new Mt543 = ((λ e. cc), ((λ e. cc), ((λ e. cc), ((λ e. cc), ((λ e. cc), ((λ e. cc), ((λ e. cc), ((λ e. cc), ((λ e. cc), tt)))))))))
+plain_new Mt544 = ((λ e. cc), ((λ e. cc), ((λ e. cc), ((λ e. cc), ((λ e. cc), ((λ e. cc), ((λ e. cc), ((λ e. cc), tt))))))))
+plain_new Mt545 = ((λ e. cc), ((λ e. cc), ((λ e. cc), ((λ e. cc), ((λ e. cc), ((λ e. cc), ((λ e. cc), ((λ e. cc), ((λ e. cc), tt)))))))))
+plain_new Mt546 = ((λ e. cc), ((λ e. cc), ((λ e. cc), ((λ e. cc), ((λ e. cc), ((λ e. cc), ((λ e. cc), ((λ e. cc), tt))))))))
+plain_new Mt547 = ((λ e. cc), ((λ e. cc), ((λ e. cc), ((λ e. cc), ((λ e. cc), ((λ e. cc), ((λ e. cc), ((λ e. cc), ((λ e. cc), tt)))))))))
 
 -- the rows behind the function are not the function's
 pub plain_rows : (mt : Mt) (function : FunctionCode) → ArePlain (rows_of mt function)
-plain_rows mt Newm = plain_seven mt
+plain_rows mt Newm = plain_new mt
 plain_rows mt Canc = ((λ e. cc), ((λ e. cc), tt))
 
 pub one_text_code : (x y : List ℕ) → text_said x ≡ text_said y → x ≡ y

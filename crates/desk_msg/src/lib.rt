@@ -1,7 +1,14 @@
-//! The messages of settlement, category 5 of ISO 15022: what a participant instructs.
+//! The messages of settlement, category 5 of ISO 15022: what a participant instructs, and what the desk answers.
 //!
-//! An `Instruction` or a `CancelOrder` keeps the conditions of the profile in its type, so that nothing
-//! above tests them again. Begin with `instruction.rt`.
+//! `read_instruction_text` gives the message of a text exactly where the text is a block whose fields read as that
+//! message by the profile, and else the one refusal; `read_message` does the same for the fields of a block.
+//! Fields read as one message or have one fault, and never both (`one_reading`). An `Instruction` or a `CancelOrder`
+//! keeps the conditions of the profile in its type, so that nothing above tests them again. `fields_text`,
+//! `refusal_text` and `status_text` each write one defined text; an advice is a list of parts, and so a block whose
+//! fields are known.
+//!
+//! Begin with specs/Profile.antt (the used fields as a table, and what their values say) and specs/Reads.antt (which
+//! fields read as which message); then specs/StatusText.antt.
 #![tactic(auto)]
 
 mod characters;
