@@ -1,0 +1,8 @@
+pub mod LineLemmas
+pub mod FormLemmas
+pub mod ScriptLemmas
+pub mod ExactLemmas
+pub mod CommandLemmas
+pub mod RowLemmas
+pub mod OneReading
+pub mod OneCommand

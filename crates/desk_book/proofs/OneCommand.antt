@@ -1,0 +1,121 @@
+-- Bytes spell one command at most.
+use Rattle.std.proofs.Common.{◌≡◌, ℕ, List, [], Some, codes, cond, eqb, get_or, refl, sym, ap, ◌∙◌}
+use Rattle.serde_json.specs.Data.{Data}
+use Rattle.desk_codes.specs.Bic.{party_of}
+use Rattle.desk_codes.specs.Currency.{letters_of}
+use Rattle.desk_codes.specs.declared.currency.Ccy.{Ccy}
+use Rattle.desk_codes.specs.declared.currency.Ccy.TheVariants.{Chf, Eur, Gbp, Jpy, Usd}
+use Rattle.desk_msg.specs.declared.instruction.Kind.{Kind}
+use Rattle.desk_msg.specs.declared.instruction.Kind.TheVariants.{Unit as Units, FaceAmount}
+use Rattle.desk_rules.specs.declared.entry.Entry.{Entry}
+use Rattle.desk_rules.specs.declared.entry.Entry.TheVariants.{Participant, Account, Security, Issue, Redeem, PayIn, PayOut, Instruct, Cancel, Run}
+use Rattle.std.specs.Prelude.{◌<◌, ◌≤◌}
+use Rattle.std.proofs.Props.{props}
+use mathlib.Core.HLevel.{Σ_prop_path}
+use Rattle.desk_rules.specs.declared.entry.Holding.{Holding}
+use Rattle.desk_rules.specs.declared.entry.Payment.{Payment}
+use Rattle.desk_book.specs.Command.{IsCommand, Spells, text_at, number_at, kind_word}
+
+-- a condition that a type keeps has one proof
+
+holding_same : (a b : Holding) → a.reference ≡ b.reference → a.account ≡ b.account → a.isin ≡ b.isin → a.quantity ≡ b.quantity → a ≡ b
+holding_same a b e0 e1 e2 e3 =
+    let kept : List ℕ × List ℕ × List ℕ × ℕ → Type 0 = λ x. (0 < x.3) × (x.3 ≤ 99_999_999_999_999) in
+    let whole : ((x : List ℕ × List ℕ × List ℕ × ℕ) × kept x) → Holding = λ s. record { reference = s.0.0; account = s.0.1; isin = s.0.2; quantity = s.0.3; some = s.1.0; within = s.1.1 } in
+    let base : ◌≡◌ {A = List ℕ × List ℕ × List ℕ × ℕ} (a.reference, a.account, a.isin, a.quantity) (b.reference, b.account, b.isin, b.quantity) = cc in
+    let both : ◌≡◌ {A = (x : List ℕ × List ℕ × List ℕ × ℕ) × kept x} ((a.reference, a.account, a.isin, a.quantity), (a.some, a.within)) ((b.reference, b.account, b.isin, b.quantity), (b.some, b.within)) = Σ_prop_path (λ x. hlevel props) base in
+    ap whole both
+
+payment_same : (a b : Payment) → a.reference ≡ b.reference → a.bic ≡ b.bic → a.ccy ≡ b.ccy → a.amount ≡ b.amount → a ≡ b
+payment_same a b e0 e1 e2 e3 =
+    let kept : List ℕ × List ℕ × Ccy × ℕ → Type 0 = λ x. (0 < x.3) × (x.3 ≤ 999_999_999_999_999_999) in
+    let whole : ((x : List ℕ × List ℕ × Ccy × ℕ) × kept x) → Payment = λ s. record { reference = s.0.0; bic = s.0.1; ccy = s.0.2; amount = s.0.3; some = s.1.0; within = s.1.1 } in
+    let base : ◌≡◌ {A = List ℕ × List ℕ × Ccy × ℕ} (a.reference, a.bic, a.ccy, a.amount) (b.reference, b.bic, b.ccy, b.amount) = cc in
+    let both : ◌≡◌ {A = (x : List ℕ × List ℕ × Ccy × ℕ) × kept x} ((a.reference, a.bic, a.ccy, a.amount), (a.some, a.within)) ((b.reference, b.bic, b.ccy, b.amount), (b.some, b.within)) = Σ_prop_path (λ x. hlevel props) base in
+    ap whole both
+
+kind_of : List ℕ → Kind
+kind_of word = cond (eqb (get_or word 0 0) 85) Units FaceAmount
+
+kind_back : (kind : Kind) → kind_of (kind_word kind) ≡ kind
+unfolding kind_of
+kind_back Units = refl
+kind_back FaceAmount = refl
+
+same_kind : (a b : Kind) → kind_word a ≡ kind_word b → a ≡ b
+same_kind a b e = sym (kind_back a) ∙ ap kind_of e ∙ kind_back b
+
+ccy_of : List ℕ → Ccy
+ccy_of letters = let c = get_or letters 0 0 in cond (eqb c 67) Chf (cond (eqb c 69) Eur (cond (eqb c 71) Gbp (cond (eqb c 74) Jpy Usd)))
+
+ccy_back : (ccy : Ccy) → ccy_of (letters_of ccy) ≡ ccy
+unfolding ccy_of
+ccy_back Chf = refl
+ccy_back Eur = refl
+ccy_back Gbp = refl
+ccy_back Jpy = refl
+ccy_back Usd = refl
+
+same_letters : (a b : Ccy) → letters_of a ≡ letters_of b → a ≡ b
+same_letters a b e = sym (ccy_back a) ∙ ap ccy_of e ∙ ccy_back b
+
+-- the word of an operation
+op_word : Entry → List ℕ
+op_word (Participant reference bic) = codes "participant"
+op_word (Account reference bic account) = codes "account"
+op_word (Security reference isin kind) = codes "security"
+op_word (Issue holding) = codes "issue"
+op_word (Redeem holding) = codes "redeem"
+op_word (PayIn payment) = codes "payin"
+op_word (PayOut payment) = codes "payout"
+op_word (Run reference day) = codes "run"
+op_word (Instruct sender instruction) = []
+op_word (Cancel sender order) = []
+
+op_is : (d : Data) (e : Entry) → IsCommand d e → text_at (codes "op") d ≡ Some (op_word e)
+unfolding op_word
+op_is d (Participant reference bic) h = ap (text_at (codes "op")) h.3
+op_is d (Account reference bic account) h = ap (text_at (codes "op")) h.4
+op_is d (Security reference isin kind) h = ap (text_at (codes "op")) h.2
+op_is d (Issue holding) h = ap (text_at (codes "op")) h.1
+op_is d (Redeem holding) h = ap (text_at (codes "op")) h.1
+op_is d (PayIn payment) h = ap (text_at (codes "op")) h.3
+op_is d (PayOut payment) h = ap (text_at (codes "op")) h.3
+op_is d (Run reference day) h = ap (text_at (codes "op")) h.2
+op_is d (Instruct sender instruction) h = absurd h
+op_is d (Cancel sender order) h = absurd h
+
+other_op : (d : Data) (a b : Entry) → IsCommand d a → IsCommand d b → op_word a ≡ op_word b
+other_op d a b h k = let e = sym (op_is d a h) ∙ op_is d b k in cc
+
+found : (name a b : List ℕ) (d x y : Data) → d ≡ x → d ≡ y → text_at name x ≡ Some a → text_at name y ≡ Some b → a ≡ b
+found name a b d x y p q f g = let e = sym f ∙ ap (text_at name) (sym p ∙ q) ∙ g in cc
+
+counted : (name : List ℕ) (a b : ℕ) (d x y : Data) → d ≡ x → d ≡ y → number_at name x ≡ Some a → number_at name y ≡ Some b → a ≡ b
+counted name a b d x y p q f g = let e = sym f ∙ ap (number_at name) (sym p ∙ q) ∙ g in cc
+
+one_entry : (d : Data) (a b : Entry) → IsCommand d a → IsCommand d b → a ≡ b
+unfolding op_word
+one_entry d (Participant reference bic) (Participant reference' bic') h k = let r = found (codes "ref") reference reference' d _ _ h.3 k.3 refl refl in let n = found (codes "bic") h.0 k.0 d _ _ h.3 k.3 refl refl in let p : bic ≡ bic' = h.1.0 ∙ ap party_of n ∙ sym k.1.0 in cc
+one_entry d (Participant reference bic) b h k = let e = other_op d (Participant reference bic) b h k in cc
+one_entry d (Account reference bic account) (Account reference' bic' account') h k = let r = found (codes "ref") reference reference' d _ _ h.4 k.4 refl refl in let x = found (codes "account") account account' d _ _ h.4 k.4 refl refl in let n = found (codes "bic") h.0 k.0 d _ _ h.4 k.4 refl refl in let p : bic ≡ bic' = h.1.0 ∙ ap party_of n ∙ sym k.1.0 in cc
+one_entry d (Account reference bic account) b h k = let e = other_op d (Account reference bic account) b h k in cc
+one_entry d (Security reference isin kind) (Security reference' isin' kind') h k = let r = found (codes "ref") reference reference' d _ _ h.2 k.2 refl refl in let i = found (codes "isin") isin isin' d _ _ h.2 k.2 refl refl in let w = same_kind kind kind' (found (codes "kind") (kind_word kind) (kind_word kind') d _ _ h.2 k.2 refl refl) in cc
+one_entry d (Security reference isin kind) b h k = let e = other_op d (Security reference isin kind) b h k in cc
+one_entry d (Issue holding) (Issue holding') h k = ap Issue (holding_same holding holding' (found (codes "ref") holding.reference holding'.reference d _ _ h.1 k.1 refl refl) (found (codes "account") holding.account holding'.account d _ _ h.1 k.1 refl refl) (found (codes "isin") holding.isin holding'.isin d _ _ h.1 k.1 refl refl) (counted (codes "quantity") holding.quantity holding'.quantity d _ _ h.1 k.1 refl refl))
+one_entry d (Issue holding) b h k = let e = other_op d (Issue holding) b h k in cc
+one_entry d (Redeem holding) (Redeem holding') h k = ap Redeem (holding_same holding holding' (found (codes "ref") holding.reference holding'.reference d _ _ h.1 k.1 refl refl) (found (codes "account") holding.account holding'.account d _ _ h.1 k.1 refl refl) (found (codes "isin") holding.isin holding'.isin d _ _ h.1 k.1 refl refl) (counted (codes "quantity") holding.quantity holding'.quantity d _ _ h.1 k.1 refl refl))
+one_entry d (Redeem holding) b h k = let e = other_op d (Redeem holding) b h k in cc
+one_entry d (PayIn payment) (PayIn payment') h k = ap PayIn (payment_same payment payment' (found (codes "ref") payment.reference payment'.reference d _ _ h.3 k.3 refl refl) (h.1.0 ∙ ap party_of (found (codes "bic") h.0 k.0 d _ _ h.3 k.3 refl refl) ∙ sym k.1.0) (same_letters payment.ccy payment'.ccy (found (codes "ccy") (letters_of payment.ccy) (letters_of payment'.ccy) d _ _ h.3 k.3 refl refl)) (counted (codes "amount") payment.amount payment'.amount d _ _ h.3 k.3 refl refl))
+one_entry d (PayIn payment) b h k = let e = other_op d (PayIn payment) b h k in cc
+one_entry d (PayOut payment) (PayOut payment') h k = ap PayOut (payment_same payment payment' (found (codes "ref") payment.reference payment'.reference d _ _ h.3 k.3 refl refl) (h.1.0 ∙ ap party_of (found (codes "bic") h.0 k.0 d _ _ h.3 k.3 refl refl) ∙ sym k.1.0) (same_letters payment.ccy payment'.ccy (found (codes "ccy") (letters_of payment.ccy) (letters_of payment'.ccy) d _ _ h.3 k.3 refl refl)) (counted (codes "amount") payment.amount payment'.amount d _ _ h.3 k.3 refl refl))
+one_entry d (PayOut payment) b h k = let e = other_op d (PayOut payment) b h k in cc
+one_entry d (Run reference day) (Run reference' day') h k = let r = found (codes "ref") reference reference' d _ _ h.2 k.2 refl refl in let x = found (codes "day") day day' d _ _ h.2 k.2 refl refl in cc
+one_entry d (Run reference day) b h k = let e = other_op d (Run reference day) b h k in cc
+one_entry d (Instruct sender instruction) b h k = absurd h
+one_entry d (Cancel sender order) b h k = absurd h
+
+pub one_each : (bytes : List ℕ) (a b : Entry) → Spells bytes a → Spells bytes b → a ≡ b
+one_each bytes a b h k =
+    let same : h.value ≡ k.value = let e = sym h.reads ∙ k.reads in cc in
+    one_entry h.value a b h.command.spells (rw same k.command.spells)

@@ -1,0 +1,180 @@
+-- A script's lines ask one list of items and no other.
+use Rattle.std.proofs.Common.{◌≡◌, ℕ, suc, ◌+◌, ◌<◌, ◌≤◌, true, false, cond, not, eqb, List, [], ◌∷◌, ◌++◌, length, Option, Some, None, arith, refl, sym, ◌∙◌, ap, subst, get_or, append_assoc, append-nil, length-append}
+use Rattle.std.proofs.lemmas.Bool.{false≢true, eqb-true}
+use Rattle.std.proofs.lemmas.List.Elements.{All-head, All-tail}
+use Rattle.std.specs.List.{prefix_len}
+use Rattle.desk_codes.specs.Bic.{party_of}
+use Rattle.desk_msg.specs.declared.mt.Mt.{Mt}
+use Rattle.desk_msg.specs.declared.mt.Mt.TheVariants.{Mt540, Mt541, Mt542, Mt543, Mt544, Mt545, Mt546, Mt547}
+use Rattle.desk_book.specs.Asked.{Asked, message, operator, status, sent, holdings, sums}
+use Rattle.desk_book.specs.Forms.{IsLineOf, Asks, type_digits}
+use Rattle.desk_book.specs.Lines.{lines_of, content, is_skipped, has_body, is_stop}
+use Rattle.desk_book.specs.Script.{Item, ask, bad_line, Asking, ended, skipped, plain, posted, cut, Means, Script, IsOpen, posted_text, BeginsWith, SpellsOnly}
+use Rattle.desk_book.proofs.FormLemmas.{bic_no_space, same_split}
+
+-- One request for a line.
+
+type_of : List ℕ → Mt
+type_of digits =
+    let d = get_or digits 2 0 in
+    cond (eqb d 48) Mt540 (cond (eqb d 49) Mt541 (cond (eqb d 50) Mt542 (cond (eqb d 51) Mt543 (cond (eqb d 52) Mt544 (cond (eqb d 53) Mt545 (cond (eqb d 54) Mt546 Mt547))))))
+
+type_back : (mt : Mt) → type_of (type_digits mt) ≡ mt
+unfolding type_of
+type_back Mt540 = refl
+type_back Mt541 = refl
+type_back Mt542 = refl
+type_back Mt543 = refl
+type_back Mt544 = refl
+type_back Mt545 = refl
+type_back Mt546 = refl
+type_back Mt547 = refl
+
+same_type : (a b : Mt) → type_digits a ≡ type_digits b → a ≡ b
+same_type a b e = sym (type_back a) ∙ ap type_of e ∙ type_back b
+
+same_message : (s t : List ℕ) (a b : Mt) (x y said : List ℕ) → x ≡ y → IsLineOf (message s a x) said → IsLineOf (message t b y) said → message s a x ≡ message t b y
+same_message s t a b x y said text f g =
+    let both : f.0 ++ 32 ∷ type_digits a ≡ g.0 ++ 32 ∷ type_digits b = let e = sym f.3 ∙ g.3 in cc in
+    let words = same_split f.0 g.0 (type_digits a) (type_digits b) (bic_no_space f.0 s f.1) (bic_no_space g.0 t g.1) both in
+    let kind = same_type a b words.1 in
+    let party : s ≡ t = f.1.0 ∙ ap party_of words.0 ∙ sym g.1.0 in
+    cc
+
+one_request : (said : List ℕ) (body : Option (List ℕ)) (a b : Asked) → Asks said body a → Asks said body b → a ≡ b
+one_request said body (message s m x) (message t n y) h k =
+    let text : x ≡ y = let e = h.behind ∙ sym k.behind in cc in
+    same_message s t m n x y said text h.form k.form
+one_request said body (message s m x) (operator y) h k = let e = sym h.form.3 ∙ k.form in cc
+one_request said body (operator x) (message t n y) h k = let e = sym h.form ∙ k.form.3 in cc
+one_request said body (operator x) (operator y) h k = let e = h.behind ∙ sym k.behind in cc
+one_request said body (message s m x) sums h k = let e = h.behind ∙ sym k.behind in cc
+one_request said body (operator x) sums h k = let e = h.behind ∙ sym k.behind in cc
+one_request said body sums (message t n y) h k = let e = h.behind ∙ sym k.behind in cc
+one_request said body sums (operator y) h k = let e = h.behind ∙ sym k.behind in cc
+one_request said body sums sums h k = refl
+one_request said body (status s r) b h k = let bad = h.served in cc
+one_request said body (sent r n) b h k = let bad = h.served in cc
+one_request said body (holdings o x) b h k = let bad = h.served in cc
+one_request said body (message s m x) (status t r) h k = let bad = k.served in cc
+one_request said body (message s m x) (sent t n) h k = let bad = k.served in cc
+one_request said body (message s m x) (holdings t y) h k = let bad = k.served in cc
+one_request said body (operator x) (status t r) h k = let bad = k.served in cc
+one_request said body (operator x) (sent t n) h k = let bad = k.served in cc
+one_request said body (operator x) (holdings t y) h k = let bad = k.served in cc
+one_request said body sums (status t r) h k = let bad = k.served in cc
+one_request said body sums (sent t n) h k = let bad = k.served in cc
+one_request said body sums (holdings t y) h k = let bad = k.served in cc
+
+one_item : (said : List ℕ) (body : Option (List ℕ)) (x y : Item) → Means said body x → Means said body y → x ≡ y
+one_item said body (ask a) (ask b) h k = ap ask (one_request said body a b h k)
+one_item said body (ask a) bad_line h k = absurd (k a h)
+one_item said body bad_line (ask b) h k = absurd (h b k)
+one_item said body bad_line bad_line h k = refl
+
+-- One body behind a line.
+
+IsStop : List ℕ → Type 0
+IsStop line = is_stop line ≡ true
+
+same_body : (b c : List (List ℕ)) (s t : List ℕ) (xs ys : List (List ℕ)) → IsOpen b → IsOpen c → is_stop s ≡ true → is_stop t ≡ true → b ++ s ∷ xs ≡ c ++ t ∷ ys
+    → (b ≡ c) × (xs ≡ ys)
+same_body [] [] s t xs ys ob oc is it e = (refl, cc)
+same_body [] (l ∷ c) s t xs ys ob oc is it e =
+    let same : s ≡ l = cc in
+    absurd (false≢true (sym (All-head (λ line. is_stop line ≡ false) l c oc) ∙ ap is_stop (sym same) ∙ is))
+same_body (k ∷ b) [] s t xs ys ob oc is it e =
+    let same : k ≡ t = cc in
+    absurd (false≢true (sym (All-head (λ line. is_stop line ≡ false) k b ob) ∙ ap is_stop same ∙ it))
+same_body (k ∷ b) (l ∷ c) s t xs ys ob oc is it e =
+    let rest = same_body b c s t xs ys (All-tail (λ line. is_stop line ≡ false) k b ob) (All-tail (λ line. is_stop line ≡ false) l c oc) is it cc in
+    let head : k ≡ l = cc in
+    (rw (head, rest.0) refl, rest.1)
+
+no_stop : (b c : List (List ℕ)) (t : List ℕ) (ys : List (List ℕ)) → IsOpen b → is_stop t ≡ true → b ≡ c ++ t ∷ ys → ⊥
+no_stop [] [] t ys ob it e = cc
+no_stop [] (l ∷ c) t ys ob it e = cc
+no_stop (k ∷ b) [] t ys ob it e =
+    let same : k ≡ t = cc in
+    false≢true (sym (All-head (λ line. is_stop line ≡ false) k b ob) ∙ ap is_stop same ∙ it)
+no_stop (k ∷ b) (l ∷ c) t ys ob it e = no_stop b c t ys (All-tail (λ line. is_stop line ≡ false) k b ob) it cc
+
+-- A line that asks nothing has no body.
+
+no_word : (said : List ℕ) → is_skipped said ≡ true → has_body said ≡ true → ⊥
+no_word [] h k = false≢true k
+no_word (c ∷ said) h k =
+    let n = prefix_len (λ x. not (eqb x 32)) said in
+    let first : 1 + n ≡ suc n = omega arith in
+    let here : has_body (35 ∷ said) ≡ true = subst (λ x. has_body (x ∷ said) ≡ true) (eqb-true c 35 h) k in
+    false≢true (rw first at here)
+
+-- One list of items.
+
+pub one_list : {ls ks : List (List ℕ)} {xs ys : List Item} → Asking ls xs → Asking ks ys → ls ≡ ks → ys ≡ xs
+one_list ended ended e = refl
+one_list ended (skipped s h) e = cc
+one_list ended (plain s b m h) e = cc
+one_list ended (posted body stop b o s m h) e = cc
+one_list ended (cut b o) e = cc
+one_list (skipped {line = l} s h) ended e = cc
+one_list (skipped {line = l} s h) (skipped {line = k} t g) e = one_list h g cc
+one_list (skipped {line = l} s h) (plain {line = k} t b m g) e = let same : l ≡ k = cc in absurd (false≢true (sym t ∙ ap (λ x. is_skipped (content x)) (sym same) ∙ s))
+one_list (skipped {line = l} s h) (posted {line = k} body stop b o t m g) e = let same : l ≡ k = cc in absurd (no_word (content l) s (ap (λ x. has_body (content x)) same ∙ b))
+one_list (skipped {line = l} s h) (cut {line = k} b o) e = let same : l ≡ k = cc in absurd (no_word (content l) s (ap (λ x. has_body (content x)) same ∙ b))
+one_list (plain {line = l} s b m h) ended e = cc
+one_list (plain {line = l} s b m h) (skipped {line = k} t g) e = let same : l ≡ k = cc in absurd (false≢true (sym s ∙ ap (λ x. is_skipped (content x)) same ∙ t))
+one_list (plain {line = l} {item = x} s b m h) (plain {line = k} {item = y} t c n g) e =
+    let same : l ≡ k = cc in
+    let rest = one_list h g cc in
+    let item : y ≡ x = one_item (content l) None y x (subst (λ z. Means (content z) None y) (sym same) n) m in
+    cc
+one_list (plain {line = l} s b m h) (posted {line = k} body stop c o t n g) e = let same : l ≡ k = cc in absurd (false≢true (sym b ∙ ap (λ x. has_body (content x)) same ∙ c))
+one_list (plain {line = l} s b m h) (cut {line = k} c o) e = let same : l ≡ k = cc in absurd (false≢true (sym b ∙ ap (λ x. has_body (content x)) same ∙ c))
+one_list (posted {line = l} body stop b o s m h) ended e = cc
+one_list (posted {line = l} body stop b o s m h) (skipped {line = k} t g) e = let same : l ≡ k = cc in absurd (no_word (content k) t (ap (λ x. has_body (content x)) (sym same) ∙ b))
+one_list (posted {line = l} body stop b o s m h) (plain {line = k} t c n g) e = let same : l ≡ k = cc in absurd (false≢true (sym c ∙ ap (λ x. has_body (content x)) (sym same) ∙ b))
+one_list (posted {line = l} body stop {lines = us} {item = x} b o s m h) (posted {line = k} other end {lines = vs} {item = y} c p t n g) e =
+    let same : l ≡ k = cc in
+    let parts = same_body body other stop end us vs o p s t cc in
+    let rest = one_list h g parts.1 in
+    let item : y ≡ x =
+    one_item (content l) (Some (posted_text body)) y x
+    (subst (λ z. Means (content l) (Some (posted_text z)) y) (sym parts.0) (subst (λ z. Means (content z) (Some (posted_text other)) y) (sym same) n)) m
+    in cc
+one_list (posted {line = l} body stop {lines = us} b o s m h) (cut {line = k} {body = other} c p) e = absurd (no_stop other body stop us p s cc)
+one_list (cut {line = l} b o) ended e = cc
+one_list (cut {line = l} b o) (skipped {line = k} t g) e = let same : l ≡ k = cc in absurd (no_word (content k) t (ap (λ x. has_body (content x)) (sym same) ∙ b))
+one_list (cut {line = l} b o) (plain {line = k} t c n g) e = let same : l ≡ k = cc in absurd (false≢true (sym c ∙ ap (λ x. has_body (content x)) (sym same) ∙ b))
+one_list (cut {line = l} {body = body} b o) (posted {line = k} other end {lines = vs} c p t n g) e = absurd (no_stop body other end vs o t cc)
+one_list (cut {line = l} b o) (cut {line = k} c p) e = refl
+
+-- The items of a script as far as the rest, and the rest's items behind them, are the script's.
+pub record IsCountedTo (script rest : List ℕ) (count : ℕ) : Type 0 where
+  pub before : List Item
+  pub asks : (items : List Item) → Script rest items → Script script (before ++ items)
+  pub counted : length before ≡ count
+  pub short : count + length rest ≤ length script
+
+pub count_none : (script : List ℕ) → IsCountedTo script script 0
+count_none script = record { before = []; asks = λ items h. h; counted = refl; short = omega arith }
+
+-- a script whose front asks these items asks the next one behind them
+pub asks_more : (script rest after : List ℕ) (before : List Item) (item : Item) → ((items : List Item) → Script rest items → Script script (before ++ items))
+    → BeginsWith (lines_of rest) item after → (items : List Item) → Script after items → Script script ((before ++ item ∷ []) ++ items)
+asks_more script rest after before item asks begins items h =
+    subst (λ x. Script script x) (sym (append_assoc before (item ∷ []) items)) (asks (item ∷ items) (begins.then items h))
+
+pub count_more : (script rest after : List ℕ) (count : ℕ) (item : Item) → IsCountedTo script rest count → BeginsWith (lines_of rest) item after → length after < length rest
+    → IsCountedTo script after (count + 1)
+count_more script rest after count item so_far begins shorter = record {
+  before = so_far.before ++ item ∷ [];
+  asks = asks_more script rest after so_far.before item so_far.asks begins;
+  counted = omega (arith, so_far.counted, length-append so_far.before (item ∷ []));
+  short = omega (arith, so_far.short);
+}
+
+pub count_all : (script rest : List ℕ) (count : ℕ) → IsCountedTo script rest count → Asking (lines_of rest) [] → SpellsOnly script count
+count_all script rest count so_far none =
+    let all : Script script so_far.before = subst (λ x. Script script x) (append-nil so_far.before) (so_far.asks [] none) in
+    record { items = so_far.before; spells = all; counted = so_far.counted; alone = λ others h. one_list all h refl }

@@ -1,0 +1,21 @@
+-- The members that were found are all, and one that does not read is in no command.
+use Rattle.std.proofs.Common.{codes, sym, ap, refl}
+use Rattle.desk_book.specs.Command.{text_at, number_at}
+use Rattle.desk_book.proofs.CommandLemmas.{issue_is}
+use Rattle.desk_book.proofs.FormLemmas.{even_none}
+use Rattle.desk_book.proofs.operation.issue.Goals as goal
+
+pub returns-in_err-account-clause-refused : goal.returns-in_err-account-clause-refused
+returns-in_err-account-clause-refused c = even_none c.from_residual-in_err-account.result (λ holding h. c.in_err-account.ensures.none holding.account h.0.1 (ap (text_at (codes "account")) h.1))
+
+pub returns-in_err-isin-clause-refused : goal.returns-in_err-isin-clause-refused
+returns-in_err-isin-clause-refused c = even_none c.from_residual-in_err-isin.result (λ holding h. c.in_err-isin.ensures.none holding.isin h.0.2 (ap (text_at (codes "isin")) h.1))
+
+pub returns-in_err-quantity-clause-refused : goal.returns-in_err-quantity-clause-refused
+returns-in_err-quantity-clause-refused c = even_none c.from_residual-in_err-quantity.result (λ holding h. c.in_err-quantity.ensures.none holding.quantity holding.some holding.within (ap (number_at (codes "quantity")) h.1))
+
+pub returns-clause-read : goal.returns-clause-read
+returns-clause-read c = record {
+  spells = ((c.in_ok-reference.ensures.read, c.in_ok-account.ensures.read, c.in_ok-isin.ensures.read), issue_is _ _ _ _ _ c.in_ok-member_count.ensures.ordered (rw c.if-branch-ne5.false at (sym c.in_ok-member_count.ensures.count)) c.requires c.in_ok-reference.ensures.some c.in_ok-account.ensures.some c.in_ok-isin.ensures.some c.in_ok-quantity.ensures.some);
+  known = refl;
+}

@@ -1,0 +1,106 @@
+-- Which bytes are an operator's command.
+use Rattle.std.specs.Prelude.{◌≡◌, ℕ, ◌≤◌, Bool, true, false, List, length, Option, Some, codes, IsUtf8, option_and_then}
+use Rattle.serde_json.specs.Data.{Data, object, Members, no_members, member, string, number, unsigned}
+use Rattle.serde_json.specs.Find.{get, as_str, as_number, as_u64}
+use Rattle.serde_json.specs.Read.{read}
+use Rattle.desk_codes.specs.Account.{IsAccount}
+use Rattle.desk_codes.specs.CheckDigit.{IsIsin}
+use Rattle.desk_codes.specs.Currency.{letters_of}
+use Rattle.desk_codes.specs.Day.{IsDay}
+use Rattle.desk_codes.specs.Reference.{IsReference}
+use Rattle.desk_msg.specs.declared.instruction.Kind.{Kind}
+use Rattle.desk_msg.specs.declared.instruction.Kind.TheVariants.{Unit as Units, FaceAmount}
+use Rattle.desk_rules.specs.declared.entry.Holding.{Holding}
+use Rattle.desk_rules.specs.declared.entry.Entry.{Entry}
+use Rattle.desk_rules.specs.declared.entry.Entry.TheVariants.{Participant, Account, Security, Issue, Redeem, PayIn, PayOut, Instruct, Cancel, Run}
+use Rattle.desk_book.specs.Forms.{Names}
+
+-- a member that is a text, or a whole number
+abbrev pub text_member : List ℕ → List ℕ → Members → Members
+text_member name text more = member name (string text) more
+
+abbrev pub number_member : List ℕ → ℕ → Members → Members
+number_member name value more = member name (number (unsigned value)) more
+
+-- how a command names the kind of a security
+abbrev pub kind_word : Kind → List ℕ
+kind_word Units = codes "UNIT"
+kind_word FaceAmount = codes "FAMT"
+
+-- The objects that spell commands. The members of an object stand in the order of their names.
+
+abbrev pub participant_object : List ℕ → List ℕ → Data
+participant_object reference bic =
+    object (text_member (codes "bic") bic (text_member (codes "op") (codes "participant") (text_member (codes "ref") reference no_members)))
+
+abbrev pub account_object : List ℕ → List ℕ → List ℕ → Data
+account_object reference bic account =
+    object (text_member (codes "account") account (text_member (codes "bic") bic (text_member (codes "op") (codes "account") (text_member (codes "ref") reference no_members))))
+
+abbrev pub security_object : List ℕ → List ℕ → List ℕ → Data
+security_object reference isin kind =
+    object (text_member (codes "isin") isin (text_member (codes "kind") kind (text_member (codes "op") (codes "security") (text_member (codes "ref") reference no_members))))
+
+abbrev pub holding_object : List ℕ → List ℕ → List ℕ → List ℕ → ℕ → Data
+holding_object op reference account isin quantity =
+    object (text_member (codes "account") account (text_member (codes "isin") isin (text_member (codes "op") op
+    (number_member (codes "quantity") quantity (text_member (codes "ref") reference no_members)))))
+
+abbrev pub payment_object : List ℕ → List ℕ → List ℕ → List ℕ → ℕ → Data
+payment_object op reference bic ccy amount =
+    object (number_member (codes "amount") amount (text_member (codes "bic") bic (text_member (codes "ccy") ccy (text_member (codes "op") op
+    (text_member (codes "ref") reference no_members)))))
+
+abbrev pub run_object : List ℕ → List ℕ → Data
+run_object reference day =
+    object (text_member (codes "day") day (text_member (codes "op") (codes "run") (text_member (codes "ref") reference no_members)))
+
+-- the codes of a holding and of a payment are well formed
+abbrev pub IsHolding : Holding → Type 0
+IsHolding h = IsReference h.reference × IsAccount h.account × IsIsin h.isin
+
+-- The value spells the entry, one equation an operation. A head office's BIC may be written with its branch XXX.
+abbrev pub IsCommand : Data → Entry → Type 0
+IsCommand d (Participant reference bic) = (name : List ℕ) × Names name bic × IsReference reference × (d ≡ participant_object reference name)
+IsCommand d (Account reference bic account) = (name : List ℕ) × Names name bic × IsReference reference × IsAccount account × (d ≡ account_object reference name account)
+IsCommand d (Security reference isin kind) = IsReference reference × IsIsin isin × (d ≡ security_object reference isin (kind_word kind))
+IsCommand d (Issue h) = IsHolding h × (d ≡ holding_object (codes "issue") h.reference h.account h.isin h.quantity)
+IsCommand d (Redeem h) = IsHolding h × (d ≡ holding_object (codes "redeem") h.reference h.account h.isin h.quantity)
+IsCommand d (PayIn p) = (name : List ℕ) × Names name p.bic × IsReference p.reference × (d ≡ payment_object (codes "payin") p.reference name (letters_of p.ccy) p.amount)
+IsCommand d (PayOut p) = (name : List ℕ) × Names name p.bic × IsReference p.reference × (d ≡ payment_object (codes "payout") p.reference name (letters_of p.ccy) p.amount)
+IsCommand d (Instruct sender instruction) = ⊥
+IsCommand d (Cancel sender order) = ⊥
+IsCommand d (Run reference day) = IsReference reference × IsDay day × (d ≡ run_object reference day)
+
+-- The operations that the desk knows today.
+abbrev pub is_known : Entry → Bool
+is_known (Participant reference bic) = true
+is_known (Account reference bic account) = true
+is_known (Security reference isin kind) = true
+is_known (Issue holding) = true
+is_known (Redeem holding) = false
+is_known (PayIn payment) = false
+is_known (PayOut payment) = false
+is_known (Instruct sender instruction) = false
+is_known (Cancel sender order) = false
+is_known (Run reference day) = true
+
+-- a value is a command that the desk knows
+pub record IsKnownCommand (d : Data) (entry : Entry) : Type 0 where
+  pub spells : IsCommand d entry
+  pub known : is_known entry ≡ true
+
+-- the bytes are a command's: JSON whose value spells it
+pub record Spells (bytes : List ℕ) (entry : Entry) : Type 0 where
+  pub short : length bytes ≤ 65536
+  pub utf8 : IsUtf8 bytes
+  pub value : Data
+  pub reads : read bytes ≡ Some value
+  pub command : IsKnownCommand value entry
+
+-- the text, and the whole number, at a name
+abbrev pub text_at : List ℕ → Data → Option (List ℕ)
+text_at name d = option_and_then as_str (get name d)
+
+abbrev pub number_at : List ℕ → Data → Option ℕ
+number_at name d = option_and_then as_u64 (option_and_then as_number (get name d))

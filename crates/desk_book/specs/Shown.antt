@@ -1,0 +1,32 @@
+-- How the desk's answers are written.
+use Rattle.std.specs.Prelude.{ℕ, List, [], ◌∷◌, ◌++◌, codes, Option, Some, None}
+use Rattle.std.specs.Fmt.{decimal}
+use Rattle.desk_book.specs.declared.fault.Fault.{Fault}
+use Rattle.desk_book.specs.declared.fault.Fault.TheVariants.{Memory, Storage, Closed}
+
+-- the status, and where the text is a message its type
+abbrev pub head_line : ℕ → Option ℕ → List ℕ
+head_line status None = decimal status ++ 10 ∷ []
+head_line status (Some mt) = decimal status ++ 32 ∷ (decimal mt ++ 10 ∷ [])
+
+-- an answer: the status line, the text, and a line `.`
+abbrev pub shown : ℕ → Option ℕ → List ℕ → List ℕ
+shown status mt text = head_line status mt ++ (text ++ 10 ∷ codes "." ++ 10 ∷ [])
+
+-- what stands in place of an answer that could not be had
+abbrev pub status_of_fault : Fault → ℕ
+status_of_fault Memory = 503
+status_of_fault Storage = 500
+status_of_fault Closed = 500
+
+abbrev pub text_of_fault : Fault → List ℕ
+text_of_fault Memory = codes "fault 60"
+text_of_fault Storage = codes "fault 61"
+text_of_fault Closed = codes "fault 62"
+
+abbrev pub shown_fault : Fault → List ℕ
+shown_fault fault = shown (status_of_fault fault) None (text_of_fault fault)
+
+-- the answer to what is no request
+abbrev pub shown_bad_line : List ℕ
+shown_bad_line = shown 400 None (codes "refused 41")

@@ -1,0 +1,59 @@
+//! Why a request has no answer, and why a script was not played.
+ghost use Rattle.std.specs.Prelude.{◌≡◌};
+ghost use Rattle.desk_book.specs.Shown.{status_of_fault, text_of_fault};
+
+use thiserror::Error;
+
+/// Why a request has no answer. Its number is 60, 61 or 62.
+#[derive(Clone, Copy, Debug, PartialEq, Eq, Error)]
+pub enum Fault {
+    /// A growth of memory was refused. Nothing has changed.
+    #[error("fault 60")]
+    Memory,
+    /// The device under the tables failed. Nothing has changed.
+    #[error("fault 61")]
+    Storage,
+    /// The tables could not be taken back to what they were, so this desk answers nothing any more.
+    #[error("fault 62")]
+    Closed,
+}
+
+impl Fault {
+    /// The status that it is answered with, as HTTP counts: 503 for want of memory, else 500.
+    pub fn status(self) -> u16
+        ensures { result ≡ status_of_fault self }
+    {
+        match self {
+            Fault::Memory => 503,
+            Fault::Storage | Fault::Closed => 500,
+        }
+    }
+
+    /// The text that it is answered with.
+    pub fn text(self) -> &'static str
+        ensures { result.now ≡ text_of_fault self }
+    {
+        match self {
+            Fault::Memory => "fault 60",
+            Fault::Storage => "fault 61",
+            Fault::Closed => "fault 62",
+        }
+    }
+}
+
+/// Why a script was not played to its end.
+#[derive(Clone, Copy, Debug, PartialEq, Eq, Error)]
+pub enum PlayFault {
+    /// The reader failed; nothing was asked. An interrupted read counts as failed.
+    #[error("reading failed")]
+    ReadFailed,
+    /// The writer failed, or took no byte. What was asked before stands.
+    #[error("writing failed")]
+    WriteFailed,
+    /// The script has more than 16,777,216 bytes; nothing was asked.
+    #[error("the script is too long")]
+    TooLong,
+    /// There was no room for the script; nothing was read.
+    #[error("out of memory")]
+    Memory,
+}

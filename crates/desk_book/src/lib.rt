@@ -1,0 +1,30 @@
+//! Requests to replies: what is asked of the desk, as a script, an operator's command or a message, and how
+//! its answers are written.
+//!
+//! Begin with `Request` in `request.rt`. What a script asks stands in specs/Script.antt, which lines ask
+//! something in specs/Forms.antt; `first_item` of `script.rt` reads one.
+#![tactic(auto)]
+
+mod command;
+mod fault;
+mod form;
+mod laws;
+mod line;
+mod member;
+mod operation;
+mod reading;
+mod request;
+mod script;
+#[cfg(test)]
+mod tests;
+mod total;
+mod writing;
+
+pub use command::read_command;
+pub use fault::{Fault, PlayFault};
+pub use laws::{one_command, one_script};
+pub use reading::read_script;
+pub use request::Request;
+pub use script::{Item, first_item, item_count};
+pub use total::{CashTotal, SecurityTotal, sums_text, write_sums};
+pub use writing::{write_answer, write_bad_line, write_fault};

@@ -1,0 +1,101 @@
+//! The lines of a script.
+ghost use Rattle.std.specs.Prelude.{◌≡◌, ◌≢◌, ◌<◌, ◌≤◌, ◌==◌, ◌++◌, ◌∷◌, [], length, All, IfSome, IfNone};
+ghost use Rattle.std.specs.List.{position_or_len};
+ghost use Rattle.desk_book.specs.Lines.{lines_of, content as content_of, is_skipped as skips, has_body as posts, is_stop as stops, first_word as word_of};
+
+/// The first word of a line that a participant's message follows.
+pub const MESSAGE: &[u8] = b"in";
+
+/// The first word of a line that an operator's command follows.
+pub const COMMAND: &[u8] = b"op";
+
+/// The line that ends a body.
+const STOP: &[u8] = b".";
+
+/// The first line with its line end, and what stands behind it; None of an empty text.
+pub fn first_line(text: &[u8]) -> Option<(&[u8], &[u8])>
+    ensures first { IfSome result (λ parts. lines_of text.now ≡ parts.0.now ∷ lines_of parts.1.now) }
+    ensures split { IfSome result (λ parts. text.now ≡ parts.0.now ++ parts.1.now) }
+    ensures shorter { IfSome result (λ parts. length parts.1.now < length text.now) }
+    ensures none { IfNone result (text.now ≡ []) }
+{
+    if text.is_empty() {
+        return None;
+    }
+    let index = index_of(text, b'\n');
+    if index == text.len() {
+        return Some((text, &[]));
+    }
+    Some((&text[..index + 1], &text[index + 1..]))
+}
+
+/// Where a byte stands first, or the length of the text where it stands nowhere.
+fn index_of(text: &[u8], byte: u8) -> usize
+    ensures place { result ≡ position_or_len (λ c. c == byte) text.now }
+    ensures within { result ≤ length text.now }
+{
+    for (index, c) in text.iter().enumerate() {
+        if *c == byte {
+            return index;
+        }
+    }
+    text.len()
+}
+
+/// What a line says: without its line feed and a carriage return right before that.
+pub fn content(line: &[u8]) -> &[u8]
+    ensures { result.now ≡ content_of line.now }
+{
+    if let Some(said) = line.strip_suffix(b"\r\n") {
+        return said;
+    }
+    if let Some(said) = line.strip_suffix(b"\n") {
+        return said;
+    }
+    line
+}
+
+/// Whether a line that says this asks nothing: an empty one, or a comment.
+pub fn is_skipped(said: &[u8]) -> bool
+    ensures { result ≡ skips said.now }
+{
+    match said.first() {
+        Some(c) => *c == b'#',
+        None => true,
+    }
+}
+
+/// Whether a body follows a line that says this.
+pub fn has_body(said: &[u8]) -> bool
+    ensures { result ≡ posts said.now }
+{
+    let word = first_word(said);
+    word == MESSAGE || word == COMMAND
+}
+
+/// What stands before the first space, or all of it.
+fn first_word(said: &[u8]) -> &[u8]
+    ensures { result.now ≡ word_of said.now }
+{
+    &said[..index_of(said, b' ')]
+}
+
+/// What stands before the first space, and what stands behind it; None where there is no space.
+pub fn split_at_space(said: &[u8]) -> Option<(&[u8], &[u8])>
+    ensures found { IfSome result (λ parts. (said.now ≡ parts.0.now ++ 32 ∷ parts.1.now) × All (λ c. c ≢ 32) parts.0.now) }
+    ensures none { IfNone result (All (λ c. c ≢ 32) said.now) }
+{
+    for (index, c) in said.iter().enumerate() {
+        if *c == b' ' {
+            return Some((&said[..index], &said[index + 1..]));
+        }
+    }
+    None
+}
+
+/// Whether the line ends a body.
+pub fn is_stop(line: &[u8]) -> bool
+    ensures { result ≡ stops line.now }
+{
+    content(line) == STOP
+}

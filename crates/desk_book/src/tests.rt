@@ -1,0 +1,5 @@
+//! Outside vectors, each call once with ample memory, and readers and writers that fail.
+mod commands;
+mod scripts;
+mod streams;
+mod totals;
