@@ -10,3 +10,10 @@ pub mod DecisionLemmas
 pub mod TablesLemmas
 pub mod InstructLemmas
 pub mod ViewLemmas
+pub mod PassLemmas
+pub mod StepLemmas
+pub mod PassSteps
+pub mod PassWhole
+pub mod FinishLemmas
+pub mod UnderwayLemmas
+pub mod RunningLemmas

@@ -108,7 +108,7 @@ or_false : (b : Bool) → (b || (false || false)) ≡ b
 or_false true = refl
 or_false false = refl
 
-not_cancelled : (h : List Entry) (e : Entry) (k : ℕ) → k ≤ length h → ((i : Instructed) → cancels e i ≡ false) → is_cancelled (h ++ e ∷ []) k ≡ is_cancelled h k
+pub not_cancelled : (h : List Entry) (e : Entry) (k : ℕ) → k ≤ length h → ((i : Instructed) → cancels e i ≡ false) → is_cancelled (h ++ e ∷ []) k ≡ is_cancelled h k
 not_cancelled h e k le none =
     let front : instruction_at (h ++ e ∷ []) k ≡ instruction_at h k = instruction_at-front h (e ∷ []) k le in
     let rest : drop k (h ++ e ∷ []) ≡ drop k h ++ e ∷ [] = drop-append-le k h (e ∷ []) le in
@@ -182,11 +182,11 @@ stands_more h e ps more settled k mate (Matched reason) quiet le free is = recor
 }
 stands_more h e ps more settled k mate states.Settled quiet le free is = record { settlement = is.settlement; settled = is.settled; side = is.side; other = is.other }
 
-cases_Option : {A : Type 0} (o : Option A) → ((a : A) × (o ≡ Some a)) ⊎ (o ≡ None)
+pub cases_Option : {A : Type 0} (o : Option A) → ((a : A) × (o ≡ Some a)) ⊎ (o ≡ None)
 cases_Option None = inr refl
 cases_Option (Some a) = inl (a, refl)
 
-beyond : (h : List Entry) (k : ℕ) → length h < k → instruction_at h k ≡ None
+pub beyond : (h : List Entry) (k : ℕ) → length h < k → instruction_at h k ≡ None
 beyond h k above = elim (cases_Option (instruction_at h k)) [
   | inr none ↦ none
   | inl some ↦ let known = instruction_at-known h k some.0 some.1 in let le : k ≤ length h = known.1 in absurd (omega arith)
@@ -346,7 +346,7 @@ sum_le f g (y ∷ ys) below =
     let b = sum_by-cons g y ys in
     omega arith
 
-sum_member : {X : Type 0} (f g : X → ℕ) (xs : List X) (x : X) → ((x : X) → g x ≤ f x) → In xs x → f x + sum_by g xs ≤ g x + sum_by f xs
+pub sum_member : {X : Type 0} (f g : X → ℕ) (xs : List X) (x : X) → ((x : X) → g x ≤ f x) → In xs x → f x + sum_by g xs ≤ g x + sum_by f xs
 sum_member f g [] x below i = absurd i
 sum_member f g (y ∷ ys) x below i =
     let here : g y ≤ f y = below y in

@@ -8,7 +8,7 @@ use Rattle.desk_register.specs.declared.register.Stage.TheVariants.{Idle, Begun,
 use Rattle.desk_register.specs.View.{View, IsLater, Stays, Falls, fallen, Blames, IsChange, IsRead}
 
 module _ (v0 v1 v2 : View) (stays : Stays v0 v1) (first : IsLater v0 v1) where
-  later_then : IsLater v1 v2 → IsLater v0 v2
+  pub later_then : IsLater v1 v2 → IsLater v0 v2
   later_then second = record {
     honest = λ h. first.honest (second.honest h);
     sure = λ h s. first.sure (second.honest h) (second.sure h s);
@@ -22,7 +22,7 @@ module _ (v0 v1 v2 : View) (stays : Stays v0 v1) (first : IsLater v0 v1) where
     mark = λ h s. more.mark h (stays.sure (second.honest h) s) ∙ stays.mark (second.honest h) s;
   }
 
-  falls_then : v0.stage ≡ Begun → IsLater v1 v2 → Falls v1 v2 → Falls v0 v2
+  pub falls_then : v0.stage ≡ Begun → IsLater v1 v2 → Falls v1 v2 → Falls v0 v2
   falls_then begun second more = record {
     stage = more.stage ∙ ap fallen stays.stage;
     mark = λ h s. (let h1 = second.honest h in let s1 = second.sure h s in more.mark h s ∙ stays.mark h1 (first.sure h1 s1));
@@ -37,3 +37,7 @@ module _ (v0 v1 v2 : View) (stays : Stays v0 v1) (first : IsLater v0 v1) where
     later = later_then c.later;
     blame = λ is. (let lt = c.blame is in let le = first.failures in omega arith);
   }
+
+-- a call that went well
+pub change_ok : {X : Type 0} (x : X) (v0 v1 : View) → Stays v0 v1 → IsLater v0 v1 → IsChange {X = X} (Ok x) v0 v1
+change_ok x v0 v1 stays later = record { ok = stays; err = tt; later = later; blame = tt }

@@ -126,7 +126,8 @@ pub record IsPairAt (content : Content) (n m : ℕ) (earlier later : Instructed)
   pub has_mate : (content.standing n).mate ≡ Some m
   pub is_earlier : instruction_at (history_of content) m ≡ Some earlier
 
--- a pair that a run may try: free, matched, and its quantity can be counted on the receiver's account
+-- a pair that a run may try: free, matched, and where the deliverer holds its quantity that can be counted on the
+-- receiver's account
 pub record CanSettle (content : Content) (n : ℕ) : Type 0 where
   pub mate : ℕ
   pub earlier : Instructed
@@ -134,7 +135,8 @@ pub record CanSettle (content : Content) (n : ℕ) : Type 0 where
   pub pair : IsPairAt content n mate earlier later
   pub two : mate < n
   pub free : earlier.instruction.cash ≡ None
-  pub fits : content.position (receipt_of earlier later).instruction.account later.instruction.isin + later.instruction.quantity < 2 ^ 63
+  pub fits : later.instruction.quantity ≤ content.position (delivery_of earlier later).instruction.account later.instruction.isin
+      → content.position (receipt_of earlier later).instruction.account later.instruction.isin + later.instruction.quantity < 2 ^ 63
 
 -- both instructions of a pair stand so
 abbrev pub standing_both : (ℕ → Standing) → ℕ → ℕ → State → ℕ → Standing

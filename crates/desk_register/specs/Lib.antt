@@ -4,3 +4,4 @@ pub mod Lists
 pub mod View
 pub mod Decision
 pub mod Tables
+pub mod Pass

@@ -2,9 +2,9 @@
 //! desk's rules over any store.
 //!
 //! `Register` in `register.rt` is the law; what its clauses speak of stands in specs/View.antt (how a call
-//! changes a register) and specs/Content.antt (what it holds). `ListRegister` keeps plain lists. `decide` and
-//! `apply` are the rules over any register; specs/Tables.antt says when a register holds the tables of a
-//! history.
+//! changes a register) and specs/Content.antt (what it holds). `ListRegister` keeps plain lists. `decide`
+//! rules on an entry and the calls of `applying.rt` and `running.rt` add it, over any register;
+//! specs/Tables.antt says when a register holds the tables of a history.
 #![tactic(auto)]
 
 mod appending;
@@ -21,6 +21,7 @@ mod looking;
 mod positions;
 mod register;
 mod ruling;
+mod running;
 mod said;
 mod searching;
 mod settling;
@@ -33,5 +34,6 @@ pub use found::{Found, Outcome};
 pub use list_register::ListRegister;
 pub use register::{Fault, Register, Stage};
 pub use ruling::decide;
+pub use running::{Passed, add_run, run_pass};
 pub use standing::Standing;
 pub use today::is_of_today;

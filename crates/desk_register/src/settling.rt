@@ -66,7 +66,8 @@ fn settle_sides(
     requires some { 0 < mate }
     requires two { mate < number }
     requires known { number ≤ length lists.old.kept.items }
-    requires fits { quantity_in (listed lists.old) (receipt_of earlier.now later.now).instruction.account later.now.instruction.isin + later.now.instruction.quantity < 2 ^ 63 }
+    requires fits { later.now.instruction.quantity ≤ quantity_in (listed lists.old) (delivery_of earlier.now later.now).instruction.account later.now.instruction.isin
+        → quantity_in (listed lists.old) (receipt_of earlier.now later.now).instruction.account later.now.instruction.isin + later.now.instruction.quantity < 2 ^ 63 }
     ensures settled { IfOk result (λ outcome. SettlesSides (content_in (listed lists.old)) number mate earlier.now later.now outcome (content_in (listed lists.new))) }
     ensures rest { OnOk result (SameTotals (listed lists.old) (listed lists.new)) }
     ensures before { undone changes.new.items (listed lists.new) ≡ undone changes.old.items (listed lists.old) }

@@ -1,6 +1,6 @@
 -- Where each entry was accepted in its turn, positions add up to what was issued less what was redeemed, and cash to
 -- what was paid in less what was paid out.
-use Rattle.std.proofs.Common.{◌≡◌, ℕ, suc, ◌+◌, ◌-◌, ◌⊎◌, inl, inr, Bool, true, false, not, cond, List, [], ◌∷◌, ◌++◌, bytes_eq, sum_by, if◌then◌else◌, drop, Option, Some, None, refl, sym, ◌∙◌, ap, subst, arith, append_assoc, append-nil}
+use Rattle.std.proofs.Common.{◌≡◌, ℕ, suc, ◌+◌, ◌-◌, ◌⊎◌, inl, inr, Bool, true, false, not, cond, List, [], ◌∷◌, ◌++◌, bytes_eq, sum_by, if◌then◌else◌, drop, Option, Some, None, refl, sym, ◌∙◌, ap, subst, arith, append_assoc, append-nil, Contains}
 use Rattle.std.specs.Prelude.{is_some, is_none, slice_get}
 use Rattle.std.proofs.lemmas.Bool.{cases_Bool, both_ways, or_cases, or_parts, not-false}
 use Rattle.std.proofs.lemmas.List.{take-append-drop}
@@ -212,7 +212,7 @@ accepted_grow limit P step h (e ∷ g) was p =
     subst P (append_assoc h (e ∷ []) g) (accepted_grow limit P step (h ++ e ∷ []) g was' (step h e (accepted_front limit (h ++ e ∷ []) g was') p))
 
 -- what holds of no entry, and with each accepted one, holds of an accepted history
-accepted_all : (limit : ℕ) (P : List Entry → Type 0) → P [] → ((h : List Entry) (e : Entry) → WasAccepted limit (h ++ e ∷ []) → P h → P (h ++ e ∷ [])) → (h : List Entry) → WasAccepted limit h → P h
+pub accepted_all : (limit : ℕ) (P : List Entry → Type 0) → P [] → ((h : List Entry) (e : Entry) → WasAccepted limit (h ++ e ∷ []) → P h → P (h ++ e ∷ [])) → (h : List Entry) → WasAccepted limit h → P h
 accepted_all limit P none step h was = accepted_grow limit P step [] h was none
 
 is_some_false : {X : Type 0} (o : Option X) → is_some o ≡ false → o ≡ None
@@ -493,6 +493,23 @@ module _ (limit : ℕ) (h : List Entry) (was : WasAccepted limit h) where
       let gone : sum_by (λ b. amount_of b ccy (receipt_of h p)) (participants_of h) ≡ cash_in ccy s.receipt.instruction.cash =
       ap (λ o. sum_by (λ b. amount_of b ccy o) (participants_of h)) s.is_receipt ∙ paid_once ccy s.receipt s.receives in
       come ∙ ap (λ c. cash_in ccy c) s.opposite.cash ∙ sym gone
+
+  pub account_registered : (n : ℕ) (i : Instructed) → instruction_at h n ≡ Some i → In (accounts_of h) i.instruction.account
+  account_registered n i is = let sides = side_registered n i is in sides.0
+
+  -- the same of any settlements of pairs of the history
+  pub paired_add_up : (ps : List Pair) (settled : List Settled) (isin : List ℕ) → IsPairing h ps → ((s : Settled) → In settled s → Contains ps s.pair)
+      → sum_by (λ a. credits h settled a isin) (accounts_of h) + redeemed h isin ≡ sum_by (λ a. debits h settled a isin) (accounts_of h) + issued h isin
+  paired_add_up ps settled isin pairing inside =
+      let come = sum_add (λ a. sum_by (issued_by (holding_on a isin)) h) (λ a. sum_by (λ s. quantity_on a isin (receipt_of h s.pair)) settled) (accounts_of h) in
+      let gone = sum_add (λ a. sum_by (redeemed_by (holding_on a isin)) h) (λ a. sum_by (λ s. quantity_on a isin (delivery_of h s.pair)) settled) (accounts_of h) in
+      let received = sum_swap (λ a s. quantity_on a isin (receipt_of h s.pair)) (accounts_of h) settled in
+      let delivered = sum_swap (λ a s. quantity_on a isin (delivery_of h s.pair)) (accounts_of h) settled in
+      let same = sum_same (λ s. sum_by (λ a. quantity_on a isin (receipt_of h s.pair)) (accounts_of h)) (λ s. sum_by (λ a. quantity_on a isin (delivery_of h s.pair)) (accounts_of h)) settled
+      (λ s i. let mate = (pairing.exact s.pair).0 (inside s i) in same_moved s.pair (sides_of s.pair mate.candidate.opposite) isin) in
+      let put = all_issued isin in
+      let taken = all_redeemed isin in
+      omega arith
 
   module _ (ps : List Pair) (settled : List Settled) (pairing : IsPairing h ps) (settlement : IsSettlement h ps settled) where
     settled_sides : (s : Settled) → In settled s → HasSides s.pair

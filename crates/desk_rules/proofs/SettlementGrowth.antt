@@ -205,7 +205,7 @@ nothing_between h ps settled more n place q next s o is at same high low c =
     ]
 
 -- all that stands in the list comes before the next pair
-before_next : (h : List Entry) (ps : List Pair) (settled : List Settled) (n : ℕ) (place : Option Place) (q : Pair) → IsNext h ps settled n place q → (s : Settled) → IsReached h n place s → precedes h s (record { run = n; pair = q }) ≡ true
+pub before_next : (h : List Entry) (ps : List Pair) (settled : List Settled) (n : ℕ) (place : Option Place) (q : Pair) → IsNext h ps settled n place q → (s : Settled) → IsReached h n place s → precedes h s (record { run = n; pair = q }) ≡ true
 before_next h ps settled n place q is s r = elim r.reached [
   | inl lt ↦ precedes_run h s (record { run = n; pair = q }) lt
   | inr both ↦ precedes_pair h s (record { run = n; pair = q }) both.0 (below_above h place s.pair q both.1 is.is_open.above)

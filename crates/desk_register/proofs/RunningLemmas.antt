@@ -1,0 +1,70 @@
+-- The loop of a run, over the views of the register.
+use Rattle.std.proofs.Common.{◌≡◌, ◌≢◌, ℕ, ◌+◌, ◌<◌, ◌≤◌, List, [], length, Option, Some, None, refl, ap, sym, ◌∙◌, subst, arith}
+use Rattle.std.specs.Prelude.{Result, Ok, Err, OnOk}
+use Rattle.desk_codes.specs.Number.{number_of}
+use Rattle.desk_rules.specs.declared.entry.Entry.TheVariants.{Run}
+use Rattle.desk_rules.specs.declared.pair.Place.{Place}
+use Rattle.desk_register.specs.declared.register.Fault.{Fault}
+use Rattle.desk_register.specs.declared.running.Taken.{Taken}
+use Rattle.desk_register.specs.View.{View, IsLater, Stays, IsChange}
+use Rattle.desk_rules.specs.Verdict.{Books}
+use Rattle.desk_register.specs.Content.{Content, CanSettle, history_of}
+use Rattle.desk_register.specs.Looked.{IsDuePairAfter}
+use Rattle.desk_register.specs.Tables.{Tables}
+use Rattle.desk_register.specs.Pass.{AreOfToday, CanRun, IsTaken, RanTo, settled_of}
+use Rattle.desk_register.proofs.TablesLemmas.{length_is}
+use Rattle.desk_register.proofs.ViewLemmas.{later_then, stays_then, change_then}
+use Rattle.desk_register.proofs.UnderwayLemmas.{Underway, begins, can_settle, goes_on, ends_none, ends_all}
+
+pub record Running (room count : ℕ) (v0 v : View) (day : List ℕ) (place : Option Place) (tried settled waiting : ℕ) : Type 0 where
+  pub entries : v.is_honest → v0.is_sure → count ≡ length v0.content.register
+  pub stays : Stays v0 v
+  pub later : IsLater v0 v
+  pub counted : settled + waiting ≡ tried
+  pub underway : v.is_honest → v0.is_sure → (books : Books) (reference : List ℕ) → Tables room books v0.content → AreOfToday books.history → Underway books reference day place tried settled v.content
+
+pub running_begins : (room count : ℕ) (v0 v : View) (day : List ℕ) → Stays v0 v → IsLater v0 v → (v.is_honest → v0.is_sure → v.content ≡ v0.content) → (v.is_honest → v0.is_sure → count ≡ length v0.content.register) → Running room count v0 v day None 0 0 0
+running_begins room count v0 v day stays later same entries = record {
+  entries = entries;
+  stays = stays;
+  later = later;
+  counted = omega arith;
+  underway = λ honest sure books reference tables today.
+      let P : Content → Type 0 = λ c. Underway books reference day None 0 0 c in
+      subst P (sym (same honest sure)) (begins room books reference day v0.content tables);
+}
+
+pub running_goes_on : (room count : ℕ) (v0 v w : View) (day : List ℕ) (place : Option Place) (tried settled waiting new_settled new_waiting : ℕ) (taken : Taken) → Running room count v0 v day place tried settled waiting
+    → Stays v w → IsLater v w → (w.is_honest → v.is_sure → IsTaken v.content (number_of day) place (Some taken) w.content) → new_settled ≡ settled + settled_of taken.outcome
+    → new_settled + new_waiting ≡ settled + waiting + 1 → Running room count v0 w day (Some taken.place) (tried + 1) new_settled new_waiting
+running_goes_on room count v0 v w day place tried settled waiting new_settled new_waiting taken r stays later took settles all = record {
+  entries = λ honest sure. r.entries (later.honest honest) sure;
+  stays = stays_then v0 v w r.stays r.later later stays;
+  later = later_then v0 v w r.stays r.later later;
+  counted = (let c = r.counted in omega arith);
+  underway = λ honest sure books reference tables today.
+      let honest1 = later.honest honest in
+      let P : ℕ → Type 0 = λ k. Underway books reference day (Some taken.place) (tried + 1) k w.content in
+      subst P (sym settles) (goes_on room books reference day place tried settled v0.content v.content w.content taken tables today (r.underway honest1 sure books reference tables today) (took honest (r.stays.sure honest1 sure)));
+}
+
+pub running_can_settle : (room count : ℕ) (v0 v : View) (day : List ℕ) (place : Option Place) (tried settled waiting : ℕ) → Running room count v0 v day place tried settled waiting → (v0.is_honest → v0.is_sure → CanRun room v0.content)
+    → v.is_honest → v.is_sure → (next : Place) → IsDuePairAfter v.content (number_of day) place (Some next) → CanSettle v.content next.number
+running_can_settle room count v0 v day place tried settled waiting r may honest sure next due =
+    let sure0 = r.later.sure honest sure in
+    let can = may (r.later.honest honest) sure0 in
+    can_settle room can.books [] day place tried settled v0.content v.content can.tables can.today (r.underway honest sure0 can.books [] can.tables can.today) next due
+
+pub running_ends_none : (room count : ℕ) (v0 v w : View) (day : List ℕ) (place : Option Place) (tried settled waiting : ℕ) (books : Books) (reference : List ℕ) → Running room count v0 v day place tried settled waiting
+    → IsLater v w → (w.is_honest → v.is_sure → IsTaken v.content (number_of day) place None w.content) → w.is_honest → v0.is_sure → Tables room books v0.content → AreOfToday books.history
+    → RanTo books (Run reference day) settled w.content
+running_ends_none room count v0 v w day place tried settled waiting books reference r later took honest sure tables today =
+    let honest1 = later.honest honest in
+    ends_none room books reference day place tried settled v0.content v.content w.content tables today (r.underway honest1 sure books reference tables today) (took honest (r.stays.sure honest1 sure))
+
+pub running_ends_all : (room count : ℕ) (v0 v : View) (day : List ℕ) (place : Option Place) (tried settled waiting : ℕ) (books : Books) (reference : List ℕ) → Running room count v0 v day place tried settled waiting
+    → count ≤ tried → v.is_honest → v0.is_sure → Tables room books v0.content → AreOfToday books.history → RanTo books (Run reference day) settled v.content
+running_ends_all room count v0 v day place tried settled waiting books reference r all honest sure tables today =
+    let number = length_is v0.content books.history tables.history in
+    let is = r.entries honest sure in
+    ends_all room books reference day place tried settled v0.content v.content tables today (r.underway honest sure books reference tables today) (omega arith)
