@@ -13,6 +13,7 @@ module _ (v0 v1 v2 : View) (stays : Stays v0 v1) (first : IsLater v0 v1) where
     honest = λ h. first.honest (second.honest h);
     sure = λ h s. first.sure (second.honest h) (second.sure h s);
     failures = (let a = first.failures in let b = second.failures in omega arith);
+    room = second.room ∙ first.room;
   }
 
   pub stays_then : IsLater v1 v2 → Stays v1 v2 → Stays v0 v2

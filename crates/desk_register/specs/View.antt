@@ -15,6 +15,8 @@ pub record View : Type 1 where
   pub stage : Stage
   -- how many answers named the device
   pub failures : ℕ
+  -- the greatest number of entries
+  pub room : ℕ
   -- no wrong answer of the device was taken as true; it may be lost at any call
   pub is_honest : Type 0
   -- the device has not shut the store, so what it shows is what it holds
@@ -32,6 +34,7 @@ module _ (old new : View) where
     pub honest : new.is_honest → old.is_honest
     pub sure : new.is_honest → new.is_sure → old.is_sure
     pub failures : old.failures ≤ new.failures
+    pub room : new.room ≡ old.room
 
   -- a `begin` is open, and what it goes back to is marked
   pub record Begins : Type 0 where

@@ -14,7 +14,7 @@ use std::alloc::Global;
 
 /// The number of the next entry, where there is room for it.
 pub fn next_number<R: Register>(alloc: Global, register: &mut R) -> Result<u64, Fault>
-    ensures value { (R.view register.new).is_honest → (R.view register.old).is_sure → length (R.view register.old).content.register < R.room register.old
+    ensures value { (R.view register.new).is_honest → (R.view register.old).is_sure → length (R.view register.old).content.register < (R.view register.old).room
         → IfOk result (λ n. n ≡ length (R.view register.old).content.register + 1) }
     ensures read { IsRead result (R.view register.old) (R.view register.new) }
 {
@@ -35,10 +35,10 @@ pub fn add_registration<R: Register>(
 ) -> Result<(), Fault>
     requires stage { (R.view register.old).stage ≡ Stage.Begun }
     requires kind { IsTrue (is_registration entry) }
-    requires accepted { (R.view register.old).is_honest → (R.view register.old).is_sure → IsAccepted (R.room register.old) entry (R.view register.old).content }
+    requires accepted { (R.view register.old).is_honest → (R.view register.old).is_sure → IsAccepted (R.view register.old).room entry (R.view register.old).content }
     ensures added { (R.view register.new).is_honest → (R.view register.old).is_sure → OnOk result ((R.view register.new).content ≡ appended entry reply (R.view register.old).content) }
-    ensures tables { (books : Books) → (R.view register.new).is_honest → (R.view register.old).is_sure → Tables (R.room register.old) books (R.view register.old).content
-        → OnOk result (Grown (R.room register.old) books entry (R.view register.new).content) }
+    ensures tables { (books : Books) → (R.view register.new).is_honest → (R.view register.old).is_sure → Tables (R.view register.old).room books (R.view register.old).content
+        → OnOk result (Grown (R.view register.old).room books entry (R.view register.new).content) }
     ensures change { IsChange result (R.view register.old) (R.view register.new) }
 {
     register.append(alloc, entry, reply)
@@ -55,12 +55,12 @@ pub fn add_instruction<R: Register>(
     reply: Reply,
 ) -> Result<(), Fault>
     requires stage { (R.view register.old).stage ≡ Stage.Begun }
-    requires accepted { (R.view register.old).is_honest → (R.view register.old).is_sure → IsAccepted (R.room register.old) (Entry.Instruct sender instruction) (R.view register.old).content }
+    requires accepted { (R.view register.old).is_honest → (R.view register.old).is_sure → IsAccepted (R.view register.old).room (Entry.Instruct sender instruction) (R.view register.old).content }
     requires number { (R.view register.old).is_honest → (R.view register.old).is_sure → number ≡ length (R.view register.old).content.register + 1 }
     requires mate { (R.view register.old).is_honest → (R.view register.old).is_sure → IsFirstOpposite (R.view register.old).content (record { sender = sender; instruction = instruction }) mate }
     ensures added { (R.view register.new).is_honest → (R.view register.old).is_sure → OnOk result ((R.view register.new).content ≡ mated number mate (appended (Entry.Instruct sender instruction) reply (R.view register.old).content)) }
-    ensures tables { (books : Books) → (R.view register.new).is_honest → (R.view register.old).is_sure → Tables (R.room register.old) books (R.view register.old).content
-        → OnOk result (Grown (R.room register.old) books (Entry.Instruct sender instruction) (R.view register.new).content) }
+    ensures tables { (books : Books) → (R.view register.new).is_honest → (R.view register.old).is_sure → Tables (R.view register.old).room books (R.view register.old).content
+        → OnOk result (Grown (R.view register.old).room books (Entry.Instruct sender instruction) (R.view register.new).content) }
     ensures change { IsChange result (R.view register.old) (R.view register.new) }
 {
     register.append(

@@ -24,6 +24,7 @@ use std::alloc::Global;
 impl ListRegister {
     /// An empty register for at most `limit` entries, 1 to 999,999,999.
     pub fn new(alloc: Global, limit: u64) -> ListRegister
+        requires { limit ≤ 999_999_999 }
         ensures empty { content_in (listed result.lists) ≡ content_in (record { kept = []; standings = []; keys = []; quantities = []; securities = []; outstanding = [] }) }
         ensures limit { result.limit ≡ limit }
         ensures stage { result.stage ≡ Stage.Idle }
@@ -53,11 +54,10 @@ impl Register for ListRegister {
       mark = content_in (undone r.changes.items (listed r.lists));
       stage = r.stage;
       failures = 0;
+      room = r.limit;
       is_honest = Unit {0};
       is_sure = Unit {0};
     } };
-
-    ghost room = { λ r. r.limit };
 
     ghost plain = { true };
 

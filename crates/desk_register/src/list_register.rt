@@ -1,5 +1,5 @@
 //! A register that keeps plain lists.
-ghost use Rattle.std.specs.Prelude.{◌≡◌, ◌≢◌, []};
+ghost use Rattle.std.specs.Prelude.{◌≡◌, ◌≢◌, ◌≤◌, []};
 ghost use Rattle.desk_register.specs.Lists.{listed, undone, AreTotals};
 ghost use Rattle.desk_register.specs.declared.register.Stage.TheVariants.{Idle, Failed};
 
@@ -10,10 +10,12 @@ use crate::register::Stage;
 /// of the whole.
 #[derive(Drop)]
 pub struct ListRegister {
+    /// 1 to 999,999,999
     pub limit: u64,
     pub lists: Lists,
     pub changes: Vec<Change>,
     pub stage: Stage,
+    ghost limited: { limit ≤ 999_999_999 },
     ghost idle: { stage ≡ Idle → changes.items ≡ [] },
     ghost totals: { stage ≢ Failed → AreTotals (listed lists) },
     ghost totals_marked: { AreTotals (undone changes.items (listed lists)) },

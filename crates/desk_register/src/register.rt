@@ -35,9 +35,6 @@ pub enum Fault {
 pub trait Register {
     ghost view: { Self → View };
 
-    /// The greatest number of entries
-    ghost room: { Self → ℕ };
-
     /// Whether calls that take no memory always succeed
     ghost plain: { Bool };
 
@@ -63,9 +60,10 @@ pub trait Register {
         ensures blame { Blames result (view self.old) (view self.new) }
         ensures plain { plain ≡ true → IsOk result };
 
-    /// The greatest number of entries.
+    /// The greatest number of entries, 999,999,999 at most.
     fn limit(&self) -> u64
-        ensures { result ≡ room self.now };
+        ensures limit { result ≡ (view self.now).room }
+        ensures most { result ≤ 999_999_999 };
 
     /// How many entries there are.
     fn count(&mut self, alloc: Global) -> Result<u64, Fault>

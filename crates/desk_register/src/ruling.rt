@@ -275,7 +275,7 @@ fn verdict_on_new<R: Register>(
 /// What the desk decides on an entry. Nothing changes, and no `begin` is needed.
 pub fn decide<R: Register>(alloc: Global, register: &mut R, entry: &Entry) -> Result<Verdict, Fault>
     requires { IsTrue (is_of_today entry.now) }
-    ensures verdict { (books : Books) → Reading (R.view register.old) (R.view register.new) (λ h. h ≡ books.history → IfOk result (λ verdict. IsVerdict (R.room register.old) books entry.now verdict)) }
+    ensures verdict { (books : Books) → Reading (R.view register.old) (R.view register.new) (λ h. h ≡ books.history → IfOk result (λ verdict. IsVerdict (R.view register.old).room books entry.now verdict)) }
     ensures read { IsRead result (R.view register.old) (R.view register.new) }
 {
     let limit = register.limit();

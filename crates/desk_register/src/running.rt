@@ -78,8 +78,8 @@ impl Passed {
 /// Tries each due pair once, in order of settlement day and number, and settles those that are covered.
 pub fn run_pass<R: Register>(alloc: Global, register: &mut R, day: Day) -> Result<Passed, Fault>
     requires stage { (R.view register.old).stage ≡ Stage.Begun }
-    requires tables { (R.view register.old).is_honest → (R.view register.old).is_sure → CanRun (R.room register.old) (R.view register.old).content }
-    ensures ran { (books : Books) (reference : List ℕ) → (R.view register.new).is_honest → (R.view register.old).is_sure → Tables (R.room register.old) books (R.view register.old).content → AreOfToday books.history
+    requires tables { (R.view register.old).is_honest → (R.view register.old).is_sure → CanRun (R.view register.old).room (R.view register.old).content }
+    ensures ran { (books : Books) (reference : List ℕ) → (R.view register.new).is_honest → (R.view register.old).is_sure → Tables (R.view register.old).room books (R.view register.old).content → AreOfToday books.history
         → IfOk result (λ passed. RanTo books (Entry.Run reference day) passed.settled (R.view register.new).content) }
     ensures change { IsChange result (R.view register.old) (R.view register.new) }
 {
@@ -110,10 +110,10 @@ pub fn add_run<R: Register>(
     reply: Reply,
 ) -> Result<(), Fault>
     requires stage { (R.view register.old).stage ≡ Stage.Begun }
-    requires passed { (R.view register.old).is_honest → (R.view register.old).is_sure → IsPassed (R.room register.old) (Entry.Run reference day) (R.view register.old).content }
+    requires passed { (R.view register.old).is_honest → (R.view register.old).is_sure → IsPassed (R.view register.old).room (Entry.Run reference day) (R.view register.old).content }
     ensures added { (R.view register.new).is_honest → (R.view register.old).is_sure → OnOk result ((R.view register.new).content ≡ appended (Entry.Run reference day) reply (R.view register.old).content) }
     ensures tables { (R.view register.new).is_honest → (R.view register.old).is_sure
-        → OnOk result ((books : Books) × (books.history ≡ history_of (R.view register.old).content) × Grown (R.room register.old) books (Entry.Run reference day) (R.view register.new).content) }
+        → OnOk result ((books : Books) × (books.history ≡ history_of (R.view register.old).content) × Grown (R.view register.old).room books (Entry.Run reference day) (R.view register.new).content) }
     ensures change { IsChange result (R.view register.old) (R.view register.new) }
 {
     register.append(alloc, Entry::Run { reference, day }, reply)

@@ -18,7 +18,7 @@ returns-in-Some-clause-tables g c = λ books honest sure tables.
     let honest1 = c.pair.ensures.change.later.honest honest in
     let honest0 = a.change.later.honest honest1 in
     let sure1 = a.change.ok.sure honest1 sure in
-    instructed_paired (g.R.Register.room c.args.register.now) books (g.R.Register.view c.args.register.now).content (g.R.Register.view c.append.new.self).content (g.R.Register.view c.pair.new.self).content
+    instructed_paired (g.R.Register.view c.args.register.now).room books (g.R.Register.view c.args.register.now).content (g.R.Register.view c.append.new.self).content (g.R.Register.view c.pair.new.self).content
     c.args.sender c.args.instruction c.args.reply c.args.number c.in-Some.earlier c.args.mate c.pair.result c.in-Some.is
     (c.requires.number honest0 sure) tables (c.requires.accepted honest0 sure) (c.requires.mate honest0 sure) (a.added honest1 sure) (c.pair.ensures.paired honest sure1)
 
@@ -31,5 +31,5 @@ pub returns-in-None-clause-tables : goal.returns-in-None-clause-tables
 returns-in-None-clause-tables g c = λ books honest sure tables.
     let a = c.in_ok-append.ensures in
     let honest0 = a.change.later.honest honest in
-    instructed_alone (g.R.Register.room c.args.register.now) books (g.R.Register.view c.args.register.now).content (g.R.Register.view c.append.new.self).content
+    instructed_alone (g.R.Register.view c.args.register.now).room books (g.R.Register.view c.args.register.now).content (g.R.Register.view c.append.new.self).content
     c.args.sender c.args.instruction c.args.reply c.args.mate c.in-None.is tables (c.requires.accepted honest0 sure) (c.requires.mate honest0 sure) (a.added honest sure)

@@ -10,7 +10,7 @@ returns-in-Some-clause-verdict g c = λ books honest sure well same.
     let honest1 = c.verdict_on_key.ensures.read.later.honest honest in
     let content1 = first.read.same honest1 sure in
     let history1 = ap history_of content1 in
-    verdict_known (g.R.Register.room c.args.register.now) books
+    verdict_known (g.R.Register.view c.args.register.now).room books
     (history_of (g.R.Register.view c.is_from_stranger.new.register).content) c.args.entry.now c.in-Some.verdict
     (history1 ∙ same)
     (rw history1 (sym (first.value honest1 sure well) ∙ c.if-branch.false))
@@ -28,8 +28,8 @@ returns-clause-verdict g c = λ books honest sure well same.
     let history1 = ap history_of (first.read.same honest1 sure) in
     let history2 = ap history_of (second.read.same honest2 sure1) in
     let new = rw c.in_default.is at (second.value honest2 sure1 well1) in
-    verdict_new_ok c.limit-limit.result (g.R.Register.room c.args.register.now) books
-    (history_of (g.R.Register.view c.verdict_on_key.new.register).content) c.args.entry.now c.verdict_on_new.result c.limit-limit.ensures
+    verdict_new_ok c.limit-limit.result (g.R.Register.view c.args.register.now).room books
+    (history_of (g.R.Register.view c.verdict_on_key.new.register).content) c.args.entry.now c.verdict_on_new.result c.limit-limit.ensures.limit
     (history2 ∙ history1 ∙ same)
     (rw (history2, history1) (sym (first.value honest1 sure well) ∙ c.if-branch.false))
     (rw history2 new)

@@ -8,14 +8,14 @@ use Rattle.desk_register.proofs.running.run_pass.Goals as goal
 pub pairs-init : goal.pairs-init
 pairs-init g c =
     let r = c.in_ok-count.ensures.read in
-    running_begins (g.R.Register.room c.args.register.now) c.in_ok-count.count (g.R.Register.view c.args.register.now) (g.R.Register.view c.count.new.self) c.args.day r.ok r.later r.same c.in_ok-count.ensures.value
+    running_begins (g.R.Register.view c.args.register.now).room c.in_ok-count.count (g.R.Register.view c.args.register.now) (g.R.Register.view c.count.new.self) c.args.day r.ok r.later r.same c.in_ok-count.ensures.value
 
 pub take_next-requires-clause-stage : goal.take_next-requires-clause-stage
 take_next-requires-clause-stage g c = c.pairs.invariant.stays.stage ∙ c.requires.stage
 
 pub take_next-requires-clause-fits : goal.take_next-requires-clause-fits
 take_next-requires-clause-fits g c =
-    running_can_settle (g.R.Register.room c.args.register.now) c.in_ok-count.count (g.R.Register.view c.args.register.now) (g.R.Register.view c.pairs.register) c.args.day c.pairs.place c.pairs._tried c.pairs.passed.settled c.pairs.passed.waiting
+    running_can_settle (g.R.Register.view c.args.register.now).room c.in_ok-count.count (g.R.Register.view c.args.register.now) (g.R.Register.view c.pairs.register) c.args.day c.pairs.place c.pairs._tried c.pairs.passed.settled c.pairs.passed.waiting
     c.pairs.invariant c.requires.tables
 
 pub returns-in_err-take_next-clause-change : goal.returns-in_err-take_next-clause-change
@@ -27,7 +27,7 @@ returns-in_err-take_next-clause-change g c =
 pub returns-in-None-clause-ran : goal.returns-in-None-clause-ran
 returns-in-None-clause-ran g c = λ books reference honest sure tables today.
     let taken = c.in_ok-take_next.ensures in
-    running_ends_none (g.R.Register.room c.args.register.now) c.in_ok-count.count (g.R.Register.view c.args.register.now) (g.R.Register.view c.pairs.register) (g.R.Register.view c.take_next.new.register) c.args.day c.pairs.place c.pairs._tried
+    running_ends_none (g.R.Register.view c.args.register.now).room c.in_ok-count.count (g.R.Register.view c.args.register.now) (g.R.Register.view c.pairs.register) (g.R.Register.view c.take_next.new.register) c.args.day c.pairs.place c.pairs._tried
     c.pairs.passed.settled c.pairs.passed.waiting books reference c.pairs.invariant taken.change.later (rw c.in-None.is at taken.taken) honest sure tables today
 
 pub returns-in-None-clause-change : goal.returns-in-None-clause-change
@@ -44,14 +44,14 @@ counted-passed-requires g c = let i = c.pairs.invariant.counted in let small : c
 pub pairs-preserved : goal.pairs-preserved
 pairs-preserved g c =
     let t = c.in_ok-take_next.ensures in
-    running_goes_on (g.R.Register.room c.args.register.now) c.in_ok-count.count (g.R.Register.view c.args.register.now) (g.R.Register.view c.pairs.register) (g.R.Register.view c.take_next.new.register) c.args.day c.pairs.place c.pairs._tried
+    running_goes_on (g.R.Register.view c.args.register.now).room c.in_ok-count.count (g.R.Register.view c.args.register.now) (g.R.Register.view c.pairs.register) (g.R.Register.view c.take_next.new.register) c.args.day c.pairs.place c.pairs._tried
     c.pairs.passed.settled c.pairs.passed.waiting c.counted-passed.result.settled c.counted-passed.result.waiting c.in-Some.taken c.pairs.invariant t.change.ok t.change.later (rw c.in-Some.is at t.taken)
     c.counted-passed.ensures.settled c.counted-passed.ensures.all
 
 pub returns-clause-ran : goal.returns-clause-ran
 returns-clause-ran g c = λ books reference honest sure tables today.
     let all : c.in_ok-count.count ≤ c.pairs._tried = omega arith in
-    running_ends_all (g.R.Register.room c.args.register.now) c.in_ok-count.count (g.R.Register.view c.args.register.now) (g.R.Register.view c.pairs.register) c.args.day c.pairs.place c.pairs._tried
+    running_ends_all (g.R.Register.view c.args.register.now).room c.in_ok-count.count (g.R.Register.view c.args.register.now) (g.R.Register.view c.pairs.register) c.args.day c.pairs.place c.pairs._tried
     c.pairs.passed.settled c.pairs.passed.waiting books reference c.pairs.invariant all honest sure tables today
 
 pub returns-clause-change : goal.returns-clause-change
