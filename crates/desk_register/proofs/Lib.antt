@@ -13,6 +13,7 @@ pub mod ViewLemmas
 pub mod PassLemmas
 pub mod StepLemmas
 pub mod PassSteps
+pub mod WaitingLemmas
 pub mod PassWhole
 pub mod FinishLemmas
 pub mod UnderwayLemmas

@@ -49,6 +49,7 @@ use Rattle.desk_rules.proofs.SettlementGrowth.{IsSettledTo, run_settles, run_lea
 use Rattle.desk_register.proofs.TablesLemmas.{sum_member}
 use Rattle.desk_register.proofs.PassLemmas.{FoundPair, found_pair, is_next, In-entry}
 use Rattle.desk_register.proofs.PassSteps.{left_so, settled_so, side_settled, side_left}
+use Rattle.desk_register.proofs.WaitingLemmas.{left_count, left_settled, left_lacks}
 use Rattle.desk_register.proofs.StepLemmas.{HasSides, covered_if, uncovered_if, lack_if, settled_position}
 
 -- Nothing is against payment.
@@ -153,10 +154,12 @@ pub record Pass (books : Books) (reference day : List ℕ) (place : Option Place
   pub of_run : (s : Settled) → In more s → s.run ≡ length books.history + 1
 
 -- what the pass has come to after one pair more
-pub record PassedOn (books : Books) (reference day : List ℕ) (next : Place) (settled : List Settled) (outcome : Outcome) (content : Content) : Type 0 where
+pub record PassedOn (books : Books) (reference day : List ℕ) (place : Option Place) (next : Place) (settled : List Settled) (outcome : Outcome) (content : Content) : Type 0 where
   pub after : List Settled
   pub pass : Pass books reference day (Some next) after content
   pub count : length after ≡ length settled + settled_of outcome
+  pub left : left_count (books.history ++ Run reference day ∷ []) (length books.history + 1) (Some next) after books.pairs + settled_of outcome
+      ≡ left_count (books.history ++ Run reference day ∷ []) (length books.history + 1) place settled books.pairs + 1
 
 mate_of_earlier : (q : Pair) → mate_in q q.earlier ≡ q.later
 mate_of_earlier q = let test : q.earlier == q.earlier ≡ true = grind (arith, nat_tests) in rw test refl
@@ -310,7 +313,7 @@ module _ (limit : ℕ) (books : Books) (reference day : List ℕ) (place : Optio
   rest_left next after n f k (Some i) st apart is =
       left_so books (Run reference day) place settled n.found.waiting.pair next are f.next_is n.found.place_is pass.reached k st.mate st.state apart is
 
-  step_settled : (next : Place) (after : IsDuePairAfter old (number_of day) place (Some next)) (new : Content) → Settles old next.number outcomes.Settled new → PassedOn books reference day next settled outcomes.Settled new
+  step_settled : (next : Place) (after : IsDuePairAfter old (number_of day) place (Some next)) (new : Content) → Settles old next.number outcomes.Settled new → PassedOn books reference day place next settled outcomes.Settled new
   step_settled next after new s =
       let due = after.0 in
       let n = next_sides next due in
@@ -343,9 +346,10 @@ module _ (limit : ℕ) (books : Books) (reference day : List ℕ) (place : Optio
           of_run = λ s i. elim (In-push_cases pass.more t s i) [ inl old ↦ pass.of_run s old | inr is ↦ ap (λ (z : Settled). z.run) (sym is) ];
         };
         count = length-append settled (t ∷ []);
+        left = (let same = left_settled (books.history ++ e ∷ []) (length books.history + 1) place settled books.pairs q next (ordered_pairs books.history books.pairs are.pairing) f.next_is n.found.place_is n.found.waiting.unsettled in omega arith);
       }
 
-  step_lacks : (next : Place) (after : IsDuePairAfter old (number_of day) place (Some next)) (new : Content) → Settles old next.number (Lacks Securities) new → PassedOn books reference day next settled (Lacks Securities) new
+  step_lacks : (next : Place) (after : IsDuePairAfter old (number_of day) place (Some next)) (new : Content) → Settles old next.number (Lacks Securities) new → PassedOn books reference day place next settled (Lacks Securities) new
   step_lacks next after new s =
       let due = after.0 in
       let n = next_sides next due in
@@ -377,10 +381,11 @@ module _ (limit : ℕ) (books : Books) (reference day : List ℕ) (place : Optio
           of_run = pass.of_run;
         };
         count = omega arith;
+        left = (let more = left_lacks (books.history ++ e ∷ []) (length books.history + 1) place settled books.pairs q next (ordered_pairs books.history books.pairs are.pairing) f.next_is n.found.place_is n.found.waiting.unsettled in omega arith);
       }
 
   -- one pair more
-  pub step : (next : Place) (after : IsDuePairAfter old (number_of day) place (Some next)) (outcome : Outcome) (new : Content) → Settles old next.number outcome new → PassedOn books reference day next settled outcome new
+  pub step : (next : Place) (after : IsDuePairAfter old (number_of day) place (Some next)) (outcome : Outcome) (new : Content) → Settles old next.number outcome new → PassedOn books reference day place next settled outcome new
   step next after outcomes.Settled new s = step_settled next after new s
   step next after (Lacks Securities) new s = step_lacks next after new s
   step next after (Lacks LacksMoney) new s = absurd s.ends

@@ -21,7 +21,7 @@ pub record Running (room count : ℕ) (v0 v : View) (day : List ℕ) (place : Op
   pub stays : Stays v0 v
   pub later : IsLater v0 v
   pub counted : settled + waiting ≡ tried
-  pub underway : v.is_honest → v0.is_sure → (books : Books) (reference : List ℕ) → Tables room books v0.content → AreOfToday books.history → Underway books reference day place tried settled v.content
+  pub underway : v.is_honest → v0.is_sure → (books : Books) (reference : List ℕ) → Tables room books v0.content → AreOfToday books.history → Underway books reference day place tried settled waiting v.content
 
 pub running_begins : (room count : ℕ) (v0 v : View) (day : List ℕ) → Stays v0 v → IsLater v0 v → (v.is_honest → v0.is_sure → v.content ≡ v0.content) → (v.is_honest → v0.is_sure → count ≡ length v0.content.register) → Running room count v0 v day None 0 0 0
 running_begins room count v0 v day stays later same entries = record {
@@ -30,7 +30,7 @@ running_begins room count v0 v day stays later same entries = record {
   later = later;
   counted = omega arith;
   underway = λ honest sure books reference tables today.
-      let P : Content → Type 0 = λ c. Underway books reference day None 0 0 c in
+      let P : Content → Type 0 = λ c. Underway books reference day None 0 0 0 c in
       subst P (sym (same honest sure)) (begins room books reference day v0.content tables);
 }
 
@@ -44,8 +44,8 @@ running_goes_on room count v0 v w day place tried settled waiting new_settled ne
   counted = (let c = r.counted in omega arith);
   underway = λ honest sure books reference tables today.
       let honest1 = later.honest honest in
-      let P : ℕ → Type 0 = λ k. Underway books reference day (Some taken.place) (tried + 1) k w.content in
-      subst P (sym settles) (goes_on room books reference day place tried settled v0.content v.content w.content taken tables today (r.underway honest1 sure books reference tables today) (took honest (r.stays.sure honest1 sure)));
+      let P : ℕ → Type 0 = λ k. Underway books reference day (Some taken.place) (tried + 1) k new_waiting w.content in
+      subst P (sym settles) (goes_on room books reference day place tried settled waiting new_waiting v0.content v.content w.content taken tables today (r.underway honest1 sure books reference tables today) (took honest (r.stays.sure honest1 sure)) (omega arith));
 }
 
 pub running_can_settle : (room count : ℕ) (v0 v : View) (day : List ℕ) (place : Option Place) (tried settled waiting : ℕ) → Running room count v0 v day place tried settled waiting → (v0.is_honest → v0.is_sure → CanRun room v0.content)
@@ -53,18 +53,18 @@ pub running_can_settle : (room count : ℕ) (v0 v : View) (day : List ℕ) (plac
 running_can_settle room count v0 v day place tried settled waiting r may honest sure next due =
     let sure0 = r.later.sure honest sure in
     let can = may (r.later.honest honest) sure0 in
-    can_settle room can.books [] day place tried settled v0.content v.content can.tables can.today (r.underway honest sure0 can.books [] can.tables can.today) next due
+    can_settle room can.books [] day place tried settled waiting v0.content v.content can.tables can.today (r.underway honest sure0 can.books [] can.tables can.today) next due
 
 pub running_ends_none : (room count : ℕ) (v0 v w : View) (day : List ℕ) (place : Option Place) (tried settled waiting : ℕ) (books : Books) (reference : List ℕ) → Running room count v0 v day place tried settled waiting
     → IsLater v w → (w.is_honest → v.is_sure → IsTaken v.content (number_of day) place None w.content) → w.is_honest → v0.is_sure → Tables room books v0.content → AreOfToday books.history
-    → RanTo books (Run reference day) settled w.content
+    → RanTo books (Run reference day) settled waiting w.content
 running_ends_none room count v0 v w day place tried settled waiting books reference r later took honest sure tables today =
     let honest1 = later.honest honest in
-    ends_none room books reference day place tried settled v0.content v.content w.content tables today (r.underway honest1 sure books reference tables today) (took honest (r.stays.sure honest1 sure))
+    ends_none room books reference day place tried settled waiting v0.content v.content w.content tables today (r.underway honest1 sure books reference tables today) (took honest (r.stays.sure honest1 sure))
 
 pub running_ends_all : (room count : ℕ) (v0 v : View) (day : List ℕ) (place : Option Place) (tried settled waiting : ℕ) (books : Books) (reference : List ℕ) → Running room count v0 v day place tried settled waiting
-    → count ≤ tried → v.is_honest → v0.is_sure → Tables room books v0.content → AreOfToday books.history → RanTo books (Run reference day) settled v.content
+    → count ≤ tried → v.is_honest → v0.is_sure → Tables room books v0.content → AreOfToday books.history → RanTo books (Run reference day) settled waiting v.content
 running_ends_all room count v0 v day place tried settled waiting books reference r all honest sure tables today =
     let number = length_is v0.content books.history tables.history in
     let is = r.entries honest sure in
-    ends_all room books reference day place tried settled v0.content v.content tables today (r.underway honest sure books reference tables today) (omega arith)
+    ends_all room books reference day place tried settled waiting v0.content v.content tables today (r.underway honest sure books reference tables today) (omega arith)

@@ -19,6 +19,7 @@ use Rattle.desk_rules.specs.History.{instruction_at}
 use Rattle.desk_rules.specs.Pairing.{IsSide}
 use Rattle.desk_rules.specs.Balances.{credits, debits}
 use Rattle.desk_rules.specs.Covered.{lack_of}
+use Rattle.desk_rules.specs.Reply.{settled_count, waiting_count}
 use Rattle.desk_rules.specs.Settlement.{IsSettlement, is_due, is_above, settled_before}
 use Rattle.desk_rules.specs.Verdict.{Books, AreBooks, IsVerdict, WasAccepted}
 use Rattle.desk_register.specs.Decision.{is_of_today}
@@ -117,8 +118,13 @@ pub record CanRun (limit : ℕ) (content : Content) : Type 0 where
   pub tables : Tables limit books content
   pub today : AreOfToday books.history
 
--- what a run came to: all due pairs were tried, and so many settled
-pub record RanTo (books : Books) (run : Entry) (settled_count : ℕ) (content : Content) : Type 0 where
+-- the books with the run, where this is settled
+abbrev pub books_after : Books → Entry → List Settled → Books
+books_after books run settled = record { history = books.history ++ run ∷ []; pairs = books.pairs; settled = settled }
+
+-- what a run came to: all due pairs were tried, so many settled in the run, and so many were due in it and are not settled
+pub record RanTo (books : Books) (run : Entry) (settled_so waiting_so : ℕ) (content : Content) : Type 0 where
   pub settled : List Settled
   pub passed : HasPassed books run settled content
-  pub count : length settled ≡ length books.settled + settled_count
+  pub settles : settled_count (books_after books run settled) (length books.history + 1) ≡ settled_so
+  pub waits : waiting_count (books_after books run settled) (length books.history + 1) ≡ waiting_so
