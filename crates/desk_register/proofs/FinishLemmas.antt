@@ -149,9 +149,10 @@ module _ (books : Books) (reference day : List ℕ) (place : Option Place) (sett
 
 -- The run is added.
 
-pub tables_run : (limit : ℕ) (books : Books) (reference day : List ℕ) (settled : List Settled) (content : Content) (reply : Reply) → AreBooks books → WasAccepted limit books.history
-    → IsVerdict limit books (Run reference day) Accept → HasPassed books (Run reference day) settled content → Grown limit books (Run reference day) (appended (Run reference day) reply content)
-tables_run limit books reference day settled content reply are was verdict passed =
+pub tables_after_run : (limit : ℕ) (books : Books) (reference day : List ℕ) (settled : List Settled) (content : Content) (reply : Reply) → AreBooks books → WasAccepted limit books.history
+    → IsVerdict limit books (Run reference day) Accept → HasPassed books (Run reference day) settled content
+    → Tables limit (record { history = books.history ++ Run reference day ∷ []; pairs = books.pairs; settled = settled }) (appended (Run reference day) reply content)
+tables_after_run limit books reference day settled content reply are was verdict passed =
     let h = books.history in
     let e : Entry = Run reference day in
     let number : length content.register ≡ length h = length_is content h passed.history in
@@ -166,33 +167,37 @@ tables_run limit books reference day settled content reply are was verdict passe
     let less : s.pair.earlier < s.pair.later = mate.candidate.earlier in
     record { earlier = omega arith; later = omega arith } in
     record {
-      pairs = books.pairs;
-      settled = settled;
-      tables = record {
-        history = history_more content e reply h passed.history;
-        are_books = record { pairing = pairing; settlement = passed.settlement };
-        accepted = accepted_more limit books e are was verdict;
-        standing = λ k. elim (cases_eq k (length h + 1)) [
-          | inl last ↦
-              let new : k == length content.register + 1 ≡ true = grind (arith, nat_tests) in
-              let nothing : instruction_at (h ++ e ∷ []) k ≡ None = ap (option_and_then instructed) (entry_at-end h e k last) in
-              rw (new, nothing) refl
-          | inr other ↦
-              let old : k == length content.register + 1 ≡ false = ne_eqb k (length content.register + 1) (λ (q : k ≡ length content.register + 1). other (omega arith)) in
-              let P : Option Instructed → Type 0 = λ o. StandsAt (record { history = h ++ e ∷ []; pairs = books.pairs; settled = settled }) k o (content.standing k) in
-              let same : instruction_at (h ++ e ∷ []) k ≡ instruction_at h k = elim (cases_lt (length h) k) [
-                | inr le ↦ instruction_at-front h (e ∷ []) k le
-                | inl above ↦ beyond (h ++ e ∷ []) k (omega arith) ∙ sym (beyond h k above)
-              ] in
-              rw old (subst P (sym same) (passed.standing k))
-        ];
-        position = λ account isin.
-            let more = credits-entry h e settled within account isin in
-            let less = debits-entry h e settled within account isin in
-            let here : content.position account isin + debits h settled account isin ≡ credits h settled account isin = passed.position account isin in
-            omega arith;
-      };
+      history = history_more content e reply h passed.history;
+      are_books = record { pairing = pairing; settlement = passed.settlement };
+      accepted = accepted_more limit books e are was verdict;
+      standing = λ k. elim (cases_eq k (length h + 1)) [
+        | inl last ↦
+            let new : k == length content.register + 1 ≡ true = grind (arith, nat_tests) in
+            let nothing : instruction_at (h ++ e ∷ []) k ≡ None = ap (option_and_then instructed) (entry_at-end h e k last) in
+            rw (new, nothing) refl
+        | inr other ↦
+            let old : k == length content.register + 1 ≡ false = ne_eqb k (length content.register + 1) (λ (q : k ≡ length content.register + 1). other (omega arith)) in
+            let P : Option Instructed → Type 0 = λ o. StandsAt (record { history = h ++ e ∷ []; pairs = books.pairs; settled = settled }) k o (content.standing k) in
+            let same : instruction_at (h ++ e ∷ []) k ≡ instruction_at h k = elim (cases_lt (length h) k) [
+              | inr le ↦ instruction_at-front h (e ∷ []) k le
+              | inl above ↦ beyond (h ++ e ∷ []) k (omega arith) ∙ sym (beyond h k above)
+            ] in
+            rw old (subst P (sym same) (passed.standing k))
+      ];
+      position = λ account isin.
+          let more = credits-entry h e settled within account isin in
+          let less = debits-entry h e settled within account isin in
+          let here : content.position account isin + debits h settled account isin ≡ credits h settled account isin = passed.position account isin in
+          omega arith;
     }
+
+pub tables_run : (limit : ℕ) (books : Books) (reference day : List ℕ) (settled : List Settled) (content : Content) (reply : Reply) → AreBooks books → WasAccepted limit books.history
+    → IsVerdict limit books (Run reference day) Accept → HasPassed books (Run reference day) settled content → Grown limit books (Run reference day) (appended (Run reference day) reply content)
+tables_run limit books reference day settled content reply are was verdict passed = record {
+  pairs = books.pairs;
+  settled = settled;
+  tables = tables_after_run limit books reference day settled content reply are was verdict passed;
+}
 
 -- The run begins.
 

@@ -1,3 +1,7 @@
+pub mod HeldLemmas
+mod ReplyLemmas
+mod AcceptingLemmas
+mod StepsLemmas
 pub mod ListsLemmas
 pub mod LookingLemmas
 pub mod QuantityLemmas

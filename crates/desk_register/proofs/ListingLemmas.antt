@@ -10,7 +10,8 @@ use Rattle.desk_register.specs.Content.{Content, history_of}
 use Rattle.std.specs.Prelude.{Bool, true, false, ◌||◌, ◌⊎◌, bytes_eq, is_some}
 use Rattle.desk_rules.specs.declared.entry.Entry.TheVariants.{Participant, Account, Security, Issue, Redeem, PayIn, PayOut, Instruct, Cancel, Run}
 use Rattle.desk_rules.specs.Verdict.{kind_by, kind_of}
-use Rattle.desk_register.specs.Looked.{account_by, held_by, held_of, security_by, IsLess, IsLesser, IsAboveText, IsListedAbove, IsSecurityOf, IsSecurityAfter}
+use Rattle.desk_rules.specs.Laws.{account_by}
+use Rattle.desk_register.specs.Looked.{held_by, held_of, security_by, IsLess, IsLesser, IsAboveText, IsListedAbove, IsSecurityOf, IsSecurityAfter}
 use Rattle.std.specs.Ordering.{nat_cmp, ordering_reverse}
 use Rattle.std.specs.Cmp.Lexicographic.{slice_cmp, nat_list_cmp_total}
 use Rattle.std.specs.declared.cmp.Ordering.TheVariants.{Less}

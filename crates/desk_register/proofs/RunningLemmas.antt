@@ -8,7 +8,11 @@ use Rattle.desk_register.specs.declared.register.Fault.{Fault}
 use Rattle.desk_register.specs.declared.running.Taken.{Taken}
 use Rattle.desk_register.specs.View.{View, IsLater, Stays, IsChange}
 use Rattle.desk_rules.specs.Verdict.{Books}
-use Rattle.desk_register.specs.Content.{Content, CanSettle, history_of}
+use Rattle.desk_register.specs.Content.{Content, CanSettle, history_of, Settles as SettlesPair}
+use Rattle.desk_register.specs.declared.found.Outcome.{Outcome}
+use Rattle.desk_register.specs.declared.found.Outcome.TheVariants as outcomes
+use Rattle.desk_register.specs.declared.found.Outcome.TheVariants.{Lacks}
+use Rattle.desk_rules.specs.declared.pair.Lack.TheVariants.{Securities, Money as LacksMoney}
 use Rattle.desk_register.specs.Looked.{IsDuePairAfter}
 use Rattle.desk_register.specs.Tables.{Tables}
 use Rattle.desk_register.specs.Pass.{AreOfToday, CanRun, IsTaken, RanTo, settled_of}
@@ -16,11 +20,23 @@ use Rattle.desk_register.proofs.TablesLemmas.{length_is}
 use Rattle.desk_register.proofs.ViewLemmas.{later_then, stays_then, change_then}
 use Rattle.desk_register.proofs.UnderwayLemmas.{Underway, begins, can_settle, goes_on, ends_none, ends_all}
 
+-- to try a pair changes no entry and no reply
+
+settles_keeps : (old new : Content) (n : ℕ) (outcome : Outcome) → SettlesPair old n outcome new → new.register ≡ old.register
+settles_keeps old new n outcomes.Settled s = ap (λ (c : Content). c.register) s.ends.1
+settles_keeps old new n (Lacks Securities) s = ap (λ (c : Content). c.register) s.ends.1
+settles_keeps old new n (Lacks LacksMoney) s = absurd s.ends
+
+pub taken_keeps : (old new : Content) (day : ℕ) (place : Option Place) (taken : Option Taken) → IsTaken old day place taken new → new.register ≡ old.register
+taken_keeps old new day place None t = ap (λ (c : Content). c.register) t.1
+taken_keeps old new day place (Some taken) t = settles_keeps old new taken.place.number taken.outcome t.1
+
 pub record Running (room count : ℕ) (v0 v : View) (day : List ℕ) (place : Option Place) (tried settled waiting : ℕ) : Type 0 where
   pub entries : v.is_honest → v0.is_sure → count ≡ length v0.content.register
   pub stays : Stays v0 v
   pub later : IsLater v0 v
   pub counted : settled + waiting ≡ tried
+  pub kept : v.is_honest → v0.is_sure → v.content.register ≡ v0.content.register
   pub underway : v.is_honest → v0.is_sure → (books : Books) (reference : List ℕ) → Tables room books v0.content → AreOfToday books.history → Underway books reference day place tried settled waiting v.content
 
 pub running_begins : (room count : ℕ) (v0 v : View) (day : List ℕ) → Stays v0 v → IsLater v0 v → (v.is_honest → v0.is_sure → v.content ≡ v0.content) → (v.is_honest → v0.is_sure → count ≡ length v0.content.register) → Running room count v0 v day None 0 0 0
@@ -29,6 +45,7 @@ running_begins room count v0 v day stays later same entries = record {
   stays = stays;
   later = later;
   counted = omega arith;
+  kept = λ honest sure. ap (λ (c : Content). c.register) (same honest sure);
   underway = λ honest sure books reference tables today.
       let P : Content → Type 0 = λ c. Underway books reference day None 0 0 0 c in
       subst P (sym (same honest sure)) (begins room books reference day v0.content tables);
@@ -42,6 +59,7 @@ running_goes_on room count v0 v w day place tried settled waiting new_settled ne
   stays = stays_then v0 v w r.stays r.later later stays;
   later = later_then v0 v w r.stays r.later later;
   counted = (let c = r.counted in omega arith);
+  kept = λ honest sure. taken_keeps v.content w.content (number_of day) place (Some taken) (took honest (r.stays.sure (later.honest honest) sure)) ∙ r.kept (later.honest honest) sure;
   underway = λ honest sure books reference tables today.
       let honest1 = later.honest honest in
       let P : ℕ → Type 0 = λ k. Underway books reference day (Some taken.place) (tried + 1) k new_waiting w.content in

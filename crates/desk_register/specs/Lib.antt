@@ -5,3 +5,4 @@ pub mod View
 pub mod Decision
 pub mod Tables
 pub mod Pass
+pub mod Applied

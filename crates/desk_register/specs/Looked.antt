@@ -18,6 +18,7 @@ use Rattle.desk_register.specs.declared.standing.Standing.{Standing}
 use Rattle.desk_rules.specs.declared.entry.Instructed.{Instructed}
 use Rattle.desk_rules.specs.History.{instruction_at}
 use Rattle.desk_rules.specs.Opposite.{AreOpposite}
+use Rattle.desk_rules.specs.Laws.{account_by}
 use Rattle.desk_rules.specs.Verdict.{kind_of}
 use Rattle.desk_rules.specs.declared.reply.Kept.{Kept}
 use Rattle.desk_register.specs.Content.{Content, history_of}
@@ -99,19 +100,6 @@ IsListedAbove history above isin = (is_some (kind_of history isin) ≡ true) × 
 abbrev pub IsSecurityAfter : List Entry → Option (List ℕ) → Option (List ℕ) → Type 0
 IsSecurityAfter history above None = (isin : List ℕ) → IsListedAbove history above isin → ⊥
 IsSecurityAfter history above (Some isin) = IsListedAbove history above isin × ((other : List ℕ) → IsListedAbove history above other → IsLess other isin → ⊥)
-
--- the account that an entry registers
-abbrev pub account_by : Entry → Option (List ℕ)
-account_by (Participant reference bic) = None
-account_by (Account reference bic account) = Some account
-account_by (Security reference isin kind) = None
-account_by (Issue holding) = None
-account_by (Redeem holding) = None
-account_by (PayIn payment) = None
-account_by (PayOut payment) = None
-account_by (Instruct sender instruction) = None
-account_by (Cancel sender order) = None
-account_by (Run reference day) = None
 
 -- what the account that an entry registers holds, if it registers one
 abbrev pub held_by : (List ℕ → ℕ) → Option (List ℕ) → ℕ

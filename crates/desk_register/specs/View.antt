@@ -1,5 +1,5 @@
 -- What contracts see of a register, and how its calls change it.
-use Rattle.std.specs.Prelude.{◌≡◌, ℕ, ◌<◌, ◌≤◌, Result, IfErr, OnOk, OnErr}
+use Rattle.std.specs.Prelude.{◌≡◌, ◌≢◌, ℕ, ◌<◌, ◌≤◌, Result, IfErr, OnOk, OnErr}
 use Rattle.desk_register.specs.declared.register.Fault.{Fault}
 use Rattle.desk_register.specs.declared.register.Fault.TheVariants.{Memory, Storage}
 use Rattle.desk_register.specs.declared.register.Stage.{Stage}
@@ -67,6 +67,11 @@ module _ (old new : View) where
     pub mark : new.is_honest → new.is_sure → new.mark ≡ old.mark
     pub content : new.is_honest → new.is_sure → old.stage ≡ Idle → new.content ≡ old.content
 
+  -- a call of several steps failed: a `begin` is open still, and what is marked stays
+  pub record Breaks : Type 0 where
+    pub stage : new.stage ≢ Idle
+    pub mark : new.is_honest → new.is_sure → new.mark ≡ old.mark
+
 -- a storage fault is answered only where the device failed in the call
 abbrev pub Blames : {X : Type 0} → Result X Fault → View → View → Type 0
 Blames result old new = IfErr result (λ fault. fault ≡ Storage → old.failures < new.failures)
@@ -83,5 +88,12 @@ pub record IsRead {X : Type 0} (result : Result X Fault) (old new : View) : Type
 pub record IsChange {X : Type 0} (result : Result X Fault) (old new : View) : Type 0 where
   pub ok : OnOk result (Stays old new)
   pub err : OnErr result (Falls old new)
+  pub later : IsLater old new
+  pub blame : Blames result old new
+
+-- how a call of several steps ends, within an open `begin`
+pub record IsStep {X : Type 0} (result : Result X Fault) (old new : View) : Type 0 where
+  pub ok : OnOk result (Stays old new)
+  pub err : OnErr result (Breaks old new)
   pub later : IsLater old new
   pub blame : Blames result old new

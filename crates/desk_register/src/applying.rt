@@ -1,5 +1,5 @@
 //! What an accepted entry does to the register.
-ghost use Rattle.std.specs.Prelude.{◌≡◌, ◌+◌, ◌<◌, length, IfOk, OnOk, IsTrue};
+ghost use Rattle.std.specs.Prelude.{◌≡◌, ◌+◌, ◌<◌, ◌≤◌, length, IfOk, OnOk, IsTrue};
 ghost use Rattle.desk_register.specs.View.{IsChange, IsRead};
 ghost use Rattle.desk_register.specs.Content.{appended};
 ghost use Rattle.desk_register.specs.Looked.{IsFirstOpposite};
@@ -16,6 +16,7 @@ use std::alloc::Global;
 pub fn next_number<R: Register>(alloc: Global, register: &mut R) -> Result<u64, Fault>
     ensures value { (R.view register.new).is_honest → (R.view register.old).is_sure → length (R.view register.old).content.register < (R.view register.old).room
         → IfOk result (λ n. n ≡ length (R.view register.old).content.register + 1) }
+    ensures most { IfOk result (λ n. n ≤ 999_999_999) }
     ensures read { IsRead result (R.view register.old) (R.view register.new) }
 {
     let limit = register.limit();

@@ -3,16 +3,19 @@
 //!
 //! `Register` in `register.rt` is the law; what its clauses speak of stands in specs/View.antt (how a call
 //! changes a register) and specs/Content.antt (what it holds). `ListRegister` keeps plain lists. `decide`
-//! rules on an entry and the calls of `applying.rt` and `running.rt` add it, over any register;
-//! specs/Tables.antt says when a register holds the tables of a history.
+//! rules on an entry and `apply` takes an accepted one into the tables, over any register; specs/Tables.antt
+//! says when a register holds the tables of a history, and specs/Applied.antt what an entry leaves behind.
 #![tactic(auto)]
 
+mod accepting;
 mod appending;
+mod applied;
 mod applying;
 mod balances;
 mod changes;
 mod finding;
 mod found;
+mod laws;
 mod list_calls;
 mod list_register;
 mod listing;
@@ -20,6 +23,7 @@ mod lists;
 mod looking;
 mod positions;
 mod register;
+mod replying;
 mod ruling;
 mod running;
 mod said;
@@ -29,11 +33,13 @@ mod standing;
 mod standings;
 mod today;
 
-pub use applying::{add_instruction, add_registration, next_number};
+pub use accepting::apply;
+pub use applied::Applied;
 pub use found::{Found, Outcome};
+pub use laws::positions_add_up;
 pub use list_register::ListRegister;
 pub use register::{Fault, Register, Stage};
 pub use ruling::decide;
-pub use running::{Passed, add_run, run_pass};
+pub use replying::{accepted_reply, refused_reply};
 pub use standing::Standing;
 pub use today::is_of_today;

@@ -1,6 +1,7 @@
 //! The calls of a register in plain lists.
 ghost use Rattle.std.specs.Prelude.{◌≡◌, ◌≤◌, ◌<◌, []};
 ghost use Rattle.desk_register.specs.Lists.{listed, undone, content_in};
+ghost use Rattle.desk_register.specs.Applied.{Keeps, no_books};
 ghost use Rattle.desk_register.specs.View.{fallen};
 
 use crate::appending::append_entry;
@@ -25,7 +26,7 @@ impl ListRegister {
     /// An empty register for at most `limit` entries, 1 to 999,999,999.
     pub fn new(alloc: Global, limit: u64) -> ListRegister
         requires { limit ≤ 999_999_999 }
-        ensures empty { content_in (listed result.lists) ≡ content_in (record { kept = []; standings = []; keys = []; quantities = []; securities = []; outstanding = [] }) }
+        ensures empty { Keeps limit no_books (content_in (listed result.lists)) }
         ensures limit { result.limit ≡ limit }
         ensures stage { result.stage ≡ Stage.Idle }
     {

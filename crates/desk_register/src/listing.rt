@@ -4,7 +4,8 @@ ghost use Rattle.std.proofs.Common.{get_or};
 ghost use Rattle.desk_rules.specs.declared.reply.Kept.{Kept};
 ghost use Rattle.desk_register.specs.Content.{history_of};
 ghost use Rattle.desk_register.specs.Lists.{content_in, listed};
-ghost use Rattle.desk_register.specs.Looked.{IsLess, IsLesser, IsSecurityAfter, IsSecurityOf, account_by, held_by, held_of};
+ghost use Rattle.desk_register.specs.Looked.{IsLess, IsLesser, IsSecurityAfter, IsSecurityOf, held_by, held_of};
+ghost use Rattle.desk_rules.specs.Laws.{account_by};
 
 use crate::lists::Lists;
 use crate::positions::quantity_of;

@@ -43,7 +43,8 @@ pub trait Register {
         ensures ok { OnOk result (Begins (view self.old) (view self.new)) }
         ensures err { OnErr result (Falls (view self.old) (view self.new)) }
         ensures later { IsLater (view self.old) (view self.new) }
-        ensures blame { Blames result (view self.old) (view self.new) };
+        ensures blame { Blames result (view self.old) (view self.new) }
+        ensures plain { plain ≡ true → IsOk result };
 
     fn commit(&mut self, alloc: Global) -> Result<(), Fault>
         requires { (view self.old).stage ≡ Stage.Begun }

@@ -79,6 +79,7 @@ impl Passed {
 pub fn run_pass<R: Register>(alloc: Global, register: &mut R, day: Day) -> Result<Passed, Fault>
     requires stage { (R.view register.old).stage ≡ Stage.Begun }
     requires tables { (R.view register.old).is_honest → (R.view register.old).is_sure → CanRun (R.view register.old).room (R.view register.old).content }
+    ensures kept { (R.view register.new).is_honest → (R.view register.old).is_sure → OnOk result ((R.view register.new).content.register ≡ (R.view register.old).content.register) }
     ensures ran { (books : Books) (reference : List ℕ) → (R.view register.new).is_honest → (R.view register.old).is_sure → Tables (R.view register.old).room books (R.view register.old).content → AreOfToday books.history
         → IfOk result (λ passed. RanTo books (Entry.Run reference day) passed.settled passed.waiting (R.view register.new).content) }
     ensures change { IsChange result (R.view register.old) (R.view register.new) }

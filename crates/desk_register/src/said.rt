@@ -3,7 +3,7 @@ ghost use Rattle.std.specs.Prelude.{◌≡◌, option_map};
 ghost use Rattle.desk_codes.specs.Number.{number_of};
 ghost use Rattle.desk_rules.specs.History.{has_key, run_day, same_sender, sender_of, reference_of};
 ghost use Rattle.desk_register.specs.Content.{first_standing};
-ghost use Rattle.desk_register.specs.Looked.{account_by};
+ghost use Rattle.desk_rules.specs.Laws.{account_by};
 ghost use Rattle.desk_rules.specs.Verdict.{adds_participant, kind_by, owner_by};
 
 use crate::standing::Standing;

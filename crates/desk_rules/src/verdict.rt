@@ -1,4 +1,6 @@
 //! What the desk decides on an entry.
+ghost use Rattle.std.specs.Prelude.{◌≡◌, ◌≤◌};
+ghost use Rattle.desk_rules.specs.Verdict.{number_of_refusal};
 
 /// Why an entry is refused.
 #[derive(Clone, Copy, Debug, PartialEq, Eq)]
@@ -43,6 +45,37 @@ pub enum Refusal {
     NotEnough,
     /// The run is for a day before that of the last run.
     DayGoesBack,
+}
+
+impl Refusal {
+    /// Its number: 10 to 21 of messages, 31 to 38 and 21 of commands.
+    pub fn number(self) -> u8
+        ensures number { result ≡ number_of_refusal self }
+        ensures two_digits { result ≤ 99 }
+    {
+        match self {
+            Refusal::SenderUnknown => 10,
+            Refusal::ReferenceReused => 11,
+            Refusal::PlaceNotUs => 12,
+            Refusal::UnknownSecurity => 13,
+            Refusal::KindDiffers => 14,
+            Refusal::AccountNotSenders => 15,
+            Refusal::CounterpartyUnknown => 16,
+            Refusal::NoSuchInstruction => 17,
+            Refusal::AlreadyCancelled => 18,
+            Refusal::AlreadySettled => 19,
+            Refusal::AlreadyMatched => 20,
+            Refusal::Full => 21,
+            Refusal::CommandReused => 31,
+            Refusal::Exists => 32,
+            Refusal::ParticipantUnknown => 33,
+            Refusal::AccountUnknown => 34,
+            Refusal::SecurityUnknown => 35,
+            Refusal::OverLimit => 36,
+            Refusal::NotEnough => 37,
+            Refusal::DayGoesBack => 38,
+        }
+    }
 }
 
 /// What the desk decides.

@@ -1,8 +1,8 @@
-use Rattle.std.proofs.Common.{◌≡◌, ◌+◌, ◌<◌, ◌≤◌, ◌^◌, refl, sym, ◌∙◌, arith, rules, Ok}
+use Rattle.std.proofs.Common.{None, ◌≡◌, ◌+◌, ◌<◌, ◌≤◌, ◌^◌, refl, sym, ◌∙◌, arith, rules, Ok}
 use Rattle.desk_register.specs.declared.running.Passed.{Passed}
 use Rattle.desk_register.specs.View.{IsChange}
 use Rattle.desk_register.proofs.ViewLemmas.{change_then, change_ok, stays_then, later_then}
-use Rattle.desk_register.proofs.RunningLemmas.{Running, running_begins, running_goes_on, running_can_settle, running_ends_none, running_ends_all}
+use Rattle.desk_register.proofs.RunningLemmas.{Running, running_begins, running_goes_on, running_can_settle, running_ends_none, running_ends_all, taken_keeps}
 use Rattle.desk_register.proofs.running.run_pass.Goals as goal
 
 pub pairs-init : goal.pairs-init
@@ -56,3 +56,10 @@ returns-clause-ran g c = λ books reference honest sure tables today.
 
 pub returns-clause-change : goal.returns-clause-change
 returns-clause-change g c = let i = c.pairs.invariant in change_ok c.pairs.passed (g.R.Register.view c.args.register.now) (g.R.Register.view c.pairs.register) i.stays i.later
+
+pub returns-in-None-clause-kept : goal.returns-in-None-clause-kept
+returns-in-None-clause-kept g c = λ honest sure.
+    let t = c.in_ok-take_next.ensures in
+    let i = c.pairs.invariant in
+    let honest1 = t.change.later.honest honest in
+    taken_keeps (g.R.Register.view c.pairs.register).content (g.R.Register.view c.take_next.new.register).content _ c.pairs.place None (rw c.in-None.is at (t.taken honest (i.stays.sure honest1 sure))) ∙ i.kept honest1 sure

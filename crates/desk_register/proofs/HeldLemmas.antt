@@ -1,0 +1,62 @@
+-- What all accounts hold, and the register that holds nothing.
+use Rattle.std.proofs.Common.{◌≡◌, ℕ, zero, suc, ◌+◌, ◌<◌, ◌≤◌, ◌^◌, List, [], ◌∷◌, sum_by, Option, Some, None, refl, ap, sym, ◌∙◌, subst, arith, lit<}
+use Rattle.std.specs.Prelude.{slice_get}
+use Rattle.std.proofs.lemmas.List.Sums.{sum_by-cons}
+use Rattle.desk_rules.specs.Balances.{credits, debits, issued, redeemed}
+use Rattle.desk_rules.specs.Laws.{accounts_of}
+use Rattle.desk_rules.specs.Verdict.{Books, most_outstanding}
+use Rattle.desk_rules.proofs.Conservation.{securities_add_up}
+use Rattle.desk_rules.proofs.Existence.{no_books as none_of}
+use Rattle.desk_rules.specs.History.{instruction_at}
+use Rattle.desk_rules.proofs.Decided.{In-from_Contains}
+use Rattle.desk_rules.proofs.HistoryLemmas.{entry_at-known, slice_get-known}
+use Rattle.desk_register.specs.Applied.{Keeps, no_books}
+use Rattle.desk_register.specs.Content.{Content, history_of}
+use Rattle.desk_register.specs.Lists.{content_in, standing_in}
+use Rattle.desk_register.specs.Looked.{held_of}
+use Rattle.desk_register.specs.Tables.{Tables, StandsAt}
+use Rattle.desk_register.proofs.PassWhole.{outstanding_within}
+
+sum_both : {X : Type 0} (f g h : X → ℕ) (xs : List X) → ((x : X) → f x + g x ≡ h x) → sum_by f xs + sum_by g xs ≡ sum_by h xs
+sum_both f g h [] same = refl
+sum_both f g h (x ∷ xs) same =
+    let one = same x in
+    let rest = sum_both f g h xs same in
+    let a = sum_by-cons f x xs in
+    let b = sum_by-cons g x xs in
+    let c = sum_by-cons h x xs in
+    omega arith
+
+pub held_adds_up : (limit : ℕ) (books : Books) (content : Content) (isin : List ℕ) → Tables limit books content → redeemed books.history isin + held_of content isin ≡ issued books.history isin
+held_adds_up limit books content isin tables =
+    let h = books.history in
+    let are = tables.are_books in
+    let all = securities_add_up limit h tables.accepted books.pairs books.settled are.pairing are.settlement isin in
+    let held = sum_both (λ a. content.position a isin) (λ a. debits h books.settled a isin) (λ a. credits h books.settled a isin) (accounts_of h) (λ a. tables.position a isin) in
+    let same : held_of content isin ≡ sum_by (λ a. content.position a isin) (accounts_of h) = ap (λ z. sum_by (λ a. content.position a isin) (accounts_of z)) tables.history in
+    omega arith
+
+pub held_within : (limit : ℕ) (books : Books) (content : Content) (isin : List ℕ) → Tables limit books content → held_of content isin ≤ most_outstanding
+held_within limit books content isin tables =
+    let within = outstanding_within limit books.history tables.accepted in
+    let most = within.each isin in
+    let all = held_adds_up limit books content isin tables in
+    omega arith
+
+pub empty_keeps : (limit : ℕ) → Keeps limit no_books (content_in (record { kept = []; standings = []; keys = []; quantities = []; securities = []; outstanding = [] }))
+empty_keeps limit = record {
+  tables = record {
+    history = refl;
+    are_books = record { pairing = none_of.pairing; settlement = none_of.settlement };
+    accepted = record { each = λ n entry books at history are. (let k = entry_at-known [] n entry at in let a : 0 < n = k.0 in let b : n ≤ 0 = k.1 in absurd (omega arith)) };
+    standing = stands;
+    position = λ account isin. refl;
+  };
+  today = record { each = λ entry c. absurd (In-from_Contains [] entry c) };
+  replies = λ n kept at. (let k : n < 0 = slice_get-known [] n kept at in absurd (omega arith));
+}
+  where
+    stands : (k : ℕ) → StandsAt no_books k (instruction_at [] k) (standing_in [] k)
+    stands zero = refl
+    stands (suc zero) = refl
+    stands (suc (suc n)) = refl

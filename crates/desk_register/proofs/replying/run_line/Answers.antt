@@ -1,0 +1,7 @@
+use Rattle.std.proofs.Common.{◌++◌, codes, decimal, append_assoc, sym}
+use Rattle.desk_rules.specs.Reply.{accepted_text}
+use Rattle.desk_register.proofs.ReplyLemmas.{line_is}
+use Rattle.desk_register.proofs.replying.run_line.Goals as goal
+
+pub returns : goal.returns
+returns c = let a = c.args.applied.now in line_is c.format.result a.number a.settled a.waiting c.format.ensures.ok

@@ -1,0 +1,16 @@
+//! Laws of a register that keeps its tables, each the contract of a function with an empty body.
+ghost use Rattle.std.specs.Prelude.{◌≡◌, ℕ, ◌+◌, ◌≤◌, List};
+ghost use Rattle.desk_rules.specs.Balances.{issued, redeemed};
+ghost use Rattle.desk_rules.specs.Verdict.{Books, most_outstanding};
+ghost use Rattle.desk_register.specs.Content.{Content};
+ghost use Rattle.desk_register.specs.Looked.{held_of};
+ghost use Rattle.desk_register.specs.Tables.{Tables};
+
+/// The positions of all accounts in a security add up to what was issued less what was redeemed. (No position
+/// is below 0: it is a natural number that makes up for the account's debits.)
+pub fn positions_add_up()
+    ensures all { (limit : ℕ) (books : Books) (content : Content) (isin : List ℕ) → Tables limit books content
+        → redeemed books.history isin + held_of content isin ≡ issued books.history isin }
+    ensures within { (limit : ℕ) (books : Books) (content : Content) (isin : List ℕ) → Tables limit books content
+        → held_of content isin ≤ most_outstanding }
+{}
