@@ -1,3 +1,5 @@
+mod RunLemmas
+mod AnsweringLemmas
 pub mod LineLemmas
 pub mod FormLemmas
 pub mod ScriptLemmas
@@ -6,3 +8,5 @@ pub mod CommandLemmas
 pub mod RowLemmas
 pub mod OneReading
 pub mod OneCommand
+pub mod ListedLemmas
+pub mod SummingLemmas

@@ -6,3 +6,9 @@ pub mod Shown
 pub mod Command
 pub mod Members
 pub mod Sums
+pub mod Order
+pub mod Totals
+pub mod Answered
+pub mod Held
+pub mod DeskValue
+pub mod Played

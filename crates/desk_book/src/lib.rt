@@ -5,26 +5,33 @@
 //! something in specs/Forms.antt; `first_item` of `script.rt` reads one.
 #![tactic(auto)]
 
+mod answering;
 mod command;
+mod desk;
 mod fault;
 mod form;
 mod laws;
 mod line;
 mod member;
 mod operation;
+mod order;
 mod reading;
 mod request;
 mod script;
+mod summing;
 #[cfg(test)]
 mod tests;
 mod total;
 mod writing;
 
 pub use command::read_command;
+pub use desk::Desk;
 pub use fault::{Fault, PlayFault};
 pub use laws::{one_command, one_script};
+pub use order::{Order, order_of};
 pub use reading::read_script;
 pub use request::Request;
 pub use script::{Item, first_item, item_count};
+pub use summing::{security_totals, totals_text};
 pub use total::{CashTotal, SecurityTotal, sums_text, write_sums};
 pub use writing::{write_answer, write_bad_line, write_fault};

@@ -25,9 +25,10 @@ use Rattle.desk_rules.specs.History.{before, entry_at, instruction_at, instructe
 use Rattle.desk_rules.specs.Pairing.{IsPairing, IsFree, IsSide, has_side}
 use Rattle.desk_rules.specs.Settlement.{IsSettlement, is_due, is_by}
 use Rattle.desk_rules.specs.Reply.{IsFirstReply, reply_to, settled_count, waiting_count, is_settled_pair}
-use Rattle.desk_rules.specs.Verdict.{Books, Check, AreBooks, IsVerdict, IsVerdictAt, checks_of, first_failing, is_from_stranger}
+use Rattle.desk_rules.specs.Verdict.{Books, Check, AreBooks, WasAccepted, IsVerdict, IsVerdictAt, checks_of, first_failing, is_from_stranger}
 use Rattle.desk_rules.proofs.Decided.{In, In-from_Contains, Contains-from_In, In-push_cases, filter-none}
-use Rattle.desk_rules.proofs.HistoryLemmas.{entry_at-front, entry_at-end, slice_get-known, slice_get-front, slice_get-end}
+use Rattle.desk_rules.proofs.HistoryLemmas.{entry_at-front, entry_at-end, entry_at-some, length-before, slice_get-known, slice_get-front, slice_get-end}
+use Rattle.desk_rules.proofs.Existence.{books_exist}
 use Rattle.desk_rules.proofs.PlainLemmas.{any-In, In-any, free_no_side}
 use Rattle.desk_rules.proofs.SettlementLemmas.{due_facts, due_known}
 use Rattle.desk_rules.proofs.SettlementGrowth.{by_none}
@@ -100,8 +101,7 @@ waits_none books n e at no_run =
 pub not_paired : (h : List Entry) (ps : List Pair) (n : ℕ) → IsPairing h ps → instruction_at h n ≡ None → IsFree ps n
 not_paired h ps n is none = λ p c.
     let mate = (is.exact p).0 c in
-    let o = mate.candidate.opposite in
-    (
+    let o = mate.candidate.opposite in (
       λ (q : p.earlier ≡ n). (let at : Some o.first ≡ None = sym o.is_first ∙ ap (λ k. instruction_at h k) q ∙ none in absurd (cc)),
       λ (q : p.later ≡ n). (let at : Some o.second ≡ None = sym o.is_second ∙ ap (λ k. instruction_at h k) q ∙ none in absurd (cc)),
     )
@@ -396,3 +396,18 @@ passed_of v0 v1 v2 reference day settled waiting can ran same room =
       settled = ran.settled;
       passed = ran.passed;
     }))
+
+-- no more entries than there is room for
+pub entries_within : (limit : ℕ) (h : List Entry) → WasAccepted limit h → length h ≤ limit
+entries_within limit h was = elim (cases_lt 0 (length h)) [
+  | inr none ↦ omega arith
+  | inl some ↦
+      let n = length h in
+      let last = entry_at-some h n some (omega arith) in
+      let b = books_exist (before n h) in
+      let books : Books = record { history = before n h; pairs = b.0; settled = b.1 } in
+      let verdict = was.each n last.0 books last.1 refl (record { pairing = b.2.pairing; settlement = b.2.settlement }) in
+      let room = accepted_room limit books last.0 verdict in
+      let shorter : length (before n h) + 1 ≡ n = length-before h n some (omega arith) in
+      omega arith
+]

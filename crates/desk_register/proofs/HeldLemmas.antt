@@ -27,13 +27,21 @@ sum_both f g h (x ∷ xs) same =
     let c = sum_by-cons h x xs in
     omega arith
 
+-- what all accounts hold is their credits less their debits
+pub held_is : (limit : ℕ) (books : Books) (content : Content) (isin : List ℕ) → Tables limit books content
+    → held_of content isin + sum_by (λ a. debits books.history books.settled a isin) (accounts_of books.history) ≡ sum_by (λ a. credits books.history books.settled a isin) (accounts_of books.history)
+held_is limit books content isin tables =
+    let h = books.history in
+    let held = sum_both (λ a. content.position a isin) (λ a. debits h books.settled a isin) (λ a. credits h books.settled a isin) (accounts_of h) (λ a. tables.position a isin) in
+    let same : held_of content isin ≡ sum_by (λ a. content.position a isin) (accounts_of h) = ap (λ z. sum_by (λ a. content.position a isin) (accounts_of z)) tables.history in
+    omega arith
+
 pub held_adds_up : (limit : ℕ) (books : Books) (content : Content) (isin : List ℕ) → Tables limit books content → redeemed books.history isin + held_of content isin ≡ issued books.history isin
 held_adds_up limit books content isin tables =
     let h = books.history in
     let are = tables.are_books in
     let all = securities_add_up limit h tables.accepted books.pairs books.settled are.pairing are.settlement isin in
-    let held = sum_both (λ a. content.position a isin) (λ a. debits h books.settled a isin) (λ a. credits h books.settled a isin) (accounts_of h) (λ a. tables.position a isin) in
-    let same : held_of content isin ≡ sum_by (λ a. content.position a isin) (accounts_of h) = ap (λ z. sum_by (λ a. content.position a isin) (accounts_of z)) tables.history in
+    let held = held_is limit books content isin tables in
     omega arith
 
 pub held_within : (limit : ℕ) (books : Books) (content : Content) (isin : List ℕ) → Tables limit books content → held_of content isin ≤ most_outstanding

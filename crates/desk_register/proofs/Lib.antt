@@ -1,6 +1,6 @@
 pub mod HeldLemmas
 mod ReplyLemmas
-mod AcceptingLemmas
+pub mod AcceptingLemmas
 mod StepsLemmas
 pub mod ListsLemmas
 pub mod LookingLemmas

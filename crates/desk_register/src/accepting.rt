@@ -19,11 +19,7 @@ use std::alloc::Global;
 /// Takes an entry that `decide` accepts into the tables, with all that follows from it: an instruction is paired
 /// with its mate, and a run settles what is covered. Answers how it fared. After a fault the tables are not
 /// known until `back`.
-pub fn apply<R: Register>(
-    alloc: Global,
-    register: &mut R,
-    entry: Entry,
-) -> Result<Applied, Fault>
+pub fn apply<R: Register>(alloc: Global, register: &mut R, entry: Entry) -> Result<Applied, Fault>
     requires stage { (R.view register.old).stage ≡ Stage.Begun }
     requires today { IsTrue (is_of_today entry) }
     requires accepted { (R.view register.old).is_honest → (R.view register.old).is_sure → CanApply (R.view register.old).room entry (R.view register.old).content }

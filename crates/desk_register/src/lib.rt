@@ -39,7 +39,7 @@ pub use found::{Found, Outcome};
 pub use laws::positions_add_up;
 pub use list_register::ListRegister;
 pub use register::{Fault, Register, Stage};
-pub use ruling::decide;
 pub use replying::{accepted_reply, refused_reply};
+pub use ruling::decide;
 pub use standing::Standing;
 pub use today::is_of_today;

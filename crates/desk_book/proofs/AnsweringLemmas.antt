@@ -1,0 +1,182 @@
+-- What is answered to an entry, from what the register keeps.
+use Rattle.std.proofs.Common.{◌≡◌, ◌≢◌, ◌⊎◌, inl, inr, ℕ, zero, suc, ◌+◌, ◌<◌, ◌≤◌, ◌^◌, Bool, true, false, List, [], ◌∷◌, ◌++◌, length, map, Contains, sum_by, Option, Some, None, refl, ap, sym, ◌∙◌, subst, arith, lit<}
+use Rattle.std.specs.Prelude.{slice_get, option_map, is_some, nat_le, Result, Ok, Err, IfOk, OnOk}
+use Rattle.std.proofs.lemmas.Bool.{cases_Bool}
+use Rattle.desk_rules.specs.declared.entry.Entry.{Entry}
+use Rattle.desk_rules.specs.declared.reply.Kept.{Kept}
+use Rattle.desk_rules.specs.declared.reply.Reply.{Reply}
+use Rattle.desk_rules.specs.declared.verdict.Verdict.{Verdict}
+use Rattle.desk_rules.specs.declared.verdict.Verdict.TheVariants.{Accept, Repeat, Refuse}
+use Rattle.desk_rules.specs.declared.verdict.Refusal.TheVariants.{Full}
+use Rattle.desk_rules.specs.History.{entry_at, sender_of, reference_of, number_of_key}
+use Rattle.desk_rules.specs.Balances.{issued, redeemed}
+use Rattle.desk_rules.specs.Reply.{IsFirstReply, plain_reply}
+use Rattle.desk_rules.specs.Verdict.{Books, Check, IsVerdict, IsVerdictAt, checks_of, first_failing, is_from_stranger, kind_of, most_outstanding}
+use Rattle.desk_rules.proofs.HistoryLemmas.{entry_at-known, slice_get-some}
+use Rattle.desk_register.specs.declared.found.Found.{Found}
+use Rattle.desk_register.specs.Applied.{Keeps}
+use Rattle.desk_register.specs.Content.{Content, history_of}
+use Rattle.desk_register.specs.Looked.{Finding, found_at, held_of, view_of}
+use Rattle.desk_register.specs.declared.register.Stage.{Stage}
+use Rattle.desk_register.specs.declared.register.Stage.TheVariants.{Idle, Failed}
+use Rattle.desk_register.specs.View.{View}
+use Rattle.desk_register.proofs.AcceptingLemmas.{entries_within}
+use Rattle.desk_register.proofs.HeldLemmas.{held_is, held_within}
+use Rattle.desk_register.proofs.TablesLemmas.{length_is}
+use Rattle.desk_book.specs.declared.fault.Fault.{Fault}
+use Rattle.desk_book.specs.declared.total.SecurityTotal.{SecurityTotal}
+use Rattle.desk_book.specs.Answered.{AreSums, IsDecided, IsSum, IsToldSums}
+use Rattle.desk_book.specs.Held.{Answers, Decides, IsPut}
+use Rattle.desk_book.specs.declared.order.Order.TheVariants.{Decide}
+use Rattle.desk_book.specs.Sums.{sums_text}
+use Rattle.desk_book.specs.Totals.{AreTotals, IsTotal}
+
+-- what is kept is kept in another view of the same content
+pub keeps_at : (v0 v1 : View) (books : Books) → v1.content ≡ v0.content → v1.room ≡ v0.room → Keeps v0.room books v0.content → Keeps v1.room books v1.content
+keeps_at v0 v1 books same room keeps =
+    let P : Content → Type 0 = λ c. Keeps v0.room books c in
+    let Q : ℕ → Type 0 = λ k. Keeps k books v1.content in
+    subst Q (sym room) (subst P (sym same) keeps)
+
+-- how many entries an answer shows
+pub count_shown : (v0 : View) (books : Books) (count limit shown : ℕ) → Keeps v0.room books v0.content → count ≡ length v0.content.register → limit ≡ v0.room → (count ≤ limit → shown ≡ count)
+    → shown ≡ length books.history
+count_shown v0 books count limit shown keeps is_count is_limit least =
+    let within = entries_within v0.room books.history keeps.tables.accepted in
+    let size = length_is v0.content books.history keeps.tables.history in
+    let is = least (omega arith) in
+    omega arith
+
+-- The first reply of an entry.
+
+pub found_reply : (limit : ℕ) (books : Books) (content : Content) (n : ℕ) (found : Found) → Keeps limit books content → Some (view_of found) ≡ found_at content n → IsFirstReply books.history n found.reply
+found_reply limit books content zero found keeps is = absurd (cc)
+found_reply limit books content (suc m) found keeps is = at (slice_get content.register m) refl
+  where
+    shown : Kept → Finding
+    shown kept = record { number = suc m; entry = kept.entry; reply = kept.reply; standing = content.standing (suc m) }
+
+    at : (o : Option Kept) → slice_get content.register m ≡ o → IsFirstReply books.history (suc m) found.reply
+    at None none = absurd (let there : found_at content (suc m) ≡ None = rw none refl in let clash : Some (view_of found) ≡ None = is ∙ there in cc)
+    at (Some kept) some =
+        let there : found_at content (suc m) ≡ Some (record { number = suc m; entry = kept.entry; reply = kept.reply; standing = content.standing (suc m) }) = rw some refl in
+        let both : Some (view_of found) ≡ Some (record { number = suc m; entry = kept.entry; reply = kept.reply; standing = content.standing (suc m) }) = is ∙ there in
+        let same : found.reply ≡ kept.reply = reply_of both in
+        let P : Reply → Type 0 = λ r. IsFirstReply books.history (suc m) r in
+        let first : IsFirstReply books.history (m + 1) kept.reply = keeps.replies m kept some in
+        let Q : ℕ → Type 0 = λ k. IsFirstReply books.history k kept.reply in
+        subst P (sym same) (subst Q (omega arith) first)
+      where
+        reply_of : {a b : Finding} → Some a ≡ Some b → a.reply ≡ b.reply
+        reply_of {a} {b} e = let x : a ≡ b = cc in ap (λ (f : Finding). f.reply) x
+
+pub found_known : (limit : ℕ) (books : Books) (content : Content) (n : ℕ) (e : Entry) → Keeps limit books content → entry_at books.history n ≡ Some e → None ≡ found_at content n → ⊥
+found_known limit books content zero e keeps at is = absurd (let known = entry_at-known books.history 0 e at in let lt : 0 < 0 = known.0 in omega arith)
+found_known limit books content (suc m) e keeps at is =
+    let known = entry_at-known books.history (suc m) e at in
+    let le : suc m ≤ length books.history = known.1 in
+    let size = length_is content books.history keeps.tables.history in
+    let some = slice_get-some content.register m (omega arith) in
+    let there : found_at content (suc m) ≡ Some (record { number = suc m; entry = some.0.entry; reply = some.0.reply; standing = content.standing (suc m) }) = rw some.1 refl in
+    let clash : None ≡ Some (record { number = suc m; entry = some.0.entry; reply = some.0.reply; standing = content.standing (suc m) }) = is ∙ there in
+    absurd (cc)
+
+-- A repeat is of the entry that it names.
+
+no_repeat : (checks : List Check) (full : Bool) (n : ℕ) → Repeat n ≡ first_failing checks full → ⊥
+no_repeat [] full n is = elim (cases_Bool full) [
+  | inl most ↦ let f : first_failing [] full ≡ Refuse Full = rw most refl in let g : Repeat n ≡ Refuse Full = is ∙ f in absurd (cc)
+  | inr less ↦ let f : first_failing [] full ≡ Accept = rw less refl in let g : Repeat n ≡ Accept = is ∙ f in absurd (cc)
+]
+no_repeat (c ∷ checks) full n is = elim (cases_Bool c.fails) [
+  | inl bad ↦ let f : first_failing (c ∷ checks) full ≡ Refuse c.refusal = rw bad refl in let g : Repeat n ≡ Refuse c.refusal = is ∙ f in absurd (cc)
+  | inr good ↦ let f : first_failing (c ∷ checks) full ≡ first_failing checks full = rw good refl in no_repeat checks full n (is ∙ f)
+]
+
+repeat_at : (limit : ℕ) (books : Books) (e : Entry) (key : Option ℕ) (n : ℕ) → IsVerdictAt limit books e key (Repeat n) → entry_at books.history n ≡ Some e
+repeat_at limit books e None n v = absurd (no_repeat (checks_of books e) (nat_le limit (length books.history)) n v)
+repeat_at limit books e (Some k) n v = (let P : ℕ → Type 0 = λ z. entry_at books.history z ≡ Some e in subst P (sym v.0) v.1)
+
+pub repeat_known : (limit : ℕ) (books : Books) (e : Entry) (n : ℕ) → IsVerdict limit books e (Repeat n) → entry_at books.history n ≡ Some e
+repeat_known limit books e n v = elim (cases_Bool (is_from_stranger books.history (sender_of e))) [
+  | inl stranger ↦ let w : Repeat n ≡ Refuse _ = (rw stranger at v) in absurd (cc)
+  | inr known ↦
+      let w : IsVerdictAt limit books e (number_of_key books.history (sender_of e) (reference_of e)) (Repeat n) = (rw known at v) in
+      repeat_at limit books e (number_of_key books.history (sender_of e) (reference_of e)) n w
+]
+
+-- What was decided.
+
+pub decides_put : (limit : ℕ) (books : Books) (e : Entry) (content : Content) (r : Result Reply Fault) → IsVerdict limit books e Accept → IfOk r (λ reply. IsPut limit books e reply content)
+    → IfOk r (λ reply. Decides limit books e reply content)
+decides_put limit books e content (Ok reply) verdict p = record {
+  after = p.after;
+  decided = record { verdict = Accept; is_verdict = verdict; grows = (p.longer, p.keeps.tables.are_books); replied = p.replied };
+  keeps = p.keeps;
+}
+decides_put limit books e content (Err fault) verdict p = p
+
+pub decides_repeat : (limit : ℕ) (books : Books) (e : Entry) (old new : Content) (n : ℕ) (r : Result Reply Fault) → IsVerdict limit books e (Repeat n) → IfOk r (λ reply. IsFirstReply books.history n reply)
+    → OnOk r (new ≡ old) → Keeps limit books old → IfOk r (λ reply. Decides limit books e reply new)
+decides_repeat limit books e old new n (Ok reply) verdict first same keeps = record {
+  after = books;
+  decided = record { verdict = Repeat n; is_verdict = verdict; grows = refl; replied = first };
+  keeps = (let P : Content → Type 0 = λ c. Keeps limit books c in subst P (sym same) keeps);
+}
+decides_repeat limit books e old new n (Err fault) verdict first same keeps = first
+
+-- The desk's totals.
+
+pub held_small : (limit : ℕ) (books : Books) (content : Content) (isin : List ℕ) → Keeps limit books content → held_of content isin < 2 ^ 64
+held_small limit books content isin keeps =
+    let within = held_within limit books content isin keeps.tables in
+    let small : 99_999_999_999_999 < 2 ^ 64 = lit< tt in
+    omega arith
+
+total_told : (limit : ℕ) (books : Books) (content : Content) (total : SecurityTotal) → Keeps limit books content → IsTotal content total → IsSum books total
+total_told limit books content total keeps is =
+    let history = keeps.tables.history in
+    let P : List Entry → Type 0 = λ h. is_some (kind_of h total.isin) ≡ true in
+    let Q : List Entry → Type 0 = λ h. redeemed h total.isin + total.outstanding ≡ issued h total.isin in
+    let all = held_is limit books content total.isin keeps.tables in
+    record {
+      known = subst P history is.known;
+      held = (let h = is.held in omega arith);
+      outstanding = subst Q history is.outstanding;
+    }
+
+pub sums_told : (limit : ℕ) (books : Books) (content : Content) (totals : List SecurityTotal) (reply : Reply) → Keeps limit books content → AreTotals content totals
+    → reply ≡ plain_reply 200 (sums_text [] totals) → IsToldSums books reply books
+sums_told limit books content totals reply keeps are is = record {
+  totals = totals;
+  are = record {
+    each = λ total c. total_told limit books content total keeps (are.each total c);
+    all = λ isin known. are.all isin (let P : List Entry → Type 0 = λ h. is_some (kind_of h isin) ≡ true in subst P (sym keeps.tables.history) known);
+    in_order = are.in_order;
+  };
+  replied = is;
+  stays = refl;
+}
+
+-- The same over the views of a register, after it was decided.
+
+pub not_failed : (stage : Stage) → stage ≡ Idle → stage ≡ Failed → ⊥
+not_failed stage idle failed = (let clash : Idle ≡ Failed = sym idle ∙ failed in absurd (cc))
+
+pub decides_put_at : (v0 v1 v2 : View) (books : Books) (e : Entry) (r : Result Reply Fault) → v1.content ≡ v0.content → v1.room ≡ v0.room → Keeps v0.room books v0.content → IsVerdict v0.room books e Accept
+    → (Keeps v1.room books v1.content → IfOk r (λ reply. IsPut v1.room books e reply v2.content)) → IfOk r (λ reply. Decides v0.room books e reply v2.content)
+decides_put_at v0 v1 v2 books e r same room keeps verdict puts =
+    let P : ℕ → Type 0 = λ k. IfOk r (λ reply. IsPut k books e reply v2.content) in
+    decides_put v0.room books e v2.content r verdict (subst P room (puts (keeps_at v0 v1 books same room keeps)))
+
+pub decides_repeat_at : (v0 v1 v2 : View) (books : Books) (e : Entry) (n : ℕ) (r : Result Reply Fault) → v1.content ≡ v0.content → v1.room ≡ v0.room → Keeps v0.room books v0.content
+    → IsVerdict v0.room books e (Repeat n) → (Keeps v1.room books v1.content → entry_at books.history n ≡ Some e → IfOk r (λ reply. IsFirstReply books.history n reply)) → OnOk r (v2.content ≡ v1.content)
+    → IfOk r (λ reply. Decides v0.room books e reply v2.content)
+decides_repeat_at v0 v1 v2 books e n r same room keeps verdict repeats stays =
+    let P : Content → Type 0 = λ c. OnOk r (v2.content ≡ c) in
+    decides_repeat v0.room books e v0.content v2.content n r verdict (repeats (keeps_at v0 v1 books same room keeps) (repeat_known v0.room books e n verdict)) (subst P same stays) keeps
+
+pub answers_decided : (limit : ℕ) (books : Books) (e : Entry) (content : Content) (r : Result Reply Fault) → IfOk r (λ reply. Decides limit books e reply content)
+    → IfOk r (λ reply. Answers limit books (Decide e) reply content)
+answers_decided limit books e content (Ok reply) d = record { after = d.after; answer = d.decided; keeps = d.keeps }
+answers_decided limit books e content (Err fault) d = d

@@ -1,0 +1,27 @@
+use Rattle.std.proofs.Common.{rules, ◌≡◌, ◌∷◌, [], ◌++◌, refl, ap, sym, ◌∙◌}
+use Rattle.desk_book.specs.Asked.{asked_by}
+use Rattle.desk_book.proofs.RunLemmas.{later_on, run_steps, run_all}
+use Rattle.desk_book.proofs.desk.Desk.ask_all.Goals as goal
+
+pub requests-preserved : goal.requests-preserved
+requests-preserved g c =
+    let i = c.requests.invariant in
+    let a = c.ask-answer.ensures in
+    let v0 = g.R.Register.view c.args.self.now.register in
+    let v1 = g.R.Register.view c.requests.self.register in
+    let v2 = g.R.Register.view c.ask-answer.new.self.register in
+    let items : c.push.new.self.items ≡ c.requests.answers.items ++ c.ask-answer.result ∷ [] = search rules in
+    record {
+      room = search rules;
+      count = search rules;
+      later = later_on v0 v1 v2 i.later a.later;
+      run = λ books honest holds.
+          run_steps v0 v1 v2 c.args.self.now.is_closed c.requests.self.is_closed c.ask-answer.new.self.is_closed books c.args.requests.now c.requests.request-index c.request-item.result
+          c.requests.answers.items c.push.new.self.items c.ask-answer.result c.requests-test.true c.request-item.is items i.later a.later a.closed a.stays (i.run books (a.later.honest honest) holds)
+          (λ b h. a.step b honest h);
+    }
+
+pub returns-clause-run : goal.returns-clause-run
+returns-clause-run g c = λ books honest holds.
+    run_all (g.R.Register.view c.args.self.now.register) (g.R.Register.view c.requests.self.register) c.args.self.now.is_closed c.requests.self.is_closed books c.args.requests.now c.requests.request-index c.requests.answers.items
+    c.requests-test.false (c.requests.invariant.run books honest holds)

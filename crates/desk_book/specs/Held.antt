@@ -1,0 +1,88 @@
+-- What a desk holds, and how a request to it ends.
+use Rattle.std.specs.Prelude.{◌≡◌, ◌≢◌, ◌<◌, ℕ, Bool, true, false, [], ◌∷◌, ◌++◌, Result, Ok, Err, OnErr}
+use Rattle.desk_rules.specs.declared.entry.Entry.{Entry}
+use Rattle.desk_rules.specs.declared.reply.Reply.{Reply}
+use Rattle.desk_rules.specs.Verdict.{Books}
+use Rattle.desk_rules.specs.Reply.{reply_to}
+use Rattle.desk_register.specs.declared.register.Fault.{Fault as RegisterFault}
+use Rattle.desk_register.specs.declared.register.Fault.TheVariants as registers
+use Rattle.desk_register.specs.declared.register.Stage.TheVariants.{Idle}
+use Rattle.desk_register.specs.Applied.{Keeps}
+use Rattle.desk_register.specs.Content.{Content}
+use Rattle.desk_register.specs.View.{View, IsLater}
+use Rattle.desk_book.specs.Answered.{says_closed, IsAnswer, IsDecided, Step}
+use Rattle.desk_book.specs.Asked.{Asked}
+use Rattle.desk_book.specs.declared.order.Order.{Order}
+use Rattle.desk_book.specs.declared.fault.Fault.{Fault}
+use Rattle.desk_book.specs.declared.fault.Fault.TheVariants.{Memory, Storage, Closed}
+
+-- An open desk's register has no `begin` open, shows what it holds, and keeps the tables of some books.
+pub record IsReady (is_closed : Bool) (view : View) : Type 0 where
+  pub stage : is_closed ≡ false → view.stage ≡ Idle
+  pub sure : is_closed ≡ false → view.is_honest → view.is_sure
+  pub books : is_closed ≡ false → view.is_honest → (books : Books) × Keeps view.room books view.content
+
+-- an open desk keeps these books; of a closed one nothing is said
+abbrev pub Holds : Bool → View → Books → Type 0
+Holds is_closed view books = is_closed ≡ false → Keeps view.room books view.content
+
+-- How a request to an open desk ends. Unless it closes the desk, no `begin` is open and the register shows what it
+-- holds; and after a fault that is what it held. A fault of the device is answered only where the device failed.
+pub record Ends (result : Result Reply Fault) (old new : View) : Type 0 where
+  pub stage : says_closed result ≡ false → new.stage ≡ Idle
+  pub sure : says_closed result ≡ false → new.is_honest → new.is_sure
+  pub same : says_closed result ≡ false → new.is_honest → OnErr result (new.content ≡ old.content)
+  pub later : IsLater old new
+  pub blame : result ≡ Err Storage → old.failures < new.failures
+
+-- an entry was decided on, and this is what is kept then
+pub record Decides (limit : ℕ) (books : Books) (entry : Entry) (reply : Reply) (content : Content) : Type 0 where
+  pub after : Books
+  pub decided : IsDecided limit books entry reply after
+  pub keeps : Keeps limit after content
+
+-- one step of a desk, and what it holds then
+pub record Steps (limit : ℕ) (books : Books) (asked : Asked) (result : Result Reply Fault) (is_closed : Bool) (view : View) : Type 0 where
+  pub next : Books
+  pub step : Step limit books asked result next
+  pub holds : Holds is_closed view next
+
+-- the desk's fault of a register's
+abbrev pub named : RegisterFault → Fault
+named registers.Memory = Memory
+named registers.Storage = Storage
+
+-- What is answered to a fault: the fault, once the register shows this content with no `begin` open; else the desk is
+-- closed.
+pub record Recovers (fault answer : Fault) (old : View) (content : Content) (new : View) : Type 0 where
+  pub is : answer ≢ Closed → answer ≡ fault
+  pub stage : answer ≢ Closed → new.stage ≡ Idle
+  pub sure : answer ≢ Closed → new.is_honest → new.is_sure
+  pub held : answer ≢ Closed → new.is_honest → old.is_sure
+  pub same : answer ≢ Closed → new.is_honest → new.content ≡ content
+  pub later : IsLater old new
+
+-- an entry was taken in, and this is its reply
+pub record IsPut (limit : ℕ) (books : Books) (entry : Entry) (reply : Reply) (content : Content) : Type 0 where
+  pub after : Books
+  pub longer : after.history ≡ books.history ++ entry ∷ []
+  pub keeps : Keeps limit after content
+  pub replied : reply ≡ reply_to after entry
+
+-- what is answered to an order, and what is kept then
+pub record Answers (limit : ℕ) (books : Books) (order : Order) (reply : Reply) (content : Content) : Type 0 where
+  pub after : Books
+  pub answer : IsAnswer limit books order reply after
+  pub keeps : Keeps limit after content
+
+-- what is answered to what a request is read as, where there was memory to read it
+abbrev pub AnswersOrder : {E : Type 0} → ℕ → Books → Result Order E → Result Reply Fault → Books → Type 0
+AnswersOrder limit books (Ok order) (Ok reply) after = IsAnswer limit books order reply after
+AnswersOrder limit books (Ok order) (Err fault) after = after ≡ books
+AnswersOrder limit books (Err want) (Ok reply) after = ⊥
+AnswersOrder limit books (Err want) (Err fault) after = after ≡ books
+
+pub record IsObeyed {E : Type 0} (limit : ℕ) (books : Books) (order : Result Order E) (result : Result Reply Fault) (is_closed : Bool) (view : View) : Type 0 where
+  pub next : Books
+  pub answer : AnswersOrder limit books order result next
+  pub holds : Holds is_closed view next

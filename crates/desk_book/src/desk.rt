@@ -1,0 +1,127 @@
+//! The desk: requests, answered from a register's tables.
+ghost use Rattle.std.specs.Prelude.{◌≡◌, true, false, map, IfErr, IfOk, OnErr};
+ghost use Rattle.desk_rules.specs.Verdict.{Books};
+ghost use Rattle.desk_register.specs.View.{IsLater};
+ghost use Rattle.desk_book.specs.Answered.{Run, says_closed};
+ghost use Rattle.desk_book.specs.Asked.{asked_by};
+ghost use Rattle.desk_book.specs.Held.{Holds, IsObeyed, IsReady, Steps};
+ghost use Rattle.desk_book.specs.Order.{IsOfToday};
+
+use crate::answering::answer;
+use crate::fault::Fault;
+use crate::order::{Order, order_of};
+use crate::request::Request;
+use desk_register::Register;
+use desk_rules::Reply;
+use std::alloc::{AllocError, Global};
+use std::marker::Model;
+
+/// A desk over a register. Where what a request began cannot be taken back, the desk is closed from then on.
+#[derive(Drop)]
+pub struct Desk<R: Register> {
+    register: R,
+    /// Whether it answers nothing any more
+    is_closed: bool,
+}
+
+impl<R: Register> Model for Desk<R> {
+    ghost use Rattle.desk_book.specs.DeskValue.{DeskValue, desk_code};
+    ghost use Rattle.desk_book.specs.Held.{IsReady};
+
+    ghost Value = { DeskValue R };
+
+    ghost coded = { desk_code R.code };
+
+    ghost view = { λ desk. record { register = desk.register; is_closed = desk.is_closed } };
+
+    ghost invariant = { λ desk. IsReady desk.is_closed (R.view desk.register) };
+}
+
+impl<R: Register> Desk<R> {
+    /// A desk over a register that keeps the tables of a history, with no `begin` open.
+    pub fn new(register: R) -> Desk<R>
+        requires { IsReady false (R.view register) }
+        ensures register { result.register ≡ register }
+        ensures open { result.is_closed ≡ false }
+    {
+        Desk {
+            register,
+            is_closed: false,
+        }
+    }
+
+    /// The register, as it stands now.
+    pub fn into_register(self) -> R
+        ensures { result ≡ self.register }
+    {
+        self.register
+    }
+
+    /// Answers a request. After `Memory` and `Storage` all is as before; after `Closed` the desk answers nothing
+    /// any more.
+    pub fn ask(&mut self, alloc: Global, request: &Request<'_>) -> Result<Reply, Fault>
+        ensures step { (books : Books) → (R.view self.new.register).is_honest → Holds self.old.is_closed (R.view self.old.register) books
+            → Steps (R.view self.old.register).room books (asked_by request.now) result self.new.is_closed (R.view self.new.register) }
+        ensures closed { self.new.is_closed ≡ says_closed result }
+        ensures stays { self.old.is_closed ≡ true → says_closed result ≡ true }
+        ensures later { IsLater (R.view self.old.register) (R.view self.new.register) }
+        ensures plain { R.plain ≡ true → self.old.is_closed ≡ false → says_closed result ≡ false }
+    {
+        self.obey(alloc, order_of(alloc, request))
+    }
+
+    /// Answers requests, one after another. Room for the answers is taken first: where there is none, nothing was
+    /// asked.
+    pub fn ask_all(
+        &mut self,
+        alloc: Global,
+        requests: &[Request<'_>],
+    ) -> Result<Vec<Result<Reply, Fault>>, Fault>
+        ensures run { IfOk result (λ answers. (books : Books) → (R.view self.new.register).is_honest → Holds self.old.is_closed (R.view self.old.register) books
+            → (last : Books) × Run (R.view self.old.register).room self.old.is_closed books (map asked_by requests.now) answers.items self.new.is_closed last
+            × Holds self.new.is_closed (R.view self.new.register) last) }
+        ensures err { OnErr result (self.new ≡ self.old) }
+        ensures memory { IfErr result (λ fault. fault ≡ Fault.Memory) }
+        ensures later { IsLater (R.view self.old.register) (R.view self.new.register) }
+    {
+        let Ok(mut answers) = Vec::with_capacity(alloc, requests.len()) else {
+            return Err(Fault::Memory);
+        };
+        'requests: for request in requests {
+            let answer = self.ask(alloc, request);
+            answers.push(answer).unwrap();
+        }
+        Ok(answers)
+    }
+
+    /// Answers what a request is read as, where there was memory to read it.
+    fn obey(&mut self, alloc: Global, order: Result<Order, AllocError>) -> Result<Reply, Fault>
+        requires today { IfOk order (λ order. IsOfToday order) }
+        ensures answered { (books : Books) → (R.view self.new.register).is_honest → Holds self.old.is_closed (R.view self.old.register) books
+            → IsObeyed (R.view self.old.register).room books order result self.new.is_closed (R.view self.new.register) }
+        ensures closed { self.new.is_closed ≡ says_closed result }
+        ensures stays { self.old.is_closed ≡ true → says_closed result ≡ true }
+        ensures later { IsLater (R.view self.old.register) (R.view self.new.register) }
+        ensures plain { R.plain ≡ true → self.old.is_closed ≡ false → says_closed result ≡ false }
+    {
+        if self.is_closed {
+            return Err(Fault::Closed);
+        }
+        let Ok(order) = order else {
+            return Err(Fault::Memory);
+        };
+        let answer = answer(alloc, &mut self.register, order);
+        self.is_closed = is_closed_by(&answer);
+        answer
+    }
+}
+
+/// Whether an answer says that the desk is closed.
+fn is_closed_by(answer: &Result<Reply, Fault>) -> bool
+    ensures { result ≡ says_closed answer.now }
+{
+    match answer {
+        Err(Fault::Closed) => true,
+        Ok(_) | Err(Fault::Memory | Fault::Storage) => false,
+    }
+}
