@@ -1,5 +1,5 @@
 -- What the desk answers to a command.
-use Rattle.std.specs.Prelude.{◌≡◌, ℕ, ◌==◌, Bool, not, ◌&&◌, if◌then◌else◌, List, ◌++◌, take, length, codes, decimal, count_by, Some, None}
+use Rattle.std.specs.Prelude.{◌≡◌, ℕ, ◌==◌, Bool, not, ◌&&◌, if◌then◌else◌, List, [], ◌∷◌, ◌++◌, take, length, codes, decimal, count_by, Some, None}
 use Rattle.std.specs.List.{list_any}
 use Rattle.desk_msg.specs.declared.status.Own.TheVariants.{Answer}
 use Rattle.desk_msg.specs.declared.status.Reason.TheVariants.{Future}
@@ -77,10 +77,20 @@ refused_reply books (Run reference day) number = plain_reply 422 (codes "refused
 
 -- The first reply of the entry n: a function of the history up to it, and of nothing later.
 pub record IsFirstReply (history : List Entry) (n : ℕ) (reply : Reply) : Type 0 where
-  pub is : (books : Books) (entry : Entry) → books.history ≡ take n history → AreBooks books → entry_at history n ≡ Some entry → reply ≡ reply_to books entry
+  pub books : Books
+  pub entry : Entry
+  pub front : books.history ≡ take n history
+  pub are : AreBooks books
+  pub accepted : entry_at history n ≡ Some entry
+  pub is : reply ≡ reply_to books entry
+
+-- The books of the history with an entry more.
+pub record AreNext (books : Books) (entry : Entry) (after : Books) : Type 0 where
+  pub history : after.history ≡ books.history ++ entry ∷ []
+  pub are : AreBooks after
 
 -- The reply to an entry by its verdict: that of the history with it, the first reply again, or the refusal.
 abbrev pub IsReply : Books → Entry → Verdict → Books → Reply → Type 0
-IsReply books entry Accept after reply = reply ≡ reply_to after entry
+IsReply books entry Accept after reply = AreNext books entry after × (reply ≡ reply_to after entry)
 IsReply books entry (Repeat n) after reply = IsFirstReply books.history n reply
 IsReply books entry (Refuse refusal) after reply = reply ≡ refused_reply books entry (number_of_refusal refusal)
