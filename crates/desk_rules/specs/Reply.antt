@@ -77,12 +77,7 @@ refused_reply books (Run reference day) number = plain_reply 422 (codes "refused
 
 -- The first reply of the entry n: a function of the history up to it, and of nothing later.
 pub record IsFirstReply (history : List Entry) (n : ℕ) (reply : Reply) : Type 0 where
-  pub books : Books
-  pub entry : Entry
-  pub front : books.history ≡ take n history
-  pub are : AreBooks books
-  pub accepted : entry_at history n ≡ Some entry
-  pub is : reply ≡ reply_to books entry
+  pub is : (books : Books) (entry : Entry) → books.history ≡ take n history → AreBooks books → entry_at history n ≡ Some entry → reply ≡ reply_to books entry
 
 -- The books of the history with an entry more.
 pub record AreNext (books : Books) (entry : Entry) (after : Books) : Type 0 where
@@ -92,5 +87,5 @@ pub record AreNext (books : Books) (entry : Entry) (after : Books) : Type 0 wher
 -- The reply to an entry by its verdict: that of the history with it, the first reply again, or the refusal.
 abbrev pub IsReply : Books → Entry → Verdict → Books → Reply → Type 0
 IsReply books entry Accept after reply = AreNext books entry after × (reply ≡ reply_to after entry)
-IsReply books entry (Repeat n) after reply = IsFirstReply books.history n reply
+IsReply books entry (Repeat n) after reply = (entry_at books.history n ≡ Some entry) × IsFirstReply books.history n reply
 IsReply books entry (Refuse refusal) after reply = reply ≡ refused_reply books entry (number_of_refusal refusal)
