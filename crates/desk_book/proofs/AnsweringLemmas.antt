@@ -111,7 +111,12 @@ pub decides_put : (limit : ℕ) (books : Books) (e : Entry) (content : Content) 
     → IfOk r (λ reply. Decides limit books e reply content)
 decides_put limit books e content (Ok reply) verdict p = record {
   after = p.after;
-  decided = record { verdict = Accept; is_verdict = verdict; grows = (p.longer, p.keeps.tables.are_books); replied = p.replied };
+  decided = record {
+    verdict = Accept;
+    is_verdict = verdict;
+    grows = record { history = p.longer; are = p.keeps.tables.are_books };
+    replied = (record { history = p.longer; are = p.keeps.tables.are_books }, p.replied);
+  };
   keeps = p.keeps;
 }
 decides_put limit books e content (Err fault) verdict p = p
@@ -120,7 +125,7 @@ pub decides_repeat : (limit : ℕ) (books : Books) (e : Entry) (old new : Conten
     → OnOk r (new ≡ old) → Keeps limit books old → IfOk r (λ reply. Decides limit books e reply new)
 decides_repeat limit books e old new n (Ok reply) verdict first same keeps = record {
   after = books;
-  decided = record { verdict = Repeat n; is_verdict = verdict; grows = refl; replied = first };
+  decided = record { verdict = Repeat n; is_verdict = verdict; grows = refl; replied = (repeat_known limit books e n verdict, first) };
   keeps = (let P : Content → Type 0 = λ c. Keeps limit books c in subst P (sym same) keeps);
 }
 decides_repeat limit books e old new n (Err fault) verdict first same keeps = first

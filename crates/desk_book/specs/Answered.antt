@@ -6,8 +6,8 @@ use Rattle.desk_rules.specs.declared.verdict.Verdict.{Verdict}
 use Rattle.desk_rules.specs.declared.verdict.Verdict.TheVariants.{Accept, Repeat, Refuse}
 use Rattle.desk_rules.specs.Balances.{issued, redeemed, credits, debits}
 use Rattle.desk_rules.specs.Laws.{accounts_of}
-use Rattle.desk_rules.specs.Reply.{plain_reply, IsReply}
-use Rattle.desk_rules.specs.Verdict.{Books, AreBooks, IsVerdict, kind_of}
+use Rattle.desk_rules.specs.Reply.{plain_reply, AreNext, IsReply}
+use Rattle.desk_rules.specs.Verdict.{Books, IsVerdict, kind_of}
 use Rattle.desk_register.specs.Looked.{IsLess}
 use Rattle.desk_book.specs.Asked.{Asked}
 use Rattle.desk_book.specs.Order.{IsOrder}
@@ -20,7 +20,7 @@ use Rattle.desk_book.specs.declared.total.SecurityTotal.{SecurityTotal}
 
 -- what a verdict makes of the books: they grow by what is accepted, and by nothing else
 abbrev pub Grows : Verdict → Books → Entry → Books → Type 0
-Grows Accept books entry after = (after.history ≡ books.history ++ entry ∷ []) × AreBooks after
+Grows Accept books entry after = AreNext books entry after
 Grows (Repeat n) books entry after = after ≡ books
 Grows (Refuse refusal) books entry after = after ≡ books
 

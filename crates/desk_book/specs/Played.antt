@@ -1,5 +1,6 @@
 -- A script, played.
-use Rattle.std.specs.Prelude.{◌≡◌, ℕ, Bool, true, List, [], ◌∷◌, ◌++◌, Result, Ok, Err}
+use Rattle.std.specs.Prelude.{◌≡◌, ℕ, Bool, true, List, [], ◌∷◌, ◌++◌, Option, Result, Ok, Err}
+use Rattle.std.specs.Io.KnownBytes.{Appends}
 use Rattle.desk_rules.specs.declared.reply.Reply.{Reply}
 use Rattle.desk_rules.specs.Verdict.{Books}
 use Rattle.desk_register.specs.View.{View}
@@ -30,3 +31,25 @@ pub record HasPlayed (limit : ℕ) (was : Bool) (books : Books) (items : List It
   pub last : Books
   pub plays : Plays limit was books items text is last
   pub holds : Holds is view last
+
+-- one item was played, and its text written
+pub record PlaysItem (limit : ℕ) (was : Bool) (books : Books) (item : Item) (before after : Option (List ℕ)) (is : Bool) (view : View) : Type 0 where
+  pub text : List ℕ
+  pub played : HasPlayed limit was books (item ∷ []) text is view
+  pub written : Appends before after text
+
+-- a whole script was played, and its text written
+pub record PlaysScript (limit : ℕ) (was : Bool) (books : Books) (script : List ℕ) (before after : Option (List ℕ)) (is : Bool) (view : View) : Type 0 where
+  pub items : List Item
+  pub spells : Script script items
+  pub text : List ℕ
+  pub played : HasPlayed limit was books items text is view
+  pub written : Appends before after text
+
+-- the first items of a script were played
+pub record PlaysFront (limit : ℕ) (was : Bool) (books : Books) (script : List ℕ) (is : Bool) (view : View) : Type 0 where
+  pub front : List Item
+  pub rest : List Item
+  pub spells : Script script (front ++ rest)
+  pub text : List ℕ
+  pub played : HasPlayed limit was books front text is view

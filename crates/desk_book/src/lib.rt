@@ -15,6 +15,7 @@ mod line;
 mod member;
 mod operation;
 mod order;
+mod playing;
 mod reading;
 mod request;
 mod script;

@@ -11,3 +11,5 @@ pub mod Reply
 pub mod Sent
 pub mod Moves
 pub mod Content
+pub mod Questions
+pub mod WorkedDay

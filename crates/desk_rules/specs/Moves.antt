@@ -1,6 +1,6 @@
 -- What the confirmations among sent messages say of accounts and cash. This knows the messages' texts, types and
 -- addressees, and nothing of how they came about.
-use Rattle.std.specs.Prelude.{◌≡◌, ℕ, ◌==◌, Bool, false, not, MatchBool, List, [], ◌∷◌, bytes_eq, sum_by, Option, Some, None, Ok}
+use Rattle.std.specs.Prelude.{◌≡◌, ℕ, nat_le, Bool, false, not, ◌&&◌, MatchBool, List, [], ◌∷◌, bytes_eq, sum_by, Option, Some, None, Ok}
 use Rattle.desk_codes.specs.declared.currency.Ccy.{Ccy}
 use Rattle.desk_text.specs.Fields.{Found, IsBlock}
 use Rattle.desk_msg.specs.declared.mt.Mt.{Mt}
@@ -9,9 +9,9 @@ use Rattle.desk_msg.specs.Confirms.{Confirmed, Confirms}
 use Rattle.desk_rules.specs.declared.reply.Sent.{Sent}
 use Rattle.desk_rules.specs.Balances.{same_ccy, quantity_if}
 
--- a message is no status advice
+-- a message is of one of the types 544 to 547
 abbrev pub is_confirmation : Sent → Bool
-is_confirmation message = not (message.mt == 548)
+is_confirmation message = nat_le 544 message.mt && nat_le message.mt 547
 
 -- what a confirmation says, and to whom
 pub record Move : Type 0 where

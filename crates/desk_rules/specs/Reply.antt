@@ -1,5 +1,5 @@
 -- What the desk answers to a command.
-use Rattle.std.specs.Prelude.{◌≡◌, ℕ, ◌==◌, Bool, not, ◌&&◌, if◌then◌else◌, List, ◌++◌, take, length, codes, decimal, count_by, Some, None}
+use Rattle.std.specs.Prelude.{◌≡◌, ℕ, ◌==◌, Bool, not, ◌&&◌, if◌then◌else◌, List, [], ◌∷◌, ◌++◌, take, length, codes, decimal, count_by, Some, None}
 use Rattle.std.specs.List.{list_any}
 use Rattle.desk_msg.specs.declared.status.Own.TheVariants.{Answer}
 use Rattle.desk_msg.specs.declared.status.Reason.TheVariants.{Future}
@@ -79,8 +79,13 @@ refused_reply books (Run reference day) number = plain_reply 422 (codes "refused
 pub record IsFirstReply (history : List Entry) (n : ℕ) (reply : Reply) : Type 0 where
   pub is : (books : Books) (entry : Entry) → books.history ≡ take n history → AreBooks books → entry_at history n ≡ Some entry → reply ≡ reply_to books entry
 
+-- The books of the history with an entry more.
+pub record AreNext (books : Books) (entry : Entry) (after : Books) : Type 0 where
+  pub history : after.history ≡ books.history ++ entry ∷ []
+  pub are : AreBooks after
+
 -- The reply to an entry by its verdict: that of the history with it, the first reply again, or the refusal.
 abbrev pub IsReply : Books → Entry → Verdict → Books → Reply → Type 0
-IsReply books entry Accept after reply = reply ≡ reply_to after entry
-IsReply books entry (Repeat n) after reply = IsFirstReply books.history n reply
+IsReply books entry Accept after reply = AreNext books entry after × (reply ≡ reply_to after entry)
+IsReply books entry (Repeat n) after reply = (entry_at books.history n ≡ Some entry) × IsFirstReply books.history n reply
 IsReply books entry (Refuse refusal) after reply = reply ≡ refused_reply books entry (number_of_refusal refusal)

@@ -6,9 +6,11 @@ mod cover;
 mod history;
 mod pairing;
 mod settlement;
+mod totals;
 
-pub use balances::{cash_credits, cash_debits, credits, debits};
-pub use cover::lack_of;
-pub use history::instruction_at;
+pub use balances::{cash_credits, cash_debits, credits, debits, delivery_of, receipt_of};
+pub use cover::{is_covered, lack_of};
+pub use history::{before, entry_at, instruction_at, is_cancelled};
 pub use pairing::pairing_of;
-pub use settlement::settlement_of;
+pub use settlement::{is_due, settlement_of};
+pub use totals::{issued, paid_in, paid_out, redeemed};

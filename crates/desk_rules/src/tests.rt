@@ -2,13 +2,16 @@
 ghost use Rattle.std.specs.Prelude.{◌<◌, ◌≤◌};
 
 use crate::plain::{
-    cash_credits, cash_debits, credits, debits, lack_of, pairing_of, settlement_of,
+    before, cash_credits, cash_debits, credits, debits, is_cancelled, issued, lack_of, paid_in,
+    paid_out, pairing_of, redeemed, settlement_of,
 };
 use crate::{Entry, Holding, Lack, Pair, Payment, Settled};
 use desk_codes::{AccountId, Bic, Ccy, Day, Isin, Reference};
 use desk_msg::{Kind, Message, Mt, read_instruction_text};
 use std::alloc::{AllocError, Global};
 use std::test::Fail;
+
+mod worked_day;
 
 const ISIN: &str = "DE0007164600";
 
@@ -51,28 +54,28 @@ fn security(key: &str) -> Result<Entry, Fail> {
     })
 }
 
-fn issue(key: &str, name: &str, quantity: u64) -> Result<Entry, Fail>
+fn holding(key: &str, name: &str, quantity: u64) -> Result<Holding, Fail>
     requires some { 0 < quantity }
     requires within { quantity ≤ 99_999_999_999_999 }
 {
-    Ok(Entry::Issue(Holding {
+    Ok(Holding {
         reference: reference(key)?,
         account: account(name)?,
         isin: isin()?,
         quantity,
-    }))
+    })
 }
 
-fn pay_in(key: &str, party: &str, amount: u64) -> Result<Entry, Fail>
+fn payment(key: &str, party: &str, amount: u64) -> Result<Payment, Fail>
     requires some { 0 < amount }
     requires within { amount ≤ 999_999_999_999_999_999 }
 {
-    Ok(Entry::PayIn(Payment {
+    Ok(Payment {
         reference: reference(key)?,
         bic: bic(party)?,
         ccy: Ccy::Eur,
         amount,
-    }))
+    })
 }
 
 fn run(key: &str, day: &[u8; 8]) -> Result<Entry, Fail> {
@@ -161,16 +164,25 @@ fn receipt(key: &'static str) -> Deal<'static> {
     }
 }
 
-/// Two participants with an account each, a security, 1000 of it on A-1, and cash of BETADEFF: seven entries.
+/// Two participants with an account each, a security, 1000 of it on A-1, and EUR 1000.50 of BETADEFF: seven
+/// entries.
 fn base(alloc: Global) -> Result<Vec<Entry>, Fail> {
+    base_with(alloc, 100_050)
+}
+
+/// The same, with this cash of BETADEFF in cents.
+fn base_with(alloc: Global, cash: u64) -> Result<Vec<Entry>, Fail>
+    requires some { 0 < cash }
+    requires within { cash ≤ 999_999_999_999_999_999 }
+{
     let mut entries = Vec::new(alloc);
     entries.push(participant("P1", "ALPHDEFF")?)?;
     entries.push(participant("P2", "BETADEFF")?)?;
     entries.push(new_account("C1", "ALPHDEFF", "A-1")?)?;
     entries.push(new_account("C2", "BETADEFF", "B-1")?)?;
     entries.push(security("S1")?)?;
-    entries.push(issue("I1", "A-1", 1000)?)?;
-    entries.push(pay_in("M1", "BETADEFF", 100_050)?)?;
+    entries.push(Entry::Issue(holding("I1", "A-1", 1000)?))?;
+    entries.push(Entry::PayIn(payment("M1", "BETADEFF", cash)?))?;
     Ok(entries)
 }
 
@@ -245,6 +257,10 @@ fn settles_a_free_pair(rt: HostRuntime) -> Result<(), Fail> {
     assert_eq!(rt; pairs.as_slice(), [pair(8, 9)].as_slice());
     assert_eq!(rt; settled.as_slice(), [of_run(10, 8, 9)].as_slice());
     assert_eq!(rt;
+        credits(&entries, &settled, &account("B-1")?, &isin()?),
+        400
+    );
+    assert_eq!(rt;
         cash_debits(&entries, &settled, &bic("BETADEFF")?, Ccy::Eur),
         0
     );
@@ -276,13 +292,15 @@ fn pairs_the_least_that_stands(rt: HostRuntime) -> Result<(), Fail> {
     entries.push(instruct(alloc, receipt("B1"))?)?;
     let pairs = pairing_of(alloc, &entries)?;
     assert_eq!(rt; pairs.as_slice(), [pair(10, 13)].as_slice());
+    assert!(rt; is_cancelled(&entries, 9));
+    assert!(rt; !is_cancelled(&entries, 8));
+    // It was not, before the cancellation came.
+    assert!(rt; !is_cancelled(before(12, &entries), 9));
     Ok(())
 }
 
-/// What a run brings to an account counts for the pairs after it, and not for those before it.
-#[test]
-fn settles_a_chain_in_one_pass(rt: HostRuntime) -> Result<(), Fail> {
-    let alloc = rt.alloc();
+/// Three participants with an account each, a security, and 100 of it on A-1: eight entries.
+fn base_of_three(alloc: Global) -> Result<Vec<Entry>, Fail> {
     let mut entries = Vec::new(alloc);
     entries.push(participant("P1", "ALPHDEFF")?)?;
     entries.push(participant("P2", "BETADEFF")?)?;
@@ -291,7 +309,12 @@ fn settles_a_chain_in_one_pass(rt: HostRuntime) -> Result<(), Fail> {
     entries.push(new_account("C2", "BETADEFF", "B-1")?)?;
     entries.push(new_account("C3", "GAMMDEFF", "C-1")?)?;
     entries.push(security("S1")?)?;
-    entries.push(issue("I1", "A-1", 100)?)?;
+    entries.push(Entry::Issue(holding("I1", "A-1", 100)?))?;
+    Ok(entries)
+}
+
+/// 100 delivered free by ALPHDEFF to BETADEFF, and the receipt of it.
+fn first_link() -> (Deal<'static>, Deal<'static>) {
     let free = Deal {
         mt: Mt::Mt542,
         quantity: "100",
@@ -304,36 +327,119 @@ fn settles_a_chain_in_one_pass(rt: HostRuntime) -> Result<(), Fail> {
         amount: "",
         ..receipt("B2")
     };
-    entries.push(instruct(
-        alloc,
-        Deal {
-            sender: "BETADEFF",
-            key: "B1",
-            account: "B-1",
-            other: "GAMMDEFF",
-            ..free
-        },
-    )?)?;
-    entries.push(instruct(
-        alloc,
-        Deal {
-            sender: "GAMMDEFF",
-            key: "G1",
-            account: "C-1",
-            other: "BETADEFF",
-            ..taken
-        },
-    )?)?;
+    (free, taken)
+}
+
+/// The same 100 delivered on by BETADEFF to GAMMDEFF, and the receipt of it.
+fn second_link() -> (Deal<'static>, Deal<'static>) {
+    let (free, taken) = first_link();
+    let on = Deal {
+        sender: "BETADEFF",
+        key: "B1",
+        account: "B-1",
+        other: "GAMMDEFF",
+        ..free
+    };
+    let last = Deal {
+        sender: "GAMMDEFF",
+        key: "G1",
+        account: "C-1",
+        other: "BETADEFF",
+        ..taken
+    };
+    (on, last)
+}
+
+/// What a run brings to an account counts for the pairs after it, and not for those before it: of a chain whose
+/// last link has the lower number, a run settles the first link, and the next run the last.
+#[test]
+fn settles_a_chain_in_one_pass(rt: HostRuntime) -> Result<(), Fail> {
+    let alloc = rt.alloc();
+    let mut entries = base_of_three(alloc)?;
+    let (free, taken) = first_link();
+    let (on, last) = second_link();
+    entries.push(instruct(alloc, on)?)?;
+    entries.push(instruct(alloc, last)?)?;
     entries.push(instruct(alloc, free)?)?;
     entries.push(instruct(alloc, taken)?)?;
     entries.push(run("R1", b"20240229")?)?;
     entries.push(run("R2", b"20240229")?)?;
-    let (pairs, settled) = settled(alloc, &entries)?;
+    let (pairs, moved) = settled(alloc, &entries)?;
     assert_eq!(rt; pairs.as_slice(), [pair(9, 10), pair(11, 12)].as_slice());
     assert_eq!(rt;
-        settled.as_slice(),
+        moved.as_slice(),
         [of_run(13, 11, 12), of_run(14, 9, 10)].as_slice()
     );
+    // What the first run found when it tried the last link: nothing was settled yet.
+    assert_eq!(rt;
+        lack_of(before(13, &entries), &[], pair(9, 10)),
+        Some(Lack::Securities)
+    );
+    Ok(())
+}
+
+/// The chain in the order of its links settles in one run.
+#[test]
+fn settles_a_chain_in_its_order(rt: HostRuntime) -> Result<(), Fail> {
+    let alloc = rt.alloc();
+    let mut entries = base_of_three(alloc)?;
+    let (free, taken) = first_link();
+    let (on, last) = second_link();
+    entries.push(instruct(alloc, free)?)?;
+    entries.push(instruct(alloc, taken)?)?;
+    entries.push(instruct(alloc, on)?)?;
+    entries.push(instruct(alloc, last)?)?;
+    entries.push(run("R1", b"20240229")?)?;
+    let (_, moved) = settled(alloc, &entries)?;
+    assert_eq!(rt;
+        moved.as_slice(),
+        [of_run(13, 9, 10), of_run(13, 11, 12)].as_slice()
+    );
+    assert_eq!(rt; credits(&entries, &moved, &account("C-1")?, &isin()?), 100);
+    Ok(())
+}
+
+/// A pair short of a cent waits, nothing of it moves, and a run after the cent was paid in settles it.
+#[test]
+fn waits_for_the_cash(rt: HostRuntime) -> Result<(), Fail> {
+    let alloc = rt.alloc();
+    let mut entries = base_with(alloc, 100_049)?;
+    entries.push(instruct(alloc, delivery("A1"))?)?;
+    entries.push(instruct(alloc, receipt("B1"))?)?;
+    entries.push(run("R1", b"20240229")?)?;
+    let (_, moved) = settled(alloc, &entries)?;
+    assert_eq!(rt; moved.len(), 0);
+    assert_eq!(rt; lack_of(&entries, &moved, pair(8, 9)), Some(Lack::Money));
+    assert_eq!(rt; debits(&entries, &moved, &account("A-1")?, &isin()?), 0);
+    entries.push(Entry::PayIn(payment("M2", "BETADEFF", 1)?))?;
+    entries.push(run("R2", b"20240229")?)?;
+    let (_, moved) = settled(alloc, &entries)?;
+    assert_eq!(rt; moved.as_slice(), [of_run(12, 8, 9)].as_slice());
+    Ok(())
+}
+
+/// What is issued and redeemed, paid in and out, counts for its account or participant and for the whole.
+#[test]
+fn counts_what_comes_and_goes(rt: HostRuntime) -> Result<(), Fail> {
+    let alloc = rt.alloc();
+    let mut entries = base(alloc)?;
+    entries.push(Entry::Issue(holding("I2", "B-1", 7)?))?;
+    entries.push(Entry::Redeem(holding("D1", "A-1", 300)?))?;
+    entries.push(Entry::PayIn(payment("M2", "ALPHDEFF", 5)?))?;
+    entries.push(Entry::PayOut(payment("O1", "BETADEFF", 50)?))?;
+    let isin = isin()?;
+    assert_eq!(rt; issued(&entries, &isin), 1007);
+    assert_eq!(rt; redeemed(&entries, &isin), 300);
+    assert_eq!(rt; issued(&entries, &Isin::parse(b"US0378331005")?), 0);
+    assert_eq!(rt; paid_in(&entries, Ccy::Eur), 100_055);
+    assert_eq!(rt; paid_out(&entries, Ccy::Eur), 50);
+    assert_eq!(rt; paid_in(&entries, Ccy::Usd), 0);
+    assert_eq!(rt; credits(&entries, &[], &account("A-1")?, &isin), 1000);
+    assert_eq!(rt; debits(&entries, &[], &account("A-1")?, &isin), 300);
+    assert_eq!(rt; debits(&entries, &[], &account("B-1")?, &isin), 0);
+    let beta = bic("BETADEFF")?;
+    assert_eq!(rt; cash_credits(&entries, &[], &beta, Ccy::Eur), 100_050);
+    assert_eq!(rt; cash_debits(&entries, &[], &beta, Ccy::Eur), 50);
     Ok(())
 }
 
@@ -452,7 +558,7 @@ fn transfers_between_own_accounts(rt: HostRuntime) -> Result<(), Fail> {
     };
     let mut entries = base(alloc)?;
     entries.push(new_account("C3", "ALPHDEFF", "A-2")?)?;
-    entries.push(pay_in("M2", "ALPHDEFF", 500)?)?;
+    entries.push(Entry::PayIn(payment("M2", "ALPHDEFF", 500)?))?;
     entries.push(instruct(alloc, given)?)?;
     entries.push(instruct(alloc, taken)?)?;
     entries.push(run("R1", b"20240229")?)?;
@@ -471,7 +577,7 @@ fn transfers_between_own_accounts(rt: HostRuntime) -> Result<(), Fail> {
 
     let mut entries = base(alloc)?;
     entries.push(new_account("C3", "ALPHDEFF", "A-2")?)?;
-    entries.push(pay_in("M2", "ALPHDEFF", 499)?)?;
+    entries.push(Entry::PayIn(payment("M2", "ALPHDEFF", 499)?))?;
     entries.push(instruct(alloc, given)?)?;
     entries.push(instruct(alloc, taken)?)?;
     entries.push(run("R1", b"20240229")?)?;

@@ -18,26 +18,38 @@ fn is_delivered_by_earlier(entries: &[Entry], pair: Pair) -> bool
     }
 }
 
+fn deliverer_of(entries: &[Entry], pair: Pair) -> u64
+    ensures { result ≡ deliverer_of entries.now pair }
+{
+    if is_delivered_by_earlier(entries, pair) {
+        pair.earlier
+    } else {
+        pair.later
+    }
+}
+
+fn receiver_of(entries: &[Entry], pair: Pair) -> u64
+    ensures { result ≡ receiver_of entries.now pair }
+{
+    if is_delivered_by_earlier(entries, pair) {
+        pair.later
+    } else {
+        pair.earlier
+    }
+}
+
 /// The instruction of a pair that delivers.
 pub fn delivery_of(entries: &[Entry], pair: Pair) -> Option<Instructed>
     ensures { result ≡ delivery_of entries.now pair }
 {
-    if is_delivered_by_earlier(entries, pair) {
-        instruction_at(entries, pair.earlier)
-    } else {
-        instruction_at(entries, pair.later)
-    }
+    instruction_at(entries, deliverer_of(entries, pair))
 }
 
 /// The instruction of a pair that receives.
 pub fn receipt_of(entries: &[Entry], pair: Pair) -> Option<Instructed>
     ensures { result ≡ receipt_of entries.now pair }
 {
-    if is_delivered_by_earlier(entries, pair) {
-        instruction_at(entries, pair.later)
-    } else {
-        instruction_at(entries, pair.earlier)
-    }
+    instruction_at(entries, receiver_of(entries, pair))
 }
 
 fn holding_on(account: &AccountId, isin: &Isin, holding: &Holding) -> u64

@@ -1,0 +1,88 @@
+//! A script, from a reader to a writer.
+ghost use Rattle.std.specs.Prelude.{◌≡◌, ℕ, List, [], ◌∷◌, IfSome, OnOk, Err};
+ghost use Rattle.std.specs.Io.KnownBytes.{Appends};
+ghost use Rattle.desk_rules.specs.Verdict.{Books};
+ghost use Rattle.desk_register.specs.View.{IsLater};
+ghost use Rattle.desk_book.specs.Held.{Holds};
+ghost use Rattle.desk_book.specs.Played.{HasPlayed, PlaysFront, PlaysItem, PlaysScript};
+ghost use Rattle.desk_book.specs.Script.{item_of};
+
+use crate::desk::Desk;
+use crate::fault::PlayFault;
+use crate::reading::read_script;
+use crate::script::{Item, first_item};
+use crate::writing::{write_answer, write_bad_line, write_fault};
+use desk_register::Register;
+use std::alloc::Global;
+use std::io;
+use std::io::{Read, Write};
+
+impl<R: Register> Desk<R> {
+    /// Reads a whole script, and then asks its requests one after another and writes each answer. After
+    /// `ReadFailed`, `TooLong` and `Memory` nothing was asked or written; after `WriteFailed` the requests up to the
+    /// one whose answer could not be written stand.
+    pub fn play<I: Read, O: Write>(
+        &mut self,
+        alloc: Global,
+        reader: &mut I,
+        writer: &mut O,
+    ) -> Result<(), PlayFault>
+        ensures played { OnOk result (IfSome (I.remaining reader.old) (λ input. (books : Books) → (R.view self.new.register).is_honest → Holds self.old.is_closed (R.view self.old.register) books
+            → PlaysScript (R.view self.old.register).room self.old.is_closed books input (O.contents writer.old) (O.contents writer.new) self.new.is_closed (R.view self.new.register))) }
+        ensures unasked { result ≡ Err PlayFault.ReadFailed → self.new ≡ self.old }
+        ensures too_long { result ≡ Err PlayFault.TooLong → self.new ≡ self.old }
+        ensures memory { result ≡ Err PlayFault.Memory → self.new ≡ self.old }
+        ensures stands { result ≡ Err PlayFault.WriteFailed → IfSome (I.remaining reader.old) (λ input. (books : Books) → (R.view self.new.register).is_honest → Holds self.old.is_closed (R.view self.old.register) books
+            → PlaysFront (R.view self.old.register).room self.old.is_closed books input self.new.is_closed (R.view self.new.register)) }
+        ensures later { IsLater (R.view self.old.register) (R.view self.new.register) }
+    {
+        let script = read_script(alloc, reader)?;
+        match self.answer_script(alloc, &script, writer) {
+            Ok(()) => Ok(()),
+            Err(_) => Err(PlayFault::WriteFailed),
+        }
+    }
+
+    /// Asks a script's requests one after another, and writes each answer.
+    fn answer_script<O: Write>(
+        &mut self,
+        alloc: Global,
+        script: &[u8],
+        writer: &mut O,
+    ) -> io::Result<()>
+        ensures played { (books : Books) → (R.view self.new.register).is_honest → Holds self.old.is_closed (R.view self.old.register) books
+            → OnOk result (PlaysScript (R.view self.old.register).room self.old.is_closed books script.now (O.contents writer.old) (O.contents writer.new) self.new.is_closed (R.view self.new.register)) }
+        ensures front { (books : Books) → (R.view self.new.register).is_honest → Holds self.old.is_closed (R.view self.old.register) books
+            → PlaysFront (R.view self.old.register).room self.old.is_closed books script.now self.new.is_closed (R.view self.new.register) }
+        ensures later { IsLater (R.view self.old.register) (R.view self.new.register) }
+    {
+        let mut rest = script;
+        'items: while let Some((item, after)) = first_item(rest) {
+            rest = after;
+            self.answer_item(alloc, &item, writer)?;
+        }
+        Ok(())
+    }
+
+    /// Asks an item of a script, if it asks anything, and writes the answer.
+    fn answer_item<O: Write>(
+        &mut self,
+        alloc: Global,
+        item: &Item<'_>,
+        writer: &mut O,
+    ) -> io::Result<()>
+        ensures played { (books : Books) → (R.view self.new.register).is_honest → Holds self.old.is_closed (R.view self.old.register) books
+            → OnOk result (PlaysItem (R.view self.old.register).room self.old.is_closed books (item_of item.now) (O.contents writer.old) (O.contents writer.new) self.new.is_closed (R.view self.new.register)) }
+        ensures front { (books : Books) → (R.view self.new.register).is_honest → Holds self.old.is_closed (R.view self.old.register) books
+            → (text : List ℕ) × HasPlayed (R.view self.old.register).room self.old.is_closed books (item_of item.now ∷ []) text self.new.is_closed (R.view self.new.register) }
+        ensures later { IsLater (R.view self.old.register) (R.view self.new.register) }
+    {
+        match item {
+            Item::Ask(request) => match self.ask(alloc, request) {
+                Ok(reply) => write_answer(writer, reply.status, reply.mt, reply.text.as_bytes()),
+                Err(fault) => write_fault(writer, fault),
+            },
+            Item::BadLine => write_bad_line(writer),
+        }
+    }
+}

@@ -1,0 +1,90 @@
+-- What the desk answers to the questions of a participant, by its books now: how a message of its own stands, and
+-- what was sent to it. A question that is refused has no message type.
+use Rattle.std.specs.Prelude.{ℕ, zero, suc, ◌==◌, Bool, ◌&&◌, if◌then◌else◌, List, ◌++◌, length, codes, decimal, bytes_eq, filter, slice_get, Option, Some, None}
+use Rattle.std.specs.List.{find}
+use Rattle.desk_msg.specs.declared.instruction.Instruction.{Instruction}
+use Rattle.desk_msg.specs.declared.status.Own.TheVariants.{Answer}
+use Rattle.desk_msg.specs.declared.status.Case.{Case}
+use Rattle.desk_msg.specs.declared.status.Case.TheVariants as cases
+use Rattle.desk_msg.specs.StatusText.{advice}
+use Rattle.desk_rules.specs.declared.entry.Entry.{Entry}
+use Rattle.desk_rules.specs.declared.entry.Entry.TheVariants.{Participant, Account, Security, Issue, Redeem, PayIn, PayOut, Instruct, Cancel, Run}
+use Rattle.desk_rules.specs.declared.entry.Sender.TheVariants.{Participant as FromParticipant}
+use Rattle.desk_rules.specs.declared.reply.Reply.{Reply}
+use Rattle.desk_rules.specs.declared.reply.Sent.{Sent}
+use Rattle.desk_rules.specs.declared.reply.State.{State}
+use Rattle.desk_rules.specs.declared.reply.State.TheVariants.{Plain, Unmatched, Matched, Cancelled, Settled}
+use Rattle.desk_rules.specs.History.{entry_at, number_of_key}
+use Rattle.desk_rules.specs.Verdict.{Books, is_participant}
+use Rattle.desk_rules.specs.Reply.{plain_reply, advice_reply}
+use Rattle.desk_rules.specs.Sent.{sent_of}
+use Rattle.desk_rules.specs.Moves.{is_confirmation}
+use Rattle.desk_rules.specs.Content.{state_of}
+
+abbrev pub refused_question : ℕ → Reply
+refused_question number = plain_reply 422 (codes "refused " ++ decimal number)
+
+-- a sent message as an answer
+abbrev pub shown : Option Sent → Reply
+shown None = refused_question 42
+shown (Some message) = record { status = 200; mt = Some message.mt; text = message.text }
+
+-- the confirmation sent about an instruction
+abbrev pub confirms_it : ℕ → Sent → Bool
+confirms_it n message = is_confirmation message && message.about == n
+
+abbrev pub confirmation_of : Books → ℕ → Option Sent
+confirmation_of books n = find (confirms_it n) (sent_of books)
+
+-- an advice of now
+abbrev pub standing_reply : Books → Instruction → Case → Reply
+standing_reply books i about = advice_reply 200 (advice (Answer (length books.history)) i.mt i.reference about)
+
+-- an instruction: how it stands now or, once it is settled, its confirmation exactly as it was sent
+abbrev pub instruction_reply : Books → ℕ → Instruction → State → Reply
+instruction_reply books n i Plain = refused_question 17
+instruction_reply books n i Unmatched = standing_reply books i cases.Unmatched
+instruction_reply books n i (Matched reason) = standing_reply books i (cases.Matched reason)
+instruction_reply books n i Cancelled = standing_reply books i cases.Cancelled
+instruction_reply books n i Settled = shown (confirmation_of books n)
+
+-- a message of this number; no participant sends an entry of the operator
+abbrev pub message_reply : Books → ℕ → Entry → Reply
+message_reply books n (Participant reference bic) = refused_question 17
+message_reply books n (Account reference bic account) = refused_question 17
+message_reply books n (Security reference isin kind) = refused_question 17
+message_reply books n (Issue holding) = refused_question 17
+message_reply books n (Redeem holding) = refused_question 17
+message_reply books n (PayIn payment) = refused_question 17
+message_reply books n (PayOut payment) = refused_question 17
+message_reply books n (Instruct sender i) = instruction_reply books n i (state_of books n)
+message_reply books n (Cancel sender order) = advice_reply 200 (advice (Answer (length books.history)) order.mt order.reference cases.CancelDone)
+message_reply books n (Run reference day) = refused_question 17
+
+abbrev pub entry_reply : Books → ℕ → Option Entry → Reply
+entry_reply books n None = refused_question 17
+entry_reply books n (Some entry) = message_reply books n entry
+
+abbrev pub named_reply : Books → Option ℕ → Reply
+named_reply books None = refused_question 17
+named_reply books (Some n) = entry_reply books n (entry_at books.history n)
+
+-- How the message of a participant with this reference stands: 10 where it is no participant, 17 where it used no
+-- such reference. (A text that is no reference is one that it never used.)
+abbrev pub status_reply : Books → List ℕ → List ℕ → Reply
+status_reply books bic reference =
+    if is_participant books.history bic
+    then named_reply books (number_of_key books.history (FromParticipant bic) reference)
+    else refused_question 10
+
+-- what was sent to a participant, in order, and the k-th of it, from 1
+abbrev pub sent_to : Books → List ℕ → List Sent
+sent_to books bic = filter (λ message. bytes_eq message.bic bic) (sent_of books)
+
+abbrev pub sent_at : List Sent → ℕ → Option Sent
+sent_at messages zero = None
+sent_at messages (suc k) = slice_get messages k
+
+-- The k-th message that was sent to a participant: 10 where it is none, 42 where there is no such message.
+abbrev pub sent_reply : Books → List ℕ → ℕ → Reply
+sent_reply books bic k = if is_participant books.history bic then shown (sent_at (sent_to books bic) k) else refused_question 10
