@@ -112,9 +112,11 @@ KINDS = {
 
 MESSAGE = "examples/deliver_against_payment.fin"
 
-# How many times a message is read, by the program and by Python, and how many bytes are read for each length.
+# How many times a message is read, by the program and by Python; how many bytes are read for each length, and how
+# often that is timed, the least time being the one that other work on the machine slowed least.
 MESSAGES = 200_000, 4_000
-BYTES = 128 * 2**20
+BYTES = 64 * 2**20
+TURNS = 3
 
 
 def processor_time():
@@ -154,7 +156,7 @@ def measure_blocks(program):
         text, count = block_of(length), BYTES // length
         if len(text) != length or run(program, "block", 1, text) != fields_read(text, 1):
             sys.exit(f"block of {length} bytes: the program's figure is another than Python's")
-        _, taken = timed(lambda: run(program, "block", count, text))
+        taken = min(timed(lambda: run(program, "block", count, text))[1] for _ in range(TURNS))
         print(f"block of {length // 1024} KiB: desk {taken / (count * length) * 1e9:.2f} ns/byte")
 
 
