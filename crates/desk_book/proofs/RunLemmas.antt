@@ -1,7 +1,8 @@
 -- Requests one after another.
 use Rattle.std.proofs.Common.{◌≡◌, ℕ, ◌+◌, ◌<◌, ◌≤◌, Bool, true, false, List, [], ◌∷◌, ◌++◌, length, map, take, get_or, refl, ap, sym, ◌∙◌, subst, arith, append-nil, append_assoc}
 use Rattle.std.proofs.lemmas.List.{map-append, take_all, take_more}
-use Rattle.std.specs.Prelude.{Result, Ok, Err, IfOk}
+use Rattle.std.specs.Prelude.{Option, Some, None, Result, Ok, Err, IfOk, OnOk}
+use Rattle.std.specs.Io.KnownBytes.{Appends}
 use Rattle.desk_rules.specs.declared.reply.Reply.{Reply}
 use Rattle.desk_rules.specs.Verdict.{Books}
 use Rattle.desk_register.specs.View.{View, IsLater}
@@ -12,8 +13,11 @@ use Rattle.desk_book.specs.Asked.{Asked, asked_by}
 use Rattle.desk_book.specs.declared.request.Request.{Request}
 use Rattle.desk_book.specs.Held.{AnswersOrder, Holds, IsObeyed, Steps}
 use Rattle.desk_book.specs.Order.{IsOrder}
-use Rattle.desk_book.specs.Played.{Plays, shown_answer}
-use Rattle.desk_book.specs.Script.{Item, ask, bad_line}
+use Rattle.desk_book.specs.Played.{HasPlayed, Plays, PlaysFront, PlaysItem, PlaysScript, shown_answer}
+use Rattle.desk_book.specs.Lines.{lines_of}
+use Rattle.desk_book.specs.Script.{Asking, BeginsWith, Item, Script, ask, bad_line, item_of}
+use Rattle.desk_book.specs.declared.script.Item.{Item as ScriptItem}
+use Rattle.desk_book.specs.declared.script.Item.TheVariants.{Ask}
 use Rattle.desk_book.specs.Shown.{shown_bad_line}
 
 -- what was read as an order, and obeyed, is a step
@@ -37,35 +41,20 @@ run_more limit was books (r ∷ requests) [] is last next asked answer run stays
 run_more limit was books (r ∷ requests) (a ∷ answers) is last next asked answer run stays step =
     (run.0, (run.1.0, run.1.1, run_more limit (says_closed a) run.1.0 requests answers is last next asked answer run.1.2 stays step))
 
--- a script goes on by one item
+-- a script goes on
 
-pub plays_ask : (limit : ℕ) (was : Bool) (books : Books) (items : List Item) (text : List ℕ) (is : Bool) (last next : Books) (asked : Asked) (answer : Result Reply Fault)
-    → Plays limit was books items text is last → (is ≡ true → says_closed answer ≡ true) → Step limit last asked answer next
-    → Plays limit was books (items ++ ask asked ∷ []) (text ++ shown_answer answer) (says_closed answer) next
-plays_ask limit was books [] text is last next asked answer plays stays step =
-    let P : Bool → Type 0 = λ b. b ≡ true → says_closed answer ≡ true in
-    let Q : Books → Type 0 = λ b. Step limit b asked answer next in
-    let empty : text ≡ [] = plays.0 in
-    (answer, next, subst P plays.1 stays, subst Q plays.2 step, [], ap (λ t. t ++ shown_answer answer) empty ∙ sym (append-nil (shown_answer answer)), (refl, refl, refl))
-plays_ask limit was books (bad_line ∷ items) text is last next asked answer plays stays step =
-    let rest = plays_ask limit was books items plays.0 is last next asked answer plays.2 stays step in
-    (plays.0 ++ shown_answer answer, ap (λ t. t ++ shown_answer answer) plays.1 ∙ append_assoc shown_bad_line plays.0 (shown_answer answer), rest)
-plays_ask limit was books (ask a ∷ items) text is last next asked answer plays stays step =
-    let first = plays.0 in
-    let more = plays.4 in
-    let rest = plays_ask limit (says_closed first) plays.1 items more is last next asked answer plays.6 stays step in
-    (first, plays.1, plays.2, plays.3, more ++ shown_answer answer, ap (λ t. t ++ shown_answer answer) plays.5 ∙ append_assoc (shown_answer first) more (shown_answer answer), rest)
-
-pub plays_bad_line : (limit : ℕ) (was : Bool) (books : Books) (items : List Item) (text : List ℕ) (is : Bool) (last : Books) → Plays limit was books items text is last
-    → Plays limit was books (items ++ bad_line ∷ []) (text ++ shown_bad_line) is last
-plays_bad_line limit was books [] text is last plays =
-    let empty : text ≡ [] = plays.0 in
-    ([], ap (λ t. t ++ shown_bad_line) empty ∙ sym (append-nil shown_bad_line), (refl, plays.1, plays.2))
-plays_bad_line limit was books (bad_line ∷ items) text is last plays =
-    (plays.0 ++ shown_bad_line, ap (λ t. t ++ shown_bad_line) plays.1 ∙ append_assoc shown_bad_line plays.0 shown_bad_line, plays_bad_line limit was books items plays.0 is last plays.2)
-plays_bad_line limit was books (ask a ∷ items) text is last plays =
-    (plays.0, plays.1, plays.2, plays.3, plays.4 ++ shown_bad_line, ap (λ t. t ++ shown_bad_line) plays.5 ∙ append_assoc (shown_answer plays.0) plays.4 shown_bad_line,
-      plays_bad_line limit (says_closed plays.0) plays.1 items plays.4 is last plays.6)
+pub plays_then : (limit : ℕ) (was : Bool) (books : Books) (front items : List Item) (text more : List ℕ) (is next : Bool) (between last : Books) → Plays limit was books front text is between
+    → Plays limit is between items more next last → Plays limit was books (front ++ items) (text ++ more) next last
+plays_then limit was books [] items text more is next between last first second =
+    let P : Bool → Type 0 = λ b. Plays limit b books items more next last in
+    let Q : Books → Type 0 = λ b. Plays limit is b items more next last in
+    let R : List ℕ → Type 0 = λ t. Plays limit was books items (t ++ more) next last in
+    subst R (sym first.0) (subst P first.1 (subst Q first.2 second))
+plays_then limit was books (bad_line ∷ front) items text more is next between last first second =
+    (first.0 ++ more, ap (λ t. t ++ more) first.1 ∙ append_assoc shown_bad_line first.0 more, plays_then limit was books front items first.0 more is next between last first.2 second)
+plays_then limit was books (ask a ∷ front) items text more is next between last first second =
+    (first.0, first.1, first.2, first.3, first.4 ++ more, ap (λ t. t ++ more) first.5 ∙ append_assoc (shown_answer first.0) first.4 more,
+      plays_then limit (says_closed first.0) first.1 front items first.4 more is next between last first.6 second)
 
 -- The loop over requests.
 
@@ -102,3 +91,112 @@ pub run_all : (v0 v1 : View) (was is : Bool) (books : Books) (requests : List Re
 run_all v0 v1 was is books requests i answers all so_far =
     let A : List Request → Type 0 = λ xs. Run v0.room was books (map asked_by xs) answers is so_far.0 in
     (so_far.0, subst A (take_all i requests all) so_far.1, so_far.2)
+
+-- One item of a script.
+
+pub one_played : (limit : ℕ) (was : Bool) (books : Books) (asked : Asked) (result answer : Result Reply Fault) (is : Bool) (view : View) → result ≡ answer → is ≡ says_closed result
+    → (was ≡ true → says_closed result ≡ true) → Steps limit books asked result is view → HasPlayed limit was books (ask asked ∷ []) (shown_answer answer) is view
+one_played limit was books asked result answer is view same closed stays s =
+    let P : Result Reply Fault → Type 0 = λ r. HasPlayed limit was books (ask asked ∷ []) (shown_answer r) is view in
+    subst P same (record {
+      last = s.next;
+      plays = (result, s.next, stays, s.step, [], sym (append-nil (shown_answer result)), (refl, closed, refl));
+      holds = s.holds;
+    })
+
+pub item_written : {E : Type 0} (limit : ℕ) (was : Bool) (books : Books) (item : ScriptItem) (request : Request) (text : List ℕ) (before after : Option (List ℕ)) (is : Bool) (view : View) (r : Result (Unit {0}) E)
+    → item ≡ Ask request → HasPlayed limit was books (ask (asked_by request) ∷ []) text is view → OnOk r (Appends before after text) → OnOk r (PlaysItem limit was books (item_of item) before after is view)
+item_written limit was books item request text before after is view (Ok done) same played written =
+    let P : ScriptItem → Type 0 = λ i. PlaysItem limit was books (item_of i) before after is view in
+    subst P (sym same) (record { text = text; played = played; written = written })
+item_written limit was books item request text before after is view (Err fault) same played written = written
+
+pub bad_line_played : (limit : ℕ) (was : Bool) (books : Books) (view : View) → Holds was view books → HasPlayed limit was books (bad_line ∷ []) shown_bad_line was view
+bad_line_played limit was books view holds = record {
+  last = books;
+  plays = ([], sym (append-nil shown_bad_line), (refl, refl, refl));
+  holds = holds;
+}
+
+-- The loop over a script.
+
+written_then : (a b c : Option (List ℕ)) (s t : List ℕ) → Appends a b s → Appends b c t → Appends a c (s ++ t)
+written_then None b c s t first second = tt
+written_then (Some x) None c s t first second = absurd first
+written_then (Some x) (Some y) None s t first second = absurd second
+written_then (Some x) (Some y) (Some z) s t first second = second ∙ ap (λ u. u ++ t) first ∙ append_assoc x s t
+
+written_none : (a : Option (List ℕ)) → Appends a a []
+written_none None = tt
+written_none (Some x) = sym (append-nil x)
+
+-- so far these items were played, and their text written
+pub record SoFar (limit : ℕ) (was : Bool) (books : Books) (script behind : List ℕ) (before after : Option (List ℕ)) (is : Bool) (view : View) : Type 0 where
+  pub front : List Item
+  pub spells : (items : List Item) → Script behind items → Script script (front ++ items)
+  pub text : List ℕ
+  pub played : HasPlayed limit was books front text is view
+  pub written : Appends before after text
+
+pub none_so_far : (limit : ℕ) (was : Bool) (books : Books) (script : List ℕ) (before : Option (List ℕ)) (view : View) → Holds was view books → SoFar limit was books script script before before was view
+none_so_far limit was books script before view holds = record {
+  front = [];
+  spells = λ items is. is;
+  text = [];
+  played = record { last = books; plays = (refl, refl, refl); holds = holds };
+  written = written_none before;
+}
+
+one_more : (limit : ℕ) (was is next : Bool) (books : Books) (front : List Item) (item : Item) (text more : List ℕ) (v1 v2 : View) → (first : HasPlayed limit was books front text is v1)
+    → HasPlayed limit is first.last (item ∷ []) more next v2 → HasPlayed limit was books (front ++ item ∷ []) (text ++ more) next v2
+one_more limit was is next books front item text more v1 v2 first second = record {
+  last = second.last;
+  plays = plays_then limit was books front (item ∷ []) text more is next first.last second.last first.plays second.plays;
+  holds = second.holds;
+}
+
+spells_more : (script behind after : List ℕ) (front : List Item) (item : Item) → ((items : List Item) → Script behind items → Script script (front ++ items)) → BeginsWith (lines_of behind) item after
+    → (items : List Item) → Script after items → Script script ((front ++ item ∷ []) ++ items)
+spells_more script behind after front item spells first items is =
+    let P : List Item → Type 0 = λ xs. Script script xs in
+    subst P (sym (append_assoc front (item ∷ []) items)) (spells (item ∷ items) (first.then items is))
+
+pub more_so_far : (v0 v1 v2 : View) (was is next : Bool) (books : Books) (script behind rest : List ℕ) (a b c : Option (List ℕ)) (item : Item) → v1.room ≡ v0.room
+    → (s : SoFar v0.room was books script behind a b is v1) → BeginsWith (lines_of behind) item rest → PlaysItem v1.room is s.played.last item b c next v2
+    → SoFar v0.room was books script rest a c next v2
+more_so_far v0 v1 v2 was is next books script behind rest a b c item room s first p =
+    let P : ℕ → Type 0 = λ k. HasPlayed k is s.played.last (item ∷ []) p.text next v2 in
+    record {
+      front = s.front ++ item ∷ [];
+      spells = spells_more script behind rest s.front item s.spells first;
+      text = s.text ++ p.text;
+      played = one_more v0.room was is next books s.front item s.text p.text v1 v2 s.played (subst P room p.played);
+      written = written_then a b c s.text p.text s.written p.written;
+    }
+
+pub script_played : (limit : ℕ) (was is : Bool) (books : Books) (script behind : List ℕ) (a b : Option (List ℕ)) (view : View) → SoFar limit was books script behind a b is view → Asking (lines_of behind) []
+    → PlaysScript limit was books script a b is view
+script_played limit was is books script behind a b view s none = record {
+  items = s.front ++ [];
+  spells = s.spells [] none;
+  text = s.text;
+  played = (let P : List Item → Type 0 = λ xs. HasPlayed limit was books xs s.text is view in subst P (sym (append-nil s.front)) s.played);
+  written = s.written;
+}
+
+pub front_played : (limit : ℕ) (was is : Bool) (books : Books) (script behind : List ℕ) (a b : Option (List ℕ)) (view : View) → SoFar limit was books script behind a b is view
+    → PlaysFront limit was books script is view
+front_played limit was is books script behind a b view s = record { front = s.front; behind = behind; spells = s.spells; text = s.text; played = s.played }
+
+pub front_and_one : (v0 v1 v2 : View) (was is next : Bool) (books : Books) (script behind rest : List ℕ) (a b : Option (List ℕ)) (item : Item) → v1.room ≡ v0.room
+    → (s : SoFar v0.room was books script behind a b is v1) → BeginsWith (lines_of behind) item rest → (text : List ℕ) × HasPlayed v1.room is s.played.last (item ∷ []) text next v2
+    → PlaysFront v0.room was books script next v2
+front_and_one v0 v1 v2 was is next books script behind rest a b item room s first p =
+    let P : ℕ → Type 0 = λ k. HasPlayed k is s.played.last (item ∷ []) p.0 next v2 in
+    record {
+      front = s.front ++ item ∷ [];
+      behind = rest;
+      spells = spells_more script behind rest s.front item s.spells first;
+      text = s.text ++ p.0;
+      played = one_more v0.room was is next books s.front item s.text p.0 v1 v2 s.played (subst P room p.1);
+    }

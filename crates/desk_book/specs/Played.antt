@@ -46,10 +46,10 @@ pub record PlaysScript (limit : ℕ) (was : Bool) (books : Books) (script : List
   pub played : HasPlayed limit was books items text is view
   pub written : Appends before after text
 
--- the first items of a script were played
+-- The first items of a script were played; what stands behind them spells the items that follow.
 pub record PlaysFront (limit : ℕ) (was : Bool) (books : Books) (script : List ℕ) (is : Bool) (view : View) : Type 0 where
   pub front : List Item
-  pub rest : List Item
-  pub spells : Script script (front ++ rest)
+  pub behind : List ℕ
+  pub spells : (items : List Item) → Script behind items → Script script (front ++ items)
   pub text : List ℕ
   pub played : HasPlayed limit was books front text is view

@@ -8,7 +8,8 @@ use crate::vectors::{
     STATUS_UNMATCHED,
 };
 use crate::{
-    Case, Mt, Own, ReadFault, Reason, fields_text, read_instruction_text, refusal_text, status_text,
+    Case, MsgFault, Mt, Own, ReadFault, Reason, Refusal, Word, fields_text, read_instruction_text,
+    refusal_text, status_text,
 };
 use desk_codes::Reference;
 use std::alloc::{AllocError, Global};
@@ -175,5 +176,41 @@ fn writes_the_other_advices(rt: HostRuntime) -> Result<(), Fail> {
         Case::CancelRefused(7),
     )?;
     assert_eq!(rt; text.as_slice(), refused.as_bytes());
+    Ok(())
+}
+
+/// With one allocation refused, whichever it is, a call answers as ever or that memory is wanting, and made once more
+/// it answers as ever.
+#[test]
+fn want_of_memory_changes_nothing(rt: HostRuntime) -> Result<(), Fail> {
+    let alloc = rt.alloc();
+    let delivery = DELIVER_AGAINST_PAYMENT.as_bytes();
+    let message = match read_instruction_text(alloc, Mt::Mt543, delivery) {
+        Ok(message) => message,
+        Err(fault) => {
+            assert_eq!(rt; fault, ReadFault::Memory);
+            read_instruction_text(alloc, Mt::Mt543, delivery)?
+        }
+    };
+    let text = fields_text(alloc, &message).or_else(|_| fields_text(alloc, &message))?;
+    assert_eq!(rt; text.as_slice(), DELIVERY.as_bytes());
+    let refusals: [(Refusal, &str); 3] = [
+        (Refusal::NotBlock, "refused 1"),
+        (Refusal::BadLine(12), "refused 2 12"),
+        (
+            Refusal::Fields(MsgFault::Repeated(Word::Seme)),
+            "refused 6 SEME",
+        ),
+    ];
+    for (refusal, want) in refusals {
+        let text = refusal_text(alloc, refusal).or_else(|_| refusal_text(alloc, refusal))?;
+        assert_eq!(rt; text.as_slice(), want.as_bytes());
+    }
+    let a1 = reference(b"A1")?;
+    let text = match status_text(alloc, Own::Answer(10), Mt::Mt543, &a1, Case::NewRefused(11)) {
+        Ok(text) => text,
+        Err(_) => status_text(alloc, Own::Answer(10), Mt::Mt543, &a1, Case::NewRefused(11))?,
+    };
+    assert_eq!(rt; text.as_slice(), STATUS_REFUSED.as_bytes());
     Ok(())
 }

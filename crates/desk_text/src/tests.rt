@@ -289,13 +289,41 @@ fn spells_names_tags_and_values(rt: HostRuntime) {
 /// the call that was refused had not been made.
 #[test]
 fn want_of_memory_changes_nothing(rt: HostRuntime) {
+    let mut refused = 0usize;
     for _ in 0..2 {
         let text = b"{4:\n:16R:A\n:20C:x\ny\n:16S:A\n-}";
         match read_block(rt.alloc(), text) {
-            Ok(block) => assert_eq!(rt; block.fields().len(), 1),
-            Err(fault) => assert_eq!(rt; fault, TextFault::Memory),
+            Ok(block) => {
+                assert_eq!(rt; block.fields().len(), 1);
+                if let Some(field) = block.fields().first() {
+                    assert!(rt; are_same_lines(&field.path, &[b"A"]));
+                    assert!(rt; are_same_lines(&field.values, &[b"x", b"y"]));
+                }
+            }
+            Err(fault) => {
+                assert_eq!(rt; fault, TextFault::Memory);
+                refused = refused.wrapping_add(1);
+            }
         }
     }
-    let text = write_again(rt.alloc(), &STATUS_UNMATCHED);
-    assert_eq!(rt; text.map(|text| text.len()).unwrap_or(0), 245);
+    assert!(rt; refused < 2);
+    match write_again(rt.alloc(), &STATUS_UNMATCHED) {
+        Ok(text) => assert!(rt; has_lines(&text, &STATUS_UNMATCHED)),
+        Err(_) => assert!(rt; false, "a call was refused twice"),
+    }
+}
+
+/// Whether a text has these lines, with CR LF between them.
+fn has_lines(text: &[u8], lines: &[&[u8]]) -> bool {
+    let mut rest = text;
+    for (index, line) in lines.iter().enumerate() {
+        let end: &[u8] = if index > 0 { b"\r\n" } else { b"" };
+        for piece in [end, *line] {
+            if !rest.starts_with(piece) {
+                return false;
+            }
+            rest = &rest[piece.len()..];
+        }
+    }
+    rest.is_empty()
 }
