@@ -6,3 +6,4 @@ pub mod Shown
 pub mod Command
 pub mod Members
 pub mod Sums
+pub mod Order

@@ -1,0 +1,103 @@
+//! What a request is read as.
+ghost use Rattle.std.specs.Prelude.{◌≡◌, true, IfOk};
+ghost use Rattle.desk_rules.specs.Reply.{plain_reply};
+ghost use Rattle.desk_book.specs.Asked.{asked_by};
+ghost use Rattle.desk_book.specs.Order.{IsOrder, IsMessageOrder, IsCommandOrder, IsOfToday, is_taken, unknown_form};
+
+use crate::command::read_command;
+use crate::request::Request;
+use desk_codes::Bic;
+use desk_msg::{Message, Mt, ReadFault, read_instruction_text, refusal_text};
+use desk_rules::{Entry, Reply, Text};
+use std::alloc::{AllocError, Global};
+
+/// What a request is read as.
+#[derive(Debug, Drop)]
+pub enum Order {
+    /// A command to decide on: an operator's, or a participant's message
+    Decide(Entry),
+    /// The desk's totals
+    Totals,
+    /// None of the desk's commands or questions, and the refusal that answers it
+    Answer(Reply),
+}
+
+/// What a request is read as. The only fault is want of memory.
+pub fn order_of(alloc: Global, request: Request<'_>) -> Result<Order, AllocError>
+    ensures order { IfOk result (λ order. IsOrder (asked_by request.entry) order) }
+    ensures today { IfOk result (λ order. IsOfToday order) }
+{
+    match request {
+        Request::Message(sender, mt, text) if is_taken(mt) => {
+            message_order(alloc, sender, mt, text)
+        }
+        Request::Operator(text) => command_order(alloc, text),
+        Request::Sums => Ok(Order::Totals),
+        Request::Message(..) | Request::Status(..) | Request::Sent(..) | Request::Holdings(..) => {
+            Ok(Order::Answer(unknown(alloc)?))
+        }
+    }
+}
+
+/// Whether the desk takes messages of a type: instructions to receive or deliver free.
+fn is_taken(mt: Mt) -> bool
+    ensures { result ≡ is_taken mt }
+{
+    mt.is_instruction() && !mt.is_against_payment()
+}
+
+/// What a participant's message orders.
+fn message_order(alloc: Global, sender: Bic, mt: Mt, text: &[u8]) -> Result<Order, AllocError>
+    requires { is_taken mt ≡ true }
+    ensures order { IfOk result (λ order. IsMessageOrder sender mt text.now order) }
+    ensures today { IfOk result (λ order. IsOfToday order) }
+{
+    match read_instruction_text(alloc, mt, text) {
+        Ok(Message::New(instruction)) => Ok(Order::Decide(Entry::Instruct {
+            sender,
+            instruction,
+        })),
+        Ok(Message::Cancel(_)) => {
+            let line = Vec::from_slice(alloc, b"refused 8")?;
+            Ok(Order::Answer(bad_request(line)))
+        }
+        Err(ReadFault::Refused(refusal)) => {
+            let line = refusal_text(alloc, refusal)?;
+            Ok(Order::Answer(bad_request(line)))
+        }
+        Err(ReadFault::Memory) => Err(AllocError),
+    }
+}
+
+/// What an operator's text orders.
+fn command_order(alloc: Global, text: &[u8]) -> Result<Order, AllocError>
+    ensures order { IfOk result (λ order. IsCommandOrder text.now order) }
+    ensures today { IfOk result (λ order. IsOfToday order) }
+{
+    match read_command(alloc, text)? {
+        Some(entry) => Ok(Order::Decide(entry)),
+        None => {
+            let line = Vec::from_slice(alloc, b"refused 30")?;
+            Ok(Order::Answer(bad_request(line)))
+        }
+    }
+}
+
+/// The answer to what is none of the desk's forms.
+fn unknown(alloc: Global) -> Result<Reply, AllocError>
+    ensures { IfOk result (λ reply. reply ≡ unknown_form) }
+{
+    let line = Vec::from_slice(alloc, b"refused 41")?;
+    Ok(bad_request(line))
+}
+
+/// The answer to what was refused as it was read: its line.
+fn bad_request(line: Vec<u8>) -> Reply
+    ensures { result ≡ plain_reply 400 line.items }
+{
+    Reply {
+        status: 400,
+        mt: None,
+        text: Text::new(line),
+    }
+}
