@@ -6,3 +6,5 @@ pub mod CommandLemmas
 pub mod RowLemmas
 pub mod OneReading
 pub mod OneCommand
+pub mod ListedLemmas
+pub mod SummingLemmas

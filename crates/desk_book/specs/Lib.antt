@@ -7,3 +7,4 @@ pub mod Command
 pub mod Members
 pub mod Sums
 pub mod Order
+pub mod Totals

@@ -16,6 +16,7 @@ mod order;
 mod reading;
 mod request;
 mod script;
+mod summing;
 #[cfg(test)]
 mod tests;
 mod total;
@@ -28,5 +29,6 @@ pub use order::{Order, order_of};
 pub use reading::read_script;
 pub use request::Request;
 pub use script::{Item, first_item, item_count};
+pub use summing::{security_totals, totals_text};
 pub use total::{CashTotal, SecurityTotal, sums_text, write_sums};
 pub use writing::{write_answer, write_bad_line, write_fault};

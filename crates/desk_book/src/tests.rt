@@ -3,4 +3,5 @@ mod commands;
 mod orders;
 mod scripts;
 mod streams;
+mod summed;
 mod totals;
