@@ -52,9 +52,15 @@ plays_then limit was books [] items text more is next between last first second 
     subst R (sym first.0) (subst P first.1 (subst Q first.2 second))
 plays_then limit was books (bad_line ∷ front) items text more is next between last first second =
     (first.0 ++ more, ap (λ t. t ++ more) first.1 ∙ append_assoc shown_bad_line first.0 more, plays_then limit was books front items first.0 more is next between last first.2 second)
-plays_then limit was books (ask a ∷ front) items text more is next between last first second =
-    (first.0, first.1, first.2, first.3, first.4 ++ more, ap (λ t. t ++ more) first.5 ∙ append_assoc (shown_answer first.0) first.4 more,
-      plays_then limit (says_closed first.0) first.1 front items first.4 more is next between last first.6 second)
+plays_then limit was books (ask a ∷ front) items text more is next between last first second = (
+  first.0,
+  first.1,
+  first.2,
+  first.3,
+  first.4 ++ more,
+  ap (λ t. t ++ more) first.5 ∙ append_assoc (shown_answer first.0) first.4 more,
+  plays_then limit (says_closed first.0) first.1 front items first.4 more is next between last first.6 second,
+)
 
 -- The loop over requests.
 

@@ -1,12 +1,11 @@
 -- The loop over a register's securities, over the views of the register.
-use Rattle.std.proofs.Common.{◌≡◌, ℕ, ◌+◌, ◌<◌, ◌≤◌, ◌^◌, List, ◌∷◌, ◌++◌, [], length, map, Option, Some, None, is_some, true, refl, ap, sym, ◌∙◌, subst, arith}
+use Rattle.std.proofs.Common.{◌≡◌, ℕ, ◌+◌, ◌≤◌, List, ◌∷◌, ◌++◌, [], length, map, Option, Some, None, is_some, true, ap, sym, ◌∙◌, subst, arith}
 use Rattle.std.proofs.lemmas.List.{length-map}
-use Rattle.std.specs.Prelude.{Result, Ok, Err, OnOk}
+use Rattle.std.specs.Prelude.{Result, Ok, Err}
 use Rattle.desk_rules.specs.Verdict.{kind_of}
 use Rattle.desk_register.specs.declared.register.Fault.{Fault}
-use Rattle.desk_register.specs.declared.register.Stage.{Stage}
 use Rattle.desk_register.specs.declared.register.Stage.TheVariants.{Idle}
-use Rattle.desk_register.specs.View.{View, IsLater, Stays, Falls, fallen, IsRead}
+use Rattle.desk_register.specs.View.{View, IsLater, Stays, fallen, IsRead}
 use Rattle.desk_register.specs.Content.{Content, history_of}
 use Rattle.desk_register.specs.Looked.{IsSecurityAfter}
 use Rattle.desk_register.proofs.ViewLemmas.{later_then, stays_then}

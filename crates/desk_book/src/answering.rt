@@ -59,11 +59,7 @@ fn taken_back<R: Register>(alloc: Global, register: &mut R, fault: RegisterFault
 }
 
 /// Takes an accepted entry into the tables, and keeps it. Answers its reply.
-fn put<R: Register>(
-    alloc: Global,
-    register: &mut R,
-    entry: Entry,
-) -> Result<Reply, RegisterFault>
+fn put<R: Register>(alloc: Global, register: &mut R, entry: Entry) -> Result<Reply, RegisterFault>
     requires stage { (R.view register.old).stage ≡ Stage.Begun }
     requires today { IsTrue (is_of_today entry) }
     requires accepted { (R.view register.old).is_honest → (R.view register.old).is_sure → CanApply (R.view register.old).room entry (R.view register.old).content }
@@ -186,11 +182,7 @@ fn tell_totals<R: Register>(alloc: Global, register: &mut R) -> Result<Reply, Fa
 }
 
 /// Answers what a request is read as.
-pub fn answer<R: Register>(
-    alloc: Global,
-    register: &mut R,
-    order: Order,
-) -> Result<Reply, Fault>
+pub fn answer<R: Register>(alloc: Global, register: &mut R, order: Order) -> Result<Reply, Fault>
     requires ready { IsReady false (R.view register.old) }
     requires today { IsOfToday order }
     ensures answered { (books : Books) → (R.view register.new).is_honest → Keeps (R.view register.old).room books (R.view register.old).content

@@ -47,12 +47,7 @@ fn is_taken(mt: Mt) -> bool
 }
 
 /// What a participant's message orders.
-fn message_order(
-    alloc: Global,
-    sender: Bic,
-    mt: Mt,
-    text: &[u8],
-) -> Result<Order, AllocError>
+fn message_order(alloc: Global, sender: Bic, mt: Mt, text: &[u8]) -> Result<Order, AllocError>
     requires { is_taken mt ≡ true }
     ensures order { IfOk result (λ order. IsMessageOrder sender mt text.now order) }
     ensures today { IfOk result (λ order. IsOfToday order) }

@@ -1,5 +1,5 @@
 //! The totals of a register's securities.
-ghost use Rattle.std.specs.Prelude.{◌≡◌, ◌≢◌, ◌<◌, ◌^◌, ℕ, List, [], true, is_some, IfOk};
+ghost use Rattle.std.specs.Prelude.{◌≡◌, ◌<◌, ◌^◌, ℕ, List, [], true, is_some, IfOk};
 ghost use Rattle.desk_register.specs.View.{IsRead};
 ghost use Rattle.desk_register.specs.Content.{history_of};
 ghost use Rattle.desk_register.specs.Looked.{held_of};
@@ -39,7 +39,11 @@ pub fn security_totals<R: Register>(
 }
 
 /// The total of a registered security.
-fn total_of<R: Register>(alloc: Global, register: &mut R, isin: Isin) -> Result<SecurityTotal, Fault>
+fn total_of<R: Register>(
+    alloc: Global,
+    register: &mut R,
+    isin: Isin,
+) -> Result<SecurityTotal, Fault>
     requires stage { (R.view register.old).stage ≡ Stage.Idle }
     requires small { (R.view register.old).is_honest → (R.view register.old).is_sure → held_of (R.view register.old).content isin < 2 ^ 64 }
     ensures isin { IfOk result (λ total. total.isin ≡ isin) }

@@ -1,4 +1,4 @@
-use Rattle.std.proofs.Common.{◌≡◌, refl, sym, inl, ap, ◌∙◌}
+use Rattle.std.proofs.Common.{refl, inl, ap, ◌∙◌}
 use Rattle.desk_rules.specs.Reply.{plain_reply}
 use Rattle.desk_book.proofs.order.message_order.Goals as goal
 
@@ -7,5 +7,8 @@ returns-in-Ok-New-clause-order c = (c.in-Ok-New.instruction, rw (c.in-Ok-New.is,
 
 pub returns-in_ok-line-in-Ok-Cancel-clause-order : goal.returns-in_ok-line-in-Ok-Cancel-clause-order
 returns-in_ok-line-in-Ok-Cancel-clause-order c =
-    inl (c.in-Ok-Cancel.field-0-0, rw (c.in-Ok-Cancel.is, c.in-Ok-Cancel.field-0-is) at c.read_instruction_text.ensures,
-        c.bad_request.ensures ∙ ap (λ line. plain_reply 400 line) c.in_ok-line-in-Ok-Cancel.ensures.items)
+    inl (
+      c.in-Ok-Cancel.field-0-0,
+      rw (c.in-Ok-Cancel.is, c.in-Ok-Cancel.field-0-is) at c.read_instruction_text.ensures,
+      c.bad_request.ensures ∙ ap (λ line. plain_reply 400 line) c.in_ok-line-in-Ok-Cancel.ensures.items,
+    )

@@ -1,4 +1,4 @@
-use Rattle.std.proofs.Common.{◌≡◌, ◌≤◌, ◌+◌, arith, rules, Vec, Global, Some}
+use Rattle.std.proofs.Common.{◌≤◌, arith, rules, Vec, Global, Some}
 use Rattle.desk_register.specs.View.{IsRead}
 use Rattle.desk_book.specs.declared.total.SecurityTotal.{SecurityTotal}
 use Rattle.desk_book.proofs.SummingLemmas.{read_one, read_more, read_then, summing_begins, summing_goes_on, summing_ends_none, summing_ends_all}
@@ -44,7 +44,7 @@ securities-preserved g c =
     let t = c.in_ok-total.ensures in
     let pushed = rw c.if-is_err.ensures.negation at c.push.ensures.items in
     rw pushed (summing_goes_on v0 v c.in_ok-count.count c.securities.last c.securities._gathered c.securities.totals.items c.securities.invariant v1 v2 c.in-Some.isin c.in_ok-total.total
-        (rw c.in-Some.is at r.read) (rw c.in-Some.is at r.value) t.read t.isin t.total)
+    (rw c.in-Some.is at r.read) (rw c.in-Some.is at r.value) t.read t.isin t.total)
 
 pub returns-clause-totals : goal.returns-clause-totals
 returns-clause-totals g c = λ honest sure.
