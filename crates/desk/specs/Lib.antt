@@ -1,2 +1,3 @@
 pub mod IsinAnswer
 pub mod ReadAnswer
+pub mod PlayAnswer

@@ -7,6 +7,7 @@
 
 mod input;
 mod isin;
+mod play;
 mod read;
 mod run;
 #[cfg(test)]

@@ -1,6 +1,7 @@
 //! What the words ask for, answered.
 
 use crate::isin::answer_isin;
+use crate::play::answer_play;
 use crate::read::answer_read;
 use crate::words::{Call, call_of};
 use clap::error::{Error, ErrorKind};
@@ -24,6 +25,7 @@ pub fn run<S: AsStr, R: Read, W: Write>(
     let answered = match call_of(alloc, words) {
         Ok(Some(Call::Isin(code))) => answer_isin(code.as_bytes(), writer),
         Ok(Some(Call::Read(mt))) if mt.is_instruction() => answer_read(alloc, mt, reader, writer),
+        Ok(Some(Call::Play)) => answer_play(alloc, reader, writer),
         Ok(_) => return tell_unreadable_words(writer),
         Err(error) => tell_usage(&error, writer),
     };

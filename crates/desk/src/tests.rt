@@ -22,6 +22,9 @@ fn reads_words(rt: HostRuntime) -> Result<(), Fail> {
         Some(Call::Read(Mt::Mt543))
     );
     assert!(rt; call_of(alloc, &["desk", "read", "544"]).is_err_and(|e| e.exit_code() == 2));
+    assert_eq!(rt; call_of(alloc, &["desk", "play"])?, Some(Call::Play));
+    assert_eq!(rt; call_of(alloc, &["desk"])?, Some(Call::Play));
+    assert!(rt; call_of(alloc, &["desk", "play", "x"]).is_err_and(|e| e.exit_code() == 2));
     assert!(rt; call_of(alloc, &["desk", "nothing"]).is_err_and(|e| e.exit_code() == 2));
     assert!(rt; call_of(alloc, &["desk", "--help"]).is_err_and(|e| e.exit_code() == 0));
     Ok(())

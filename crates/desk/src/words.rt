@@ -14,6 +14,8 @@ pub enum Call<'a> {
     Isin(&'a str),
     /// What a message of a type says
     Read(Mt),
+    /// A script's answers
+    Play,
 }
 
 /// Reads the words, the program's own name first. An error is help that was asked for, words that fit no
@@ -22,7 +24,7 @@ pub fn call_of<'a, S: AsStr>(alloc: Global, words: &'a [S]) -> Result<Option<Cal
     let matches = desk(alloc)?.try_get_matches_from(words)?;
     Ok(match matches.subcommand() {
         Some((name, inner)) => subcommand_call(name, inner),
-        None => None,
+        None => Some(Call::Play),
     })
 }
 
@@ -30,6 +32,7 @@ fn subcommand_call<'a>(name: &str, inner: &ArgMatches<'a>) -> Option<Call<'a>> {
     match name {
         "isin" => Some(Call::Isin(inner.get_str("code")?)),
         "read" => Some(Call::Read(instruction_type(inner.get_one::<u16>("mt")?)?)),
+        "play" => Some(Call::Play),
         _ => None,
     }
 }
@@ -37,9 +40,9 @@ fn subcommand_call<'a>(name: &str, inner: &ArgMatches<'a>) -> Option<Call<'a>> {
 fn desk<'a>(alloc: Global) -> Result<Command<'a>, AllocError> {
     Command::new(alloc, "desk")
         .about("The settlement desk of a small securities depository")
-        .subcommand_required(true)
         .subcommand(isin(alloc)?)?
-        .subcommand(read(alloc)?)
+        .subcommand(read(alloc)?)?
+        .subcommand(play(alloc)?)
 }
 
 fn isin<'a>(alloc: Global) -> Result<Command<'a>, AllocError> {
@@ -57,6 +60,12 @@ fn read<'a>(alloc: Global) -> Result<Command<'a>, AllocError> {
                 .required(true)
                 .value_parser(value_parser!(u16).range(540..=543)),
         )
+}
+
+fn play<'a>(alloc: Global) -> Result<Command<'a>, AllocError> {
+    Ok(Command::new(alloc, "play").about(
+        "Plays a script of requests from standard input on a desk in memory; so does no subcommand",
+    ))
 }
 
 /// The type of an instruction by its number.

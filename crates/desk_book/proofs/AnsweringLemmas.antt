@@ -70,6 +70,9 @@ found_reply limit books content (suc m) found keeps is = at (slice_get content.r
         reply_of : {a b : Finding} → Some a ≡ Some b → a.reply ≡ b.reply
         reply_of {a} {b} e = let x : a ≡ b = cc in ap (λ (f : Finding). f.reply) x
 
+none_some : {A : Type 0} (x : A) → None ≡ Some x → ⊥
+none_some x e = cc
+
 pub found_known : (limit : ℕ) (books : Books) (content : Content) (n : ℕ) (e : Entry) → Keeps limit books content → entry_at books.history n ≡ Some e → None ≡ found_at content n → ⊥
 found_known limit books content zero e keeps at is = absurd (let known = entry_at-known books.history 0 e at in let lt : 0 < 0 = known.0 in omega arith)
 found_known limit books content (suc m) e keeps at is =
@@ -78,8 +81,7 @@ found_known limit books content (suc m) e keeps at is =
     let size = length_is content books.history keeps.tables.history in
     let some = slice_get-some content.register m (omega arith) in
     let there : found_at content (suc m) ≡ Some (record { number = suc m; entry = some.0.entry; reply = some.0.reply; standing = content.standing (suc m) }) = rw some.1 refl in
-    let clash : None ≡ Some (record { number = suc m; entry = some.0.entry; reply = some.0.reply; standing = content.standing (suc m) }) = is ∙ there in
-    absurd (cc)
+    absurd (none_some _ (is ∙ there))
 
 -- A repeat is of the entry that it names.
 

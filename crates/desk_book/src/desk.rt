@@ -1,5 +1,5 @@
 //! The desk: requests, answered from a register's tables.
-ghost use Rattle.std.specs.Prelude.{◌≡◌, true, false, map, IfErr, IfOk, OnErr};
+ghost use Rattle.std.specs.Prelude.{◌≡◌, ◌<◌, true, false, map, Err, IfErr, IfOk, OnErr};
 ghost use Rattle.desk_rules.specs.Verdict.{Books};
 ghost use Rattle.desk_register.specs.View.{IsLater};
 ghost use Rattle.desk_book.specs.Answered.{Run, says_closed};
@@ -65,6 +65,7 @@ impl<R: Register> Desk<R> {
         ensures closed { self.new.is_closed ≡ says_closed result }
         ensures stays { self.old.is_closed ≡ true → says_closed result ≡ true }
         ensures later { IsLater (R.view self.old.register) (R.view self.new.register) }
+        ensures blame { result ≡ Err Fault.Storage → (R.view self.old.register).failures < (R.view self.new.register).failures }
         ensures plain { R.plain ≡ true → self.old.is_closed ≡ false → says_closed result ≡ false }
     {
         self.obey(alloc, order_of(alloc, request))
@@ -102,6 +103,7 @@ impl<R: Register> Desk<R> {
         ensures closed { self.new.is_closed ≡ says_closed result }
         ensures stays { self.old.is_closed ≡ true → says_closed result ≡ true }
         ensures later { IsLater (R.view self.old.register) (R.view self.new.register) }
+        ensures blame { result ≡ Err Fault.Storage → (R.view self.old.register).failures < (R.view self.new.register).failures }
         ensures plain { R.plain ≡ true → self.old.is_closed ≡ false → says_closed result ≡ false }
     {
         if self.is_closed {

@@ -1,5 +1,5 @@
 //! A script, from a reader to a writer.
-ghost use Rattle.std.specs.Prelude.{◌≡◌, ℕ, List, [], ◌∷◌, IfSome, OnOk, Err};
+ghost use Rattle.std.specs.Prelude.{◌≡◌, ℕ, List, [], ◌∷◌, true, false, ◌<◌, length, IfSome, OnOk, Err};
 ghost use Rattle.std.specs.Io.KnownBytes.{Appends};
 ghost use Rattle.desk_rules.specs.Verdict.{Books};
 ghost use Rattle.desk_register.specs.View.{IsLater};
@@ -9,7 +9,7 @@ ghost use Rattle.desk_book.specs.Script.{item_of};
 
 use crate::desk::Desk;
 use crate::fault::PlayFault;
-use crate::reading::read_script;
+use crate::reading::{LONGEST_SCRIPT, read_script};
 use crate::script::{Item, first_item};
 use crate::writing::{write_answer, write_bad_line, write_fault};
 use desk_register::Register;
@@ -29,12 +29,13 @@ impl<R: Register> Desk<R> {
     ) -> Result<(), PlayFault>
         ensures played { OnOk result (IfSome (I.remaining reader.old) (λ input. (books : Books) → (R.view self.new.register).is_honest → Holds self.old.is_closed (R.view self.old.register) books
             → PlaysScript (R.view self.old.register).room self.old.is_closed books input (O.contents writer.old) (O.contents writer.new) self.new.is_closed (R.view self.new.register))) }
-        ensures unasked { result ≡ Err PlayFault.ReadFailed → self.new ≡ self.old }
-        ensures too_long { result ≡ Err PlayFault.TooLong → self.new ≡ self.old }
-        ensures memory { result ≡ Err PlayFault.Memory → self.new ≡ self.old }
+        ensures unread { result ≡ Err PlayFault.ReadFailed → (self.new ≡ self.old) × (writer.new ≡ writer.old) }
+        ensures too_long { result ≡ Err PlayFault.TooLong → (self.new ≡ self.old) × (writer.new ≡ writer.old) × IfSome (I.remaining reader.old) (λ input. LONGEST_SCRIPT < length input) }
+        ensures memory { result ≡ Err PlayFault.Memory → (self.new ≡ self.old) × (writer.new ≡ writer.old) × (reader.new ≡ reader.old) }
         ensures stands { result ≡ Err PlayFault.WriteFailed → IfSome (I.remaining reader.old) (λ input. (books : Books) → (R.view self.new.register).is_honest → Holds self.old.is_closed (R.view self.old.register) books
             → PlaysFront (R.view self.old.register).room self.old.is_closed books input self.new.is_closed (R.view self.new.register)) }
         ensures later { IsLater (R.view self.old.register) (R.view self.new.register) }
+        ensures plain { R.plain ≡ true → self.old.is_closed ≡ false → self.new.is_closed ≡ false }
     {
         let script = read_script(alloc, reader)?;
         match self.answer_script(alloc, &script, writer) {
@@ -55,6 +56,7 @@ impl<R: Register> Desk<R> {
         ensures front { (books : Books) → (R.view self.new.register).is_honest → Holds self.old.is_closed (R.view self.old.register) books
             → PlaysFront (R.view self.old.register).room self.old.is_closed books script.now self.new.is_closed (R.view self.new.register) }
         ensures later { IsLater (R.view self.old.register) (R.view self.new.register) }
+        ensures plain { R.plain ≡ true → self.old.is_closed ≡ false → self.new.is_closed ≡ false }
     {
         let mut rest = script;
         'items: while let Some((item, after)) = first_item(rest) {
@@ -76,6 +78,7 @@ impl<R: Register> Desk<R> {
         ensures front { (books : Books) → (R.view self.new.register).is_honest → Holds self.old.is_closed (R.view self.old.register) books
             → (text : List ℕ) × HasPlayed (R.view self.old.register).room self.old.is_closed books (item_of item.now ∷ []) text self.new.is_closed (R.view self.new.register) }
         ensures later { IsLater (R.view self.old.register) (R.view self.new.register) }
+        ensures plain { R.plain ≡ true → self.old.is_closed ≡ false → self.new.is_closed ≡ false }
     {
         match item {
             Item::Ask(request) => match self.ask(alloc, request) {

@@ -8,7 +8,7 @@ use std::io;
 use std::io::Read;
 
 /// A script has so many bytes at most.
-const LONGEST_SCRIPT: usize = 16_777_216;
+pub const LONGEST_SCRIPT: usize = 16_777_216;
 
 /// So many bytes are asked for in one read.
 const CHUNK: usize = 4096;

@@ -10,6 +10,7 @@ items-preserved g c =
     let v1 = g.R.Register.view c.items.self.register in
     let v2 = g.R.Register.view c.answer_item.new.self.register in
     record {
+      plain = λ is not_closed. a.plain is (i.plain is not_closed);
       later = later_on v0 v1 v2 i.later a.later;
       played = λ books honest holds.
           let s = i.played books (a.later.honest honest) holds in

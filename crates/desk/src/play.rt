@@ -1,0 +1,36 @@
+//! `desk play`.
+ghost use Rattle.std.specs.Prelude.{IfOk, IfSome};
+ghost use Rattle.desk.specs.PlayAnswer.{IsPlayAnswer};
+
+use desk_book::{Desk, PlayFault};
+use desk_register::ListRegister;
+use std::alloc::Global;
+use std::io::{self, Read, Write};
+
+/// The desk holds so many entries at most.
+const MOST_ENTRIES: u64 = 999_999_999;
+
+/// The exit statuses of an answer.
+const DONE: u8 = 0;
+
+const FAULT: u8 = 3;
+
+/// Plays a script from the reader on a new desk in memory. Gives the exit status: 0 where the script was played,
+/// whatever its answers; 3 after `fault 60` where memory is wanting for the script, and after `fault io` where the
+/// reader or the writer failed or the script is too long.
+pub fn answer_play<R: Read, W: Write>(
+    alloc: Global,
+    reader: &mut R,
+    writer: &mut W,
+) -> io::Result<u8>
+    ensures { IfOk result (λ status. IfSome (R.remaining reader.old) (λ input. IsPlayAnswer input status (W.contents writer.old) (W.contents writer.new))) }
+{
+    let mut desk = Desk::new(ListRegister::new(alloc, MOST_ENTRIES));
+    let line: &[u8] = match desk.play(alloc, reader, writer) {
+        Ok(()) => return Ok(DONE),
+        Err(PlayFault::Memory) => b"fault 60\n",
+        Err(PlayFault::ReadFailed | PlayFault::WriteFailed | PlayFault::TooLong) => b"fault io\n",
+    };
+    writer.write_all(line)?;
+    Ok(FAULT)
+}
