@@ -8,7 +8,9 @@ use Rattle.desk_rules.specs.Verdict.{Books}
 use Rattle.desk_register.specs.View.{View, IsLater}
 use Rattle.desk_book.specs.declared.fault.Fault.{Fault}
 use Rattle.desk_book.specs.declared.order.Order.{Order}
-use Rattle.desk_book.specs.Answered.{Run, Step, says_closed}
+use Rattle.desk_book.specs.Answered.{IsDecided, IsRepeated, Run, Step, says_closed}
+use Rattle.desk_book.specs.declared.order.Order.TheVariants.{Decide}
+use Rattle.desk_rules.specs.declared.verdict.Verdict.TheVariants.{Repeat}
 use Rattle.desk_book.specs.Asked.{Asked, asked_by}
 use Rattle.desk_book.specs.declared.request.Request.{Request}
 use Rattle.desk_book.specs.Held.{AnswersOrder, Holds, IsObeyed, Steps}
@@ -206,3 +208,29 @@ front_and_one v0 v1 v2 was is next books script behind rest a b item room s firs
       text = s.text ++ p.0;
       played = one_more v0.room was is next books s.front item s.text p.0 v1 v2 s.played (subst P room p.1);
     }
+
+-- A repeat among requests.
+
+run_then : (limit : ℕ) (was : Bool) (books : Books) (front rest : List Asked) (answers more : List (Result Reply Fault)) (is next : Bool) (between last : Books) → Run limit was books front answers is between
+    → Run limit is between rest more next last → Run limit was books (front ++ rest) (answers ++ more) next last
+run_then limit was books [] rest [] more is next between last first second =
+    let P : Bool → Type 0 = λ b. Run limit b books rest more next last in
+    let Q : Books → Type 0 = λ b. Run limit is b rest more next last in
+    subst P first.0 (subst Q first.1 second)
+run_then limit was books [] rest (a ∷ answers) more is next between last first second = absurd first
+run_then limit was books (r ∷ front) rest [] more is next between last first second = absurd first
+run_then limit was books (r ∷ front) rest (a ∷ answers) more is next between last first second =
+    (first.0, (first.1.0, first.1.1, run_then limit (says_closed a) first.1.0 front rest answers more is next between last first.1.2 second))
+
+pub repeat_once : (limit : ℕ) (books between last : Books) (front rest : List Asked) (asked : Asked) (answers more : List (Result Reply Fault)) (reply : Reply) (is : Bool)
+    → Run limit false books front answers false between → IsRepeated limit between asked reply → Run limit false between rest more is last
+    → Run limit false books (front ++ asked ∷ rest) (answers ++ Ok reply ∷ more) is last × Run limit false books (front ++ rest) (answers ++ more) is last
+repeat_once limit books between last front rest asked answers more reply is first repeated second =
+    let decided : IsDecided limit between repeated.entry reply between = record { verdict = Repeat repeated.number; is_verdict = repeated.repeats; grows = refl; replied = repeated.replied } in
+    let step : Step limit between asked (Ok reply) between = (Decide repeated.entry, repeated.reads, decided) in
+    let never : false ≡ true → false ≡ true = λ e. e in
+    let one : Run limit false between (asked ∷ rest) (Ok reply ∷ more) is last = (never, (between, step, second)) in
+    (
+      run_then limit false books front (asked ∷ rest) answers (Ok reply ∷ more) false is between last first one,
+      run_then limit false books front rest answers more false is between last first second,
+    )

@@ -78,3 +78,11 @@ Run limit was books (asked ∷ more) (answer ∷ answers) is last =
     × ((next : Books) × Step limit books asked answer next × Run limit (says_closed answer) next more answers is last)
 Run limit was books [] (answer ∷ answers) is last = ⊥
 Run limit was books (asked ∷ more) [] is last = ⊥
+
+-- What is asked is a command that was accepted before, and the reply is the first reply of its entry.
+pub record IsRepeated (limit : ℕ) (books : Books) (asked : Asked) (reply : Reply) : Type 0 where
+  pub entry : Entry
+  pub number : ℕ
+  pub reads : IsOrder asked (Decide entry)
+  pub repeats : IsVerdict limit books entry (Repeat number)
+  pub replied : IsReply books entry (Repeat number) books reply

@@ -28,7 +28,7 @@ mod writing;
 pub use command::read_command;
 pub use desk::Desk;
 pub use fault::{Fault, PlayFault};
-pub use laws::{one_command, one_script};
+pub use laws::{one_command, one_script, repeats_act_once};
 pub use order::{Order, order_of};
 pub use reading::read_script;
 pub use request::Request;
