@@ -1,20 +1,17 @@
 -- What an accepted entry leaves behind.
-use Rattle.std.proofs.Common.{◌≡◌, ◌≢◌, ◌⊎◌, inl, inr, ℕ, zero, suc, ◌+◌, ◌-◌, ◌<◌, ◌≤◌, ◌==◌, Bool, true, false, not, ◌&&◌, List, [], ◌∷◌, ◌++◌, length, map, take, filter, Contains, Option, Some, None, refl, ap, sym, ◌∙◌, subst, arith, length-append}
-use Rattle.std.specs.Prelude.{nat_lt, nat_le, if◌then◌else◌, slice_get, count_by, option_and_then, is_some, Result, Ok, Err, OnOk}
-use Rattle.std.specs.List.{list_any}
-use Rattle.std.proofs.lemmas.Bool.{cases_Bool, cases_lt, cases_eq, both_ways, leb-true}
+use Rattle.std.proofs.Common.{◌≡◌, inl, inr, ℕ, zero, suc, ◌+◌, ◌<◌, ◌≤◌, ◌==◌, Bool, true, false, not, ◌&&◌, List, [], ◌∷◌, ◌++◌, length, take, Contains, Option, Some, None, refl, ap, sym, ◌∙◌, subst, arith, length-append}
+use Rattle.std.specs.Prelude.{nat_le, slice_get, count_by, option_and_then}
+use Rattle.std.proofs.lemmas.Bool.{cases_Bool, cases_lt, cases_eq, both_ways}
 use Rattle.std.proofs.lemmas.Bool.Decides.{nat_tests}
 use Rattle.std.proofs.lemmas.List.Sums.{length-filter}
 use Rattle.desk_rules.specs.declared.entry.Entry.{Entry}
 use Rattle.desk_rules.specs.declared.entry.Entry.TheVariants.{Participant, Account, Security, Issue, Redeem, PayIn, PayOut, Instruct, Cancel, Run}
 use Rattle.desk_rules.specs.declared.entry.Instructed.{Instructed}
 use Rattle.desk_rules.specs.declared.pair.Pair.{Pair}
-use Rattle.desk_rules.specs.declared.pair.Settled.{Settled}
 use Rattle.desk_rules.specs.declared.reply.Kept.{Kept}
 use Rattle.desk_rules.specs.declared.reply.Reply.{Reply}
 use Rattle.desk_rules.specs.declared.reply.State.{State}
-use Rattle.desk_rules.specs.declared.reply.State.TheVariants as states
-use Rattle.desk_rules.specs.declared.reply.State.TheVariants.{Plain, Unmatched, Matched, Cancelled}
+use Rattle.desk_rules.specs.declared.reply.State.TheVariants.{Unmatched, Matched}
 use Rattle.desk_msg.specs.declared.status.Reason.TheVariants.{Future}
 use Rattle.desk_msg.specs.declared.instruction.Instruction.{Instruction}
 use Rattle.desk_register.specs.declared.standing.Standing.{Standing}
@@ -22,20 +19,19 @@ use Rattle.desk_register.specs.declared.applied.Applied.{Applied}
 use Rattle.desk_rules.specs.declared.verdict.Verdict.TheVariants.{Accept, Refuse}
 use Rattle.desk_rules.specs.declared.verdict.Refusal.TheVariants.{Full}
 use Rattle.desk_rules.specs.History.{before, entry_at, instruction_at, instructed, run_day, sender_of, reference_of, number_of_key}
-use Rattle.desk_rules.specs.Pairing.{IsPairing, IsFree, IsSide, has_side}
-use Rattle.desk_rules.specs.Settlement.{IsSettlement, is_due, is_by}
+use Rattle.desk_rules.specs.Pairing.{IsPairing, IsFree}
+use Rattle.desk_rules.specs.Settlement.{is_due}
 use Rattle.desk_rules.specs.Reply.{IsFirstReply, reply_to, settled_count, waiting_count, is_settled_pair}
 use Rattle.desk_rules.specs.Verdict.{Books, Check, AreBooks, WasAccepted, IsVerdict, IsVerdictAt, checks_of, first_failing, is_from_stranger}
 use Rattle.desk_rules.proofs.Decided.{In, In-from_Contains, Contains-from_In, In-push_cases, filter-none}
 use Rattle.desk_rules.proofs.HistoryLemmas.{entry_at-front, entry_at-end, entry_at-some, length-before, slice_get-known, slice_get-front, slice_get-end}
 use Rattle.desk_rules.proofs.Existence.{books_exist}
-use Rattle.desk_rules.proofs.PlainLemmas.{any-In, In-any, free_no_side}
-use Rattle.desk_rules.proofs.SettlementLemmas.{due_facts, due_known}
+use Rattle.desk_rules.proofs.SettlementLemmas.{due_facts}
 use Rattle.desk_rules.proofs.SettlementGrowth.{by_none}
-use Rattle.desk_register.specs.Content.{Content, history_of, appended, paired, first_standing, standing_at}
+use Rattle.desk_register.specs.Content.{Content, appended, first_standing}
 use Rattle.desk_register.specs.Decision.{is_of_today}
-use Rattle.desk_register.specs.Tables.{Tables, Grown, IsAccepted, IsAlone, IsMatched, StandsAt, StandsSo, is_registration, mated, mate_in}
-use Rattle.desk_register.specs.Pass.{AreOfToday, CanRun, RanTo, IsPassed}
+use Rattle.desk_register.specs.Tables.{Tables, Grown, IsAccepted, StandsAt, StandsSo, is_registration, mated, mate_in}
+use Rattle.desk_register.specs.Pass.{CanRun, RanTo, IsPassed}
 use Rattle.desk_register.specs.View.{View}
 use Rattle.desk_register.specs.Applied.{Keeps, IsMateOf, IsApplied, CanApply, HasApplied}
 use Rattle.desk_register.proofs.TablesLemmas.{one_books, length_is, pairs_known, accepted_in}

@@ -1,20 +1,18 @@
 -- One entry more in the lists.
-use Rattle.std.proofs.Common.{◌≡◌, ◌≢◌, ℕ, zero, suc, ◌+◌, ◌-◌, ◌*◌, ◌<◌, ◌≤◌, Bool, true, false, eqb, List, [], ◌∷◌, ◌++◌, length, map, Option, Some, None, refl, ap, sym, ◌∙◌, subst, arith}
+use Rattle.std.proofs.Common.{◌≡◌, ℕ, zero, suc, ◌+◌, ◌-◌, ◌<◌, ◌≤◌, true, false, eqb, List, [], ◌∷◌, ◌++◌, length, map, refl, ap, ◌∙◌, arith}
 use Rattle.std.specs.Prelude.{slice_get, slice_set, unwrap_or, ◌==◌, if◌then◌else◌, Result, Ok, Err, OnOk, bytes_eq, sum_by}
 use Rattle.std.proofs.lemmas.Bool.Decides.{nat_tests}
-use Rattle.std.proofs.lemmas.Grind.{common_steps}
 use Rattle.std.proofs.lemmas.List.Sums.{sum_by-append}
 use Rattle.std.proofs.lemmas.List.{map-append}
 use Rattle.desk_rules.specs.declared.entry.Entry.{Entry}
 use Rattle.desk_rules.specs.declared.entry.Entry.TheVariants.{Participant, Account, Security, Issue, Redeem, PayIn, PayOut, Instruct, Cancel, Run}
-use Rattle.desk_rules.specs.declared.entry.Holding.{Holding}
 use Rattle.desk_rules.specs.declared.reply.Kept.{Kept}
 use Rattle.desk_rules.specs.declared.reply.Reply.{Reply}
 use Rattle.desk_register.specs.declared.standing.Standing.{Standing}
 use Rattle.desk_rules.specs.Balances.{issued, redeemed, issued_by, redeemed_by, holding_of}
 use Rattle.desk_register.specs.Content.{Content, CanAppend, appended, positions_after, standing_at, first_standing, history_of}
-use Rattle.desk_register.specs.Lists.{AreTotals, Listed, SameBooks, value_in, is_key, content_in, outstanding_in, quantity_in, totals_after, SameEntries, standing_in, plain_standing, with_total}
-use Rattle.desk_register.proofs.QuantityLemmas.{by_bool, same_bytes, bytes_refl}
+use Rattle.desk_register.specs.Lists.{AreTotals, Listed, SameBooks, value_in, is_key, content_in, outstanding_in, quantity_in, totals_after, SameEntries, standing_in, plain_standing}
+use Rattle.desk_register.proofs.QuantityLemmas.{by_bool, same_bytes}
 
 -- where entries stand, with one more at the end
 standing_end : (standings : List Standing) (s : Standing) (n : ℕ)

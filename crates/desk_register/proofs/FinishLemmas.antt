@@ -1,12 +1,12 @@
 -- A run that has tried all due pairs, and is added.
-use Rattle.std.proofs.Common.{◌≡◌, ◌≢◌, ◌⊎◌, inl, inr, ℕ, zero, suc, ◌+◌, ◌-◌, ◌<◌, ◌≤◌, ◌==◌, Bool, true, false, List, [], ◌∷◌, ◌++◌, length, map, filter, Contains, Option, Some, None, refl, ap, sym, ◌∙◌, subst, arith, length-append, append-nil}
-use Rattle.std.specs.Prelude.{if◌then◌else◌, option_and_then, Result, Ok, Err, OnOk}
-use Rattle.std.proofs.lemmas.Bool.{cases_Bool, cases_lt, cases_eq, ne_eqb, both_ways}
+use Rattle.std.proofs.Common.{◌≡◌, inl, inr, ℕ, ◌+◌, ◌<◌, ◌≤◌, ◌==◌, true, false, List, [], ◌∷◌, ◌++◌, length, Option, Some, None, refl, ap, sym, ◌∙◌, subst, arith, length-append, append-nil}
+use Rattle.std.specs.Prelude.{option_and_then, Result, Ok, Err, OnOk}
+use Rattle.std.proofs.lemmas.Bool.{cases_lt, cases_eq, ne_eqb}
 use Rattle.std.proofs.lemmas.Bool.Decides.{nat_tests}
 use Rattle.std.proofs.lemmas.List.Elements.{filter-append}
 use Rattle.desk_codes.specs.Number.{number_of}
 use Rattle.desk_rules.specs.declared.entry.Entry.{Entry}
-use Rattle.desk_rules.specs.declared.entry.Entry.TheVariants.{Participant, Account, Security, Issue, Redeem, PayIn, PayOut, Instruct, Cancel, Run}
+use Rattle.desk_rules.specs.declared.entry.Entry.TheVariants.{Run}
 use Rattle.desk_rules.specs.declared.pair.Pair.{Pair}
 use Rattle.desk_rules.specs.declared.pair.Place.{Place}
 use Rattle.desk_rules.specs.declared.pair.Settled.{Settled}
@@ -23,23 +23,23 @@ use Rattle.desk_msg.specs.declared.status.Reason.TheVariants.{Future}
 use Rattle.desk_register.specs.declared.standing.Standing.{Standing}
 use Rattle.desk_rules.specs.declared.verdict.Verdict.TheVariants.{Accept}
 use Rattle.desk_rules.specs.declared.entry.Instructed.{Instructed}
-use Rattle.desk_rules.specs.History.{before, entry_at, instruction_at, instructed}
+use Rattle.desk_rules.specs.History.{before, instruction_at, instructed}
 use Rattle.desk_rules.specs.Balances.{credits, debits}
 use Rattle.desk_rules.specs.Covered.{lack_of}
 use Rattle.desk_rules.specs.Pairing.{IsPairing}
-use Rattle.desk_rules.specs.Settlement.{IsSettlement, IsOpen, is_due, is_above, precedes, settled_before}
+use Rattle.desk_rules.specs.Settlement.{IsOpen, is_due, precedes, settled_before}
 use Rattle.desk_rules.specs.Verdict.{Books, AreBooks, WasAccepted, IsVerdict}
 use Rattle.desk_register.specs.Content.{Content, history_of, appended}
-use Rattle.desk_register.specs.Tables.{Tables, Grown, StandsAt, StandsSo, IsAlone, IsMatched, IsReason, IsLastTry}
-use Rattle.desk_register.specs.Pass.{PassesAt, PassesSo, IsWaiting, IsUntried, IsTried, IsPassing, HasPassed, IsPassed, reason_of}
+use Rattle.desk_register.specs.Tables.{Tables, Grown, StandsAt, StandsSo, IsReason, IsLastTry}
+use Rattle.desk_register.specs.Pass.{PassesAt, PassesSo, IsTried, HasPassed, IsPassed, reason_of}
 use Rattle.desk_rules.proofs.Decided.{In, In-from_Contains, Contains-from_In, filter-none, filter-same, not_back}
 use Rattle.desk_rules.proofs.Existence.{run_unpaired}
 use Rattle.desk_rules.proofs.HistoryLemmas.{entry_at-end, before-front, before-all, instruction_at-known, instruction_at-front}
 use Rattle.desk_rules.proofs.PairingLemmas.{pairing_alone}
 use Rattle.desk_rules.proofs.BalanceLemmas.{IsIn, credits-entry, debits-entry}
-use Rattle.desk_rules.proofs.SettlementLemmas.{IsRanged, due_facts, due_known, precedes_strict, precedes_run}
-use Rattle.desk_rules.proofs.SettlementGrowth.{IsSettledTo, run_begins, run_ends, is_due-front, precedes-front}
-use Rattle.desk_register.proofs.TablesLemmas.{accepted_more, beyond, history_more, length_is, not_cancelled, one_books, pairs_known, settled_known}
+use Rattle.desk_rules.proofs.SettlementLemmas.{due_facts, due_known, precedes_strict, precedes_run}
+use Rattle.desk_rules.proofs.SettlementGrowth.{run_begins, run_ends, is_due-front, precedes-front}
+use Rattle.desk_register.proofs.TablesLemmas.{accepted_more, beyond, history_more, length_is, not_cancelled, pairs_known, settled_known}
 use Rattle.desk_register.proofs.PassWhole.{Pass}
 
 module _ (books : Books) (reference day : List ℕ) (place : Option Place) (settled : List Settled) (content : Content) (are : AreBooks books)

@@ -1,6 +1,5 @@
 -- What all accounts hold, and the register that holds nothing.
-use Rattle.std.proofs.Common.{◌≡◌, ℕ, zero, suc, ◌+◌, ◌<◌, ◌≤◌, ◌^◌, List, [], ◌∷◌, sum_by, Option, Some, None, refl, ap, sym, ◌∙◌, subst, arith, lit<}
-use Rattle.std.specs.Prelude.{slice_get}
+use Rattle.std.proofs.Common.{◌≡◌, ℕ, zero, suc, ◌+◌, ◌<◌, ◌≤◌, List, [], ◌∷◌, sum_by, refl, ap, arith}
 use Rattle.std.proofs.lemmas.List.Sums.{sum_by-cons}
 use Rattle.desk_rules.specs.Balances.{credits, debits, issued, redeemed}
 use Rattle.desk_rules.specs.Laws.{accounts_of}
@@ -11,7 +10,7 @@ use Rattle.desk_rules.specs.History.{instruction_at}
 use Rattle.desk_rules.proofs.Decided.{In-from_Contains}
 use Rattle.desk_rules.proofs.HistoryLemmas.{entry_at-known, slice_get-known}
 use Rattle.desk_register.specs.Applied.{Keeps, no_books}
-use Rattle.desk_register.specs.Content.{Content, history_of}
+use Rattle.desk_register.specs.Content.{Content}
 use Rattle.desk_register.specs.Lists.{content_in, standing_in}
 use Rattle.desk_register.specs.Looked.{held_of}
 use Rattle.desk_register.specs.Tables.{Tables, StandsAt}

@@ -1,13 +1,12 @@
 -- An instruction takes the tables of a history to those of the longer one, and finds its mate there.
-use Rattle.std.proofs.Common.{◌≡◌, ◌≢◌, ◌⊎◌, inl, inr, ℕ, zero, suc, ◌+◌, ◌-◌, ◌<◌, ◌≤◌, ◌==◌, Bool, true, false, List, [], ◌∷◌, ◌++◌, length, map, drop, Contains, Option, Some, None, refl, ap, sym, ◌∙◌, subst, arith, length-append, append-nil}
-use Rattle.std.specs.Prelude.{if◌then◌else◌, option_and_then, Result, Ok, Err, OnOk}
-use Rattle.std.specs.List.{list_any}
-use Rattle.std.proofs.lemmas.Bool.{cases_Bool, cases_lt, cases_eq, ne_eqb, both_ways}
+use Rattle.std.proofs.Common.{◌≡◌, inl, inr, ℕ, ◌+◌, ◌<◌, ◌≤◌, ◌==◌, true, false, List, [], ◌∷◌, ◌++◌, length, Contains, Option, Some, None, refl, ap, sym, ◌∙◌, subst, arith, length-append, append-nil}
+use Rattle.std.specs.Prelude.{option_and_then, Result, Ok, Err, OnOk}
+use Rattle.std.proofs.lemmas.Bool.{cases_eq, ne_eqb}
 use Rattle.std.proofs.lemmas.Bool.Decides.{nat_tests}
 use Rattle.std.proofs.lemmas.List.{drop_all}
 use Rattle.desk_msg.specs.declared.instruction.Instruction.{Instruction}
 use Rattle.desk_rules.specs.declared.entry.Entry.{Entry}
-use Rattle.desk_rules.specs.declared.entry.Entry.TheVariants.{Participant, Account, Security, Issue, Redeem, PayIn, PayOut, Instruct, Cancel, Run}
+use Rattle.desk_rules.specs.declared.entry.Entry.TheVariants.{Instruct}
 use Rattle.desk_rules.specs.declared.pair.Pair.{Pair}
 use Rattle.desk_rules.specs.declared.pair.Settled.{Settled}
 use Rattle.desk_register.specs.declared.register.Fault.{Fault}
@@ -16,20 +15,19 @@ use Rattle.desk_rules.specs.declared.reply.State.{State}
 use Rattle.desk_rules.specs.declared.reply.State.TheVariants as states
 use Rattle.desk_rules.specs.declared.reply.State.TheVariants.{Plain, Unmatched, Matched, Cancelled}
 use Rattle.desk_msg.specs.declared.status.Reason.TheVariants.{Future}
-use Rattle.desk_register.specs.declared.standing.Standing.{Standing}
 use Rattle.desk_rules.specs.declared.verdict.Verdict.TheVariants.{Accept}
 use Rattle.desk_rules.specs.declared.entry.Instructed.{Instructed}
-use Rattle.desk_rules.specs.History.{before, instruction_at, entry_at, run_day, instructed}
-use Rattle.desk_rules.specs.Opposite.{AreOpposite, AreOppositeAt}
-use Rattle.desk_rules.specs.Cancelled.{cancels, is_cancelled, is_cancelled_by}
+use Rattle.desk_rules.specs.History.{instruction_at, instructed}
+use Rattle.desk_rules.specs.Opposite.{AreOpposite}
+use Rattle.desk_rules.specs.Cancelled.{is_cancelled, is_cancelled_by}
 use Rattle.desk_rules.specs.Pairing.{IsPairing, IsFree, IsSide, IsCandidate, IsMate}
 use Rattle.desk_rules.specs.Balances.{credits, debits}
 use Rattle.desk_rules.specs.Settlement.{IsSettlement, is_due}
 use Rattle.desk_rules.specs.Verdict.{Books, AreBooks, IsVerdict}
-use Rattle.desk_register.specs.Content.{Content, history_of, appended, paired, standing_at, CanPair}
+use Rattle.desk_register.specs.Content.{Content, history_of, appended, paired, CanPair}
 use Rattle.desk_register.specs.Looked.{IsOppositeAt, IsFirstOpposite}
-use Rattle.desk_register.specs.Tables.{Tables, Grown, IsAccepted, StandsAt, StandsSo, IsAlone, IsMatched, mate_in, mated}
-use Rattle.desk_rules.proofs.Decided.{In, In-from_Contains, Contains-from_In, In-left, In-right, In-push_cases}
+use Rattle.desk_register.specs.Tables.{Tables, Grown, IsAccepted, StandsAt, StandsSo, IsAlone, IsMatched, mate_in}
+use Rattle.desk_rules.proofs.Decided.{In, In-from_Contains, Contains-from_In, In-right}
 use Rattle.desk_rules.proofs.HistoryLemmas.{entry_at-end, before-all, instruction_at-known, instruction_at-front}
 use Rattle.desk_rules.proofs.PairingLemmas.{pairing_alone, pairing_mated}
 use Rattle.desk_rules.proofs.SettlementLemmas.{IsRanged, due_facts, due_known, decided_settlement}

@@ -1,15 +1,15 @@
 -- The entry that a key finds.
-use Rattle.std.proofs.Common.{◌≡◌, ℕ, zero, suc, ◌+◌, ◌-◌, ◌<◌, ◌≤◌, Bool, true, false, List, [], ◌∷◌, length, map, Option, Some, None, refl, ap, sym, ◌∙◌, subst, arith}
+use Rattle.std.proofs.Common.{◌≡◌, ℕ, suc, ◌+◌, ◌<◌, List, [], ◌∷◌, length, map, Option, Some, None, refl, ap, sym, ◌∙◌, arith}
 use Rattle.std.specs.Prelude.{slice_get, option_map, option_and_then}
 use Rattle.std.proofs.lemmas.Option.{slice_get-map}
 use Rattle.desk_rules.specs.declared.entry.Sender.{Sender}
 use Rattle.desk_rules.specs.declared.entry.Entry.{Entry}
 use Rattle.desk_register.specs.declared.found.Found.{Found}
 use Rattle.desk_rules.specs.declared.reply.Kept.{Kept}
-use Rattle.desk_rules.specs.declared.verdict.Verdict.TheVariants.{Accept, Repeat, Refuse}
+use Rattle.desk_rules.specs.declared.verdict.Verdict.TheVariants.{Repeat, Refuse}
 use Rattle.desk_rules.specs.History.{number_from, number_of_key, entry_at, has_key, sender_of, reference_of}
 use Rattle.desk_register.specs.Content.{Content, history_of}
-use Rattle.desk_register.specs.Looked.{Finding, view_of, found_at, kept_at}
+use Rattle.desk_register.specs.Looked.{Finding, view_of, found_at}
 use Rattle.desk_rules.specs.Verdict.{reused_by}
 use Rattle.desk_register.specs.Decision.{IsVerdictOnKey}
 use Rattle.desk_register.proofs.QuantityLemmas.{by_bool}

@@ -1,17 +1,16 @@
 -- What accounts hold, entry by entry.
-use Rattle.std.proofs.Common.{◌≡◌, ℕ, zero, suc, ◌+◌, ◌-◌, ◌<◌, ◌≤◌, List, [], ◌∷◌, ◌++◌, length, take, map, get_or, Option, Some, None, refl, ap, sym, ◌∙◌, subst, arith, inl, inr}
+use Rattle.std.proofs.Common.{◌≡◌, ℕ, zero, suc, ◌+◌, ◌<◌, ◌≤◌, List, [], ◌∷◌, length, take, map, get_or, Option, Some, None, refl, ap, sym, ◌∙◌, subst, arith, inl, inr}
 use Rattle.std.specs.Prelude.{sum_by}
 use Rattle.std.specs.List.{filter_map, cons_option}
 use Rattle.std.proofs.lemmas.List.Sums.{sum_by-append}
-use Rattle.std.proofs.lemmas.List.{take_all}
 use Rattle.desk_rules.specs.declared.entry.Entry.{Entry}
 use Rattle.desk_rules.specs.declared.reply.Kept.{Kept}
-use Rattle.desk_register.specs.Content.{Content, history_of}
-use Rattle.std.specs.Prelude.{Bool, true, false, ◌||◌, ◌⊎◌, bytes_eq, is_some}
+use Rattle.desk_register.specs.Content.{Content}
+use Rattle.std.specs.Prelude.{Bool, true, false, ◌||◌, bytes_eq, is_some}
 use Rattle.desk_rules.specs.declared.entry.Entry.TheVariants.{Participant, Account, Security, Issue, Redeem, PayIn, PayOut, Instruct, Cancel, Run}
 use Rattle.desk_rules.specs.Verdict.{kind_by, kind_of}
 use Rattle.desk_rules.specs.Laws.{account_by}
-use Rattle.desk_register.specs.Looked.{held_by, held_of, security_by, IsLess, IsLesser, IsAboveText, IsListedAbove, IsSecurityOf, IsSecurityAfter}
+use Rattle.desk_register.specs.Looked.{held_by, held_of, security_by, IsLess, IsLesser, IsAboveText, IsSecurityOf, IsSecurityAfter}
 use Rattle.std.specs.Ordering.{nat_cmp, ordering_reverse}
 use Rattle.std.specs.Cmp.Lexicographic.{slice_cmp, nat_list_cmp_total}
 use Rattle.std.specs.declared.cmp.Ordering.TheVariants.{Less}

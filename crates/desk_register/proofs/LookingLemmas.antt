@@ -1,5 +1,5 @@
 -- Look-ups in the list of accepted entries.
-use Rattle.std.proofs.Common.{◌≡◌, ℕ, zero, suc, ◌+◌, ◌-◌, ◌<◌, ◌≤◌, List, [], ◌∷◌, length, drop, map, get_or, Option, Some, None, refl, ap, sym, ◌∙◌, arith}
+use Rattle.std.proofs.Common.{◌≡◌, ℕ, zero, suc, ◌-◌, ◌<◌, ◌≤◌, List, [], ◌∷◌, length, drop, map, get_or, Some, None, refl, arith}
 use Rattle.desk_rules.specs.declared.reply.Kept.{Kept}
 use Rattle.std.specs.Prelude.{slice_get}
 use Rattle.desk_rules.specs.History.{run_day, instructed, instruction_at}

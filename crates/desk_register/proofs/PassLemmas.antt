@@ -1,8 +1,8 @@
 -- A run's pass over the due pairs.
-use Rattle.std.proofs.Common.{◌≡◌, ◌≢◌, ◌⊎◌, inl, inr, ℕ, zero, suc, ◌+◌, ◌-◌, ◌<◌, ◌≤◌, ◌^◌, ◌==◌, Bool, true, false, not, ◌&&◌, List, [], ◌∷◌, ◌++◌, length, map, drop, Contains, Option, Some, None, refl, ap, sym, ◌∙◌, subst, arith, length-append, append-nil}
-use Rattle.std.specs.Prelude.{if◌then◌else◌, option_and_then, nat_lt, nat_le, slice_get}
+use Rattle.std.proofs.Common.{◌≡◌, inl, inr, ℕ, zero, suc, ◌+◌, ◌<◌, ◌≤◌, ◌==◌, Bool, true, false, not, ◌&&◌, List, [], ◌∷◌, ◌++◌, length, drop, Contains, Option, Some, None, refl, ap, sym, ◌∙◌, subst, arith}
+use Rattle.std.specs.Prelude.{option_and_then, nat_lt, nat_le, slice_get}
 use Rattle.std.specs.List.{list_any}
-use Rattle.std.proofs.lemmas.Bool.{cases_Bool, cases_lt, cases_eq, ne_eqb, both_ways, lt-ltb, le-leb, leb-true}
+use Rattle.std.proofs.lemmas.Bool.{cases_Bool, ne_eqb, both_ways, lt-ltb, le-leb, leb-true}
 use Rattle.std.proofs.lemmas.Bool.Decides.{nat_tests}
 use Rattle.desk_codes.specs.Number.{number_of}
 use Rattle.desk_rules.specs.declared.entry.Entry.{Entry}
@@ -13,24 +13,22 @@ use Rattle.desk_rules.specs.declared.pair.Settled.{Settled}
 use Rattle.desk_rules.specs.declared.reply.State.{State}
 use Rattle.desk_rules.specs.declared.reply.State.TheVariants as states
 use Rattle.desk_rules.specs.declared.reply.State.TheVariants.{Plain, Unmatched, Matched, Cancelled}
-use Rattle.desk_register.specs.declared.standing.Standing.{Standing}
 use Rattle.desk_msg.specs.declared.status.Reason.{Reason}
 use Rattle.desk_rules.specs.declared.entry.Instructed.{Instructed}
-use Rattle.desk_rules.specs.History.{before, instruction_at, entry_at, run_day, instructed}
+use Rattle.desk_rules.specs.History.{before, instruction_at, entry_at, run_day}
 use Rattle.desk_rules.specs.Cancelled.{cancels, is_cancelled, is_cancelled_by}
-use Rattle.desk_rules.specs.Pairing.{IsPairing, IsFree, IsSide}
-use Rattle.desk_rules.specs.Balances.{credits, debits, issued, redeemed}
-use Rattle.desk_rules.specs.Settlement.{IsSettlement, Settles, is_due, is_above, is_sooner, is_by, stands, day_of, instructed_day, IsOpen, IsNext, IsUnsettled, place_of}
-use Rattle.desk_rules.specs.Verdict.{Books, AreBooks, WasAccepted}
-use Rattle.desk_register.specs.Content.{Content, history_of}
+use Rattle.desk_rules.specs.Pairing.{IsSide}
+use Rattle.desk_rules.specs.Settlement.{is_due, is_above, is_sooner, is_by, stands, day_of, instructed_day, IsOpen, IsNext}
+use Rattle.desk_rules.specs.Verdict.{Books, AreBooks}
+use Rattle.desk_register.specs.Content.{Content}
 use Rattle.desk_register.specs.Looked.{IsDue, IsDuePairAfter, IsMatchedPair, IsAbove, IsBefore}
-use Rattle.desk_register.specs.Tables.{mate_in, IsAlone}
+use Rattle.desk_register.specs.Tables.{mate_in}
 use Rattle.desk_register.specs.Decision.{is_of_today}
-use Rattle.desk_register.specs.Pass.{AreOfToday, PassesAt, PassesSo, IsWaiting, IsUntried, IsTried, IsPassing}
+use Rattle.desk_register.specs.Pass.{AreOfToday, PassesAt, PassesSo, IsWaiting, IsPassing}
 use Rattle.desk_rules.proofs.Decided.{In, In-from_Contains, Contains-from_In}
-use Rattle.desk_rules.proofs.HistoryLemmas.{entry_at-end, before-all, instruction_at-known, instruction_at-front}
-use Rattle.desk_rules.proofs.SettlementLemmas.{IsRanged, due_facts, due_known, sooner_true, sooner_day, sooner_number, above_true, above_day, above_number, ordered_pairs, one_number}
-use Rattle.desk_rules.proofs.SettlementGrowth.{IsSettledTo, IsReached, IsPlaceOf, day_of-front}
+use Rattle.desk_rules.proofs.HistoryLemmas.{entry_at-end, before-all}
+use Rattle.desk_rules.proofs.SettlementLemmas.{due_facts, sooner_true, above_true, above_day, above_number}
+use Rattle.desk_rules.proofs.SettlementGrowth.{IsSettledTo, IsPlaceOf, day_of-front}
 use Rattle.desk_rules.proofs.PlainLemmas.{In-any}
 use Rattle.desk_rules.proofs.PairingLaws.{one_pair_of}
 use Rattle.desk_register.proofs.TablesLemmas.{pairs_known}

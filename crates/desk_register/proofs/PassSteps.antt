@@ -1,32 +1,25 @@
 -- What a step of a run's pass leaves: where each instruction stands, and what is settled so far.
-use Rattle.std.proofs.Common.{◌≡◌, ◌≢◌, ◌⊎◌, inl, inr, ℕ, zero, suc, ◌+◌, ◌-◌, ◌<◌, ◌≤◌, ◌^◌, ◌==◌, Bool, true, false, List, [], ◌∷◌, ◌++◌, length, map, filter, Contains, Option, Some, None, refl, ap, sym, ◌∙◌, subst, arith, length-append, append-nil, lit<}
-use Rattle.std.specs.Prelude.{if◌then◌else◌, option_and_then, nat_lt, nat_le}
-use Rattle.std.proofs.lemmas.Bool.{cases_Bool, cases_lt, cases_eq, ne_eqb, both_ways}
-use Rattle.std.proofs.lemmas.Bool.Decides.{nat_tests}
+use Rattle.std.proofs.Common.{◌≡◌, ◌≢◌, inl, inr, ℕ, ◌+◌, true, false, List, [], ◌∷◌, ◌++◌, length, Contains, Option, Some, refl, ap, sym, ◌∙◌, subst, append-nil}
+use Rattle.std.proofs.lemmas.Bool.{cases_Bool, both_ways}
 use Rattle.desk_rules.specs.declared.entry.Entry.{Entry}
-use Rattle.desk_rules.specs.declared.entry.Entry.TheVariants.{Participant, Account, Security, Issue, Redeem, PayIn, PayOut, Instruct, Cancel, Run}
 use Rattle.desk_rules.specs.declared.pair.Pair.{Pair}
 use Rattle.desk_rules.specs.declared.pair.Place.{Place}
 use Rattle.desk_rules.specs.declared.pair.Settled.{Settled}
-use Rattle.desk_rules.specs.declared.pair.Lack.TheVariants.{Securities, Money as LacksMoney}
+use Rattle.desk_rules.specs.declared.pair.Lack.TheVariants.{Securities}
 use Rattle.desk_rules.specs.declared.reply.State.{State}
 use Rattle.desk_rules.specs.declared.reply.State.TheVariants as states
 use Rattle.desk_rules.specs.declared.reply.State.TheVariants.{Plain, Unmatched, Matched, Cancelled}
 use Rattle.desk_msg.specs.declared.status.Reason.{Reason}
 use Rattle.desk_msg.specs.declared.status.Reason.TheVariants as reasons
-use Rattle.desk_register.specs.declared.standing.Standing.{Standing}
-use Rattle.desk_rules.specs.declared.entry.Instructed.{Instructed}
-use Rattle.desk_rules.specs.History.{before, instruction_at}
-use Rattle.desk_rules.specs.Pairing.{IsPairing, IsSide}
-use Rattle.desk_rules.specs.Covered.{lack_of, is_covered}
-use Rattle.desk_rules.specs.Settlement.{is_due, is_above, is_sooner, precedes, settled_before, IsOpen, IsNext}
+use Rattle.desk_rules.specs.Pairing.{IsSide}
+use Rattle.desk_rules.specs.Covered.{lack_of}
+use Rattle.desk_rules.specs.Settlement.{is_above, is_sooner, precedes, settled_before, IsNext}
 use Rattle.desk_rules.specs.Verdict.{Books, AreBooks}
-use Rattle.desk_register.specs.Tables.{mate_in, IsAlone, IsSettledSide}
-use Rattle.desk_register.specs.Pass.{PassesAt, PassesSo, IsWaiting, IsUntried, IsTried, reason_of}
-use Rattle.desk_rules.proofs.Decided.{In, In-from_Contains, Contains-from_In, In-left, In-right, In-push_cases, filter-push_no, filter-front, not_back}
-use Rattle.desk_rules.proofs.PairingLemmas.{lower}
+use Rattle.desk_register.specs.Tables.{mate_in}
+use Rattle.desk_register.specs.Pass.{PassesSo, IsUntried, IsTried}
+use Rattle.desk_rules.proofs.Decided.{In-from_Contains, Contains-from_In, In-left, In-right, In-push_cases, filter-push_no, filter-front, not_back}
 use Rattle.desk_rules.proofs.SettlementLemmas.{precedes_strict, precedes_pair, ordered_pairs, one_number}
-use Rattle.desk_rules.proofs.SettlementGrowth.{IsSettledTo, IsReached, IsPlaceOf, below_above, at_place, own_place, sooner_place, before_next}
+use Rattle.desk_rules.proofs.SettlementGrowth.{IsSettledTo, IsPlaceOf, below_above, at_place, own_place, sooner_place, before_next}
 
 module _ (books : Books) (e : Entry) (place : Option Place) (settled : List Settled) (q : Pair) (next : Place) (are : AreBooks books)
     (is : IsNext (books.history ++ e ∷ []) books.pairs settled (length books.history + 1) place q) (at : IsPlaceOf (books.history ++ e ∷ []) next q)

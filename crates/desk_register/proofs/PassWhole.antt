@@ -1,9 +1,9 @@
 -- A run's pass, from its first pair to its last.
-use Rattle.std.proofs.Common.{◌≡◌, ◌≢◌, ◌⊎◌, inl, inr, ℕ, zero, suc, ◌+◌, ◌-◌, ◌<◌, ◌≤◌, ◌^◌, ◌==◌, Bool, true, false, not, List, [], ◌∷◌, ◌++◌, length, map, filter, Contains, bytes_eq, sum_by, Option, Some, None, refl, ap, sym, ◌∙◌, subst, arith, length-append, append-nil, append_assoc, lit<}
-use Rattle.std.specs.Prelude.{if◌then◌else◌, option_and_then, nat_lt, nat_le, is_some, is_none, Result, Ok, Err, OnOk}
-use Rattle.std.proofs.lemmas.Bool.{cases_Bool, cases_lt, cases_eq, ne_eqb, both_ways, ltb-false}
+use Rattle.std.proofs.Common.{◌≡◌, ◌⊎◌, inl, inr, ℕ, ◌+◌, ◌<◌, ◌≤◌, ◌^◌, ◌==◌, true, false, not, List, [], ◌∷◌, ◌++◌, length, Contains, bytes_eq, Option, Some, None, refl, ap, sym, ◌∙◌, subst, arith, length-append, append_assoc, lit<}
+use Rattle.std.specs.Prelude.{nat_lt, is_some}
+use Rattle.std.proofs.lemmas.Bool.{cases_Bool, cases_eq, ne_eqb, ltb-false}
 use Rattle.std.proofs.lemmas.Bool.Decides.{nat_tests}
-use Rattle.std.proofs.lemmas.List.Sums.{sum_by-cons, sum_by_push}
+use Rattle.std.proofs.lemmas.List.Sums.{sum_by_push}
 use Rattle.std.proofs.lemmas.Slice.Eq.{bytes_eq-Decides}
 use Rattle.desk_codes.specs.Number.{number_of}
 use Rattle.desk_msg.specs.declared.instruction.Cash.{Cash}
@@ -11,7 +11,6 @@ use Rattle.desk_msg.specs.MessageType.{is_against_payment, is_delivery}
 use Rattle.desk_rules.specs.Opposite.{AreOpposite}
 use Rattle.desk_rules.specs.declared.entry.Entry.{Entry}
 use Rattle.desk_rules.specs.declared.entry.Entry.TheVariants.{Participant, Account, Security, Issue, Redeem, PayIn, PayOut, Instruct, Cancel, Run}
-use Rattle.desk_rules.specs.declared.entry.Holding.{Holding}
 use Rattle.desk_register.specs.declared.found.Outcome.{Outcome}
 use Rattle.desk_register.specs.declared.found.Outcome.TheVariants as outcomes
 use Rattle.desk_register.specs.declared.found.Outcome.TheVariants.{Lacks}
@@ -22,27 +21,26 @@ use Rattle.desk_rules.specs.declared.pair.Lack.TheVariants.{Securities, Money as
 use Rattle.desk_rules.specs.declared.reply.State.{State}
 use Rattle.desk_rules.specs.declared.reply.State.TheVariants as states
 use Rattle.desk_rules.specs.declared.reply.State.TheVariants.{Plain, Unmatched, Matched, Cancelled}
-use Rattle.desk_msg.specs.declared.status.Reason.{Reason}
 use Rattle.desk_msg.specs.declared.status.Reason.TheVariants as reasons
 use Rattle.desk_register.specs.declared.standing.Standing.{Standing}
-use Rattle.desk_rules.specs.declared.verdict.Refusal.TheVariants.{AccountUnknown, SecurityUnknown, OverLimit}
+use Rattle.desk_rules.specs.declared.verdict.Refusal.TheVariants.{OverLimit}
 use Rattle.desk_rules.specs.declared.entry.Instructed.{Instructed}
-use Rattle.desk_rules.specs.History.{before, entry_at, instruction_at, instructed}
-use Rattle.desk_rules.specs.Balances.{credits, debits, issued, redeemed, issued_by, redeemed_by, holding_of, quantity_if}
+use Rattle.desk_rules.specs.History.{entry_at, instruction_at, instructed}
+use Rattle.desk_rules.specs.Balances.{credits, debits, issued, redeemed, issued_by, redeemed_by, holding_of}
 use Rattle.desk_rules.specs.Covered.{is_covered}
 use Rattle.desk_rules.specs.Laws.{accounts_of}
-use Rattle.desk_rules.specs.Pairing.{IsPairing, IsSide}
-use Rattle.desk_rules.specs.Settlement.{IsNext, IsOpen, is_above}
-use Rattle.desk_rules.specs.Verdict.{Books, AreBooks, WasAccepted, owner_of, kind_of, most_outstanding, check}
+use Rattle.desk_rules.specs.Pairing.{IsSide}
+use Rattle.desk_rules.specs.Settlement.{IsNext}
+use Rattle.desk_rules.specs.Verdict.{Books, AreBooks, WasAccepted, most_outstanding, check}
 use Rattle.desk_register.specs.Decision.{is_of_today}
-use Rattle.desk_register.specs.Content.{Content, history_of, standing_at, standing_both, CanSettle, IsPairAt, Settles, SettlesSides, delivery_of as deliverer, receipt_of as receiver}
-use Rattle.desk_register.specs.Looked.{IsDue, IsDuePairAfter, IsMatchedPair}
+use Rattle.desk_register.specs.Content.{Content, history_of, standing_both, CanSettle, Settles, SettlesSides, delivery_of as deliverer, receipt_of as receiver}
+use Rattle.desk_register.specs.Looked.{IsDue, IsDuePairAfter}
 use Rattle.desk_register.specs.Tables.{mate_in}
-use Rattle.desk_register.specs.Pass.{settled_of, AreOfToday, PassesAt, PassesSo, IsPassing}
-use Rattle.desk_rules.proofs.Accepted.{passes, accepted_last}
+use Rattle.desk_register.specs.Pass.{settled_of, AreOfToday, PassesAt, IsPassing}
+use Rattle.desk_rules.proofs.Accepted.{accepted_last}
 use Rattle.desk_rules.proofs.Conservation.{accepted_all, account_registered, paired_add_up}
-use Rattle.desk_rules.proofs.Decided.{In, In-from_Contains, Contains-from_In, In-push_cases}
-use Rattle.desk_rules.proofs.Existence.{HasBooks, books_exist}
+use Rattle.desk_rules.proofs.Decided.{In, Contains-from_In, In-push_cases}
+use Rattle.desk_rules.proofs.Existence.{books_exist}
 use Rattle.desk_rules.proofs.HistoryLemmas.{some_before, before-all}
 use Rattle.desk_rules.proofs.SettlementLemmas.{ordered_pairs}
 use Rattle.desk_rules.proofs.SettlementGrowth.{IsSettledTo, run_settles, run_leaves}

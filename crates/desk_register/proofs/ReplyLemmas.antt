@@ -1,5 +1,5 @@
 -- The reply to an accepted instruction.
-use Rattle.std.proofs.Common.{◌≡◌, ◌⊎◌, inl, inr, ℕ, ◌==◌, ◌||◌, Bool, true, false, List, ◌++◌, codes, decimal, append_assoc, length, Contains, Option, Some, None, refl, ap, sym, ◌∙◌, subst, arith}
+use Rattle.std.proofs.Common.{◌≡◌, inl, inr, ℕ, ◌==◌, ◌||◌, Bool, true, false, List, ◌++◌, codes, decimal, append_assoc, length, Option, Some, None, refl, ap, sym, ◌∙◌, arith}
 use Rattle.std.specs.Prelude.{if◌then◌else◌, is_some, string_bytes, String, Result, Ok, Err, IfOk}
 use Rattle.std.specs.List.{list_any}
 use Rattle.std.proofs.lemmas.Bool.{cases_Bool}
@@ -14,7 +14,7 @@ use Rattle.desk_rules.specs.declared.entry.Entry.{Entry}
 use Rattle.desk_rules.specs.declared.entry.Entry.TheVariants.{Instruct}
 use Rattle.desk_rules.specs.declared.pair.Pair.{Pair}
 use Rattle.desk_rules.specs.declared.reply.Reply.{Reply}
-use Rattle.desk_rules.specs.Pairing.{IsFree, has_side}
+use Rattle.desk_rules.specs.Pairing.{has_side}
 use Rattle.desk_rules.specs.Reply.{accepted_text, advice_reply, first_case, reply_to}
 use Rattle.desk_rules.specs.Verdict.{Books, is_paired}
 use Rattle.desk_rules.proofs.Decided.{In-from_Contains}

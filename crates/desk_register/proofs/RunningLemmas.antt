@@ -1,14 +1,12 @@
 -- The loop of a run, over the views of the register.
-use Rattle.std.proofs.Common.{◌≡◌, ◌≢◌, ℕ, ◌+◌, ◌<◌, ◌≤◌, List, [], length, Option, Some, None, refl, ap, sym, ◌∙◌, subst, arith}
-use Rattle.std.specs.Prelude.{Result, Ok, Err, OnOk}
+use Rattle.std.proofs.Common.{◌≡◌, ℕ, ◌+◌, ◌≤◌, List, [], length, Option, Some, None, ap, sym, ◌∙◌, subst, arith}
 use Rattle.desk_codes.specs.Number.{number_of}
 use Rattle.desk_rules.specs.declared.entry.Entry.TheVariants.{Run}
 use Rattle.desk_rules.specs.declared.pair.Place.{Place}
-use Rattle.desk_register.specs.declared.register.Fault.{Fault}
 use Rattle.desk_register.specs.declared.running.Taken.{Taken}
-use Rattle.desk_register.specs.View.{View, IsLater, Stays, IsChange}
+use Rattle.desk_register.specs.View.{View, IsLater, Stays}
 use Rattle.desk_rules.specs.Verdict.{Books}
-use Rattle.desk_register.specs.Content.{Content, CanSettle, history_of, Settles as SettlesPair}
+use Rattle.desk_register.specs.Content.{Content, CanSettle, Settles as SettlesPair}
 use Rattle.desk_register.specs.declared.found.Outcome.{Outcome}
 use Rattle.desk_register.specs.declared.found.Outcome.TheVariants as outcomes
 use Rattle.desk_register.specs.declared.found.Outcome.TheVariants.{Lacks}
@@ -17,7 +15,7 @@ use Rattle.desk_register.specs.Looked.{IsDuePairAfter}
 use Rattle.desk_register.specs.Tables.{Tables}
 use Rattle.desk_register.specs.Pass.{AreOfToday, CanRun, IsTaken, RanTo, settled_of}
 use Rattle.desk_register.proofs.TablesLemmas.{length_is}
-use Rattle.desk_register.proofs.ViewLemmas.{later_then, stays_then, change_then}
+use Rattle.desk_register.proofs.ViewLemmas.{later_then, stays_then}
 use Rattle.desk_register.proofs.UnderwayLemmas.{Underway, begins, can_settle, goes_on, ends_none, ends_all}
 
 -- to try a pair changes no entry and no reply

@@ -1,19 +1,18 @@
 -- Searches of the content.
-use Rattle.std.proofs.Common.{◌≡◌, ℕ, zero, suc, ◌+◌, ◌-◌, ◌<◌, ◌≤◌, List, length, map, Option, Some, None, refl, ap, sym, ◌∙◌, subst, arith, inl, inr}
-use Rattle.std.specs.Prelude.{◌⊎◌, IfSome, IfNone}
+use Rattle.std.proofs.Common.{◌≡◌, ℕ, zero, suc, ◌+◌, ◌<◌, ◌≤◌, length, Option, Some, None, ap, sym, ◌∙◌, subst, arith, inl, inr}
+use Rattle.std.specs.Prelude.{IfSome, IfNone}
 use Rattle.std.proofs.lemmas.Bool.{cases_lt}
 use Rattle.std.proofs.lemmas.Option.{slice_get_past}
 use Rattle.std.proofs.lemmas.List.{length-map}
 use Rattle.desk_codes.specs.Number.{number_of}
 use Rattle.desk_rules.specs.declared.entry.Instructed.{Instructed}
 use Rattle.desk_rules.specs.declared.pair.Place.{Place}
-use Rattle.desk_rules.specs.declared.reply.State.{State}
-use Rattle.desk_rules.specs.declared.reply.State.TheVariants.{Unmatched, Matched}
+use Rattle.desk_rules.specs.declared.reply.State.TheVariants.{Matched}
 use Rattle.desk_msg.specs.declared.status.Reason.{Reason}
 use Rattle.desk_rules.specs.History.{instruction_at}
 use Rattle.desk_rules.specs.Opposite.{AreOpposite}
 use Rattle.desk_register.specs.Content.{Content, history_of}
-use Rattle.desk_register.specs.Looked.{IsAbove, IsBefore, IsDue, IsDuePairAfter, IsMatchedPair, IsOppositeAt, IsSooner}
+use Rattle.desk_register.specs.Looked.{IsAbove, IsBefore, IsDue, IsDuePairAfter, IsOppositeAt, IsSooner}
 
 -- the instruction of a number is the one that was found
 pub opposite_of : (content : Content) (wanted other : Instructed) (n : ℕ) → instruction_at (history_of content) n ≡ Some other → IsOppositeAt content wanted n → AreOpposite other wanted

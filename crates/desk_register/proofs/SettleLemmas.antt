@@ -1,10 +1,10 @@
 -- A pair, settled in the lists.
-use Rattle.std.proofs.Common.{◌≡◌, ℕ, ◌+◌, ◌-◌, ◌<◌, ◌≤◌, ◌^◌, ◌&&◌, Bool, true, false, List, refl, ap, sym, ◌∙◌, arith}
+use Rattle.std.proofs.Common.{◌≡◌, ℕ, ◌+◌, ◌-◌, ◌<◌, ◌≤◌, ◌^◌, ◌&&◌, List, ap, ◌∙◌, arith}
 use Rattle.std.specs.Prelude.{bytes_eq, Result, Ok, Err, OnOk}
 use Rattle.desk_register.specs.declared.standing.Standing.{Standing}
 use Rattle.desk_rules.specs.declared.entry.Instructed.{Instructed}
-use Rattle.desk_register.specs.Content.{Positions, moved_to, delivered, delivery_of, receipt_of}
-use Rattle.desk_register.specs.Lists.{Listed, SameBooks, SameButQuantities, SameTotals, content_in, is_key, quantity_in, standing_in, value_in}
+use Rattle.desk_register.specs.Content.{Positions, moved_to, delivered}
+use Rattle.desk_register.specs.Lists.{Listed, SameBooks, SameButQuantities, content_in, is_key, quantity_in, standing_in, value_in}
 use Rattle.desk_register.proofs.AppendLemmas.{content_by_parts}
 use Rattle.desk_register.proofs.QuantityLemmas.{by_bool}
 

@@ -1,20 +1,18 @@
 -- One pair of a run: it settles, or stays.
-use Rattle.std.proofs.Common.{◌≡◌, ◌≢◌, ◌⊎◌, inl, inr, ℕ, zero, suc, ◌+◌, ◌-◌, ◌<◌, ◌≤◌, ◌^◌, ◌==◌, Bool, true, false, not, ◌&&◌, List, [], ◌∷◌, ◌++◌, length, map, filter, Contains, bytes_eq, Option, Some, None, refl, ap, sym, ◌∙◌, subst, arith, length-append, append-nil, lit<}
-use Rattle.std.specs.Prelude.{if◌then◌else◌, option_and_then, nat_lt, nat_le, is_some}
-use Rattle.std.proofs.lemmas.Bool.{cases_Bool, cases_lt, cases_eq, ne_eqb, both_ways, lt-ltb, le-leb, leb-true, le-ltb}
+use Rattle.std.proofs.Common.{◌≡◌, inl, inr, ℕ, ◌+◌, ◌-◌, ◌<◌, ◌≤◌, true, false, List, [], ◌∷◌, ◌++◌, bytes_eq, Some, None, refl, ap, sym, ◌∙◌, arith}
+use Rattle.std.specs.Prelude.{nat_le}
+use Rattle.std.proofs.lemmas.Bool.{cases_Bool, le-leb}
 use Rattle.std.proofs.lemmas.Bool.Decides.{nat_tests}
 use Rattle.std.proofs.lemmas.Slice.Eq.{bytes_eq-Decides}
-use Rattle.desk_msg.specs.MessageType.{is_delivery, is_against_payment}
-use Rattle.desk_msg.specs.declared.instruction.Cash.{Cash}
+use Rattle.desk_msg.specs.MessageType.{is_delivery}
 use Rattle.desk_rules.specs.declared.entry.Entry.{Entry}
-use Rattle.desk_rules.specs.declared.entry.Entry.TheVariants.{Participant, Account, Security, Issue, Redeem, PayIn, PayOut, Instruct, Cancel, Run}
 use Rattle.desk_rules.specs.declared.pair.Pair.{Pair}
 use Rattle.desk_rules.specs.declared.pair.Settled.{Settled}
-use Rattle.desk_rules.specs.declared.pair.Lack.TheVariants.{Securities, Money as LacksMoney}
+use Rattle.desk_rules.specs.declared.pair.Lack.TheVariants.{Securities}
 use Rattle.desk_rules.specs.declared.entry.Instructed.{Instructed}
 use Rattle.desk_rules.specs.History.{instruction_at}
 use Rattle.desk_rules.specs.Opposite.{AreOpposite}
-use Rattle.desk_rules.specs.Balances.{credits, debits, quantity_if, quantity_on, delivery_of, receipt_of, is_delivered_by, deliverer_of, receiver_of}
+use Rattle.desk_rules.specs.Balances.{credits, debits, quantity_if, quantity_on, delivery_of, receipt_of, is_delivered_by}
 use Rattle.desk_rules.specs.Covered.{can_deliver, can_pay, can_pay_cash, has_securities, has_cash, is_covered, lack_of}
 use Rattle.desk_register.specs.Content.{Positions, moved_to, delivered, delivery_of as deliverer, receipt_of as receiver}
 use Rattle.desk_rules.proofs.BalanceLemmas.{credits-push, debits-push}

@@ -1,8 +1,8 @@
 -- How the tables of a history become those of a longer one.
-use Rattle.std.proofs.Common.{◌≡◌, ◌≢◌, ◌⊎◌, inl, inr, ℕ, zero, suc, ◌+◌, ◌-◌, ◌<◌, ◌≤◌, ◌^◌, ◌==◌, Bool, true, false, not, ◌&&◌, ◌||◌, List, [], ◌∷◌, ◌++◌, length, map, drop, Contains, bytes_eq, sum_by, Option, Some, None, refl, ap, sym, ◌∙◌, subst, arith, length-append, append-nil}
-use Rattle.std.specs.Prelude.{nat_lt, nat_le, if◌then◌else◌, is_none, is_some}
+use Rattle.std.proofs.Common.{◌≡◌, ◌⊎◌, inl, inr, ℕ, ◌+◌, ◌<◌, ◌≤◌, ◌^◌, ◌==◌, Bool, true, false, ◌||◌, List, [], ◌∷◌, ◌++◌, length, drop, Contains, bytes_eq, sum_by, Option, Some, None, refl, ap, sym, ◌∙◌, subst, arith, length-append, append-nil}
+use Rattle.std.specs.Prelude.{nat_lt, is_none}
 use Rattle.std.specs.List.{list_any}
-use Rattle.std.proofs.lemmas.Bool.{cases_lt, cases_eq, ltb-true, both_ways}
+use Rattle.std.proofs.lemmas.Bool.{cases_lt, cases_eq}
 use Rattle.std.proofs.lemmas.List.{map-append, drop-append-le}
 use Rattle.std.proofs.lemmas.List.Folds.{list_any-append}
 use Rattle.desk_rules.specs.declared.entry.Entry.{Entry}
@@ -21,15 +21,15 @@ use Rattle.desk_rules.specs.declared.verdict.Verdict.TheVariants.{Accept}
 use Rattle.desk_rules.specs.declared.entry.Instructed.{Instructed}
 use Rattle.desk_rules.specs.History.{before, instruction_at, entry_at, run_day, instructed}
 use Rattle.desk_rules.specs.Cancelled.{cancels, is_cancelled, is_cancelled_by}
-use Rattle.desk_rules.specs.Pairing.{IsPairing, IsFree, IsSide}
+use Rattle.desk_rules.specs.Pairing.{IsPairing, IsFree}
 use Rattle.desk_rules.specs.Balances.{credits, debits, issued, redeemed}
 use Rattle.desk_rules.specs.Covered.{lack_of}
 use Rattle.desk_rules.specs.Settlement.{IsSettlement, is_due, settled_before, precedes}
 use Rattle.desk_rules.specs.Verdict.{Books, AreBooks, WasAccepted, IsVerdict}
 use Rattle.desk_register.specs.Content.{Content, history_of}
-use Rattle.desk_register.specs.Tables.{Tables, Grown, is_registration, StandsAt, StandsSo, IsAlone, IsMatched, IsSettledSide, IsReason, IsLastTry, mate_in}
+use Rattle.desk_register.specs.Tables.{Tables, Grown, is_registration, StandsAt, StandsSo, IsReason, IsLastTry}
 use Rattle.desk_rules.proofs.Decided.{In, In-from_Contains, Contains-from_In, In-left, In-cases, filter-same}
-use Rattle.desk_rules.proofs.HistoryLemmas.{entry_at-known, entry_at-front, entry_at-end, before-front, before-all, instruction_at-known, instruction_at-front, some_before}
+use Rattle.desk_rules.proofs.HistoryLemmas.{entry_at-known, entry_at-front, entry_at-end, before-front, before-all, instruction_at-known, instruction_at-front}
 use Rattle.desk_rules.proofs.PairingLemmas.{one_pairing, decided_pairing}
 use Rattle.desk_rules.proofs.SettlementLemmas.{one_settlement, ordered_pairs, IsRanged, decided_settlement, due_facts, due_known}
 use Rattle.desk_rules.proofs.SettlementGrowth.{is_due-front, precedes-front, by_none}
@@ -47,17 +47,16 @@ use Rattle.std.proofs.lemmas.Slice.Eq.{bytes_eq-Decides}
 use Rattle.std.proofs.lemmas.List.Sums.{sum_by-cons}
 use Rattle.desk_rules.specs.declared.reply.Kept.{Kept}
 use Rattle.desk_rules.specs.declared.reply.Reply.{Reply}
-use Rattle.desk_register.specs.Content.{appended, first_standing, standing_at, positions_after, moved_to, CanAppend}
-use Rattle.desk_rules.specs.Verdict.{checks_of, owner_of, most_outstanding}
+use Rattle.desk_register.specs.Content.{appended, first_standing, positions_after, moved_to, CanAppend}
+use Rattle.desk_rules.specs.Verdict.{owner_of, most_outstanding}
 use Rattle.desk_rules.specs.Laws.{accounts_of}
 use Rattle.desk_rules.specs.Balances.{issued_by, redeemed_by, holding_on, quantity_if}
 use Rattle.desk_rules.proofs.PairingLemmas.{pairing_alone}
 use Rattle.desk_rules.proofs.SettlementGrowth.{settlement_alone}
 use Rattle.desk_rules.proofs.BalanceLemmas.{IsIn, credits-entry, debits-entry}
-use Rattle.desk_rules.proofs.Accepted.{Passes, passes}
+use Rattle.desk_rules.proofs.Accepted.{passes}
 use Rattle.desk_rules.proofs.NonNegative.{never_negative}
 use Rattle.desk_rules.proofs.Conservation.{securities_add_up, owned, is_none_false}
-use Rattle.desk_rules.specs.Pairing.{IsCandidate}
 use Rattle.std.specs.Prelude.{option_and_then}
 
 -- Two books of one history are one.

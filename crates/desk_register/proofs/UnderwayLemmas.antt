@@ -1,30 +1,27 @@
 -- A run's loop over the due pairs.
-use Rattle.std.proofs.Common.{◌≡◌, ◌≢◌, ◌⊎◌, inl, inr, ℕ, zero, suc, ◌+◌, ◌-◌, ◌<◌, ◌≤◌, Bool, true, false, List, [], ◌∷◌, ◌++◌, length, filter, Contains, Option, Some, None, refl, ap, sym, ◌∙◌, subst, arith, length-append}
+use Rattle.std.proofs.Common.{◌≡◌, inl, inr, ℕ, ◌+◌, ◌<◌, ◌≤◌, Bool, List, [], ◌∷◌, ◌++◌, length, filter, Option, Some, None, refl, ap, sym, ◌∙◌, subst, arith, length-append}
 use Rattle.std.proofs.lemmas.Bool.{cases_Bool, ltb-true}
 use Rattle.desk_codes.specs.Number.{number_of}
-use Rattle.desk_rules.specs.declared.entry.Entry.{Entry}
 use Rattle.desk_rules.specs.declared.entry.Entry.TheVariants.{Run}
-use Rattle.desk_register.specs.declared.found.Outcome.{Outcome}
 use Rattle.desk_rules.specs.declared.pair.Pair.{Pair}
 use Rattle.desk_rules.specs.declared.pair.Place.{Place}
 use Rattle.desk_rules.specs.declared.pair.Settled.{Settled}
 use Rattle.desk_register.specs.declared.running.Taken.{Taken}
-use Rattle.desk_rules.specs.Settlement.{IsOpen, IsNext, is_above}
+use Rattle.desk_rules.specs.Settlement.{IsOpen, is_above}
 use Rattle.desk_rules.specs.Reply.{settled_count}
-use Rattle.desk_rules.specs.Verdict.{Books, AreBooks, WasAccepted}
-use Rattle.desk_register.specs.Content.{Content, history_of, CanSettle, Settles}
+use Rattle.desk_rules.specs.Verdict.{Books, AreBooks}
+use Rattle.desk_register.specs.Content.{Content, CanSettle}
 use Rattle.desk_register.specs.Looked.{IsDuePairAfter}
 use Rattle.desk_register.specs.Tables.{Tables}
-use Rattle.desk_register.specs.Pass.{AreOfToday, CanRun, IsTaken, RanTo, HasPassed, books_after, settled_of}
+use Rattle.desk_register.specs.Pass.{AreOfToday, IsTaken, RanTo, books_after, settled_of}
 use Rattle.desk_rules.proofs.Decided.{In, In-from_Contains, Contains-from_In, Ordered, filter-In}
 use Rattle.desk_rules.proofs.PairingLemmas.{lower, decided_pairing}
 use Rattle.desk_rules.proofs.SettlementLemmas.{ordered_pairs}
-use Rattle.desk_rules.proofs.SettlementGrowth.{IsPlaceOf}
 use Rattle.desk_rules.proofs.Existence.{fewer_above}
 use Rattle.desk_register.proofs.TablesLemmas.{settled_known}
 use Rattle.desk_register.proofs.PassLemmas.{none_open}
 use Rattle.desk_register.proofs.WaitingLemmas.{count_of_run, left_count, none_left, all_left}
-use Rattle.desk_register.proofs.PassWhole.{Pass, PassedOn, step, next_can_settle, next_sides, next_facts}
+use Rattle.desk_register.proofs.PassWhole.{Pass, step, next_can_settle, next_sides, next_facts}
 use Rattle.desk_register.proofs.FinishLemmas.{has_passed, pass_begins}
 
 -- pairs that rise by number are no more than the numbers

@@ -1,11 +1,9 @@
 -- One call after another.
-use Rattle.std.proofs.Common.{◌≡◌, ◌+◌, ◌<◌, ◌≤◌, refl, ap, sym, ◌∙◌, subst, arith}
-use Rattle.std.specs.Prelude.{Result, Ok, Err, OnOk, OnErr, IfErr}
+use Rattle.std.proofs.Common.{◌≡◌, ap, sym, ◌∙◌, arith}
+use Rattle.std.specs.Prelude.{Result, Ok, Err}
 use Rattle.desk_register.specs.declared.register.Fault.{Fault}
-use Rattle.desk_register.specs.declared.register.Fault.TheVariants.{Storage}
-use Rattle.desk_register.specs.declared.register.Stage.{Stage}
-use Rattle.desk_register.specs.declared.register.Stage.TheVariants.{Idle, Begun, Failed}
-use Rattle.desk_register.specs.View.{View, IsLater, Stays, Falls, fallen, Blames, IsChange, IsRead}
+use Rattle.desk_register.specs.declared.register.Stage.TheVariants.{Idle, Begun}
+use Rattle.desk_register.specs.View.{View, IsLater, Stays, Falls, fallen, IsChange}
 
 module _ (v0 v1 v2 : View) (stays : Stays v0 v1) (first : IsLater v0 v1) where
   pub later_then : IsLater v1 v2 → IsLater v0 v2

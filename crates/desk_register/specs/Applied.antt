@@ -2,7 +2,6 @@
 use Rattle.std.specs.Prelude.{◌≡◌, ℕ, ◌+◌, List, [], ◌∷◌, ◌++◌, length, Contains, Option, Some, None, slice_get}
 use Rattle.desk_rules.specs.declared.entry.Entry.{Entry}
 use Rattle.desk_rules.specs.declared.pair.Pair.{Pair}
-use Rattle.desk_rules.specs.declared.pair.Settled.{Settled}
 use Rattle.desk_rules.specs.declared.reply.Kept.{Kept}
 use Rattle.desk_rules.specs.declared.verdict.Verdict.TheVariants.{Accept}
 use Rattle.desk_rules.specs.Pairing.{IsFree}

@@ -1,16 +1,12 @@
 -- What a register holds, however it keeps it.
-use Rattle.std.specs.Prelude.{◌≡◌, ℕ, zero, suc, ◌+◌, ◌-◌, ◌<◌, ◌≤◌, ◌^◌, ◌==◌, nat_lt, nat_le, Bool, true, false, not, ◌&&◌, ◌||◌, if◌then◌else◌, List, [], ◌∷◌, ◌++◌, length, map, bytes_eq, sum_by, Option, Some, None, is_some, option_and_then}
-use Rattle.desk_codes.specs.Number.{number_of}
-use Rattle.desk_msg.specs.declared.instruction.Instruction.{Instruction}
+use Rattle.std.specs.Prelude.{◌≡◌, ℕ, ◌+◌, ◌-◌, ◌<◌, ◌≤◌, ◌^◌, ◌==◌, ◌&&◌, if◌then◌else◌, List, [], ◌∷◌, ◌++◌, length, map, bytes_eq, Some, None}
 use Rattle.desk_rules.specs.declared.entry.Entry.{Entry}
 use Rattle.desk_rules.specs.declared.entry.Entry.TheVariants.{Participant, Account, Security, Issue, Redeem, PayIn, PayOut, Instruct, Cancel, Run}
-use Rattle.desk_rules.specs.declared.entry.Holding.{Holding}
 use Rattle.desk_rules.specs.declared.reply.Reply.{Reply}
 use Rattle.desk_rules.specs.declared.reply.Kept.{Kept}
 use Rattle.desk_rules.specs.declared.reply.State.{State}
-use Rattle.desk_rules.specs.declared.reply.State.TheVariants.{Plain, Unmatched, Matched, Cancelled, Settled}
-use Rattle.desk_msg.specs.declared.status.Reason.{Reason}
-use Rattle.desk_msg.specs.declared.status.Reason.TheVariants.{Future, Lack, Money}
+use Rattle.desk_rules.specs.declared.reply.State.TheVariants.{Plain, Unmatched, Matched, Settled}
+use Rattle.desk_msg.specs.declared.status.Reason.TheVariants.{Future, Lack}
 use Rattle.desk_register.specs.declared.standing.Standing.{Standing}
 use Rattle.desk_msg.specs.MessageType.{is_delivery}
 use Rattle.desk_register.specs.declared.found.Outcome.{Outcome}

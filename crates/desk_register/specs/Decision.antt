@@ -1,16 +1,13 @@
 -- What a verdict is put together from.
-use Rattle.std.specs.Prelude.{◌≡◌, ◌≢◌, ℕ, Bool, true, false, not, if◌then◌else◌, List, [], ◌∷◌, Option, Some, None, MatchOption}
+use Rattle.std.specs.Prelude.{◌≡◌, ◌≢◌, ℕ, Bool, true, false, not, if◌then◌else◌, List, [], ◌∷◌, Option, Some, None}
 use Rattle.desk_msg.specs.MessageType.{is_against_payment}
 use Rattle.desk_rules.specs.declared.entry.Entry.{Entry}
 use Rattle.desk_rules.specs.declared.entry.Entry.TheVariants.{Participant, Account, Security, Issue, Redeem, PayIn, PayOut, Instruct, Cancel, Run}
 use Rattle.desk_rules.specs.declared.verdict.Refusal.{Refusal}
 use Rattle.desk_rules.specs.declared.verdict.Verdict.{Verdict}
-use Rattle.desk_rules.specs.declared.pair.Pair.{Pair}
-use Rattle.desk_rules.specs.declared.pair.Settled.{Settled}
-use Rattle.desk_register.specs.declared.register.Stage.{Stage}
 use Rattle.desk_register.specs.declared.register.Stage.TheVariants.{Failed}
 use Rattle.desk_rules.specs.History.{number_of_key, sender_of, reference_of}
-use Rattle.desk_rules.specs.Verdict.{Books, Check, checks_of, IsVerdictAt}
+use Rattle.desk_rules.specs.Verdict.{Books, Check, IsVerdictAt}
 use Rattle.desk_register.specs.View.{View}
 use Rattle.desk_register.specs.Content.{history_of}
 

@@ -13,7 +13,7 @@ use Rattle.desk_msg.specs.declared.status.Reason.TheVariants as reasons
 use Rattle.desk_msg.specs.declared.status.Reason.TheVariants.{Future}
 use Rattle.desk_register.specs.declared.standing.Standing.{Standing}
 use Rattle.desk_rules.specs.declared.entry.Instructed.{Instructed}
-use Rattle.desk_rules.specs.History.{before, instruction_at, entry_at}
+use Rattle.desk_rules.specs.History.{before, instruction_at}
 use Rattle.desk_rules.specs.Cancelled.{is_cancelled}
 use Rattle.desk_rules.specs.Pairing.{IsFree, IsSide}
 use Rattle.desk_rules.specs.Balances.{credits, debits}

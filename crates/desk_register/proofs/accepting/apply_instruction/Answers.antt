@@ -1,4 +1,4 @@
-use Rattle.std.proofs.Common.{refl, ap, ◌∙◌}
+use Rattle.std.proofs.Common.{refl, ◌∙◌}
 use Rattle.desk_register.proofs.AcceptingLemmas.{instructed_step, number_after, room_of}
 use Rattle.desk_register.proofs.accepting.apply_instruction.Goals as goal
 

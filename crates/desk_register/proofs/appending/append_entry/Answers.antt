@@ -1,4 +1,3 @@
-use Rattle.std.proofs.Common.{◌≡◌}
 use Rattle.desk_register.specs.Lists.{listed}
 use Rattle.desk_register.proofs.AppendLemmas.{appended_well, totals_well}
 use Rattle.desk_register.proofs.appending.append_entry.Goals as goal

@@ -1,6 +1,6 @@
-use Rattle.std.proofs.Common.{◌≡◌, ◌<◌, length, ◌++◌, ◌∷◌, [], ap, sym, ◌∙◌, rules}
+use Rattle.std.proofs.Common.{◌≡◌, ◌++◌, ◌∷◌, [], rules}
 use Rattle.desk_register.specs.declared.lists.Change.TheVariants.{Moved}
-use Rattle.desk_register.specs.Lists.{listed, undone}
+use Rattle.desk_register.specs.Lists.{listed}
 use Rattle.desk_register.proofs.ListsLemmas.{before_moved, set_back}
 use Rattle.desk_register.proofs.changes.move_quantity.Goals as goal
 

@@ -1,6 +1,6 @@
-use Rattle.std.proofs.Common.{◌≡◌, ◌++◌, ◌∷◌, [], ap, sym, ◌∙◌, rules}
+use Rattle.std.proofs.Common.{◌≡◌, ◌++◌, ◌∷◌, [], rules}
 use Rattle.desk_register.specs.declared.lists.Change.TheVariants.{Opened}
-use Rattle.desk_register.specs.Lists.{listed, undone}
+use Rattle.desk_register.specs.Lists.{listed}
 use Rattle.desk_register.proofs.ListsLemmas.{before_opened}
 use Rattle.desk_register.proofs.changes.open_quantity.Goals as goal
 

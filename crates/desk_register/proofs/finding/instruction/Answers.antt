@@ -1,4 +1,4 @@
-use Rattle.std.proofs.Common.{◌≡◌, ◌<◌, ◌≤◌, ◌-◌, ◌∙◌, sym, ap, arith, length, get_or, rules}
+use Rattle.std.proofs.Common.{◌≤◌, ◌∙◌, sym, ap, arith, length}
 use Rattle.desk_rules.specs.History.{instructed}
 use Rattle.desk_register.proofs.LookingLemmas.{instruction_in}
 use Rattle.desk_register.proofs.finding.instruction.Goals as goal

@@ -1,4 +1,4 @@
-use Rattle.std.proofs.Common.{◌≡◌, ◌<◌, ◌≤◌, ◌+◌, arith, length}
+use Rattle.std.proofs.Common.{◌<◌, ◌+◌, arith, length}
 use Rattle.desk_register.specs.Lists.{content_in, listed}
 use Rattle.desk_register.proofs.ListingLemmas.{held_step, held_fits}
 use Rattle.desk_register.proofs.listing.held.Goals as goal

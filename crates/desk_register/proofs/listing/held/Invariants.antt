@@ -1,4 +1,4 @@
-use Rattle.std.proofs.Common.{◌≡◌, take}
+use Rattle.std.proofs.Common.{◌≡◌}
 use Rattle.desk_register.specs.Lists.{content_in, listed}
 use Rattle.desk_register.proofs.ListingLemmas.{held_so_far}
 use Rattle.desk_register.proofs.listing.held.Given as goal

@@ -1,6 +1,6 @@
 use Rattle.std.specs.Prelude.{bytes_eq}
-use Rattle.std.proofs.Common.{◌≡◌, ◌<◌, ◌-◌, length, arith, sym, ap, ◌∙◌, Some, None}
-use Rattle.desk_register.specs.Lists.{listed, outstanding_in, first_from}
+use Rattle.std.proofs.Common.{◌≡◌, arith, sym, ap, ◌∙◌, Some, None}
+use Rattle.desk_register.specs.Lists.{listed, first_from}
 use Rattle.desk_register.proofs.QuantityLemmas.{value_some, resized_well, listed_well}
 use Rattle.desk_register.proofs.positions.put_outstanding.Goals as goal
 

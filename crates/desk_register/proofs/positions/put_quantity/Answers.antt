@@ -1,5 +1,5 @@
-use Rattle.std.proofs.Common.{◌≡◌, ◌<◌, ◌-◌, length, arith, sym, ap, ◌∙◌, Some, None}
-use Rattle.desk_register.specs.Lists.{listed, quantity_in, first_from, is_key}
+use Rattle.std.proofs.Common.{◌≡◌, arith, sym, ap, ◌∙◌, Some, None}
+use Rattle.desk_register.specs.Lists.{listed, first_from, is_key}
 use Rattle.desk_register.proofs.QuantityLemmas.{value_some, moved_well, opened_well}
 use Rattle.desk_register.proofs.positions.put_quantity.Goals as goal
 

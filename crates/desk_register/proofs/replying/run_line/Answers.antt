@@ -1,5 +1,3 @@
-use Rattle.std.proofs.Common.{◌++◌, codes, decimal, append_assoc, sym}
-use Rattle.desk_rules.specs.Reply.{accepted_text}
 use Rattle.desk_register.proofs.ReplyLemmas.{line_is}
 use Rattle.desk_register.proofs.replying.run_line.Goals as goal
 

@@ -1,6 +1,6 @@
-use Rattle.std.proofs.Common.{◌≡◌, length, sym, ◌∙◌, ap, refl, ◌≢◌}
+use Rattle.std.proofs.Common.{sym, ◌∙◌, ap, ◌≢◌}
 use Rattle.desk_register.specs.declared.register.Stage.TheVariants.{Failed}
-use Rattle.desk_register.specs.Content.{Content, history_of}
+use Rattle.desk_register.specs.Content.{history_of}
 use Rattle.desk_register.proofs.DecisionLemmas.{verdict_known, verdict_new_ok}
 use Rattle.desk_register.proofs.ruling.decide.Goals as goal
 

@@ -1,5 +1,4 @@
-use Rattle.std.proofs.Common.{rules, ◌≡◌, sym, ◌∙◌, refl, true, false}
-use Rattle.desk_register.specs.Content.{history_of}
+use Rattle.std.proofs.Common.{◌≡◌, sym, ◌∙◌, true, false}
 use Rattle.desk_rules.specs.History.{sender_of, reference_of}
 use Rattle.desk_register.proofs.KeyLemmas.{no_key, at_key, repeats, reuses}
 use Rattle.desk_register.proofs.ruling.verdict_on_key.Goals as goal

@@ -1,4 +1,4 @@
-use Rattle.std.proofs.Common.{◌≡◌, length}
+use Rattle.std.proofs.Common.{length}
 use Rattle.std.specs.Prelude.{nat_le}
 use Rattle.desk_register.specs.Content.{history_of}
 use Rattle.desk_rules.specs.Verdict.{checks_of}

@@ -1,8 +1,8 @@
-use Rattle.std.proofs.Common.{None, ◌≡◌, ◌+◌, ◌<◌, ◌≤◌, ◌^◌, refl, sym, ◌∙◌, arith, rules, Ok}
+use Rattle.std.proofs.Common.{None, ◌<◌, ◌≤◌, ◌^◌, ◌∙◌, arith, rules}
 use Rattle.desk_register.specs.declared.running.Passed.{Passed}
 use Rattle.desk_register.specs.View.{IsChange}
 use Rattle.desk_register.proofs.ViewLemmas.{change_then, change_ok, stays_then, later_then}
-use Rattle.desk_register.proofs.RunningLemmas.{Running, running_begins, running_goes_on, running_can_settle, running_ends_none, running_ends_all, taken_keeps}
+use Rattle.desk_register.proofs.RunningLemmas.{running_begins, running_goes_on, running_can_settle, running_ends_none, running_ends_all, taken_keeps}
 use Rattle.desk_register.proofs.running.run_pass.Goals as goal
 
 pub pairs-init : goal.pairs-init

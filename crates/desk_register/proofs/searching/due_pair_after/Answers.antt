@@ -1,4 +1,4 @@
-use Rattle.std.proofs.Common.{◌≡◌, ◌≤◌, ℕ, refl, arith, length, rules}
+use Rattle.std.proofs.Common.{◌≡◌, arith, length}
 use Rattle.desk_register.specs.Lists.{content_in, listed}
 use Rattle.desk_register.proofs.SearchLemmas.{first_more, first_of_all}
 use Rattle.desk_register.proofs.searching.due_pair_after.Goals as goal

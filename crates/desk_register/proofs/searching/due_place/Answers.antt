@@ -1,4 +1,4 @@
-use Rattle.std.proofs.Common.{◌≡◌, ◌<◌, ◌≤◌, Some, refl, sym, ap, ◌∙◌, arith, rules}
+use Rattle.std.proofs.Common.{◌≡◌, Some, refl, arith, rules}
 use Rattle.desk_rules.specs.declared.reply.State.TheVariants.{Matched}
 use Rattle.desk_rules.specs.History.{instruction_at}
 use Rattle.desk_register.specs.Content.{history_of}

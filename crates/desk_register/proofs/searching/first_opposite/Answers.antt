@@ -1,4 +1,4 @@
-use Rattle.std.proofs.Common.{◌≡◌, ◌<◌, ◌≤◌, ◌+◌, ℕ, refl, arith, length, inl, inr}
+use Rattle.std.proofs.Common.{refl, arith, length, inl, inr}
 use Rattle.std.proofs.lemmas.Bool.{cases_lt}
 use Rattle.desk_register.specs.Lists.{content_in, listed}
 use Rattle.desk_register.proofs.SearchLemmas.{none_more, none_above}

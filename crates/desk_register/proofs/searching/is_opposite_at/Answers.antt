@@ -1,4 +1,4 @@
-use Rattle.std.proofs.Common.{◌≡◌, Some, sym, ◌∙◌, rules}
+use Rattle.std.proofs.Common.{◌≡◌, Some, rules}
 use Rattle.desk_rules.specs.History.{instruction_at}
 use Rattle.desk_register.specs.Content.{history_of}
 use Rattle.desk_register.specs.Lists.{content_in, listed, standing_in}

@@ -1,4 +1,4 @@
-use Rattle.std.proofs.Common.{◌≡◌, ◌<◌, ◌≤◌, ◌+◌, ◌-◌, ◌^◌, arith, sym, ap, ◌∙◌, rules}
+use Rattle.std.proofs.Common.{◌≡◌, ◌<◌, ◌+◌, ◌-◌, ◌^◌, arith, ap, ◌∙◌, rules}
 use Rattle.desk_register.specs.Content.{moved_to}
 use Rattle.desk_register.specs.Lists.{listed, quantity_in}
 use Rattle.desk_register.proofs.SettleLemmas.{taken_fits, delivered_well}

@@ -1,4 +1,4 @@
-use Rattle.std.proofs.Common.{◌≡◌, ◌<◌, ◌≤◌, subst, arith}
+use Rattle.std.proofs.Common.{◌<◌, ◌≤◌, subst, arith}
 use Rattle.desk_rules.specs.declared.entry.Instructed.{Instructed}
 use Rattle.desk_register.specs.Lists.{listed, quantity_in}
 use Rattle.desk_register.proofs.SettleLemmas.{stood_content, settled_content}

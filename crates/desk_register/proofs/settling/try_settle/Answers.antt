@@ -1,7 +1,7 @@
-use Rattle.std.proofs.Common.{◌≡◌, Some, rules, sym, ap, ◌∙◌}
+use Rattle.std.proofs.Common.{◌≡◌, Some, rules}
 use Rattle.std.proofs.lemmas.Result.{IfOk-weaker}
 use Rattle.desk_rules.specs.History.{instruction_at}
-use Rattle.desk_register.specs.Content.{Settles, SettlesSides, history_of}
+use Rattle.desk_register.specs.Content.{SettlesSides, history_of}
 use Rattle.desk_register.specs.Lists.{content_in, listed, standing_in}
 use Rattle.desk_register.proofs.settling.try_settle.Goals as goal
 
