@@ -1,21 +1,20 @@
 -- What is answered to an entry, from what the register keeps.
-use Rattle.std.proofs.Common.{◌≡◌, ◌≢◌, ◌⊎◌, inl, inr, ℕ, zero, suc, ◌+◌, ◌<◌, ◌≤◌, ◌^◌, Bool, true, false, List, [], ◌∷◌, ◌++◌, length, map, Contains, sum_by, Option, Some, None, refl, ap, sym, ◌∙◌, subst, arith, lit<}
-use Rattle.std.specs.Prelude.{slice_get, option_map, is_some, nat_le, Result, Ok, Err, IfOk, OnOk}
+use Rattle.std.proofs.Common.{◌≡◌, inl, inr, ℕ, zero, suc, ◌+◌, ◌<◌, ◌≤◌, ◌^◌, Bool, true, List, [], ◌∷◌, length, Option, Some, None, refl, ap, sym, ◌∙◌, subst, arith, lit<}
+use Rattle.std.specs.Prelude.{slice_get, is_some, nat_le, Result, Ok, Err, IfOk, OnOk}
 use Rattle.std.proofs.lemmas.Bool.{cases_Bool}
 use Rattle.desk_rules.specs.declared.entry.Entry.{Entry}
 use Rattle.desk_rules.specs.declared.reply.Kept.{Kept}
 use Rattle.desk_rules.specs.declared.reply.Reply.{Reply}
-use Rattle.desk_rules.specs.declared.verdict.Verdict.{Verdict}
 use Rattle.desk_rules.specs.declared.verdict.Verdict.TheVariants.{Accept, Repeat, Refuse}
 use Rattle.desk_rules.specs.declared.verdict.Refusal.TheVariants.{Full}
 use Rattle.desk_rules.specs.History.{entry_at, sender_of, reference_of, number_of_key}
 use Rattle.desk_rules.specs.Balances.{issued, redeemed}
 use Rattle.desk_rules.specs.Reply.{IsFirstReply, plain_reply}
-use Rattle.desk_rules.specs.Verdict.{Books, Check, IsVerdict, IsVerdictAt, checks_of, first_failing, is_from_stranger, kind_of, most_outstanding}
+use Rattle.desk_rules.specs.Verdict.{Books, Check, IsVerdict, IsVerdictAt, checks_of, first_failing, is_from_stranger, kind_of}
 use Rattle.desk_rules.proofs.HistoryLemmas.{entry_at-known, slice_get-some}
 use Rattle.desk_register.specs.declared.found.Found.{Found}
 use Rattle.desk_register.specs.Applied.{Keeps}
-use Rattle.desk_register.specs.Content.{Content, history_of}
+use Rattle.desk_register.specs.Content.{Content}
 use Rattle.desk_register.specs.Looked.{Finding, found_at, held_of, view_of}
 use Rattle.desk_register.specs.declared.register.Stage.{Stage}
 use Rattle.desk_register.specs.declared.register.Stage.TheVariants.{Idle, Failed}
@@ -25,7 +24,7 @@ use Rattle.desk_register.proofs.HeldLemmas.{held_is, held_within}
 use Rattle.desk_register.proofs.TablesLemmas.{length_is}
 use Rattle.desk_book.specs.declared.fault.Fault.{Fault}
 use Rattle.desk_book.specs.declared.total.SecurityTotal.{SecurityTotal}
-use Rattle.desk_book.specs.Answered.{AreSums, IsDecided, IsSum, IsToldSums}
+use Rattle.desk_book.specs.Answered.{IsSum, IsToldSums}
 use Rattle.desk_book.specs.Held.{Answers, Decides, IsPut}
 use Rattle.desk_book.specs.declared.order.Order.TheVariants.{Decide}
 use Rattle.desk_book.specs.Sums.{sums_text}

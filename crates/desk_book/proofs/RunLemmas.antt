@@ -13,7 +13,7 @@ use Rattle.desk_book.specs.declared.order.Order.TheVariants.{Decide}
 use Rattle.desk_rules.specs.declared.verdict.Verdict.TheVariants.{Repeat}
 use Rattle.desk_book.specs.Asked.{Asked, asked_by}
 use Rattle.desk_book.specs.declared.request.Request.{Request}
-use Rattle.desk_book.specs.Held.{AnswersOrder, Holds, IsObeyed, Steps}
+use Rattle.desk_book.specs.Held.{Holds, IsObeyed, Steps}
 use Rattle.desk_book.specs.Order.{IsOrder}
 use Rattle.desk_book.specs.Played.{HasPlayed, Plays, PlaysFront, PlaysItem, PlaysScript, shown_answer}
 use Rattle.desk_book.specs.Lines.{lines_of}
@@ -229,8 +229,7 @@ repeat_once limit books between last front rest asked answers more reply is firs
     let decided : IsDecided limit between repeated.entry reply between = record { verdict = Repeat repeated.number; is_verdict = repeated.repeats; grows = refl; replied = repeated.replied } in
     let step : Step limit between asked (Ok reply) between = (Decide repeated.entry, repeated.reads, decided) in
     let never : false ≡ true → false ≡ true = λ e. e in
-    let one : Run limit false between (asked ∷ rest) (Ok reply ∷ more) is last = (never, (between, step, second)) in
-    (
+    let one : Run limit false between (asked ∷ rest) (Ok reply ∷ more) is last = (never, (between, step, second)) in (
       run_then limit false books front (asked ∷ rest) answers (Ok reply ∷ more) false is between last first one,
       run_then limit false books front rest answers more false is between last first second,
     )

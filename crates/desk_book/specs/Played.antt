@@ -6,7 +6,6 @@ use Rattle.desk_rules.specs.Verdict.{Books}
 use Rattle.desk_register.specs.View.{View}
 use Rattle.desk_book.specs.declared.fault.Fault.{Fault}
 use Rattle.desk_book.specs.Answered.{Step, says_closed}
-use Rattle.desk_book.specs.Asked.{Asked}
 use Rattle.desk_book.specs.Held.{Holds}
 use Rattle.desk_book.specs.Script.{Item, ask, bad_line, Script}
 use Rattle.desk_book.specs.Shown.{shown, shown_fault, shown_bad_line}

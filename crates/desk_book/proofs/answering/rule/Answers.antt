@@ -1,4 +1,4 @@
-use Rattle.std.proofs.Common.{refl, sym, ◌∙◌}
+use Rattle.std.proofs.Common.{refl}
 use Rattle.desk_book.proofs.AnsweringLemmas.{decides_put_at, decides_repeat_at, not_failed}
 use Rattle.desk_book.proofs.answering.rule.Goals as goal
 

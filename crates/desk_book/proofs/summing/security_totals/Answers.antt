@@ -1,4 +1,4 @@
-use Rattle.std.proofs.Common.{◌≤◌, arith, rules, Vec, Global, Some}
+use Rattle.std.proofs.Common.{◌≤◌, arith, rules, Vec, Global}
 use Rattle.desk_register.specs.View.{IsRead}
 use Rattle.desk_book.specs.declared.total.SecurityTotal.{SecurityTotal}
 use Rattle.desk_book.proofs.SummingLemmas.{read_one, read_more, read_then, summing_begins, summing_goes_on, summing_ends_none, summing_ends_all}

@@ -1,4 +1,3 @@
-use Rattle.std.proofs.Common.{refl, sym}
 use Rattle.desk_book.specs.Asked.{asked_by}
 use Rattle.desk_book.specs.Shown.{shown, shown_bad_line, shown_fault}
 use Rattle.desk_book.proofs.RunLemmas.{bad_line_played, item_written, one_played}

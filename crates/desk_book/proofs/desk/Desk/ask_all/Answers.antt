@@ -1,5 +1,4 @@
-use Rattle.std.proofs.Common.{rules, ◌≡◌, ◌∷◌, [], ◌++◌, refl, ap, sym, ◌∙◌}
-use Rattle.desk_book.specs.Asked.{asked_by}
+use Rattle.std.proofs.Common.{rules, ◌≡◌, ◌∷◌, [], ◌++◌}
 use Rattle.desk_book.proofs.RunLemmas.{later_on, run_steps, run_all}
 use Rattle.desk_book.proofs.desk.Desk.ask_all.Goals as goal
 
