@@ -6,7 +6,7 @@ use std::alloc::{AllocError, Global};
 use std::test::Fail;
 
 /// A free delivery and its receipt, matched and settled: what an operator and two custodians send.
-const FREE_PAIR: &[u8] = b"op\n\
+pub const FREE_PAIR: &[u8] = b"op\n\
       {\"op\":\"participant\",\"ref\":\"P1\",\"bic\":\"ALPHDEFF\"}\n\
       .\n\
       op\n\
