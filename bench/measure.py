@@ -1,7 +1,11 @@
-"""Times the bench program beside plain Python: the same work, the same figures, in one run."""
+"""Times the bench program beside plain Python, the same work and the same figures in one run; and the desk's program
+playing scripts."""
 
+import itertools
+import json
 import re
 import resource
+import string
 import subprocess
 import sys
 
@@ -119,6 +123,21 @@ BYTES = 64 * 2**20
 TURNS = 3
 
 
+# The proved program; how many requests it plays; a script has so many bytes at most; and what is likely to take
+# longer than so many seconds is not played.
+DESK = "crates/desk/out/desk"
+SIZES = 1_000, 10_000, 100_000
+LONGEST_SCRIPT = 16_777_216
+MOST_SECONDS = 60
+
+# In the scripts that are played: the security, the request for the totals, and after how many rounds a run settles
+# their pairs.
+SECURITY = "DE0007164600"
+SUMS = "sums\n"
+ROUNDS = 100
+REFERENCES = ["".join(it) for it in itertools.product(string.digits + string.ascii_uppercase, repeat=3)]
+
+
 def processor_time():
     """The seconds that this process and those it ran have computed. Other work on the machine isn't in them."""
     spent = [resource.getrusage(who) for who in (resource.RUSAGE_SELF, resource.RUSAGE_CHILDREN)]
@@ -160,10 +179,96 @@ def measure_blocks(program):
         print(f"block of {length // 1024} KiB: desk {taken / (count * length) * 1e9:.2f} ns/byte")
 
 
+def command(**members):
+    return f"op\n{json.dumps(members, separators=(',', ':'))}\n.\n"
+
+
+def message(sender, mt, reference, account, qualifier, counterparty):
+    """A free instruction for one unit; the qualifier says what the counterparty is."""
+    lines = ["{4:", ":16R:GENL", f":20C::SEME//{reference}", ":23G:NEWM", ":16S:GENL"]
+    lines += [":16R:TRADDET", ":98A::SETT//20240229", f":35B:ISIN {SECURITY}", ":16S:TRADDET"]
+    lines += [":16R:FIAC", ":36B::SETT//UNIT/1,", f":97A::SAFE//{account}", ":16S:FIAC"]
+    lines += [":16R:SETDET", ":22F::SETR//TRAD", ":16R:SETPRTY", f":95P::{qualifier}//{counterparty}", ":16S:SETPRTY"]
+    lines += [":16R:SETPRTY", ":95P::PSET//DESKDEFF", ":16S:SETPRTY", ":16S:SETDET", "-}"]
+    return f"in {sender} {mt}\n" + "\n".join(lines) + "\n.\n"
+
+
+# What a generated script asks first, so that pairs can settle.
+OPENING = [
+    command(op="participant", ref="P1", bic="ALPHDEFF"),
+    command(op="participant", ref="P2", bic="BETADEFF"),
+    command(op="account", ref="C1", bic="ALPHDEFF", account="A"),
+    command(op="account", ref="C2", bic="BETADEFF", account="B"),
+    command(op="security", ref="S1", isin=SECURITY, kind="UNIT"),
+    command(op="issue", ref="I1", account="A", isin=SECURITY, quantity=1_000_000),
+]
+
+
+def round_of(number, is_last):
+    """Four requests: a unit is delivered and received, and the totals are asked twice; or once and a run settles the
+    pairs of the last rounds. More than this, of a pair for every four, has no room in a script of 100,000."""
+    reference = REFERENCES[number]
+    return [
+        message("ALPHDEFF", 542, reference, "A", "REAG", "BETADEFF"),
+        message("BETADEFF", 540, reference, "B", "DEAG", "ALPHDEFF"),
+        command(op="run", ref=f"N{reference}", day="20240229") if is_last or number % ROUNDS == 0 else SUMS,
+        SUMS,
+    ]
+
+
+def script_of(requests):
+    """A script of so many requests, a pair settled for every four behind the opening, and how many pairs that are."""
+    pairs, rest = divmod(requests - len(OPENING), 4)
+    rounds = (it for number in range(1, pairs + 1) for it in round_of(number, number == pairs))
+    return "".join([*OPENING, *rounds, *rest * [SUMS]]).encode(), pairs
+
+
+def played(program, script, pairs):
+    """The processor seconds that the desk takes to play a script in which so many pairs settle."""
+    started = processor_time()
+    done = subprocess.run([program, "play"], input=script, capture_output=True, check=True)
+    taken = processor_time() - started
+    settled = sum(map(int, re.findall(rb"^accepted [0-9]+ settled ([0-9]+) waiting 0$", done.stdout, re.MULTILINE)))
+    if settled != pairs:
+        sys.exit(f"play: {settled} pairs settled of {pairs}")
+    return taken
+
+
+def likely_seconds(size, taken):
+    """What so many requests are likely to take, as the cost of one grew over the two sizes timed last."""
+    if len(taken) < 2:
+        return 0
+    (few, first), (many, second) = taken[-2:]
+    growth = (second / many - first / few) / (many - few)
+    return size * (second / many + growth * (size - many))
+
+
+def measure_play():
+    """Scripts of growing length, each unless it would take too long."""
+    taken = []
+    for size in SIZES:
+        likely = likely_seconds(size, taken)
+        if likely > MOST_SECONDS:
+            print(
+                f"play of {size:,} requests: skipped, since as the cost of a request grows it would take "
+                f"{likely:.0f} s, and {MOST_SECONDS} s is the most"
+            )
+            continue
+        script, pairs = script_of(size)
+        if len(script) > LONGEST_SCRIPT:
+            sys.exit(f"play: a script of {len(script):,} bytes is longer than the desk takes")
+        seconds = played(DESK, script, pairs)
+        taken.append((size, seconds))
+        rate, cost = size / seconds, seconds / size * 1e6
+        print(f"play of {size:,} requests, {pairs:,} pairs settled: desk {rate:,.0f} requests/s, {cost:.1f} us/request")
+
+
 def main(program, kinds):
-    for kind in kinds or [*KINDS, "block"]:
+    for kind in kinds or [*KINDS, "block", "play"]:
         if kind == "block":
             measure_blocks(program)
+        elif kind == "play":
+            measure_play()
         else:
             compare(program, kind, *KINDS[kind])
 
