@@ -25,6 +25,7 @@ fn main(rt: HostRuntime) -> io::Result<ExitCode> {
             Ok(words) => run::run(rt.alloc(), words.as_slice(), &mut reader, &mut writer),
             Err(_) => run::tell_memory(&mut writer),
         },
+        Err(error) if error.kind() == io::ErrorKind::OutOfMemory => run::tell_memory(&mut writer),
         Err(_) => run::tell_unreadable_words(&mut writer),
     };
     Ok(ExitCode::from(status))
