@@ -1,5 +1,6 @@
 //! `desk play`.
-ghost use Rattle.std.specs.Prelude.{IfOk, IfSome};
+ghost use Rattle.std.specs.Prelude.{◌≡◌, IfOk, IfSome};
+ghost use Rattle.std.specs.Io.KnownBytes.{Appends};
 ghost use Rattle.desk.specs.PlayAnswer.{IsPlayAnswer};
 
 use desk_book::{Desk, PlayFault};
@@ -17,7 +18,7 @@ const FAULT: u8 = 3;
 
 /// Plays a script from the reader on a new desk in memory. Gives the exit status: 0 where the script was played,
 /// whatever its answers; 3 after `fault 60` where memory is wanting for the script, and after `fault io` where the
-/// reader or the writer failed or the script is too long.
+/// reader failed or the script is too long. Where the writer failed nothing more is written.
 pub fn answer_play<R: Read, W: Write>(
     alloc: Global,
     reader: &mut R,
@@ -26,11 +27,18 @@ pub fn answer_play<R: Read, W: Write>(
     ensures { IfOk result (λ status. IfSome (R.remaining reader.old) (λ input. IsPlayAnswer input status (W.contents writer.old) (W.contents writer.new))) }
 {
     let mut desk = Desk::new(ListRegister::new(alloc, MOST_ENTRIES));
-    let line: &[u8] = match desk.play(alloc, reader, writer) {
-        Ok(()) => return Ok(DONE),
-        Err(PlayFault::Memory) => b"fault 60\n",
-        Err(PlayFault::ReadFailed | PlayFault::WriteFailed | PlayFault::TooLong) => b"fault io\n",
-    };
+    match desk.play(alloc, reader, writer) {
+        Ok(()) => Ok(DONE),
+        Err(PlayFault::Memory) => tell_fault(b"fault 60\n", writer),
+        Err(PlayFault::ReadFailed | PlayFault::TooLong) => tell_fault(b"fault io\n", writer),
+        Err(PlayFault::WriteFailed) => Err(io::Error::from(io::ErrorKind::WriteZero)),
+    }
+}
+
+/// Writes a fault's line. Gives its status.
+fn tell_fault<W: Write>(line: &[u8], writer: &mut W) -> io::Result<u8>
+    ensures { IfOk result (λ status. (status ≡ 3) × Appends (W.contents writer.old) (W.contents writer.new) line.now) }
+{
     writer.write_all(line)?;
     Ok(FAULT)
 }

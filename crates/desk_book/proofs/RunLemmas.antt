@@ -1,12 +1,14 @@
 -- Requests one after another.
-use Rattle.std.proofs.Common.{◌≡◌, ℕ, ◌+◌, ◌<◌, ◌≤◌, Bool, true, false, List, [], ◌∷◌, ◌++◌, length, map, take, get_or, refl, ap, sym, ◌∙◌, subst, arith, append-nil, append_assoc}
+use Rattle.std.proofs.Common.{◌≡◌, ℕ, ◌+◌, ◌<◌, ◌≤◌, Bool, true, false, List, [], ◌∷◌, ◌++◌, length, map, take, get_or, refl, ap, sym, ◌∙◌, subst, arith, append-nil, append_assoc, All, Contains, inl, inr}
 use Rattle.std.proofs.lemmas.List.{map-append, take_all, take_more}
 use Rattle.std.specs.Prelude.{Option, Some, None, Result, Ok, Err, IfOk, OnOk}
 use Rattle.std.specs.Io.KnownBytes.{Appends}
 use Rattle.desk_rules.specs.declared.reply.Reply.{Reply}
+use Rattle.desk_rules.proofs.Decided.{Contains-from_In, In-from_Contains, In-push_cases}
 use Rattle.desk_rules.specs.Verdict.{Books}
 use Rattle.desk_register.specs.View.{View, IsLater}
 use Rattle.desk_book.specs.declared.fault.Fault.{Fault}
+use Rattle.desk_book.specs.declared.fault.Fault.TheVariants.{Storage}
 use Rattle.desk_book.specs.declared.order.Order.{Order}
 use Rattle.desk_book.specs.Answered.{IsDecided, IsRepeated, Run, Step, says_closed}
 use Rattle.desk_book.specs.declared.order.Order.TheVariants.{Decide}
@@ -233,3 +235,15 @@ repeat_once limit books between last front rest asked answers more reply is firs
       run_then limit false books front (asked ∷ rest) answers (Ok reply ∷ more) false is between last first one,
       run_then limit false books front rest answers more false is between last first second,
     )
+
+-- Whether the desk closed, and why.
+
+pub blamed : (v0 v1 v2 : View) (answers : List (Result Reply Fault)) (answer : Result Reply Fault) → IsLater v0 v1 → IsLater v1 v2 → (Contains answers (Err Storage) → v0.failures < v1.failures)
+    → (answer ≡ Err Storage → v1.failures < v2.failures) → Contains (answers ++ answer ∷ []) (Err Storage) → v0.failures < v2.failures
+blamed v0 v1 v2 answers answer first second before now storage =
+    let a = first.failures in
+    let b = second.failures in
+    elim (In-push_cases answers answer (Err Storage) (In-from_Contains (answers ++ answer ∷ []) (Err Storage) storage)) [
+      | inl old ↦ let lt = before (Contains-from_In answers (Err Storage) old) in omega arith
+      | inr new ↦ let lt = now new in omega arith
+    ]

@@ -58,7 +58,8 @@ IsAnswer limit books (Decide entry) reply after = IsDecided limit books entry re
 IsAnswer limit books Totals reply after = IsToldSums books reply after
 IsAnswer limit books (Answer given) reply after = (reply ≡ given) × (after ≡ books)
 
--- One request: it is read as an order, and that is answered; a fault changes nothing.
+-- One request: it is read as an order, and that is answered; a fault changes nothing in the books. (Of the tables of a
+-- desk that is closed nothing is said.)
 abbrev pub Step : ℕ → Books → Asked → Result Reply Fault → Books → Type 0
 Step limit books asked (Ok reply) after = (order : Order) × IsOrder asked order × IsAnswer limit books order reply after
 Step limit books asked (Err fault) after = after ≡ books

@@ -1,5 +1,5 @@
 //! The desk: requests, answered from a register's tables.
-ghost use Rattle.std.specs.Prelude.{◌≡◌, ◌<◌, true, false, map, Err, IfErr, IfOk, OnErr};
+ghost use Rattle.std.specs.Prelude.{◌≡◌, ◌<◌, true, false, map, All, Contains, Err, IfErr, IfOk, OnErr};
 ghost use Rattle.desk_rules.specs.Verdict.{Books};
 ghost use Rattle.desk_register.specs.View.{IsLater};
 ghost use Rattle.desk_book.specs.Answered.{Run, says_closed};
@@ -16,7 +16,8 @@ use desk_rules::Reply;
 use std::alloc::{AllocError, Global};
 use std::marker::Model;
 
-/// A desk over a register. Where what a request began cannot be taken back, the desk is closed from then on.
+/// A desk over a register. Where what a request began cannot be taken back, or the register does not show after a
+/// fault that it holds what it held, the desk is closed from then on.
 #[derive(Drop)]
 pub struct Desk<R: Register> {
     register: R,
@@ -84,6 +85,9 @@ impl<R: Register> Desk<R> {
         ensures err { OnErr result (self.new ≡ self.old) }
         ensures memory { IfErr result (λ fault. fault ≡ Fault.Memory) }
         ensures later { IsLater (R.view self.old.register) (R.view self.new.register) }
+        ensures stays { self.old.is_closed ≡ true → IfOk result (λ answers. All (λ answer. says_closed answer ≡ true) answers.items) }
+        ensures blame { IfOk result (λ answers. Contains answers.items (Err Fault.Storage) → (R.view self.old.register).failures < (R.view self.new.register).failures) }
+        ensures plain { R.plain ≡ true → self.old.is_closed ≡ false → self.new.is_closed ≡ false }
     {
         let Ok(mut answers) = Vec::with_capacity(alloc, requests.len()) else {
             return Err(Fault::Memory);

@@ -19,8 +19,8 @@ pub fn one_script()
     ensures { (bytes : List ℕ) (a b : List Item) → Script bytes a → Script bytes b → a ≡ b }
 {}
 
-/// A repeat acts once: requests with a repeat among them, and the same requests without it, are runs to the same
-/// books with the same other answers.
+/// A repeat acts once: requests with one repeat among them, and the same requests without it, are runs to the same
+/// books with the same other answers. (A run with several repeats loses them one by one.)
 pub fn repeats_act_once()
     ensures { (limit : ℕ) (books between last : Books) (front rest : List Asked) (asked : Asked) (answers more : List (Result Reply Fault)) (reply : Reply) (is : Bool)
         → Run limit false books front answers false between → IsRepeated limit between asked reply → Run limit false between rest more is last

@@ -23,7 +23,7 @@ use desk_rules::{Entry, Instructed, Place, Reply, Sender};
 use std::alloc::Global;
 
 impl ListRegister {
-    /// An empty register for at most `limit` entries, 1 to 999,999,999.
+    /// An empty register for at most `limit` entries, which are 999,999,999 at most.
     pub fn new(alloc: Global, limit: u64) -> ListRegister
         requires { limit ≤ 999_999_999 }
         ensures empty { Keeps limit no_books (content_in (listed result.lists)) }

@@ -10,7 +10,7 @@ use crate::register::Stage;
 /// of the whole.
 #[derive(Drop)]
 pub struct ListRegister {
-    /// 1 to 999,999,999
+    /// At most 999,999,999
     pub limit: u64,
     pub lists: Lists,
     pub changes: Vec<Change>,

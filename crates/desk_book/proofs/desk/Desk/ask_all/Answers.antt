@@ -1,5 +1,7 @@
-use Rattle.std.proofs.Common.{rules, ◌≡◌, ◌∷◌, [], ◌++◌}
-use Rattle.desk_book.proofs.RunLemmas.{later_on, run_steps, run_all}
+use Rattle.std.proofs.lemmas.List.Elements.{All-push}
+use Rattle.desk_book.specs.Answered.{says_closed}
+use Rattle.std.proofs.Common.{rules, true, ◌∙◌, ◌≡◌, ◌∷◌, [], ◌++◌}
+use Rattle.desk_book.proofs.RunLemmas.{blamed, later_on, run_steps, run_all}
 use Rattle.desk_book.proofs.desk.Desk.ask_all.Goals as goal
 
 pub requests-preserved : goal.requests-preserved
@@ -13,6 +15,9 @@ requests-preserved g c =
     record {
       room = search rules;
       count = search rules;
+      closed = λ was. (let stays = a.stays (i.closed was).0 in (a.closed ∙ stays, rw items (All-push (λ answer. says_closed answer ≡ true) c.requests.answers.items c.ask-answer.result (i.closed was).1 stays)));
+      blame = λ storage. blamed v0 v1 v2 c.requests.answers.items c.ask-answer.result i.later a.later i.blame a.blame (rw items at storage);
+      plain = λ is not_closed. a.closed ∙ a.plain is (i.plain is not_closed);
       later = later_on v0 v1 v2 i.later a.later;
       run = λ books honest holds.
           run_steps v0 v1 v2 c.args.self.now.is_closed c.requests.self.is_closed c.ask-answer.new.self.is_closed books c.args.requests.now c.requests.request-index c.request-item.result
