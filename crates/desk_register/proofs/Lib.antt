@@ -22,3 +22,4 @@ pub mod PassWhole
 pub mod FinishLemmas
 pub mod UnderwayLemmas
 pub mod RunningLemmas
+pub mod TestLemmas

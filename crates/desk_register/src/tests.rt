@@ -1,0 +1,8 @@
+//! The calls of a register in plain lists, each with ample memory; the verdicts on today's commands; and worked
+//! days, against the plain program of the definitions.
+mod calls;
+mod days;
+mod entries;
+mod ledger;
+mod replies;
+mod verdicts;
