@@ -1,5 +1,4 @@
 //! Worked days at a register, which the plain program of the definitions gives alike.
-ghost use Rattle.std.specs.Prelude.{◌≡◌, ◌≤◌, ◌^◌};
 
 use crate::tests::entries::{
     Deal, SHARE, account, delivery, instruct, isin, issue, new_account, participant, receipt, run,
