@@ -1,8 +1,7 @@
 -- What the tests' register keeps, from call to call.
 use Rattle.std.proofs.Common.{◌≡◌, ℕ, sym, subst}
 use Rattle.desk_rules.specs.declared.entry.Entry.{Entry}
-use Rattle.desk_rules.specs.declared.verdict.Verdict.TheVariants.{Accept}
-use Rattle.desk_rules.specs.Verdict.{Books, IsVerdict}
+use Rattle.desk_rules.specs.Verdict.{Books}
 use Rattle.desk_register.specs.Applied.{CanApply, Keeps}
 use Rattle.desk_register.specs.Content.{Content}
 

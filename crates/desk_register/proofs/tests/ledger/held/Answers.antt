@@ -1,4 +1,4 @@
-use Rattle.std.proofs.Common.{◌≤◌, ◌<◌, ◌^◌, arith, lit<}
+use Rattle.std.proofs.Common.{◌<◌, ◌^◌, arith, lit<}
 use Rattle.desk_register.proofs.HeldLemmas.{held_within}
 use Rattle.desk_register.proofs.tests.ledger.held.Goals as goal
 

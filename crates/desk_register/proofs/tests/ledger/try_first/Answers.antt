@@ -1,4 +1,4 @@
-use Rattle.std.proofs.Common.{◌≡◌, [], None, sym, subst}
+use Rattle.std.proofs.Common.{[], None, sym, subst}
 use Rattle.desk_register.specs.Content.{Content, CanSettle}
 use Rattle.desk_register.proofs.TestLemmas.{kept_in}
 use Rattle.desk_register.proofs.UnderwayLemmas.{begins, can_settle}

@@ -1,4 +1,4 @@
-use Rattle.std.proofs.Common.{◌≡◌, ◌∙◌, sym, subst}
+use Rattle.std.proofs.Common.{◌∙◌, sym, subst}
 use Rattle.desk_register.specs.declared.list_register.ListRegister.{ListRegister}
 use Rattle.desk_register.specs.Applied.{CanApply}
 use Rattle.desk_register.specs.Lists.{content_in, listed}
