@@ -128,7 +128,7 @@ TURNS = 3
 DESK = "crates/desk/out/desk"
 SIZES = 1_000, 10_000, 100_000
 LONGEST_SCRIPT = 16_777_216
-MOST_SECONDS = 60
+MOST_SECONDS = 600
 
 # In the scripts that are played: the security, the request for the totals, and after how many rounds a run settles
 # their pairs.
