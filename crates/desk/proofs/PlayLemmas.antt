@@ -1,13 +1,22 @@
 -- A script on a new desk in memory.
-use Rattle.std.proofs.Common.{◌≡◌, ℕ, Bool, false, List, Option, Some, None, IfSome, refl, sym, subst}
+use Rattle.std.proofs.Common.{◌≡◌, ◌<◌, ◌≤◌, ℕ, Bool, true, false, List, [], ◌∷◌, length, All, Option, Some, None, IfSome, cond, count_by, refl, sym, subst, arith}
+use Rattle.std.proofs.lemmas.List.Elements.{All-cons, All-head, All-nil, All-tail}
+use Rattle.std.proofs.lemmas.List.Sums.{sum_by-cons}
+use Rattle.std.specs.Prelude.{Result, Ok, Err}
+use Rattle.desk_rules.specs.declared.reply.Reply.{Reply}
 use Rattle.desk_rules.specs.Verdict.{Books}
 use Rattle.desk_register.specs.declared.list_register.ListRegister.{ListRegister}
 use Rattle.desk_register.specs.Applied.{Keeps, no_books}
 use Rattle.desk_register.specs.Lists.{content_in, listed, undone}
 use Rattle.desk_register.specs.View.{View}
+use Rattle.desk_book.proofs.RunLemmas.{open_all_along}
+use Rattle.desk_book.specs.declared.fault.Fault.{Fault}
+use Rattle.desk_book.specs.declared.fault.Fault.TheVariants.{Memory, Storage, Closed}
+use Rattle.desk_book.specs.Answered.{Run, says_closed, says_storage}
 use Rattle.desk_book.specs.Held.{Holds}
-use Rattle.desk_book.specs.Played.{Plays, PlaysScript}
-use Rattle.desk.specs.PlayAnswer.{IsPlayAnswer, told_answers}
+use Rattle.desk_book.specs.Played.{PlaysScript, asked_in}
+use Rattle.desk_book.specs.Script.{Script}
+use Rattle.desk.specs.PlayAnswer.{IsInMemory, IsPlayAnswer, told_answers}
 
 -- what contracts see of lists
 abbrev pub view_of_lists : ListRegister → View
@@ -21,15 +30,41 @@ view_of_lists r = record {
   is_sure = Unit {0};
 }
 
-pub told : (r : Option (List ℕ)) (before after : Option (List ℕ)) (limit : ℕ) (was is : Bool) (v0 v1 : View) → limit ≡ 999_999_999 → was ≡ false → is ≡ false → v1.is_honest → Holds was v0 no_books
-    → IfSome r (λ input. (books : Books) → v1.is_honest → Holds was v0 books → PlaysScript limit was books input before after is v1) → IfSome r (λ input. IsPlayAnswer input 0 before after)
-told None before after limit was is v0 v1 most not_closed stays honest holds played = played
-told (Some input) before after limit was is v0 v1 most not_closed stays honest holds played =
-    let s = played no_books honest holds in
-    let P : ℕ → Type 0 = λ k. Plays k was no_books s.items s.text is s.played.last in
-    let Q : Bool → Type 0 = λ b. Plays 999_999_999 b no_books s.items s.text is s.played.last in
-    let R : Bool → Type 0 = λ b. Plays 999_999_999 false no_books s.items s.text b s.played.last in
-    told_answers s.items s.text s.played.last s.spells (subst R stays (subst Q not_closed (subst P most s.played.plays))) s.written refl
+is_in_memory : (answer : Result Reply Fault) → says_closed answer ≡ false → cond (says_storage answer) 1 0 ≡ 0 → IsInMemory answer
+is_in_memory (Ok reply) not_closed sound = tt
+is_in_memory (Err Memory) not_closed sound = refl
+is_in_memory (Err Storage) not_closed sound = absurd (omega (arith, sound))
+is_in_memory (Err Closed) not_closed sound = cc
+
+-- no fault of a device, and not closed: so want of memory
+only_memory : (answers : List (Result Reply Fault)) → All (λ answer. says_closed answer ≡ false) answers → count_by says_storage answers ≡ 0 → All IsInMemory answers
+only_memory [] not_closed sound = All-nil IsInMemory
+only_memory (answer ∷ answers) not_closed sound =
+    let sum = sum_by-cons (λ a. cond (says_storage a) 1 0) answer answers in
+    let now : cond (says_storage answer) 1 0 ≡ 0 = omega (arith, sum, sound) in
+    let later : count_by says_storage answers ≡ 0 = omega (arith, sum, sound) in
+    All-cons IsInMemory answer answers (is_in_memory answer (All-head (λ a. says_closed a ≡ false) answer answers not_closed) now)
+    (only_memory answers (All-tail (λ a. says_closed a ≡ false) answer answers not_closed) later)
+
+pub told : (r : Option (List ℕ)) (before after : Option (List ℕ)) (was is : Bool) (v0 v1 : View) → v0.room ≡ 999_999_999 → was ≡ false → is ≡ false → v1.failures ≡ v0.failures → v1.is_honest → Holds was v0 no_books
+    → ((books : Books) → v1.is_honest → Holds was v0 books → (script : List ℕ) × IfSome r (λ input. input ≡ script) × (length script ≤ 16_777_216) × PlaysScript was books script before after is v0 v1)
+    → (input : List ℕ) × IfSome r (λ known. known ≡ input) × IsPlayAnswer input 0 before after
+told r before after was is v0 v1 most not_closed stays sound honest holds played =
+    let p = played no_books honest holds in
+    let s = p.3 in
+    let P : ℕ → Type 0 = λ k. Run k was no_books (asked_in s.items) s.answers is s.played.last in
+    let Q : Bool → Type 0 = λ b. Run 999_999_999 b no_books (asked_in s.items) s.answers is s.played.last in
+    let R : Bool → Type 0 = λ b. Run 999_999_999 false no_books (asked_in s.items) s.answers b s.played.last in
+    let run : Run 999_999_999 false no_books (asked_in s.items) s.answers false s.played.last = subst R stays (subst Q not_closed (subst P most s.played.run)) in
+    let blame = s.played.blame in
+    let none : count_by says_storage s.answers ≡ 0 = omega (arith, blame, sound) in
+    (p.0, p.1, told_answers s.items s.answers s.played.last p.2 s.spells run
+    (only_memory s.answers (open_all_along 999_999_999 false no_books s.played.last (asked_in s.items) s.answers run) none) s.written refl)
+
+-- the bytes that a reader gives, where they are known
+pub given : (r : Option (List ℕ)) → (input : List ℕ) × IfSome r (λ known. known ≡ input)
+given None = ([], tt)
+given (Some input) = (input, refl)
 
 -- a new register keeps the tables of no history, and so does what is equal to it
 pub new_keeps : (made held : ListRegister) → held ≡ made → made.limit ≡ 999_999_999 → Keeps 999_999_999 no_books (content_in (listed made.lists)) → Keeps held.limit no_books (content_in (listed held.lists))

@@ -5,7 +5,6 @@
 //! the two. Begin with `run.rt`.
 #![tactic(auto)]
 
-mod input;
 mod isin;
 mod play;
 mod read;

@@ -1,5 +1,5 @@
 //! `desk play`.
-ghost use Rattle.std.specs.Prelude.{◌≡◌, IfOk, IfSome};
+ghost use Rattle.std.specs.Prelude.{◌≡◌, ℕ, List, IfOk, IfSome};
 ghost use Rattle.std.specs.Io.KnownBytes.{Appends};
 ghost use Rattle.desk.specs.PlayAnswer.{IsPlayAnswer};
 
@@ -24,7 +24,7 @@ pub fn answer_play<R: Read, W: Write>(
     reader: &mut R,
     writer: &mut W,
 ) -> io::Result<u8>
-    ensures { IfOk result (λ status. IfSome (R.remaining reader.old) (λ input. IsPlayAnswer input status (W.contents writer.old) (W.contents writer.new))) }
+    ensures { IfOk result (λ status. (input : List ℕ) × IfSome (R.remaining reader.old) (λ known. known ≡ input) × IsPlayAnswer input status (W.contents writer.old) (W.contents writer.new)) }
 {
     let mut desk = Desk::new(ListRegister::new(alloc, MOST_ENTRIES));
     match desk.play(alloc, reader, writer) {

@@ -6,10 +6,13 @@ ghost use Rattle.desk_msg.specs.Refused.{ReadsText};
 ghost use Rattle.desk_msg.specs.declared.mt.Mt.{Mt};
 ghost use Rattle.desk.specs.ReadAnswer.{IsReadAnswer};
 
-use crate::input::{InputFault, read_text};
+use desk_book::{InputFault, read_whole};
 use desk_msg::{Mt, ReadFault, Refusal, fields_text, read_instruction_text, refusal_text};
 use std::alloc::Global;
 use std::io::{self, Read, Write};
+
+/// A message has so many bytes at most.
+const LONGEST_TEXT: usize = 65_536;
 
 /// The exit statuses of an answer.
 const DONE: u8 = 0;
@@ -30,7 +33,7 @@ pub fn answer_read<R: Read, W: Write>(
     requires { is_instruction mt ≡ true }
     ensures { IfOk result (λ status. IfSome (R.remaining reader.old) (λ input. IsReadAnswer mt input status (Appends (W.contents writer.old) (W.contents writer.new)))) }
 {
-    match read_text(alloc, reader) {
+    match read_whole(alloc, reader, LONGEST_TEXT) {
         Ok(text) => answer_text(alloc, mt, text.as_slice(), writer),
         Err(InputFault::TooLong) => tell_refusal(alloc, Refusal::TooLong, writer),
         Err(InputFault::Reader) => {

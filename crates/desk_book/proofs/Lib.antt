@@ -1,4 +1,5 @@
-mod RunLemmas
+pub mod RunLemmas
+mod PlayLemmas
 mod AnsweringLemmas
 pub mod LineLemmas
 pub mod FormLemmas
@@ -8,5 +9,7 @@ pub mod CommandLemmas
 pub mod RowLemmas
 pub mod OneReading
 pub mod OneCommand
+pub mod OneOrder
+mod OnceLemmas
 pub mod ListedLemmas
 pub mod SummingLemmas

@@ -6,7 +6,7 @@ use Rattle.desk_rules.specs.declared.verdict.Verdict.{Verdict}
 use Rattle.desk_rules.specs.declared.verdict.Verdict.TheVariants.{Accept, Repeat, Refuse}
 use Rattle.desk_rules.specs.Balances.{issued, redeemed, credits, debits}
 use Rattle.desk_rules.specs.Laws.{accounts_of}
-use Rattle.desk_rules.specs.Reply.{plain_reply, AreNext, IsReply}
+use Rattle.desk_rules.specs.Reply.{plain_reply, AreNext, IsFirstReply, IsReply}
 use Rattle.desk_rules.specs.Verdict.{Books, IsVerdict, kind_of}
 use Rattle.desk_register.specs.Looked.{IsLess}
 use Rattle.desk_book.specs.Asked.{Asked}
@@ -71,6 +71,13 @@ says_closed (Err Memory) = false
 says_closed (Err Storage) = false
 says_closed (Err Closed) = true
 
+-- the desk answered that the device failed
+abbrev pub says_storage : Result Reply Fault → Bool
+says_storage (Ok reply) = false
+says_storage (Err Memory) = false
+says_storage (Err Storage) = true
+says_storage (Err Closed) = false
+
 -- Requests one after another, from one state and books to another. Once closed, a desk answers nothing else.
 abbrev pub Run : ℕ → Bool → Books → List Asked → List (Result Reply Fault) → Bool → Books → Type 0
 Run limit was books [] [] is last = (is ≡ was) × (last ≡ books)
@@ -80,10 +87,30 @@ Run limit was books (asked ∷ more) (answer ∷ answers) is last =
 Run limit was books [] (answer ∷ answers) is last = ⊥
 Run limit was books (asked ∷ more) [] is last = ⊥
 
--- What is asked is a command that was accepted before, and the reply is the first reply of its entry.
-pub record IsRepeated (limit : ℕ) (books : Books) (asked : Asked) (reply : Reply) : Type 0 where
+-- What is asked is a command that was accepted before: these books have an entry of its key, type and content.
+pub record IsRepeat (limit : ℕ) (books : Books) (asked : Asked) : Type 0 where
   pub entry : Entry
   pub number : ℕ
   pub reads : IsOrder asked (Decide entry)
   pub repeats : IsVerdict limit books entry (Repeat number)
-  pub replied : IsReply books entry (Repeat number) books reply
+
+-- Requests and their answers, from these books to the last ones, and what is left of both once every repeat is taken
+-- out, and with it every request that a fault answered: neither changes the books. A repeat got the first reply of its
+-- entry.
+pub data WithoutRepeats (limit : ℕ) : Books → List Asked → List (Result Reply Fault) → List Asked → List (Result Reply Fault) → Books → Type 0 where
+  ended : {books : Books} → WithoutRepeats limit books [] [] [] [] books
+  failed : {books last : Books} {asked : Asked} {fault : Fault} {more kept : List Asked} {answers others : List (Result Reply Fault)}
+      → WithoutRepeats limit books more answers kept others last → WithoutRepeats limit books (asked ∷ more) (Err fault ∷ answers) kept others last
+  repeated : {books last : Books} {asked : Asked} {reply : Reply} {more kept : List Asked} {answers others : List (Result Reply Fault)} → (is : IsRepeat limit books asked)
+      → IsFirstReply books.history is.number reply → WithoutRepeats limit books more answers kept others last → WithoutRepeats limit books (asked ∷ more) (Ok reply ∷ answers) kept others last
+  answered : {books next last : Books} {asked : Asked} {reply : Reply} {more kept : List Asked} {answers others : List (Result Reply Fault)} → ¬ IsRepeat limit books asked
+      → Step limit books asked (Ok reply) next → WithoutRepeats limit next more answers kept others last
+      → WithoutRepeats limit books (asked ∷ more) (Ok reply ∷ answers) (asked ∷ kept) (Ok reply ∷ others) last
+
+-- Repeats act once: the requests without them, and without those that a fault answered, are a run too, with the same
+-- answers, to the same last books.
+pub record ActsOnce (limit : ℕ) (books : Books) (requests : List Asked) (answers : List (Result Reply Fault)) (last : Books) : Type 0 where
+  pub kept : List Asked
+  pub others : List (Result Reply Fault)
+  pub without : WithoutRepeats limit books requests answers kept others last
+  pub run : Run limit false books kept others false last

@@ -1,54 +1,71 @@
 -- A script, played.
-use Rattle.std.specs.Prelude.{◌≡◌, ℕ, Bool, true, List, [], ◌∷◌, ◌++◌, Option, Result, Ok, Err}
+use Rattle.std.specs.Prelude.{◌≡◌, ℕ, ◌+◌, ◌≤◌, Bool, List, [], ◌∷◌, ◌++◌, count_by, Option, Result, Ok, Err}
 use Rattle.std.specs.Io.KnownBytes.{Appends}
 use Rattle.desk_rules.specs.declared.reply.Reply.{Reply}
 use Rattle.desk_rules.specs.Verdict.{Books}
 use Rattle.desk_register.specs.View.{View}
 use Rattle.desk_book.specs.declared.fault.Fault.{Fault}
-use Rattle.desk_book.specs.Answered.{Step, says_closed}
+use Rattle.desk_book.specs.declared.fault.InputFault.{InputFault}
+use Rattle.desk_book.specs.declared.fault.InputFault.TheVariants.{Memory, Reader, TooLong}
+use Rattle.desk_book.specs.declared.fault.PlayFault.{PlayFault}
+use Rattle.desk_book.specs.declared.fault.PlayFault.TheVariants as plays
+use Rattle.desk_book.specs.Answered.{Run, says_storage}
+use Rattle.desk_book.specs.Asked.{Asked}
 use Rattle.desk_book.specs.Held.{Holds}
 use Rattle.desk_book.specs.Script.{Item, ask, bad_line, Script}
 use Rattle.desk_book.specs.Shown.{shown, shown_fault, shown_bad_line}
+
+-- why a script that could not be read was not played
+abbrev pub unplayed : InputFault → PlayFault
+unplayed Memory = plays.Memory
+unplayed Reader = plays.ReadFailed
+unplayed TooLong = plays.TooLong
 
 -- what is written for an answer
 abbrev pub shown_answer : Result Reply Fault → List ℕ
 shown_answer (Ok reply) = shown reply.status reply.mt reply.text
 shown_answer (Err fault) = shown_fault fault
 
--- Items played one after another, from one state and books to another, and the text that is written: a bad line is
--- answered and not asked, a request is asked and its answer written.
-abbrev pub Plays : ℕ → Bool → Books → List Item → List ℕ → Bool → Books → Type 0
-Plays limit was books [] text is last = (text ≡ []) × (is ≡ was) × (last ≡ books)
-Plays limit was books (bad_line ∷ items) text is last =
-    (more : List ℕ) × (text ≡ shown_bad_line ++ more) × Plays limit was books items more is last
-Plays limit was books (ask asked ∷ items) text is last =
-    (answer : Result Reply Fault) × (next : Books) × (was ≡ true → says_closed answer ≡ true) × Step limit books asked answer next
-    × (more : List ℕ) × (text ≡ shown_answer answer ++ more) × Plays limit (says_closed answer) next items more is last
+-- the requests among the items of a script
+abbrev pub asked_in : List Item → List Asked
+asked_in [] = []
+asked_in (bad_line ∷ items) = asked_in items
+asked_in (ask asked ∷ items) = asked ∷ asked_in items
 
--- items were played from these books: their text, and what the desk holds then
-pub record HasPlayed (limit : ℕ) (was : Bool) (books : Books) (items : List Item) (text : List ℕ) (is : Bool) (view : View) : Type 0 where
+-- What is written for items whose requests have these answers: item by item, the answer to a bad line, or the next of
+-- the answers.
+abbrev pub answers_text : List Item → List (Result Reply Fault) → List ℕ
+answers_text [] answers = []
+answers_text (bad_line ∷ items) answers = shown_bad_line ++ answers_text items answers
+answers_text (ask asked ∷ items) [] = []
+answers_text (ask asked ∷ items) (answer ∷ answers) = shown_answer answer ++ answers_text items answers
+
+-- Items were played from these books, and their requests got these answers: those of a run to the books that the desk
+-- holds then. No more answers name the device than it failed.
+pub record HasPlayed (was : Bool) (books : Books) (items : List Item) (answers : List (Result Reply Fault)) (is : Bool) (old new : View) : Type 0 where
   pub last : Books
-  pub plays : Plays limit was books items text is last
-  pub holds : Holds is view last
+  pub run : Run old.room was books (asked_in items) answers is last
+  pub holds : Holds is new last
+  pub blame : count_by says_storage answers + old.failures ≤ new.failures
 
--- one item was played, and its text written
-pub record PlaysItem (limit : ℕ) (was : Bool) (books : Books) (item : Item) (before after : Option (List ℕ)) (is : Bool) (view : View) : Type 0 where
-  pub text : List ℕ
-  pub played : HasPlayed limit was books (item ∷ []) text is view
-  pub written : Appends before after text
+-- one item was played, and its answer written
+pub record PlaysItem (was : Bool) (books : Books) (item : Item) (before after : Option (List ℕ)) (is : Bool) (old new : View) : Type 0 where
+  pub answers : List (Result Reply Fault)
+  pub played : HasPlayed was books (item ∷ []) answers is old new
+  pub written : Appends before after (answers_text (item ∷ []) answers)
 
--- a whole script was played, and its text written
-pub record PlaysScript (limit : ℕ) (was : Bool) (books : Books) (script : List ℕ) (before after : Option (List ℕ)) (is : Bool) (view : View) : Type 0 where
+-- a whole script was played, and its answers written
+pub record PlaysScript (was : Bool) (books : Books) (script : List ℕ) (before after : Option (List ℕ)) (is : Bool) (old new : View) : Type 0 where
   pub items : List Item
   pub spells : Script script items
-  pub text : List ℕ
-  pub played : HasPlayed limit was books items text is view
-  pub written : Appends before after text
+  pub answers : List (Result Reply Fault)
+  pub played : HasPlayed was books items answers is old new
+  pub written : Appends before after (answers_text items answers)
 
 -- The first items of a script were played; what stands behind them spells the items that follow.
-pub record PlaysFront (limit : ℕ) (was : Bool) (books : Books) (script : List ℕ) (is : Bool) (view : View) : Type 0 where
+pub record PlaysFront (was : Bool) (books : Books) (script : List ℕ) (is : Bool) (old new : View) : Type 0 where
   pub front : List Item
   pub behind : List ℕ
   pub spells : (items : List Item) → Script behind items → Script script (front ++ items)
-  pub text : List ℕ
-  pub played : HasPlayed limit was books front text is view
+  pub answers : List (Result Reply Fault)
+  pub played : HasPlayed was books front answers is old new

@@ -1,8 +1,8 @@
 //! The desk: requests, answered from a register's tables.
-ghost use Rattle.std.specs.Prelude.{◌≡◌, ◌<◌, true, false, map, All, Contains, Err, IfErr, IfOk, OnErr};
+ghost use Rattle.std.specs.Prelude.{◌≡◌, ◌+◌, ◌<◌, ◌≤◌, true, false, map, All, count_by, Err, IfErr, IfOk, OnErr};
 ghost use Rattle.desk_rules.specs.Verdict.{Books};
 ghost use Rattle.desk_register.specs.View.{IsLater};
-ghost use Rattle.desk_book.specs.Answered.{Run, says_closed};
+ghost use Rattle.desk_book.specs.Answered.{ActsOnce, Run, says_closed, says_storage};
 ghost use Rattle.desk_book.specs.Asked.{asked_by};
 ghost use Rattle.desk_book.specs.Held.{Holds, IsObeyed, IsReady, Steps};
 ghost use Rattle.desk_book.specs.Order.{IsOfToday};
@@ -81,12 +81,14 @@ impl<R: Register> Desk<R> {
     ) -> Result<Vec<Result<Reply, Fault>>, Fault>
         ensures run { IfOk result (λ answers. (books : Books) → (R.view self.new.register).is_honest → Holds self.old.is_closed (R.view self.old.register) books
             → (last : Books) × Run (R.view self.old.register).room self.old.is_closed books (map asked_by requests.now) answers.items self.new.is_closed last
-            × Holds self.new.is_closed (R.view self.new.register) last) }
+            × Holds self.new.is_closed (R.view self.new.register) last
+            × ActsOnce (R.view self.old.register).room books (map asked_by requests.now) answers.items last) }
         ensures err { OnErr result (self.new ≡ self.old) }
         ensures memory { IfErr result (λ fault. fault ≡ Fault.Memory) }
         ensures later { IsLater (R.view self.old.register) (R.view self.new.register) }
         ensures stays { self.old.is_closed ≡ true → IfOk result (λ answers. All (λ answer. says_closed answer ≡ true) answers.items) }
-        ensures blame { IfOk result (λ answers. Contains answers.items (Err Fault.Storage) → (R.view self.old.register).failures < (R.view self.new.register).failures) }
+        ensures stays_closed { self.old.is_closed ≡ true → self.new.is_closed ≡ true }
+        ensures blame { IfOk result (λ answers. count_by says_storage answers.items + (R.view self.old.register).failures ≤ (R.view self.new.register).failures) }
         ensures plain { R.plain ≡ true → self.old.is_closed ≡ false → self.new.is_closed ≡ false }
     {
         let Ok(mut answers) = Vec::with_capacity(alloc, requests.len()) else {

@@ -41,6 +41,20 @@ impl Fault {
     }
 }
 
+/// Why a reader gave no text.
+#[derive(Clone, Copy, Debug, PartialEq, Eq, Error)]
+pub enum InputFault {
+    /// There was no room for the text; nothing was read.
+    #[error("out of memory")]
+    Memory,
+    /// The reader failed. An interrupted read counts as failed.
+    #[error("reading failed")]
+    Reader,
+    /// The reader has more bytes than the longest text.
+    #[error("the text is too long")]
+    TooLong,
+}
+
 /// Why a script was not played to its end.
 #[derive(Clone, Copy, Debug, PartialEq, Eq, Error)]
 pub enum PlayFault {
@@ -56,4 +70,18 @@ pub enum PlayFault {
     /// There was no room for the script; nothing was read.
     #[error("out of memory")]
     Memory,
+}
+
+impl From<InputFault> for PlayFault {
+    ghost use Rattle.desk_book.specs.Played.{unplayed};
+
+    ghost from_gives = { λ input fault. fault ≡ unplayed input };
+
+    fn from(fault: InputFault) -> PlayFault {
+        match fault {
+            InputFault::Memory => PlayFault::Memory,
+            InputFault::Reader => PlayFault::ReadFailed,
+            InputFault::TooLong => PlayFault::TooLong,
+        }
+    }
 }

@@ -1,10 +1,12 @@
 //! Laws of the definitions, each the contract of a function with an empty body.
-ghost use Rattle.std.specs.Prelude.{◌≡◌, ℕ, Bool, false, List, ◌∷◌, ◌++◌, Result, Ok};
+ghost use Rattle.std.specs.Prelude.{◌≡◌, ℕ, Bool, false, List, All, Result};
 ghost use Rattle.desk_rules.specs.declared.reply.Reply.{Reply};
 ghost use Rattle.desk_rules.specs.Verdict.{Books};
 ghost use Rattle.desk_book.specs.declared.fault.Fault.{Fault};
-ghost use Rattle.desk_book.specs.Answered.{IsRepeated, Run};
+ghost use Rattle.desk_book.specs.declared.order.Order.{Order};
+ghost use Rattle.desk_book.specs.Answered.{ActsOnce, Run, says_closed};
 ghost use Rattle.desk_book.specs.Asked.{Asked};
+ghost use Rattle.desk_book.specs.Order.{IsOrder};
 ghost use Rattle.desk_rules.specs.declared.entry.Entry.{Entry};
 ghost use Rattle.desk_book.specs.Command.{Spells};
 ghost use Rattle.desk_book.specs.Script.{Script, Item};
@@ -19,10 +21,20 @@ pub fn one_script()
     ensures { (bytes : List ℕ) (a b : List Item) → Script bytes a → Script bytes b → a ≡ b }
 {}
 
-/// A repeat acts once: requests with one repeat among them, and the same requests without it, are runs to the same
-/// books with the same other answers. (A run with several repeats loses them one by one.)
+/// A request is read as one order at most.
+pub fn one_order()
+    ensures { (asked : Asked) (a b : Order) → IsOrder asked a → IsOrder asked b → a ≡ b }
+{}
+
+/// Once closed, a desk stays so: one that is open at the end of a run answered no request of it that it is closed.
+pub fn closed_for_good()
+    ensures { (limit : ℕ) (was : Bool) (books last : Books) (requests : List Asked) (answers : List (Result Reply Fault))
+        → Run limit was books requests answers false last → All (λ answer. says_closed answer ≡ false) answers }
+{}
+
+/// Repeats act once: of any run every repeat may be taken out, and with it every request that a fault answered. What
+/// is left is a run with the same answers to the same last books. Each repeat got the first reply of its entry.
 pub fn repeats_act_once()
-    ensures { (limit : ℕ) (books between last : Books) (front rest : List Asked) (asked : Asked) (answers more : List (Result Reply Fault)) (reply : Reply) (is : Bool)
-        → Run limit false books front answers false between → IsRepeated limit between asked reply → Run limit false between rest more is last
-        → Run limit false books (front ++ asked ∷ rest) (answers ++ Ok reply ∷ more) is last × Run limit false books (front ++ rest) (answers ++ more) is last }
+    ensures { (limit : ℕ) (was : Bool) (books last : Books) (requests : List Asked) (answers : List (Result Reply Fault)) (is : Bool)
+        → Run limit was books requests answers is last → ActsOnce limit books requests answers last }
 {}

@@ -20,17 +20,15 @@ mod reading;
 mod request;
 mod script;
 mod summing;
-#[cfg(test)]
-mod tests;
 mod total;
 mod writing;
 
 pub use command::read_command;
 pub use desk::Desk;
-pub use fault::{Fault, PlayFault};
-pub use laws::{one_command, one_script, repeats_act_once};
+pub use fault::{Fault, InputFault, PlayFault};
+pub use laws::{closed_for_good, one_command, one_order, one_script, repeats_act_once};
 pub use order::{Order, order_of};
-pub use reading::read_script;
+pub use reading::{LONGEST_SCRIPT, read_whole};
 pub use request::Request;
 pub use script::{Item, first_item, item_count};
 pub use summing::{security_totals, totals_text};

@@ -1,15 +1,17 @@
 //! A script, from a reader to a writer.
-ghost use Rattle.std.specs.Prelude.{◌≡◌, ℕ, List, [], ◌∷◌, true, false, ◌<◌, length, IfSome, OnOk, Err};
-ghost use Rattle.std.specs.Io.KnownBytes.{Appends};
+ghost use Rattle.std.specs.Prelude.{◌≡◌, ℕ, ◌+◌, List, [], ◌∷◌, true, false, ◌<◌, ◌≤◌, length, IfSome, OnOk, Result, Err};
+ghost use Rattle.std.specs.Io.KnownBytes.{Consumes};
+ghost use Rattle.desk_rules.specs.declared.reply.Reply.{Reply};
 ghost use Rattle.desk_rules.specs.Verdict.{Books};
 ghost use Rattle.desk_register.specs.View.{IsLater};
+ghost use Rattle.desk_book.specs.declared.fault.Fault.{Fault};
 ghost use Rattle.desk_book.specs.Held.{Holds};
 ghost use Rattle.desk_book.specs.Played.{HasPlayed, PlaysFront, PlaysItem, PlaysScript};
 ghost use Rattle.desk_book.specs.Script.{item_of};
 
 use crate::desk::Desk;
 use crate::fault::PlayFault;
-use crate::reading::{LONGEST_SCRIPT, read_script};
+use crate::reading::{LONGEST_SCRIPT, read_whole};
 use crate::script::{Item, first_item};
 use crate::writing::{write_answer, write_bad_line, write_fault};
 use desk_register::Register;
@@ -27,17 +29,21 @@ impl<R: Register> Desk<R> {
         reader: &mut I,
         writer: &mut O,
     ) -> Result<(), PlayFault>
-        ensures played { OnOk result (IfSome (I.remaining reader.old) (λ input. (books : Books) → (R.view self.new.register).is_honest → Holds self.old.is_closed (R.view self.old.register) books
-            → PlaysScript (R.view self.old.register).room self.old.is_closed books input (O.contents writer.old) (O.contents writer.new) self.new.is_closed (R.view self.new.register))) }
+        ensures played { OnOk result ((books : Books) → (R.view self.new.register).is_honest → Holds self.old.is_closed (R.view self.old.register) books
+            → (script : List ℕ) × IfSome (I.remaining reader.old) (λ input. input ≡ script) × (length script ≤ LONGEST_SCRIPT)
+            × PlaysScript self.old.is_closed books script (O.contents writer.old) (O.contents writer.new) self.new.is_closed (R.view self.old.register) (R.view self.new.register)) }
         ensures unread { result ≡ Err PlayFault.ReadFailed → (self.new ≡ self.old) × (writer.new ≡ writer.old) }
         ensures too_long { result ≡ Err PlayFault.TooLong → (self.new ≡ self.old) × (writer.new ≡ writer.old) × IfSome (I.remaining reader.old) (λ input. LONGEST_SCRIPT < length input) }
         ensures memory { result ≡ Err PlayFault.Memory → (self.new ≡ self.old) × (writer.new ≡ writer.old) × (reader.new ≡ reader.old) }
-        ensures stands { result ≡ Err PlayFault.WriteFailed → IfSome (I.remaining reader.old) (λ input. (books : Books) → (R.view self.new.register).is_honest → Holds self.old.is_closed (R.view self.old.register) books
-            → PlaysFront (R.view self.old.register).room self.old.is_closed books input self.new.is_closed (R.view self.new.register)) }
+        ensures stands { result ≡ Err PlayFault.WriteFailed → (books : Books) → (R.view self.new.register).is_honest → Holds self.old.is_closed (R.view self.old.register) books
+            → (script : List ℕ) × IfSome (I.remaining reader.old) (λ input. input ≡ script) × (length script ≤ LONGEST_SCRIPT)
+            × PlaysFront self.old.is_closed books script self.new.is_closed (R.view self.old.register) (R.view self.new.register) }
+        ensures taken { (taken : List ℕ) × Consumes (I.remaining reader.old) (I.remaining reader.new) taken × (length taken ≤ LONGEST_SCRIPT + 1) }
+        ensures stays { self.old.is_closed ≡ true → self.new.is_closed ≡ true }
         ensures later { IsLater (R.view self.old.register) (R.view self.new.register) }
         ensures plain { R.plain ≡ true → self.old.is_closed ≡ false → self.new.is_closed ≡ false }
     {
-        let script = read_script(alloc, reader)?;
+        let script = read_whole(alloc, reader, LONGEST_SCRIPT)?;
         match self.answer_script(alloc, &script, writer) {
             Ok(()) => Ok(()),
             Err(_) => Err(PlayFault::WriteFailed),
@@ -52,9 +58,10 @@ impl<R: Register> Desk<R> {
         writer: &mut O,
     ) -> io::Result<()>
         ensures played { (books : Books) → (R.view self.new.register).is_honest → Holds self.old.is_closed (R.view self.old.register) books
-            → OnOk result (PlaysScript (R.view self.old.register).room self.old.is_closed books script.now (O.contents writer.old) (O.contents writer.new) self.new.is_closed (R.view self.new.register)) }
+            → OnOk result (PlaysScript self.old.is_closed books script.now (O.contents writer.old) (O.contents writer.new) self.new.is_closed (R.view self.old.register) (R.view self.new.register)) }
         ensures front { (books : Books) → (R.view self.new.register).is_honest → Holds self.old.is_closed (R.view self.old.register) books
-            → PlaysFront (R.view self.old.register).room self.old.is_closed books script.now self.new.is_closed (R.view self.new.register) }
+            → PlaysFront self.old.is_closed books script.now self.new.is_closed (R.view self.old.register) (R.view self.new.register) }
+        ensures stays { self.old.is_closed ≡ true → self.new.is_closed ≡ true }
         ensures later { IsLater (R.view self.old.register) (R.view self.new.register) }
         ensures plain { R.plain ≡ true → self.old.is_closed ≡ false → self.new.is_closed ≡ false }
     {
@@ -74,9 +81,10 @@ impl<R: Register> Desk<R> {
         writer: &mut O,
     ) -> io::Result<()>
         ensures played { (books : Books) → (R.view self.new.register).is_honest → Holds self.old.is_closed (R.view self.old.register) books
-            → OnOk result (PlaysItem (R.view self.old.register).room self.old.is_closed books (item_of item.now) (O.contents writer.old) (O.contents writer.new) self.new.is_closed (R.view self.new.register)) }
+            → OnOk result (PlaysItem self.old.is_closed books (item_of item.now) (O.contents writer.old) (O.contents writer.new) self.new.is_closed (R.view self.old.register) (R.view self.new.register)) }
         ensures front { (books : Books) → (R.view self.new.register).is_honest → Holds self.old.is_closed (R.view self.old.register) books
-            → (text : List ℕ) × HasPlayed (R.view self.old.register).room self.old.is_closed books (item_of item.now ∷ []) text self.new.is_closed (R.view self.new.register) }
+            → (answers : List (Result Reply Fault)) × HasPlayed self.old.is_closed books (item_of item.now ∷ []) answers self.new.is_closed (R.view self.old.register) (R.view self.new.register) }
+        ensures stays { self.old.is_closed ≡ true → self.new.is_closed ≡ true }
         ensures later { IsLater (R.view self.old.register) (R.view self.new.register) }
         ensures plain { R.plain ≡ true → self.old.is_closed ≡ false → self.new.is_closed ≡ false }
     {

@@ -1,8 +1,8 @@
-//! Reading a whole script.
-ghost use Rattle.std.specs.Prelude.{◌≡◌, ◌≢◌, ℕ, ◌<◌, ◌≤◌, ◌+◌, ◌↔◌, ◌++◌, List, length, vec_len, vec_capacity, IfOk, IfSome, OnErr, IsTrue, Err, false};
+//! Reading all that a reader gives.
+ghost use Rattle.std.specs.Prelude.{◌≡◌, ℕ, ◌<◌, ◌≤◌, ◌+◌, ◌↔◌, ◌++◌, List, length, vec_len, vec_capacity, IfOk, IfSome, OnErr, IsTrue, Err, false};
 ghost use Rattle.std.specs.Io.KnownBytes.{Consumes, Keeps, IsAtEnd};
 
-use crate::fault::PlayFault;
+use crate::fault::InputFault;
 use std::alloc::Global;
 use std::io;
 use std::io::Read;
@@ -13,32 +13,32 @@ pub const LONGEST_SCRIPT: usize = 16_777_216;
 /// So many bytes are asked for in one read.
 const CHUNK: usize = 4096;
 
-/// All that the reader gives. The room is taken before the first read, and one byte at most is read past the
-/// longest script. Each read but the last gives a byte or more, so there are at most 16,777,217.
-pub fn read_script<R: Read>(alloc: Global, reader: &mut R) -> Result<Vec<u8>, PlayFault>
-    ensures whole { IfOk result (λ script. IfSome (R.remaining reader.old)
-        (λ input. script.items ≡ input)) }
-    ensures fits { IfOk result (λ script. vec_len script ≤ LONGEST_SCRIPT) }
-    ensures taken { (taken : List ℕ) × Consumes (R.remaining reader.old) (R.remaining reader.new) taken
-        × (length taken ≤ LONGEST_SCRIPT + 1) }
-
-    ensures too_long { result ≡ Err PlayFault.TooLong → IfSome (R.remaining reader.old)
-        (λ input. LONGEST_SCRIPT < length input) }
-    ensures memory { result ≡ Err PlayFault.Memory → reader.new ≡ reader.old }
-    ensures reads_only { result ≢ Err PlayFault.WriteFailed }
+/// All that the reader gives, which may be so many bytes at most. The room is taken before the first read, and one
+/// byte at most is read past the longest text. Each read but the last gives a byte or more.
+pub fn read_whole<R: Read>(
+    alloc: Global,
+    reader: &mut R,
+    longest: usize,
+) -> Result<Vec<u8>, InputFault>
+    requires { longest ≤ LONGEST_SCRIPT }
+    ensures whole { IfOk result (λ text. IfSome (R.remaining reader.old) (λ input. text.items ≡ input)) }
+    ensures fits { IfOk result (λ text. vec_len text ≤ longest) }
+    ensures taken { (taken : List ℕ) × Consumes (R.remaining reader.old) (R.remaining reader.new) taken × (length taken ≤ longest + 1) }
+    ensures too_long { result ≡ Err InputFault.TooLong → IfSome (R.remaining reader.old) (λ input. longest < length input) }
+    ensures memory { result ≡ Err InputFault.Memory → reader.new ≡ reader.old }
 {
-    let Ok(mut script) = Vec::with_capacity(alloc, LONGEST_SCRIPT + 1) else {
-        return Err(PlayFault::Memory);
+    let Ok(mut text) = Vec::with_capacity(alloc, longest + 1) else {
+        return Err(InputFault::Memory);
     };
     let mut chunk = [0; CHUNK];
-    'reads: while script.len() <= LONGEST_SCRIPT {
-        match read_more(reader, &mut chunk, &mut script, LONGEST_SCRIPT + 1) {
+    'reads: while text.len() <= longest {
+        match read_more(reader, &mut chunk, &mut text, longest + 1) {
             Ok(true) => {}
-            Ok(false) => return Ok(script),
-            Err(_) => return Err(PlayFault::ReadFailed),
+            Ok(false) => return Ok(text),
+            Err(_) => return Err(InputFault::Reader),
         }
     }
-    Err(PlayFault::TooLong)
+    Err(InputFault::TooLong)
 }
 
 /// Reads once through a chunk, into room that is there. Whether a byte came: if not, the reader is at its end.

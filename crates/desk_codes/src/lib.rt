@@ -17,8 +17,6 @@ mod laws;
 mod number;
 mod reference;
 mod short_text;
-#[cfg(test)]
-mod tests;
 mod written;
 
 pub use account::AccountId;

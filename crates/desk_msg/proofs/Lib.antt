@@ -10,3 +10,4 @@ pub mod SaidLaws
 pub mod ReadingLaws
 pub mod SameMessages
 pub mod MessageLaws
+pub mod TextLaws

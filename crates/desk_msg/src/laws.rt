@@ -1,12 +1,22 @@
 //! Laws of the definitions, each the contract of a function with an empty body.
-ghost use Rattle.std.specs.Prelude.{◌≡◌, List, Result};
+ghost use Rattle.std.specs.Prelude.{◌≡◌, ℕ, List, Result, Ok, Err};
 ghost use Rattle.desk_text.specs.Fields.{Found};
 ghost use Rattle.desk_msg.specs.declared.mt.Mt.{Mt};
 ghost use Rattle.desk_msg.specs.declared.fault.MsgFault.{MsgFault};
 ghost use Rattle.desk_msg.specs.declared.instruction.Message.{Message};
 ghost use Rattle.desk_msg.specs.Reads.{Reads};
+ghost use Rattle.desk_msg.specs.Refused.{ReadsText};
+ghost use Rattle.desk_msg.specs.declared.refusal.ReadFault.{ReadFault};
+ghost use Rattle.desk_msg.specs.declared.refusal.Refusal.{Refusal};
 
 /// Fields read as one message or have one fault, and never both.
 pub fn one_reading()
     ensures { (mt : Mt) (fields : List Found) (a b : Result Message MsgFault) → Reads mt fields a → Reads mt fields b → a ≡ b }
+{}
+
+/// A text reads as one message or has one refusal, and never both.
+pub fn one_answer()
+    ensures message { (mt : Mt) (text : List ℕ) (a b : Message) → ReadsText mt text (Ok a) → ReadsText mt text (Ok b) → a ≡ b }
+    ensures refusal { (mt : Mt) (text : List ℕ) (a b : Refusal) → ReadsText mt text (Err (ReadFault.Refused a)) → ReadsText mt text (Err (ReadFault.Refused b)) → a ≡ b }
+    ensures never_both { (mt : Mt) (text : List ℕ) (a : Message) (b : Refusal) → ReadsText mt text (Ok a) → ReadsText mt text (Err (ReadFault.Refused b)) → ⊥ }
 {}

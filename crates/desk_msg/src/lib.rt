@@ -29,14 +29,9 @@ mod value;
 
 pub use fault::{MsgFault, Word};
 pub use instruction::{CancelOrder, Cash, Instruction, Kind, Message, SettlementType};
-pub use laws::one_reading;
+pub use laws::{one_answer, one_reading};
 pub use lines::fields_text;
 pub use mt::Mt;
 pub use reading::read_message;
 pub use refusal::{ReadFault, Refusal, read_instruction_text, refusal_text};
 pub use status::{Case, Own, Reason, status_text};
-
-#[cfg(test)]
-mod tests;
-#[cfg(test)]
-mod vectors;

@@ -43,6 +43,3 @@ pub use replying::{accepted_reply, refused_reply};
 pub use ruling::decide;
 pub use standing::Standing;
 pub use today::is_of_today;
-
-#[cfg(test)]
-mod tests;

@@ -10,6 +10,7 @@ pub mod PairingLaws
 pub mod PlainLemmas
 pub mod ShortNumbers
 pub mod Accepted
+pub mod OneVerdict
 pub mod BalanceLemmas
 pub mod NonNegative
 pub mod Conservation

@@ -12,4 +12,3 @@ pub mod Sent
 pub mod Moves
 pub mod Content
 pub mod Questions
-pub mod WorkedDay

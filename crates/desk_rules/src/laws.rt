@@ -3,7 +3,7 @@ ghost use Rattle.std.specs.Prelude.{◌≡◌, ℕ, ◌+◌, List, [], ◌∷◌
 ghost use Rattle.desk_codes.specs.declared.currency.Ccy.{Ccy};
 ghost use Rattle.desk_rules.specs.History.{Instructed, before};
 ghost use Rattle.desk_rules.specs.Balances.{issued, redeemed, credits, debits, paid_in, paid_out, cash_credits, cash_debits};
-ghost use Rattle.desk_rules.specs.Verdict.{WasAccepted};
+ghost use Rattle.desk_rules.specs.Verdict.{Books, IsVerdict, WasAccepted};
 ghost use Rattle.desk_rules.specs.Laws.{accounts_of, participants_of, AreNonNegative};
 ghost use Rattle.desk_rules.specs.Opposite.{AreOpposite};
 ghost use Rattle.desk_rules.specs.Pairing.{IsPairing, IsSide};
@@ -11,6 +11,7 @@ ghost use Rattle.desk_rules.specs.Settlement.{IsSettlement, settled_before};
 ghost use Rattle.desk_rules.specs.declared.entry.Entry.{Entry};
 ghost use Rattle.desk_rules.specs.declared.pair.Pair.{Pair};
 ghost use Rattle.desk_rules.specs.declared.pair.Settled.{Settled};
+ghost use Rattle.desk_rules.specs.declared.verdict.Verdict.{Verdict};
 
 /// To be opposite is symmetric, and no instruction is its own opposite.
 pub fn opposites()
@@ -82,4 +83,9 @@ pub fn never_negative()
 /// What was accepted was accepted at every moment: each front of such a history is one.
 pub fn accepted_fronts()
     ensures { (limit : ℕ) (front rest : List Entry) → WasAccepted limit (front ++ rest) → WasAccepted limit front }
+{}
+
+/// An entry has one verdict at most.
+pub fn one_verdict()
+    ensures { (limit : ℕ) (books : Books) (entry : Entry) (a b : Verdict) → IsVerdict limit books entry a → IsVerdict limit books entry b → a ≡ b }
 {}

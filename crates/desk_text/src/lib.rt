@@ -11,7 +11,7 @@
 pub mod faults;
 pub mod fields;
 pub mod laws;
-mod lines;
+pub mod lines;
 pub mod parts;
 pub mod reading;
 pub mod spelling;
@@ -23,10 +23,3 @@ pub use parts::{BlockPart, write_block};
 pub use reading::read_block;
 pub use spelling::{is_name, is_tag, is_value};
 pub use writing::BlockWriter;
-
-#[cfg(test)]
-mod plain;
-#[cfg(test)]
-mod tests;
-#[cfg(test)]
-mod vectors;

@@ -7,5 +7,5 @@ returns-in-Ok g c =
     let made = c.new.result in
     let held = c.new-desk.result.register in
     let same = c.new-desk.ensures.register in
-    told (g.R.Read.remaining c.args.reader.now) _ _ _ c.new-desk.result.is_closed c.play.new.self.is_closed (view_of_lists held) (view_of_lists c.play.new.self.register) (limit_is made held same c.new.ensures.limit) c.new-desk.ensures.open
-    (c.in-Ok.ensures.plain refl c.new-desk.ensures.open) tt (λ is. new_keeps made held same c.new.ensures.limit c.new.ensures.empty) c.in-Ok.ensures.played
+    told (g.R.Read.remaining c.args.reader.now) _ _ c.new-desk.result.is_closed c.play.new.self.is_closed (view_of_lists held) (view_of_lists c.play.new.self.register) (limit_is made held same c.new.ensures.limit) c.new-desk.ensures.open
+    (c.in-Ok.ensures.plain refl c.new-desk.ensures.open) refl tt (λ is. new_keeps made held same c.new.ensures.limit c.new.ensures.empty) c.in-Ok.ensures.played

@@ -1,6 +1,7 @@
+use Rattle.std.proofs.Common.{[], ◌∷◌, refl}
 use Rattle.desk_book.specs.Asked.{asked_by}
-use Rattle.desk_book.specs.Shown.{shown, shown_bad_line, shown_fault}
-use Rattle.desk_book.proofs.RunLemmas.{bad_line_played, item_written, one_played}
+use Rattle.desk_book.specs.Shown.{shown, shown_fault}
+use Rattle.desk_book.proofs.PlayLemmas.{bad_line_played, item_written, one_played}
 use Rattle.desk_book.proofs.desk.Desk.answer_item.Goals as goal
 
 pub returns-in-Ok-clause-played : goal.returns-in-Ok-clause-played
@@ -8,34 +9,36 @@ returns-in-Ok-clause-played g c = λ books honest holds.
     let v0 = g.R.Register.view c.args.self.now.register in
     let v1 = g.R.Register.view c.ask.new.self.register in
     let a = c.ask.ensures in
-    item_written v0.room c.args.self.now.is_closed books c.args.item.now c.in-Ask.request (shown c.in-Ok.reply.status c.in-Ok.reply.mt c.in-Ok.reply.text) _ _ c.ask.new.self.is_closed v1 c.write_answer.result c.in-Ask.is
-    (one_played v0.room c.args.self.now.is_closed books (asked_by c.in-Ask.request) c.ask.result _ c.ask.new.self.is_closed v1 c.in-Ok.is a.closed a.stays (a.step books honest holds))
+    item_written c.args.self.now.is_closed books c.args.item.now c.in-Ask.request c.ask.result (shown c.in-Ok.reply.status c.in-Ok.reply.mt c.in-Ok.reply.text) _ _ c.ask.new.self.is_closed v0 v1 c.write_answer.result c.in-Ask.is
+    (rw c.in-Ok.is refl) (one_played c.args.self.now.is_closed books (asked_by c.in-Ask.request) c.ask.result c.ask.new.self.is_closed v0 v1 a.closed a.later a.stays a.blame (a.step books honest holds))
     (rw c.as_bytes.ensures at c.write_answer.ensures)
 
 pub returns-in-Ok-clause-front : goal.returns-in-Ok-clause-front
 returns-in-Ok-clause-front g c = λ books honest holds.
     let v0 = g.R.Register.view c.args.self.now.register in
+    let v1 = g.R.Register.view c.ask.new.self.register in
     let a = c.ask.ensures in
     rw c.in-Ask.is
-    (_, one_played v0.room c.args.self.now.is_closed books (asked_by c.in-Ask.request) c.ask.result _ c.ask.new.self.is_closed (g.R.Register.view c.ask.new.self.register) c.in-Ok.is a.closed a.stays (a.step books honest holds))
+    (_, one_played c.args.self.now.is_closed books (asked_by c.in-Ask.request) c.ask.result c.ask.new.self.is_closed v0 v1 a.closed a.later a.stays a.blame (a.step books honest holds))
 
 pub returns-in-Err-clause-played : goal.returns-in-Err-clause-played
 returns-in-Err-clause-played g c = λ books honest holds.
     let v0 = g.R.Register.view c.args.self.now.register in
     let v1 = g.R.Register.view c.ask.new.self.register in
     let a = c.ask.ensures in
-    item_written v0.room c.args.self.now.is_closed books c.args.item.now c.in-Ask.request (shown_fault c.in-Err.fault) _ _ c.ask.new.self.is_closed v1 c.write_fault.result c.in-Ask.is
-    (one_played v0.room c.args.self.now.is_closed books (asked_by c.in-Ask.request) c.ask.result _ c.ask.new.self.is_closed v1 c.in-Err.is a.closed a.stays (a.step books honest holds))
+    item_written c.args.self.now.is_closed books c.args.item.now c.in-Ask.request c.ask.result (shown_fault c.in-Err.fault) _ _ c.ask.new.self.is_closed v0 v1 c.write_fault.result c.in-Ask.is
+    (rw c.in-Err.is refl) (one_played c.args.self.now.is_closed books (asked_by c.in-Ask.request) c.ask.result c.ask.new.self.is_closed v0 v1 a.closed a.later a.stays a.blame (a.step books honest holds))
     c.write_fault.ensures
 
 pub returns-in-Err-clause-front : goal.returns-in-Err-clause-front
 returns-in-Err-clause-front g c = λ books honest holds.
     let v0 = g.R.Register.view c.args.self.now.register in
+    let v1 = g.R.Register.view c.ask.new.self.register in
     let a = c.ask.ensures in
     rw c.in-Ask.is
-    (_, one_played v0.room c.args.self.now.is_closed books (asked_by c.in-Ask.request) c.ask.result _ c.ask.new.self.is_closed (g.R.Register.view c.ask.new.self.register) c.in-Err.is a.closed a.stays (a.step books honest holds))
+    (_, one_played c.args.self.now.is_closed books (asked_by c.in-Ask.request) c.ask.result c.ask.new.self.is_closed v0 v1 a.closed a.later a.stays a.blame (a.step books honest holds))
 
 pub returns-in-BadLine-clause-front : goal.returns-in-BadLine-clause-front
 returns-in-BadLine-clause-front g c = λ books honest holds.
     rw c.in-BadLine.is
-    (shown_bad_line, bad_line_played (g.R.Register.view c.args.self.now.register).room c.args.self.now.is_closed books (g.R.Register.view c.args.self.now.register) holds)
+    ([], bad_line_played c.args.self.now.is_closed books (g.R.Register.view c.args.self.now.register) holds)

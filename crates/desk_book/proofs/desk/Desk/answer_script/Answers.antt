@@ -1,6 +1,17 @@
 use Rattle.desk_book.specs.Script.{item_of}
-use Rattle.desk_book.proofs.RunLemmas.{front_and_one, front_played, later_on, more_so_far, script_played}
+use Rattle.desk_book.proofs.RunLemmas.{later_on, never_later}
+use Rattle.desk_book.proofs.PlayLemmas.{front_and_one, front_played, more_so_far, none_so_far, script_played}
 use Rattle.desk_book.proofs.desk.Desk.answer_script.Goals as goal
+
+pub items-init : goal.items-init
+items-init g c =
+    let v0 = g.R.Register.view c.args.self.now.register in
+    record {
+      closed = λ was. was;
+      plain = λ is not_closed. not_closed;
+      later = never_later v0;
+      played = λ books honest holds. none_so_far c.args.self.now.is_closed books c.args.script.now (g.O.Write.contents c.args.writer.now) v0 holds;
+    }
 
 pub items-preserved : goal.items-preserved
 items-preserved g c =
@@ -10,12 +21,13 @@ items-preserved g c =
     let v1 = g.R.Register.view c.items.self.register in
     let v2 = g.R.Register.view c.answer_item.new.self.register in
     record {
+      closed = λ was. a.stays (i.closed was);
       plain = λ is not_closed. a.plain is (i.plain is not_closed);
       later = later_on v0 v1 v2 i.later a.later;
       played = λ books honest holds.
           let s = i.played books (a.later.honest honest) holds in
           more_so_far v0 v1 v2 c.args.self.now.is_closed c.items.self.is_closed c.answer_item.new.self.is_closed books c.args.script.now c.items.rest.now c.in-Some.after.now
-          (g.O.Write.contents c.args.writer.now) (g.O.Write.contents c.items.writer) (g.O.Write.contents c.answer_item.new.writer) (item_of c.in-Some.item) i.later.room s c.in-Some.ensures.first
+          (g.O.Write.contents c.args.writer.now) (g.O.Write.contents c.items.writer) (g.O.Write.contents c.answer_item.new.writer) (item_of c.in-Some.item) i.later s c.in-Some.ensures.first
           (a.played s.played.last honest s.played.holds);
     }
 
@@ -26,14 +38,14 @@ returns-in_err-answer_item-clause-front g c = λ books honest holds.
     let s = i.played books (a.later.honest honest) holds in
     front_and_one (g.R.Register.view c.args.self.now.register) (g.R.Register.view c.items.self.register) (g.R.Register.view c.answer_item.new.self.register)
     c.args.self.now.is_closed c.items.self.is_closed c.answer_item.new.self.is_closed books c.args.script.now c.items.rest.now c.in-Some.after.now
-    (g.O.Write.contents c.args.writer.now) (g.O.Write.contents c.items.writer) (item_of c.in-Some.item) i.later.room s c.in-Some.ensures.first (a.front s.played.last honest s.played.holds)
+    (g.O.Write.contents c.args.writer.now) (g.O.Write.contents c.items.writer) (item_of c.in-Some.item) i.later s c.in-Some.ensures.first (a.front s.played.last honest s.played.holds)
 
 pub returns-clause-played : goal.returns-clause-played
 returns-clause-played g c = λ books honest holds.
-    script_played (g.R.Register.view c.args.self.now.register).room c.args.self.now.is_closed c.items.self.is_closed books c.args.script.now c.items.rest.now
-    (g.O.Write.contents c.args.writer.now) (g.O.Write.contents c.items.writer) (g.R.Register.view c.items.self.register) (c.items.invariant.played books honest holds) c.in_default.ensures.none
+    script_played c.args.self.now.is_closed c.items.self.is_closed books c.args.script.now c.items.rest.now (g.O.Write.contents c.args.writer.now) (g.O.Write.contents c.items.writer)
+    (g.R.Register.view c.args.self.now.register) (g.R.Register.view c.items.self.register) (c.items.invariant.played books honest holds) c.in_default.ensures.none
 
 pub returns-clause-front : goal.returns-clause-front
 returns-clause-front g c = λ books honest holds.
-    front_played (g.R.Register.view c.args.self.now.register).room c.args.self.now.is_closed c.items.self.is_closed books c.args.script.now c.items.rest.now
-    (g.O.Write.contents c.args.writer.now) (g.O.Write.contents c.items.writer) (g.R.Register.view c.items.self.register) (c.items.invariant.played books honest holds)
+    front_played c.args.self.now.is_closed c.items.self.is_closed books c.args.script.now c.items.rest.now (g.O.Write.contents c.args.writer.now) (g.O.Write.contents c.items.writer)
+    (g.R.Register.view c.args.self.now.register) (g.R.Register.view c.items.self.register) (c.items.invariant.played books honest holds)

@@ -1,6 +1,8 @@
 use Rattle.std.proofs.lemmas.List.Elements.{All-push}
 use Rattle.desk_book.specs.Answered.{says_closed}
-use Rattle.std.proofs.Common.{rules, true, ◌∙◌, ◌≡◌, ◌∷◌, [], ◌++◌}
+use Rattle.desk_book.specs.Asked.{asked_by}
+use Rattle.std.proofs.Common.{rules, true, ◌∙◌, ◌≡◌, ◌∷◌, [], ◌++◌, map}
+use Rattle.desk_book.proofs.OnceLemmas.{act_once}
 use Rattle.desk_book.proofs.RunLemmas.{blamed, later_on, run_steps, run_all}
 use Rattle.desk_book.proofs.desk.Desk.ask_all.Goals as goal
 
@@ -16,7 +18,7 @@ requests-preserved g c =
       room = search rules;
       count = search rules;
       closed = λ was. (let stays = a.stays (i.closed was).0 in (a.closed ∙ stays, rw items (All-push (λ answer. says_closed answer ≡ true) c.requests.answers.items c.ask-answer.result (i.closed was).1 stays)));
-      blame = λ storage. blamed v0 v1 v2 c.requests.answers.items c.ask-answer.result i.later a.later i.blame a.blame (rw items at storage);
+      blame = rw items (blamed v0 v1 v2 c.requests.answers.items c.ask-answer.result a.later i.blame a.blame);
       plain = λ is not_closed. a.closed ∙ a.plain is (i.plain is not_closed);
       later = later_on v0 v1 v2 i.later a.later;
       run = λ books honest holds.
@@ -27,5 +29,7 @@ requests-preserved g c =
 
 pub returns-clause-run : goal.returns-clause-run
 returns-clause-run g c = λ books honest holds.
-    run_all (g.R.Register.view c.args.self.now.register) (g.R.Register.view c.requests.self.register) c.args.self.now.is_closed c.requests.self.is_closed books c.args.requests.now c.requests.request-index c.requests.answers.items
-    c.requests-test.false (c.requests.invariant.run books honest holds)
+    let v0 = g.R.Register.view c.args.self.now.register in
+    let run = run_all v0 (g.R.Register.view c.requests.self.register) c.args.self.now.is_closed c.requests.self.is_closed books c.args.requests.now c.requests.request-index c.requests.answers.items
+    c.requests-test.false (c.requests.invariant.run books honest holds) in
+    (run.0, run.1, run.2, act_once v0.room c.args.self.now.is_closed books run.0 (map asked_by c.args.requests.now) c.requests.answers.items c.requests.self.is_closed run.1)

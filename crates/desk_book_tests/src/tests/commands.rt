@@ -1,0 +1,159 @@
+//! Operator's commands: what is read, and what is none.
+use desk_book::*;
+use desk_codes::{AccountId, Bic, Day, Isin, Reference};
+use desk_msg::Kind;
+use desk_rules::{Entry, Holding};
+use std::alloc::{AllocError, Global};
+use std::test::Fail;
+
+/// A letter a command, and - for what is none.
+fn letter(alloc: Global, text: &[u8]) -> Result<char, AllocError> {
+    let letter = match read_command(alloc, text)? {
+        None => '-',
+        Some(Entry::Participant { .. }) => 'P',
+        Some(Entry::Account { .. }) => 'A',
+        Some(Entry::Security { .. }) => 'S',
+        Some(Entry::Issue(_)) => 'I',
+        Some(Entry::Run { .. }) => 'R',
+        Some(_) => '?',
+    };
+    Ok(letter)
+}
+
+#[test]
+fn commands(rt: HostRuntime) -> Result<(), Fail> {
+    let alloc = rt.alloc();
+    let reference = Reference::read(b"X1").ok_or("reference")?;
+    let bic = Bic::parse(b"ALPHDEFF")?;
+    let account = AccountId::read(b"A-1").ok_or("account")?;
+    let isin = Isin::parse(b"DE0007164600")?;
+    let day = Day::read(b"20240229").ok_or("day")?;
+    let participant = Entry::Participant { reference, bic };
+    for text in [
+        br#"{"op":"participant","ref":"X1","bic":"ALPHDEFF"}"#.as_slice(),
+        br#" { "bic" : "ALPHDEFFXXX" , "ref" : "X1" , "op" : "participant" } "#.as_slice(),
+        br#"{"op":"parti\u0063ipant","ref":"\u0058\u0031","b\u0069c":"ALPHDEFF"}"#.as_slice(),
+        br#"{"op":"participant","ref":"X1","bic":"BETADEFF","bic":"ALPHDEFF"}"#.as_slice(),
+    ] {
+        assert!(rt;
+            read_command(alloc, text)? == Some(participant),
+            "at {text:?}"
+        );
+    }
+    let text = br#"{"op":"account","ref":"X1","bic":"ALPHDEFF","account":"A-1"}"#;
+    let want = Entry::Account {
+        reference,
+        bic,
+        account,
+    };
+    assert!(rt; read_command(alloc, text)? == Some(want));
+    for (word, kind) in [("UNIT", Kind::Unit), ("FAMT", Kind::FaceAmount)] {
+        let text = format!(in alloc;
+            "{{\"op\":\"security\",\"ref\":\"X1\",\"isin\":\"DE0007164600\",\"kind\":\"{word}\"}}"
+        )?;
+        let want = Entry::Security {
+            reference,
+            isin,
+            kind,
+        };
+        assert!(rt;
+            read_command(alloc, text.as_bytes())? == Some(want),
+            "at {word}"
+        );
+    }
+    let text =
+        br#"{"op":"issue","ref":"X1","account":"A-1","isin":"DE0007164600","quantity":1000}"#;
+    let want = Entry::Issue(Holding {
+        reference,
+        account,
+        isin,
+        quantity: 1000,
+    });
+    assert!(rt; read_command(alloc, text)? == Some(want));
+    let text = br#"{"op":"run","ref":"X1","day":"20240229"}"#;
+    assert!(rt; read_command(alloc, text)? == Some(Entry::Run { reference, day }));
+    Ok(())
+}
+
+#[test]
+fn no_commands(rt: HostRuntime) -> Result<(), Fail> {
+    for text in [
+        b"".as_slice(),
+        b"[".as_slice(),
+        b"{}".as_slice(),
+        b"null".as_slice(),
+        b"\xef\xbb\xbf{}".as_slice(),
+        br#"{"op":"participant","ref":"X1","bic":"ALPHDEFF"}x"#.as_slice(),
+        br#"{"op":"participant","ref":"X1","bic":"ALPHDEFF",}"#.as_slice(),
+        br#"{"op":"participant","ref":"X1","bic":"alphdeff"}"#.as_slice(),
+        br#"{"op":"participant","ref":"","bic":"ALPHDEFF"}"#.as_slice(),
+        br#"{"op":"participant","ref":"/X1","bic":"ALPHDEFF"}"#.as_slice(),
+        br#"{"op":"participant","ref":1,"bic":"ALPHDEFF"}"#.as_slice(),
+        br#"{"op":"participant","ref":"X1"}"#.as_slice(),
+        br#"{"op":"participant","ref":"X1","bic":"ALPHDEFF","more":1}"#.as_slice(),
+        br#"{"op":"participant","ref":"X1","BIC":"ALPHDEFF"}"#.as_slice(),
+        br#"{"op":"Participant","ref":"X1","bic":"ALPHDEFF"}"#.as_slice(),
+        b"{\"op\":\"participant\",\"ref\":\"\xff\",\"bic\":\"ALPHDEFF\"}".as_slice(),
+        b"{\"op\":\"participant\",\"ref\":\"X\x01\",\"bic\":\"ALPHDEFF\"}".as_slice(),
+        br#"{"op":"account","ref":"X1","bic":"ALPHDEFF","account":""}"#.as_slice(),
+        br#"{"op":"security","ref":"X1","isin":"DE0007164601","kind":"UNIT"}"#.as_slice(),
+        br#"{"op":"security","ref":"X1","isin":"DE0007164600","kind":"AMOR"}"#.as_slice(),
+        br#"{"op":"redeem","ref":"X1","account":"A-1","isin":"DE0007164600","quantity":1}"#.as_slice(),
+        br#"{"op":"payin","ref":"X1","bic":"BETADEFF","ccy":"EUR","amount":100050}"#.as_slice(),
+        br#"{"op":"payout","ref":"X1","bic":"ALPHDEFF","ccy":"EUR","amount":1}"#.as_slice(),
+        br#"{"op":"run","ref":"X1","day":20240229}"#.as_slice(),
+        br#"{"op":"run","ref":"X1","day":"20230229"}"#.as_slice(),
+        br#"{"op":"run","ref":"X1","day":"2024022"}"#.as_slice(),
+        br#"{"op":"run","ref":"X1","day":"2024-02-29"}"#.as_slice(),
+        br#"{"op":"close","ref":"X1"}"#.as_slice(),
+    ] {
+        assert_eq!(rt; letter(rt.alloc(), text)?, '-', "at {text:?}");
+    }
+    Ok(())
+}
+
+#[test]
+fn quantities(rt: HostRuntime) -> Result<(), Fail> {
+    for (quantity, want) in [
+        ("1", 'I'),
+        ("99999999999999", 'I'),
+        ("0", '-'),
+        ("100000000000000", '-'),
+        ("-1", '-'),
+        ("-0", '-'),
+        ("01", '-'),
+        ("1.0", '-'),
+        ("1e3", '-'),
+        ("18446744073709551616", '-'),
+        ("\"1\"", '-'),
+        ("null", '-'),
+    ] {
+        let text = format!(in rt.alloc();
+            "{{\"op\":\"issue\",\"ref\":\"X1\",\"account\":\"A-1\",\"isin\":\"DE0007164600\",\"quantity\":{quantity}}}"
+        )?;
+        assert_eq!(rt; letter(rt.alloc(), text.as_bytes())?, want, "at {quantity}");
+    }
+    Ok(())
+}
+
+#[test]
+fn long_commands(rt: HostRuntime) -> Result<(), Fail> {
+    let command = br#"{"op":"run","ref":"X1","day":"20240229"}"#;
+    for (size, want) in [(65_536, 'R'), (65_537, '-')] {
+        let mut text = Vec::new(rt.alloc());
+        text.extend_from_slice(command)?;
+        for _ in command.len()..size {
+            text.push(b'\n')?;
+        }
+        assert_eq!(rt; letter(rt.alloc(), &text)?, want, "at {size}");
+    }
+    let mut deep = Vec::new(rt.alloc());
+    for _ in 0..200 {
+        deep.push(b'[')?;
+    }
+    for _ in 0..200 {
+        deep.push(b']')?;
+    }
+    assert_eq!(rt; letter(rt.alloc(), &deep)?, '-');
+    Ok(())
+}

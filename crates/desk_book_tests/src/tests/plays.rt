@@ -1,0 +1,277 @@
+//! Scripts played on a desk in memory, over readers and writers that are slow or fail.
+use crate::tests::scripts::FREE_PAIR;
+use desk_book::*;
+use desk_register::{ListRegister, Register};
+use std::io;
+use std::io::{ErrorKind, Read, Write};
+use std::test::Fail;
+
+/// What the free pair is answered.
+const ANSWERS: &[u8] = b"200\n\
+      accepted 1\n\
+      .\n\
+      200\n\
+      accepted 2\n\
+      .\n\
+      200\n\
+      accepted 3\n\
+      .\n\
+      200\n\
+      accepted 4\n\
+      .\n\
+      200\n\
+      accepted 5\n\
+      .\n\
+      200\n\
+      accepted 6\n\
+      .\n\
+      200 548\n\
+      {4:\r\n\
+      :16R:GENL\r\n\
+      :20C::SEME//S000000000000007\r\n\
+      :23G:INST\r\n\
+      :16R:LINK\r\n\
+      :13A::LINK//542\r\n\
+      :20C::RELA//A1\r\n\
+      :16S:LINK\r\n\
+      :16R:STAT\r\n\
+      :25D::IPRC//PACK\r\n\
+      :16S:STAT\r\n\
+      :16R:STAT\r\n\
+      :25D::MTCH//NMAT\r\n\
+      :16R:REAS\r\n\
+      :24B::NMAT//CMIS\r\n\
+      :16S:REAS\r\n\
+      :16S:STAT\r\n\
+      :16S:GENL\r\n\
+      -}\n\
+      .\n\
+      200 548\n\
+      {4:\r\n\
+      :16R:GENL\r\n\
+      :20C::SEME//S000000000000008\r\n\
+      :23G:INST\r\n\
+      :16R:LINK\r\n\
+      :13A::LINK//540\r\n\
+      :20C::RELA//B1\r\n\
+      :16S:LINK\r\n\
+      :16R:STAT\r\n\
+      :25D::IPRC//PACK\r\n\
+      :16S:STAT\r\n\
+      :16R:STAT\r\n\
+      :25D::MTCH//MACH\r\n\
+      :16S:STAT\r\n\
+      :16R:STAT\r\n\
+      :25D::SETT//PEND\r\n\
+      :16R:REAS\r\n\
+      :24B::PEND//FUTU\r\n\
+      :16S:REAS\r\n\
+      :16S:STAT\r\n\
+      :16S:GENL\r\n\
+      -}\n\
+      .\n\
+      200\n\
+      accepted 9 settled 1 waiting 0\n\
+      .\n\
+      200\n\
+      {\"cash\":[],\"securities\":[{\"held\":1000,\"isin\":\"DE0007164600\",\"outstanding\":1000}]}\n\
+      .\n";
+
+/// A script has so many bytes at most.
+const LONGEST: usize = 16_777_216;
+
+/// The free pair's requests that are accepted; the last of its script asks for the totals.
+const ACCEPTED: usize = 9;
+
+/// Gives a script in pieces, and fails at one read. It counts its reads.
+#[derive(Drop)]
+struct Pieces<'a> {
+    rest: &'a [u8],
+    piece: usize,
+    reads: usize,
+    fails_at: usize,
+}
+
+impl Read for Pieces<'_> {
+    fn read(&mut self, buf: &mut [u8]) -> io::Result<usize> {
+        self.reads = self.reads.wrapping_add(1);
+        if self.reads == self.fails_at {
+            return Err(io::Error::from(ErrorKind::Other));
+        }
+        let count = self.piece.min(self.rest.len()).min(buf.len());
+        buf[..count].copy_from_slice(&self.rest[..count]);
+        self.rest = &self.rest[count..];
+        Ok(count)
+    }
+}
+
+/// Takes a piece a write, and fails at one write, or takes nothing then. It counts its writes.
+#[derive(Drop)]
+struct Taking {
+    taken: Vec<u8>,
+    piece: usize,
+    writes: usize,
+    fails_at: usize,
+    is_full: bool,
+}
+
+impl Write for Taking {
+    fn write(&mut self, buf: &[u8]) -> io::Result<usize> {
+        self.writes = self.writes.wrapping_add(1);
+        if self.writes == self.fails_at {
+            if self.is_full {
+                return Ok(0);
+            }
+            return Err(io::Error::from(ErrorKind::Other));
+        }
+        let count = self.piece.min(buf.len());
+        self.taken.extend_from_slice(&buf[..count])?;
+        Ok(count)
+    }
+
+    fn flush(&mut self) -> io::Result<()> {
+        Ok(())
+    }
+}
+
+/// How many answers were written to their end.
+fn whole_answers(text: &[u8]) -> usize {
+    let mut count: usize = 0;
+    for index in 0..text.len() {
+        if text[index..].starts_with(b"\n.\n") {
+            count = count.wrapping_add(1);
+        }
+    }
+    count
+}
+
+#[test]
+fn a_script_in_memory(rt: HostRuntime) -> Result<(), Fail> {
+    let alloc = rt.alloc();
+    let mut desk = Desk::new(ListRegister::new(alloc, 999_999_999));
+    let mut reader = FREE_PAIR;
+    let mut written = Vec::new(alloc);
+    desk.play(alloc, &mut reader, &mut written)?;
+    assert_eq!(rt; written.as_slice(), ANSWERS);
+    let mut more = b"hello\nsums".as_slice();
+    let mut told = Vec::new(alloc);
+    desk.play(alloc, &mut more, &mut told)?;
+    let want =
+        b"400\nrefused 41\n.\n200\n{\"cash\":[],\"securities\":[{\"held\":1000,\"isin\":\"DE0007164600\",\"outstanding\":1000}]}\n.\n";
+    assert_eq!(rt; told.as_slice(), want.as_slice());
+    Ok(())
+}
+
+#[test]
+fn a_script_read_in_pieces(rt: HostRuntime) -> Result<(), Fail> {
+    let alloc = rt.alloc();
+    for piece in [1, 7, 4095] {
+        let mut desk = Desk::new(ListRegister::new(alloc, 999_999_999));
+        let mut reader = Pieces {
+            rest: FREE_PAIR,
+            piece,
+            reads: 0,
+            fails_at: 0,
+        };
+        let mut written = Vec::new(alloc);
+        desk.play(alloc, &mut reader, &mut written)?;
+        assert_eq!(rt; written.as_slice(), ANSWERS, "at {piece}");
+        assert_eq!(rt; reader.reads, FREE_PAIR.len().div_ceil(piece) + 1);
+    }
+    Ok(())
+}
+
+#[test]
+fn each_failed_read(rt: HostRuntime) -> Result<(), Fail> {
+    let alloc = rt.alloc();
+    let reads = FREE_PAIR.len().div_ceil(16) + 1;
+    for fails_at in 1..=reads {
+        let mut desk = Desk::new(ListRegister::new(alloc, 999_999_999));
+        let mut reader = Pieces {
+            rest: FREE_PAIR,
+            piece: 16,
+            reads: 0,
+            fails_at,
+        };
+        let mut written = Vec::new(alloc);
+        let answer = desk.play(alloc, &mut reader, &mut written);
+        assert!(rt;
+            matches!(&answer, Err(PlayFault::ReadFailed)),
+            "at {fails_at}"
+        );
+        assert_eq!(rt; reader.reads, fails_at);
+        assert!(rt; written.is_empty(), "at {fails_at}");
+        let mut register = desk.into_register();
+        assert_eq!(rt; register.count(alloc)?, 0);
+    }
+    Ok(())
+}
+
+#[test]
+fn each_failed_write(rt: HostRuntime) -> Result<(), Fail> {
+    let alloc = rt.alloc();
+    for (piece, is_full) in [
+        (1, false),
+        (1, true),
+        (usize::MAX, false),
+        (usize::MAX, true),
+    ] {
+        let mut desk = Desk::new(ListRegister::new(alloc, 999_999_999));
+        let mut reader = FREE_PAIR;
+        let mut writer = Taking {
+            taken: Vec::new(alloc),
+            piece,
+            writes: 0,
+            fails_at: 0,
+            is_full,
+        };
+        desk.play(alloc, &mut reader, &mut writer)?;
+        assert_eq!(rt; writer.taken.as_slice(), ANSWERS);
+        for fails_at in 1..writer.writes.saturating_add(1) {
+            let mut desk = Desk::new(ListRegister::new(alloc, 999_999_999));
+            let mut reader = FREE_PAIR;
+            let mut failing = Taking {
+                taken: Vec::new(alloc),
+                piece,
+                writes: 0,
+                fails_at,
+                is_full,
+            };
+            let answer = desk.play(alloc, &mut reader, &mut failing);
+            assert!(rt;
+                matches!(&answer, Err(PlayFault::WriteFailed)),
+                "at {fails_at}"
+            );
+            assert_eq!(rt; failing.writes, fails_at);
+            assert!(rt; ANSWERS.starts_with(&failing.taken), "at {fails_at}");
+            let asked = whole_answers(&failing.taken).saturating_add(1);
+            let mut register = desk.into_register();
+            assert_eq!(rt;
+                register.count(alloc)?,
+                asked.min(ACCEPTED) as u64,
+                "at {fails_at}"
+            );
+        }
+    }
+    Ok(())
+}
+
+#[test]
+fn a_script_too_long(rt: HostRuntime) -> Result<(), Fail> {
+    let alloc = rt.alloc();
+    let mut desk = Desk::new(ListRegister::new(alloc, 999_999_999));
+    let mut script = vec![in alloc; b'#'; LONGEST - 5]?;
+    script.extend_from_slice(b"\nsums")?;
+    let mut reader = script.as_slice();
+    let mut written = Vec::new(alloc);
+    desk.play(alloc, &mut reader, &mut written)?;
+    let want = b"200\n{\"cash\":[],\"securities\":[]}\n.\n".as_slice();
+    assert_eq!(rt; written.as_slice(), want);
+    script.push(b'\n')?;
+    let mut reader = script.as_slice();
+    let mut nothing = Vec::new(alloc);
+    let answer = desk.play(alloc, &mut reader, &mut nothing);
+    assert!(rt; matches!(&answer, Err(PlayFault::TooLong)));
+    assert!(rt; nothing.is_empty());
+    Ok(())
+}

@@ -1,0 +1,130 @@
+//! The definitions of verdicts, replies, messages and moves, tried on a day worked by hand (specs/WorkedDay.antt).
+//! What each gives there stands in a contract, so it is the check that computes it: the run has nothing to do.
+ghost use Rattle.std.specs.Prelude.{◌≡◌, [], ◌∷◌, codes, Some, None};
+ghost use Rattle.std.proofs.Common.{lit<, lit≤};
+ghost use Rattle.desk_codes.specs.declared.currency.Ccy.TheVariants.{Eur};
+ghost use Rattle.desk_msg.specs.declared.mt.Mt.TheVariants.{Mt541, Mt543};
+ghost use Rattle.desk_msg.specs.declared.instruction.Kind.TheVariants.{Unit as Units, FaceAmount};
+ghost use Rattle.desk_msg.specs.declared.status.Own.TheVariants as owns;
+ghost use Rattle.desk_msg.specs.declared.status.Reason.TheVariants as reasons;
+ghost use Rattle.desk_msg.specs.declared.status.Case.TheVariants as cases;
+ghost use Rattle.desk_msg.specs.StatusText.{advice};
+ghost use Rattle.desk_msg.specs.ConfirmationText.{confirmation};
+ghost use Rattle.desk_rules.specs.declared.entry.Entry.TheVariants as entries;
+ghost use Rattle.desk_rules.specs.declared.verdict.Verdict.TheVariants.{Accept, Repeat, Refuse};
+ghost use Rattle.desk_rules.specs.declared.verdict.Refusal.TheVariants as refusals;
+ghost use Rattle.desk_rules.specs.Verdict.{IsVerdict};
+ghost use Rattle.desk_rules.specs.Reply.{advice_reply, plain_reply, refused_reply, reply_to};
+ghost use Rattle.desk_rules.specs.Sent.{sent_of};
+ghost use Rattle.desk_rules.specs.Moves.{brought, cash_brought, cash_taken, taken};
+ghost use Rattle.desk_rules.specs.Content.{mate_of};
+ghost use Rattle.desk_rules.specs.Questions.{sent_reply, status_reply};
+ghost use Rattle.desk_rules_tests.specs.WorkedDay.{a_1, alpha, at_cancel, at_delivery, at_receipt, at_run, at_short_run, b_1, beta, cancel, cancel_as_free, delivery, gamma, holding, larger, leap_day, moved, payment, receipt, share};
+
+/// The replies to what was accepted, and two of refusals.
+fn replies()
+    ensures delivery { reply_to at_delivery (entries.Instruct alpha delivery) ≡ advice_reply 200 (advice (owns.Answer 8) Mt543 (codes "A1") cases.Unmatched) }
+    ensures receipt { reply_to at_receipt (entries.Instruct beta receipt) ≡ advice_reply 200 (advice (owns.Answer 9) Mt541 (codes "B1") (cases.Matched reasons.Future)) }
+    ensures run { reply_to at_run (entries.Run (codes "R1") leap_day) ≡ plain_reply 200 (codes "accepted 10 settled 1 waiting 0") }
+    ensures short_run { reply_to at_short_run (entries.Run (codes "R1") leap_day) ≡ plain_reply 200 (codes "accepted 10 settled 0 waiting 1") }
+    ensures cancel { reply_to at_cancel (entries.Cancel alpha (cancel (codes "X1") (codes "A1"))) ≡ advice_reply 200 (advice (owns.Answer 9) Mt543 (codes "X1") cases.CancelDone) }
+    ensures reused { refused_reply at_run (entries.Instruct alpha larger) 11 ≡ advice_reply 422 (advice (owns.Answer 10) Mt543 (codes "A1") (cases.NewRefused 11)) }
+    ensures full { refused_reply at_run (entries.Participant (codes "P3") gamma) 21 ≡ plain_reply 422 (codes "refused 21") }
+{}
+
+/// What was sent by the end of the day, and how the questions about it are answered.
+fn messages()
+    ensures sent { sent_of at_run ≡ record { bic = alpha; mt = 548; about = 8; text = advice (owns.Sent 1) Mt543 (codes "A1") (cases.Matched reasons.Future) }
+        ∷ record { bic = alpha; mt = 547; about = 8; text = confirmation 2 delivery leap_day }
+        ∷ record { bic = beta; mt = 545; about = 9; text = confirmation 3 receipt leap_day }
+        ∷ [] }
+    ensures settled { status_reply at_run alpha (codes "A1") ≡ record { status = 200; mt = Some 547; text = confirmation 2 delivery leap_day } }
+    ensures short { status_reply at_short_run alpha (codes "A1") ≡ advice_reply 200 (advice (owns.Answer 10) Mt543 (codes "A1") (cases.Matched reasons.Money)) }
+    ensures future { status_reply at_receipt alpha (codes "A1") ≡ advice_reply 200 (advice (owns.Answer 9) Mt543 (codes "A1") (cases.Matched reasons.Future)) }
+    ensures unmatched { status_reply at_delivery alpha (codes "A1") ≡ advice_reply 200 (advice (owns.Answer 8) Mt543 (codes "A1") cases.Unmatched) }
+    ensures cancelled { status_reply at_cancel alpha (codes "A1") ≡ advice_reply 200 (advice (owns.Answer 9) Mt543 (codes "A1") cases.Cancelled) }
+    ensures cancel { status_reply at_cancel alpha (codes "X1") ≡ advice_reply 200 (advice (owns.Answer 9) Mt543 (codes "X1") cases.CancelDone) }
+    ensures none_such { status_reply at_run alpha (codes "B1") ≡ plain_reply 422 (codes "refused 17") }
+    ensures stranger { status_reply at_run gamma (codes "A1") ≡ plain_reply 422 (codes "refused 10") }
+    ensures second { sent_reply at_run alpha 2 ≡ record { status = 200; mt = Some 547; text = confirmation 2 delivery leap_day } }
+    ensures first_of_beta { sent_reply at_run beta 1 ≡ record { status = 200; mt = Some 545; text = confirmation 3 receipt leap_day } }
+    ensures past { sent_reply at_run alpha 3 ≡ plain_reply 422 (codes "refused 42") }
+    ensures nought { sent_reply at_run alpha 0 ≡ plain_reply 422 (codes "refused 42") }
+    ensures mates { (mate_of at_run.pairs 8 ≡ Some 9) × (mate_of at_run.pairs 9 ≡ Some 8) × (mate_of at_run.pairs 7 ≡ None) }
+{}
+
+/// What the confirmations of the day move.
+fn moves()
+    ensures from { (taken moved a_1 share ≡ 400) × (brought moved a_1 share ≡ 0) }
+    ensures to { (brought moved b_1 share ≡ 400) × (taken moved b_1 share ≡ 0) }
+    ensures paid { (cash_brought moved alpha Eur ≡ 100_050) × (cash_taken moved alpha Eur ≡ 0) }
+    ensures paying { (cash_taken moved beta Eur ≡ 100_050) × (cash_brought moved beta Eur ≡ 0) }
+{}
+
+/// The verdicts on messages at the end of the day, and on cancellations in its course. Where several checks fail it
+/// is the first that counts.
+fn verdicts_on_messages()
+    ensures stranger { IsVerdict 999 at_run (entries.Instruct gamma (record delivery { place = gamma })) (Refuse refusals.SenderUnknown) }
+    ensures repeat { IsVerdict 999 at_run (entries.Instruct alpha delivery) (Repeat 8) }
+    ensures reused { IsVerdict 999 at_run (entries.Instruct alpha larger) (Refuse refusals.ReferenceReused) }
+    ensures reused_by_cancel { IsVerdict 999 at_run (entries.Cancel alpha (cancel (codes "A1") (codes "A1"))) (Refuse refusals.ReferenceReused) }
+    ensures place { IsVerdict 999 at_run (entries.Instruct alpha (record delivery { reference = codes "A2"; place = gamma; isin = gamma })) (Refuse refusals.PlaceNotUs) }
+    ensures security { IsVerdict 999 at_run (entries.Instruct alpha (record delivery { reference = codes "A2"; isin = gamma; kind = FaceAmount })) (Refuse refusals.UnknownSecurity) }
+    ensures kind { IsVerdict 999 at_run (entries.Instruct alpha (record delivery { reference = codes "A2"; kind = FaceAmount; account = b_1 })) (Refuse refusals.KindDiffers) }
+    ensures account { IsVerdict 999 at_run (entries.Instruct alpha (record delivery { reference = codes "A2"; account = b_1; counterparty = gamma })) (Refuse refusals.AccountNotSenders) }
+    ensures counterparty { IsVerdict 10 at_run (entries.Instruct alpha (record delivery { reference = codes "A2"; counterparty = gamma })) (Refuse refusals.CounterpartyUnknown) }
+    ensures full { IsVerdict 10 at_run (entries.Instruct alpha (record delivery { reference = codes "A2" })) (Refuse refusals.Full) }
+    ensures right { IsVerdict 11 at_run (entries.Instruct alpha (record delivery { reference = codes "A2" })) Accept }
+    ensures others_reference { IsVerdict 11 at_run (entries.Instruct alpha (record delivery { reference = codes "B1" })) Accept }
+    ensures cancel { IsVerdict 999 at_delivery (entries.Cancel alpha (cancel (codes "X1") (codes "A1"))) Accept }
+    ensures cancelled { IsVerdict 999 at_cancel (entries.Cancel alpha (cancel (codes "X2") (codes "A1"))) (Refuse refusals.AlreadyCancelled) }
+    ensures settled { IsVerdict 999 at_run (entries.Cancel alpha (cancel (codes "X1") (codes "A1"))) (Refuse refusals.AlreadySettled) }
+    ensures matched { IsVerdict 999 at_receipt (entries.Cancel alpha (cancel (codes "X1") (codes "A1"))) (Refuse refusals.AlreadyMatched) }
+    ensures none_such { IsVerdict 999 at_cancel (entries.Cancel alpha (cancel (codes "X3") (codes "ZZ"))) (Refuse refusals.NoSuchInstruction) }
+    ensures another_type { IsVerdict 999 at_cancel (entries.Cancel alpha (cancel_as_free (codes "X4") (codes "A1"))) (Refuse refusals.NoSuchInstruction) }
+    ensures of_a_cancel { IsVerdict 999 at_cancel (entries.Cancel alpha (cancel (codes "X5") (codes "X1"))) (Refuse refusals.NoSuchInstruction) }
+    ensures anothers { IsVerdict 999 at_delivery (entries.Cancel beta (cancel (codes "X1") (codes "A1"))) (Refuse refusals.NoSuchInstruction) }
+{}
+
+/// The verdicts on registrations and runs at the end of the day.
+fn verdicts_on_registrations()
+    ensures repeat { IsVerdict 10 at_run (entries.Participant (codes "P1") alpha) (Repeat 1) }
+    ensures reused { IsVerdict 999 at_run (entries.Participant (codes "P1") gamma) (Refuse refusals.CommandReused) }
+    ensures participant { IsVerdict 10 at_run (entries.Participant (codes "P3") alpha) (Refuse refusals.Exists) }
+    ensures full { IsVerdict 10 at_run (entries.Participant (codes "P3") gamma) (Refuse refusals.Full) }
+    ensures new { IsVerdict 11 at_run (entries.Participant (codes "P3") gamma) Accept }
+    ensures account { IsVerdict 999 at_run (entries.Account (codes "C3") gamma a_1) (Refuse refusals.Exists) }
+    ensures owner { IsVerdict 999 at_run (entries.Account (codes "C3") gamma alpha) (Refuse refusals.ParticipantUnknown) }
+    ensures security { IsVerdict 999 at_run (entries.Security (codes "S2") share FaceAmount) (Refuse refusals.Exists) }
+    ensures day_before { IsVerdict 999 at_run (entries.Run (codes "R2") (codes "20240228")) (Refuse refusals.DayGoesBack) }
+    ensures same_day { IsVerdict 999 at_run (entries.Run (codes "R2") leap_day) Accept }
+    ensures same_run { IsVerdict 999 at_run (entries.Run (codes "R1") leap_day) (Repeat 10) }
+    ensures another_run { IsVerdict 999 at_run (entries.Run (codes "R1") (codes "20240301")) (Refuse refusals.CommandReused) }
+{}
+
+/// The verdicts on issues and redemptions, pay ins and pay outs at the end of the day: up to the limit, and past it.
+fn verdicts_on_balances()
+    ensures issue { IsVerdict 999 at_run (entries.Issue (holding (codes "I2") b_1 99_999_999_998_999 (lit< tt) (lit≤ tt))) Accept }
+    ensures over { IsVerdict 999 at_run (entries.Issue (holding (codes "I2") b_1 99_999_999_999_000 (lit< tt) (lit≤ tt))) (Refuse refusals.OverLimit) }
+    ensures nowhere { IsVerdict 999 at_run (entries.Issue (record (holding (codes "I2") gamma 99_999_999_999_000 (lit< tt) (lit≤ tt)) { isin = gamma })) (Refuse refusals.AccountUnknown) }
+    ensures nothing { IsVerdict 999 at_run (entries.Redeem (record (holding (codes "I2") a_1 601 (lit< tt) (lit≤ tt)) { isin = gamma })) (Refuse refusals.SecurityUnknown) }
+    ensures redeem { IsVerdict 999 at_run (entries.Redeem (holding (codes "I2") a_1 600 (lit< tt) (lit≤ tt))) Accept }
+    ensures too_much { IsVerdict 999 at_run (entries.Redeem (holding (codes "I2") a_1 601 (lit< tt) (lit≤ tt))) (Refuse refusals.NotEnough) }
+    ensures received { IsVerdict 999 at_run (entries.Redeem (holding (codes "I2") b_1 400 (lit< tt) (lit≤ tt))) Accept }
+    ensures pay_in { IsVerdict 999 at_run (entries.PayIn (payment (codes "M2") alpha 999_999_999_999_899_949 (lit< tt) (lit≤ tt))) Accept }
+    ensures paid_over { IsVerdict 999 at_run (entries.PayIn (payment (codes "M2") alpha 999_999_999_999_899_950 (lit< tt) (lit≤ tt))) (Refuse refusals.OverLimit) }
+    ensures pay_out { IsVerdict 999 at_run (entries.PayOut (payment (codes "M2") alpha 100_050 (lit< tt) (lit≤ tt))) Accept }
+    ensures overdrawn { IsVerdict 999 at_run (entries.PayOut (payment (codes "M2") alpha 100_051 (lit< tt) (lit≤ tt))) (Refuse refusals.NotEnough) }
+    ensures spent { IsVerdict 999 at_run (entries.PayOut (payment (codes "M2") beta 1 (lit< tt) (lit≤ tt))) (Refuse refusals.NotEnough) }
+    ensures to_nobody { IsVerdict 999 at_run (entries.PayOut (payment (codes "M2") gamma 1 (lit< tt) (lit≤ tt))) (Refuse refusals.ParticipantUnknown) }
+{}
+
+#[test]
+fn the_definitions_give_the_worked_day(_rt: HostRuntime) {
+    replies();
+    messages();
+    moves();
+    verdicts_on_messages();
+    verdicts_on_registrations();
+    verdicts_on_balances();
+}
