@@ -1,5 +1,5 @@
-"""Times the bench program beside plain Python, the same work and the same figures in one run; and the desk's program
-playing scripts."""
+"""Times the bench program beside plain Python, the same work and the same figures in one run; and, with no Python
+beside them, a register that takes entries in, and the desk's program playing scripts."""
 
 import itertools
 import json
@@ -123,12 +123,17 @@ BYTES = 64 * 2**20
 TURNS = 3
 
 
-# The proved program; how many requests it plays; a script has so many bytes at most; and what is likely to take
-# longer than so many seconds is not played.
-DESK = "crates/desk/out/desk"
+# How many requests are played, and entries are taken in; what is likely to take longer than so many seconds is
+# skipped.
 SIZES = 1_000, 10_000, 100_000
-LONGEST_SCRIPT = 16_777_216
 MOST_SECONDS = 600
+
+# Of the entries that a register takes in, those of the opening and of a round, in which one pair is settled.
+REGISTER_OPENING, REGISTER_ROUND = 5, 4
+
+# The proved program; a script has so many bytes at most.
+DESK = "crates/desk/out/desk"
+LONGEST_SCRIPT = 16_777_216
 
 # In the scripts that are played: the security, the request for the totals, and after how many rounds a run settles
 # their pairs.
@@ -243,30 +248,62 @@ def likely_seconds(size, taken):
     return size * (second / many + growth * (size - many))
 
 
-def measure_play():
-    """Scripts of growing length, each unless it would take too long."""
+def measure_growing(work, one, many, timed_at):
+    """Work of growing size, each unless it would take too long: its name, and what is counted. The call gives how
+    many pairs are settled at a size, and the processor seconds that it takes."""
     taken = []
     for size in SIZES:
         likely = likely_seconds(size, taken)
         if likely > MOST_SECONDS:
             print(
-                f"play of {size:,} requests: skipped, since as the cost of a request grows it would take "
-                f"{likely:.0f} s, and {MOST_SECONDS} s is the most"
+                f"{work} {size:,} {many}: skipped, since as the cost of one grows it would take {likely:.0f} s, "
+                f"and {MOST_SECONDS} s is the most"
             )
             continue
-        script, pairs = script_of(size)
-        if len(script) > LONGEST_SCRIPT:
-            sys.exit(f"play: a script of {len(script):,} bytes is longer than the desk takes")
-        seconds = played(DESK, script, pairs)
+        pairs, seconds = timed_at(size)
         taken.append((size, seconds))
         rate, cost = size / seconds, seconds / size * 1e6
-        print(f"play of {size:,} requests, {pairs:,} pairs settled: desk {rate:,.0f} requests/s, {cost:.1f} us/request")
+        print(f"{work} {size:,} {many}, {pairs:,} pairs settled: desk {rate:,.0f} {many}/s, {cost:.1f} us/{one}")
+
+
+def script_timed(size):
+    """A script of so many requests, played by the desk's program."""
+    script, pairs = script_of(size)
+    if len(script) > LONGEST_SCRIPT:
+        sys.exit(f"play: a script of {len(script):,} bytes is longer than the desk takes")
+    return pairs, played(DESK, script, pairs)
+
+
+def measure_play():
+    """Scripts of growing length."""
+    measure_growing("play of", "request", "requests", script_timed)
+
+
+def entries_timed(program, size):
+    """So many entries, made and taken into a register. The start of the program isn't counted."""
+    pairs = (size - REGISTER_OPENING) // REGISTER_ROUND
+    _, start = timed(lambda: run(program, "register", 0))
+    settled, seconds = timed(lambda: run(program, "register", size))
+    if settled != pairs:
+        sys.exit(f"register: {settled} pairs settled of {pairs}")
+    return pairs, seconds - start
+
+
+def measure_register(program):
+    """A register alone, taking in more and more entries."""
+    print(
+        "register: entries are made and taken in one by one (verdict, pairs, runs, reply, tables) by a register in "
+        "lists; no script, no JSON and no message is read"
+    )
+    measure_growing("register of", "entry", "entries", lambda size: entries_timed(program, size))
 
 
 def main(program, kinds):
-    for kind in kinds or [*KINDS, "block", "play"]:
+    for kind in kinds or [*KINDS, "block", "register", "play"]:
         if kind == "block":
             measure_blocks(program)
+        elif kind == "register":
+            measure_register(program)
         elif kind == "play":
             measure_play()
         else:

@@ -31,7 +31,7 @@ pub fn numbers_read(count: u32) -> u64 {
 }
 
 /// The last nine digits of a number.
-fn digits(number: u32) -> [u8; 9] {
+pub fn digits(number: u32) -> [u8; 9] {
     let mut digits = [b'0'; 9];
     let mut rest = number;
     for place in (0..9).rev() {

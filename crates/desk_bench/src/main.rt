@@ -5,29 +5,71 @@
 
 mod blocks;
 mod codes;
+mod failure;
+mod ledger;
+mod market;
+mod rounds;
 
+use crate::failure::Failure;
 use std::env;
-use std::io::{self, Read};
+use std::io::Read;
 use std::process::ExitCode;
+use std::rt::Env;
 
-fn main(rt: HostRuntime) -> io::Result<ExitCode> {
-    let words: Vec<String> = env::args(&rt)?.collect(rt.alloc())?;
-    let (Some(kind), Some(count)) = (words.get(1), words.get(2)) else {
-        return Ok(ExitCode::from(2));
+/// The exit statuses: of what was done, of other words, and of a fault.
+const DONE: u8 = 0;
+
+const USAGE: u8 = 2;
+
+const FAULT: u8 = 3;
+
+fn main(rt: HostRuntime) -> ExitCode {
+    match answer(&rt) {
+        Ok(status) => ExitCode::from(status),
+        Err(_) => ExitCode::from(FAULT),
+    }
+}
+
+/// Does what the words ask for. Gives the exit status.
+fn answer(rt: &(impl Print + Input + AllocGlobal + Env)) -> Result<u8, Failure> {
+    let words: Vec<String> = env::args(rt)?.collect(rt.alloc())?;
+    match words.as_slice() {
+        [_, kind, count] => tell_figure(rt, kind.as_str(), count.as_str()),
+        _ => Ok(USAGE),
+    }
+}
+
+/// Prints the figure of so much work of a kind.
+fn tell_figure(
+    rt: &(impl Print + Input + AllocGlobal),
+    kind: &str,
+    count: &str,
+) -> Result<u8, Failure> {
+    let Ok(count) = count.parse::<u32>() else {
+        return Ok(USAGE);
     };
-    let Ok(count) = count.as_str().parse::<u32>() else {
-        return Ok(ExitCode::from(2));
+    let Some(figure) = figure_of(rt, kind, count)? else {
+        return Ok(USAGE);
     };
-    let figure = match kind.as_str() {
+    println!(rt; "{figure}")?;
+    Ok(DONE)
+}
+
+/// The figure of so much work of a kind; None where there is no such kind.
+fn figure_of(
+    rt: &(impl Input + AllocGlobal),
+    kind: &str,
+    count: u32,
+) -> Result<Option<u64>, Failure> {
+    Ok(Some(match kind {
         "isin" => codes::valid_isins(count),
         "number" => codes::numbers_read(count),
         "block" => {
             let mut text = Vec::new(rt.alloc());
-            rt.stdin().read_to_end(&mut text)?;
+            rt.reader().read_to_end(&mut text)?;
             blocks::fields_read(rt.alloc(), &text, count)
         }
-        _ => return Ok(ExitCode::from(2)),
-    };
-    println!(rt; "{figure}")?;
-    Ok(ExitCode::from(0))
+        "register" => rounds::pairs_settled(rt.alloc(), count)?,
+        _ => return Ok(None),
+    }))
 }

@@ -1,0 +1,39 @@
+//! Why work was not done.
+
+use desk_register::Fault;
+use std::alloc::AllocError;
+use std::io;
+
+/// Why work was not done.
+#[derive(Clone, Copy, Debug, PartialEq, Eq)]
+pub enum Failure {
+    /// A name that the work begins with is not of its form.
+    Form,
+    /// A growth of memory was refused.
+    Memory,
+    /// The device under a register failed.
+    Storage,
+    /// What was to be printed was not.
+    Output,
+}
+
+impl From<AllocError> for Failure {
+    fn from(_error: AllocError) -> Failure {
+        Failure::Memory
+    }
+}
+
+impl From<Fault> for Failure {
+    fn from(fault: Fault) -> Failure {
+        match fault {
+            Fault::Memory => Failure::Memory,
+            Fault::Storage => Failure::Storage,
+        }
+    }
+}
+
+impl From<io::Error> for Failure {
+    fn from(_error: io::Error) -> Failure {
+        Failure::Output
+    }
+}

@@ -1,0 +1,104 @@
+//! A register in plain lists that takes in what the desk accepts, entry by entry, as the desk does.
+ghost use Rattle.std.specs.Prelude.{◌≡◌, ◌≤◌, IfOk, OnErr, OnOk, IsTrue};
+ghost use Rattle.desk_rules.specs.Verdict.{Books};
+ghost use Rattle.desk_register.specs.Applied.{CanApply, HasApplied, Keeps};
+ghost use Rattle.desk_register.specs.Decision.{is_of_today};
+ghost use Rattle.desk_register.specs.Lists.{content_in, listed};
+ghost use Rattle.desk_register.specs.View.{Breaks, IsLater};
+
+use desk_register::{
+    Applied, Fault, ListRegister, Register, Stage, accepted_reply, apply, decide, is_of_today,
+};
+use desk_rules::{Entry, Refusal, Verdict};
+use std::alloc::Global;
+use std::marker::Model;
+
+/// A register with no `begin` open, that keeps the tables of a history.
+#[derive(Drop)]
+pub struct Ledger {
+    register: ListRegister,
+}
+
+impl Model for Ledger {
+    ghost use Rattle.std.specs.Prelude.{◌≡◌};
+    ghost use Rattle.desk_rules.specs.Verdict.{Books};
+    ghost use Rattle.desk_register.specs.declared.list_register.ListRegister.{ListRegister};
+    ghost use Rattle.desk_register.specs.declared.register.Stage.TheVariants.{Idle};
+    ghost use Rattle.desk_register.specs.Applied.{Keeps};
+    ghost use Rattle.desk_register.specs.Lists.{content_in, listed};
+
+    ghost Value = { ListRegister };
+
+    ghost view = { λ ledger. ledger.register };
+
+    ghost invariant = { λ ledger. (ledger.register.stage ≡ Idle) × ((books : Books) × Keeps ledger.register.limit books (content_in (listed ledger.register.lists))) };
+}
+
+/// What came of an entry.
+#[derive(Clone, Copy, Debug, PartialEq, Eq)]
+pub enum Entered {
+    Accepted(Applied),
+    /// It is the entry of that number, once more.
+    Repeated(u64),
+    Refused(Refusal),
+    /// The desk takes no such command yet.
+    NotTaken,
+}
+
+/// Takes an accepted entry into the tables, makes its reply as the desk does, and keeps it.
+fn put<R: Register>(alloc: Global, register: &mut R, entry: Entry) -> Result<Applied, Fault>
+    requires stage { (R.view register.old).stage ≡ Stage.Begun }
+    requires today { IsTrue (is_of_today entry) }
+    requires accepted { (R.view register.old).is_honest → (R.view register.old).is_sure → CanApply (R.view register.old).room entry (R.view register.old).content }
+    ensures put { (books : Books) → (R.view register.new).is_honest → (R.view register.old).is_sure → Keeps (R.view register.old).room books (R.view register.old).content
+        → IfOk result (λ applied. HasApplied (R.view register.old).room books entry applied (R.view register.new).content) }
+    ensures ok { OnOk result ((R.view register.new).stage ≡ Stage.Idle) }
+    ensures err { OnErr result (Breaks (R.view register.old) (R.view register.new)) }
+    ensures later { IsLater (R.view register.old) (R.view register.new) }
+{
+    let applied = apply(alloc, register, entry)?;
+    let _reply = accepted_reply(alloc, &entry, &applied)?;
+    register.commit(alloc)?;
+    Ok(applied)
+}
+
+impl Ledger {
+    /// An empty one, for at most `limit` entries.
+    pub fn new(alloc: Global, limit: u64) -> Ledger
+        requires { limit ≤ 999_999_999 }
+    {
+        Ledger {
+            register: ListRegister::new(alloc, limit),
+        }
+    }
+
+    /// Takes an accepted entry in; after a fault all is taken back.
+    fn take(&mut self, alloc: Global, entry: Entry) -> Result<Applied, Fault>
+        requires today { IsTrue (is_of_today entry) }
+        requires accepted { CanApply self.old.limit entry (content_in (listed self.old.lists)) }
+    {
+        self.register.begin(alloc)?;
+        match put(alloc, &mut self.register, entry) {
+            Ok(applied) => Ok(applied),
+            Err(fault) => {
+                self.register.back(alloc)?;
+                Err(fault)
+            }
+        }
+    }
+
+    /// Decides on an entry, and takes it in where it is accepted.
+    pub fn enter(&mut self, alloc: Global, entry: Entry) -> Result<Entered, Fault> {
+        if !is_of_today(&entry) {
+            return Ok(Entered::NotTaken);
+        }
+        match decide(alloc, &mut self.register, &entry)? {
+            Verdict::Accept => {
+                let applied = self.take(alloc, entry)?;
+                Ok(Entered::Accepted(applied))
+            }
+            Verdict::Repeat(number) => Ok(Entered::Repeated(number)),
+            Verdict::Refuse(refusal) => Ok(Entered::Refused(refusal)),
+        }
+    }
+}

@@ -1,0 +1,164 @@
+//! Two participants and a security, and entries of theirs, made with no text of a message.
+ghost use Rattle.std.specs.Prelude.{◌≡◌, ◌<◌, ◌≤◌, true, false};
+ghost use Rattle.desk_msg.specs.MessageType.{is_instruction, is_against_payment};
+
+use crate::codes::digits;
+use crate::failure::Failure;
+use desk_codes::{AccountId, Bic, Day, Isin, Reference};
+use desk_msg::{Instruction, Kind, Mt, SettlementType};
+use desk_rules::{Entry, Holding};
+
+/// How many entries `Market::opening` has.
+pub const OPENING: u32 = 5;
+
+/// A side of a delivery.
+#[derive(Clone, Copy, Debug, PartialEq, Eq)]
+pub enum Side {
+    Deliverer,
+    Receiver,
+}
+
+impl Side {
+    /// What it instructs with, without payment.
+    fn mt(self) -> Mt
+        ensures instructs { is_instruction result ≡ true }
+        ensures free { is_against_payment result ≡ false }
+    {
+        match self {
+            Side::Deliverer => Mt::Mt542,
+            Side::Receiver => Mt::Mt540,
+        }
+    }
+
+    fn other(self) -> Side {
+        match self {
+            Side::Deliverer => Side::Receiver,
+            Side::Receiver => Side::Deliverer,
+        }
+    }
+}
+
+/// A participant with its safekeeping account.
+#[derive(Clone, Copy, Debug, PartialEq, Eq)]
+pub struct Party {
+    pub bic: Bic,
+    pub account: AccountId,
+}
+
+/// A deliverer and a receiver of one security, which is counted in units.
+#[derive(Clone, Copy, Debug, PartialEq, Eq)]
+pub struct Market {
+    pub deliverer: Party,
+    pub receiver: Party,
+    pub isin: Isin,
+    /// The desk's own BIC
+    place: Bic,
+    settlement: SettlementType,
+}
+
+fn make_party(bic: &[u8], account: &[u8]) -> Result<Party, Failure> {
+    Ok(Party {
+        bic: bic_of(bic)?,
+        account: AccountId::read(account).ok_or(Failure::Form)?,
+    })
+}
+
+fn bic_of(text: &[u8]) -> Result<Bic, Failure> {
+    Bic::parse(text).map_err(|_| Failure::Form)
+}
+
+/// A reference of its own for each number.
+pub fn reference(number: u32) -> Result<Reference, Failure> {
+    let mut text = *b"R000000000";
+    text[1..].copy_from_slice(&digits(number));
+    Reference::read(&text).ok_or(Failure::Form)
+}
+
+pub fn day(digits: &[u8; 8]) -> Result<Day, Failure> {
+    Day::read(digits).ok_or(Failure::Form)
+}
+
+impl Market {
+    pub fn new() -> Result<Market, Failure> {
+        Ok(Market {
+            deliverer: make_party(b"ALPHDEFF", b"A-1")?,
+            receiver: make_party(b"BETADEFF", b"B-1")?,
+            isin: Isin::parse(b"DE0007164600").map_err(|_| Failure::Form)?,
+            place: bic_of(b"DESKDEFF")?,
+            settlement: SettlementType::read(b"TRAD").ok_or(Failure::Form)?,
+        })
+    }
+
+    /// What registers the participants, their accounts and the security: the entry of a number, from 0.
+    pub fn opening(&self, number: u32) -> Result<Entry, Failure> {
+        let reference = reference(number)?;
+        Ok(match number {
+            0 => new_participant(reference, self.deliverer),
+            1 => new_participant(reference, self.receiver),
+            2 => new_account(reference, self.deliverer),
+            3 => new_account(reference, self.receiver),
+            _ => Entry::Security {
+                reference,
+                isin: self.isin,
+                kind: Kind::Unit,
+            },
+        })
+    }
+
+    /// So many units issued to the account of a side.
+    pub fn issue(&self, reference: Reference, side: Side, quantity: u64) -> Entry
+        requires some { 0 < quantity }
+        requires within { quantity ≤ 99_999_999_999_999 }
+    {
+        Entry::Issue(Holding {
+            reference,
+            account: self.party(side).account,
+            isin: self.isin,
+            quantity,
+        })
+    }
+
+    /// One unit delivered free, as its deliverer or its receiver instructs.
+    pub fn instruct(&self, reference: Reference, side: Side, day: Day) -> Entry {
+        let own = self.party(side);
+        let counterparty = self.party(side.other()).bic;
+        Entry::Instruct {
+            sender: own.bic,
+            instruction: Instruction {
+                mt: side.mt(),
+                reference,
+                day,
+                isin: self.isin,
+                kind: Kind::Unit,
+                quantity: 1,
+                account: own.account,
+                settlement: self.settlement,
+                counterparty,
+                place: self.place,
+                cash: None,
+            },
+        }
+    }
+
+    fn party(&self, side: Side) -> Party {
+        match side {
+            Side::Deliverer => self.deliverer,
+            Side::Receiver => self.receiver,
+        }
+    }
+}
+
+fn new_participant(reference: Reference, party: Party) -> Entry {
+    Entry::Participant {
+        reference,
+        bic: party.bic,
+    }
+}
+
+fn new_account(reference: Reference, party: Party) -> Entry {
+    Entry::Account {
+        reference,
+        bic: party.bic,
+        account: party.account,
+    }
+}
