@@ -6,10 +6,12 @@ ghost use Rattle.desk_register.specs.Decision.{is_of_today};
 ghost use Rattle.desk_register.specs.Lists.{content_in, listed};
 ghost use Rattle.desk_register.specs.View.{Breaks, IsLater};
 
+use desk_codes::{AccountId, Day, Isin};
 use desk_register::{
-    Applied, Fault, ListRegister, Register, Stage, accepted_reply, apply, decide, is_of_today,
+    Applied, Fault, Found, ListRegister, Register, Stage, accepted_reply, apply, decide,
+    is_of_today,
 };
-use desk_rules::{Entry, Refusal, Verdict};
+use desk_rules::{Entry, Place, Refusal, Verdict};
 use std::alloc::Global;
 use std::marker::Model;
 
@@ -100,5 +102,50 @@ impl Ledger {
             Verdict::Repeat(number) => Ok(Entered::Repeated(number)),
             Verdict::Refuse(refusal) => Ok(Entered::Refused(refusal)),
         }
+    }
+
+    /// How many entries there are.
+    pub fn count(&mut self, alloc: Global) -> Result<u64, Fault> {
+        self.register.count(alloc)
+    }
+
+    /// The entry of this number, counted from 1; None where there is none.
+    pub fn by_number(&mut self, alloc: Global, number: u64) -> Result<Option<Found>, Fault> {
+        self.register.by_number(alloc, number)
+    }
+
+    /// What an account holds of a security.
+    pub fn position(
+        &mut self,
+        alloc: Global,
+        account: AccountId,
+        isin: Isin,
+    ) -> Result<u64, Fault> {
+        self.register.position(alloc, account, isin)
+    }
+
+    /// What is outstanding of a security.
+    pub fn outstanding(&mut self, alloc: Global, isin: Isin) -> Result<u64, Fault> {
+        self.register.outstanding(alloc, isin)
+    }
+
+    /// What all accounts hold of a security.
+    pub fn held(&mut self, alloc: Global, isin: Isin) -> Result<u64, Fault> {
+        self.register.held(alloc, isin)
+    }
+
+    /// The day of the last run; None before any.
+    pub fn last_run(&mut self, alloc: Global) -> Result<Option<Day>, Fault> {
+        self.register.last_run(alloc)
+    }
+
+    /// The first matched pair due by a day, above a place.
+    pub fn due_pair_after(
+        &mut self,
+        alloc: Global,
+        day: Day,
+        place: Option<Place>,
+    ) -> Result<Option<Place>, Fault> {
+        self.register.due_pair_after(alloc, day, place)
     }
 }

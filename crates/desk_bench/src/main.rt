@@ -1,6 +1,9 @@
 //! Work to be timed: `desk_bench KIND COUNT` does one kind of the desk's work that many times and prints
 //! a figure of it, so that two programs can be seen to have done the same. The text of a block comes on standard
 //! input. bench/run times it.
+//!
+//! And work to be disturbed: `desk_bench day` asks a register a day's entries, for tests/refuse_register, which refuses
+//! it growths of memory.
 #![tactic(auto)]
 
 mod blocks;
@@ -9,6 +12,8 @@ mod failure;
 mod ledger;
 mod market;
 mod rounds;
+mod shown;
+mod trial;
 
 use crate::failure::Failure;
 use std::env;
@@ -16,8 +21,10 @@ use std::io::Read;
 use std::process::ExitCode;
 use std::rt::Env;
 
-/// The exit statuses: of what was done, of other words, and of a fault.
+/// The exit statuses: of what was done, of a register that a fault has changed, of other words, and of a fault.
 const DONE: u8 = 0;
+
+const CHANGED: u8 = 1;
 
 const USAGE: u8 = 2;
 
@@ -34,6 +41,10 @@ fn main(rt: HostRuntime) -> ExitCode {
 fn answer(rt: &(impl Print + Input + AllocGlobal + Env)) -> Result<u8, Failure> {
     let words: Vec<String> = env::args(rt)?.collect(rt.alloc())?;
     match words.as_slice() {
+        [_, kind] if kind.as_str() == "day" => {
+            let is_kept = trial::try_day(rt)?;
+            Ok(if is_kept { DONE } else { CHANGED })
+        }
         [_, kind, count] => tell_figure(rt, kind.as_str(), count.as_str()),
         _ => Ok(USAGE),
     }
