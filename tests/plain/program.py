@@ -1,0 +1,28 @@
+"""The plain program: exit status and printed bytes for its words and its standard input."""
+
+from .blocks import Refused, read_block
+from .codes import isin_fault
+from .messages import fields_text, read_message
+from .scripts import play
+
+
+def answer_isin(code):
+    fault = isin_fault(code.encode())
+    return (1, fault.encode() + b"\n") if fault else (0, b"valid\n")
+
+
+def answer_read(mt, text):
+    """What `desk read` prints of a message's text, and its status."""
+    try:
+        return 0, fields_text(read_message(mt, read_block(text))) + b"\n"
+    except Refused as refused:
+        return 1, refused.text() + b"\n"
+
+
+def answer(words, given):
+    """The answer to words that are no usage."""
+    if words[:1] == ["isin"]:
+        return answer_isin(words[1])
+    if words[:1] == ["read"]:
+        return answer_read(int(words[1]), given)
+    return play(given)
