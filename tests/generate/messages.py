@@ -220,9 +220,10 @@ def lines_with(head, *values):
 
 BAD_DATES = (
     lines_with(b":98A::SETT//", *BAD_DAYS, *EDGE_DAYS, b"20240229101500")
-    + lines_with(b":98C::SETT//", *(day + b"101500" for day in BAD_DAYS + EDGE_DAYS))
+    + lines_with(b":98C::SETT//", b"20230229101500", b"20241301101500", b"00000229101500", b"2024-2-9101500")
     + lines_with(b":98C::SETT//", b"20240229", b"20240229999999", b"2024022910150", b"20240229 01500")
-    + (b":98C::SETT//20240229abcdef", b":98A::SETT/20240229", b":98C::SETT/20240229101500")
+    + lines_with(b":98C::SETT//", b"20240229abcdef", b"2024022910150x", b"20240229-00001", b"20240229000000")
+    + (b":98A::SETT/20240229", b":98C::SETT/20240229101500")
     + (b":98A::SETT/", b":98A:SETT//20240229")
 )
 
@@ -353,7 +354,7 @@ FAULTS = {
     swap_lines: 10,
     stray_line: 12,
     wrong_tag: 8,
-    bad_value: 30,
+    bad_value: 45,
     bad_values: 8,
     further_field: 5,
     second_line: 8,

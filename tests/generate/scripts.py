@@ -277,6 +277,10 @@ class Script:
         body = b"".join(line + self.end() for line in lines)
         self.add(self.chance.pick(BAD_HEADS), body if self.chance.happens(90) else None)
 
+    def without_body(self):
+        """A request that takes the next one for its body."""
+        self.add(self.chance.pick((b"op", b"in ALPHDEFF 540", b"in BETADEFF 542")))
+
     def no_request(self):
         self.add(self.chance.pick(COMMENTS))
 
@@ -308,6 +312,7 @@ NEXT = {
     Script.sums: 4,
     Script.bad_line: 1,
     Script.bad_head: 1,
+    Script.without_body: 1,
     Script.no_request: 2,
 }
 
