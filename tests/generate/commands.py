@@ -105,7 +105,7 @@ def wrong_surroundings(chance, members):
 def doubled_member(chance, members):
     """A name twice, where the value behind goes before the one in front."""
     name, value = chance.pick(members)
-    first = chance.pick(["X", value, b"[{}]"])
+    first = chance.pick(["X", value, b"[{}]", b"null", b"1e308", b"1e309", b"-0.0"])
     if chance.happens(50):
         return object_of(chance, [(name, first), *members])
     return object_of(chance, [*members, (name, value)])

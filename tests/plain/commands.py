@@ -1,5 +1,6 @@
 """A plain reader of the operator's commands: JSON objects with exactly the named members (docs/RULES.md)."""
 
+import math
 import re
 
 from .blocks import MOST_BYTES
@@ -80,6 +81,8 @@ class Reader:
         match = NUMBER.match(self.text, self.at)
         demand(match)
         self.at = match.end()
+        # what no floating-point number can be near is refused wherever it stands
+        demand(math.isfinite(float(match[0])))
         is_whole = match[0].isdigit() and len(match[0]) < 20
         return int(match[0]) if is_whole else float(match[0])
 
