@@ -62,7 +62,8 @@ BAD_MEMBERS = {
 
 
 def bad_member(chance, members):
-    place = chance.below(len(members))
+    """One member, often the last, with a value that does not fit."""
+    place = len(members) - 1 if chance.happens(50) else chance.below(len(members))
     name, _ = members[place]
     return object_of(chance, [*members[:place], (name, chance.pick(BAD_MEMBERS[name])), *members[place + 1 :]])
 

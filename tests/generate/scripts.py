@@ -139,10 +139,13 @@ class Script:
         self.add(b"op", commands.object_of(chance, members))
 
     def faulty_command(self):
-        if self.commands:
-            members = self.chance.pick(self.commands)
-            make = commands.faulty if self.chance.happens(95) else commands.padded
-            self.add(b"op", make(self.chance, members))
+        if not self.commands:
+            return
+        chance = self.chance
+        issues = [members for members in self.commands if members[0] == ("op", "issue")]
+        members = chance.pick(issues if issues and chance.happens(40) else self.commands)
+        make = commands.faulty if chance.happens(90) else commands.padded
+        self.add(b"op", make(chance, members))
 
     # instructions
 
@@ -308,7 +311,7 @@ NEXT = {
     Script.old_command: 6,
     Script.same_request: 2,
     Script.faulty_instruction: 5,
-    Script.faulty_command: 3,
+    Script.faulty_command: 4,
     Script.sums: 4,
     Script.bad_line: 1,
     Script.bad_head: 1,
