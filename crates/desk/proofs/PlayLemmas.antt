@@ -2,7 +2,8 @@
 use Rattle.std.proofs.Common.{◌≡◌, ◌<◌, ◌≤◌, ℕ, Bool, true, false, List, [], ◌∷◌, length, All, Option, Some, None, IfSome, cond, count_by, refl, sym, subst, arith}
 use Rattle.std.proofs.lemmas.List.Elements.{All-cons, All-head, All-nil, All-tail}
 use Rattle.std.proofs.lemmas.List.Sums.{sum_by-cons}
-use Rattle.std.specs.Prelude.{Result, Ok, Err}
+use Rattle.std.specs.Prelude.{Result, Ok, Err, IfOk}
+use Rattle.std.specs.Io.KnownBytes.{Appends}
 use Rattle.desk_rules.specs.declared.reply.Reply.{Reply}
 use Rattle.desk_rules.specs.Verdict.{Books}
 use Rattle.desk_register.specs.declared.list_register.ListRegister.{ListRegister}
@@ -30,7 +31,10 @@ view_of_lists r = record {
   is_sure = Unit {0};
 }
 
-is_in_memory : (answer : Result Reply Fault) → says_closed answer ≡ false → cond (says_storage answer) 1 0 ≡ 0 → IsInMemory answer
+abbrev counted : Result Reply Fault → ℕ
+counted answer = cond (says_storage answer) 1 0
+
+is_in_memory : (answer : Result Reply Fault) → says_closed answer ≡ false → counted answer ≡ 0 → IsInMemory answer
 is_in_memory (Ok reply) not_closed sound = tt
 is_in_memory (Err Memory) not_closed sound = refl
 is_in_memory (Err Storage) not_closed sound = absurd (omega (arith, sound))
@@ -40,8 +44,8 @@ is_in_memory (Err Closed) not_closed sound = cc
 only_memory : (answers : List (Result Reply Fault)) → All (λ answer. says_closed answer ≡ false) answers → count_by says_storage answers ≡ 0 → All IsInMemory answers
 only_memory [] not_closed sound = All-nil IsInMemory
 only_memory (answer ∷ answers) not_closed sound =
-    let sum = sum_by-cons (λ a. cond (says_storage a) 1 0) answer answers in
-    let now : cond (says_storage answer) 1 0 ≡ 0 = omega (arith, sum, sound) in
+    let sum = sum_by-cons counted answer answers in
+    let now : counted answer ≡ 0 = omega (arith, sum, sound) in
     let later : count_by says_storage answers ≡ 0 = omega (arith, sum, sound) in
     All-cons IsInMemory answer answers (is_in_memory answer (All-head (λ a. says_closed a ≡ false) answer answers not_closed) now)
     (only_memory answers (All-tail (λ a. says_closed a ≡ false) answer answers not_closed) later)
@@ -57,14 +61,24 @@ told r before after was is v0 v1 most not_closed stays sound honest holds played
     let R : Bool → Type 0 = λ b. Run 999_999_999 false no_books (asked_in s.items) s.answers b s.played.last in
     let run : Run 999_999_999 false no_books (asked_in s.items) s.answers false s.played.last = subst R stays (subst Q not_closed (subst P most s.played.run)) in
     let blame = s.played.blame in
-    let none : count_by says_storage s.answers ≡ 0 = omega (arith, blame, sound) in
-    (p.0, p.1, told_answers s.items s.answers s.played.last p.2 s.spells run
-    (only_memory s.answers (open_all_along 999_999_999 false no_books s.played.last (asked_in s.items) s.answers run) none) s.written refl)
+    let none : count_by says_storage s.answers ≡ 0 = omega (arith, blame, sound) in (
+      p.0,
+      p.1,
+      told_answers s.items s.answers s.played.last p.2 s.spells run
+          (only_memory s.answers (open_all_along 999_999_999 false no_books s.played.last (asked_in s.items) s.answers run) none) s.written refl,
+    )
 
 -- the bytes that a reader gives, where they are known
 pub given : (r : Option (List ℕ)) → (input : List ℕ) × IfSome r (λ known. known ≡ input)
 given None = ([], tt)
 given (Some input) = (input, refl)
+
+-- a fault that is told alone
+pub told_fault : {E : Type 0} (r : Result ℕ E) (known : Option (List ℕ)) (before after : Option (List ℕ)) (line : List ℕ)
+    → ((input : List ℕ) (status : ℕ) → status ≡ 3 → Appends before after line → IsPlayAnswer input status before after) → IfOk r (λ status. (status ≡ 3) × Appends before after line)
+    → IfOk r (λ status. (input : List ℕ) × IfSome known (λ k. k ≡ input) × IsPlayAnswer input status before after)
+told_fault (Ok status) known before after line tell wrote = let i = given known in (i.0, i.1, tell i.0 status wrote.0 wrote.1)
+told_fault (Err e) known before after line tell wrote = wrote
 
 -- a new register keeps the tables of no history, and so does what is equal to it
 pub new_keeps : (made held : ListRegister) → held ≡ made → made.limit ≡ 999_999_999 → Keeps 999_999_999 no_books (content_in (listed made.lists)) → Keeps held.limit no_books (content_in (listed held.lists))

@@ -30,7 +30,8 @@ pub fn answer_play<R: Read, W: Write>(
     match desk.play(alloc, reader, writer) {
         Ok(()) => Ok(DONE),
         Err(PlayFault::Memory) => tell_fault(b"fault 60\n", writer),
-        Err(PlayFault::ReadFailed | PlayFault::TooLong) => tell_fault(b"fault io\n", writer),
+        Err(PlayFault::ReadFailed) => tell_fault(b"fault io\n", writer),
+        Err(PlayFault::TooLong) => tell_fault(b"fault io\n", writer),
         Err(PlayFault::WriteFailed) => Err(io::Error::from(io::ErrorKind::WriteZero)),
     }
 }

@@ -66,17 +66,33 @@ impl Read for Broken {
 
 #[test]
 fn a_reader_that_fails(rt: HostRuntime) -> Result<(), Fail> {
-    let mut printed = Vec::new(rt.alloc());
-    assert_eq!(rt;
-        run(
-            rt.alloc(),
-            &["desk", "read", "540"],
-            &mut Broken,
-            &mut printed
-        ),
-        3
-    );
-    assert_eq!(rt; printed.as_slice(), b"fault io\n".as_slice());
+    for words in [
+        ["desk", "read", "540"].as_slice(),
+        ["desk", "play"].as_slice(),
+    ] {
+        let mut printed = Vec::new(rt.alloc());
+        assert_eq!(rt; run(rt.alloc(), words, &mut Broken, &mut printed), 3);
+        assert_eq!(rt; printed.as_slice(), b"fault io\n".as_slice());
+    }
+    Ok(())
+}
+
+/// A script of one byte more than the longest is not played; one of the longest, a single comment, is.
+#[test]
+fn scripts_too_long(rt: HostRuntime) -> Result<(), Fail> {
+    for (length, status, line) in [
+        (16_777_216, 0, b"".as_slice()),
+        (16_777_217, 3, b"fault io\n".as_slice()),
+    ] {
+        let script = vec![in rt.alloc(); b'#'; length]?;
+        let mut printed = Vec::new(rt.alloc());
+        let mut reader = script.as_slice();
+        assert_eq!(rt;
+            run(rt.alloc(), &["desk", "play"], &mut reader, &mut printed),
+            status
+        );
+        assert_eq!(rt; printed.as_slice(), line);
+    }
     Ok(())
 }
 

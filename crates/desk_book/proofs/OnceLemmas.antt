@@ -1,12 +1,13 @@
 -- Repeats act once.
-use Rattle.std.proofs.Common.{◌≡◌, ◌≢◌, ℕ, Bool, true, false, List, [], ◌∷◌, refl, sym, ◌∙◌, ap, subst}
+use Rattle.std.proofs.Common.{◌≡◌, ◌≢◌, ℕ, suc, Bool, true, false, List, [], ◌∷◌, ◌++◌, length, refl, sym, ◌∙◌, ap, subst, append-nil, append_assoc}
 use Rattle.std.specs.Prelude.{Result, Ok, Err}
+use Rattle.desk_rules.proofs.AcceptedOnce.{accepted_once}
 use Rattle.desk_rules.proofs.OneVerdict.{one_verdict}
 use Rattle.desk_rules.specs.declared.entry.Entry.{Entry}
 use Rattle.desk_rules.specs.declared.reply.Reply.{Reply}
 use Rattle.desk_rules.specs.declared.verdict.Verdict.{Verdict}
 use Rattle.desk_rules.specs.declared.verdict.Verdict.TheVariants.{Accept, Repeat, Refuse}
-use Rattle.desk_rules.specs.Reply.{IsReply}
+use Rattle.desk_rules.specs.Reply.{AreNext, IsReply}
 use Rattle.desk_rules.specs.Verdict.{Books, IsVerdict}
 use Rattle.desk_book.specs.declared.fault.Fault.{Fault}
 use Rattle.desk_book.specs.declared.order.Order.{Order}
@@ -86,3 +87,47 @@ act_once limit was books last (asked ∷ more) (Err fault ∷ answers) is run =
     let P : Books → Type 0 = λ b. Run limit (says_closed (Err fault)) b more answers is last in
     let rest = act_once limit (says_closed (Err fault)) books last more answers is (subst P run.1.1 run.1.2) in
     record { kept = rest.kept; others = rest.others; without = failed rest.without; run = rest.run }
+
+-- A history only grows.
+
+pub record Grown (books after : Books) : Type 0 where
+  pub more : List Entry
+  pub history : after.history ≡ books.history ++ more
+
+same_books : (books after : Books) → after ≡ books → Grown books after
+same_books books after same = record { more = []; history = ap (λ b. b.history) same ∙ sym (append-nil books.history) }
+
+grown_by : (books after : Books) (entry : Entry) (verdict : Verdict) → Grows verdict books entry after → Grown books after
+grown_by books after entry Accept grows = record { more = entry ∷ []; history = grows.history }
+grown_by books after entry (Repeat n) grows = same_books books after grows
+grown_by books after entry (Refuse refusal) grows = same_books books after grows
+
+answer_grows : (limit : ℕ) (books after : Books) (order : Order) (reply : Reply) → IsAnswer limit books order reply after → Grown books after
+answer_grows limit books after (Decide entry) reply answer = grown_by books after entry answer.verdict answer.grows
+answer_grows limit books after Totals reply answer = same_books books after answer.stays
+answer_grows limit books after (Answer given) reply answer = same_books books after answer.1
+
+step_grows : (limit : ℕ) (books after : Books) (asked : Asked) (answer : Result Reply Fault) → Step limit books asked answer after → Grown books after
+step_grows limit books after asked (Ok reply) step = answer_grows limit books after step.0 reply step.2
+step_grows limit books after asked (Err fault) step = same_books books after step
+
+grown_then : (a b c : Books) → Grown a b → Grown b c → Grown a c
+grown_then a b c first second = record {
+  more = first.more ++ second.more;
+  history = second.history ∙ ap (λ h. h ++ second.more) first.history ∙ append_assoc a.history first.more second.more;
+}
+
+run_grows : (limit : ℕ) (was is : Bool) (books last : Books) (requests : List Asked) (answers : List (Result Reply Fault)) → Run limit was books requests answers is last → Grown books last
+run_grows limit was is books last [] [] run = same_books books last run.1
+run_grows limit was is books last [] (answer ∷ answers) run = absurd run
+run_grows limit was is books last (asked ∷ more) [] run = absurd run
+run_grows limit was is books last (asked ∷ more) (answer ∷ answers) run =
+    grown_then books run.1.0 last (step_grows limit books run.1.0 asked answer run.1.1) (run_grows limit (says_closed answer) is run.1.0 last more answers run.1.2)
+
+-- what was accepted is a repeat when it is asked again
+pub accepted_again : (limit : ℕ) (was is : Bool) (books next last : Books) (asked : Asked) (entry : Entry) (requests : List Asked) (answers : List (Result Reply Fault)) → IsOrder asked (Decide entry)
+    → IsVerdict limit books entry Accept → AreNext books entry next → Run limit was next requests answers is last → IsRepeat limit last asked
+accepted_again limit was is books next last asked entry requests answers reads accepted next_is run =
+    let g = run_grows limit was is next last requests answers run in
+    let grown : last.history ≡ books.history ++ entry ∷ g.more = g.history ∙ ap (λ h. h ++ g.more) next_is.history ∙ append_assoc books.history (entry ∷ []) g.more in
+    record { entry = entry; number = suc (length books.history); reads = reads; repeats = accepted_once limit books last entry g.more accepted grown }

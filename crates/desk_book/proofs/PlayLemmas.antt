@@ -118,7 +118,7 @@ more_so_far v0 v1 v2 was is next books script behind rest a b c item soon s firs
       answers = s.answers ++ p.answers;
       played = play_then was is next books s.front (item ∷ []) s.answers p.answers v0 v1 v2 soon s.played p.played;
       written = subst P (sym (text_then v0.room was books s.front (item ∷ []) s.answers p.answers is s.played.last s.played.run))
-      (Appends-trans a b c (answers_text s.front s.answers) (answers_text (item ∷ []) p.answers) s.written p.written);
+          (Appends-trans a b c (answers_text s.front s.answers) (answers_text (item ∷ []) p.answers) s.written p.written);
     }
 
 pub script_played : (was is : Bool) (books : Books) (script behind : List ℕ) (a b : Option (List ℕ)) (old new : View) → SoFar was books script behind a b is old new → Asking (lines_of behind) []

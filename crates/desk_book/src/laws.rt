@@ -1,10 +1,13 @@
 //! Laws of the definitions, each the contract of a function with an empty body.
 ghost use Rattle.std.specs.Prelude.{◌≡◌, ℕ, Bool, false, List, All, Result};
 ghost use Rattle.desk_rules.specs.declared.reply.Reply.{Reply};
-ghost use Rattle.desk_rules.specs.Verdict.{Books};
+ghost use Rattle.desk_rules.specs.declared.verdict.Verdict.TheVariants.{Accept};
+ghost use Rattle.desk_rules.specs.Reply.{AreNext};
+ghost use Rattle.desk_rules.specs.Verdict.{Books, IsVerdict};
 ghost use Rattle.desk_book.specs.declared.fault.Fault.{Fault};
 ghost use Rattle.desk_book.specs.declared.order.Order.{Order};
-ghost use Rattle.desk_book.specs.Answered.{ActsOnce, Run, says_closed};
+ghost use Rattle.desk_book.specs.declared.order.Order.TheVariants.{Decide};
+ghost use Rattle.desk_book.specs.Answered.{ActsOnce, IsRepeat, Run, says_closed};
 ghost use Rattle.desk_book.specs.Asked.{Asked};
 ghost use Rattle.desk_book.specs.Order.{IsOrder};
 ghost use Rattle.desk_rules.specs.declared.entry.Entry.{Entry};
@@ -37,4 +40,10 @@ pub fn closed_for_good()
 pub fn repeats_act_once()
     ensures { (limit : ℕ) (was : Bool) (books last : Books) (requests : List Asked) (answers : List (Result Reply Fault)) (is : Bool)
         → Run limit was books requests answers is last → ActsOnce limit books requests answers last }
+{}
+
+/// A request that was accepted is a repeat when it is asked again, however many requests later.
+pub fn accepted_again()
+    ensures { (limit : ℕ) (was is : Bool) (books next last : Books) (asked : Asked) (entry : Entry) (requests : List Asked) (answers : List (Result Reply Fault))
+        → IsOrder asked (Decide entry) → IsVerdict limit books entry Accept → AreNext books entry next → Run limit was next requests answers is last → IsRepeat limit last asked }
 {}

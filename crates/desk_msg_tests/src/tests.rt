@@ -7,11 +7,11 @@ use crate::vectors::{
     RECEIVE_AGAINST_PAYMENT, SENT_MATCHED, STATUS_CANCELLED, STATUS_MATCHED, STATUS_REFUSED,
     STATUS_UNMATCHED,
 };
+use desk_codes::Reference;
 use desk_msg::{
     Case, MsgFault, Mt, Own, ReadFault, Reason, Refusal, Word, fields_text, read_instruction_text,
     refusal_text, status_text,
 };
-use desk_codes::Reference;
 use std::alloc::{AllocError, Global};
 use std::process::Abort;
 use std::test::Fail;

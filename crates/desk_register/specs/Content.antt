@@ -97,7 +97,7 @@ paired m n content = record content {
   standing = standing_at (standing_at content.standing m (record { mate = Some n; state = Matched Future })) n (record { mate = Some m; state = Matched Future });
 }
 
--- both are unmatched instructions, and two
+-- two numbers of entries, the earlier first (that both are unmatched instructions is the caller's to see)
 pub record CanPair (content : Content) (m n : ℕ) : Type 0 where
   pub two : m < n
   pub known : n ≤ length content.register
@@ -122,8 +122,8 @@ pub record IsPairAt (content : Content) (n m : ℕ) (earlier later : Instructed)
   pub has_mate : (content.standing n).mate ≡ Some m
   pub is_earlier : instruction_at (history_of content) m ≡ Some earlier
 
--- a pair that a run may try: free, matched, and where the deliverer holds its quantity that can be counted on the
--- receiver's account
+-- a free pair that a run may try, where what the deliverer holds and delivers can be counted on the receiver's account
+-- (that it is not settled yet is the caller's to see)
 pub record CanSettle (content : Content) (n : ℕ) : Type 0 where
   pub mate : ℕ
   pub earlier : Instructed

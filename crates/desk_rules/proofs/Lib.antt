@@ -11,6 +11,7 @@ pub mod PlainLemmas
 pub mod ShortNumbers
 pub mod Accepted
 pub mod OneVerdict
+pub mod AcceptedOnce
 pub mod BalanceLemmas
 pub mod NonNegative
 pub mod Conservation

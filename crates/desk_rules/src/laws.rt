@@ -1,5 +1,5 @@
 //! Laws of the definitions, each the contract of a function with an empty body.
-ghost use Rattle.std.specs.Prelude.{◌≡◌, ℕ, ◌+◌, List, [], ◌∷◌, ◌++◌, Contains, sum_by};
+ghost use Rattle.std.specs.Prelude.{◌≡◌, ℕ, ◌+◌, List, [], ◌∷◌, ◌++◌, length, Contains, sum_by};
 ghost use Rattle.desk_codes.specs.declared.currency.Ccy.{Ccy};
 ghost use Rattle.desk_rules.specs.History.{Instructed, before};
 ghost use Rattle.desk_rules.specs.Balances.{issued, redeemed, credits, debits, paid_in, paid_out, cash_credits, cash_debits};
@@ -12,6 +12,7 @@ ghost use Rattle.desk_rules.specs.declared.entry.Entry.{Entry};
 ghost use Rattle.desk_rules.specs.declared.pair.Pair.{Pair};
 ghost use Rattle.desk_rules.specs.declared.pair.Settled.{Settled};
 ghost use Rattle.desk_rules.specs.declared.verdict.Verdict.{Verdict};
+ghost use Rattle.desk_rules.specs.declared.verdict.Verdict.TheVariants.{Accept, Repeat};
 
 /// To be opposite is symmetric, and no instruction is its own opposite.
 pub fn opposites()
@@ -88,4 +89,10 @@ pub fn accepted_fronts()
 /// An entry has one verdict at most.
 pub fn one_verdict()
     ensures { (limit : ℕ) (books : Books) (entry : Entry) (a b : Verdict) → IsVerdict limit books entry a → IsVerdict limit books entry b → a ≡ b }
+{}
+
+/// What was accepted is a repeat ever after, whatever was accepted since.
+pub fn accepted_once()
+    ensures { (limit : ℕ) (books after : Books) (entry : Entry) (rest : List Entry) → IsVerdict limit books entry Accept → after.history ≡ books.history ++ entry ∷ rest
+        → IsVerdict limit after entry (Repeat (length books.history + 1)) }
 {}

@@ -18,8 +18,8 @@ mod verdict;
 
 pub use entry::{Entry, Holding, Instructed, Payment, Sender};
 pub use laws::{
-    accepted_fronts, adds_up, fronts, never_negative, one_pair_each, one_pairing, one_settlement,
-    one_verdict, opposites, settles_once,
+    accepted_fronts, accepted_once, adds_up, fronts, never_negative, one_pair_each, one_pairing,
+    one_settlement, one_verdict, opposites, settles_once,
 };
 pub use opposite::are_opposite;
 pub use pair::{Lack, Pair, Place, Settled};

@@ -1,13 +1,13 @@
 //! Worked rows from outside, through the plain program.
 ghost use Rattle.std.specs.Prelude.{◌<◌, ◌≤◌};
 
+use desk_codes::{AccountId, Bic, Ccy, Day, Isin, Reference};
+use desk_msg::{Kind, Message, Mt, read_instruction_text};
 use desk_rules::plain::{
     before, cash_credits, cash_debits, credits, debits, is_cancelled, issued, lack_of, paid_in,
     paid_out, pairing_of, redeemed, settlement_of,
 };
 use desk_rules::{Entry, Holding, Lack, Pair, Payment, Settled};
-use desk_codes::{AccountId, Bic, Ccy, Day, Isin, Reference};
-use desk_msg::{Kind, Message, Mt, read_instruction_text};
 use std::alloc::{AllocError, Global};
 use std::test::Fail;
 

@@ -88,10 +88,7 @@ fn a_failed_read_is_told(rt: HostRuntime) {
             fails_at,
         };
         let answer = read_whole(rt.alloc(), &mut reader, LONGEST);
-        assert!(rt;
-            matches!(&answer, Err(InputFault::Reader)),
-            "at {fails_at}"
-        );
+        assert!(rt; matches!(&answer, Err(InputFault::Reader)), "at {fails_at}");
         assert_eq!(rt; reader.reads, fails_at);
     }
 }
@@ -104,7 +101,10 @@ fn the_longest_script_and_one_byte_more(rt: HostRuntime) -> Result<(), Fail> {
         reads: 0,
         fails_at: 0,
     };
-    assert_eq!(rt; read_whole(rt.alloc(), &mut reader, LONGEST)?.len(), LONGEST);
+    assert_eq!(rt;
+        read_whole(rt.alloc(), &mut reader, LONGEST)?.len(),
+        LONGEST
+    );
     assert_eq!(rt; reader.reads, LONGEST / 4096 + 1);
     let mut reader = Dribble {
         left: LONGEST + 7,

@@ -7,9 +7,9 @@ use crate::tests::entries::{
     new_account, of, participant, receipt, reference, run, security,
 };
 use crate::tests::ledger::{Ledger, held, try_first};
-use desk_register::{Fault, ListRegister, Outcome, Register, Stage, Standing};
 use desk_codes::{AccountId, Bic, Isin, Reference};
 use desk_msg::{Kind, Reason};
+use desk_register::{Fault, ListRegister, Outcome, Register, Stage, Standing};
 use desk_rules::{Entry, Lack, Place, Reply, Sender, State, Text};
 use std::alloc::Global;
 use std::process::Abort;

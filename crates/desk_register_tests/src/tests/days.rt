@@ -5,9 +5,9 @@ use crate::tests::entries::{
     security,
 };
 use crate::tests::ledger::{Entered, Ledger};
-use desk_register::{ListRegister, Register, Standing};
 use desk_codes::{AccountId, Isin};
 use desk_msg::{Kind, Reason};
+use desk_register::{ListRegister, Register, Standing};
 use desk_rules::plain::{credits, debits, instruction_at, is_due, pairing_of, settlement_of};
 use desk_rules::{Entry, Pair, Settled, State};
 use std::alloc::{AllocError, Global};

@@ -5,8 +5,10 @@ ghost use Rattle.desk_register.specs.Applied.{CanApply, Keeps};
 ghost use Rattle.desk_register.specs.Decision.{is_of_today};
 ghost use Rattle.desk_register.specs.Lists.{content_in, listed};
 
-use desk_register::{Applied, Fault, ListRegister, Outcome, Register, Stage, apply, decide, is_of_today};
 use desk_codes::{Day, Isin};
+use desk_register::{
+    Applied, Fault, ListRegister, Outcome, Register, Stage, apply, decide, is_of_today,
+};
 use desk_rules::{Entry, Refusal, Verdict};
 use std::alloc::Global;
 use std::marker::Model;

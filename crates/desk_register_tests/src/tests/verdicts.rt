@@ -1,12 +1,12 @@
 //! The verdicts on today's commands. What is refused leaves no trace, so that its reference can be used.
 
-use desk_register::is_of_today;
 use crate::tests::entries::{
     BOND, Deal, SHARE, UNKNOWN, delivery, instruct, issue, new_account, participant, receipt,
     redeem, run, security,
 };
 use crate::tests::ledger::{Entered, Ledger};
 use desk_msg::{Kind, Mt};
+use desk_register::is_of_today;
 use desk_rules::Entry;
 use std::alloc::Global;
 use std::process::Abort;

@@ -1,5 +1,7 @@
-use Rattle.std.proofs.Common.{refl}
-use Rattle.desk.proofs.PlayLemmas.{limit_is, new_keeps, told, view_of_lists}
+use Rattle.std.proofs.Common.{[], ◌∷◌, ◌++◌, Err, refl, ap}
+use Rattle.std.specs.Prelude.{codes}
+use Rattle.desk.specs.PlayAnswer.{told_memory, told_unread}
+use Rattle.desk.proofs.PlayLemmas.{limit_is, new_keeps, told, told_fault, view_of_lists}
 use Rattle.desk.proofs.play.answer_play.Goals as goal
 
 pub returns-in-Ok : goal.returns-in-Ok
@@ -9,3 +11,18 @@ returns-in-Ok g c =
     let same = c.new-desk.ensures.register in
     told (g.R.Read.remaining c.args.reader.now) _ _ c.new-desk.result.is_closed c.play.new.self.is_closed (view_of_lists held) (view_of_lists c.play.new.self.register) (limit_is made held same c.new.ensures.limit) c.new-desk.ensures.open
     (c.in-Ok.ensures.plain refl c.new-desk.ensures.open) refl tt (λ is. new_keeps made held same c.new.ensures.limit c.new.ensures.empty) c.in-Ok.ensures.played
+
+pub returns-in-Err-Memory : goal.returns-in-Err-Memory
+returns-in-Err-Memory g c =
+    let same = (c.in-Err-Memory.ensures.memory (ap Err c.in-Err-Memory.field-0-is)).1 in
+    told_fault c.tell_fault.result (g.R.Read.remaining c.args.reader.now) _ _ (codes "fault 60" ++ 10 ∷ []) (λ input status is wrote. told_memory is wrote) (rw same at c.tell_fault.ensures)
+
+pub returns-in-Err-ReadFailed : goal.returns-in-Err-ReadFailed
+returns-in-Err-ReadFailed g c =
+    let same = (c.in-Err-ReadFailed.ensures.unread (ap Err c.in-Err-ReadFailed.field-0-is)).1 in
+    told_fault c.tell_fault-in-Err-ReadFailed.result (g.R.Read.remaining c.args.reader.now) _ _ (codes "fault io" ++ 10 ∷ []) (λ input status is wrote. told_unread is wrote) (rw same at c.tell_fault-in-Err-ReadFailed.ensures)
+
+pub returns-in-Err-TooLong : goal.returns-in-Err-TooLong
+returns-in-Err-TooLong g c =
+    let same = (c.in-Err-TooLong.ensures.too_long (ap Err c.in-Err-TooLong.field-0-is)).1 in
+    told_fault c.tell_fault-in-Err-TooLong.result (g.R.Read.remaining c.args.reader.now) _ _ (codes "fault io" ++ 10 ∷ []) (λ input status is wrote. told_unread is wrote) (rw same at c.tell_fault-in-Err-TooLong.ensures)
