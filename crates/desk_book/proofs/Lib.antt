@@ -11,5 +11,6 @@ pub mod OneReading
 pub mod OneCommand
 pub mod OneOrder
 mod OnceLemmas
+mod OneStep
 pub mod ListedLemmas
 pub mod SummingLemmas

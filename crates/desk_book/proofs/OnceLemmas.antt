@@ -12,7 +12,7 @@ use Rattle.desk_rules.specs.Verdict.{Books, IsVerdict}
 use Rattle.desk_book.specs.declared.fault.Fault.{Fault}
 use Rattle.desk_book.specs.declared.order.Order.{Order}
 use Rattle.desk_book.specs.declared.order.Order.TheVariants.{Decide, Totals, Answer}
-use Rattle.desk_book.specs.Answered.{ActsOnce, Grows, IsAnswer, IsDecided, IsRepeat, Run, Step, WithoutRepeats, answered, ended, failed, repeated, says_closed}
+use Rattle.desk_book.specs.Answered.{ActsOnce, Grows, IsAnswer, IsRepeat, Run, Step, WithoutRepeats, answered, ended, failed, repeated, says_closed}
 use Rattle.desk_book.specs.Asked.{Asked}
 use Rattle.desk_book.specs.Order.{IsOrder}
 use Rattle.desk_book.proofs.OneOrder.{one_order}

@@ -1,10 +1,8 @@
 -- A request is read as one order at most.
-use Rattle.std.proofs.Common.{◌≡◌, ◌⊎◌, inl, inr, ℕ, Bool, true, false, List, refl, sym, ◌∙◌, ap}
-use Rattle.std.specs.Prelude.{MatchBool, Ok, Err, codes}
+use Rattle.std.proofs.Common.{◌≡◌, inl, inr, ℕ, Bool, true, false, List, sym, ◌∙◌, ap}
+use Rattle.std.specs.Prelude.{MatchBool}
 use Rattle.desk_msg.proofs.TextLaws.{message_not_refusal, one_message_of_text, one_refusal}
 use Rattle.desk_msg.specs.declared.mt.Mt.{Mt}
-use Rattle.desk_msg.specs.declared.instruction.CancelOrder.{CancelOrder}
-use Rattle.desk_msg.specs.declared.instruction.Instruction.{Instruction}
 use Rattle.desk_msg.specs.declared.instruction.Message.TheVariants.{New, Cancel as CancelMessage}
 use Rattle.desk_msg.specs.Refused.{refusal_line}
 use Rattle.desk_rules.specs.declared.entry.Entry.{Entry}

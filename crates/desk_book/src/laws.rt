@@ -1,5 +1,5 @@
 //! Laws of the definitions, each the contract of a function with an empty body.
-ghost use Rattle.std.specs.Prelude.{◌≡◌, ℕ, Bool, false, List, All, Result};
+ghost use Rattle.std.specs.Prelude.{◌≡◌, ℕ, Bool, false, List, All, Result, Ok};
 ghost use Rattle.desk_rules.specs.declared.reply.Reply.{Reply};
 ghost use Rattle.desk_rules.specs.declared.verdict.Verdict.TheVariants.{Accept};
 ghost use Rattle.desk_rules.specs.Reply.{AreNext};
@@ -7,7 +7,7 @@ ghost use Rattle.desk_rules.specs.Verdict.{Books, IsVerdict};
 ghost use Rattle.desk_book.specs.declared.fault.Fault.{Fault};
 ghost use Rattle.desk_book.specs.declared.order.Order.{Order};
 ghost use Rattle.desk_book.specs.declared.order.Order.TheVariants.{Decide};
-ghost use Rattle.desk_book.specs.Answered.{ActsOnce, IsRepeat, Run, says_closed};
+ghost use Rattle.desk_book.specs.Answered.{ActsOnce, IsRepeat, Run, Step, says_closed};
 ghost use Rattle.desk_book.specs.Asked.{Asked};
 ghost use Rattle.desk_book.specs.Order.{IsOrder};
 ghost use Rattle.desk_rules.specs.declared.entry.Entry.{Entry};
@@ -46,4 +46,10 @@ pub fn repeats_act_once()
 pub fn accepted_again()
     ensures { (limit : ℕ) (was is : Bool) (books next last : Books) (asked : Asked) (entry : Entry) (requests : List Asked) (answers : List (Result Reply Fault))
         → IsOrder asked (Decide entry) → IsVerdict limit books entry Accept → AreNext books entry next → Run limit was next requests answers is last → IsRepeat limit last asked }
+{}
+
+/// The abstract desk has one answer to a request: where two are given that are no faults, they are the same reply, and
+/// lead to the same books.
+pub fn one_reply()
+    ensures { (limit : ℕ) (books n m : Books) (asked : Asked) (r s : Reply) → Step limit books asked (Ok r) n → Step limit books asked (Ok s) m → (r ≡ s) × (n ≡ m) }
 {}
