@@ -23,6 +23,7 @@ BAD_DAYS = (
 )
 EDGE_DAYS = (b"00000229", b"00000101", b"99991231", b"19000228", b"20000229", b"19700101", b"21000228")
 BAD_NUMBERS = (b"", b",", b"1", b",5", b"1,2,3", b"0,", b"0,00", b"-1,", b"+1,", b"1.5", b"1,x", b" 1,", b"1, ")
+ZEROS = (b"0,", b"0,0", b"0,00", b"00,")
 ODD_NUMBERS = (b"99999999999999,", b"999999999999999,", b"00000000000001,", b"000000000000001,", b"1,0000000000000")
 FRACTIONS = (b"1,5", b"1,50", b"1,005", b"0,001", b"0,01", b"0,1", b"00,10", b"1,00000000000001", b"12345678901,234")
 
@@ -249,7 +250,8 @@ BAD_FIELDS = {
     b":95P::DEAG/": lines_with(b":95P::DEAG//", *BAD_BICS, b"ALPHDEFFXXX") + (b":95P::DEAG/ALPHDEFF",),
     b":95P::REAG/": lines_with(b":95P::REAG//", *BAD_BICS, b"ALPHDEFFXXX") + (b":95P::REAG/ALPHDEFF",),
     b":19A::SETT/": lines_with(b":19A::SETT//EUR", *BAD_NUMBERS, *ODD_NUMBERS, *FRACTIONS)
-    + lines_with(b":19A::SETT//JPY", *FRACTIONS, b"999999999999999,", b"1,")
+    + lines_with(b":19A::SETT//JPY", *FRACTIONS, *ZEROS, b"999999999999999,", b"1,")
+    + lines_with(b":19A::SETT//USD", *ZEROS)
     + lines_with(b":19A::SETT/", b"/XXX1,", b"/eur1,", b"/EU1,", b"/NEUR1,", b"/KWD1,", b"EUR1,", b"/EUR 1,", b""),
 }
 
@@ -264,8 +266,8 @@ def bad_value(chance, lines):
     places = of_profile(lines)
     if not places:
         return lines
-    at, head = chance.pick(places)
-    return [*lines[:at], chance.pick(BAD_FIELDS[head]), *lines[at + 1 :]]
+    at, value = chance.pick([(at, value) for at, head in places for value in BAD_FIELDS[head]])
+    return [*lines[:at], value, *lines[at + 1 :]]
 
 
 def bad_values(chance, lines):
