@@ -6,8 +6,13 @@ pub mod LineLemmas
 pub mod DigitsLemmas
 pub mod PrintableLemmas
 pub mod AdviceLemmas
+pub mod ConfirmationLemmas
+pub mod ConfirmedTexts
+pub mod ConfirmedFields
+pub mod ConfirmationLaws
 pub mod SaidLaws
 pub mod ReadingLaws
 pub mod SameMessages
 pub mod MessageLaws
 pub mod TextLaws
+pub mod OneConfirmation

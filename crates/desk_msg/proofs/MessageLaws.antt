@@ -19,13 +19,13 @@ use Rattle.desk_msg.proofs.ReadingLaws.{one_given, one_text_code, one_function, 
 use Rattle.desk_msg.proofs.SameMessages.{same_cash, same_order, same_instruction}
 
 -- a row gives one text
-one_text : (fields : List Found) (row : Row) (x y : List ℕ) → Gives fields row (text_said x) → Gives fields row (text_said y) → x ≡ y
+pub one_text : (fields : List Found) (row : Row) (x y : List ℕ) → Gives fields row (text_said x) → Gives fields row (text_said y) → x ≡ y
 one_text fields row x y a b = one_text_code x y (one_given fields row (text_said x) (text_said y) a b)
 
-quantity_parts : (k l : Kind) (m n : ℕ) → quantity_said k m ≡ quantity_said l n → (k ≡ l) × (m ≡ n)
+pub quantity_parts : (k l : Kind) (m n : ℕ) → quantity_said k m ≡ quantity_said l n → (k ≡ l) × (m ≡ n)
 quantity_parts k l m n e = ((cc), (cc))
 
-amount_parts : (c d : Ccy) (m n : ℕ) → amount_said c m ≡ amount_said d n → (c ≡ d) × (m ≡ n)
+pub amount_parts : (c d : Ccy) (m n : ℕ) → amount_said c m ≡ amount_said d n → (c ≡ d) × (m ≡ n)
 amount_parts c d m n e = ((cc), (cc))
 
 -- the counterparty stands under the word of the type

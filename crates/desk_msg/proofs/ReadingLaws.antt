@@ -24,16 +24,16 @@ one_given fields row x y a b =
     let P : Found → Type 0 = λ field. Says row field y in
     one_said row a.field x y a.says (subst P (one_found b.field a.field [] [] (sym b.only ∙ a.only)) b.says)
 
-none_one : (fields : List Found) (row : Row) (field : Found) → belonging row fields ≡ [] → belonging row fields ≡ field ∷ [] → ⊥
+pub none_one : (fields : List Found) (row : Row) (field : Found) → belonging row fields ≡ [] → belonging row fields ≡ field ∷ [] → ⊥
 none_one fields row field none one = let both : [] ≡ field ∷ [] = sym none ∙ one in cc
 
-many_one : (fields : List Found) (row : Row) (field : Found) → 1 < length (belonging row fields) → belonging row fields ≡ field ∷ [] → ⊥
+pub many_one : (fields : List Found) (row : Row) (field : Found) → 1 < length (belonging row fields) → belonging row fields ≡ field ∷ [] → ⊥
 many_one fields row field many one = omega (arith, many, ap length one)
 
 none_many : (fields : List Found) (row : Row) → belonging row fields ≡ [] → 1 < length (belonging row fields) → ⊥
 none_many fields row none many = omega (arith, many, ap length none)
 
-bad_gives : (fields : List Found) (row : Row) (x : Said) → IsBad fields row → Gives fields row x → ⊥
+pub bad_gives : (fields : List Found) (row : Row) (x : Said) → IsBad fields row → Gives fields row x → ⊥
 bad_gives fields row x bad gives =
     let P : Found → Type 0 = λ field. Says row field x in
     bad.none x (subst P (one_found gives.field bad.field [] [] (sym gives.only ∙ bad.only)) gives.says)

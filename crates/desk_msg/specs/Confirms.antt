@@ -8,6 +8,8 @@ use Rattle.desk_msg.specs.declared.fault.Word.TheVariants.{Field23G, Seme, Prev,
 use Rattle.desk_msg.specs.declared.fault.MsgFault.{MsgFault}
 use Rattle.desk_msg.specs.declared.fault.MsgFault.TheVariants.{Missing, Repeated, BadValue, Function}
 use Rattle.desk_msg.specs.declared.instruction.Kind.{Kind}
+use Rattle.desk_msg.specs.declared.instruction.Cash.{Cash}
+use Rattle.desk_msg.specs.declared.instruction.Instruction.{Instruction}
 use Rattle.desk_msg.specs.MessageType.{is_against_payment}
 use Rattle.desk_msg.specs.Profile.{Row, row, within, within_two, reference_form, day_form, quantity_form, amount_form, function_row, security_row, safe_row, Said, text_said, quantity_said, amount_said, unsaid}
 use Rattle.desk_msg.specs.Reads.{Gives, Fails, FailsFirst, GiveAll}
@@ -21,6 +23,15 @@ pub record Confirmed : Type 0 where
   pub quantity : ℕ
   pub account : List ℕ
   pub cash : Option (Ccy × ℕ)
+
+abbrev pub paid_by : Option Cash → Option (Ccy × ℕ)
+paid_by None = None
+paid_by (Some cash) = Some (cash.ccy, cash.amount)
+
+-- what is confirmed of an instruction that was settled on that day
+abbrev pub confirmed_of : Instruction → List ℕ → Confirmed
+confirmed_of i day =
+    record { related = i.reference; day = day; isin = i.isin; kind = i.kind; quantity = i.quantity; account = i.account; cash = paid_by i.cash }
 
 abbrev pub rela_row : Row
 rela_row = row Rela (within_two (codes "GENL") (codes "LINK")) (codes "20C" ∷ []) (codes ":RELA/") reference_form

@@ -1,9 +1,13 @@
 //! Laws of the definitions, each the contract of a function with an empty body.
 ghost use Rattle.std.specs.Prelude.{◌≡◌, ℕ, List, Result, Ok, Err};
-ghost use Rattle.desk_text.specs.Fields.{Found};
+ghost use Rattle.desk_codes.specs.Day.{IsDay};
+ghost use Rattle.desk_text.specs.Fields.{Found, IsBlock};
 ghost use Rattle.desk_msg.specs.declared.mt.Mt.{Mt};
 ghost use Rattle.desk_msg.specs.declared.fault.MsgFault.{MsgFault};
+ghost use Rattle.desk_msg.specs.declared.instruction.Instruction.{Instruction};
 ghost use Rattle.desk_msg.specs.declared.instruction.Message.{Message};
+ghost use Rattle.desk_msg.specs.ConfirmationText.{confirmation, confirming_type};
+ghost use Rattle.desk_msg.specs.Confirms.{Confirmed, Confirms, confirmed_of};
 ghost use Rattle.desk_msg.specs.Reads.{Reads};
 ghost use Rattle.desk_msg.specs.Refused.{ReadsText};
 ghost use Rattle.desk_msg.specs.declared.refusal.ReadFault.{ReadFault};
@@ -19,4 +23,17 @@ pub fn one_answer()
     ensures message { (mt : Mt) (text : List ℕ) (a b : Message) → ReadsText mt text (Ok a) → ReadsText mt text (Ok b) → a ≡ b }
     ensures refusal { (mt : Mt) (text : List ℕ) (a b : Refusal) → ReadsText mt text (Err (ReadFault.Refused a)) → ReadsText mt text (Err (ReadFault.Refused b)) → a ≡ b }
     ensures never_both { (mt : Mt) (text : List ℕ) (a : Message) (b : Refusal) → ReadsText mt text (Ok a) → ReadsText mt text (Err (ReadFault.Refused b)) → ⊥ }
+{}
+
+/// What is sent to confirm the settlement of an instruction is read back as that: its text is a block, and the fields
+/// of the block say the reference, the day, the security, the quantity, the account and the amount, for each instruction
+/// that was read.
+pub fn confirmation_says()
+    ensures { (n : ℕ) (i : Instruction) (day : List ℕ) (fields : List Found) → Reads i.mt fields (Ok (Message.New i)) → IsDay day
+        → (said : List Found) × IsBlock (confirmation n i day) said × Confirms (confirming_type i.mt) said (Ok (confirmed_of i day)) }
+{}
+
+/// Fields confirm one settlement or have one fault, and never both.
+pub fn one_confirmation()
+    ensures { (mt : Mt) (fields : List Found) (a b : Result Confirmed MsgFault) → Confirms mt fields a → Confirms mt fields b → a ≡ b }
 {}

@@ -29,7 +29,7 @@ mod value;
 
 pub use fault::{MsgFault, Word};
 pub use instruction::{CancelOrder, Cash, Instruction, Kind, Message, SettlementType};
-pub use laws::{one_answer, one_reading};
+pub use laws::{confirmation_says, one_answer, one_confirmation, one_reading};
 pub use lines::fields_text;
 pub use mt::Mt;
 pub use reading::read_message;

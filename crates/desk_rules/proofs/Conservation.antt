@@ -30,7 +30,7 @@ use Rattle.desk_rules.proofs.BalanceLemmas.{sum_same}
 
 -- Sums.
 
-sum_add : {X : Type 0} (f g : X → ℕ) (xs : List X) → sum_by (λ x. f x + g x) xs ≡ sum_by f xs + sum_by g xs
+pub sum_add : {X : Type 0} (f g : X → ℕ) (xs : List X) → sum_by (λ x. f x + g x) xs ≡ sum_by f xs + sum_by g xs
 sum_add f g [] = refl
 sum_add f g (x ∷ xs) =
     let a = sum_by-cons (λ y. f y + g y) x xs in
@@ -39,11 +39,11 @@ sum_add f g (x ∷ xs) =
     let rest = sum_add f g xs in
     omega arith
 
-sum_zero : {X : Type 0} (f : X → ℕ) (xs : List X) → ((x : X) → In xs x → f x ≡ 0) → sum_by f xs ≡ 0
+pub sum_zero : {X : Type 0} (f : X → ℕ) (xs : List X) → ((x : X) → In xs x → f x ≡ 0) → sum_by f xs ≡ 0
 sum_zero f [] none = refl
 sum_zero f (x ∷ xs) none = let a = sum_by-cons f x xs in let here = none x (inl refl) in let rest = sum_zero f xs (λ y i. none y (inr i)) in omega arith
 
-sum_swap : {X Y : Type 0} (f : X → Y → ℕ) (xs : List X) (ys : List Y) → sum_by (λ x. sum_by (f x) ys) xs ≡ sum_by (λ y. sum_by (λ x. f x y) xs) ys
+pub sum_swap : {X Y : Type 0} (f : X → Y → ℕ) (xs : List X) (ys : List Y) → sum_by (λ x. sum_by (f x) ys) xs ≡ sum_by (λ y. sum_by (λ x. f x y) xs) ys
 sum_swap f [] ys = sym (sum_zero (λ y. sum_by (λ x. f x y) []) ys (λ y i. refl))
 sum_swap {X} {Y} f (x ∷ xs) ys =
     let a = sum_by-cons (λ z. sum_by (f z) ys) x xs in
@@ -92,10 +92,10 @@ apart_push (y ∷ keys) x apart new = (
   apart_push keys x apart.1 (λ z i. new z (inr i)),
 )
 
-if_true : (b : Bool) (n : ℕ) → b ≡ true → quantity_if b n ≡ n
+pub if_true : (b : Bool) (n : ℕ) → b ≡ true → quantity_if b n ≡ n
 if_true b n e = rw e refl
 
-if_false : (b : Bool) (n : ℕ) → b ≡ false → quantity_if b n ≡ 0
+pub if_false : (b : Bool) (n : ℕ) → b ≡ false → quantity_if b n ≡ 0
 if_false b n e = rw e refl
 
 -- what stands at one key is found once in all

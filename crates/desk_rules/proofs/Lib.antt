@@ -15,3 +15,6 @@ pub mod AcceptedOnce
 pub mod BalanceLemmas
 pub mod NonNegative
 pub mod Conservation
+pub mod SaidMoves
+pub mod MovedSums
+pub mod ConfirmedChanges

@@ -97,7 +97,7 @@ due_facts h run p e =
     let inner = and_parts day (nat_lt p.later run) outer.0 in
     record { by = inner.0; numbered = ltb-true p.later run inner.1; stands = outer.1 }
 
-by_some : (f : Entry → Option ℕ) (o : Option Entry) (day : ℕ) → is_by (option_and_then f o) day ≡ true → (e : Entry) × (o ≡ Some e)
+pub by_some : (f : Entry → Option ℕ) (o : Option Entry) (day : ℕ) → is_by (option_and_then f o) day ≡ true → (e : Entry) × (o ≡ Some e)
 by_some f None day e = absurd (cc)
 by_some f (Some x) day e = (x, refl)
 

@@ -3,7 +3,9 @@ ghost use Rattle.std.specs.Prelude.{◌≡◌, ℕ, ◌+◌, List, [], ◌∷◌
 ghost use Rattle.desk_codes.specs.declared.currency.Ccy.{Ccy};
 ghost use Rattle.desk_rules.specs.History.{Instructed, before};
 ghost use Rattle.desk_rules.specs.Balances.{issued, redeemed, credits, debits, paid_in, paid_out, cash_credits, cash_debits};
-ghost use Rattle.desk_rules.specs.Verdict.{Books, IsVerdict, WasAccepted};
+ghost use Rattle.desk_rules.specs.Verdict.{AreBooks, Books, IsVerdict, WasAccepted};
+ghost use Rattle.desk_rules.specs.Sent.{sent_of};
+ghost use Rattle.desk_rules.specs.Moves.{AccountFor, Move, SayMoves, WasRead};
 ghost use Rattle.desk_rules.specs.Laws.{accounts_of, participants_of, AreNonNegative};
 ghost use Rattle.desk_rules.specs.Opposite.{AreOpposite};
 ghost use Rattle.desk_rules.specs.Pairing.{IsPairing, IsSide};
@@ -11,6 +13,7 @@ ghost use Rattle.desk_rules.specs.Settlement.{IsSettlement, settled_before};
 ghost use Rattle.desk_rules.specs.declared.entry.Entry.{Entry};
 ghost use Rattle.desk_rules.specs.declared.pair.Pair.{Pair};
 ghost use Rattle.desk_rules.specs.declared.pair.Settled.{Settled};
+ghost use Rattle.desk_rules.specs.declared.reply.Sent.{Sent};
 ghost use Rattle.desk_rules.specs.declared.verdict.Verdict.{Verdict};
 ghost use Rattle.desk_rules.specs.declared.verdict.Verdict.TheVariants.{Accept, Repeat};
 
@@ -95,4 +98,12 @@ pub fn one_verdict()
 pub fn accepted_once()
     ensures { (limit : ℕ) (books after : Books) (entry : Entry) (rest : List Entry) → IsVerdict limit books entry Accept → after.history ≡ books.history ++ entry ∷ rest
         → IsVerdict limit after entry (Repeat (length books.history + 1)) }
+{}
+
+/// Each change is confirmed. The texts that are sent say moves, as messages are read, and say them in one way; and these
+/// moves account for every balance: on no account, and in no participant's cash, is there a change by settlement that
+/// its confirmations don't say, and they say none that isn't there.
+pub fn confirmed_changes()
+    ensures confirmed { (books : Books) → AreBooks books → WasRead books.history → (moves : List Move) × SayMoves (sent_of books) moves × AccountFor books moves }
+    ensures one { (messages : List Sent) (a b : List Move) → SayMoves messages a → SayMoves messages b → a ≡ b }
 {}

@@ -18,6 +18,7 @@ mod verdict;
 
 pub use entry::{Entry, Holding, Instructed, Payment, Sender};
 pub use laws::{
+    confirmed_changes, 
     accepted_fronts, accepted_once, adds_up, fronts, never_negative, one_pair_each, one_pairing,
     one_settlement, one_verdict, opposites, settles_once,
 };

@@ -1,0 +1,85 @@
+-- The sent messages of a history say the moves of its settlements.
+use Rattle.std.proofs.Common.{◌≡◌, ℕ, ◌+◌, Bool, true, false, ◌&&◌, List, [], ◌∷◌, ◌++◌, refl, sym, ◌∙◌, ap, subst, Option, Some, None, Ok}
+use Rattle.std.specs.Prelude.{nat_le, MatchBool}
+use Rattle.desk_codes.specs.Day.{IsDay}
+use Rattle.desk_text.specs.Fields.{Found}
+use Rattle.desk_msg.specs.declared.mt.Mt.{Mt}
+use Rattle.desk_msg.specs.declared.mt.Mt.TheVariants.{Mt540, Mt541, Mt542, Mt543, Mt544, Mt545, Mt546, Mt547}
+use Rattle.desk_msg.specs.declared.instruction.Message.TheVariants.{New}
+use Rattle.desk_msg.specs.MessageType.{number_of_type}
+use Rattle.desk_msg.specs.ConfirmationText.{confirming_type}
+use Rattle.desk_msg.specs.Confirms.{confirmed_of}
+use Rattle.desk_msg.specs.Reads.{Reads}
+use Rattle.desk_msg.proofs.ConfirmationLaws.{confirms}
+use Rattle.desk_rules.specs.declared.entry.Entry.{Entry}
+use Rattle.desk_rules.specs.declared.reply.Sent.{Sent}
+use Rattle.desk_rules.specs.History.{Instructed, entry_at, instruction_at}
+use Rattle.desk_rules.specs.Sent.{Notice, date_in, told, told_to, sent_from}
+use Rattle.desk_rules.specs.Moves.{Move, SaysMove, SayMoves, is_confirmation, WasRead}
+
+-- a message that is no confirmation says no move
+skipped : (message : Sent) (messages : List Sent) (moves : List Move) → is_confirmation message ≡ false → SayMoves messages moves → SayMoves (message ∷ messages) moves
+skipped message messages [] e says = (e, says)
+skipped message messages (move ∷ moves) e says =
+    let P : Bool → Type 0 = λ b. MatchBool b (SaysMove message move × SayMoves messages moves) (SayMoves messages (move ∷ moves)) in
+    subst P (sym e) says
+
+one_said : (message : Sent) (messages : List Sent) (move : Move) (moves : List Move) → is_confirmation message ≡ true → SaysMove message move → SayMoves messages moves → SayMoves (message ∷ messages) (move ∷ moves)
+one_said message messages move moves e says rest =
+    let P : Bool → Type 0 = λ b. MatchBool b (SaysMove message move × SayMoves messages moves) (SayMoves messages (move ∷ moves)) in
+    subst P (sym e) (says, rest)
+
+confirming : (mt : Mt) → nat_le 544 (number_of_type (confirming_type mt)) && nat_le (number_of_type (confirming_type mt)) 547 ≡ true
+confirming Mt540 = refl
+confirming Mt541 = refl
+confirming Mt542 = refl
+confirming Mt543 = refl
+confirming Mt544 = refl
+confirming Mt545 = refl
+confirming Mt546 = refl
+confirming Mt547 = refl
+
+abbrev pub move_of : Instructed → List ℕ → Move
+move_of i day = record { mt = confirming_type i.instruction.mt; bic = i.sender; confirmed = confirmed_of i.instruction day }
+
+module _ (h : List Entry) where
+  -- what a notice of an instruction says: a run that settled it, a move
+  abbrev pub moves_to : Option ℕ → Option Instructed → List Move
+  moves_to None o = []
+  moves_to (Some run) None = []
+  moves_to (Some run) (Some i) = move_of i (date_in (entry_at h run)) ∷ []
+
+  abbrev pub moves_of : List Notice → List Move
+  moves_of [] = []
+  moves_of (n ∷ ns) = moves_to n.run (instruction_at h n.about) ++ moves_of ns
+
+  -- the run of a notice is of a day
+  abbrev pub HasDay : Option ℕ → Type 0
+  HasDay None = Unit {0}
+  HasDay (Some run) = IsDay (date_in (entry_at h run))
+
+  abbrev pub HaveDays : List Notice → Type 0
+  HaveDays [] = Unit {0}
+  HaveDays (n ∷ ns) = HasDay n.run × HaveDays ns
+
+  told_says : (k about : ℕ) (run : Option ℕ) (i : Instructed) (fields : List Found) → Reads i.instruction.mt fields (Ok (New i.instruction)) → HasDay run → (messages : List Sent) (moves : List Move) → SayMoves messages moves
+      → SayMoves (told h k about run i ∷ messages) (moves_to run (Some i) ++ moves)
+  told_says k about None i fields reads day messages moves says = skipped (told h k about None i) messages moves refl says
+  told_says k about (Some run) i fields reads day messages moves says =
+      let c = confirms k i.instruction (date_in (entry_at h run)) fields reads day in
+      one_said (told h k about (Some run) i) messages (move_of i (date_in (entry_at h run))) moves (confirming i.instruction.mt)
+      (record { fields = c.0; type = refl; addressee = refl; block = c.1; says = c.2 }) says
+
+  notice_says : (k : ℕ) (n : Notice) (o : Option Instructed) → ((i : Instructed) → o ≡ Some i → (fields : List Found) × Reads i.instruction.mt fields (Ok (New i.instruction))) → HasDay n.run → (messages : List Sent) (moves : List Move) → SayMoves messages moves
+      → SayMoves (told_to h k n o ++ messages) (moves_to n.run o ++ moves)
+  notice_says k n None read day messages moves says = nothing n.run
+    where
+      nothing : (run : Option ℕ) → SayMoves messages (moves_to run None ++ moves)
+      nothing None = says
+      nothing (Some run) = says
+  notice_says k n (Some i) read day messages moves says = let r = read i refl in told_says k n.about n.run i r.0 r.1 day messages moves says
+
+  pub say_all : WasRead h → (k : ℕ) (ns : List Notice) → HaveDays ns → SayMoves (sent_from h k ns) (moves_of ns)
+  say_all read k [] days = tt
+  say_all read k (n ∷ ns) days =
+      notice_says k n (instruction_at h n.about) (read.instructions n.about) days.0 (sent_from h (k + 1) ns) (moves_of ns) (say_all read (k + 1) ns days.1)
