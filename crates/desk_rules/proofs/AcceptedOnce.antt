@@ -22,7 +22,7 @@ own_sender : (sender : Sender) → same_sender sender sender ≡ true
 own_sender Operator = refl
 own_sender (FromParticipant bic) = own_bytes bic
 
-own_key : (entry : Entry) → has_key (sender_of entry) (reference_of entry) entry ≡ true
+pub own_key : (entry : Entry) → has_key (sender_of entry) (reference_of entry) entry ≡ true
 own_key entry = rw (own_sender (sender_of entry)) (own_bytes (reference_of entry))
 
 number_here : (n : ℕ) (sender : Sender) (reference : List ℕ) (entry : Entry) (rest : List Entry) → has_key sender reference entry ≡ true → number_from n sender reference (entry ∷ rest) ≡ Some n
@@ -32,7 +32,7 @@ number_later : (n : ℕ) (sender : Sender) (reference : List ℕ) (entry : Entry
     → number_from n sender reference (entry ∷ rest) ≡ number_from (n + 1) sender reference rest
 number_later n sender reference entry rest is = rw is refl
 
-number_behind : (n : ℕ) (sender : Sender) (reference : List ℕ) (front : List Entry) (entry : Entry) (rest : List Entry) → number_from n sender reference front ≡ None
+pub number_behind : (n : ℕ) (sender : Sender) (reference : List ℕ) (front : List Entry) (entry : Entry) (rest : List Entry) → number_from n sender reference front ≡ None
     → has_key sender reference entry ≡ true → number_from n sender reference (front ++ entry ∷ rest) ≡ Some (n + length front)
 number_behind n sender reference [] entry rest none is =
     let e : n ≡ n + 0 = omega arith in
@@ -46,7 +46,7 @@ number_behind n sender reference (first ∷ front) entry rest none is = elim (ca
       number_later n sender reference first (front ++ entry ∷ rest) other ∙ later ∙ ap Some e
 ]
 
-get_behind : (front : List Entry) (entry : Entry) (rest : List Entry) → slice_get (front ++ entry ∷ rest) (length front) ≡ Some entry
+pub get_behind : (front : List Entry) (entry : Entry) (rest : List Entry) → slice_get (front ++ entry ∷ rest) (length front) ≡ Some entry
 get_behind [] entry rest = refl
 get_behind (first ∷ front) entry rest = get_behind front entry rest
 
@@ -55,19 +55,19 @@ get_behind (first ∷ front) entry rest = get_behind front entry rest
 known_still : (bic : List ℕ) (front rest : List Entry) → list_any (adds_participant bic) front ≡ true → list_any (adds_participant bic) (front ++ rest) ≡ true
 known_still bic front rest known = list_any-append (adds_participant bic) front rest ∙ rw known refl
 
-never : (b : Bool) → not b ≡ false → b ≡ true
+pub never : (b : Bool) → not b ≡ false → b ≡ true
 never true e = refl
 never false e = cc
 
-no_stranger : (sender : Sender) (front rest : List Entry) → is_from_stranger front sender ≡ false → is_from_stranger (front ++ rest) sender ≡ false
+pub no_stranger : (sender : Sender) (front rest : List Entry) → is_from_stranger front sender ≡ false → is_from_stranger (front ++ rest) sender ≡ false
 no_stranger Operator front rest e = refl
 no_stranger (FromParticipant bic) front rest e = ap not (known_still bic front rest (never (list_any (adds_participant bic) front) e))
 
 -- an entry that is accepted comes from no stranger, with a key that is new
 
-record IsNew (history : List Entry) (entry : Entry) : Type 0 where
-  known : is_from_stranger history (sender_of entry) ≡ false
-  key : number_of_key history (sender_of entry) (reference_of entry) ≡ None
+pub record IsNew (history : List Entry) (entry : Entry) : Type 0 where
+  pub known : is_from_stranger history (sender_of entry) ≡ false
+  pub key : number_of_key history (sender_of entry) (reference_of entry) ≡ None
 
 new_key : (limit : ℕ) (books : Books) (entry : Entry) (number : Option ℕ) → IsVerdictAt limit books entry number Accept → number ≡ None
 new_key limit books entry None is = refl
@@ -78,7 +78,7 @@ new_by : (limit : ℕ) (books : Books) (entry : Entry) (stranger : Bool) (number
 new_by limit books entry true number is = cc
 new_by limit books entry false number is = (refl, new_key limit books entry number is)
 
-is_new : (limit : ℕ) (books : Books) (entry : Entry) → IsVerdict limit books entry Accept → IsNew books.history entry
+pub is_new : (limit : ℕ) (books : Books) (entry : Entry) → IsVerdict limit books entry Accept → IsNew books.history entry
 is_new limit books entry is =
     let both = new_by limit books entry (is_from_stranger books.history (sender_of entry)) (number_of_key books.history (sender_of entry) (reference_of entry)) is in
     record { known = both.0; key = both.1 }

@@ -18,3 +18,8 @@ pub mod Conservation
 pub mod SaidMoves
 pub mod MovedSums
 pub mod ConfirmedChanges
+pub mod FreshParts
+pub mod SentFronts
+pub mod AskedAgain
+pub mod OneContent
+pub mod StandsAccepted

@@ -83,3 +83,12 @@ pub record AreTables (content : Content) : Type 0 where
   pub positions : (account isin : List ℕ) → content.position account isin + debits books.history books.settled account isin ≡ credits books.history books.settled account isin
   pub cash_held : (bic : List ℕ) (ccy : Ccy) → content.cash bic ccy + cash_debits books.history books.settled bic ccy ≡ cash_credits books.history books.settled bic ccy
   pub messages : content.sent ≡ sent_of books
+
+-- two contents are the same in every part
+pub record IsSameContent (a b : Content) : Type 0 where
+  pub same_register : a.register ≡ b.register
+  pub same_mate : (n : ℕ) → a.mate n ≡ b.mate n
+  pub same_state : (n : ℕ) → a.state n ≡ b.state n
+  pub same_position : (account isin : List ℕ) → a.position account isin ≡ b.position account isin
+  pub same_cash : (bic : List ℕ) (ccy : Ccy) → a.cash bic ccy ≡ b.cash bic ccy
+  pub same_sent : a.sent ≡ b.sent

@@ -1,16 +1,21 @@
 //! Laws of the definitions, each the contract of a function with an empty body.
-ghost use Rattle.std.specs.Prelude.{◌≡◌, ℕ, ◌+◌, List, [], ◌∷◌, ◌++◌, length, Contains, sum_by};
+ghost use Rattle.std.specs.Prelude.{◌≡◌, ℕ, ◌+◌, List, [], ◌∷◌, ◌++◌, length, Contains, sum_by, Some};
 ghost use Rattle.desk_codes.specs.declared.currency.Ccy.{Ccy};
 ghost use Rattle.desk_rules.specs.History.{Instructed, before};
 ghost use Rattle.desk_rules.specs.Balances.{issued, redeemed, credits, debits, paid_in, paid_out, cash_credits, cash_debits};
 ghost use Rattle.desk_rules.specs.Verdict.{AreBooks, Books, IsVerdict, WasAccepted};
 ghost use Rattle.desk_rules.specs.Sent.{sent_of};
+ghost use Rattle.desk_rules.specs.Reply.{reply_to};
+ghost use Rattle.desk_rules.specs.Questions.{confirmation_of, sent_reply, status_reply};
+ghost use Rattle.desk_rules.specs.Content.{AreTables, Content, IsSameContent};
 ghost use Rattle.desk_rules.specs.Moves.{AccountFor, Move, SayMoves, WasRead};
 ghost use Rattle.desk_rules.specs.Laws.{accounts_of, participants_of, AreNonNegative};
 ghost use Rattle.desk_rules.specs.Opposite.{AreOpposite};
 ghost use Rattle.desk_rules.specs.Pairing.{IsPairing, IsSide};
 ghost use Rattle.desk_rules.specs.Settlement.{IsSettlement, settled_before};
+ghost use Rattle.desk_msg.specs.declared.instruction.Instruction.{Instruction};
 ghost use Rattle.desk_rules.specs.declared.entry.Entry.{Entry};
+ghost use Rattle.desk_rules.specs.declared.entry.Entry.TheVariants as Entry;
 ghost use Rattle.desk_rules.specs.declared.pair.Pair.{Pair};
 ghost use Rattle.desk_rules.specs.declared.pair.Settled.{Settled};
 ghost use Rattle.desk_rules.specs.declared.reply.Sent.{Sent};
@@ -106,4 +111,27 @@ pub fn accepted_once()
 pub fn confirmed_changes()
     ensures confirmed { (books : Books) → AreBooks books → WasRead books.history → (moves : List Move) × SayMoves (sent_of books) moves × AccountFor books moves }
     ensures one { (messages : List Sent) (a b : List Move) → SayMoves messages a → SayMoves messages b → a ≡ b }
+{}
+
+/// What was sent stays: a longer history sends first what its front sent, in that order. So the k-th message that a
+/// participant was shown is the k-th for good, and the confirmation of an instruction is the one that was sent.
+pub fn sent_for_good()
+    ensures sent { (front books : Books) (rest : List Entry) → AreBooks front → AreBooks books → books.history ≡ front.history ++ rest
+        → (more : List Sent) × (sent_of books ≡ sent_of front ++ more) }
+    ensures asked { (front books : Books) (rest : List Entry) → AreBooks front → AreBooks books → books.history ≡ front.history ++ rest
+        → (bic : List ℕ) (k : ℕ) → (sent_reply front bic k).status ≡ 200 → sent_reply books bic k ≡ sent_reply front bic k }
+    ensures confirmed { (front books : Books) (rest : List Entry) → AreBooks front → AreBooks books → books.history ≡ front.history ++ rest
+        → (n : ℕ) (message : Sent) → confirmation_of front n ≡ Some message → confirmation_of books n ≡ Some message }
+{}
+
+/// Right after an instruction was accepted, how it stands is answered as its acceptance was.
+pub fn stands_as_accepted()
+    ensures { (limit : ℕ) (before books : Books) (sender : List ℕ) (i : Instruction) → AreBooks before → AreBooks books
+        → IsVerdict limit before (Entry.Instruct sender i) Accept → books.history ≡ before.history ++ Entry.Instruct sender i ∷ []
+        → status_reply books sender i.reference ≡ reply_to books (Entry.Instruct sender i) }
+{}
+
+/// A history has one content: the tables of the same entries with their replies are the same in every part.
+pub fn one_content()
+    ensures { (a b : Content) → AreTables a → AreTables b → a.register ≡ b.register → IsSameContent a b }
 {}

@@ -18,7 +18,7 @@ mod verdict;
 
 pub use entry::{Entry, Holding, Instructed, Payment, Sender};
 pub use laws::{
-    confirmed_changes, 
+    confirmed_changes, one_content, sent_for_good, stands_as_accepted,
     accepted_fronts, accepted_once, adds_up, fronts, never_negative, one_pair_each, one_pairing,
     one_settlement, one_verdict, opposites, settles_once,
 };
