@@ -104,18 +104,29 @@ confirms n i day fields reads is_day =
       counterparty = party_given (is_delivery i.mt) fields i reads.1.1.1.1.1.1.1.1.1.0;
     } in
     let block = parts-block (confirmation_parts n i day) (confirmation_right n i day printed (printed_cash i.cash cash)) in
-    let against : is_some i.cash ≡ is_against_payment (confirming_type i.mt) = i.paid ∙ sym (against_same i.mt) in
-    (
+    let against : is_some i.cash ≡ is_against_payment (confirming_type i.mt) = i.paid ∙ sym (against_same i.mt) in (
       said_fields n i day i.cash,
       subst (IsBlock (confirmation n i day)) (fields_are n i day printed (printed_cash i.cash cash)) block,
       (
         paid_same i.cash ∙ against,
-        (function_given n i day i.cash fields reads.1.0,
-        (rela_given n i day i.cash reads.1.1.0.says.2.0,
-        (eset_given n i day i.cash is_day,
-        (security_given n i day i.cash reads.1.1.1.1.0.says.3.0,
-        (settled_given n i day i.cash number,
-        (safe_given n i day i.cash reads.1.1.1.1.1.1.0.says.2.0,
-        paid_all n i day (is_against_payment (confirming_type i.mt)) i.cash _ against refl cash)))))),
+        (
+          function_given n i day i.cash fields reads.1.0,
+          (
+            rela_given n i day i.cash reads.1.1.0.says.2.0,
+            (
+              eset_given n i day i.cash is_day,
+              (
+                security_given n i day i.cash reads.1.1.1.1.0.says.3.0,
+                (
+                  settled_given n i day i.cash number,
+                  (
+                    safe_given n i day i.cash reads.1.1.1.1.1.1.0.says.2.0,
+                    paid_all n i day (is_against_payment (confirming_type i.mt)) i.cash _ against refl cash,
+                  ),
+                ),
+              ),
+            ),
+          ),
+        ),
       ),
     )

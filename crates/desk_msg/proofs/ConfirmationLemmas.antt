@@ -50,10 +50,79 @@ paid_right (Some cash) p = (refl, lit< tt, (refl, value-right (codes ":ESTT//" +
 
 pub confirmation_right : (n : ℕ) (i : Instruction) (day : List ℕ) → ArePrintable i day → IsPrintedCash i.cash → AreParts [] (confirmation_parts n i day)
 unfolding confirmation_parts
-confirmation_right n i day p paid =
-    (refl, lit< tt, (refl, own_right (Sent n), (refl, refl, (refl, lit< tt, (refl, value-right (codes ":RELA//" ++ i.reference) p.reference, (refl, (refl,
-    (refl, lit< tt, (refl, value-right (codes ":ESET//" ++ day) p.day_text, (refl, value-right (codes "ISIN " ++ i.isin) p.isin, (refl,
-    (refl, lit< tt, (refl, value-right (codes ":ESTT//" ++ code_of_kind i.kind ++ 47 ∷ plain i.quantity 0) (quantity_first i.kind (plain i.quantity 0) p.quantity), (refl, value-right (codes ":SAFE//" ++ i.account) p.account, (refl,
-    (refl, lit< tt, (refl, value-right (codes ":SETR//" ++ i.settlement) p.settlement,
-    (refl, lit< tt, (refl, value-right (58 ∷ ((if is_delivery i.mt then codes "REAG" else codes "DEAG") ++ 47 ∷ 47 ∷ i.counterparty)) (party_first (is_delivery i.mt) i.counterparty p.counterparty), (refl,
-    (refl, lit< tt, (refl, refl, (refl, paid_right i.cash paid)))))))))))))))))))))))
+confirmation_right n i day p paid = (
+  refl,
+  lit< tt,
+  (
+    refl,
+    own_right (Sent n),
+    (
+      refl,
+      refl,
+      (
+        refl,
+        lit< tt,
+        (
+          refl,
+          value-right (codes ":RELA//" ++ i.reference) p.reference,
+          (
+            refl,
+            (
+              refl,
+              (
+                refl,
+                lit< tt,
+                (
+                  refl,
+                  value-right (codes ":ESET//" ++ day) p.day_text,
+                  (
+                    refl,
+                    value-right (codes "ISIN " ++ i.isin) p.isin,
+                    (
+                      refl,
+                      (
+                        refl,
+                        lit< tt,
+                        (
+                          refl,
+                          value-right (codes ":ESTT//" ++ code_of_kind i.kind ++ 47 ∷ plain i.quantity 0) (quantity_first i.kind (plain i.quantity 0) p.quantity),
+                          (
+                            refl,
+                            value-right (codes ":SAFE//" ++ i.account) p.account,
+                            (
+                              refl,
+                              (
+                                refl,
+                                lit< tt,
+                                (
+                                  refl,
+                                  value-right (codes ":SETR//" ++ i.settlement) p.settlement,
+                                  (
+                                    refl,
+                                    lit< tt,
+                                    (
+                                      refl,
+                                      value-right (58 ∷ ((if is_delivery i.mt then codes "REAG" else codes "DEAG") ++ 47 ∷ 47 ∷ i.counterparty)) (party_first (is_delivery i.mt) i.counterparty p.counterparty),
+                                      (
+                                        refl,
+                                        (refl, lit< tt, (refl, refl, (refl, paid_right i.cash paid))),
+                                      ),
+                                    ),
+                                  ),
+                                ),
+                              ),
+                            ),
+                          ),
+                        ),
+                      ),
+                    ),
+                  ),
+                ),
+              ),
+            ),
+          ),
+        ),
+      ),
+    ),
+  ),
+)

@@ -1,11 +1,10 @@
 -- The moves that are said account for all balances, and messages say one list of moves.
-use Rattle.std.proofs.Common.{◌≡◌, ◌≢◌, ℕ, ◌+◌, ◌<◌, ◌≤◌, Bool, true, false, not, if◌then◌else◌, List, [], ◌∷◌, ◌++◌, length, bytes_eq, sum_by, refl, sym, ◌∙◌, ap, subst, arith, Contains, Option, Some, None, Result, Ok, inl, inr}
+use Rattle.std.proofs.Common.{◌≡◌, ℕ, ◌+◌, ◌<◌, ◌≤◌, Bool, true, false, not, if◌then◌else◌, List, [], ◌∷◌, ◌++◌, length, bytes_eq, sum_by, refl, sym, ◌∙◌, ap, subst, arith, Option, Some, None, Result, Ok, inl, inr}
 use Rattle.std.specs.Prelude.{◌==◌, MatchBool, option_and_then}
 use Rattle.std.specs.List.{range_with_len, flat_map}
-use Rattle.std.proofs.lemmas.Bool.{cases_Bool, both_ways, eqb-true}
+use Rattle.std.proofs.lemmas.Bool.{cases_Bool, eqb-true}
 use Rattle.desk_codes.specs.declared.currency.Ccy.{Ccy}
 use Rattle.desk_codes.specs.Day.{IsDay}
-use Rattle.desk_text.specs.Fields.{Found, IsBlock}
 use Rattle.desk_text.proofs.LawLemmas.{one-fields}
 use Rattle.desk_msg.specs.declared.mt.Mt.{Mt}
 use Rattle.desk_msg.specs.declared.mt.Mt.TheVariants.{Mt540, Mt541, Mt542, Mt543, Mt544, Mt545, Mt546, Mt547}
@@ -17,20 +16,19 @@ use Rattle.desk_msg.specs.Confirms.{Confirmed, Confirms, paid_by}
 use Rattle.desk_msg.proofs.OneConfirmation.{one_confirmation}
 use Rattle.desk_rules.specs.declared.entry.Entry.{Entry}
 use Rattle.desk_rules.specs.declared.entry.Entry.TheVariants.{Participant, Account, Security, Issue, Redeem, PayIn, PayOut, Instruct, Cancel, Run}
-use Rattle.desk_rules.specs.declared.pair.Pair.{Pair}
 use Rattle.desk_rules.specs.declared.pair.Settled.{Settled}
 use Rattle.desk_rules.specs.declared.reply.Sent.{Sent}
-use Rattle.desk_rules.specs.History.{Instructed, entry_at, instruction_at, run_day}
+use Rattle.desk_rules.specs.History.{Instructed, entry_at, run_day}
 use Rattle.desk_rules.specs.Balances.{delivery_of, receipt_of, quantity_if, quantity_on, cash_in, amount_of}
 use Rattle.desk_rules.specs.Settlement.{is_by, day_of}
 use Rattle.desk_rules.specs.Sent.{Notice, told_of_pair, told_of_settled, told_by, notices_of, date_in, sent_of}
 use Rattle.desk_rules.specs.Verdict.{Books, AreBooks}
-use Rattle.desk_rules.specs.Moves.{Move, SaysMove, SayMoves, is_confirmation, quantity_said, amount_in, amount_said, brought, taken, cash_brought, cash_taken, AccountFor, WasRead}
+use Rattle.desk_rules.specs.Moves.{Move, SaysMove, SayMoves, is_confirmation, quantity_said, amount_in, amount_said, AccountFor, WasRead}
 use Rattle.desk_rules.proofs.Decided.{In, Contains-from_In}
 use Rattle.desk_rules.proofs.BalanceLemmas.{sum_same}
 use Rattle.desk_rules.proofs.HistoryLemmas.{entry_at-known}
-use Rattle.desk_rules.proofs.SettlementLemmas.{due_facts, by_some, settles_ranged}
-use Rattle.desk_rules.proofs.SaidMoves.{move_of, moves_of, HasDay, HaveDays, say_all}
+use Rattle.desk_rules.proofs.SettlementLemmas.{due_facts, by_some}
+use Rattle.desk_rules.proofs.SaidMoves.{move_of, moves_of, HaveDays, say_all}
 use Rattle.desk_rules.proofs.MovedSums.{HasLegs, legs_of, of_leg, legs_value, all_said}
 
 -- The days of runs.

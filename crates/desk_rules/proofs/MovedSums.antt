@@ -1,29 +1,23 @@
 -- The moves that the sent messages of a history say add up to what its settlements moved.
-use Rattle.std.proofs.Common.{◌≡◌, ◌≢◌, ℕ, zero, suc, ◌+◌, ◌<◌, ◌≤◌, ◌⊎◌, inl, inr, Bool, true, false, not, cond, if◌then◌else◌, List, [], ◌∷◌, ◌++◌, length, bytes_eq, sum_by, refl, sym, ◌∙◌, ap, subst, arith, Contains, Option, Some, None}
+use Rattle.std.proofs.Common.{◌≡◌, ◌≢◌, ℕ, zero, suc, ◌+◌, ◌<◌, ◌≤◌, inl, inr, Bool, true, false, cond, if◌then◌else◌, List, [], ◌∷◌, length, sum_by, refl, sym, ◌∙◌, ap, arith, Option, Some, None}
 use Rattle.std.specs.Prelude.{◌==◌}
 use Rattle.std.specs.List.{range_with_len, flat_map}
-use Rattle.std.proofs.lemmas.Bool.{cases_Bool, cases_eq, eqb-true, eq-eqb, both_ways, false≢true}
+use Rattle.std.proofs.lemmas.Bool.{cases_Bool, cases_eq, eqb-true, eq-eqb}
 use Rattle.std.proofs.lemmas.List.Sums.{sum_by-cons, sum_by-append}
 use Rattle.std.proofs.lemmas.List.Concat.{flat_map-cons}
-use Rattle.desk_codes.specs.declared.currency.Ccy.{Ccy}
-use Rattle.desk_codes.specs.Day.{IsDay}
-use Rattle.desk_msg.specs.declared.mt.Mt.{Mt}
-use Rattle.desk_msg.specs.declared.instruction.Cash.{Cash}
 use Rattle.desk_msg.specs.MessageType.{is_delivery}
 use Rattle.desk_rules.specs.declared.entry.Entry.{Entry}
-use Rattle.desk_rules.specs.declared.entry.Entry.TheVariants.{Participant, Account, Security, Issue, Redeem, PayIn, PayOut, Instruct, Cancel, Run}
 use Rattle.desk_rules.specs.declared.pair.Pair.{Pair}
 use Rattle.desk_rules.specs.declared.pair.Settled.{Settled}
-use Rattle.desk_rules.specs.History.{Instructed, entry_at, instruction_at, run_day}
-use Rattle.desk_rules.specs.Opposite.{AreOpposite, AreOppositeAt}
+use Rattle.desk_rules.specs.History.{Instructed, entry_at, instruction_at}
+use Rattle.desk_rules.specs.Opposite.{AreOppositeAt}
 use Rattle.desk_rules.specs.Balances.{is_delivered_by, deliverer_of, receiver_of, delivery_of, receipt_of, quantity_if}
-use Rattle.desk_rules.specs.Settlement.{is_by}
 use Rattle.desk_rules.specs.Sent.{Notice, told_of_pair, told_of_settled, told_by, notices_of, date_in}
-use Rattle.desk_rules.specs.Verdict.{Books, AreBooks}
-use Rattle.desk_rules.specs.Moves.{Move, WasRead}
+use Rattle.desk_rules.specs.Verdict.{Books}
+use Rattle.desk_rules.specs.Moves.{Move}
 use Rattle.desk_rules.proofs.Decided.{In}
 use Rattle.desk_rules.proofs.BalanceLemmas.{sum_same}
-use Rattle.desk_rules.proofs.Conservation.{sum_add, sum_zero, sum_swap, if_true, if_false}
+use Rattle.desk_rules.proofs.Conservation.{sum_zero, sum_swap, if_true, if_false}
 use Rattle.desk_rules.proofs.SaidMoves.{move_of, moves_to, moves_of}
 
 sum_flat : {X Y : Type 0} (g : Y → ℕ) (f : X → List Y) (xs : List X) → sum_by g (flat_map f xs) ≡ sum_by (λ x. sum_by g (f x)) xs

@@ -1,9 +1,5 @@
 -- The tables of one history are the same in every part.
-use Rattle.std.proofs.Common.{◌≡◌, ℕ, ◌+◌, List, map, refl, sym, ◌∙◌, ap, subst, arith}
-use Rattle.desk_codes.specs.declared.currency.Ccy.{Ccy}
-use Rattle.desk_rules.specs.declared.entry.Entry.{Entry}
-use Rattle.desk_rules.specs.declared.pair.Pair.{Pair}
-use Rattle.desk_rules.specs.declared.pair.Settled.{Settled}
+use Rattle.std.proofs.Common.{◌≡◌, map, sym, ◌∙◌, ap, subst, arith}
 use Rattle.desk_rules.specs.declared.reply.Kept.{Kept}
 use Rattle.desk_rules.specs.Balances.{credits, debits, cash_credits, cash_debits}
 use Rattle.desk_rules.specs.Content.{Content, AreTables, IsSameContent, mate_of, state_of}

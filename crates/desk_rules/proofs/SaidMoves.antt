@@ -1,5 +1,5 @@
 -- The sent messages of a history say the moves of its settlements.
-use Rattle.std.proofs.Common.{◌≡◌, ℕ, ◌+◌, Bool, true, false, ◌&&◌, List, [], ◌∷◌, ◌++◌, refl, sym, ◌∙◌, ap, subst, Option, Some, None, Ok}
+use Rattle.std.proofs.Common.{◌≡◌, ℕ, ◌+◌, Bool, true, false, ◌&&◌, List, [], ◌∷◌, ◌++◌, refl, sym, subst, Option, Some, None, Ok}
 use Rattle.std.specs.Prelude.{nat_le, MatchBool}
 use Rattle.desk_codes.specs.Day.{IsDay}
 use Rattle.desk_text.specs.Fields.{Found}

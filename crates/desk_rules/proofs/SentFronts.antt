@@ -1,5 +1,5 @@
 -- What a longer history sends begins with what its front sent.
-use Rattle.std.proofs.Common.{◌≡◌, ℕ, zero, suc, ◌+◌, ◌<◌, ◌≤◌, Bool, true, false, cond, if◌then◌else◌, List, [], ◌∷◌, ◌++◌, length, length-append, refl, sym, ◌∙◌, ap, subst, arith, append_assoc, append-nil, inl, inr, Option, Some, None}
+use Rattle.std.proofs.Common.{◌≡◌, ℕ, zero, suc, ◌+◌, ◌<◌, ◌≤◌, Bool, true, false, if◌then◌else◌, List, [], ◌∷◌, ◌++◌, length, length-append, refl, sym, ◌∙◌, ap, subst, arith, append_assoc, append-nil, inl, inr, Option, Some, None}
 use Rattle.std.specs.Prelude.{◌==◌}
 use Rattle.std.specs.List.{range_with_len, flat_map}
 use Rattle.std.proofs.lemmas.Bool.{cases_Bool, eqb-true}
@@ -10,8 +10,8 @@ use Rattle.desk_rules.specs.declared.entry.Entry.{Entry}
 use Rattle.desk_rules.specs.declared.pair.Pair.{Pair}
 use Rattle.desk_rules.specs.declared.pair.Settled.{Settled}
 use Rattle.desk_rules.specs.declared.reply.Sent.{Sent}
-use Rattle.desk_rules.specs.History.{Instructed, entry_at, instruction_at}
-use Rattle.desk_rules.specs.Balances.{is_delivered_by, deliverer_of, receiver_of}
+use Rattle.desk_rules.specs.History.{Instructed, instruction_at}
+use Rattle.desk_rules.specs.Balances.{is_delivered_by}
 use Rattle.desk_rules.specs.Sent.{Notice, told_of_pair, told_of_settled, told_by, notices_of, date_in, told, told_to, sent_from, sent_of}
 use Rattle.desk_rules.specs.Pairing.{IsPairing}
 use Rattle.desk_rules.specs.Settlement.{IsSettlement}

@@ -2,31 +2,29 @@
 use Rattle.std.proofs.Common.{◌≡◌, zero, suc, ℕ, ◌+◌, ◌<◌, ◌≤◌, Bool, true, false, ◌||◌, List, [], ◌∷◌, ◌++◌, length, length-append, drop, inl, inr, ◌⊎◌, refl, sym, ◌∙◌, ap, subst, arith, if◌then◌else◌}
 use Rattle.std.proofs.lemmas.Bool.{cases_Bool, eqb-true}
 use Rattle.std.proofs.lemmas.List.{drop_all}
-use Rattle.std.specs.Prelude.{Option, Some, None, ◌==◌, option_and_then}
+use Rattle.std.specs.Prelude.{Some, None, ◌==◌, option_and_then}
 use Rattle.std.specs.List.{list_any}
 use Rattle.desk_msg.specs.declared.instruction.Instruction.{Instruction}
-use Rattle.desk_msg.specs.declared.status.Reason.{Reason}
 use Rattle.desk_msg.specs.declared.status.Reason.TheVariants.{Future}
 use Rattle.desk_rules.specs.declared.entry.Entry.{Entry}
 use Rattle.desk_rules.specs.declared.entry.Entry.TheVariants.{Instruct}
 use Rattle.desk_rules.specs.declared.entry.Sender.TheVariants.{Participant as FromParticipant}
 use Rattle.desk_rules.specs.declared.pair.Pair.{Pair}
 use Rattle.desk_rules.specs.declared.pair.Settled.{Settled}
-use Rattle.desk_rules.specs.declared.reply.State.{State}
 use Rattle.desk_rules.specs.declared.reply.State.TheVariants as states
 use Rattle.desk_rules.specs.declared.verdict.Verdict.TheVariants.{Accept}
 use Rattle.desk_rules.specs.History.{Instructed, entry_at, instructed, instruction_at, number_of_key}
 use Rattle.desk_rules.specs.Cancelled.{is_cancelled, is_cancelled_by}
-use Rattle.desk_rules.specs.Pairing.{IsPairing, has_side}
+use Rattle.desk_rules.specs.Pairing.{has_side}
 use Rattle.desk_rules.specs.Settlement.{is_due}
 use Rattle.desk_rules.specs.Verdict.{Books, AreBooks, IsVerdict, is_participant, is_from_stranger, is_paired, is_settled}
-use Rattle.desk_rules.specs.Reply.{reply_to, first_case}
+use Rattle.desk_rules.specs.Reply.{reply_to}
 use Rattle.desk_rules.specs.Content.{pair_of, reason_below, matched_state, instruction_state, state_of}
 use Rattle.desk_rules.specs.Questions.{status_reply, named_reply, entry_reply, instruction_reply, refused_question}
 use Rattle.desk_rules.proofs.Decided.{In, Contains-from_In}
 use Rattle.desk_rules.proofs.PairingLemmas.{decided_pairing}
 use Rattle.desk_rules.proofs.SettlementLemmas.{due_facts, due_known, decided_settlement}
-use Rattle.desk_rules.proofs.AcceptedOnce.{IsNew, is_new, number_behind, own_key, get_behind, no_stranger, never}
+use Rattle.desk_rules.proofs.AcceptedOnce.{is_new, number_behind, own_key, get_behind, no_stranger, never}
 
 none_any : {X : Type 0} (p : X → Bool) (xs : List X) → ((x : X) → In xs x → p x ≡ false) → list_any p xs ≡ false
 none_any p [] none = refl

@@ -18,9 +18,9 @@ mod verdict;
 
 pub use entry::{Entry, Holding, Instructed, Payment, Sender};
 pub use laws::{
-    confirmed_changes, one_content, sent_for_good, stands_as_accepted,
-    accepted_fronts, accepted_once, adds_up, fronts, never_negative, one_pair_each, one_pairing,
-    one_settlement, one_verdict, opposites, settles_once,
+    accepted_fronts, accepted_once, adds_up, confirmed_changes, fronts, never_negative,
+    one_content, one_pair_each, one_pairing, one_settlement, one_verdict, opposites, sent_for_good,
+    settles_once, stands_as_accepted,
 };
 pub use opposite::are_opposite;
 pub use pair::{Lack, Pair, Place, Settled};

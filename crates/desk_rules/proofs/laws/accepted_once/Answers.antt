@@ -1,4 +1,4 @@
-use Rattle.std.proofs.Common.{ℕ, ◌+◌, suc, ◌≡◌, length, arith, subst, sym}
+use Rattle.std.proofs.Common.{ℕ, ◌+◌, suc, ◌≡◌, length, arith, subst}
 use Rattle.desk_rules.specs.declared.verdict.Verdict.TheVariants.{Repeat}
 use Rattle.desk_rules.specs.Verdict.{IsVerdict}
 use Rattle.desk_rules.proofs.AcceptedOnce as laws
