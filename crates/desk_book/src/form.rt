@@ -6,10 +6,10 @@ ghost use Rattle.desk_book.specs.Asked.{message};
 ghost use Rattle.desk_book.specs.Forms.{IsLineOf, type_digits};
 ghost use Rattle.desk_book.specs.Script.{Means, item_of};
 
-use crate::line::{COMMAND, split_at_space};
+use crate::line::COMMAND;
 use crate::request::Request;
 use crate::script::Item;
-use desk_codes::Bic;
+use desk_codes::{Bic, split_at};
 use desk_msg::Mt;
 
 /// The longest line outside bodies, in bytes.
@@ -52,7 +52,7 @@ fn free_message(said: &[u8]) -> Option<(Bic, Mt)>
         → ¬ IsLineOf (message sender mt []) said.now) }
 {
     let rest = said.strip_prefix(b"in ")?;
-    let (bic, digits) = split_at_space(rest)?;
+    let (bic, digits) = split_at(rest, b' ')?;
     let sender = match Bic::parse(bic) {
         Ok(sender) => sender,
         Err(_) => return None,

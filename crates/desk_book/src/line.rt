@@ -1,5 +1,5 @@
 //! The lines of a script.
-ghost use Rattle.std.specs.Prelude.{◌≡◌, ◌≢◌, ◌<◌, ◌≤◌, ◌==◌, ◌++◌, ◌∷◌, [], length, All, IfSome, IfNone};
+ghost use Rattle.std.specs.Prelude.{◌≡◌, ◌<◌, ◌≤◌, ◌==◌, ◌++◌, ◌∷◌, [], length, IfSome, IfNone};
 ghost use Rattle.std.specs.List.{position_or_len};
 ghost use Rattle.desk_book.specs.Lines.{lines_of, content as content_of, is_skipped as skips, has_body as posts, is_stop as stops, first_word as word_of};
 
@@ -78,19 +78,6 @@ fn first_word(said: &[u8]) -> &[u8]
     ensures { result.now ≡ word_of said.now }
 {
     &said[..index_of(said, b' ')]
-}
-
-/// What stands before the first space, and what stands behind it; None where there is no space.
-pub fn split_at_space(said: &[u8]) -> Option<(&[u8], &[u8])>
-    ensures found { IfSome result (λ parts. (said.now ≡ parts.0.now ++ 32 ∷ parts.1.now) × All (λ c. c ≢ 32) parts.0.now) }
-    ensures none { IfNone result (All (λ c. c ≢ 32) said.now) }
-{
-    for (index, c) in said.iter().enumerate() {
-        if *c == b' ' {
-            return Some((&said[..index], &said[index + 1..]));
-        }
-    }
-    None
 }
 
 /// Whether the line ends a body.

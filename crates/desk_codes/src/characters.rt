@@ -1,5 +1,5 @@
-//! Tests of the characters that codes are made of, and their text.
-ghost use Rattle.std.specs.Prelude.{◌≡◌, ◌↔◌, ◌<◌, All, IsTrue};
+//! Tests of the characters that codes are made of, their text, and its parts.
+ghost use Rattle.std.specs.Prelude.{◌≡◌, ◌≢◌, ◌↔◌, ◌<◌, ◌++◌, ◌∷◌, All, IfNone, IfSome, IsTrue};
 ghost use Rattle.desk_codes.specs.Characters.{IsPrintable, IsDigit, IsCapital, IsCodeChar};
 
 use std::str;
@@ -45,4 +45,17 @@ pub fn ascii_str(bytes: &[u8]) -> &str
     ensures { result.now ≡ bytes.now }
 {
     str::from_utf8(bytes).unwrap()
+}
+
+/// What stands before the first byte that is the separator, and what stands behind it; None where it stands nowhere.
+pub fn split_at(text: &[u8], separator: u8) -> Option<(&[u8], &[u8])>
+    ensures found { IfSome result (λ parts. (text.now ≡ parts.0.now ++ separator ∷ parts.1.now) × All (λ c. c ≢ separator) parts.0.now) }
+    ensures none { IfNone result (All (λ c. c ≢ separator) text.now) }
+{
+    for (index, c) in text.iter().enumerate() {
+        if *c == separator {
+            return Some((&text[..index], &text[index + 1..]));
+        }
+    }
+    None
 }

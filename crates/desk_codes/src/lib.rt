@@ -21,6 +21,7 @@ mod written;
 
 pub use account::AccountId;
 pub use bic::Bic;
+pub use characters::{are_code_chars, are_digits, split_at};
 pub use currency::Ccy;
 pub use day::Day;
 pub use fault::CodeFault;

@@ -1,9 +1,9 @@
 //! Reading decimal numbers with a comma (ISO 15022, format 15d).
-ghost use Rattle.std.specs.Prelude.{◌≡◌, ◌≢◌, ◌↔◌, ◌≤◌, ◌<◌, ◌+◌, ◌^◌, ◌++◌, ◌∷◌, [], ℕ, All, IsTrue, IfSome, IfNone, length, drop};
+ghost use Rattle.std.specs.Prelude.{◌≡◌, ◌↔◌, ◌≤◌, ◌<◌, ◌+◌, ◌^◌, ◌++◌, [], ℕ, All, IsTrue, length, drop};
 ghost use Rattle.desk_codes.specs.Characters.{IsDigit};
 ghost use Rattle.desk_codes.specs.Number.{ReadsNumber, padded_part, number_of};
 
-use crate::characters::are_digits;
+use crate::characters::{are_digits, split_at};
 use thiserror::Error;
 
 /// The longest number, in characters, the comma counted.
@@ -32,7 +32,7 @@ pub fn read_number(text: &[u8], decimals: usize) -> Result<u64, NumberFault>
     requires { decimals ≤ 3 }
     ensures { ReadsNumber text.now decimals result }
 {
-    let Some((whole, part)) = split_at_comma(text) else {
+    let Some((whole, part)) = split_at(text, b',') else {
         return Err(NumberFault::Shape);
     };
     if whole.is_empty() || !are_digits(whole) || !are_digits(part) {
@@ -49,19 +49,6 @@ pub fn read_number(text: &[u8], decimals: usize) -> Result<u64, NumberFault>
         return Err(NumberFault::Zero);
     }
     Ok(value)
-}
-
-/// What stands before the first comma, and after it.
-fn split_at_comma(text: &[u8]) -> Option<(&[u8], &[u8])>
-    ensures found { IfSome result (λ parts. (text.now ≡ parts.0.now ++ 44 ∷ parts.1.now) × All (λ c. c ≢ 44) parts.0.now) }
-    ensures none { IfNone result (All (λ c. c ≢ 44) text.now) }
-{
-    for (index, c) in text.iter().enumerate() {
-        if *c == b',' {
-            return Some((&text[..index], &text[index + 1..]));
-        }
-    }
-    None
 }
 
 fn are_zeros(text: &[u8]) -> bool

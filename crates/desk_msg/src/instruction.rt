@@ -5,9 +5,8 @@ ghost use Rattle.desk_codes.specs.Number.{plain};
 ghost use Rattle.desk_codes.specs.Currency.{decimals_of};
 ghost use Rattle.desk_msg.specs.MessageType.{is_instruction, is_against_payment};
 
-use crate::characters::are_code_chars;
 use crate::mt::Mt;
-use desk_codes::{AccountId, Bic, Ccy, Day, Isin, Reference};
+use desk_codes::{AccountId, Bic, Ccy, Day, Isin, Reference, are_code_chars};
 use std::marker::Model;
 
 /// Whether a security is counted in units or by face amount (ISO 15022, field 36B, quantity type code).

@@ -11,7 +11,6 @@
 //! fields read as which message); then specs/StatusText.antt.
 #![tactic(auto)]
 
-mod characters;
 mod digits;
 mod fault;
 mod find;

@@ -6,9 +6,10 @@ ghost use Rattle.desk_text.specs.Seen.{found_of};
 ghost use Rattle.desk_msg.specs.Profile.{Bears, Behind, IsCode, IsFunctionText, IsReferenceText, IsDayText, IsTimed, IsQuantityText, IsAccountText, IsSettlementText, IsPartyText, IsSecurityText, IsAmountText, SaysText, security_form, day_form, code_of_kind};
 ghost use Rattle.desk_msg.specs.Finding.{IsFound, text_in, code_itself, kinded, quantity_itself, amount_of_cash};
 
-use crate::characters::{are_code_chars, are_digits};
 use crate::instruction::{Cash, Kind, SettlementType};
-use desk_codes::{AccountId, Bic, Ccy, Day, Isin, Reference, read_number};
+use desk_codes::{
+    AccountId, Bic, Ccy, Day, Isin, Reference, are_code_chars, are_digits, read_number,
+};
 use desk_text::Field;
 
 /// What a text has behind its beginning.
