@@ -1,5 +1,5 @@
 -- A script on a new desk in memory.
-use Rattle.std.proofs.Common.{◌≡◌, ◌<◌, ◌≤◌, ℕ, Bool, true, false, List, [], ◌∷◌, length, All, Option, Some, None, IfSome, cond, count_by, refl, sym, subst, arith}
+use Rattle.std.proofs.Common.{◌≡◌, ◌<◌, ◌≤◌, ℕ, Bool, true, false, List, [], ◌∷◌, ◌++◌, length, All, Option, Some, None, IfSome, cond, count_by, refl, sym, subst, arith}
 use Rattle.std.proofs.lemmas.List.Elements.{All-cons, All-head, All-nil, All-tail}
 use Rattle.std.proofs.lemmas.List.Sums.{sum_by-cons}
 use Rattle.std.specs.Prelude.{Result, Ok, Err, IfOk}
@@ -17,7 +17,12 @@ use Rattle.desk_book.specs.Answered.{Run, says_closed, says_storage}
 use Rattle.desk_book.specs.Held.{Holds}
 use Rattle.desk_book.specs.Played.{PlaysScript, asked_in}
 use Rattle.desk_book.specs.Script.{Script}
-use Rattle.desk.specs.PlayAnswer.{IsInMemory, IsPlayAnswer, told_answers}
+use Rattle.desk.specs.PlayAnswer.{IsInMemory, IsPlayAnswer, told_answers, told_memory, told_input}
+use Rattle.desk.specs.Status.{failure_line}
+use Rattle.desk.specs.declared.status.Failure.{Failure}
+use Rattle.desk.specs.declared.status.Failure.TheVariants as failure
+use Rattle.desk.specs.declared.status.Status.{Status}
+use Rattle.desk.specs.declared.status.Status.TheVariants as exit
 
 -- what contracts see of lists
 abbrev pub view_of_lists : ListRegister → View
@@ -52,7 +57,7 @@ only_memory (answer ∷ answers) not_closed sound =
 
 pub told : (r : Option (List ℕ)) (before after : Option (List ℕ)) (was is : Bool) (v0 v1 : View) → v0.room ≡ 999_999_999 → was ≡ false → is ≡ false → v1.failures ≡ v0.failures → v1.is_honest → Holds was v0 no_books
     → ((books : Books) → v1.is_honest → Holds was v0 books → (script : List ℕ) × IfSome r (λ input. input ≡ script) × (length script ≤ 16_777_216) × PlaysScript was books script before after is v0 v1)
-    → (input : List ℕ) × IfSome r (λ known. known ≡ input) × IsPlayAnswer input 0 before after
+    → (input : List ℕ) × IfSome r (λ known. known ≡ input) × IsPlayAnswer input exit.Done before after
 told r before after was is v0 v1 most not_closed stays sound honest holds played =
     let p = played no_books honest holds in
     let s = p.3 in
@@ -73,12 +78,16 @@ pub given : (r : Option (List ℕ)) → (input : List ℕ) × IfSome r (λ known
 given None = ([], tt)
 given (Some input) = (input, refl)
 
--- a fault that is told alone
-pub told_fault : {E : Type 0} (r : Result ℕ E) (known : Option (List ℕ)) (before after : Option (List ℕ)) (line : List ℕ)
-    → ((input : List ℕ) (status : ℕ) → status ≡ 3 → Appends before after line → IsPlayAnswer input status before after) → IfOk r (λ status. (status ≡ 3) × Appends before after line)
+-- a failure that is told alone
+told_so : (told : Failure) (input : List ℕ) (status : Status) (before after : Option (List ℕ)) → status ≡ exit.Fault → Appends before after (failure_line told ++ 10 ∷ []) → IsPlayAnswer input status before after
+told_so failure.Memory input status before after is wrote = told_memory is wrote
+told_so failure.Input input status before after is wrote = told_input is wrote
+
+pub told_alone : {E : Type 0} (r : Result Status E) (known : Option (List ℕ)) (before after : Option (List ℕ)) (told : Failure)
+    → IfOk r (λ status. (status ≡ exit.Fault) × Appends before after (failure_line told ++ 10 ∷ []))
     → IfOk r (λ status. (input : List ℕ) × IfSome known (λ k. k ≡ input) × IsPlayAnswer input status before after)
-told_fault (Ok status) known before after line tell wrote = let i = given known in (i.0, i.1, tell i.0 status wrote.0 wrote.1)
-told_fault (Err e) known before after line tell wrote = wrote
+told_alone (Ok status) known before after told wrote = let i = given known in (i.0, i.1, told_so told i.0 status before after wrote.0 wrote.1)
+told_alone (Err e) known before after told wrote = wrote
 
 -- a new register keeps the tables of no history, and so does what is equal to it
 pub new_keeps : (made held : ListRegister) → held ≡ made → made.limit ≡ 999_999_999 → Keeps 999_999_999 no_books (content_in (listed made.lists)) → Keeps held.limit no_books (content_in (listed held.lists))

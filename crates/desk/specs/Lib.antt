@@ -1,3 +1,5 @@
+pub mod Status
 pub mod IsinAnswer
 pub mod ReadAnswer
 pub mod PlayAnswer
+pub mod CallAnswer

@@ -1,24 +1,28 @@
 -- What `desk play` answers.
-use Rattle.std.specs.Prelude.{◌≡◌, ◌≤◌, ℕ, false, List, [], ◌∷◌, ◌++◌, length, All, codes, Option, Result, Ok, Err}
+use Rattle.std.specs.Prelude.{◌≡◌, ◌≤◌, ℕ, false, List, [], ◌∷◌, ◌++◌, length, All, Option, Result, Ok, Err}
 use Rattle.std.specs.Io.KnownBytes.{Appends}
 use Rattle.desk_rules.specs.declared.reply.Reply.{Reply}
 use Rattle.desk_rules.specs.Verdict.{Books}
 use Rattle.desk_register.specs.Applied.{no_books}
 use Rattle.desk_book.specs.declared.fault.Fault.{Fault}
-use Rattle.desk_book.specs.declared.fault.Fault.TheVariants.{Memory}
+use Rattle.desk_book.specs.declared.fault.Fault.TheVariants as desk_fault
 use Rattle.desk_book.specs.Answered.{Run}
 use Rattle.desk_book.specs.Played.{answers_text, asked_in}
 use Rattle.desk_book.specs.Script.{Item, Script}
+use Rattle.desk.specs.Status.{failure_line}
+use Rattle.desk.specs.declared.status.Failure.TheVariants.{Memory, Input}
+use Rattle.desk.specs.declared.status.Status.{Status}
+use Rattle.desk.specs.declared.status.Status.TheVariants as exit
 
 -- a desk in memory has no other fault than want of memory
 abbrev pub IsInMemory : Result Reply Fault → Type 0
 IsInMemory (Ok reply) = Unit {0}
-IsInMemory (Err fault) = fault ≡ Memory
+IsInMemory (Err fault) = fault ≡ desk_fault.Memory
 
 -- The whole script, of at most 16,777,216 bytes, was played on a desk of no history and its answers were written, with
--- status 0; or a fault is told alone, with status 3. A desk in memory is never closed.
-pub data IsPlayAnswer (input : List ℕ) (status : ℕ) (before after : Option (List ℕ)) : Type 0 where
+-- the status done; or a failure is told alone, as a fault. A desk in memory is never closed.
+pub data IsPlayAnswer (input : List ℕ) (status : Status) (before after : Option (List ℕ)) : Type 0 where
   told_answers : (items : List Item) (answers : List (Result Reply Fault)) (last : Books) → length input ≤ 16_777_216 → Script input items
-      → Run 999_999_999 false no_books (asked_in items) answers false last → All IsInMemory answers → Appends before after (answers_text items answers) → status ≡ 0 → IsPlayAnswer input status before after
-  told_memory : status ≡ 3 → Appends before after (codes "fault 60" ++ 10 ∷ []) → IsPlayAnswer input status before after
-  told_unread : status ≡ 3 → Appends before after (codes "fault io" ++ 10 ∷ []) → IsPlayAnswer input status before after
+      → Run 999_999_999 false no_books (asked_in items) answers false last → All IsInMemory answers → Appends before after (answers_text items answers) → status ≡ exit.Done → IsPlayAnswer input status before after
+  told_memory : status ≡ exit.Fault → Appends before after (failure_line Memory ++ 10 ∷ []) → IsPlayAnswer input status before after
+  told_input : status ≡ exit.Fault → Appends before after (failure_line Input ++ 10 ∷ []) → IsPlayAnswer input status before after

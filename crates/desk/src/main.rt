@@ -1,14 +1,15 @@
 //! The settlement desk as a program: what its words ask for, printed.
 //!
 //! It stands at the edge: the answers come from the crates below, whose contracts say what they are. The
-//! words are read in `words.rt`, a module beside it gives each subcommand's answer, and `run.rt` joins
-//! the two. Begin with `run.rt`.
+//! words are read in `words.rt`, a module beside it gives each subcommand's answer, `status.rt` says how a
+//! run ends, and `run.rt` joins them. Begin with `run.rt`.
 #![tactic(auto)]
 
 mod isin;
 mod play;
 mod read;
 mod run;
+mod status;
 #[cfg(test)]
 mod tests;
 mod words;
@@ -16,16 +17,13 @@ mod words;
 use std::process::ExitCode;
 use std::{env, io};
 
-fn main(rt: HostRuntime) -> io::Result<ExitCode> {
+fn main(rt: HostRuntime) -> ExitCode {
+    let alloc = rt.alloc();
     let mut reader = rt.stdin();
     let mut writer = io::writer(&rt);
-    let status = match env::args(&rt) {
-        Ok(words) => match words.collect::<Vec<String>>(rt.alloc()) {
-            Ok(words) => run::run(rt.alloc(), words.as_slice(), &mut reader, &mut writer),
-            Err(_) => run::tell_memory(&mut writer),
-        },
-        Err(error) if error.kind() == io::ErrorKind::OutOfMemory => run::tell_memory(&mut writer),
-        Err(_) => run::tell_unreadable_words(&mut writer),
-    };
-    Ok(ExitCode::from(status))
+    let words = env::args(&rt).and_then(|words| Ok(words.collect::<Vec<String>>(alloc)?));
+    ExitCode::from(match words {
+        Ok(words) => run::run(alloc, words.as_slice(), &mut reader, &mut writer),
+        Err(error) => run::tell_no_words(alloc, &error, &mut writer),
+    })
 }

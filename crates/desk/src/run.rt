@@ -1,57 +1,81 @@
 //! What the words ask for, answered.
+ghost use Rattle.std.specs.Prelude.{◌≡◌, ◌⊎◌, [], ◌∷◌, ◌++◌, IfOk, OnOk};
+ghost use Rattle.std.specs.Io.KnownBytes.{Appends};
+ghost use Rattle.clap.specs.Words.{kind_of};
+ghost use Rattle.desk.specs.CallAnswer.{IsAnswer, IsReadable};
+ghost use Rattle.desk.specs.Status.{failure_line, status_of_error};
 
 use crate::isin::answer_isin;
 use crate::play::answer_play;
 use crate::read::answer_read;
-use crate::words::{Call, call_of};
+use crate::status::{Failure, Status, tell_failure};
+use crate::words::{Call, call_of, usage_error};
 use clap::error::{Error, ErrorKind};
 use std::alloc::Global;
 use std::convert::AsStr;
 use std::io::{self, Read, Write};
 
-/// The exit statuses of the program.
-const USAGE: u8 = 2;
-
-const FAULT: u8 = 3;
-
-/// Answers what the words ask for, on the writer, and gives the exit status: 0 done, 1 refused, 2 usage,
-/// 3 fault.
+/// Answers what the words ask for, on the writer. It is a fault where the writer fails.
 pub fn run<S: AsStr, R: Read, W: Write>(
     alloc: Global,
     words: &[S],
     reader: &mut R,
     writer: &mut W,
-) -> u8 {
+) -> Status {
     let answered = match call_of(alloc, words) {
-        Ok(Some(Call::Isin(code))) => answer_isin(code.as_bytes(), writer),
-        Ok(Some(Call::Read(mt))) if mt.is_instruction() => answer_read(alloc, mt, reader, writer),
-        Ok(Some(Call::Play)) => answer_play(alloc, reader, writer),
-        Ok(_) => return tell_unreadable_words(writer),
-        Err(error) => tell_usage(&error, writer),
+        Ok(call) => answer(alloc, call, reader, writer),
+        Err(error) => tell_error(&error, writer),
     };
-    answered.unwrap_or(FAULT)
+    answered.unwrap_or(Status::Fault)
 }
 
-/// Prints help or usage, with status 0 where it was asked for and 2 where the words were wrong; want of
-/// memory is a fault.
-fn tell_usage<W: Write>(error: &Error, writer: &mut W) -> io::Result<u8> {
-    if error.kind() == ErrorKind::OutOfMemory {
-        return Ok(tell_memory(writer));
+/// Answers a call on the writer.
+fn answer<R: Read, W: Write>(
+    alloc: Global,
+    call: Call,
+    reader: &mut R,
+    writer: &mut W,
+) -> io::Result<Status>
+    requires { IsReadable call }
+    ensures { IfOk result (λ status. IsAnswer call.entry (R.remaining reader.old) status (W.contents writer.old) (W.contents writer.new)) }
+{
+    match call {
+        Call::Isin(code) => answer_isin(code.as_bytes(), writer),
+        Call::Read(mt) => answer_read(alloc, mt, reader, writer),
+        Call::Play => answer_play(alloc, reader, writer),
     }
-    write!(writer, "{error}")?;
-    Ok(if error.use_stderr() { USAGE } else { 0 })
 }
 
-/// Prints that memory is wanting, with status 3.
-pub fn tell_memory<W: Write>(writer: &mut W) -> u8 {
-    let _ = writer.write_all(b"fault 60\n");
-    FAULT
+/// Prints help that was asked for, or what is wrong with the words; want of memory is a failure.
+fn tell_error<W: Write>(error: &Error, writer: &mut W) -> io::Result<Status>
+    ensures status { IfOk result (λ status. status ≡ status_of_error (kind_of error.now)) }
+    ensures memory { kind_of error.now ≡ ErrorKind.OutOfMemory
+        → OnOk result (Appends (W.contents writer.old) (W.contents writer.new) (failure_line Failure.Memory ++ 10 ∷ [])) }
+{
+    match error.kind() {
+        ErrorKind::OutOfMemory => tell_failure(Failure::Memory, writer),
+        ErrorKind::DisplayHelp | ErrorKind::DisplayVersion => {
+            write!(writer, "{error}")?;
+            Ok(Status::Done)
+        }
+        _ => {
+            write!(writer, "{error}")?;
+            Ok(Status::Usage)
+        }
+    }
 }
 
-/// Prints usage for words that are no text, with status 2.
-pub fn tell_unreadable_words<W: Write>(writer: &mut W) -> u8 {
-    let _ = writer.write_all(
-        b"error: the words are no text\n\nUsage: desk <COMMAND>\n\nFor more information, try '--help'.\n",
-    );
-    USAGE
+/// Prints why the words could not be had: they are no text, or memory is wanting.
+pub fn tell_no_words<W: Write>(alloc: Global, error: &io::Error, writer: &mut W) -> Status
+    ensures { (result ≡ Status.Usage) ⊎ (result ≡ Status.Fault) }
+{
+    let told = if error.kind() == io::ErrorKind::OutOfMemory {
+        tell_failure(Failure::Memory, writer)
+    } else {
+        match usage_error(alloc, "invalid UTF-8 was detected in one or more arguments") {
+            Ok(usage) => tell_error(&usage, writer),
+            Err(_) => tell_failure(Failure::Memory, writer),
+        }
+    };
+    told.unwrap_or(Status::Fault)
 }

@@ -1,5 +1,6 @@
 //! The program's words, and its answers over a writer in memory.
 use crate::run::run;
+use crate::status::Status;
 use crate::words::{Call, call_of};
 use desk_msg::Mt;
 use std::io::{self, ErrorKind, Read};
@@ -10,20 +11,17 @@ fn reads_words(rt: HostRuntime) -> Result<(), Fail> {
     let alloc = rt.alloc();
     assert_eq!(rt;
         call_of(alloc, &["desk", "isin", "US0378331005"])?,
-        Some(Call::Isin("US0378331005"))
+        Call::Isin("US0378331005")
     );
-    assert_eq!(rt;
-        call_of(alloc, &["desk", "isin", ""])?,
-        Some(Call::Isin(""))
-    );
+    assert_eq!(rt; call_of(alloc, &["desk", "isin", ""])?, Call::Isin(""));
     assert!(rt; call_of(alloc, &["desk", "isin"]).is_err_and(|e| e.exit_code() == 2));
     assert_eq!(rt;
         call_of(alloc, &["desk", "read", "543"])?,
-        Some(Call::Read(Mt::Mt543))
+        Call::Read(Mt::Mt543)
     );
     assert!(rt; call_of(alloc, &["desk", "read", "544"]).is_err_and(|e| e.exit_code() == 2));
-    assert_eq!(rt; call_of(alloc, &["desk", "play"])?, Some(Call::Play));
-    assert_eq!(rt; call_of(alloc, &["desk"])?, Some(Call::Play));
+    assert_eq!(rt; call_of(alloc, &["desk", "play"])?, Call::Play);
+    assert_eq!(rt; call_of(alloc, &["desk"])?, Call::Play);
     assert!(rt; call_of(alloc, &["desk", "play", "x"]).is_err_and(|e| e.exit_code() == 2));
     assert!(rt; call_of(alloc, &["desk", "nothing"]).is_err_and(|e| e.exit_code() == 2));
     assert!(rt; call_of(alloc, &["desk", "--help"]).is_err_and(|e| e.exit_code() == 0));
@@ -33,11 +31,11 @@ fn reads_words(rt: HostRuntime) -> Result<(), Fail> {
 #[test]
 fn answers(rt: HostRuntime) -> Result<(), Fail> {
     for (code, status, line) in [
-        ("US0378331005", 0, b"valid\n".as_slice()),
-        ("US0378331004", 1, b"check 5\n".as_slice()),
-        ("us0378331005", 1, b"prefix\n".as_slice()),
-        ("US03783310-5", 1, b"body\n".as_slice()),
-        ("", 1, b"length\n".as_slice()),
+        ("US0378331005", Status::Done, b"valid\n".as_slice()),
+        ("US0378331004", Status::Refused, b"check 5\n".as_slice()),
+        ("us0378331005", Status::Refused, b"prefix\n".as_slice()),
+        ("US03783310-5", Status::Refused, b"body\n".as_slice()),
+        ("", Status::Refused, b"length\n".as_slice()),
     ] {
         let mut printed = Vec::new(rt.alloc());
         assert_eq!(rt;
@@ -71,7 +69,10 @@ fn a_reader_that_fails(rt: HostRuntime) -> Result<(), Fail> {
         ["desk", "play"].as_slice(),
     ] {
         let mut printed = Vec::new(rt.alloc());
-        assert_eq!(rt; run(rt.alloc(), words, &mut Broken, &mut printed), 3);
+        assert_eq!(rt;
+            run(rt.alloc(), words, &mut Broken, &mut printed),
+            Status::Fault
+        );
         assert_eq!(rt; printed.as_slice(), b"fault io\n".as_slice());
     }
     Ok(())
@@ -81,8 +82,8 @@ fn a_reader_that_fails(rt: HostRuntime) -> Result<(), Fail> {
 #[test]
 fn scripts_too_long(rt: HostRuntime) -> Result<(), Fail> {
     for (length, status, line) in [
-        (16_777_216, 0, b"".as_slice()),
-        (16_777_217, 3, b"fault io\n".as_slice()),
+        (16_777_216, Status::Done, b"".as_slice()),
+        (16_777_217, Status::Fault, b"fault io\n".as_slice()),
     ] {
         let script = vec![in rt.alloc(); b'#'; length]?;
         let mut printed = Vec::new(rt.alloc());
@@ -113,7 +114,7 @@ fn texts_too_long(rt: HostRuntime) -> Result<(), Fail> {
                 &mut reader,
                 &mut printed
             ),
-            1
+            Status::Refused
         );
         assert_eq!(rt; printed.as_slice(), line);
     }

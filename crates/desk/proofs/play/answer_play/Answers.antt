@@ -1,7 +1,6 @@
-use Rattle.std.proofs.Common.{[], ◌∷◌, ◌++◌, Err, refl, ap}
-use Rattle.std.specs.Prelude.{codes}
-use Rattle.desk.specs.PlayAnswer.{told_memory, told_unread}
-use Rattle.desk.proofs.PlayLemmas.{limit_is, new_keeps, told, told_fault, view_of_lists}
+use Rattle.std.proofs.Common.{Err, refl, ap}
+use Rattle.desk.specs.declared.status.Failure.TheVariants.{Memory, Input}
+use Rattle.desk.proofs.PlayLemmas.{limit_is, new_keeps, told, told_alone, view_of_lists}
 use Rattle.desk.proofs.play.answer_play.Goals as goal
 
 pub returns-in-Ok : goal.returns-in-Ok
@@ -15,14 +14,14 @@ returns-in-Ok g c =
 pub returns-in-Err-Memory : goal.returns-in-Err-Memory
 returns-in-Err-Memory g c =
     let same = (c.in-Err-Memory.ensures.memory (ap Err c.in-Err-Memory.field-0-is)).1 in
-    told_fault c.tell_fault.result (g.R.Read.remaining c.args.reader.now) _ _ (codes "fault 60" ++ 10 ∷ []) (λ input status is wrote. told_memory is wrote) (rw same at c.tell_fault.ensures)
+    told_alone c.tell_failure.result (g.R.Read.remaining c.args.reader.now) _ _ Memory (rw same at c.tell_failure.ensures)
 
 pub returns-in-Err-ReadFailed : goal.returns-in-Err-ReadFailed
 returns-in-Err-ReadFailed g c =
     let same = (c.in-Err-ReadFailed.ensures.unread (ap Err c.in-Err-ReadFailed.field-0-is)).1 in
-    told_fault c.tell_fault-in-Err-ReadFailed.result (g.R.Read.remaining c.args.reader.now) _ _ (codes "fault io" ++ 10 ∷ []) (λ input status is wrote. told_unread is wrote) (rw same at c.tell_fault-in-Err-ReadFailed.ensures)
+    told_alone c.tell_failure-in-Err-ReadFailed.result (g.R.Read.remaining c.args.reader.now) _ _ Input (rw same at c.tell_failure-in-Err-ReadFailed.ensures)
 
 pub returns-in-Err-TooLong : goal.returns-in-Err-TooLong
 returns-in-Err-TooLong g c =
     let same = (c.in-Err-TooLong.ensures.too_long (ap Err c.in-Err-TooLong.field-0-is)).1 in
-    told_fault c.tell_fault-in-Err-TooLong.result (g.R.Read.remaining c.args.reader.now) _ _ (codes "fault io" ++ 10 ∷ []) (λ input status is wrote. told_unread is wrote) (rw same at c.tell_fault-in-Err-TooLong.ensures)
+    told_alone c.tell_failure-in-Err-TooLong.result (g.R.Read.remaining c.args.reader.now) _ _ Input (rw same at c.tell_failure-in-Err-TooLong.ensures)

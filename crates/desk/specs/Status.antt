@@ -1,0 +1,27 @@
+-- How a run ends.
+use Rattle.std.specs.Prelude.{ℕ, List, codes}
+use Rattle.clap.specs.declared.error.kind.ErrorKind.{ErrorKind}
+use Rattle.clap.specs.declared.error.kind.ErrorKind.TheVariants as kind
+use Rattle.desk.specs.declared.status.Status.{Status}
+use Rattle.desk.specs.declared.status.Status.TheVariants.{Done, Refused, Usage, Fault}
+use Rattle.desk.specs.declared.status.Failure.{Failure}
+use Rattle.desk.specs.declared.status.Failure.TheVariants.{Memory, Input}
+
+-- the number with which the process ends
+abbrev pub status_number : Status → ℕ
+status_number Done = 0
+status_number Refused = 1
+status_number Usage = 2
+status_number Fault = 3
+
+-- the line that tells a failure
+abbrev pub failure_line : Failure → List ℕ
+failure_line Memory = codes "fault 60"
+failure_line Input = codes "fault io"
+
+-- the exit status of help and of what is wrong with the words
+abbrev pub status_of_error : ErrorKind → Status
+status_of_error kind.OutOfMemory = Fault
+status_of_error kind.DisplayHelp = Done
+status_of_error kind.DisplayVersion = Done
+status_of_error other = Usage

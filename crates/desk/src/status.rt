@@ -1,0 +1,50 @@
+//! How a run ends: its exit status, and the failures that are told in place of an answer.
+ghost use Rattle.std.specs.Prelude.{◌≡◌, [], ◌∷◌, ◌++◌, IfOk};
+ghost use Rattle.std.specs.Io.KnownBytes.{Appends};
+ghost use Rattle.std.specs.Process.{exit_status};
+ghost use Rattle.desk.specs.Status.{failure_line, status_number};
+
+use std::io::{self, Write};
+use std::process::ExitCode;
+
+/// The exit status of the program.
+#[derive(Clone, Copy, Debug, PartialEq, Eq)]
+pub enum Status {
+    /// What was asked for was done
+    Done = 0,
+    /// The code or the message was refused
+    Refused = 1,
+    /// The words fit no subcommand
+    Usage = 2,
+    /// Memory, the reader or the writer failed
+    Fault = 3,
+}
+
+impl From<Status> for ExitCode {
+    ghost from_gives = { λ status code. exit_status code ≡ status_number status };
+
+    fn from(status: Status) -> ExitCode {
+        ExitCode::from(status as u8)
+    }
+}
+
+/// What is told in place of an answer.
+#[derive(Clone, Copy, Debug, PartialEq, Eq)]
+pub enum Failure {
+    /// Memory is wanting
+    Memory,
+    /// The reader failed, or a script is too long
+    Input,
+}
+
+/// Writes a failure's line, and gives the status of a fault.
+pub fn tell_failure<W: Write>(failure: Failure, writer: &mut W) -> io::Result<Status>
+    ensures { IfOk result (λ status. (status ≡ Status.Fault)
+        × Appends (W.contents writer.old) (W.contents writer.new) (failure_line failure ++ 10 ∷ [])) }
+{
+    writer.write_all(match failure {
+        Failure::Memory => b"fault 60\n",
+        Failure::Input => b"fault io\n",
+    })?;
+    Ok(Status::Fault)
+}
