@@ -1,2 +1,4 @@
 pub mod ReadLemmas
 mod PlayLemmas
+mod WordsLemmas
+mod RunLemmas

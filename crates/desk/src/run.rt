@@ -1,9 +1,10 @@
 //! What the words ask for, answered.
-ghost use Rattle.std.specs.Prelude.{◌≡◌, ◌⊎◌, [], ◌∷◌, ◌++◌, IfOk, OnOk};
+ghost use Rattle.std.specs.Prelude.{◌≡◌, ◌⊎◌, ℕ, List, [], ◌∷◌, ◌++◌, map, IfOk, OnOk};
 ghost use Rattle.std.specs.Io.KnownBytes.{Appends};
 ghost use Rattle.clap.specs.Words.{kind_of};
-ghost use Rattle.desk.specs.CallAnswer.{IsAnswer, IsReadable};
+ghost use Rattle.desk.specs.CallAnswer.{IsAnswer};
 ghost use Rattle.desk.specs.Status.{failure_line, status_of_error};
+ghost use Rattle.desk.specs.Words.{Asked, IsAskable, IsReadable, asked_by, words_for};
 
 use crate::isin::answer_isin;
 use crate::play::answer_play;
@@ -21,12 +22,35 @@ pub fn run<S: AsStr, R: Read, W: Write>(
     words: &[S],
     reader: &mut R,
     writer: &mut W,
-) -> Status {
-    let answered = match call_of(alloc, words) {
+) -> Status
+    ensures asked { (program : List ℕ) (asked : Asked) → IsAskable asked → map S.text words.now ≡ program ∷ words_for asked
+        → (result ≡ Status.Fault) ⊎ IsAnswer asked (R.remaining reader.old) result (W.contents writer.old) (W.contents writer.new) }
+    ensures nothing { (program : List ℕ) → map S.text words.now ≡ program ∷ []
+        → (result ≡ Status.Fault) ⊎ IsAnswer Asked.play (R.remaining reader.old) result (W.contents writer.old) (W.contents writer.new) }
+    ensures refused { result ≡ Status.Refused
+        → (asked : Asked) × IsAnswer asked (R.remaining reader.old) result (W.contents writer.old) (W.contents writer.new) }
+{
+    answer_words(alloc, words, reader, writer).unwrap_or(Status::Fault)
+}
+
+/// As `run`, where the writer does not fail.
+fn answer_words<S: AsStr, R: Read, W: Write>(
+    alloc: Global,
+    words: &[S],
+    reader: &mut R,
+    writer: &mut W,
+) -> io::Result<Status>
+    ensures asked { (program : List ℕ) (asked : Asked) → IsAskable asked → map S.text words.now ≡ program ∷ words_for asked
+        → IfOk result (λ status. (status ≡ Status.Fault) ⊎ IsAnswer asked (R.remaining reader.old) status (W.contents writer.old) (W.contents writer.new)) }
+    ensures nothing { (program : List ℕ) → map S.text words.now ≡ program ∷ []
+        → IfOk result (λ status. (status ≡ Status.Fault) ⊎ IsAnswer Asked.play (R.remaining reader.old) status (W.contents writer.old) (W.contents writer.new)) }
+    ensures refused { IfOk result (λ status. status ≡ Status.Refused
+        → (asked : Asked) × IsAnswer asked (R.remaining reader.old) status (W.contents writer.old) (W.contents writer.new)) }
+{
+    match call_of(alloc, words) {
         Ok(call) => answer(alloc, call, reader, writer),
         Err(error) => tell_error(&error, writer),
-    };
-    answered.unwrap_or(Status::Fault)
+    }
 }
 
 /// Answers a call on the writer.
@@ -37,7 +61,7 @@ fn answer<R: Read, W: Write>(
     writer: &mut W,
 ) -> io::Result<Status>
     requires { IsReadable call }
-    ensures { IfOk result (λ status. IsAnswer call.entry (R.remaining reader.old) status (W.contents writer.old) (W.contents writer.new)) }
+    ensures { IfOk result (λ status. IsAnswer (asked_by call.entry) (R.remaining reader.old) status (W.contents writer.old) (W.contents writer.new)) }
 {
     match call {
         Call::Isin(code) => answer_isin(code.as_bytes(), writer),

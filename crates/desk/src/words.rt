@@ -1,8 +1,10 @@
 //! The words of the command line.
-ghost use Rattle.std.specs.Prelude.{◌≡◌, true, IfOk, IfSome};
-ghost use Rattle.clap.specs.Words.{kind_of};
-ghost use Rattle.desk.specs.CallAnswer.{IsReadable};
-ghost use Rattle.desk_msg.specs.MessageType.{is_instruction, number_of_type};
+ghost use Rattle.std.specs.Prelude.{◌≡◌, [], ◌∷◌, ℕ, List, false, true, codes, map, IfOk, IfSome, IsSomeAnd, MatchResult};
+ghost use Rattle.clap.specs.Words.{app_of, found_of, kind_of, one_text, rows_of, subcommand_rows_of};
+ghost use Rattle.clap.specs.declared.builder.command.Command.TheViews.{out-Command};
+ghost use Rattle.desk_msg.specs.MessageType.{digits_of_type, is_instruction, number_of_type};
+ghost use Rattle.desk_msg.specs.declared.mt.Mt.{Mt};
+ghost use Rattle.desk.specs.Words.{Asked, IsAskable, IsNamed, IsReadable, asked_by, desk_app, isin_app, play_app, read_app, words_for};
 
 use clap::error::{Error, ErrorKind};
 use clap::{Arg, ArgMatches, Command, value_parser};
@@ -32,15 +34,16 @@ Exit status:
 /// Reads the words, the program's own name first. An error is help that was asked for, words that fit no
 /// subcommand, or want of memory.
 pub fn call_of<'a, S: AsStr>(alloc: Global, words: &'a [S]) -> Result<Call<'a>, Error>
-    ensures { IfOk result IsReadable }
+    ensures readable { IfOk result IsReadable }
+    ensures asked { (program : List ℕ) (asked : Asked) → IsAskable asked → map S.text words.entry.now ≡ program ∷ words_for asked
+        → MatchResult result (λ call. asked_by call ≡ asked) (λ error. kind_of error ≡ ErrorKind.OutOfMemory) }
+    ensures nothing { (program : List ℕ) → map S.text words.entry.now ≡ program ∷ []
+        → MatchResult result (λ call. asked_by call ≡ Asked.play) (λ error. kind_of error ≡ ErrorKind.OutOfMemory) }
 {
     let matches = desk(alloc)?.try_get_matches_from(words)?;
-    match matches.subcommand() {
-        Some((name, inner)) => match subcommand_call(name, inner) {
-            Some(call) => Ok(call),
-            None => Err(usage_error(alloc, "the words fit no subcommand")?),
-        },
-        None => Ok(Call::Play),
+    match call_in(&matches) {
+        Some(call) => Ok(call),
+        None => Err(usage_error(alloc, "the words fit no subcommand")?),
     }
 }
 
@@ -52,18 +55,42 @@ pub fn usage_error(alloc: Global, message: &str) -> Result<Error, AllocError>
     desk.error(ErrorKind::InvalidValue, message)
 }
 
+fn call_in<'a>(matches: &ArgMatches<'a>) -> Option<Call<'a>>
+    ensures readable { IfSome result IsReadable }
+    ensures asked { (asked : Asked) → IsSomeAnd (subcommand_rows_of matches.now) (λ found. IsNamed asked found.0 found.1)
+        → IsSomeAnd result (λ call. asked_by call ≡ asked) }
+    ensures nothing { subcommand_rows_of matches.now ≡ None → IsSomeAnd result (λ call. asked_by call ≡ Asked.play) }
+{
+    match matches.subcommand() {
+        Some((name, inner)) => subcommand_call(name, inner),
+        None => Some(Call::Play),
+    }
+}
+
 fn subcommand_call<'a>(name: &str, inner: &ArgMatches<'a>) -> Option<Call<'a>>
-    ensures { IfSome result IsReadable }
+    ensures readable { IfSome result IsReadable }
+    ensures asked { (asked : Asked) → IsNamed asked name.now (rows_of (found_of inner.now))
+        → IsSomeAnd result (λ call. asked_by call ≡ asked) }
 {
     match name {
         "isin" => Some(Call::Isin(inner.get_str("code")?)),
-        "read" => Some(Call::Read(instruction_type(inner.get_one::<u16>("mt")?)?)),
+        "read" => Some(Call::Read(type_in(inner)?)),
         "play" => Some(Call::Play),
         _ => None,
     }
 }
 
-fn desk<'a>(alloc: Global) -> Result<Command<'a>, AllocError> {
+fn type_in(inner: &ArgMatches) -> Option<Mt>
+    ensures right { IfSome result (λ mt. is_instruction mt ≡ true) }
+    ensures asked { (mt : Mt) → is_instruction mt ≡ true → one_text (found_of inner.now) (codes "mt") ≡ Some (digits_of_type mt)
+        → IsSomeAnd result (λ found. found ≡ mt) }
+{
+    instruction_type(inner.get_one::<u16>("mt")?)
+}
+
+fn desk<'a>(alloc: Global) -> Result<Command<'a>, AllocError>
+    ensures { IfOk result (λ command. app_of command ≡ desk_app) }
+{
     Command::new(alloc, "desk")
         .about("The settlement desk of a small securities depository")
         .after_help(EXIT_STATUS)
@@ -72,7 +99,10 @@ fn desk<'a>(alloc: Global) -> Result<Command<'a>, AllocError> {
         .subcommand(play(alloc)?)
 }
 
-fn isin<'a>(alloc: Global) -> Result<Command<'a>, AllocError> {
+fn isin<'a>(alloc: Global) -> Result<Command<'a>, AllocError>
+    ensures app { IfOk result (λ command. app_of command ≡ isin_app) }
+    ensures local { IfOk result (λ command. (out-Command command).has_globals ≡ false) }
+{
     Command::new(alloc, "isin")
         .about("Checks the identification number of a security")
         .arg(
@@ -83,7 +113,10 @@ fn isin<'a>(alloc: Global) -> Result<Command<'a>, AllocError> {
         )
 }
 
-fn read<'a>(alloc: Global) -> Result<Command<'a>, AllocError> {
+fn read<'a>(alloc: Global) -> Result<Command<'a>, AllocError>
+    ensures app { IfOk result (λ command. app_of command ≡ read_app) }
+    ensures local { IfOk result (λ command. (out-Command command).has_globals ≡ false) }
+{
     Command::new(alloc, "read")
         .about("Reads a settlement instruction, block 4, from standard input")
         .arg(
@@ -95,7 +128,10 @@ fn read<'a>(alloc: Global) -> Result<Command<'a>, AllocError> {
         )
 }
 
-fn play<'a>(alloc: Global) -> Result<Command<'a>, AllocError> {
+fn play<'a>(alloc: Global) -> Result<Command<'a>, AllocError>
+    ensures app { IfOk result (λ command. app_of command ≡ play_app) }
+    ensures local { IfOk result (λ command. (out-Command command).has_globals ≡ false) }
+{
     Ok(Command::new(alloc, "play").about(
         "Plays a script of requests from standard input on a desk in memory (the default)",
     ))
@@ -103,7 +139,8 @@ fn play<'a>(alloc: Global) -> Result<Command<'a>, AllocError> {
 
 /// The type of an instruction by its number.
 fn instruction_type(number: u16) -> Option<Mt>
-    ensures { IfSome result (λ mt. (is_instruction mt ≡ true) × (number_of_type mt ≡ number)) }
+    ensures right { IfSome result (λ mt. (is_instruction mt ≡ true) × (number_of_type mt ≡ number)) }
+    ensures known { (mt : Mt) → is_instruction mt ≡ true → number_of_type mt ≡ number → IsSomeAnd result (λ found. found ≡ mt) }
 {
     match number {
         540 => Some(Mt::Mt540),

@@ -1,4 +1,4 @@
-use Rattle.std.proofs.Common.{◌≡◌, refl, rules, sym, ap, ◌∙◌}
+use Rattle.std.proofs.Common.{◌≡◌, refl, rules}
 use Rattle.desk.specs.ReadAnswer.{told_refusal}
 use Rattle.desk_msg.specs.Refused.{refusal_line}
 use Rattle.desk.proofs.read.tell_refusal.Goals as goal

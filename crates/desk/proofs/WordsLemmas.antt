@@ -1,0 +1,185 @@
+-- What the parser of words makes of those that ask for something.
+use Rattle.std.proofs.Common.{◌≡◌, ◌≢◌, ◌==◌, ◌∙◌, sym, ap, ap₂, ℕ, Bool, true, false, List, [], ◌∷◌, Option, Some, None, option_map, slice_index, codes, refl, arith}
+use Rattle.std.specs.Prelude.{IsSomeAnd}
+use Rattle.std.specs.Str.{bytes_eq}
+use Rattle.clap.specs.Lexer.{long_of, short_of}
+use Rattle.std.specs.Box.{box_value}
+use Rattle.clap.specs.declared.parser.matches.ArgMatches.{ArgMatches}
+use Rattle.clap.specs.declared.parser.matches.ArgMatches.TheViews.{out-ArgMatches, out-SubCommand}
+use Rattle.clap.specs.declared.parser.matches.Found.{Found}
+use Rattle.clap.proofs.WalkLemmas.{first_value-rows, one_text-rows}
+use Rattle.clap.specs.Words.{App, HasMatchesOf, Row, Text, first_of, first_value, found_of, is_simple, one_of, one_text, rows_of, subcommand_name_of, subcommand_of, subcommand_rows_of, takes}
+use Rattle.clap.proofs.OnLiterals.{clap_on_literals}
+use Rattle.desk_msg.specs.MessageType.{digits_of_type, is_instruction}
+use Rattle.desk_msg.specs.declared.mt.Mt.{Mt}
+use Rattle.desk_msg.specs.declared.mt.Mt.TheVariants.{Mt540, Mt541, Mt542, Mt543, Mt544, Mt545, Mt546, Mt547}
+use Rattle.desk.specs.Words.{Asked, IsAskable, IsNamed, desk_app, isin, play, read, words_for}
+
+pub simple : is_simple desk_app ≡ true
+unfolding clap_on_literals
+simple = refl
+
+-- a word that does not begin by a hyphen is no option
+
+is_other : (c : ℕ) → c ≢ 45 → (c == 45) ≡ false
+is_other c other = go (c == 45) refl
+  where
+    go : (b : Bool) → (c == 45) ≡ b → (c == 45) ≡ false
+    go false e = e
+    go true e = grind (arith, other, e)
+
+no_dashes : (word : List ℕ) → slice_index word 0 ≢ 45 → bytes_eq word (45 ∷ 45 ∷ []) ≡ false
+no_dashes [] other = refl
+no_dashes (c ∷ word) other = let e : (c == 45) ≡ false = is_other c other in rw e refl
+
+no_long : (word : List ℕ) → slice_index word 0 ≢ 45 → long_of word ≡ None
+no_long [] other = refl
+no_long (c ∷ word) other = let e : (c == 45) ≡ false = is_other c other in rw e refl
+
+no_short : (word : List ℕ) → slice_index word 0 ≢ 45 → short_of word ≡ None
+no_short [] other = refl
+no_short (c ∷ word) other = let e : (c == 45) ≡ false = is_other c other in rw e refl
+
+-- the words are taken
+
+takes_isin : (program code : List ℕ) → bytes_eq code (45 ∷ 45 ∷ []) ≡ false → long_of code ≡ None → short_of code ≡ None → takes desk_app (program ∷ words_for (isin code)) ≡ true
+unfolding clap_on_literals
+takes_isin program code dashes long short = rw (dashes, long, short) refl
+
+takes_read : (program : List ℕ) (mt : Mt) → is_instruction mt ≡ true → takes desk_app (program ∷ words_for (read mt)) ≡ true
+unfolding clap_on_literals
+takes_read program Mt540 is = refl
+takes_read program Mt541 is = refl
+takes_read program Mt542 is = refl
+takes_read program Mt543 is = refl
+takes_read program Mt544 is = cc
+takes_read program Mt545 is = cc
+takes_read program Mt546 is = cc
+takes_read program Mt547 is = cc
+
+takes_play : (program : List ℕ) → takes desk_app (program ∷ words_for play) ≡ true
+unfolding clap_on_literals
+takes_play program = refl
+
+pub takes_asked : (program : List ℕ) (asked : Asked) → IsAskable asked → takes desk_app (program ∷ words_for asked) ≡ true
+takes_asked program (isin code) other = takes_isin program code (no_dashes code other) (no_long code other) (no_short code other)
+takes_asked program (read mt) is = takes_read program mt is
+takes_asked program play is = takes_play program
+
+pub takes_nothing : (program : List ℕ) → takes desk_app (program ∷ []) ≡ true
+unfolding clap_on_literals
+takes_nothing program = refl
+
+-- and name what is asked for
+
+enters_isin : (program code : List ℕ) → bytes_eq code (45 ∷ 45 ∷ []) ≡ false → long_of code ≡ None → short_of code ≡ None
+    → IsSomeAnd (subcommand_of desk_app (program ∷ words_for (isin code))) (λ p. (p.0 ≡ codes "isin") × (first_of (codes "code") p.1 ≡ Some code))
+unfolding clap_on_literals
+enters_isin program code dashes long short = (refl, rw (dashes, long, short) refl)
+
+enters_read : (program : List ℕ) (mt : Mt) → is_instruction mt ≡ true
+    → IsSomeAnd (subcommand_of desk_app (program ∷ words_for (read mt))) (λ p. (p.0 ≡ codes "read") × (one_of (codes "mt") p.1 ≡ Some (digits_of_type mt)) × (is_instruction mt ≡ true))
+unfolding clap_on_literals
+enters_read program Mt540 is = (refl, refl, refl)
+enters_read program Mt541 is = (refl, refl, refl)
+enters_read program Mt542 is = (refl, refl, refl)
+enters_read program Mt543 is = (refl, refl, refl)
+enters_read program Mt544 is = cc
+enters_read program Mt545 is = cc
+enters_read program Mt546 is = cc
+enters_read program Mt547 is = cc
+
+enters_play : (program : List ℕ) → IsSomeAnd (subcommand_of desk_app (program ∷ words_for play)) (λ p. p.0 ≡ codes "play")
+unfolding clap_on_literals
+enters_play program = refl
+
+pub enters_asked : (program : List ℕ) (asked : Asked) → IsAskable asked → IsSomeAnd (subcommand_of desk_app (program ∷ words_for asked)) (λ p. IsNamed asked p.0 p.1)
+enters_asked program (isin code) other = enters_isin program code (no_dashes code other) (no_long code other) (no_short code other)
+enters_asked program (read mt) is = enters_read program mt is
+enters_asked program play is = enters_play program
+
+pub enters_nothing : (program : List ℕ) → subcommand_of desk_app (program ∷ []) ≡ None
+unfolding clap_on_literals
+enters_nothing program = refl
+
+-- what was found of a subcommand is read in two parts, its name and its matches
+
+abbrev pair : {S : Type 0} → (S → List ℕ) → (S → List Row) → S → List ℕ × List Row
+pair name_in rows_in s = (name_in s, rows_in s)
+
+pub named_parts : {S : Type 0} (found : Option S) (name_in : S → List ℕ) (rows_in : S → List Row) (asked : Asked) (name : List ℕ) (rows : List Row)
+    → Some name ≡ option_map name_in found → Some rows ≡ option_map (λ p. p.1) (option_map (pair name_in rows_in) found)
+    → IsSomeAnd (option_map (pair name_in rows_in) found) (λ p. IsNamed asked p.0 p.1) → IsNamed asked name rows
+named_parts None name_in rows_in asked name rows named matched is = absurd is
+named_parts (Some s) name_in rows_in asked name rows named matched is =
+    let same : name ≡ name_in s = cc in
+    let same_rows : rows ≡ rows_in s = cc in
+    rw (same, same_rows) is
+
+pub not_found : {S : Type 0} (found : Option S) (name_in : S → List ℕ) (rows_in : S → List Row) → None ≡ option_map name_in found → option_map (pair name_in rows_in) found ≡ None
+not_found None name_in rows_in e = refl
+not_found (Some s) name_in rows_in e = cc
+
+pub one_found : {S : Type 0} (found : Option S) (name_in : S → List ℕ) (rows_in : S → List Row) (name : List ℕ) → Some name ≡ option_map name_in found → option_map (pair name_in rows_in) found ≡ None → ⊥
+one_found None name_in rows_in name e none = cc
+one_found (Some s) name_in rows_in name e none = cc
+
+-- what the getters give
+
+module _ (asked : Asked) (name : List ℕ) (f : Found) where
+  named_isin : name ≡ codes "isin" → IsNamed asked name (rows_of f) → (code : List ℕ) × (asked ≡ isin code) × (first_value f (codes "code") ≡ Some code)
+  named_isin is named = go asked named
+    where
+      go : (a : Asked) → IsNamed a name (rows_of f) → (code : List ℕ) × (a ≡ isin code) × (first_value f (codes "code") ≡ Some code)
+      go (isin code) h = (code, refl, first_value-rows f (codes "code") ∙ h.1)
+      go (read mt) h = let bad : 114 ≡ 105 = ap (λ t. slice_index t 0) (sym h.0 ∙ is) in absurd (omega (arith, bad))
+      go play h = let bad : 112 ≡ 105 = ap (λ t. slice_index t 0) (sym h ∙ is) in absurd (omega (arith, bad))
+
+  named_read : name ≡ codes "read" → IsNamed asked name (rows_of f) → (mt : Mt) × (asked ≡ read mt) × (one_text f (codes "mt") ≡ Some (digits_of_type mt)) × (is_instruction mt ≡ true)
+  named_read is named = go asked named
+    where
+      go : (a : Asked) → IsNamed a name (rows_of f) → (mt : Mt) × (a ≡ read mt) × (one_text f (codes "mt") ≡ Some (digits_of_type mt)) × (is_instruction mt ≡ true)
+      go (isin code) h = let bad : 105 ≡ 114 = ap (λ t. slice_index t 0) (sym h.0 ∙ is) in absurd (omega (arith, bad))
+      go (read mt) h = (mt, refl, one_text-rows f (codes "mt") ∙ h.1, h.2)
+      go play h = let bad : 112 ≡ 114 = ap (λ t. slice_index t 0) (sym h ∙ is) in absurd (omega (arith, bad))
+
+  pub no_code : name ≡ codes "isin" → None ≡ first_value f (codes "code") → IsNamed asked name (rows_of f) → ⊥
+  no_code is none named = let n = named_isin is named in let bad : None ≡ Some n.0 = none ∙ n.2 in cc
+
+  pub same_code : (code : List ℕ) → name ≡ codes "isin" → Some code ≡ first_value f (codes "code") → IsNamed asked name (rows_of f) → isin code ≡ asked
+  same_code code is some named =
+      let n = named_isin is named in
+      let both : Some code ≡ Some n.0 = some ∙ n.2 in
+      let same : code ≡ n.0 = cc in
+      ap isin same ∙ sym n.1
+
+  pub no_type : name ≡ codes "read" → ((mt : Mt) → is_instruction mt ≡ true → one_text f (codes "mt") ≡ Some (digits_of_type mt) → ⊥) → IsNamed asked name (rows_of f) → ⊥
+  no_type is none named = let n = named_read is named in none n.0 n.3 n.2
+
+  pub same_type : (found : Mt) → name ≡ codes "read" → ((mt : Mt) → is_instruction mt ≡ true → one_text f (codes "mt") ≡ Some (digits_of_type mt) → found ≡ mt)
+      → IsNamed asked name (rows_of f) → read found ≡ asked
+  same_type found is one named = let n = named_read is named in ap read (one n.0 n.3 n.2) ∙ sym n.1
+
+-- a parse of the words, by a command that is the desk's
+
+pub taken : (a : App) (words : List Text) (program : List ℕ) (asked : Asked) → a ≡ desk_app → words ≡ program ∷ words_for asked → IsAskable asked → takes a words ≡ true
+taken a words program asked is are right = ap₂ takes is are ∙ takes_asked program asked right
+
+pub taken_alone : (a : App) (words : List Text) (program : List ℕ) → a ≡ desk_app → words ≡ program ∷ [] → takes a words ≡ true
+taken_alone a words program is are = ap₂ takes is are ∙ takes_nothing program
+
+pub entered : (a : App) (words : List Text) (m : ArgMatches) (program : List ℕ) (asked : Asked) → HasMatchesOf a words m → a ≡ desk_app → words ≡ program ∷ words_for asked → IsAskable asked
+    → IsSomeAnd (subcommand_rows_of m) (λ p. IsNamed asked p.0 p.1)
+entered a words m program asked has is are right =
+    let same : subcommand_rows_of m ≡ subcommand_of desk_app (program ∷ words_for asked) = (has (ap is_simple is ∙ simple)).1 ∙ ap₂ subcommand_of is are in
+    rw same (enters_asked program asked right)
+
+pub named_in : (m : ArgMatches) (asked : Asked) (name : List ℕ) (rows : List Row) → Some name ≡ subcommand_name_of m → Some rows ≡ option_map (λ p. p.1) (subcommand_rows_of m)
+    → IsSomeAnd (subcommand_rows_of m) (λ p. IsNamed asked p.0 p.1) → IsNamed asked name rows
+named_in m = named_parts (out-ArgMatches m).subcommand (λ b. (out-SubCommand (box_value b)).name.now) (λ b. rows_of (found_of (out-SubCommand (box_value b)).matches))
+
+pub none_in : (m : ArgMatches) → None ≡ subcommand_name_of m → subcommand_rows_of m ≡ None
+none_in m = not_found (out-ArgMatches m).subcommand (λ b. (out-SubCommand (box_value b)).name.now) (λ b. rows_of (found_of (out-SubCommand (box_value b)).matches))
+
+pub one_in : (m : ArgMatches) (name : List ℕ) → Some name ≡ subcommand_name_of m → subcommand_rows_of m ≡ None → ⊥
+one_in m = one_found (out-ArgMatches m).subcommand (λ b. (out-SubCommand (box_value b)).name.now) (λ b. rows_of (found_of (out-SubCommand (box_value b)).matches))

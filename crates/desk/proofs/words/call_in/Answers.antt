@@ -1,0 +1,13 @@
+use Rattle.clap.specs.Words.{found_of, rows_of}
+use Rattle.desk.proofs.WordsLemmas.{named_in, none_in, one_in}
+use Rattle.desk.proofs.words.call_in.Goals as goal
+
+pub returns-in-Some-clause-asked : goal.returns-in-Some-clause-asked
+returns-in-Some-clause-asked c = λ asked named.
+    c.subcommand_call.ensures.asked asked (named_in c.args.matches.now asked c.in-Some.name.now (rows_of (found_of c.in-Some.inner.now)) c.in-Some.ensures.name c.in-Some.ensures.rows named)
+
+pub returns-in-Some-clause-nothing : goal.returns-in-Some-clause-nothing
+returns-in-Some-clause-nothing c = λ none. absurd (one_in c.args.matches.now c.in-Some.name.now c.in-Some.ensures.name none)
+
+pub returns-in-None-clause-asked : goal.returns-in-None-clause-asked
+returns-in-None-clause-asked c = λ asked named. let none = none_in c.args.matches.now c.in-None.ensures.name in absurd (rw none at named)

@@ -1,0 +1,15 @@
+use Rattle.clap.specs.Words.{found_of}
+use Rattle.desk.proofs.WordsLemmas.{no_code, no_type, same_code, same_type}
+use Rattle.desk.proofs.words.subcommand_call.Goals as goal
+
+pub returns-in_err-get_str-in-isin-clause-asked : goal.returns-in_err-get_str-in-isin-clause-asked
+returns-in_err-get_str-in-isin-clause-asked c = λ asked named. absurd (no_code asked c.args.name.now (found_of c.args.inner.now) c.in-isin.is c.in_err-get_str-in-isin.ensures named)
+
+pub returns-in_ok-get_str-in-isin-clause-asked : goal.returns-in_ok-get_str-in-isin-clause-asked
+returns-in_ok-get_str-in-isin-clause-asked c = λ asked named. same_code asked c.args.name.now (found_of c.args.inner.now) _ c.in-isin.is c.in_ok-get_str-in-isin.ensures named
+
+pub returns-in_err-type_in-in-read-clause-asked : goal.returns-in_err-type_in-in-read-clause-asked
+returns-in_err-type_in-in-read-clause-asked c = λ asked named. absurd (no_type asked c.args.name.now (found_of c.args.inner.now) c.in-read.is c.in_err-type_in-in-read.ensures.asked named)
+
+pub returns-in_ok-type_in-in-read-clause-asked : goal.returns-in_ok-type_in-in-read-clause-asked
+returns-in_ok-type_in-in-read-clause-asked c = λ asked named. same_type asked c.args.name.now (found_of c.args.inner.now) _ c.in-read.is c.in_ok-type_in-in-read.ensures.asked named

@@ -1,0 +1,62 @@
+-- Which words ask for what.
+use Rattle.std.specs.Prelude.{◌≡◌, ◌≢◌, ℕ, List, [], ◌∷◌, Option, Some, pos, true, codes, slice_index}
+use Rattle.clap.specs.Words.{App, Row, Rule, first_of, new_app, new_rule, one_of, with_rule, with_subcommand}
+use Rattle.clap.specs.declared.builder.value_parser.ValueParser.TheVariants.{Signed}
+use Rattle.desk_msg.specs.MessageType.{digits_of_type, is_instruction}
+use Rattle.desk_msg.specs.declared.mt.Mt.{Mt}
+use Rattle.desk.specs.declared.words.Call.{Call}
+use Rattle.desk.specs.declared.words.Call.TheVariants.{Isin, Read, Play}
+
+-- what is asked for: whether a code is an ISIN, what a message of a type says, or a script's answers
+pub data Asked : Type 0 where
+  isin : (code : List ℕ) → Asked
+  read : (mt : Mt) → Asked
+  play : Asked
+
+abbrev pub asked_by : Call → Asked
+asked_by (Isin code) = isin code.now
+asked_by (Read mt) = read mt
+asked_by Play = play
+
+-- a message that is read is an instruction
+abbrev pub IsReadable : Call → Type 0
+IsReadable (Isin code) = Unit {0}
+IsReadable (Read mt) = is_instruction mt ≡ true
+IsReadable Play = Unit {0}
+
+-- the words behind the program's name that ask for it
+abbrev pub words_for : Asked → List (List ℕ)
+words_for (isin code) = codes "isin" ∷ code ∷ []
+words_for (read mt) = codes "read" ∷ digits_of_type mt ∷ []
+words_for play = codes "play" ∷ []
+
+-- the code does not begin as an option, by a hyphen, and the type is one of an instruction
+abbrev pub IsAskable : Asked → Type 0
+IsAskable (isin code) = slice_index code 0 ≢ 45
+IsAskable (read mt) = is_instruction mt ≡ true
+IsAskable play = Unit {0}
+
+-- what a subcommand's name and matches ask for
+abbrev pub IsNamed : Asked → List ℕ → List Row → Type 0
+IsNamed (isin code) name rows = (name ≡ codes "isin") × (first_of (codes "code") rows ≡ Some code)
+IsNamed (read mt) name rows = (name ≡ codes "read") × (one_of (codes "mt") rows ≡ Some (digits_of_type mt)) × (is_instruction mt ≡ true)
+IsNamed play name rows = name ≡ codes "play"
+
+-- what the parser of words knows of the program
+abbrev pub code_rule : Rule
+code_rule = record (new_rule (codes "code")) { value_names = 1; required = true }
+
+abbrev pub type_rule : Rule
+type_rule = record (new_rule (codes "mt")) { value_names = 1; required = true; parser = Some (Signed (pos 540) (pos 543)) }
+
+abbrev pub isin_app : App
+isin_app = with_rule (new_app (codes "isin")) code_rule
+
+abbrev pub read_app : App
+read_app = with_rule (new_app (codes "read")) type_rule
+
+abbrev pub play_app : App
+play_app = new_app (codes "play")
+
+abbrev pub desk_app : App
+desk_app = with_subcommand (with_subcommand (with_subcommand (new_app (codes "desk")) isin_app.top) read_app.top) play_app.top
