@@ -17,8 +17,7 @@ abbrev pub IsLonger : List ℕ → Type 0
 IsLonger input = 65536 < length input
 
 -- What was told of the bytes that came for a type: what the message says, with the status done; the one refusal, as
--- refused; or want of memory, or the
--- reader's failure, as a fault. Each line is ended by a line feed.
+-- refused; or want of memory, or the reader's failure, as a fault. Each line is ended by a line feed.
 pub data IsReadAnswer (mt : Mt) (input : List ℕ) (status : Status) (IsPrinted : List ℕ → Type 0) : Type 0 where
   told_fields : (message : Message) → ReadsText mt input (Ok message) → status ≡ exit.Done → IsPrinted (message_text message ++ 10 ∷ []) → IsReadAnswer mt input status IsPrinted
   told_refusal : (refusal : Refusal) → ReadsText mt input (Err (Refused refusal)) → status ≡ exit.Refused → IsPrinted (refusal_line refusal ++ 10 ∷ []) → IsReadAnswer mt input status IsPrinted

@@ -2,7 +2,7 @@
 ghost use Rattle.std.specs.Prelude.{◌≡◌, ◌⊎◌, ℕ, List, [], ◌∷◌, ◌++◌, map, IfOk, OnOk};
 ghost use Rattle.std.specs.Io.KnownBytes.{Appends};
 ghost use Rattle.clap.specs.Words.{kind_of};
-ghost use Rattle.desk.specs.CallAnswer.{IsAnswer};
+ghost use Rattle.desk.specs.CallAnswer.{IsAnswer, IsMemoryTold};
 ghost use Rattle.desk.specs.Status.{failure_line, status_of_error};
 ghost use Rattle.desk.specs.Words.{Asked, IsAskable, IsReadable, asked_by, words_for};
 
@@ -41,9 +41,9 @@ fn answer_words<S: AsStr, R: Read, W: Write>(
     writer: &mut W,
 ) -> io::Result<Status>
     ensures asked { (program : List ℕ) (asked : Asked) → IsAskable asked → map S.text words.now ≡ program ∷ words_for asked
-        → IfOk result (λ status. (status ≡ Status.Fault) ⊎ IsAnswer asked (R.remaining reader.old) status (W.contents writer.old) (W.contents writer.new)) }
+        → IfOk result (λ status. IsMemoryTold status (W.contents writer.old) (W.contents writer.new) ⊎ IsAnswer asked (R.remaining reader.old) status (W.contents writer.old) (W.contents writer.new)) }
     ensures nothing { (program : List ℕ) → map S.text words.now ≡ program ∷ []
-        → IfOk result (λ status. (status ≡ Status.Fault) ⊎ IsAnswer Asked.play (R.remaining reader.old) status (W.contents writer.old) (W.contents writer.new)) }
+        → IfOk result (λ status. IsMemoryTold status (W.contents writer.old) (W.contents writer.new) ⊎ IsAnswer Asked.play (R.remaining reader.old) status (W.contents writer.old) (W.contents writer.new)) }
     ensures refused { IfOk result (λ status. status ≡ Status.Refused
         → (asked : Asked) × IsAnswer asked (R.remaining reader.old) status (W.contents writer.old) (W.contents writer.new)) }
 {

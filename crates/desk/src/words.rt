@@ -55,6 +55,7 @@ pub fn usage_error(alloc: Global, message: &str) -> Result<Error, AllocError>
     desk.error(ErrorKind::InvalidValue, message)
 }
 
+/// What the matches ask for; no subcommand asks for a script's answers.
 fn call_in<'a>(matches: &ArgMatches<'a>) -> Option<Call<'a>>
     ensures readable { IfSome result IsReadable }
     ensures asked { (asked : Asked) → IsSomeAnd (subcommand_rows_of matches.now) (λ found. IsNamed asked found.0 found.1)
@@ -67,6 +68,7 @@ fn call_in<'a>(matches: &ArgMatches<'a>) -> Option<Call<'a>>
     }
 }
 
+/// What a subcommand with these matches asks for.
 fn subcommand_call<'a>(name: &str, inner: &ArgMatches<'a>) -> Option<Call<'a>>
     ensures readable { IfSome result IsReadable }
     ensures asked { (asked : Asked) → IsNamed asked name.now (rows_of (found_of inner.now))
@@ -80,6 +82,7 @@ fn subcommand_call<'a>(name: &str, inner: &ArgMatches<'a>) -> Option<Call<'a>>
     }
 }
 
+/// The type that a message is to be read as.
 fn type_in(inner: &ArgMatches) -> Option<Mt>
     ensures right { IfSome result (λ mt. is_instruction mt ≡ true) }
     ensures asked { (mt : Mt) → is_instruction mt ≡ true → one_text (found_of inner.now) (codes "mt") ≡ Some (digits_of_type mt)

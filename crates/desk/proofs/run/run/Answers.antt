@@ -5,8 +5,8 @@ use Rattle.desk.proofs.run.run.Goals as goal
 
 pub returns-clause-asked : goal.returns-clause-asked
 returns-clause-asked g c = λ program asked right are.
-    rw c.unwrap_or.ensures (ended c.answer_words.result (λ status. IsAnswer asked (g.R.Read.remaining c.args.reader.now) status (g.W.Write.contents c.args.writer.now) (g.W.Write.contents c.answer_words.new.writer)) (c.answer_words.ensures.asked program asked right are))
+    rw c.unwrap_or.ensures (ended c.answer_words.result (g.W.Write.contents c.args.writer.now) (g.W.Write.contents c.answer_words.new.writer) (λ status. IsAnswer asked (g.R.Read.remaining c.args.reader.now) status (g.W.Write.contents c.args.writer.now) (g.W.Write.contents c.answer_words.new.writer)) (c.answer_words.ensures.asked program asked right are))
 
 pub returns-clause-nothing : goal.returns-clause-nothing
 returns-clause-nothing g c = λ program are.
-    rw c.unwrap_or.ensures (ended c.answer_words.result (λ status. IsAnswer play (g.R.Read.remaining c.args.reader.now) status (g.W.Write.contents c.args.writer.now) (g.W.Write.contents c.answer_words.new.writer)) (c.answer_words.ensures.nothing program are))
+    rw c.unwrap_or.ensures (ended c.answer_words.result (g.W.Write.contents c.args.writer.now) (g.W.Write.contents c.answer_words.new.writer) (λ status. IsAnswer play (g.R.Read.remaining c.args.reader.now) status (g.W.Write.contents c.args.writer.now) (g.W.Write.contents c.answer_words.new.writer)) (c.answer_words.ensures.nothing program are))
