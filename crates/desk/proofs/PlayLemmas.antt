@@ -6,7 +6,7 @@ use Rattle.std.specs.Prelude.{Result, Ok, Err, IfOk}
 use Rattle.std.specs.Io.KnownBytes.{Appends}
 use Rattle.desk_rules.specs.declared.reply.Reply.{Reply}
 use Rattle.desk_rules.specs.Verdict.{Books}
-use Rattle.desk_register.specs.declared.list_register.ListRegister.{ListRegister}
+use Rattle.desk_register.specs.declared.list_store.list_register.ListRegister.{ListRegister}
 use Rattle.desk_register.specs.Applied.{Keeps, no_books}
 use Rattle.desk_register.specs.Lists.{content_in, listed, undone}
 use Rattle.desk_register.specs.View.{View}

@@ -24,7 +24,7 @@ pub struct Ledger {
 impl Model for Ledger {
     ghost use Rattle.std.specs.Prelude.{◌≡◌};
     ghost use Rattle.desk_rules.specs.Verdict.{Books};
-    ghost use Rattle.desk_register.specs.declared.list_register.ListRegister.{ListRegister};
+    ghost use Rattle.desk_register.specs.declared.list_store.list_register.ListRegister.{ListRegister};
     ghost use Rattle.desk_register.specs.declared.register.Stage.TheVariants.{Idle};
     ghost use Rattle.desk_register.specs.Applied.{Keeps};
     ghost use Rattle.desk_register.specs.Lists.{content_in, listed};

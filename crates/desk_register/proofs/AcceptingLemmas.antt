@@ -15,7 +15,7 @@ use Rattle.desk_rules.specs.declared.reply.State.TheVariants.{Unmatched, Matched
 use Rattle.desk_msg.specs.declared.status.Reason.TheVariants.{Future}
 use Rattle.desk_msg.specs.declared.instruction.Instruction.{Instruction}
 use Rattle.desk_register.specs.declared.standing.Standing.{Standing}
-use Rattle.desk_register.specs.declared.applied.Applied.{Applied}
+use Rattle.desk_register.specs.declared.rules.applied.Applied.{Applied}
 use Rattle.desk_rules.specs.declared.verdict.Verdict.TheVariants.{Accept, Refuse}
 use Rattle.desk_rules.specs.declared.verdict.Refusal.TheVariants.{Full}
 use Rattle.desk_rules.specs.History.{before, entry_at, instruction_at, instructed, run_day, sender_of, reference_of, number_of_key}

@@ -5,9 +5,9 @@ use Rattle.std.proofs.lemmas.List.{length-append, set-get_or}
 use Rattle.std.proofs.Math.Seq.{take-append_seam}
 use Rattle.desk_rules.specs.declared.reply.Kept.{Kept}
 use Rattle.desk_register.specs.declared.standing.Standing.{Standing}
-use Rattle.desk_register.specs.declared.lists.BalanceKey.{BalanceKey}
-use Rattle.desk_register.specs.declared.lists.Change.{Change}
-use Rattle.desk_register.specs.declared.lists.Change.TheVariants.{Appended, Stood, Opened, Moved, Listed as ListedOne, Resized}
+use Rattle.desk_register.specs.declared.list_store.lists.BalanceKey.{BalanceKey}
+use Rattle.desk_register.specs.declared.list_store.lists.Change.{Change}
+use Rattle.desk_register.specs.declared.list_store.lists.Change.TheVariants.{Appended, Stood, Opened, Moved, Listed as ListedOne, Resized}
 use Rattle.desk_register.specs.Lists.{Listed, undo, undone, without_last}
 
 pub undone-push : (changes : List Change) (change : Change) (l : Listed) → undone (changes ++ change ∷ []) l ≡ undone changes (undo change l)

@@ -3,7 +3,7 @@ use Rattle.std.proofs.Common.{◌≡◌, ℕ, suc, ◌+◌, ◌-◌, ◌<◌, �
 use Rattle.std.specs.Prelude.{slice_set, if◌then◌else◌, bytes_eq, Result, Ok, Err, OnOk}
 use Rattle.std.proofs.lemmas.Bool.{and_parts, and_from}
 use Rattle.std.proofs.lemmas.Slice.Eq.{bytes_eq-Decides}
-use Rattle.desk_register.specs.declared.lists.BalanceKey.{BalanceKey}
+use Rattle.desk_register.specs.declared.list_store.lists.BalanceKey.{BalanceKey}
 use Rattle.desk_register.specs.Content.{moved_to}
 use Rattle.desk_register.specs.Lists.{Listed, is_key, value_in, first_from, quantity_in, outstanding_in, with_total}
 

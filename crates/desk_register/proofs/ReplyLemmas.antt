@@ -19,7 +19,7 @@ use Rattle.desk_rules.specs.Reply.{accepted_text, advice_reply, first_case, repl
 use Rattle.desk_rules.specs.Verdict.{Books, is_paired}
 use Rattle.desk_rules.proofs.Decided.{In-from_Contains}
 use Rattle.desk_rules.proofs.PlainLemmas.{any-In, free_no_side}
-use Rattle.desk_register.specs.declared.applied.Applied.{Applied}
+use Rattle.desk_register.specs.declared.rules.applied.Applied.{Applied}
 use Rattle.desk_register.specs.Applied.{IsMateOf, IsApplied}
 
 or_true : (a b : Bool) → b ≡ true → (a || b) ≡ true

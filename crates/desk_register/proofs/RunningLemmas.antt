@@ -3,7 +3,7 @@ use Rattle.std.proofs.Common.{◌≡◌, ℕ, ◌+◌, ◌≤◌, List, [], leng
 use Rattle.desk_codes.specs.Number.{number_of}
 use Rattle.desk_rules.specs.declared.entry.Entry.TheVariants.{Run}
 use Rattle.desk_rules.specs.declared.pair.Place.{Place}
-use Rattle.desk_register.specs.declared.running.Taken.{Taken}
+use Rattle.desk_register.specs.declared.rules.settlement_run.Taken.{Taken}
 use Rattle.desk_register.specs.View.{View, IsLater, Stays}
 use Rattle.desk_rules.specs.Verdict.{Books}
 use Rattle.desk_register.specs.Content.{Content, CanSettle, Settles as SettlesPair}

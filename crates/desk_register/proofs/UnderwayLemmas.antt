@@ -6,7 +6,7 @@ use Rattle.desk_rules.specs.declared.entry.Entry.TheVariants.{Run}
 use Rattle.desk_rules.specs.declared.pair.Pair.{Pair}
 use Rattle.desk_rules.specs.declared.pair.Place.{Place}
 use Rattle.desk_rules.specs.declared.pair.Settled.{Settled}
-use Rattle.desk_register.specs.declared.running.Taken.{Taken}
+use Rattle.desk_register.specs.declared.rules.settlement_run.Taken.{Taken}
 use Rattle.desk_rules.specs.Settlement.{IsOpen, is_above}
 use Rattle.desk_rules.specs.Reply.{settled_count}
 use Rattle.desk_rules.specs.Verdict.{Books, AreBooks}

@@ -7,7 +7,7 @@ use Rattle.desk_rules.specs.declared.verdict.Verdict.TheVariants.{Accept}
 use Rattle.desk_rules.specs.Pairing.{IsFree}
 use Rattle.desk_rules.specs.Verdict.{Books, IsVerdict}
 use Rattle.desk_rules.specs.Reply.{IsFirstReply, settled_count, waiting_count}
-use Rattle.desk_register.specs.declared.applied.Applied.{Applied}
+use Rattle.desk_register.specs.declared.rules.applied.Applied.{Applied}
 use Rattle.desk_register.specs.Content.{Content}
 use Rattle.desk_register.specs.Tables.{Tables}
 use Rattle.desk_register.specs.Pass.{AreOfToday}

@@ -5,10 +5,10 @@ use Rattle.desk_rules.specs.declared.entry.Entry.TheVariants.{Participant, Accou
 use Rattle.desk_rules.specs.declared.reply.Kept.{Kept}
 use Rattle.desk_register.specs.declared.standing.Standing.{Standing}
 use Rattle.desk_rules.specs.declared.reply.State.TheVariants.{Plain}
-use Rattle.desk_register.specs.declared.lists.BalanceKey.{BalanceKey}
-use Rattle.desk_register.specs.declared.lists.Change.{Change}
-use Rattle.desk_register.specs.declared.lists.Change.TheVariants.{Appended, Stood, Opened, Moved, Listed as ListedOne, Resized}
-use Rattle.desk_register.specs.declared.lists.Lists.{Lists}
+use Rattle.desk_register.specs.declared.list_store.lists.BalanceKey.{BalanceKey}
+use Rattle.desk_register.specs.declared.list_store.lists.Change.{Change}
+use Rattle.desk_register.specs.declared.list_store.lists.Change.TheVariants.{Appended, Stood, Opened, Moved, Listed as ListedOne, Resized}
+use Rattle.desk_register.specs.declared.list_store.lists.Lists.{Lists}
 use Rattle.desk_rules.specs.Balances.{issued, redeemed}
 use Rattle.desk_register.specs.Content.{Content}
 

@@ -24,7 +24,7 @@ use Rattle.desk_rules.specs.Verdict.{Books, AreBooks, IsVerdict, WasAccepted}
 use Rattle.desk_register.specs.Decision.{is_of_today}
 use Rattle.desk_register.specs.Content.{Content, history_of, Settles as SettlesPair}
 use Rattle.desk_register.specs.Looked.{IsDuePairAfter}
-use Rattle.desk_register.specs.declared.running.Taken.{Taken}
+use Rattle.desk_register.specs.declared.rules.settlement_run.Taken.{Taken}
 use Rattle.desk_register.specs.declared.found.Outcome.{Outcome}
 use Rattle.desk_register.specs.declared.found.Outcome.TheVariants as outcomes
 use Rattle.desk_register.specs.declared.found.Outcome.TheVariants.{Lacks}

@@ -2,44 +2,23 @@
 //! desk's rules over any store.
 //!
 //! `Register` in `register.rt` is the law; what its clauses speak of stands in specs/View.antt (how a call
-//! changes a register) and specs/Content.antt (what it holds). `ListRegister` keeps plain lists. `decide`
-//! rules on an entry and `apply` takes an accepted one into the tables, over any register; specs/Tables.antt
-//! says when a register holds the tables of a history, and specs/Applied.antt what an entry leaves behind.
+//! changes a register) and specs/Content.antt (what it holds). `ListRegister`, in `list_store`, keeps plain lists.
+//! `rules` are over any register: `decide` rules on an entry and `apply` takes an accepted one into the tables;
+//! specs/Tables.antt says when a register holds the tables of a history, and specs/Applied.antt what an entry
+//! leaves behind.
 #![tactic(auto)]
 
-mod accepting;
-mod appending;
-mod applied;
-mod applying;
-mod balances;
-mod changes;
-mod finding;
+mod entries;
 mod found;
-mod laws;
-mod list_calls;
-mod list_register;
-mod listing;
-mod lists;
-mod looking;
-mod positions;
+mod list_store;
 mod register;
-mod replying;
-mod ruling;
-mod running;
-mod said;
-mod searching;
-mod settling;
+mod rules;
 mod standing;
-mod standings;
-mod today;
 
-pub use accepting::apply;
-pub use applied::Applied;
 pub use found::{Found, Outcome};
-pub use laws::positions_add_up;
-pub use list_register::ListRegister;
+pub use list_store::ListRegister;
 pub use register::{Fault, Register, Stage};
-pub use replying::{accepted_reply, refused_reply};
-pub use ruling::decide;
+pub use rules::{
+    Applied, accepted_reply, apply, decide, is_of_today, positions_add_up, refused_reply,
+};
 pub use standing::Standing;
-pub use today::is_of_today;

@@ -1,5 +1,5 @@
 use Rattle.std.proofs.Common.{◌∙◌, sym, subst}
-use Rattle.desk_register.specs.declared.list_register.ListRegister.{ListRegister}
+use Rattle.desk_register.specs.declared.list_store.list_register.ListRegister.{ListRegister}
 use Rattle.desk_register.specs.Applied.{CanApply}
 use Rattle.desk_register.specs.Lists.{content_in, listed}
 use Rattle.desk_register.proofs.TestLemmas.{can_apply_in, kept_in}

@@ -1,0 +1,60 @@
+//! An entry, added to the lists.
+ghost use Rattle.std.specs.Prelude.{◌≡◌, OnOk};
+ghost use Rattle.desk_register.specs.Content.{CanAppend, appended, positions_after};
+ghost use Rattle.desk_register.specs.Lists.{AreTotals, content_in, listed, outstanding_in, quantity_in, undone, totals_after, SameEntries};
+
+use crate::entries::first_standing;
+use crate::list_store::changes::push_entry;
+use crate::list_store::lists::{Change, Lists};
+use crate::list_store::positions::{outstanding_of, put_outstanding, put_quantity, quantity_of};
+use desk_rules::{Entry, Kept, Reply};
+use std::alloc::AllocError;
+
+/// Moves what an entry issues or redeems.
+fn move_balances(
+    lists: &mut Lists,
+    changes: &mut Vec<Change>,
+    entry: &Entry,
+) -> Result<(), AllocError>
+    requires fits { CanAppend entry.now (content_in (listed lists.old)) }
+    requires totals { AreTotals (listed lists.old) }
+    ensures positions { OnOk result (quantity_in (listed lists.new) ≡ positions_after entry.now (quantity_in (listed lists.old))) }
+    ensures totals { OnOk result (outstanding_in (listed lists.new) ≡ totals_after entry.now (outstanding_in (listed lists.old))) }
+    ensures rest { OnOk result (SameEntries (listed lists.old) (listed lists.new)) }
+    ensures before { undone changes.new.items (listed lists.new) ≡ undone changes.old.items (listed lists.old) }
+{
+    match entry {
+        Entry::Issue(issue) => {
+            let held = quantity_of(lists, &issue.account, &issue.isin) + issue.quantity;
+            let whole = outstanding_of(lists, &issue.isin) + issue.quantity;
+            put_quantity(lists, changes, issue.account, issue.isin, held)?;
+            put_outstanding(lists, changes, issue.isin, whole)
+        }
+        Entry::Redeem(redemption) => {
+            let held = quantity_of(lists, &redemption.account, &redemption.isin)
+                - redemption.quantity;
+            let whole = outstanding_of(lists, &redemption.isin) - redemption.quantity;
+            put_quantity(lists, changes, redemption.account, redemption.isin, held)?;
+            put_outstanding(lists, changes, redemption.isin, whole)
+        }
+        _ => Ok(()),
+    }
+}
+
+/// Adds an entry with its reply, and moves what it issues or redeems.
+pub fn append_entry(
+    lists: &mut Lists,
+    changes: &mut Vec<Change>,
+    entry: Entry,
+    reply: Reply,
+) -> Result<(), AllocError>
+    requires fits { CanAppend entry (content_in (listed lists.old)) }
+    requires totals { AreTotals (listed lists.old) }
+    ensures added { OnOk result (content_in (listed lists.new) ≡ appended entry reply (content_in (listed lists.old))) }
+    ensures totals { OnOk result (AreTotals (listed lists.new)) }
+    ensures before { undone changes.new.items (listed lists.new) ≡ undone changes.old.items (listed lists.old) }
+{
+    move_balances(lists, changes, &entry)?;
+    let standing = first_standing(&entry);
+    push_entry(lists, changes, Kept { entry, reply }, standing)
+}

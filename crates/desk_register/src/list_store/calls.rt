@@ -1,0 +1,211 @@
+//! The calls of a register in plain lists.
+ghost use Rattle.std.specs.Prelude.{◌≡◌, ◌≤◌, ◌<◌, []};
+ghost use Rattle.desk_register.specs.Lists.{listed, undone, content_in};
+ghost use Rattle.desk_register.specs.Applied.{Keeps, no_books};
+ghost use Rattle.desk_register.specs.View.{fallen};
+
+use crate::found::{Found, Outcome};
+use crate::list_store::appending::append_entry;
+use crate::list_store::by_number::find;
+use crate::list_store::changes::undo_all;
+use crate::list_store::due_pairs::due_pair_after;
+use crate::list_store::history;
+use crate::list_store::holdings::held;
+use crate::list_store::list_register::ListRegister;
+use crate::list_store::lists::Lists;
+use crate::list_store::opposites::first_opposite;
+use crate::list_store::positions::{outstanding_of, quantity_of};
+use crate::list_store::securities::security_after;
+use crate::list_store::settling::try_settle;
+use crate::list_store::standings::pair_entries;
+use crate::register::{Fault, Register, Stage};
+use desk_codes::{AccountId, Bic, Day, Isin, Reference};
+use desk_msg::{Instruction, Kind};
+use desk_rules::{Entry, Instructed, Place, Reply, Sender};
+use std::alloc::Global;
+
+impl ListRegister {
+    /// An empty register for at most `limit` entries, which are 999,999,999 at most.
+    pub fn new(alloc: Global, limit: u64) -> ListRegister
+        requires { limit ≤ 999_999_999 }
+        ensures empty { Keeps limit no_books (content_in (listed result.lists)) }
+        ensures limit { result.limit ≡ limit }
+        ensures stage { result.stage ≡ Stage.Idle }
+    {
+        ListRegister {
+            limit,
+            lists: Lists {
+                kept: Vec::new(alloc),
+                standings: Vec::new(alloc),
+                keys: Vec::new(alloc),
+                quantities: Vec::new(alloc),
+                securities: Vec::new(alloc),
+                outstanding: Vec::new(alloc),
+            },
+            changes: Vec::new(alloc),
+            stage: Stage::Idle,
+        }
+    }
+}
+
+impl Register for ListRegister {
+    ghost use Rattle.std.specs.Prelude.{true};
+    ghost use Rattle.desk_register.specs.Lists.{listed, undone, content_in};
+
+    ghost view = { λ r. record {
+      content = content_in (listed r.lists);
+      mark = content_in (undone r.changes.items (listed r.lists));
+      stage = r.stage;
+      failures = 0;
+      room = r.limit;
+      is_honest = Unit {0};
+      is_sure = Unit {0};
+    } };
+
+    ghost plain = { true };
+
+    fn begin(&mut self, _alloc: Global) -> Result<(), Fault> {
+        self.stage = Stage::Begun;
+        Ok(())
+    }
+
+    fn commit(&mut self, _alloc: Global) -> Result<(), Fault> {
+        self.changes.truncate(0);
+        self.stage = Stage::Idle;
+        Ok(())
+    }
+
+    fn back(&mut self, _alloc: Global) -> Result<(), Fault> {
+        undo_all(&mut self.lists, &mut self.changes);
+        self.stage = Stage::Idle;
+        Ok(())
+    }
+
+    fn limit(&self) -> u64 {
+        self.limit
+    }
+
+    fn count(&mut self, _alloc: Global) -> Result<u64, Fault> {
+        Ok(self.lists.kept.len() as u64)
+    }
+
+    fn participant(&mut self, _alloc: Global, bic: Bic) -> Result<bool, Fault> {
+        Ok(history::is_participant(&self.lists.kept, &bic))
+    }
+
+    fn owner(&mut self, _alloc: Global, account: AccountId) -> Result<Option<Bic>, Fault> {
+        Ok(history::owner(&self.lists.kept, &account))
+    }
+
+    fn security(&mut self, _alloc: Global, isin: Isin) -> Result<Option<Kind>, Fault> {
+        Ok(history::kind(&self.lists.kept, &isin))
+    }
+
+    fn outstanding(&mut self, _alloc: Global, isin: Isin) -> Result<u64, Fault> {
+        Ok(outstanding_of(&self.lists, &isin))
+    }
+
+    fn last_run(&mut self, _alloc: Global) -> Result<Option<Day>, Fault> {
+        Ok(history::last_run(&self.lists.kept))
+    }
+
+    fn position(&mut self, _alloc: Global, account: AccountId, isin: Isin) -> Result<u64, Fault> {
+        Ok(quantity_of(&self.lists, &account, &isin))
+    }
+
+    fn by_reference(
+        &mut self,
+        alloc: Global,
+        sender: Sender,
+        reference: Reference,
+    ) -> Result<Option<Found>, Fault> {
+        match history::number_of_key(&self.lists.kept, &sender, &reference) {
+            Some(number) => self.by_number(alloc, number),
+            None => Ok(None),
+        }
+    }
+
+    fn by_number(&mut self, alloc: Global, number: u64) -> Result<Option<Found>, Fault> {
+        match find(&self.lists, alloc, number) {
+            Ok(found) => Ok(found),
+            Err(_) => {
+                self.stage = fallen(self.stage);
+                Err(Fault::Memory)
+            }
+        }
+    }
+
+    fn first_opposite(
+        &mut self,
+        _alloc: Global,
+        sender: Bic,
+        instruction: &Instruction,
+    ) -> Result<Option<u64>, Fault> {
+        let wanted = Instructed {
+            sender,
+            instruction: *instruction,
+        };
+        Ok(first_opposite(&self.lists, &wanted))
+    }
+
+    fn due_pair_after(
+        &mut self,
+        _alloc: Global,
+        day: Day,
+        place: Option<Place>,
+    ) -> Result<Option<Place>, Fault> {
+        Ok(due_pair_after(&self.lists, day.yyyymmdd(), &place))
+    }
+
+    fn security_after(
+        &mut self,
+        _alloc: Global,
+        isin: Option<Isin>,
+    ) -> Result<Option<Isin>, Fault> {
+        Ok(security_after(&self.lists, &isin))
+    }
+
+    fn held(&mut self, _alloc: Global, isin: Isin) -> Result<u64, Fault> {
+        Ok(held(&self.lists, &isin))
+    }
+
+    fn append(&mut self, _alloc: Global, entry: Entry, reply: Reply) -> Result<(), Fault> {
+        match append_entry(&mut self.lists, &mut self.changes, entry, reply) {
+            Ok(()) => Ok(()),
+            Err(_) => {
+                self.stage = Stage::Failed;
+                Err(Fault::Memory)
+            }
+        }
+    }
+
+    fn pair(&mut self, _alloc: Global, earlier: u64, later: u64) -> Result<(), Fault> {
+        match pair_entries(&mut self.lists, &mut self.changes, earlier, later) {
+            Ok(()) => Ok(()),
+            Err(_) => {
+                self.stage = Stage::Failed;
+                Err(Fault::Memory)
+            }
+        }
+    }
+
+    fn settle_pair(&mut self, _alloc: Global, number: u64) -> Result<Outcome, Fault> {
+        match try_settle(&mut self.lists, &mut self.changes, number) {
+            Ok(outcome) => Ok(outcome),
+            Err(_) => {
+                self.stage = Stage::Failed;
+                Err(Fault::Memory)
+            }
+        }
+    }
+}
+
+/// The stage after a call that failed.
+fn fallen(stage: Stage) -> Stage
+    ensures { result ≡ fallen stage }
+{
+    match stage {
+        Stage::Idle => Stage::Idle,
+        Stage::Begun | Stage::Failed => Stage::Failed,
+    }
+}

@@ -1,0 +1,22 @@
+//! A register that keeps plain lists.
+ghost use Rattle.std.specs.Prelude.{◌≡◌, ◌≢◌, ◌≤◌, []};
+ghost use Rattle.desk_register.specs.Lists.{listed, undone, AreTotals};
+ghost use Rattle.desk_register.specs.declared.register.Stage.TheVariants.{Idle, Failed};
+
+use crate::list_store::lists::{Change, Lists};
+use crate::register::Stage;
+
+/// A register in plain lists. What is changed since `begin` is noted, so that `back` undoes it without a copy
+/// of the whole.
+#[derive(Drop)]
+pub struct ListRegister {
+    /// At most 999,999,999
+    pub limit: u64,
+    pub lists: Lists,
+    pub changes: Vec<Change>,
+    pub stage: Stage,
+    ghost limited: { limit ≤ 999_999_999 },
+    ghost idle: { stage ≡ Idle → changes.items ≡ [] },
+    ghost totals: { stage ≢ Failed → AreTotals (listed lists) },
+    ghost totals_marked: { AreTotals (undone changes.items (listed lists)) },
+}

@@ -1,0 +1,79 @@
+//! An accepted entry, added to the register: a registration, or an instruction with its mate.
+ghost use Rattle.std.specs.Prelude.{◌≡◌, ◌+◌, ◌<◌, ◌≤◌, length, IfOk, OnOk, IsTrue};
+ghost use Rattle.desk_register.specs.View.{IsChange, IsRead};
+ghost use Rattle.desk_register.specs.Content.{appended};
+ghost use Rattle.desk_register.specs.Looked.{IsFirstOpposite};
+ghost use Rattle.desk_register.specs.Tables.{Grown, IsAccepted, Tables, is_registration, mated};
+ghost use Rattle.desk_rules.specs.Verdict.{Books};
+
+use crate::register::{Fault, Register, Stage};
+use desk_codes::Bic;
+use desk_msg::Instruction;
+use desk_rules::{Entry, Reply};
+use std::alloc::Global;
+
+/// The number of the next entry, where there is room for it.
+pub fn next_number<R: Register>(alloc: Global, register: &mut R) -> Result<u64, Fault>
+    ensures value { (R.view register.new).is_honest → (R.view register.old).is_sure → length (R.view register.old).content.register < (R.view register.old).room
+        → IfOk result (λ n. n ≡ length (R.view register.old).content.register + 1) }
+    ensures most { IfOk result (λ n. n ≤ 999_999_999) }
+    ensures read { IsRead result (R.view register.old) (R.view register.new) }
+{
+    let limit = register.limit();
+    let count = register.count(alloc)?;
+    if count < limit {
+        return Ok(count + 1);
+    }
+    Ok(limit)
+}
+
+/// Adds an accepted participant, account, security or issue, with its reply.
+pub fn add_registration<R: Register>(
+    alloc: Global,
+    register: &mut R,
+    entry: Entry,
+    reply: Reply,
+) -> Result<(), Fault>
+    requires stage { (R.view register.old).stage ≡ Stage.Begun }
+    requires kind { IsTrue (is_registration entry) }
+    requires accepted { (R.view register.old).is_honest → (R.view register.old).is_sure → IsAccepted (R.view register.old).room entry (R.view register.old).content }
+    ensures added { (R.view register.new).is_honest → (R.view register.old).is_sure → OnOk result ((R.view register.new).content ≡ appended entry reply (R.view register.old).content) }
+    ensures tables { (books : Books) → (R.view register.new).is_honest → (R.view register.old).is_sure → Tables (R.view register.old).room books (R.view register.old).content
+        → OnOk result (Grown (R.view register.old).room books entry (R.view register.new).content) }
+    ensures change { IsChange result (R.view register.old) (R.view register.new) }
+{
+    register.append(alloc, entry, reply)
+}
+
+/// Adds an accepted instruction with its reply, under the next number, and pairs it with its mate.
+pub fn add_instruction<R: Register>(
+    alloc: Global,
+    register: &mut R,
+    sender: Bic,
+    instruction: Instruction,
+    number: u64,
+    mate: Option<u64>,
+    reply: Reply,
+) -> Result<(), Fault>
+    requires stage { (R.view register.old).stage ≡ Stage.Begun }
+    requires accepted { (R.view register.old).is_honest → (R.view register.old).is_sure → IsAccepted (R.view register.old).room (Entry.Instruct sender instruction) (R.view register.old).content }
+    requires number { (R.view register.old).is_honest → (R.view register.old).is_sure → number ≡ length (R.view register.old).content.register + 1 }
+    requires mate { (R.view register.old).is_honest → (R.view register.old).is_sure → IsFirstOpposite (R.view register.old).content (record { sender = sender; instruction = instruction }) mate }
+    ensures added { (R.view register.new).is_honest → (R.view register.old).is_sure → OnOk result ((R.view register.new).content ≡ mated number mate (appended (Entry.Instruct sender instruction) reply (R.view register.old).content)) }
+    ensures tables { (books : Books) → (R.view register.new).is_honest → (R.view register.old).is_sure → Tables (R.view register.old).room books (R.view register.old).content
+        → OnOk result (Grown (R.view register.old).room books (Entry.Instruct sender instruction) (R.view register.new).content) }
+    ensures change { IsChange result (R.view register.old) (R.view register.new) }
+{
+    register.append(
+        alloc,
+        Entry::Instruct {
+            sender,
+            instruction,
+        },
+        reply,
+    )?;
+    match mate {
+        Some(earlier) => register.pair(alloc, earlier, number),
+        None => Ok(()),
+    }
+}
