@@ -8,7 +8,7 @@ use Rattle.desk_rules.specs.declared.verdict.Verdict.{Verdict}
 use Rattle.desk_register.specs.declared.register.Stage.TheVariants.{Failed}
 use Rattle.desk_rules.specs.History.{number_of_key, sender_of, reference_of}
 use Rattle.desk_rules.specs.Verdict.{Books, Check, IsVerdictAt}
-use Rattle.desk_register.specs.View.{View}
+use Rattle.desk_register.specs.View.{View, IfTrusted}
 use Rattle.desk_register.specs.Content.{history_of}
 
 -- the commands that the desk takes: participants, accounts, securities, issues, runs, and free instructions
@@ -47,4 +47,4 @@ IsVerdictIfKnown history entry (Some verdict) = IsVerdictOnKey history entry ver
 -- Between two views a call read a sure register, of which no call has failed since `begin`: then this holds of
 -- the history.
 abbrev pub Reading : View → View → (List Entry → Type 0) → Type 0
-Reading old new says = new.is_honest → old.is_sure → old.stage ≢ Failed → says (history_of old.content)
+Reading old new says = IfTrusted old new (old.stage ≢ Failed → says (history_of old.content))

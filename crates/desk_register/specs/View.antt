@@ -22,6 +22,12 @@ pub record View : Type 1 where
   -- the device has not shut the store, so what it shows is what it holds
   pub is_sure : Type 0
 
+-- Where answers over a call are to be trusted, this holds: no wrong answer of the device was taken as true up to the
+-- call's end, and the device had not shut the store at its beginning. (Of one moment, as in a `requires`: twice the
+-- same view.)
+abbrev pub IfTrusted : View → View → Type 0 → Type 0
+IfTrusted old new fact = new.is_honest → old.is_sure → fact
+
 -- the stage after a call that failed
 abbrev pub fallen : Stage → Stage
 fallen Idle = Idle
@@ -39,15 +45,15 @@ module _ (old new : View) where
   -- a `begin` is open, and what it goes back to is marked
   pub record Begins : Type 0 where
     pub stage : new.stage ≡ Begun
-    pub sure : new.is_honest → old.is_sure → new.is_sure
-    pub content : new.is_honest → old.is_sure → new.content ≡ old.content
-    pub mark : new.is_honest → old.is_sure → new.mark ≡ old.content
+    pub sure : IfTrusted old new new.is_sure
+    pub content : IfTrusted old new (new.content ≡ old.content)
+    pub mark : IfTrusted old new (new.mark ≡ old.content)
 
   -- what was changed since `begin` is kept
   pub record Commits : Type 0 where
     pub stage : new.stage ≡ Idle
-    pub sure : new.is_honest → old.is_sure → new.is_sure
-    pub content : new.is_honest → old.is_sure → new.content ≡ old.content
+    pub sure : IfTrusted old new new.is_sure
+    pub content : IfTrusted old new (new.content ≡ old.content)
 
   -- what was changed since `begin` is taken back
   pub record GoesBack : Type 0 where
@@ -58,8 +64,8 @@ module _ (old new : View) where
   -- a call went well: what is marked stays
   pub record Stays : Type 0 where
     pub stage : new.stage ≡ old.stage
-    pub sure : new.is_honest → old.is_sure → new.is_sure
-    pub mark : new.is_honest → old.is_sure → new.mark ≡ old.mark
+    pub sure : IfTrusted old new new.is_sure
+    pub mark : IfTrusted old new (new.mark ≡ old.mark)
 
   -- a call failed: what is marked stays, and with no `begin` open the content does
   pub record Falls : Type 0 where
@@ -78,7 +84,7 @@ Blames result old new = IfErr result (λ fault. fault ≡ Storage → old.failur
 
 -- how a reading call ends: where it goes well nothing has changed
 pub record IsRead {X : Type 0} (result : Result X Fault) (old new : View) : Type 0 where
-  pub same : new.is_honest → old.is_sure → OnOk result (new.content ≡ old.content)
+  pub same : IfTrusted old new (OnOk result (new.content ≡ old.content))
   pub ok : OnOk result (Stays old new)
   pub err : OnErr result (Falls old new)
   pub later : IsLater old new

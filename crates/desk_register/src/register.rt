@@ -1,7 +1,7 @@
 //! The register: the law by which every store of the desk is judged.
 ghost use Rattle.std.specs.Prelude.{◌≡◌, ◌≢◌, ℕ, true, Bool, ◌+◌, ◌<◌, ◌≤◌, ◌^◌, length, option_map, option_and_then, IfOk, IfErr, IsOk, OnOk, OnErr};
 ghost use Rattle.desk_codes.specs.Number.{number_of};
-ghost use Rattle.desk_register.specs.View.{View, IsLater, Begins, Commits, GoesBack, Falls, Blames, IsRead, IsChange};
+ghost use Rattle.desk_register.specs.View.{View, IfTrusted, IsLater, Begins, Commits, GoesBack, Falls, Blames, IsRead, IsChange};
 ghost use Rattle.desk_register.specs.Content.{history_of, appended, paired, CanAppend, CanPair, CanSettle, Settles};
 ghost use Rattle.desk_register.specs.Looked.{view_of, found_at, held_of, IsFirstOpposite, IsDuePairAfter, IsSecurityAfter};
 ghost use Rattle.desk_rules.specs.History.{number_of_key};
@@ -68,37 +68,37 @@ pub trait Register {
 
     /// How many entries there are.
     fn count(&mut self, alloc: Global) -> Result<u64, Fault>
-        ensures value { (view self.new).is_honest → (view self.old).is_sure → IfOk result (λ r. r ≡ length (view self.old).content.register) }
+        ensures value { IfTrusted (view self.old) (view self.new) (IfOk result (λ r. r ≡ length (view self.old).content.register)) }
         ensures read { IsRead result (view self.old) (view self.new) }
         ensures plain { plain ≡ true → IsOk result };
 
     /// Whether a BIC is a participant's.
     fn participant(&mut self, alloc: Global, bic: Bic) -> Result<bool, Fault>
-        ensures value { (view self.new).is_honest → (view self.old).is_sure → IfOk result (λ r. r ≡ is_participant (history_of (view self.old).content) bic) }
+        ensures value { IfTrusted (view self.old) (view self.new) (IfOk result (λ r. r ≡ is_participant (history_of (view self.old).content) bic)) }
         ensures read { IsRead result (view self.old) (view self.new) }
         ensures plain { plain ≡ true → IsOk result };
 
     /// Whose an account is; None where there is no such account.
     fn owner(&mut self, alloc: Global, account: AccountId) -> Result<Option<Bic>, Fault>
-        ensures value { (view self.new).is_honest → (view self.old).is_sure → IfOk result (λ r. r ≡ owner_of (history_of (view self.old).content) account) }
+        ensures value { IfTrusted (view self.old) (view self.new) (IfOk result (λ r. r ≡ owner_of (history_of (view self.old).content) account)) }
         ensures read { IsRead result (view self.old) (view self.new) }
         ensures plain { plain ≡ true → IsOk result };
 
     /// How a security is counted; None where there is no such security.
     fn security(&mut self, alloc: Global, isin: Isin) -> Result<Option<Kind>, Fault>
-        ensures value { (view self.new).is_honest → (view self.old).is_sure → IfOk result (λ r. r ≡ kind_of (history_of (view self.old).content) isin) }
+        ensures value { IfTrusted (view self.old) (view self.new) (IfOk result (λ r. r ≡ kind_of (history_of (view self.old).content) isin)) }
         ensures read { IsRead result (view self.old) (view self.new) }
         ensures plain { plain ≡ true → IsOk result };
 
     /// What was issued of a security less what was redeemed; unknown once a call has failed.
     fn outstanding(&mut self, alloc: Global, isin: Isin) -> Result<u64, Fault>
-        ensures value { (view self.new).is_honest → (view self.old).is_sure → (view self.old).stage ≢ Stage.Failed → IfOk result (λ r. redeemed (history_of (view self.old).content) isin + r ≡ issued (history_of (view self.old).content) isin) }
+        ensures value { IfTrusted (view self.old) (view self.new) ((view self.old).stage ≢ Stage.Failed → IfOk result (λ r. redeemed (history_of (view self.old).content) isin + r ≡ issued (history_of (view self.old).content) isin)) }
         ensures read { IsRead result (view self.old) (view self.new) }
         ensures plain { plain ≡ true → IsOk result };
 
     /// The day of the last run; None before any.
     fn last_run(&mut self, alloc: Global) -> Result<Option<Day>, Fault>
-        ensures value { (view self.new).is_honest → (view self.old).is_sure → IfOk result (λ r. option_map number_of r ≡ last_run (history_of (view self.old).content)) }
+        ensures value { IfTrusted (view self.old) (view self.new) (IfOk result (λ r. option_map number_of r ≡ last_run (history_of (view self.old).content))) }
         ensures read { IsRead result (view self.old) (view self.new) }
         ensures plain { plain ≡ true → IsOk result };
 
@@ -109,12 +109,12 @@ pub trait Register {
         sender: Sender,
         reference: Reference,
     ) -> Result<Option<Found>, Fault>
-        ensures value { (view self.new).is_honest → (view self.old).is_sure → IfOk result (λ r. option_map view_of r ≡ option_and_then (found_at (view self.old).content) (number_of_key (history_of (view self.old).content) sender reference)) }
+        ensures value { IfTrusted (view self.old) (view self.new) (IfOk result (λ r. option_map view_of r ≡ option_and_then (found_at (view self.old).content) (number_of_key (history_of (view self.old).content) sender reference))) }
         ensures read { IsRead result (view self.old) (view self.new) };
 
     /// The entry of this number, counted from 1, with its reply and where it stands; None where there is none.
     fn by_number(&mut self, alloc: Global, number: u64) -> Result<Option<Found>, Fault>
-        ensures value { (view self.new).is_honest → (view self.old).is_sure → IfOk result (λ r. option_map view_of r ≡ found_at (view self.old).content number) }
+        ensures value { IfTrusted (view self.old) (view self.new) (IfOk result (λ r. option_map view_of r ≡ found_at (view self.old).content number)) }
         ensures read { IsRead result (view self.old) (view self.new) };
 
     /// The least number of an unmatched instruction that is opposite to one of this sender.
@@ -124,13 +124,13 @@ pub trait Register {
         sender: Bic,
         instruction: &Instruction,
     ) -> Result<Option<u64>, Fault>
-        ensures value { (view self.new).is_honest → (view self.old).is_sure → IfOk result (λ r. IsFirstOpposite (view self.old).content (record { sender = sender; instruction = instruction.now }) r) }
+        ensures value { IfTrusted (view self.old) (view self.new) (IfOk result (λ r. IsFirstOpposite (view self.old).content (record { sender = sender; instruction = instruction.now }) r)) }
         ensures read { IsRead result (view self.old) (view self.new) }
         ensures plain { plain ≡ true → IsOk result };
 
     /// What an account holds of a security; 0 where there is no such account or security.
     fn position(&mut self, alloc: Global, account: AccountId, isin: Isin) -> Result<u64, Fault>
-        ensures value { (view self.new).is_honest → (view self.old).is_sure → IfOk result (λ r. r ≡ (view self.old).content.position account isin) }
+        ensures value { IfTrusted (view self.old) (view self.new) (IfOk result (λ r. r ≡ (view self.old).content.position account isin)) }
         ensures read { IsRead result (view self.old) (view self.new) }
         ensures plain { plain ≡ true → IsOk result };
 
@@ -141,42 +141,42 @@ pub trait Register {
         day: Day,
         place: Option<Place>,
     ) -> Result<Option<Place>, Fault>
-        ensures value { (view self.new).is_honest → (view self.old).is_sure → IfOk result (λ r. IsDuePairAfter (view self.old).content (number_of day) place r) }
+        ensures value { IfTrusted (view self.old) (view self.new) (IfOk result (λ r. IsDuePairAfter (view self.old).content (number_of day) place r)) }
         ensures read { IsRead result (view self.old) (view self.new) }
         ensures plain { plain ≡ true → IsOk result };
 
     /// The first security, in order of its bytes, above one (above none: the first of all).
     fn security_after(&mut self, alloc: Global, isin: Option<Isin>) -> Result<Option<Isin>, Fault>
-        ensures value { (view self.new).is_honest → (view self.old).is_sure → IfOk result (λ r. IsSecurityAfter (history_of (view self.old).content) isin r) }
+        ensures value { IfTrusted (view self.old) (view self.new) (IfOk result (λ r. IsSecurityAfter (history_of (view self.old).content) isin r)) }
         ensures read { IsRead result (view self.old) (view self.new) }
         ensures plain { plain ≡ true → IsOk result };
 
     /// What all registered accounts hold of a security.
     fn held(&mut self, alloc: Global, isin: Isin) -> Result<u64, Fault>
-        requires { (view self.old).is_honest → (view self.old).is_sure → held_of (view self.old).content isin < 2 ^ 64 }
-        ensures value { (view self.new).is_honest → (view self.old).is_sure → IfOk result (λ r. r ≡ held_of (view self.old).content isin) }
+        requires { IfTrusted (view self.old) (view self.old) (held_of (view self.old).content isin < 2 ^ 64) }
+        ensures value { IfTrusted (view self.old) (view self.new) (IfOk result (λ r. r ≡ held_of (view self.old).content isin)) }
         ensures read { IsRead result (view self.old) (view self.new) }
         ensures plain { plain ≡ true → IsOk result };
 
     /// Adds an entry with its reply.
     fn append(&mut self, alloc: Global, entry: Entry, reply: Reply) -> Result<(), Fault>
         requires stage { (view self.old).stage ≡ Stage.Begun }
-        requires fits { (view self.old).is_honest → (view self.old).is_sure → CanAppend entry (view self.old).content }
-        ensures added { (view self.new).is_honest → (view self.old).is_sure → OnOk result ((view self.new).content ≡ appended entry reply (view self.old).content) }
+        requires fits { IfTrusted (view self.old) (view self.old) (CanAppend entry (view self.old).content) }
+        ensures added { IfTrusted (view self.old) (view self.new) (OnOk result ((view self.new).content ≡ appended entry reply (view self.old).content)) }
         ensures change { IsChange result (view self.old) (view self.new) };
 
     /// Makes two unmatched instructions each other's mates, by their numbers.
     fn pair(&mut self, alloc: Global, earlier: u64, later: u64) -> Result<(), Fault>
         requires stage { (view self.old).stage ≡ Stage.Begun }
-        requires fits { (view self.old).is_honest → (view self.old).is_sure → CanPair (view self.old).content earlier later }
-        ensures paired { (view self.new).is_honest → (view self.old).is_sure → OnOk result ((view self.new).content ≡ paired earlier later (view self.old).content) }
+        requires fits { IfTrusted (view self.old) (view self.old) (CanPair (view self.old).content earlier later) }
+        ensures paired { IfTrusted (view self.old) (view self.new) (OnOk result ((view self.new).content ≡ paired earlier later (view self.old).content)) }
         ensures change { IsChange result (view self.old) (view self.new) };
 
     /// Settles the matched pair of this number where it is covered, and moves both legs; else says what it
     /// lacks, and changes the reason alone.
     fn settle_pair(&mut self, alloc: Global, number: u64) -> Result<Outcome, Fault>
         requires stage { (view self.old).stage ≡ Stage.Begun }
-        requires fits { (view self.old).is_honest → (view self.old).is_sure → CanSettle (view self.old).content number }
-        ensures settled { (view self.new).is_honest → (view self.old).is_sure → IfOk result (λ outcome. Settles (view self.old).content number outcome (view self.new).content) }
+        requires fits { IfTrusted (view self.old) (view self.old) (CanSettle (view self.old).content number) }
+        ensures settled { IfTrusted (view self.old) (view self.new) (IfOk result (λ outcome. Settles (view self.old).content number outcome (view self.new).content)) }
         ensures change { IsChange result (view self.old) (view self.new) };
 }

@@ -1,6 +1,6 @@
 //! An accepted entry, added to the register: a registration, or an instruction with its mate.
 ghost use Rattle.std.specs.Prelude.{◌≡◌, ◌+◌, ◌<◌, ◌≤◌, length, IfOk, OnOk, IsTrue};
-ghost use Rattle.desk_register.specs.View.{IsChange, IsRead};
+ghost use Rattle.desk_register.specs.View.{IfTrusted, IsChange, IsRead};
 ghost use Rattle.desk_register.specs.Content.{appended};
 ghost use Rattle.desk_register.specs.Looked.{IsFirstOpposite};
 ghost use Rattle.desk_register.specs.Tables.{Grown, IsAccepted, Tables, is_registration, mated};
@@ -14,8 +14,8 @@ use std::alloc::Global;
 
 /// The number of the next entry, where there is room for it.
 pub fn next_number<R: Register>(alloc: Global, register: &mut R) -> Result<u64, Fault>
-    ensures value { (R.view register.new).is_honest → (R.view register.old).is_sure → length (R.view register.old).content.register < (R.view register.old).room
-        → IfOk result (λ n. n ≡ length (R.view register.old).content.register + 1) }
+    ensures value { IfTrusted (R.view register.old) (R.view register.new) (length (R.view register.old).content.register < (R.view register.old).room
+        → IfOk result (λ n. n ≡ length (R.view register.old).content.register + 1)) }
     ensures most { IfOk result (λ n. n ≤ 999_999_999) }
     ensures read { IsRead result (R.view register.old) (R.view register.new) }
 {
@@ -36,10 +36,10 @@ pub fn add_registration<R: Register>(
 ) -> Result<(), Fault>
     requires stage { (R.view register.old).stage ≡ Stage.Begun }
     requires kind { IsTrue (is_registration entry) }
-    requires accepted { (R.view register.old).is_honest → (R.view register.old).is_sure → IsAccepted (R.view register.old).room entry (R.view register.old).content }
-    ensures added { (R.view register.new).is_honest → (R.view register.old).is_sure → OnOk result ((R.view register.new).content ≡ appended entry reply (R.view register.old).content) }
-    ensures tables { (books : Books) → (R.view register.new).is_honest → (R.view register.old).is_sure → Tables (R.view register.old).room books (R.view register.old).content
-        → OnOk result (Grown (R.view register.old).room books entry (R.view register.new).content) }
+    requires accepted { IfTrusted (R.view register.old) (R.view register.old) (IsAccepted (R.view register.old).room entry (R.view register.old).content) }
+    ensures added { IfTrusted (R.view register.old) (R.view register.new) (OnOk result ((R.view register.new).content ≡ appended entry reply (R.view register.old).content)) }
+    ensures tables { (books : Books) → IfTrusted (R.view register.old) (R.view register.new) (Tables (R.view register.old).room books (R.view register.old).content
+        → OnOk result (Grown (R.view register.old).room books entry (R.view register.new).content)) }
     ensures change { IsChange result (R.view register.old) (R.view register.new) }
 {
     register.append(alloc, entry, reply)
@@ -56,12 +56,12 @@ pub fn add_instruction<R: Register>(
     reply: Reply,
 ) -> Result<(), Fault>
     requires stage { (R.view register.old).stage ≡ Stage.Begun }
-    requires accepted { (R.view register.old).is_honest → (R.view register.old).is_sure → IsAccepted (R.view register.old).room (Entry.Instruct sender instruction) (R.view register.old).content }
-    requires number { (R.view register.old).is_honest → (R.view register.old).is_sure → number ≡ length (R.view register.old).content.register + 1 }
-    requires mate { (R.view register.old).is_honest → (R.view register.old).is_sure → IsFirstOpposite (R.view register.old).content (record { sender = sender; instruction = instruction }) mate }
-    ensures added { (R.view register.new).is_honest → (R.view register.old).is_sure → OnOk result ((R.view register.new).content ≡ mated number mate (appended (Entry.Instruct sender instruction) reply (R.view register.old).content)) }
-    ensures tables { (books : Books) → (R.view register.new).is_honest → (R.view register.old).is_sure → Tables (R.view register.old).room books (R.view register.old).content
-        → OnOk result (Grown (R.view register.old).room books (Entry.Instruct sender instruction) (R.view register.new).content) }
+    requires accepted { IfTrusted (R.view register.old) (R.view register.old) (IsAccepted (R.view register.old).room (Entry.Instruct sender instruction) (R.view register.old).content) }
+    requires number { IfTrusted (R.view register.old) (R.view register.old) (number ≡ length (R.view register.old).content.register + 1) }
+    requires mate { IfTrusted (R.view register.old) (R.view register.old) (IsFirstOpposite (R.view register.old).content (record { sender = sender; instruction = instruction }) mate) }
+    ensures added { IfTrusted (R.view register.old) (R.view register.new) (OnOk result ((R.view register.new).content ≡ mated number mate (appended (Entry.Instruct sender instruction) reply (R.view register.old).content))) }
+    ensures tables { (books : Books) → IfTrusted (R.view register.old) (R.view register.new) (Tables (R.view register.old).room books (R.view register.old).content
+        → OnOk result (Grown (R.view register.old).room books (Entry.Instruct sender instruction) (R.view register.new).content)) }
     ensures change { IsChange result (R.view register.old) (R.view register.new) }
 {
     register.append(

@@ -1,6 +1,6 @@
 //! An accepted entry, from its conditions to its reply.
 ghost use Rattle.std.specs.Prelude.{◌≡◌, ◌+◌, ◌<◌, length, IfOk, OnOk, IsTrue};
-ghost use Rattle.desk_register.specs.View.{IsStep};
+ghost use Rattle.desk_register.specs.View.{IfTrusted, IsStep};
 ghost use Rattle.desk_register.specs.Applied.{CanApply, HasApplied, Keeps};
 ghost use Rattle.desk_register.specs.Decision.{is_of_today};
 ghost use Rattle.desk_register.specs.Tables.{is_registration};
@@ -22,9 +22,9 @@ use std::alloc::Global;
 pub fn apply<R: Register>(alloc: Global, register: &mut R, entry: Entry) -> Result<Applied, Fault>
     requires stage { (R.view register.old).stage ≡ Stage.Begun }
     requires today { IsTrue (is_of_today entry) }
-    requires accepted { (R.view register.old).is_honest → (R.view register.old).is_sure → CanApply (R.view register.old).room entry (R.view register.old).content }
-    ensures applied { (books : Books) → (R.view register.new).is_honest → (R.view register.old).is_sure → Keeps (R.view register.old).room books (R.view register.old).content
-        → IfOk result (λ applied. HasApplied (R.view register.old).room books entry applied (R.view register.new).content) }
+    requires accepted { IfTrusted (R.view register.old) (R.view register.old) (CanApply (R.view register.old).room entry (R.view register.old).content) }
+    ensures applied { (books : Books) → IfTrusted (R.view register.old) (R.view register.new) (Keeps (R.view register.old).room books (R.view register.old).content
+        → IfOk result (λ applied. HasApplied (R.view register.old).room books entry applied (R.view register.new).content)) }
     ensures step { IsStep result (R.view register.old) (R.view register.new) }
 {
     match entry {
@@ -50,9 +50,9 @@ fn apply_registration<R: Register>(
 ) -> Result<Applied, Fault>
     requires stage { (R.view register.old).stage ≡ Stage.Begun }
     requires kind { IsTrue (is_registration entry) }
-    requires accepted { (R.view register.old).is_honest → (R.view register.old).is_sure → CanApply (R.view register.old).room entry (R.view register.old).content }
-    ensures applied { (books : Books) → (R.view register.new).is_honest → (R.view register.old).is_sure → Keeps (R.view register.old).room books (R.view register.old).content
-        → IfOk result (λ applied. HasApplied (R.view register.old).room books entry applied (R.view register.new).content) }
+    requires accepted { IfTrusted (R.view register.old) (R.view register.old) (CanApply (R.view register.old).room entry (R.view register.old).content) }
+    ensures applied { (books : Books) → IfTrusted (R.view register.old) (R.view register.new) (Keeps (R.view register.old).room books (R.view register.old).content
+        → IfOk result (λ applied. HasApplied (R.view register.old).room books entry applied (R.view register.new).content)) }
     ensures step { IsStep result (R.view register.old) (R.view register.new) }
 {
     let number = next_number(alloc, register)?;
@@ -76,9 +76,9 @@ fn apply_instruction<R: Register>(
 ) -> Result<Applied, Fault>
     requires stage { (R.view register.old).stage ≡ Stage.Begun }
     requires today { IsTrue (is_of_today (Entry.Instruct sender instruction)) }
-    requires accepted { (R.view register.old).is_honest → (R.view register.old).is_sure → CanApply (R.view register.old).room (Entry.Instruct sender instruction) (R.view register.old).content }
-    ensures applied { (books : Books) → (R.view register.new).is_honest → (R.view register.old).is_sure → Keeps (R.view register.old).room books (R.view register.old).content
-        → IfOk result (λ applied. HasApplied (R.view register.old).room books (Entry.Instruct sender instruction) applied (R.view register.new).content) }
+    requires accepted { IfTrusted (R.view register.old) (R.view register.old) (CanApply (R.view register.old).room (Entry.Instruct sender instruction) (R.view register.old).content) }
+    ensures applied { (books : Books) → IfTrusted (R.view register.old) (R.view register.new) (Keeps (R.view register.old).room books (R.view register.old).content
+        → IfOk result (λ applied. HasApplied (R.view register.old).room books (Entry.Instruct sender instruction) applied (R.view register.new).content)) }
     ensures step { IsStep result (R.view register.old) (R.view register.new) }
 {
     let number = next_number(alloc, register)?;
@@ -106,9 +106,9 @@ fn apply_run<R: Register>(
     day: Day,
 ) -> Result<Applied, Fault>
     requires stage { (R.view register.old).stage ≡ Stage.Begun }
-    requires accepted { (R.view register.old).is_honest → (R.view register.old).is_sure → CanApply (R.view register.old).room (Entry.Run reference day) (R.view register.old).content }
-    ensures applied { (books : Books) → (R.view register.new).is_honest → (R.view register.old).is_sure → Keeps (R.view register.old).room books (R.view register.old).content
-        → IfOk result (λ applied. HasApplied (R.view register.old).room books (Entry.Run reference day) applied (R.view register.new).content) }
+    requires accepted { IfTrusted (R.view register.old) (R.view register.old) (CanApply (R.view register.old).room (Entry.Run reference day) (R.view register.old).content) }
+    ensures applied { (books : Books) → IfTrusted (R.view register.old) (R.view register.new) (Keeps (R.view register.old).room books (R.view register.old).content
+        → IfOk result (λ applied. HasApplied (R.view register.old).room books (Entry.Run reference day) applied (R.view register.new).content)) }
     ensures step { IsStep result (R.view register.old) (R.view register.new) }
 {
     let passed = run_pass(alloc, register, day)?;

@@ -1,7 +1,7 @@
 //! A settlement run over the register.
 ghost use Rattle.std.specs.Prelude.{◌≡◌, ◌+◌, ◌<◌, length, IfOk, OnOk, List, ℕ};
 ghost use Rattle.desk_codes.specs.Number.{number_of};
-ghost use Rattle.desk_register.specs.View.{IsChange};
+ghost use Rattle.desk_register.specs.View.{IfTrusted, IsChange};
 ghost use Rattle.desk_register.specs.Content.{CanSettle, appended, history_of};
 ghost use Rattle.desk_register.specs.Looked.{IsDuePairAfter};
 ghost use Rattle.desk_register.specs.Tables.{Grown, Tables};
@@ -29,9 +29,9 @@ fn take_next<R: Register>(
     place: Option<Place>,
 ) -> Result<Option<Taken>, Fault>
     requires stage { (R.view register.old).stage ≡ Stage.Begun }
-    requires fits { (R.view register.old).is_honest → (R.view register.old).is_sure → (next : Place) → IsDuePairAfter (R.view register.old).content (number_of day) place (Some next)
-        → CanSettle (R.view register.old).content next.number }
-    ensures taken { (R.view register.new).is_honest → (R.view register.old).is_sure → IfOk result (λ taken. IsTaken (R.view register.old).content (number_of day) place taken (R.view register.new).content) }
+    requires fits { IfTrusted (R.view register.old) (R.view register.old) ((next : Place) → IsDuePairAfter (R.view register.old).content (number_of day) place (Some next)
+        → CanSettle (R.view register.old).content next.number) }
+    ensures taken { IfTrusted (R.view register.old) (R.view register.new) (IfOk result (λ taken. IsTaken (R.view register.old).content (number_of day) place taken (R.view register.new).content)) }
     ensures change { IsChange result (R.view register.old) (R.view register.new) }
 {
     match register.due_pair_after(alloc, day, place)? {
@@ -78,10 +78,10 @@ impl Passed {
 /// Tries each due pair once, in order of settlement day and number, and settles those that are covered.
 pub fn run_pass<R: Register>(alloc: Global, register: &mut R, day: Day) -> Result<Passed, Fault>
     requires stage { (R.view register.old).stage ≡ Stage.Begun }
-    requires tables { (R.view register.old).is_honest → (R.view register.old).is_sure → CanRun (R.view register.old).room (R.view register.old).content }
-    ensures kept { (R.view register.new).is_honest → (R.view register.old).is_sure → OnOk result ((R.view register.new).content.register ≡ (R.view register.old).content.register) }
-    ensures ran { (books : Books) (reference : List ℕ) → (R.view register.new).is_honest → (R.view register.old).is_sure → Tables (R.view register.old).room books (R.view register.old).content → AreOfToday books.history
-        → IfOk result (λ passed. RanTo books (Entry.Run reference day) passed.settled passed.waiting (R.view register.new).content) }
+    requires tables { IfTrusted (R.view register.old) (R.view register.old) (CanRun (R.view register.old).room (R.view register.old).content) }
+    ensures kept { IfTrusted (R.view register.old) (R.view register.new) (OnOk result ((R.view register.new).content.register ≡ (R.view register.old).content.register)) }
+    ensures ran { (books : Books) (reference : List ℕ) → IfTrusted (R.view register.old) (R.view register.new) (Tables (R.view register.old).room books (R.view register.old).content → AreOfToday books.history
+        → IfOk result (λ passed. RanTo books (Entry.Run reference day) passed.settled passed.waiting (R.view register.new).content)) }
     ensures change { IsChange result (R.view register.old) (R.view register.new) }
 {
     let count = register.count(alloc)?;
@@ -111,10 +111,10 @@ pub fn add_run<R: Register>(
     reply: Reply,
 ) -> Result<(), Fault>
     requires stage { (R.view register.old).stage ≡ Stage.Begun }
-    requires passed { (R.view register.old).is_honest → (R.view register.old).is_sure → IsPassed (R.view register.old).room (Entry.Run reference day) (R.view register.old).content }
-    ensures added { (R.view register.new).is_honest → (R.view register.old).is_sure → OnOk result ((R.view register.new).content ≡ appended (Entry.Run reference day) reply (R.view register.old).content) }
-    ensures tables { (R.view register.new).is_honest → (R.view register.old).is_sure
-        → OnOk result ((books : Books) × (books.history ≡ history_of (R.view register.old).content) × Grown (R.view register.old).room books (Entry.Run reference day) (R.view register.new).content) }
+    requires passed { IfTrusted (R.view register.old) (R.view register.old) (IsPassed (R.view register.old).room (Entry.Run reference day) (R.view register.old).content) }
+    ensures added { IfTrusted (R.view register.old) (R.view register.new) (OnOk result ((R.view register.new).content ≡ appended (Entry.Run reference day) reply (R.view register.old).content)) }
+    ensures tables { IfTrusted (R.view register.old) (R.view register.new)
+        (OnOk result ((books : Books) × (books.history ≡ history_of (R.view register.old).content) × Grown (R.view register.old).room books (Entry.Run reference day) (R.view register.new).content)) }
     ensures change { IsChange result (R.view register.old) (R.view register.new) }
 {
     register.append(alloc, Entry::Run { reference, day }, reply)
