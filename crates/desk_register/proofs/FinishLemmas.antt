@@ -31,7 +31,8 @@ use Rattle.desk_rules.specs.Settlement.{IsOpen, is_due, precedes, settled_before
 use Rattle.desk_rules.specs.Verdict.{Books, AreBooks, WasAccepted, IsVerdict}
 use Rattle.desk_register.specs.Content.{Content, history_of, appended}
 use Rattle.desk_register.specs.Tables.{Tables, Grown, StandsAt, StandsSo, IsReason, IsLastTry}
-use Rattle.desk_register.specs.Pass.{PassesAt, PassesSo, IsTried, HasPassed, IsPassed, reason_of}
+use Rattle.desk_register.specs.Pass.{HasPassed, IsPassed}
+use Rattle.desk_register.proofs.PassInvariant.{PassesAt, PassesSo, IsTried, reason_of}
 use Rattle.desk_rules.proofs.Decided.{In, In-from_Contains, Contains-from_In, filter-none, filter-same, not_back}
 use Rattle.desk_rules.proofs.Existence.{run_unpaired}
 use Rattle.desk_rules.proofs.HistoryLemmas.{entry_at-end, before-front, before-all, instruction_at-known, instruction_at-front}

@@ -14,6 +14,7 @@ pub mod DecisionLemmas
 pub mod TablesLemmas
 pub mod InstructLemmas
 pub mod ViewLemmas
+pub mod PassInvariant
 pub mod PassLemmas
 pub mod StepLemmas
 pub mod PassSteps

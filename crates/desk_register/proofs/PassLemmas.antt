@@ -24,7 +24,8 @@ use Rattle.desk_register.specs.Content.{Content}
 use Rattle.desk_register.specs.Looked.{IsDue, IsDuePairAfter, IsMatchedPair, IsAbove, IsBefore}
 use Rattle.desk_register.specs.Tables.{mate_in}
 use Rattle.desk_register.specs.Decision.{is_of_today}
-use Rattle.desk_register.specs.Pass.{AreOfToday, PassesAt, PassesSo, IsWaiting, IsPassing}
+use Rattle.desk_register.specs.Pass.{AreOfToday}
+use Rattle.desk_register.proofs.PassInvariant.{PassesAt, PassesSo, IsWaiting, IsPassing}
 use Rattle.desk_rules.proofs.Decided.{In, In-from_Contains, Contains-from_In}
 use Rattle.desk_rules.proofs.HistoryLemmas.{entry_at-end, before-all}
 use Rattle.desk_rules.proofs.SettlementLemmas.{due_facts, sooner_true, above_true, above_day, above_number}

@@ -16,7 +16,7 @@ use Rattle.desk_rules.specs.Covered.{lack_of}
 use Rattle.desk_rules.specs.Settlement.{is_above, is_sooner, precedes, settled_before, IsNext}
 use Rattle.desk_rules.specs.Verdict.{Books, AreBooks}
 use Rattle.desk_register.specs.Tables.{mate_in}
-use Rattle.desk_register.specs.Pass.{PassesSo, IsUntried, IsTried}
+use Rattle.desk_register.proofs.PassInvariant.{PassesSo, IsUntried, IsTried}
 use Rattle.desk_rules.proofs.Decided.{In-from_Contains, Contains-from_In, In-left, In-right, In-push_cases, filter-push_no, filter-front, not_back}
 use Rattle.desk_rules.proofs.SettlementLemmas.{precedes_strict, precedes_pair, ordered_pairs, one_number}
 use Rattle.desk_rules.proofs.SettlementGrowth.{IsSettledTo, IsPlaceOf, below_above, at_place, own_place, sooner_place, before_next}

@@ -36,7 +36,8 @@ use Rattle.desk_register.specs.Decision.{is_of_today}
 use Rattle.desk_register.specs.Content.{Content, history_of, standing_both, CanSettle, Settles, SettlesSides, delivery_of as deliverer, receipt_of as receiver}
 use Rattle.desk_register.specs.Looked.{IsDue, IsDuePairAfter}
 use Rattle.desk_register.specs.Tables.{mate_in}
-use Rattle.desk_register.specs.Pass.{settled_of, AreOfToday, PassesAt, IsPassing}
+use Rattle.desk_register.specs.Pass.{settled_of, AreOfToday}
+use Rattle.desk_register.proofs.PassInvariant.{PassesAt, IsPassing}
 use Rattle.desk_rules.proofs.Accepted.{accepted_last}
 use Rattle.desk_rules.proofs.Conservation.{accepted_all, account_registered, paired_add_up}
 use Rattle.desk_rules.proofs.Decided.{In, Contains-from_In, In-push_cases}
