@@ -17,8 +17,11 @@ use std::alloc::Global;
 /// Whether a `begin` is open, and whether a call within it has failed.
 #[derive(Clone, Copy, Debug, PartialEq, Eq)]
 pub enum Stage {
+    /// No `begin` is open.
     Idle,
+    /// One is open, and every call since went well.
     Begun,
+    /// One is open, and a call since has failed: `back` is all that is left.
     Failed,
 }
 
@@ -32,12 +35,19 @@ pub enum Fault {
 }
 
 /// What the desk keeps: its accepted entries with their replies, where each stands, and the positions.
+///
+/// Whatever changes stands between `begin` and `commit`, or `back`, which takes it all back. What only reads may be
+/// called at any time.
 pub trait Register {
+    /// What contracts see of a register
     ghost view: { Self → View };
 
     /// Whether calls that take no memory always succeed
     ghost plain: { Bool };
 
+    /// Begins a group of changes, which are then kept or taken back together, and marks what is held now as what
+    /// `back` goes back to. After a fault there is no such group, so nothing is left to undo: `begin` again, or
+    /// give up.
     fn begin(&mut self, alloc: Global) -> Result<(), Fault>
         requires { (view self.old).stage ≡ Stage.Idle }
         ensures ok { OnOk result (Begins (view self.old) (view self.new)) }
@@ -46,6 +56,8 @@ pub trait Register {
         ensures blame { Blames result (view self.old) (view self.new) }
         ensures plain { plain ≡ true → IsOk result };
 
+    /// Keeps all that was changed since `begin`, for good; to be called once every call of the group went well. After
+    /// a fault the group has failed like after any other, and only `back` ends it.
     fn commit(&mut self, alloc: Global) -> Result<(), Fault>
         requires { (view self.old).stage ≡ Stage.Begun }
         ensures ok { OnOk result (Commits (view self.old) (view self.new)) }
@@ -54,6 +66,9 @@ pub trait Register {
         ensures blame { Blames result (view self.old) (view self.new) }
         ensures plain { plain ≡ true → IsOk result };
 
+    /// Takes back all that was changed since `begin`: after a call that failed, or where the caller gives the group
+    /// up. Where it goes well, a store that a fault had shut is open again. After a fault of its own nothing is
+    /// known of what is held, and the register should not be used further.
     fn back(&mut self, alloc: Global) -> Result<(), Fault>
         requires { (view self.old).stage ≢ Stage.Idle }
         ensures ok { OnOk result (GoesBack (view self.old) (view self.new)) }
