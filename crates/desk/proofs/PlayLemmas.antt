@@ -8,7 +8,7 @@ use Rattle.desk_rules.specs.declared.reply.Reply.{Reply}
 use Rattle.desk_rules.specs.Verdict.{Books}
 use Rattle.desk_register.specs.declared.list_store.list_register.ListRegister.{ListRegister}
 use Rattle.desk_register.specs.Applied.{Keeps, no_books}
-use Rattle.desk_register.specs.Lists.{content_in, listed, undone}
+use Rattle.desk_register.specs.ListView.{view_of_lists}
 use Rattle.desk_register.specs.View.{View}
 use Rattle.desk_book.proofs.RunLemmas.{open_all_along}
 use Rattle.desk_book.specs.declared.fault.Fault.{Fault}
@@ -23,18 +23,6 @@ use Rattle.desk.specs.declared.status.Failure.{Failure}
 use Rattle.desk.specs.declared.status.Failure.TheVariants as failure
 use Rattle.desk.specs.declared.status.Status.{Status}
 use Rattle.desk.specs.declared.status.Status.TheVariants as exit
-
--- what contracts see of lists
-abbrev pub view_of_lists : ListRegister → View
-view_of_lists r = record {
-  content = content_in (listed r.lists);
-  mark = content_in (undone r.changes.items (listed r.lists));
-  stage = r.stage;
-  failures = 0;
-  room = r.limit;
-  is_honest = Unit {0};
-  is_sure = Unit {0};
-}
 
 abbrev counted : Result Reply Fault → ℕ
 counted answer = cond (says_storage answer) 1 0
@@ -90,11 +78,11 @@ told_alone (Ok status) known before after told wrote = let i = given known in (i
 told_alone (Err e) known before after told wrote = wrote
 
 -- a new register keeps the tables of no history, and so does what is equal to it
-pub new_keeps : (made held : ListRegister) → held ≡ made → made.limit ≡ 999_999_999 → Keeps 999_999_999 no_books (content_in (listed made.lists)) → Keeps held.limit no_books (content_in (listed held.lists))
+pub new_keeps : (made held : ListRegister) → held ≡ made → (view_of_lists made).room ≡ 999_999_999 → Keeps 999_999_999 no_books (view_of_lists made).content → Keeps (view_of_lists held).room no_books (view_of_lists held).content
 new_keeps made held same limit keeps =
-    let P : ListRegister → Type 0 = λ r. Keeps r.limit no_books (content_in (listed r.lists)) in
-    let Q : ℕ → Type 0 = λ k. Keeps k no_books (content_in (listed made.lists)) in
+    let P : ListRegister → Type 0 = λ r. Keeps (view_of_lists r).room no_books (view_of_lists r).content in
+    let Q : ℕ → Type 0 = λ k. Keeps k no_books (view_of_lists made).content in
     subst P (sym same) (subst Q (sym limit) keeps)
 
-pub limit_is : (made held : ListRegister) → held ≡ made → made.limit ≡ 999_999_999 → held.limit ≡ 999_999_999
-limit_is made held same limit = let P : ListRegister → Type 0 = λ r. r.limit ≡ 999_999_999 in subst P (sym same) limit
+pub limit_is : (made held : ListRegister) → held ≡ made → (view_of_lists made).room ≡ 999_999_999 → (view_of_lists held).room ≡ 999_999_999
+limit_is made held same limit = let P : ListRegister → Type 0 = λ r. (view_of_lists r).room ≡ 999_999_999 in subst P (sym same) limit

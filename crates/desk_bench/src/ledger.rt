@@ -3,7 +3,7 @@ ghost use Rattle.std.specs.Prelude.{◌≡◌, ◌≤◌, IfOk, OnErr, OnOk, IsT
 ghost use Rattle.desk_rules.specs.Verdict.{Books};
 ghost use Rattle.desk_register.specs.Applied.{CanApply, HasApplied, Keeps};
 ghost use Rattle.desk_register.specs.Decision.{is_of_today};
-ghost use Rattle.desk_register.specs.Lists.{content_in, listed};
+ghost use Rattle.desk_register.specs.ListView.{view_of_lists};
 ghost use Rattle.desk_register.specs.View.{Breaks, IsLater};
 
 use desk_codes::{AccountId, Day, Isin};
@@ -27,13 +27,13 @@ impl Model for Ledger {
     ghost use Rattle.desk_register.specs.declared.list_store.list_register.ListRegister.{ListRegister};
     ghost use Rattle.desk_register.specs.declared.register.Stage.TheVariants.{Idle};
     ghost use Rattle.desk_register.specs.Applied.{Keeps};
-    ghost use Rattle.desk_register.specs.Lists.{content_in, listed};
+    ghost use Rattle.desk_register.specs.ListView.{view_of_lists};
 
     ghost Value = { ListRegister };
 
     ghost view = { λ ledger. ledger.register };
 
-    ghost invariant = { λ ledger. (ledger.register.stage ≡ Idle) × ((books : Books) × Keeps ledger.register.limit books (content_in (listed ledger.register.lists))) };
+    ghost invariant = { λ ledger. ((view_of_lists ledger.register).stage ≡ Idle) × ((books : Books) × Keeps (view_of_lists ledger.register).room books (view_of_lists ledger.register).content) };
 }
 
 /// What came of an entry.
@@ -77,7 +77,7 @@ impl Ledger {
     /// Takes an accepted entry in; after a fault all is taken back.
     fn take(&mut self, alloc: Global, entry: Entry) -> Result<Applied, Fault>
         requires today { IsTrue (is_of_today entry) }
-        requires accepted { CanApply self.old.limit entry (content_in (listed self.old.lists)) }
+        requires accepted { CanApply (view_of_lists self.old).room entry (view_of_lists self.old).content }
     {
         self.register.begin(alloc)?;
         match put(alloc, &mut self.register, entry) {

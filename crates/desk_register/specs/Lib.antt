@@ -1,6 +1,7 @@
 pub mod Content
 pub mod Looked
 pub mod Lists
+pub mod ListView
 pub mod View
 pub mod Decision
 pub mod Tables

@@ -2,7 +2,7 @@
 ghost use Rattle.std.specs.Prelude.{◌≡◌, ◌<◌, ◌≤◌, ◌^◌, ℕ, List, IfOk, OnOk};
 ghost use Rattle.desk_rules.specs.declared.reply.Reply.{Reply as ReplyValue};
 ghost use Rattle.desk_register.specs.Content.{CanAppend, appended};
-ghost use Rattle.desk_register.specs.Lists.{content_in, listed};
+ghost use Rattle.desk_register.specs.ListView.{view_of_lists};
 ghost use Rattle.desk_register.specs.Looked.{held_of};
 
 use desk_book::{security_totals, totals_text};
@@ -16,10 +16,10 @@ use std::test::Fail;
 
 /// Adds an entry, with an empty reply.
 fn add(alloc: Global, register: &mut ListRegister, entry: Entry) -> Result<(), Fault>
-    requires stage { register.old.stage ≡ Stage.Begun }
-    requires fits { CanAppend entry (content_in (listed register.old.lists)) }
-    ensures stage { OnOk result (register.new.stage ≡ Stage.Begun) }
-    ensures added { OnOk result ((reply : ReplyValue) × (content_in (listed register.new.lists) ≡ appended entry reply (content_in (listed register.old.lists)))) }
+    requires stage { (view_of_lists register.old).stage ≡ Stage.Begun }
+    requires fits { CanAppend entry (view_of_lists register.old).content }
+    ensures stage { OnOk result ((view_of_lists register.new).stage ≡ Stage.Begun) }
+    ensures added { OnOk result ((reply : ReplyValue) × ((view_of_lists register.new).content ≡ appended entry reply (view_of_lists register.old).content)) }
 {
     let reply = Reply {
         status: 200,
@@ -36,10 +36,10 @@ fn issue(
     register: &mut ListRegister,
     holding: Holding,
 ) -> Result<(), Fault>
-    requires stage { register.old.stage ≡ Stage.Begun }
+    requires stage { (view_of_lists register.old).stage ≡ Stage.Begun }
     requires little { holding.quantity ≤ 1000 }
-    ensures stage { OnOk result (register.new.stage ≡ Stage.Begun) }
-    ensures added { OnOk result ((reply : ReplyValue) × (content_in (listed register.new.lists) ≡ appended (Entry.Issue holding) reply (content_in (listed register.old.lists)))) }
+    ensures stage { OnOk result ((view_of_lists register.new).stage ≡ Stage.Begun) }
+    ensures added { OnOk result ((reply : ReplyValue) × ((view_of_lists register.new).content ≡ appended (Entry.Issue holding) reply (view_of_lists register.old).content)) }
 {
     let held = register.position(alloc, holding.account, holding.isin)?;
     let outstanding = register.outstanding(alloc, holding.isin)?;
@@ -61,8 +61,8 @@ struct Held {
 
 /// A register of 7 of the later security on the first account, and 600 and 400 of the earlier one on both.
 fn filled(rt: &impl Abort, alloc: Global, held: &Held) -> Result<ListRegister, Fault>
-    ensures stage { IfOk result (λ register. register.stage ≡ Stage.Idle) }
-    ensures small { IfOk result (λ register. (isin : List ℕ) → held_of (content_in (listed register.lists)) isin < 2 ^ 64) }
+    ensures stage { IfOk result (λ register. (view_of_lists register).stage ≡ Stage.Idle) }
+    ensures small { IfOk result (λ register. (isin : List ℕ) → held_of (view_of_lists register).content isin < 2 ^ 64) }
 {
     let reference = held.reference;
     let bic = held.bic;

@@ -1,6 +1,6 @@
 //! The calls of a register in plain lists.
 ghost use Rattle.std.specs.Prelude.{◌≡◌, ◌≤◌, ◌<◌, []};
-ghost use Rattle.desk_register.specs.Lists.{listed, undone, content_in};
+ghost use Rattle.desk_register.specs.ListView.{view_of_lists};
 ghost use Rattle.desk_register.specs.Applied.{Keeps, no_books};
 ghost use Rattle.desk_register.specs.View.{fallen};
 
@@ -28,9 +28,9 @@ impl ListRegister {
     /// An empty register for at most `limit` entries, which are 999,999,999 at most.
     pub fn new(alloc: Global, limit: u64) -> ListRegister
         requires { limit ≤ 999_999_999 }
-        ensures empty { Keeps limit no_books (content_in (listed result.lists)) }
-        ensures limit { result.limit ≡ limit }
-        ensures stage { result.stage ≡ Stage.Idle }
+        ensures empty { Keeps limit no_books (view_of_lists result).content }
+        ensures limit { (view_of_lists result).room ≡ limit }
+        ensures stage { (view_of_lists result).stage ≡ Stage.Idle }
     {
         ListRegister {
             limit,
@@ -46,21 +46,20 @@ impl ListRegister {
             stage: Stage::Idle,
         }
     }
+
+    /// Whether a `begin` is open, and whether a call within it has failed.
+    pub fn stage(&self) -> Stage
+        ensures { result ≡ (view_of_lists self.now).stage }
+    {
+        self.stage
+    }
 }
 
 impl Register for ListRegister {
     ghost use Rattle.std.specs.Prelude.{true};
-    ghost use Rattle.desk_register.specs.Lists.{listed, undone, content_in};
+    ghost use Rattle.desk_register.specs.ListView.{view_of_lists};
 
-    ghost view = { λ r. record {
-      content = content_in (listed r.lists);
-      mark = content_in (undone r.changes.items (listed r.lists));
-      stage = r.stage;
-      failures = 0;
-      room = r.limit;
-      is_honest = Unit {0};
-      is_sure = Unit {0};
-    } };
+    ghost view = { view_of_lists };
 
     ghost plain = { true };
 

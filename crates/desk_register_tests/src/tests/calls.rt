@@ -1,6 +1,7 @@
 //! Each call of a register in plain lists, once at an empty register and once at a filled one. The values are
 //! worked by hand from the entries of `filled`.
 ghost use Rattle.std.specs.Prelude.{◌≡◌, ◌≤◌, OnOk};
+ghost use Rattle.desk_register.specs.ListView.{view_of_lists};
 
 use crate::tests::entries::{
     BOND, Deal, SHARE, UNKNOWN, account, bic, day, delivery, instruct, instruction, isin, issue,
@@ -49,7 +50,7 @@ fn at(
     register: &mut ListRegister,
     number: u64,
 ) -> Result<Option<(u64, Standing)>, Fault>
-    ensures { OnOk result (register.new.stage ≡ register.old.stage) }
+    ensures { OnOk result ((view_of_lists register.new).stage ≡ (view_of_lists register.old).stage) }
 {
     match register.by_number(alloc, number)? {
         Some(found) => Ok(Some((found.number, found.standing))),
@@ -64,7 +65,7 @@ fn number_of(
     sender: Sender,
     reference: Reference,
 ) -> Result<Option<u64>, Fault>
-    ensures { OnOk result (register.new.stage ≡ register.old.stage) }
+    ensures { OnOk result ((view_of_lists register.new).stage ≡ (view_of_lists register.old).stage) }
 {
     match register.by_reference(alloc, sender, reference)? {
         Some(found) => Ok(Some(found.number)),
@@ -122,7 +123,7 @@ const NOTHING: Told = Told {
 };
 
 fn is_empty(rt: &impl Abort, alloc: Global, register: &mut ListRegister) -> Result<(), Fault> {
-    assert_eq!(rt; register.stage, Stage::Idle);
+    assert_eq!(rt; register.stage(), Stage::Idle);
     assert_eq!(rt; register.limit(), 3);
     assert_eq!(rt; register.count(alloc)?, 0);
     assert_eq!(rt; register.last_run(alloc)?, None);
@@ -299,8 +300,8 @@ fn add(
     reference: Reference,
     bic: Bic,
 ) -> Result<(), Fault>
-    requires stage { register.old.stage ≡ Stage.Begun }
-    ensures stage { OnOk result (register.new.stage ≡ Stage.Begun) }
+    requires stage { (view_of_lists register.old).stage ≡ Stage.Begun }
+    ensures stage { OnOk result ((view_of_lists register.new).stage ≡ Stage.Begun) }
 {
     let reply = Reply {
         status: 200,
@@ -318,10 +319,10 @@ fn commits(rt: HostRuntime) -> Result<(), Fail> {
     let gamma = bic("GAMMDEFF")?;
     let mut register = filled(alloc)?.into_register();
     register.begin(alloc)?;
-    assert_eq!(rt; register.stage, Stage::Begun);
+    assert_eq!(rt; register.stage(), Stage::Begun);
     add(alloc, &mut register, key, gamma)?;
     register.commit(alloc)?;
-    assert_eq!(rt; register.stage, Stage::Idle);
+    assert_eq!(rt; register.stage(), Stage::Idle);
     register.begin(alloc)?;
     register.back(alloc)?;
     assert_eq!(rt; register.count(alloc)?, 13);
@@ -344,7 +345,7 @@ fn goes_back(rt: HostRuntime) -> Result<(), Fail> {
     add(alloc, &mut register, key, gamma)?;
     assert_eq!(rt; register.count(alloc)?, 14);
     register.back(alloc)?;
-    assert_eq!(rt; register.stage, Stage::Idle);
+    assert_eq!(rt; register.stage(), Stage::Idle);
     assert_eq!(rt; register.count(alloc)?, 12);
     assert!(rt; !register.participant(alloc, gamma)?);
     assert_eq!(rt;
@@ -357,8 +358,8 @@ fn goes_back(rt: HostRuntime) -> Result<(), Fail> {
 
 /// Pairs the numbers 11 and 12 of a register that has them.
 fn pair_two(rt: &impl Abort, alloc: Global, register: &mut ListRegister) -> Result<(), Fault>
-    requires { register.old.stage ≡ Stage.Begun }
-    ensures { OnOk result (register.new.stage ≡ Stage.Begun) }
+    requires { (view_of_lists register.old).stage ≡ Stage.Begun }
+    ensures { OnOk result ((view_of_lists register.new).stage ≡ Stage.Begun) }
 {
     let count = register.count(alloc)?;
     assert!(rt; count >= 12);
@@ -395,7 +396,7 @@ fn pairs(rt: HostRuntime) -> Result<(), Fail> {
 /// What A-1 and B-1 hold of the share, and how the entries 9 and 10 stand.
 fn sides_of(alloc: Global, register: &mut ListRegister, number: u64) -> Result<Sides, Fail>
     requires { number ≤ 1000 }
-    ensures { OnOk result (register.new.stage ≡ register.old.stage) }
+    ensures { OnOk result ((view_of_lists register.new).stage ≡ (view_of_lists register.old).stage) }
 {
     let from = account("A-1")?;
     let to = account("B-1")?;

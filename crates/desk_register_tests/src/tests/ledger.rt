@@ -3,7 +3,7 @@ ghost use Rattle.std.specs.Prelude.{◌≡◌, ◌≤◌, IfOk, OnOk, IsTrue};
 ghost use Rattle.desk_rules.specs.Verdict.{Books};
 ghost use Rattle.desk_register.specs.Applied.{CanApply, Keeps};
 ghost use Rattle.desk_register.specs.Decision.{is_of_today};
-ghost use Rattle.desk_register.specs.Lists.{content_in, listed};
+ghost use Rattle.desk_register.specs.ListView.{view_of_lists};
 
 use desk_codes::{Day, Isin};
 use desk_register::{
@@ -26,13 +26,13 @@ impl Model for Ledger {
     ghost use Rattle.desk_register.specs.declared.list_store.list_register.ListRegister.{ListRegister};
     ghost use Rattle.desk_register.specs.declared.register.Stage.TheVariants.{Idle};
     ghost use Rattle.desk_register.specs.Applied.{Keeps};
-    ghost use Rattle.desk_register.specs.Lists.{content_in, listed};
+    ghost use Rattle.desk_register.specs.ListView.{view_of_lists};
 
     ghost Value = { ListRegister };
 
     ghost view = { λ ledger. ledger.register };
 
-    ghost invariant = { λ ledger. (ledger.register.stage ≡ Idle) × ((books : Books) × Keeps ledger.register.limit books (content_in (listed ledger.register.lists))) };
+    ghost invariant = { λ ledger. ((view_of_lists ledger.register).stage ≡ Idle) × ((books : Books) × Keeps (view_of_lists ledger.register).room books (view_of_lists ledger.register).content) };
 }
 
 /// What came of an entry.
@@ -60,8 +60,8 @@ impl Ledger {
 
     /// Its register.
     pub fn into_register(self) -> ListRegister
-        ensures idle { result.stage ≡ Stage.Idle }
-        ensures keeps { (books : Books) × Keeps result.limit books (content_in (listed result.lists)) }
+        ensures idle { (view_of_lists result).stage ≡ Stage.Idle }
+        ensures keeps { (books : Books) × Keeps (view_of_lists result).room books (view_of_lists result).content }
     {
         self.register
     }
@@ -69,7 +69,7 @@ impl Ledger {
     /// Takes an accepted entry in; after a fault all is taken back.
     fn take(&mut self, alloc: Global, entry: Entry) -> Result<Applied, Fault>
         requires today { IsTrue (is_of_today entry) }
-        requires accepted { CanApply self.old.limit entry (content_in (listed self.old.lists)) }
+        requires accepted { CanApply (view_of_lists self.old).room entry (view_of_lists self.old).content }
     {
         self.register.begin(alloc)?;
         match apply(alloc, &mut self.register, entry) {
@@ -117,7 +117,7 @@ pub fn try_first(
     ledger: Ledger,
     day: Day,
 ) -> Result<(ListRegister, Option<Outcome>), Fault>
-    ensures { IfOk result (λ tried. tried.0.stage ≡ Stage.Begun) }
+    ensures { IfOk result (λ tried. (view_of_lists tried.0).stage ≡ Stage.Begun) }
 {
     let mut register = ledger.into_register();
     register.begin(alloc)?;

@@ -1,6 +1,7 @@
 use Rattle.std.proofs.Common.{Err, refl, ap}
 use Rattle.desk.specs.declared.status.Failure.TheVariants.{Memory, Input}
-use Rattle.desk.proofs.PlayLemmas.{limit_is, new_keeps, told, told_alone, view_of_lists}
+use Rattle.desk_register.specs.ListView.{view_of_lists}
+use Rattle.desk.proofs.PlayLemmas.{limit_is, new_keeps, told, told_alone}
 use Rattle.desk.proofs.play.answer_play.Goals as goal
 
 pub returns-in-Ok : goal.returns-in-Ok

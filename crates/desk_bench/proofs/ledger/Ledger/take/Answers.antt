@@ -1,14 +1,14 @@
 use Rattle.std.proofs.Common.{◌∙◌, refl, sym, subst}
 use Rattle.desk_register.specs.declared.list_store.list_register.ListRegister.{ListRegister}
 use Rattle.desk_register.specs.Applied.{CanApply}
-use Rattle.desk_register.specs.Lists.{content_in, listed}
+use Rattle.desk_register.specs.ListView.{view_of_lists}
 use Rattle.desk_register.proofs.TestLemmas.{can_apply_in, kept_in}
 use Rattle.desk_bench.proofs.ledger.Ledger.take.Goals as goal
 
 pub put-requires-clause-accepted : goal.put-requires-clause-accepted
 put-requires-clause-accepted c = λ honest sure.
     let b = c.in_ok-begin.ensures in
-    let P : ListRegister → Type 0 = λ r. CanApply r.limit c.args.entry (content_in (listed r.lists)) in
+    let P : ListRegister → Type 0 = λ r. CanApply (view_of_lists r).room c.args.entry (view_of_lists r).content in
     can_apply_in _ _ c.args.entry _ _ b.later.room (b.ok.content tt tt) (subst P (sym c.self.view_is) c.requires.accepted)
 
 pub invariant_of-self-in-Ok : goal.invariant_of-self-in-Ok
