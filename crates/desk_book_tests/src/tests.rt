@@ -1,6 +1,9 @@
 //! Outside vectors, each call once with ample memory, and readers and writers that fail.
 mod commands;
 mod desks;
+mod failed_plays;
+mod failing;
+mod faults;
 mod orders;
 mod plays;
 mod scripts;

@@ -7,7 +7,7 @@ use desk_rules::Reply;
 use std::test::Fail;
 
 /// A free delivery of 400 units, with all that the standard lets stand beside what the desk reads.
-const DELIVERY: &[u8] = b"{4:\n\
+pub const DELIVERY: &[u8] = b"{4:\n\
       :16R:GENL\n\
       :20C::SEME//A1\n\
       :23G:NEWM\n\
@@ -50,7 +50,7 @@ const DELIVERY: &[u8] = b"{4:\n\
       -}\n";
 
 /// Its receipt.
-const RECEIPT: &[u8] = b"{4:\n\
+pub const RECEIPT: &[u8] = b"{4:\n\
       :16R:GENL\n\
       :20C::SEME//B1\n\
       :23G:NEWM\n\
@@ -78,7 +78,7 @@ const RECEIPT: &[u8] = b"{4:\n\
       -}\n";
 
 /// The delivery stands alone, as entry 7.
-const UNMATCHED: &[u8] = b"{4:\r\n\
+pub const UNMATCHED: &[u8] = b"{4:\r\n\
       :16R:GENL\r\n\
       :20C::SEME//S000000000000007\r\n\
       :23G:INST\r\n\
@@ -99,7 +99,7 @@ const UNMATCHED: &[u8] = b"{4:\r\n\
       -}";
 
 /// The receipt is matched, as entry 8, and waits for its day.
-const MATCHED: &[u8] = b"{4:\r\n\
+pub const MATCHED: &[u8] = b"{4:\r\n\
       :16R:GENL\r\n\
       :20C::SEME//S000000000000008\r\n\
       :23G:INST\r\n\
@@ -123,7 +123,7 @@ const MATCHED: &[u8] = b"{4:\r\n\
       -}";
 
 /// Whether an answer is a reply of this status, message type and text.
-fn is_reply(answer: &Result<Reply, Fault>, status: u16, mt: Option<u16>, text: &[u8]) -> bool {
+pub fn is_reply(answer: &Result<Reply, Fault>, status: u16, mt: Option<u16>, text: &[u8]) -> bool {
     match answer {
         Ok(reply) => reply.status == status && reply.mt == mt && reply.text.as_bytes() == text,
         Err(_) => false,

@@ -7,7 +7,7 @@ use std::io::{ErrorKind, Read, Write};
 use std::test::Fail;
 
 /// What the free pair is answered.
-const ANSWERS: &[u8] = b"200\n\
+pub const ANSWERS: &[u8] = b"200\n\
       accepted 1\n\
       .\n\
       200\n\

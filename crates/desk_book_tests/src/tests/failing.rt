@@ -1,0 +1,298 @@
+//! A register in plain lists of which chosen calls fail, as those of a device may.
+ghost use Rattle.std.specs.Prelude.{◌≡◌, ◌+◌, ◌<◌, ◌^◌, true, false};
+ghost use Rattle.desk_register.specs.Applied.{Keeps, no_books};
+ghost use Rattle.desk_register.specs.Lists.{content_in, listed};
+ghost use Rattle.desk_register.specs.View.{fallen};
+ghost use Rattle.desk_book_tests.specs.Failing.{Fell};
+
+use desk_codes::{AccountId, Bic, Day, Isin, Reference};
+use desk_msg::{Instruction, Kind};
+use desk_register::{Fault, Found, ListRegister, Outcome, Register, Stage};
+use desk_rules::{Entry, Place, Reply, Sender};
+use std::alloc::Global;
+
+/// Which calls of a store fail.
+#[derive(Clone, Copy, Debug)]
+pub struct Plan {
+    /// The number of the first call that fails, counted from 1
+    pub first: u64,
+    /// How many calls go well between two that fail
+    pub gap: u64,
+    /// How many calls fail
+    pub count: u64,
+    /// Whether a call that changes the store fails after it has changed it, and not before
+    pub is_late: bool,
+}
+
+/// The calls of a store, and which of them fail.
+#[derive(Clone, Copy, Debug)]
+pub struct Calls {
+    plan: Plan,
+    /// How many there were
+    made: u64,
+    /// The number of the next one that fails
+    next: u64,
+    /// How many are to fail yet
+    left: u64,
+    /// How many have failed
+    failed: u64,
+    ghost counted: { failed + left < 2 ^ 64 },
+}
+
+impl Calls {
+    fn new(plan: Plan) -> Calls
+        ensures { result.failed ≡ 0 }
+    {
+        Calls {
+            plan,
+            made: 0,
+            next: plan.first,
+            left: plan.count,
+            failed: 0,
+        }
+    }
+
+    /// Counts a call, and says whether it is one that fails.
+    fn fails(&mut self) -> bool
+        ensures fails { result ≡ true → self.new.failed ≡ self.old.failed + 1 }
+        ensures passes { result ≡ false → self.new.failed ≡ self.old.failed }
+    {
+        self.made = self.made.wrapping_add(1);
+        if self.left == 0 || self.made != self.next {
+            return false;
+        }
+        self.next = self.made.wrapping_add(self.plan.gap).wrapping_add(1);
+        self.left -= 1;
+        self.failed += 1;
+        true
+    }
+}
+
+/// A register in plain lists of which some calls fail. Such a call changes no list, unless it is a late one.
+#[derive(Drop)]
+pub struct FailingRegister {
+    pub inner: ListRegister,
+    calls: Calls,
+    /// The stage in which a call failed last
+    failed_in: Stage,
+}
+
+impl FailingRegister {
+    /// An empty one.
+    pub fn new(alloc: Global, plan: Plan) -> FailingRegister
+        ensures empty { Keeps 999_999_999 no_books (content_in (listed result.inner.lists)) }
+        ensures limit { result.inner.limit ≡ 999_999_999 }
+        ensures stage { result.inner.stage ≡ Stage.Idle }
+    {
+        FailingRegister {
+            inner: ListRegister::new(alloc, 999_999_999),
+            calls: Calls::new(plan),
+            failed_in: Stage::Idle,
+        }
+    }
+
+    /// How many calls there were.
+    pub fn calls(&self) -> u64 {
+        self.calls.made
+    }
+
+    /// How many calls failed.
+    pub fn failures(&self) -> u64 {
+        self.calls.failed
+    }
+
+    /// The stage in which a call failed last; Idle where none has failed.
+    pub fn failed_in(&self) -> Stage {
+        self.failed_in
+    }
+
+    /// Lets a call fail.
+    fn fail(&mut self) -> Fault
+        ensures inner { Fell self.old.inner self.new.inner }
+        ensures failures { self.new.calls.failed ≡ self.old.calls.failed }
+    {
+        self.failed_in = self.inner.stage;
+        self.inner.stage = fallen(self.inner.stage);
+        Fault::Storage
+    }
+}
+
+impl Register for FailingRegister {
+    ghost use Rattle.std.specs.Prelude.{false};
+    ghost use Rattle.desk_book_tests.specs.Failing.{failing};
+
+    ghost view = { λ r. failing r.inner r.calls.failed };
+
+    ghost plain = { false };
+
+    fn begin(&mut self, alloc: Global) -> Result<(), Fault> {
+        if self.calls.fails() {
+            return Err(self.fail());
+        }
+        self.inner.begin(alloc)
+    }
+
+    fn commit(&mut self, alloc: Global) -> Result<(), Fault> {
+        if self.calls.fails() {
+            return Err(self.fail());
+        }
+        self.inner.commit(alloc)
+    }
+
+    fn back(&mut self, alloc: Global) -> Result<(), Fault> {
+        if self.calls.fails() {
+            return Err(self.fail());
+        }
+        self.inner.back(alloc)
+    }
+
+    fn limit(&self) -> u64 {
+        self.inner.limit()
+    }
+
+    fn count(&mut self, alloc: Global) -> Result<u64, Fault> {
+        if self.calls.fails() {
+            return Err(self.fail());
+        }
+        self.inner.count(alloc)
+    }
+
+    fn participant(&mut self, alloc: Global, bic: Bic) -> Result<bool, Fault> {
+        if self.calls.fails() {
+            return Err(self.fail());
+        }
+        self.inner.participant(alloc, bic)
+    }
+
+    fn owner(&mut self, alloc: Global, account: AccountId) -> Result<Option<Bic>, Fault> {
+        if self.calls.fails() {
+            return Err(self.fail());
+        }
+        self.inner.owner(alloc, account)
+    }
+
+    fn security(&mut self, alloc: Global, isin: Isin) -> Result<Option<Kind>, Fault> {
+        if self.calls.fails() {
+            return Err(self.fail());
+        }
+        self.inner.security(alloc, isin)
+    }
+
+    fn outstanding(&mut self, alloc: Global, isin: Isin) -> Result<u64, Fault> {
+        if self.calls.fails() {
+            return Err(self.fail());
+        }
+        self.inner.outstanding(alloc, isin)
+    }
+
+    fn last_run(&mut self, alloc: Global) -> Result<Option<Day>, Fault> {
+        if self.calls.fails() {
+            return Err(self.fail());
+        }
+        self.inner.last_run(alloc)
+    }
+
+    fn by_reference(
+        &mut self,
+        alloc: Global,
+        sender: Sender,
+        reference: Reference,
+    ) -> Result<Option<Found>, Fault> {
+        if self.calls.fails() {
+            return Err(self.fail());
+        }
+        self.inner.by_reference(alloc, sender, reference)
+    }
+
+    fn by_number(&mut self, alloc: Global, number: u64) -> Result<Option<Found>, Fault> {
+        if self.calls.fails() {
+            return Err(self.fail());
+        }
+        self.inner.by_number(alloc, number)
+    }
+
+    fn first_opposite(
+        &mut self,
+        alloc: Global,
+        sender: Bic,
+        instruction: &Instruction,
+    ) -> Result<Option<u64>, Fault> {
+        if self.calls.fails() {
+            return Err(self.fail());
+        }
+        self.inner.first_opposite(alloc, sender, instruction)
+    }
+
+    fn position(&mut self, alloc: Global, account: AccountId, isin: Isin) -> Result<u64, Fault> {
+        if self.calls.fails() {
+            return Err(self.fail());
+        }
+        self.inner.position(alloc, account, isin)
+    }
+
+    fn due_pair_after(
+        &mut self,
+        alloc: Global,
+        day: Day,
+        place: Option<Place>,
+    ) -> Result<Option<Place>, Fault> {
+        if self.calls.fails() {
+            return Err(self.fail());
+        }
+        self.inner.due_pair_after(alloc, day, place)
+    }
+
+    fn security_after(&mut self, alloc: Global, isin: Option<Isin>) -> Result<Option<Isin>, Fault> {
+        if self.calls.fails() {
+            return Err(self.fail());
+        }
+        self.inner.security_after(alloc, isin)
+    }
+
+    fn held(&mut self, alloc: Global, isin: Isin) -> Result<u64, Fault> {
+        if self.calls.fails() {
+            return Err(self.fail());
+        }
+        self.inner.held(alloc, isin)
+    }
+
+    fn append(&mut self, alloc: Global, entry: Entry, reply: Reply) -> Result<(), Fault> {
+        if self.calls.fails() {
+            if self.calls.plan.is_late {
+                self.inner.append(alloc, entry, reply)?;
+            }
+            return Err(self.fail());
+        }
+        self.inner.append(alloc, entry, reply)
+    }
+
+    fn pair(&mut self, alloc: Global, earlier: u64, later: u64) -> Result<(), Fault> {
+        if self.calls.fails() {
+            if self.calls.plan.is_late {
+                self.inner.pair(alloc, earlier, later)?;
+            }
+            return Err(self.fail());
+        }
+        self.inner.pair(alloc, earlier, later)
+    }
+
+    fn settle_pair(&mut self, alloc: Global, number: u64) -> Result<Outcome, Fault> {
+        if self.calls.fails() {
+            if self.calls.plan.is_late {
+                let _outcome = self.inner.settle_pair(alloc, number)?;
+            }
+            return Err(self.fail());
+        }
+        self.inner.settle_pair(alloc, number)
+    }
+}
+
+/// The stage after a call that failed.
+fn fallen(stage: Stage) -> Stage
+    ensures { result ≡ fallen stage }
+{
+    match stage {
+        Stage::Idle => Stage::Idle,
+        Stage::Begun | Stage::Failed => Stage::Failed,
+    }
+}

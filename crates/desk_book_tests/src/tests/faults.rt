@@ -1,0 +1,463 @@
+//! A desk over a store of which calls fail, each in turn: what it answers then and afterwards, and what it keeps.
+use crate::tests::desks::{DELIVERY, MATCHED, RECEIPT, UNMATCHED, is_reply};
+use crate::tests::failing::{FailingRegister, Plan};
+use desk_book::*;
+use desk_codes::Bic;
+use desk_msg::Mt;
+use desk_register::{ListRegister, Register, Stage};
+use desk_rules::Reply;
+use std::alloc::{AllocError, Global};
+use std::process::Abort;
+use std::test::Fail;
+
+const DELIVERER: &[u8] = b"ALPHDEFF";
+
+const RECEIVER: &[u8] = b"BETADEFF";
+
+/// What is asked: a command, a participant's message, or the totals.
+#[derive(Clone, Copy)]
+enum Form {
+    Command,
+    Message(Bic, Mt),
+    Sums,
+}
+
+/// A request, and its answer on a day on which nothing fails.
+#[derive(Clone, Copy)]
+struct Asked<'a> {
+    form: Form,
+    text: &'a [u8],
+    status: u16,
+    mt: Option<u16>,
+    answer: &'a [u8],
+}
+
+fn command<'a>(text: &'a [u8], status: u16, answer: &'a [u8]) -> Asked<'a> {
+    Asked {
+        form: Form::Command,
+        text,
+        status,
+        mt: None,
+        answer,
+    }
+}
+
+fn message<'a>(sender: Bic, mt: Mt, text: &'a [u8], answer: &'a [u8]) -> Asked<'a> {
+    Asked {
+        form: Form::Message(sender, mt),
+        text,
+        status: 200,
+        mt: Some(548),
+        answer,
+    }
+}
+
+fn totals<'a>(answer: &'a [u8]) -> Asked<'a> {
+    Asked {
+        form: Form::Sums,
+        text: b"",
+        status: 200,
+        mt: None,
+        answer,
+    }
+}
+
+/// A short day: all that the desk takes once, a free pair, a run that settles it, a repeat, a refusal, what is no
+/// command, and the totals.
+fn day<'a>(deliverer: Bic, receiver: Bic) -> [Asked<'a>; 13] {
+    [
+        command(
+            br#"{"op":"participant","ref":"P1","bic":"ALPHDEFF"}"#,
+            200,
+            b"accepted 1",
+        ),
+        command(
+            br#"{"op":"participant","ref":"P2","bic":"BETADEFF"}"#,
+            200,
+            b"accepted 2",
+        ),
+        command(
+            br#"{"op":"account","ref":"C1","bic":"ALPHDEFF","account":"A-1"}"#,
+            200,
+            b"accepted 3",
+        ),
+        command(
+            br#"{"op":"account","ref":"C2","bic":"BETADEFF","account":"B-1"}"#,
+            200,
+            b"accepted 4",
+        ),
+        command(
+            br#"{"op":"security","ref":"S1","isin":"DE0007164600","kind":"UNIT"}"#,
+            200,
+            b"accepted 5",
+        ),
+        command(
+            br#"{"op":"issue","ref":"I1","account":"A-1","isin":"DE0007164600","quantity":1000}"#,
+            200,
+            b"accepted 6",
+        ),
+        message(deliverer, Mt::Mt542, DELIVERY, UNMATCHED),
+        message(receiver, Mt::Mt540, RECEIPT, MATCHED),
+        command(
+            br#"{"op":"run","ref":"R1","day":"20240229"}"#,
+            200,
+            b"accepted 9 settled 1 waiting 0",
+        ),
+        message(deliverer, Mt::Mt542, DELIVERY, UNMATCHED),
+        command(
+            br#"{"op":"account","ref":"C3","bic":"GAMMDEFF","account":"C-1"}"#,
+            422,
+            b"refused 33",
+        ),
+        command(b"{}", 400, b"refused 30"),
+        totals(
+            br#"{"cash":[],"securities":[{"held":1000,"isin":"DE0007164600","outstanding":1000}]}"#,
+        ),
+    ]
+}
+
+/// Whether an answer is that of a day on which nothing fails.
+fn is_wanted(answer: &Result<Reply, Fault>, asked: &Asked<'_>) -> bool {
+    is_reply(answer, asked.status, asked.mt, asked.answer)
+}
+
+fn ask<R: Register>(alloc: Global, desk: &mut Desk<R>, asked: &Asked<'_>) -> Result<Reply, Fault> {
+    match asked.form {
+        Form::Command => desk.ask(alloc, &Request::Operator(asked.text)),
+        Form::Message(sender, mt) => desk.ask(alloc, &Request::Message(sender, mt, asked.text)),
+        Form::Sums => desk.ask(alloc, &Request::Sums),
+    }
+}
+
+/// A desk over a store of which calls fail so.
+pub fn failing_desk(alloc: Global, plan: Plan) -> Desk<FailingRegister> {
+    Desk::new(FailingRegister::new(alloc, plan))
+}
+
+/// No call fails.
+pub const SOUND: Plan = Plan {
+    first: 0,
+    gap: 0,
+    count: 0,
+    is_late: false,
+};
+
+/// How many calls a store has got after each request of a day, where none fails.
+fn calls_after(alloc: Global, day: &[Asked<'_>]) -> Result<Vec<u64>, AllocError> {
+    let mut calls = Vec::new(alloc);
+    for count in 0..day.len() {
+        let mut desk = failing_desk(alloc, SOUND);
+        for asked in &day[..count + 1] {
+            let _answer = ask(alloc, &mut desk, asked);
+        }
+        calls.push(desk.into_register().calls())?;
+    }
+    Ok(calls)
+}
+
+/// The index of the request in which a call falls.
+pub fn request_of(calls: &[u64], call: u64) -> usize {
+    calls
+        .iter()
+        .position(|last| call <= *last)
+        .unwrap_or(calls.len())
+}
+
+/// What plain lists hold after the first requests of a day.
+fn held_after(alloc: Global, day: &[Asked<'_>], count: usize) -> ListRegister {
+    let mut desk = Desk::new(ListRegister::new(alloc, 999_999_999));
+    for asked in day.iter().take(count) {
+        let _answer = ask(alloc, &mut desk, asked);
+    }
+    desk.into_register()
+}
+
+fn same_reply(a: &Reply, b: &Reply) -> bool {
+    a.status == b.status && a.mt == b.mt && a.text.as_bytes() == b.text.as_bytes()
+}
+
+fn same_answer(a: &Result<Reply, Fault>, b: &Result<Reply, Fault>) -> bool {
+    match (a, b) {
+        (Ok(a), Ok(b)) => same_reply(a, b),
+        (Err(a), Err(b)) => a == b,
+        (Ok(_), Err(_)) | (Err(_), Ok(_)) => false,
+    }
+}
+
+/// Whether two registers hold the same entries, with the same replies.
+fn same_entries(a: &ListRegister, b: &ListRegister) -> bool {
+    if a.lists.kept.len() != b.lists.kept.len() {
+        return false;
+    }
+    for (one, other) in a.lists.kept.iter().zip(b.lists.kept.iter()) {
+        if one.entry != other.entry || !same_reply(&one.reply, &other.reply) {
+            return false;
+        }
+    }
+    true
+}
+
+/// Whether a register holds what another one does, with no `begin` open and nothing that could be taken back.
+fn holds_same(register: &ListRegister, other: &ListRegister) -> bool {
+    let lists = &register.lists;
+    let others = &other.lists;
+    register.stage == Stage::Idle
+        && register.changes.is_empty()
+        && same_entries(register, other)
+        && lists.standings.as_slice() == others.standings.as_slice()
+        && lists.keys.as_slice() == others.keys.as_slice()
+        && lists.quantities.as_slice() == others.quantities.as_slice()
+        && lists.securities.as_slice() == others.securities.as_slice()
+        && lists.outstanding.as_slice() == others.outstanding.as_slice()
+}
+
+/// Asks a day's requests, each again at once where it was answered `fault 61`, as the one at `hit` alone must be.
+fn ask_with_one_fault(
+    rt: &impl Abort,
+    alloc: Global,
+    day: &[Asked<'_>],
+    plan: Plan,
+    hit: usize,
+) -> FailingRegister {
+    let mut desk = failing_desk(alloc, plan);
+    for (index, asked) in day.iter().enumerate() {
+        let answer = ask(alloc, &mut desk, asked);
+        if index == hit {
+            assert!(rt;
+                matches!(&answer, Err(Fault::Storage)),
+                "{plan:?} at {index}"
+            );
+            let again = ask(alloc, &mut desk, asked);
+            assert!(rt; is_wanted(&again, asked), "{plan:?} again at {index}");
+        } else {
+            assert!(rt; is_wanted(&answer, asked), "{plan:?} at {index}");
+        }
+    }
+    desk.into_register()
+}
+
+/// One call fails: the request is answered `fault 61`, and asked again the day goes on as if nothing had failed.
+#[test]
+fn each_call_fails_once(rt: HostRuntime) -> Result<(), Fail> {
+    let alloc = rt.alloc();
+    let day = day(Bic::parse(DELIVERER)?, Bic::parse(RECEIVER)?);
+    let calls = calls_after(alloc, &day)?;
+    let all = *calls.last().ok_or("calls")?;
+    let sound = held_after(alloc, &day, day.len());
+    for is_late in [false, true] {
+        for first in 1..all.saturating_add(2) {
+            let plan = Plan {
+                first,
+                gap: 0,
+                count: 1,
+                is_late,
+            };
+            let hit = request_of(&calls, first);
+            let register = ask_with_one_fault(&rt, alloc, &day, plan, hit);
+            let failures = if first <= all { 1 } else { 0 };
+            assert_eq!(rt; register.failures(), failures);
+            assert!(rt; holds_same(&register.inner, &sound), "at {first}");
+        }
+    }
+    Ok(())
+}
+
+/// After `fault 61` the store holds what it held, before anything else is asked.
+#[test]
+fn a_fault_changes_nothing(rt: HostRuntime) -> Result<(), Fail> {
+    let alloc = rt.alloc();
+    let day = day(Bic::parse(DELIVERER)?, Bic::parse(RECEIVER)?);
+    let calls = calls_after(alloc, &day)?;
+    let all = *calls.last().ok_or("calls")?;
+    for is_late in [false, true] {
+        for first in 1..all.saturating_add(1) {
+            let hit = request_of(&calls, first);
+            let plan = Plan {
+                first,
+                gap: 0,
+                count: 1,
+                is_late,
+            };
+            let mut desk = failing_desk(alloc, plan);
+            for asked in day.iter().take(hit) {
+                let _answer = ask(alloc, &mut desk, asked);
+            }
+            let failed = day.get(hit).ok_or("request")?;
+            let answer = ask(alloc, &mut desk, failed);
+            assert!(rt; matches!(&answer, Err(Fault::Storage)), "at {first}");
+            let register = desk.into_register();
+            let before = held_after(alloc, &day, hit);
+            assert!(rt; holds_same(&register.inner, &before), "at {first}");
+        }
+    }
+    Ok(())
+}
+
+/// The request that failed is asked again only at the end: till then the desk answers as one that was never asked it,
+/// and then as one that is asked it for the first time.
+#[test]
+fn a_failed_request_is_left_out(rt: HostRuntime) -> Result<(), Fail> {
+    let alloc = rt.alloc();
+    let day = day(Bic::parse(DELIVERER)?, Bic::parse(RECEIVER)?);
+    let calls = calls_after(alloc, &day)?;
+    let all = *calls.last().ok_or("calls")?;
+    for first in 1..all.saturating_add(1) {
+        let hit = request_of(&calls, first);
+        let plan = Plan {
+            first,
+            gap: 0,
+            count: 1,
+            is_late: false,
+        };
+        ask_last(&rt, alloc, &day, plan, hit);
+    }
+    Ok(())
+}
+
+/// Asks two desks a day's requests, one whose store fails in the request at `hit`, and one that is not asked that
+/// request. At the end both are asked it.
+fn ask_last(rt: &impl Abort, alloc: Global, day: &[Asked<'_>], plan: Plan, hit: usize) {
+    let mut desk = failing_desk(alloc, plan);
+    let mut plain = Desk::new(ListRegister::new(alloc, 999_999_999));
+    for (index, asked) in day.iter().enumerate() {
+        let answer = ask(alloc, &mut desk, asked);
+        if index == hit {
+            assert!(rt;
+                matches!(&answer, Err(Fault::Storage)),
+                "{plan:?} at {index}"
+            );
+        } else {
+            let want = ask(alloc, &mut plain, asked);
+            assert!(rt; same_answer(&answer, &want), "{plan:?} at {index}");
+        }
+    }
+    for asked in day.iter().skip(hit).take(1) {
+        let answer = ask(alloc, &mut desk, asked);
+        let want = ask(alloc, &mut plain, asked);
+        assert!(rt; same_answer(&answer, &want), "{plan:?} again");
+    }
+    let register = desk.into_register();
+    assert!(rt;
+        holds_same(&register.inner, &plain.into_register()),
+        "{plan:?}"
+    );
+}
+
+/// A call fails and so does the next one, by which the desk would take it back, or see what is held: the desk is
+/// closed. It calls the store no more, in which what was held before the request is still marked.
+#[test]
+fn two_failed_calls_close_the_desk(rt: HostRuntime) -> Result<(), Fail> {
+    let alloc = rt.alloc();
+    let day = day(Bic::parse(DELIVERER)?, Bic::parse(RECEIVER)?);
+    let calls = calls_after(alloc, &day)?;
+    let all = *calls.last().ok_or("calls")?;
+    for is_late in [false, true] {
+        for first in 1..all.saturating_add(1) {
+            let hit = request_of(&calls, first);
+            let plan = Plan {
+                first,
+                gap: 0,
+                count: 2,
+                is_late,
+            };
+            let mut register = ask_till_closed(&rt, alloc, &day, plan, hit);
+            assert_eq!(rt; register.calls(), first.saturating_add(1));
+            if register.inner.stage != Stage::Idle {
+                register.inner.back(alloc)?;
+            }
+            let before = held_after(alloc, &day, hit);
+            assert!(rt; holds_same(&register.inner, &before), "at {first}");
+        }
+    }
+    Ok(())
+}
+
+/// Asks a day's requests: all before the one at `hit` are answered, and all from it on say that the desk is closed.
+fn ask_till_closed(
+    rt: &impl Abort,
+    alloc: Global,
+    day: &[Asked<'_>],
+    plan: Plan,
+    hit: usize,
+) -> FailingRegister {
+    let mut desk = failing_desk(alloc, plan);
+    for (index, asked) in day.iter().enumerate() {
+        let answer = ask(alloc, &mut desk, asked);
+        if index < hit {
+            assert!(rt; is_wanted(&answer, asked), "{plan:?} at {index}");
+        } else {
+            assert!(rt;
+                matches!(&answer, Err(Fault::Closed)),
+                "{plan:?} at {index}"
+            );
+        }
+    }
+    desk.into_register()
+}
+
+/// The stage of the store in which a call of a day falls.
+fn stage_of(alloc: Global, day: &[Asked<'_>], call: u64) -> Stage {
+    let plan = Plan {
+        first: call,
+        gap: 0,
+        count: 1,
+        is_late: false,
+    };
+    let mut desk = failing_desk(alloc, plan);
+    for asked in day {
+        let _answer = ask(alloc, &mut desk, asked);
+    }
+    desk.into_register().failed_in()
+}
+
+/// Two calls fail, and the one between them goes well. With no `begin` open that one is the `begin` by which the desk
+/// sees what is held, and its `back` fails: the desk is closed. Within a `begin` it is the `back`: the fault is told, and
+/// the other one falls in the first call for the request that is asked then, with no `begin` open, and is told too.
+#[test]
+fn two_failed_calls_apart(rt: HostRuntime) -> Result<(), Fail> {
+    let alloc = rt.alloc();
+    let day = day(Bic::parse(DELIVERER)?, Bic::parse(RECEIVER)?);
+    let calls = calls_after(alloc, &day)?;
+    let all = *calls.last().ok_or("calls")?;
+    for first in 1..all.saturating_add(1) {
+        let hit = request_of(&calls, first);
+        let plan = Plan {
+            first,
+            gap: 1,
+            count: 2,
+            is_late: false,
+        };
+        let register = if stage_of(alloc, &day, first) == Stage::Idle {
+            ask_till_closed(&rt, alloc, &day, plan, hit)
+        } else {
+            ask_with_two_faults(&rt, alloc, &day, plan, hit)
+        };
+        assert_eq!(rt; register.failures(), 2, "at {first}");
+    }
+    Ok(())
+}
+
+/// Asks a day's requests up to the one at `hit`, which is answered `fault 61` twice before it is answered.
+fn ask_with_two_faults(
+    rt: &impl Abort,
+    alloc: Global,
+    day: &[Asked<'_>],
+    plan: Plan,
+    hit: usize,
+) -> FailingRegister {
+    let mut desk = failing_desk(alloc, plan);
+    for (index, asked) in day.iter().enumerate() {
+        if index == hit {
+            for _ in 0..2 {
+                let answer = ask(alloc, &mut desk, asked);
+                assert!(rt;
+                    matches!(&answer, Err(Fault::Storage)),
+                    "{plan:?} at {index}"
+                );
+            }
+        }
+        let answer = ask(alloc, &mut desk, asked);
+        assert!(rt; is_wanted(&answer, asked), "{plan:?} at {index}");
+    }
+    desk.into_register()
+}
