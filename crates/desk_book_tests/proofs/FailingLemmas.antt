@@ -1,7 +1,7 @@
 -- A register in plain lists of which calls fail: a call that fails, and one that goes to the lists.
 use Rattle.std.proofs.Common.{◌≡◌, ℕ, ◌+◌, ◌<◌, ◌≤◌, ap, sym, ◌∙◌, arith, refl}
 use Rattle.std.specs.Prelude.{Result, Ok, Err, OnOk, OnErr}
-use Rattle.desk_register.specs.declared.list_register.ListRegister.{ListRegister}
+use Rattle.desk_register.specs.declared.list_store.list_register.ListRegister.{ListRegister}
 use Rattle.desk_register.specs.declared.register.Fault.{Fault}
 use Rattle.desk_register.specs.declared.register.Stage.TheVariants.{Idle, Begun}
 use Rattle.desk_register.specs.View.{IsLater, Begins, Commits, GoesBack, Stays, Falls, Blames, IsRead, IsChange, fallen}

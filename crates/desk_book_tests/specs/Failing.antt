@@ -1,6 +1,6 @@
 -- What contracts see of a register in plain lists of which some calls failed.
 use Rattle.std.specs.Prelude.{◌≡◌, ℕ}
-use Rattle.desk_register.specs.declared.list_register.ListRegister.{ListRegister}
+use Rattle.desk_register.specs.declared.list_store.list_register.ListRegister.{ListRegister}
 use Rattle.desk_register.specs.Lists.{listed, undone, content_in}
 use Rattle.desk_register.specs.View.{View, fallen}
 

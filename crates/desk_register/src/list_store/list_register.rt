@@ -7,14 +7,15 @@ use crate::list_store::lists::{Change, Lists};
 use crate::register::Stage;
 
 /// A register in plain lists. What is changed since `begin` is noted, so that `back` undoes it without a copy
-/// of the whole. Its fields are the crate's own: contracts see it by `view_of_lists`.
+/// of the whole. Contracts see it by `view_of_lists`. Its fields are public for stores that are built around it, as the one
+/// of the tests of which calls fail.
 #[derive(Drop)]
 pub struct ListRegister {
     /// At most 999,999,999
-    pub(crate) limit: u64,
-    pub(crate) lists: Lists,
-    pub(crate) changes: Vec<Change>,
-    pub(crate) stage: Stage,
+    pub limit: u64,
+    pub lists: Lists,
+    pub changes: Vec<Change>,
+    pub stage: Stage,
     ghost limited: { limit ≤ 999_999_999 },
     ghost idle: { stage ≡ Idle → changes.items ≡ [] },
     ghost totals: { stage ≢ Failed → AreTotals (listed lists) },
