@@ -14,6 +14,9 @@ const FAULT: &[u8] = b"500\nfault 61\n.\n";
 /// What a closed desk writes for a request.
 const CLOSED: &[u8] = b"500\nfault 62\n.\n";
 
+/// Each of the script's requests calls the store.
+const LEAST_CALLS: u64 = 10;
+
 /// The first items of a script, and what stands behind them.
 fn split_items(script: &[u8], items: usize) -> (&[u8], &[u8]) {
     let mut rest = script;
@@ -81,6 +84,7 @@ fn one_failed_call_is_told(rt: HostRuntime) -> Result<(), Fail> {
     let alloc = rt.alloc();
     let calls = calls_after(alloc, FREE_PAIR)?;
     let all = *calls.last().ok_or("calls")?;
+    assert!(rt; all >= LEAST_CALLS);
     for first in 1..all.saturating_add(1) {
         let hit = request_of(&calls, first);
         let mut plain = Desk::new(ListRegister::new(alloc, 999_999_999));
@@ -108,6 +112,7 @@ fn a_closed_desk_is_told(rt: HostRuntime) -> Result<(), Fail> {
     let alloc = rt.alloc();
     let calls = calls_after(alloc, FREE_PAIR)?;
     let all = *calls.last().ok_or("calls")?;
+    assert!(rt; all >= LEAST_CALLS);
     for first in 1..all.saturating_add(1) {
         let hit = request_of(&calls, first);
         let (before, _) = split_answers(ANSWERS, hit);

@@ -163,6 +163,22 @@ pub fn request_of(calls: &[u64], call: u64) -> usize {
         .unwrap_or(calls.len())
 }
 
+/// Where the day has what is no command.
+const NO_COMMAND: usize = 11;
+
+/// Each request calls the store, but for what is no command: so each of them is tried where it fails.
+#[test]
+fn calls_of_each_request(rt: HostRuntime) -> Result<(), Fail> {
+    let alloc = rt.alloc();
+    let day = day(Bic::parse(DELIVERER)?, Bic::parse(RECEIVER)?);
+    let mut before = 0;
+    for (index, after) in calls_after(alloc, &day)?.iter().enumerate() {
+        assert_eq!(rt; before < *after, index != NO_COMMAND, "at {index}");
+        before = *after;
+    }
+    Ok(())
+}
+
 /// What plain lists hold after the first requests of a day.
 fn held_after(alloc: Global, day: &[Asked<'_>], count: usize) -> ListRegister {
     let mut desk = Desk::new(ListRegister::new(alloc, 999_999_999));
@@ -410,6 +426,9 @@ fn stage_of(alloc: Global, day: &[Asked<'_>], call: u64) -> Stage {
     desk.into_register().failed_in()
 }
 
+/// Nine requests of the day are accepted, and each is added and committed within a `begin`.
+const LEAST_WITHIN: u64 = 18;
+
 /// Two calls fail, and the one between them goes well. With no `begin` open that one is the `begin` by which the desk
 /// sees what is held, and its `back` fails: the desk is closed. Within a `begin` it is the `back`: the fault is told, and
 /// the other one falls in the first call for the request that is asked then, with no `begin` open, and is told too.
@@ -419,6 +438,7 @@ fn two_failed_calls_apart(rt: HostRuntime) -> Result<(), Fail> {
     let day = day(Bic::parse(DELIVERER)?, Bic::parse(RECEIVER)?);
     let calls = calls_after(alloc, &day)?;
     let all = *calls.last().ok_or("calls")?;
+    let mut within: u64 = 0;
     for first in 1..all.saturating_add(1) {
         let hit = request_of(&calls, first);
         let plan = Plan {
@@ -430,10 +450,12 @@ fn two_failed_calls_apart(rt: HostRuntime) -> Result<(), Fail> {
         let register = if stage_of(alloc, &day, first) == Stage::Idle {
             ask_till_closed(&rt, alloc, &day, plan, hit)
         } else {
+            within = within.saturating_add(1);
             ask_with_two_faults(&rt, alloc, &day, plan, hit)
         };
         assert_eq!(rt; register.failures(), 2, "at {first}");
     }
+    assert!(rt; within >= LEAST_WITHIN && within < all);
     Ok(())
 }
 
