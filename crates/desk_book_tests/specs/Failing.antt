@@ -4,8 +4,7 @@ use Rattle.desk_register.specs.declared.list_store.list_register.ListRegister.{L
 use Rattle.desk_register.specs.Lists.{listed, undone, content_in}
 use Rattle.desk_register.specs.View.{View, fallen}
 
--- The lists as they are, and how many calls failed. A call that fails changes no list, so what is shown is what is
--- held.
+-- The lists as they are, and how many calls failed: what is shown is what is held, whatever failed.
 abbrev pub failing : ListRegister → ℕ → View
 failing r failures = record {
   content = content_in (listed r.lists);
@@ -17,7 +16,7 @@ failing r failures = record {
   is_sure = Unit {0};
 }
 
--- A call failed, and has changed no list.
+-- A call fails, with the lists as they are then.
 pub record Fell (old new : ListRegister) : Type 0 where
   pub lists : new.lists ≡ old.lists
   pub changes : new.changes ≡ old.changes
