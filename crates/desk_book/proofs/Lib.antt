@@ -11,6 +11,7 @@ pub mod OneReading
 pub mod OneCommand
 pub mod OneOrder
 mod OnceLemmas
+mod ConfirmedRuns
 mod OneStep
 pub mod ListedLemmas
 pub mod SummingLemmas

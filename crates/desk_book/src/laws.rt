@@ -3,7 +3,10 @@ ghost use Rattle.std.specs.Prelude.{◌≡◌, ℕ, Bool, false, List, All, Resu
 ghost use Rattle.desk_rules.specs.declared.reply.Reply.{Reply};
 ghost use Rattle.desk_rules.specs.declared.verdict.Verdict.TheVariants.{Accept};
 ghost use Rattle.desk_rules.specs.Reply.{AreNext};
+ghost use Rattle.desk_rules.specs.Moves.{AccountFor, Move, SayMoves};
+ghost use Rattle.desk_rules.specs.Sent.{sent_of};
 ghost use Rattle.desk_rules.specs.Verdict.{Books, IsVerdict};
+ghost use Rattle.desk_register.specs.Applied.{no_books};
 ghost use Rattle.desk_book.specs.declared.fault.Fault.{Fault};
 ghost use Rattle.desk_book.specs.declared.order.Order.{Order};
 ghost use Rattle.desk_book.specs.declared.order.Order.TheVariants.{Decide};
@@ -52,4 +55,12 @@ pub fn accepted_again()
 /// lead to the same books.
 pub fn one_reply()
     ensures { (limit : ℕ) (books n m : Books) (asked : Asked) (r s : Reply) → Step limit books asked (Ok r) n → Step limit books asked (Ok s) m → (r ≡ s) × (n ≡ m) }
+{}
+
+/// Each change is confirmed: after any list of requests to a desk that began empty, whatever was answered, the texts of
+/// the messages sent by then say moves, and these account for every balance. (What was accepted was read from messages
+/// and commands, so nothing is left to assume of it.)
+pub fn changes_are_confirmed()
+    ensures { (limit : ℕ) (was is : Bool) (requests : List Asked) (answers : List (Result Reply Fault)) (last : Books)
+        → Run limit was no_books requests answers is last → (moves : List Move) × SayMoves (sent_of last) moves × AccountFor last moves }
 {}

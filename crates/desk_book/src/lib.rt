@@ -27,8 +27,8 @@ pub use command::read_command;
 pub use desk::Desk;
 pub use fault::{Fault, InputFault, PlayFault};
 pub use laws::{
-    accepted_again, closed_for_good, one_command, one_order, one_reply, one_script,
-    repeats_act_once,
+    accepted_again, changes_are_confirmed, closed_for_good, one_command, one_order, one_reply,
+    one_script, repeats_act_once,
 };
 pub use order::{Order, order_of};
 pub use reading::{LONGEST_SCRIPT, read_whole};

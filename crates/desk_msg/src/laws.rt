@@ -33,7 +33,7 @@ pub fn confirmation_says()
         → (said : List Found) × IsBlock (confirmation n i day) said × Confirms (confirming_type i.mt) said (Ok (confirmed_of i day)) }
 {}
 
-/// Fields confirm one settlement or have one fault, and never both.
+/// Fields confirm one settlement at most or have one fault at most, and never both.
 pub fn one_confirmation()
     ensures { (mt : Mt) (fields : List Found) (a b : Result Confirmed MsgFault) → Confirms mt fields a → Confirms mt fields b → a ≡ b }
 {}

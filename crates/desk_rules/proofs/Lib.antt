@@ -22,4 +22,5 @@ pub mod FreshParts
 pub mod SentFronts
 pub mod AskedAgain
 pub mod OneContent
+pub mod SettledConfirmed
 pub mod StandsAccepted

@@ -29,7 +29,7 @@ one_said message messages move moves e says rest =
     let P : Bool → Type 0 = λ b. MatchBool b (SaysMove message move × SayMoves messages moves) (SayMoves messages (move ∷ moves)) in
     subst P (sym e) (says, rest)
 
-confirming : (mt : Mt) → nat_le 544 (number_of_type (confirming_type mt)) && nat_le (number_of_type (confirming_type mt)) 547 ≡ true
+pub confirming : (mt : Mt) → nat_le 544 (number_of_type (confirming_type mt)) && nat_le (number_of_type (confirming_type mt)) 547 ≡ true
 confirming Mt540 = refl
 confirming Mt541 = refl
 confirming Mt542 = refl

@@ -1,5 +1,5 @@
--- What the confirmations among sent messages say of accounts and cash. This knows the messages' texts, types and
--- addressees, and nothing of how they came about.
+-- What the confirmations among sent messages say of accounts and cash. `SayMoves` and the sums know the messages' texts,
+-- types and addressees, and nothing of how they came about; `AccountFor` and `WasRead`, at the end, speak of books.
 use Rattle.std.specs.Prelude.{◌≡◌, ℕ, ◌+◌, nat_le, Bool, false, not, ◌&&◌, MatchBool, List, [], ◌∷◌, bytes_eq, sum_by, Option, Some, None, Ok}
 use Rattle.desk_codes.specs.declared.currency.Ccy.{Ccy}
 use Rattle.desk_codes.specs.Day.{IsDay}

@@ -1,13 +1,13 @@
 //! Laws of the definitions, each the contract of a function with an empty body.
 ghost use Rattle.std.specs.Prelude.{◌≡◌, ℕ, ◌+◌, List, [], ◌∷◌, ◌++◌, length, Contains, sum_by, Some};
 ghost use Rattle.desk_codes.specs.declared.currency.Ccy.{Ccy};
-ghost use Rattle.desk_rules.specs.History.{Instructed, before};
+ghost use Rattle.desk_rules.specs.History.{Instructed, before, instruction_at};
 ghost use Rattle.desk_rules.specs.Balances.{issued, redeemed, credits, debits, paid_in, paid_out, cash_credits, cash_debits};
 ghost use Rattle.desk_rules.specs.Verdict.{AreBooks, Books, IsVerdict, WasAccepted};
-ghost use Rattle.desk_rules.specs.Sent.{sent_of};
+ghost use Rattle.desk_rules.specs.Sent.{sent_of, told};
 ghost use Rattle.desk_rules.specs.Reply.{reply_to};
 ghost use Rattle.desk_rules.specs.Questions.{confirmation_of, sent_reply, status_reply};
-ghost use Rattle.desk_rules.specs.Content.{AreTables, Content, IsSameContent};
+ghost use Rattle.desk_rules.specs.Content.{AreTables, Content, IsSameContent, history_of};
 ghost use Rattle.desk_rules.specs.Moves.{AccountFor, Move, SayMoves, WasRead};
 ghost use Rattle.desk_rules.specs.Laws.{accounts_of, participants_of, AreNonNegative};
 ghost use Rattle.desk_rules.specs.Opposite.{AreOpposite};
@@ -131,7 +131,14 @@ pub fn stands_as_accepted()
         → status_reply books sender i.reference ≡ reply_to books (Entry.Instruct sender i) }
 {}
 
-/// A history has one content: the tables of the same entries with their replies are the same in every part.
+/// A history has one content: its tables, replies and all, are the same in every part.
 pub fn one_content()
-    ensures { (a b : Content) → AreTables a → AreTables b → a.register ≡ b.register → IsSameContent a b }
+    ensures { (a b : Content) → AreTables a → AreTables b → history_of a ≡ history_of b → IsSameContent a b }
+{}
+
+/// A settled instruction is confirmed: what was sent first to confirm it went to its sender, under its type and about
+/// itself, with the text of its confirmation on the day of the run that settled it.
+pub fn settled_is_confirmed()
+    ensures { (books : Books) (s : Settled) (n : ℕ) (i : Instructed) → AreBooks books → Contains books.settled s → IsSide s.pair n
+        → instruction_at books.history n ≡ Some i → (k : ℕ) × (confirmation_of books n ≡ Some (told books.history k n (Some s.run) i)) }
 {}

@@ -20,7 +20,7 @@ pub use entry::{Entry, Holding, Instructed, Payment, Sender};
 pub use laws::{
     accepted_fronts, accepted_once, adds_up, confirmed_changes, fronts, never_negative,
     one_content, one_pair_each, one_pairing, one_settlement, one_verdict, opposites, sent_for_good,
-    settles_once, stands_as_accepted,
+    settled_is_confirmed, settles_once, stands_as_accepted,
 };
 pub use opposite::are_opposite;
 pub use pair::{Lack, Pair, Place, Settled};

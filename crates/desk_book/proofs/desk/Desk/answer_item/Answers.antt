@@ -1,4 +1,4 @@
-use Rattle.std.proofs.Common.{[], ◌∷◌, refl}
+use Rattle.std.proofs.Common.{[], refl}
 use Rattle.desk_book.specs.Asked.{asked_by}
 use Rattle.desk_book.specs.Shown.{shown, shown_fault}
 use Rattle.desk_book.proofs.PlayLemmas.{bad_line_played, item_written, one_played}
