@@ -5,7 +5,8 @@
 //! Fields read as one message or have one fault, and never both (`one_reading`). An `Instruction` or a `CancelOrder`
 //! keeps the conditions of the profile in its type, so that nothing above tests them again. `fields_text`,
 //! `refusal_text` and `status_text` each write one defined text; an advice is a list of parts, and so a block whose
-//! fields are known.
+//! fields are known. A confirmation is defined, as it is written and as it is read, and a law joins the two
+//! (`confirmation_says`); no function writes one yet.
 //!
 //! Begin with specs/Profile.antt (the used fields as a table, and what their values say) and specs/Reads.antt (which
 //! fields read as which message); then specs/StatusText.antt.

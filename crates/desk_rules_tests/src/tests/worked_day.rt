@@ -10,6 +10,7 @@ ghost use Rattle.desk_msg.specs.declared.status.Reason.TheVariants as reasons;
 ghost use Rattle.desk_msg.specs.declared.status.Case.TheVariants as cases;
 ghost use Rattle.desk_msg.specs.StatusText.{advice};
 ghost use Rattle.desk_msg.specs.ConfirmationText.{confirmation};
+ghost use Rattle.desk_text.specs.Lines.{lines_of};
 ghost use Rattle.desk_rules.specs.declared.entry.Entry.TheVariants as entries;
 ghost use Rattle.desk_rules.specs.declared.verdict.Verdict.TheVariants.{Accept, Repeat, Refuse};
 ghost use Rattle.desk_rules.specs.declared.verdict.Refusal.TheVariants as refusals;
@@ -51,6 +52,40 @@ fn messages()
     ensures past { sent_reply at_run alpha 3 ≡ plain_reply 422 (codes "refused 42") }
     ensures nought { sent_reply at_run alpha 0 ≡ plain_reply 422 (codes "refused 42") }
     ensures mates { (mate_of at_run.pairs 8 ≡ Some 9) × (mate_of at_run.pairs 9 ≡ Some 8) × (mate_of at_run.pairs 7 ≡ None) }
+{}
+
+/// The lines of the deliverer's confirmation, as they are sent.
+fn confirmed()
+    ensures { lines_of (confirmation 2 delivery leap_day) ≡ codes "{4:"
+        ∷ codes ":16R:GENL"
+        ∷ codes ":20C::SEME//D000000000000002"
+        ∷ codes ":23G:NEWM"
+        ∷ codes ":16R:LINK"
+        ∷ codes ":20C::RELA//A1"
+        ∷ codes ":16S:LINK"
+        ∷ codes ":16S:GENL"
+        ∷ codes ":16R:TRADDET"
+        ∷ codes ":98A::ESET//20240229"
+        ∷ codes ":35B:ISIN DE0007164600"
+        ∷ codes ":16S:TRADDET"
+        ∷ codes ":16R:FIAC"
+        ∷ codes ":36B::ESTT//UNIT/400,"
+        ∷ codes ":97A::SAFE//A-1"
+        ∷ codes ":16S:FIAC"
+        ∷ codes ":16R:SETDET"
+        ∷ codes ":22F::SETR//TRAD"
+        ∷ codes ":16R:SETPRTY"
+        ∷ codes ":95P::REAG//BETADEFF"
+        ∷ codes ":16S:SETPRTY"
+        ∷ codes ":16R:SETPRTY"
+        ∷ codes ":95P::PSET//DESKDEFF"
+        ∷ codes ":16S:SETPRTY"
+        ∷ codes ":16R:AMT"
+        ∷ codes ":19A::ESTT//EUR1000,5"
+        ∷ codes ":16S:AMT"
+        ∷ codes ":16S:SETDET"
+        ∷ codes "-}"
+        ∷ [] }
 {}
 
 /// What the confirmations of the day move.
@@ -123,6 +158,7 @@ fn verdicts_on_balances()
 fn the_definitions_give_the_worked_day(_rt: HostRuntime) {
     replies();
     messages();
+    confirmed();
     moves();
     verdicts_on_messages();
     verdicts_on_registrations();
