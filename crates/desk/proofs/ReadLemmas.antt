@@ -2,7 +2,7 @@
 use Rattle.std.proofs.Common.{ℕ, List, Option, Some, None, Result, Ok, Err}
 use Rattle.std.specs.Prelude.{IfOk, IfSome}
 use Rattle.desk_msg.specs.declared.mt.Mt.{Mt}
-use Rattle.desk_msg.specs.declared.refusal.Refusal.TheVariants.{TooLong}
+use Rattle.desk_msg.specs.declared.refusal.TextRefusal.TheVariants.{TooLong}
 use Rattle.desk_msg.specs.declared.refusal.ReadFault.TheVariants.{Refused}
 use Rattle.desk_msg.specs.Refused.{ReadsText}
 use Rattle.desk.specs.ReadAnswer.{IsLonger, IsReadAnswer}

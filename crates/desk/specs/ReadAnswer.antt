@@ -2,7 +2,7 @@
 use Rattle.std.specs.Prelude.{◌≡◌, ℕ, ◌<◌, List, [], ◌∷◌, ◌++◌, length, Result, Ok, Err}
 use Rattle.desk_msg.specs.declared.mt.Mt.{Mt}
 use Rattle.desk_msg.specs.declared.instruction.Message.{Message}
-use Rattle.desk_msg.specs.declared.refusal.Refusal.{Refusal}
+use Rattle.desk_msg.specs.declared.refusal.TextRefusal.{TextRefusal}
 use Rattle.desk_msg.specs.declared.refusal.ReadFault.{ReadFault}
 use Rattle.desk_msg.specs.declared.refusal.ReadFault.TheVariants.{Refused}
 use Rattle.desk_msg.specs.Refused.{ReadsText, refusal_line}
@@ -20,6 +20,6 @@ IsLonger input = 65536 < length input
 -- refused; or want of memory, or the reader's failure, as a fault. Each line is ended by a line feed.
 pub data IsReadAnswer (mt : Mt) (input : List ℕ) (status : Status) (IsPrinted : List ℕ → Type 0) : Type 0 where
   told_fields : (message : Message) → ReadsText mt input (Ok message) → status ≡ exit.Done → IsPrinted (message_text message ++ 10 ∷ []) → IsReadAnswer mt input status IsPrinted
-  told_refusal : (refusal : Refusal) → ReadsText mt input (Err (Refused refusal)) → status ≡ exit.Refused → IsPrinted (refusal_line refusal ++ 10 ∷ []) → IsReadAnswer mt input status IsPrinted
+  told_refusal : (refusal : TextRefusal) → ReadsText mt input (Err (Refused refusal)) → status ≡ exit.Refused → IsPrinted (refusal_line refusal ++ 10 ∷ []) → IsReadAnswer mt input status IsPrinted
   told_memory : status ≡ exit.Fault → IsPrinted (failure_line Memory ++ 10 ∷ []) → IsReadAnswer mt input status IsPrinted
   told_input : status ≡ exit.Fault → IsPrinted (failure_line Input ++ 10 ∷ []) → IsReadAnswer mt input status IsPrinted

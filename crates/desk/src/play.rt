@@ -4,12 +4,9 @@ ghost use Rattle.desk.specs.PlayAnswer.{IsPlayAnswer};
 
 use crate::status::{Failure, Status, tell_failure};
 use desk_book::{Desk, PlayFault};
-use desk_register::ListRegister;
+use desk_register::{ListRegister, MOST_ENTRIES};
 use std::alloc::Global;
 use std::io::{self, Read, Write};
-
-/// The desk holds so many entries at most.
-const MOST_ENTRIES: u64 = 999_999_999;
 
 /// Plays a script from the reader on a new desk in memory. It is done where the script was played, whatever its
 /// answers; `fault 60` tells that memory is wanting for the script, and `fault io` that the reader failed or the

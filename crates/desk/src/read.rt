@@ -8,7 +8,7 @@ ghost use Rattle.desk.specs.ReadAnswer.{IsReadAnswer};
 
 use crate::status::{Failure, Status, tell_failure};
 use desk_book::{InputFault, read_whole};
-use desk_msg::{Mt, ReadFault, Refusal, fields_text, read_instruction_text, refusal_text};
+use desk_msg::{Mt, ReadFault, TextRefusal, fields_text, read_instruction_text, refusal_text};
 use std::alloc::Global;
 use std::io::{self, Read, Write};
 
@@ -28,7 +28,7 @@ pub fn answer_read<R: Read, W: Write>(
 {
     match read_whole(alloc, reader, LONGEST_TEXT) {
         Ok(text) => answer_text(alloc, mt, text.as_slice(), writer),
-        Err(InputFault::TooLong) => tell_refusal(alloc, Refusal::TooLong, writer),
+        Err(InputFault::TooLong) => tell_refusal(alloc, TextRefusal::TooLong, writer),
         Err(InputFault::Reader) => tell_failure(Failure::Input, writer),
         Err(InputFault::Memory) => tell_failure(Failure::Memory, writer),
     }
@@ -53,7 +53,7 @@ fn answer_text<W: Write>(alloc: Global, mt: Mt, text: &[u8], writer: &mut W) -> 
 }
 
 /// Prints why a text of a type is refused.
-fn tell_refusal<W: Write>(alloc: Global, refusal: Refusal, writer: &mut W) -> io::Result<Status>
+fn tell_refusal<W: Write>(alloc: Global, refusal: TextRefusal, writer: &mut W) -> io::Result<Status>
     ensures { IfOk result (λ status. (mt : Mt) (input : List ℕ) → ReadsText mt input (Err (ReadFault.Refused refusal))
         → IsReadAnswer mt input status (Appends (W.contents writer.old) (W.contents writer.new))) }
 {

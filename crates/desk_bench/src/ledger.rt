@@ -2,14 +2,14 @@
 ghost use Rattle.std.specs.Prelude.{◌≡◌, ◌≤◌, IfOk, OnErr, OnOk, IsTrue};
 ghost use Rattle.desk_rules.specs.Verdict.{Books};
 ghost use Rattle.desk_register.specs.Applied.{CanApply, HasApplied, Keeps};
-ghost use Rattle.desk_register.specs.Decision.{is_of_today};
+ghost use Rattle.desk_register.specs.Decision.{is_supported};
 ghost use Rattle.desk_register.specs.ListView.{view_of_lists};
 ghost use Rattle.desk_register.specs.View.{Breaks, IsLater};
 
 use desk_codes::{AccountId, Day, Isin};
 use desk_register::{
     Applied, Fault, Found, ListRegister, Register, Stage, accepted_reply, apply, decide,
-    is_of_today,
+    is_supported,
 };
 use desk_rules::{Entry, Place, Refusal, Verdict};
 use std::alloc::Global;
@@ -50,7 +50,7 @@ pub enum Entered {
 /// Takes an accepted entry into the tables, makes its reply as the desk does, and keeps it.
 fn put<R: Register>(alloc: Global, register: &mut R, entry: Entry) -> Result<Applied, Fault>
     requires stage { (R.view register.old).stage ≡ Stage.Begun }
-    requires today { IsTrue (is_of_today entry) }
+    requires supported { IsTrue (is_supported entry) }
     requires accepted { (R.view register.old).is_honest → (R.view register.old).is_sure → CanApply (R.view register.old).room entry (R.view register.old).content }
     ensures put { (books : Books) → (R.view register.new).is_honest → (R.view register.old).is_sure → Keeps (R.view register.old).room books (R.view register.old).content
         → IfOk result (λ applied. HasApplied (R.view register.old).room books entry applied (R.view register.new).content) }
@@ -76,7 +76,7 @@ impl Ledger {
 
     /// Takes an accepted entry in; after a fault all is taken back.
     fn take(&mut self, alloc: Global, entry: Entry) -> Result<Applied, Fault>
-        requires today { IsTrue (is_of_today entry) }
+        requires supported { IsTrue (is_supported entry) }
         requires accepted { CanApply (view_of_lists self.old).room entry (view_of_lists self.old).content }
     {
         self.register.begin(alloc)?;
@@ -91,7 +91,7 @@ impl Ledger {
 
     /// Decides on an entry, and takes it in where it is accepted.
     pub fn enter(&mut self, alloc: Global, entry: Entry) -> Result<Entered, Fault> {
-        if !is_of_today(&entry) {
+        if !is_supported(&entry) {
             return Ok(Entered::NotTaken);
         }
         match decide(alloc, &mut self.register, &entry)? {

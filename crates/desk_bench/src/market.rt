@@ -6,7 +6,7 @@ use crate::codes::digits;
 use crate::failure::Failure;
 use desk_codes::{AccountId, Bic, Day, Isin, Reference};
 use desk_msg::{Instruction, Kind, Mt, SettlementType};
-use desk_rules::{Entry, Holding};
+use desk_rules::{Entry, Movement};
 
 /// How many entries `Market::opening` has.
 pub const OPENING: u32 = 5;
@@ -110,7 +110,7 @@ impl Market {
         requires some { 0 < quantity }
         requires within { quantity ≤ 99_999_999_999_999 }
     {
-        Entry::Issue(Holding {
+        Entry::Issue(Movement {
             reference,
             account: self.party(side).account,
             isin: self.isin,

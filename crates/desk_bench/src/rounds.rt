@@ -4,11 +4,9 @@ use crate::failure::Failure;
 use crate::ledger::{Entered, Ledger};
 use crate::market::{Market, OPENING, Side, day, reference};
 use desk_codes::Day;
+use desk_register::MOST_ENTRIES;
 use desk_rules::Entry;
 use std::alloc::Global;
-
-/// The register holds so many entries at most.
-const MOST_ENTRIES: u64 = 999_999_999;
 
 /// The entries of a round.
 const ROUND: u32 = 4;

@@ -26,7 +26,7 @@ use Rattle.desk_book.specs.declared.fault.Fault.{Fault}
 use Rattle.desk_book.specs.declared.total.SecurityTotal.{SecurityTotal}
 use Rattle.desk_book.specs.Answered.{IsSum, IsToldSums}
 use Rattle.desk_book.specs.Held.{Answers, Decides, IsPut}
-use Rattle.desk_book.specs.declared.order.Order.TheVariants.{Decide}
+use Rattle.desk_book.specs.declared.task.Task.TheVariants.{Decide}
 use Rattle.desk_book.specs.Sums.{sums_text}
 use Rattle.desk_book.specs.Totals.{AreTotals, IsTotal}
 

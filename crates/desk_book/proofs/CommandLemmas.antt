@@ -5,10 +5,10 @@ use Rattle.serde_json.specs.Read.{read}
 use Rattle.serde_json.proofs.OnLiterals.{serde_json_on_literals}
 use Rattle.serde_json.specs.Events.{members_len}
 use Rattle.serde_json.specs.Find.{get, get_member, as_object, as_str, as_number, as_u64}
-use Rattle.desk_book.specs.Command.{text_at, number_at, text_member, number_member, participant_object, account_object, security_object, holding_object, run_object}
+use Rattle.desk_book.specs.Command.{text_at, number_at, text_member, number_member, participant_object, account_object, security_object, movement_object, run_object}
 use Rattle.desk_book.specs.Command.{IsCommand, IsKnownCommand}
 use Rattle.desk_msg.specs.declared.instruction.Kind.{Kind}
-use Rattle.desk_rules.specs.declared.entry.Holding.{Holding}
+use Rattle.desk_rules.specs.declared.entry.Movement.{Movement}
 use Rattle.desk_rules.specs.declared.entry.Entry.{Entry}
 use Rattle.desk_rules.specs.declared.entry.Entry.TheVariants.{Participant, Account, Security, Issue, Redeem, PayIn, PayOut, Instruct, Cancel, Run}
 use Rattle.desk_book.specs.Members.{IsOrderedObject}
@@ -88,7 +88,7 @@ security_is d reference isin kind ordered long op has_ref has_isin has_kind =
 
 pub issue_is : (d : Data) (reference account isin : List ℕ) (quantity : ℕ) → IsOrderedObject d → HasMembers d 5 → text_at (codes "op") d ≡ Some (codes "issue")
     → text_at (codes "ref") d ≡ Some reference → text_at (codes "account") d ≡ Some account → text_at (codes "isin") d ≡ Some isin
-    → number_at (codes "quantity") d ≡ Some quantity → d ≡ holding_object (codes "issue") reference account isin quantity
+    → number_at (codes "quantity") d ≡ Some quantity → d ≡ movement_object (codes "issue") reference account isin quantity
 issue_is d reference account isin quantity ordered long op has_ref has_account has_isin has_quantity =
     let ns = text_member (codes "account") account (text_member (codes "isin") isin (text_member (codes "op") (codes "issue") (number_member (codes "quantity") quantity (text_member (codes "ref") reference no_members)))) in
     exact_object ns d ((refl, (refl, (refl, (refl, tt)))), ((refl, (refl, (refl, tt))), ((refl, (refl, tt)), ((refl, tt), (tt, tt))))) ordered long
@@ -110,8 +110,8 @@ pub only_participant : (d : Data) → text_at (codes "op") d ≡ Some (codes "pa
 only_participant d op none (Participant reference bic) c = none reference bic c.spells
 only_participant d op none (Account reference bic account) c = let h = c.spells in let other : Some (codes "account") ≡ Some (codes "participant") = sym (ap (text_at (codes "op")) h.4) ∙ op in cc
 only_participant d op none (Security reference isin kind) c = let h = c.spells in let other : Some (codes "security") ≡ Some (codes "participant") = sym (ap (text_at (codes "op")) h.2) ∙ op in cc
-only_participant d op none (Issue holding) c = let h = c.spells in let other : Some (codes "issue") ≡ Some (codes "participant") = sym (ap (text_at (codes "op")) h.1) ∙ op in cc
-only_participant d op none (Redeem holding) c = let bad = c.known in cc
+only_participant d op none (Issue movement) c = let h = c.spells in let other : Some (codes "issue") ≡ Some (codes "participant") = sym (ap (text_at (codes "op")) h.1) ∙ op in cc
+only_participant d op none (Redeem movement) c = let bad = c.known in cc
 only_participant d op none (PayIn payment) c = let bad = c.known in cc
 only_participant d op none (PayOut payment) c = let bad = c.known in cc
 only_participant d op none (Instruct sender instruction) c = let bad = c.known in cc
@@ -123,8 +123,8 @@ pub only_account : (d : Data) → text_at (codes "op") d ≡ Some (codes "accoun
 only_account d op none (Participant reference bic) c = let h = c.spells in let other : Some (codes "participant") ≡ Some (codes "account") = sym (ap (text_at (codes "op")) h.3) ∙ op in cc
 only_account d op none (Account reference bic account) c = none reference bic account c.spells
 only_account d op none (Security reference isin kind) c = let h = c.spells in let other : Some (codes "security") ≡ Some (codes "account") = sym (ap (text_at (codes "op")) h.2) ∙ op in cc
-only_account d op none (Issue holding) c = let h = c.spells in let other : Some (codes "issue") ≡ Some (codes "account") = sym (ap (text_at (codes "op")) h.1) ∙ op in cc
-only_account d op none (Redeem holding) c = let bad = c.known in cc
+only_account d op none (Issue movement) c = let h = c.spells in let other : Some (codes "issue") ≡ Some (codes "account") = sym (ap (text_at (codes "op")) h.1) ∙ op in cc
+only_account d op none (Redeem movement) c = let bad = c.known in cc
 only_account d op none (PayIn payment) c = let bad = c.known in cc
 only_account d op none (PayOut payment) c = let bad = c.known in cc
 only_account d op none (Instruct sender instruction) c = let bad = c.known in cc
@@ -136,21 +136,21 @@ pub only_security : (d : Data) → text_at (codes "op") d ≡ Some (codes "secur
 only_security d op none (Participant reference bic) c = let h = c.spells in let other : Some (codes "participant") ≡ Some (codes "security") = sym (ap (text_at (codes "op")) h.3) ∙ op in cc
 only_security d op none (Account reference bic account) c = let h = c.spells in let other : Some (codes "account") ≡ Some (codes "security") = sym (ap (text_at (codes "op")) h.4) ∙ op in cc
 only_security d op none (Security reference isin kind) c = none reference isin kind c.spells
-only_security d op none (Issue holding) c = let h = c.spells in let other : Some (codes "issue") ≡ Some (codes "security") = sym (ap (text_at (codes "op")) h.1) ∙ op in cc
-only_security d op none (Redeem holding) c = let bad = c.known in cc
+only_security d op none (Issue movement) c = let h = c.spells in let other : Some (codes "issue") ≡ Some (codes "security") = sym (ap (text_at (codes "op")) h.1) ∙ op in cc
+only_security d op none (Redeem movement) c = let bad = c.known in cc
 only_security d op none (PayIn payment) c = let bad = c.known in cc
 only_security d op none (PayOut payment) c = let bad = c.known in cc
 only_security d op none (Instruct sender instruction) c = let bad = c.known in cc
 only_security d op none (Cancel sender order) c = let bad = c.known in cc
 only_security d op none (Run reference day) c = let h = c.spells in let other : Some (codes "run") ≡ Some (codes "security") = sym (ap (text_at (codes "op")) h.2) ∙ op in cc
 
-pub only_issue : (d : Data) → text_at (codes "op") d ≡ Some (codes "issue") → ((holding : Holding) → ¬ IsCommand d (Issue holding))
+pub only_issue : (d : Data) → text_at (codes "op") d ≡ Some (codes "issue") → ((movement : Movement) → ¬ IsCommand d (Issue movement))
     → (entry : Entry) → ¬ IsKnownCommand d entry
 only_issue d op none (Participant reference bic) c = let h = c.spells in let other : Some (codes "participant") ≡ Some (codes "issue") = sym (ap (text_at (codes "op")) h.3) ∙ op in cc
 only_issue d op none (Account reference bic account) c = let h = c.spells in let other : Some (codes "account") ≡ Some (codes "issue") = sym (ap (text_at (codes "op")) h.4) ∙ op in cc
 only_issue d op none (Security reference isin kind) c = let h = c.spells in let other : Some (codes "security") ≡ Some (codes "issue") = sym (ap (text_at (codes "op")) h.2) ∙ op in cc
-only_issue d op none (Issue holding) c = none holding c.spells
-only_issue d op none (Redeem holding) c = let bad = c.known in cc
+only_issue d op none (Issue movement) c = none movement c.spells
+only_issue d op none (Redeem movement) c = let bad = c.known in cc
 only_issue d op none (PayIn payment) c = let bad = c.known in cc
 only_issue d op none (PayOut payment) c = let bad = c.known in cc
 only_issue d op none (Instruct sender instruction) c = let bad = c.known in cc
@@ -162,8 +162,8 @@ pub only_run : (d : Data) → text_at (codes "op") d ≡ Some (codes "run") → 
 only_run d op none (Participant reference bic) c = let h = c.spells in let other : Some (codes "participant") ≡ Some (codes "run") = sym (ap (text_at (codes "op")) h.3) ∙ op in cc
 only_run d op none (Account reference bic account) c = let h = c.spells in let other : Some (codes "account") ≡ Some (codes "run") = sym (ap (text_at (codes "op")) h.4) ∙ op in cc
 only_run d op none (Security reference isin kind) c = let h = c.spells in let other : Some (codes "security") ≡ Some (codes "run") = sym (ap (text_at (codes "op")) h.2) ∙ op in cc
-only_run d op none (Issue holding) c = let h = c.spells in let other : Some (codes "issue") ≡ Some (codes "run") = sym (ap (text_at (codes "op")) h.1) ∙ op in cc
-only_run d op none (Redeem holding) c = let bad = c.known in cc
+only_run d op none (Issue movement) c = let h = c.spells in let other : Some (codes "issue") ≡ Some (codes "run") = sym (ap (text_at (codes "op")) h.1) ∙ op in cc
+only_run d op none (Redeem movement) c = let bad = c.known in cc
 only_run d op none (PayIn payment) c = let bad = c.known in cc
 only_run d op none (PayOut payment) c = let bad = c.known in cc
 only_run d op none (Instruct sender instruction) c = let bad = c.known in cc

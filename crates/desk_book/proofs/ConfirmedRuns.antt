@@ -23,12 +23,12 @@ use Rattle.desk_rules.proofs.Existence.{no_books}
 use Rattle.desk_rules.proofs.HistoryLemmas.{entry_at-front, entry_at-end, entry_at-known, instruction_at-known}
 use Rattle.desk_register.specs.Applied.{no_books as empty_books}
 use Rattle.desk_book.specs.declared.fault.Fault.{Fault}
-use Rattle.desk_book.specs.declared.order.Order.{Order}
-use Rattle.desk_book.specs.declared.order.Order.TheVariants.{Decide, Totals, Answer}
+use Rattle.desk_book.specs.declared.task.Task.{Task}
+use Rattle.desk_book.specs.declared.task.Task.TheVariants.{Decide, Totals, Answer}
 use Rattle.desk_book.specs.Answered.{Grows, IsAnswer, Run, Step, says_closed}
 use Rattle.desk_book.specs.Asked.{Asked, message, operator, status, sent, holdings, sums}
 use Rattle.desk_book.specs.Command.{Spells}
-use Rattle.desk_book.specs.Order.{IsOrder, IsMessageOrder, is_taken, unknown_form}
+use Rattle.desk_book.specs.Task.{IsTask, IsMessageTask, is_taken, unknown_form}
 
 -- what an entry tells was read: an instruction from a message, a day from a command
 record IsReadEntry (entry : Entry) : Type 0 where
@@ -61,7 +61,7 @@ read_more h e was new = record {
     some_entry : {a b : Entry} → Some a ≡ Some b → a ≡ b
     some_entry e = cc
 
--- what a request orders was read
+-- the command that a request gives was read
 
 from_message : (sender : List ℕ) (mt : Mt) (text : List ℕ) (entry : Entry) (i : Instruction) → ReadsText mt text (Ok (New i)) → entry ≡ Instruct sender i → IsReadEntry entry
 from_message sender mt text entry i reads is =
@@ -84,8 +84,8 @@ from_command : (text : List ℕ) (entry : Entry) → Spells text entry → IsRea
 from_command text (Participant reference bic) s = record { instruction = λ i e. absurd (cc); day = λ r d e. absurd (cc) }
 from_command text (Account reference bic account) s = record { instruction = λ i e. absurd (cc); day = λ r d e. absurd (cc) }
 from_command text (Security reference isin kind) s = record { instruction = λ i e. absurd (cc); day = λ r d e. absurd (cc) }
-from_command text (Issue holding) s = record { instruction = λ i e. absurd (cc); day = λ r d e. absurd (cc) }
-from_command text (Redeem holding) s = record { instruction = λ i e. absurd (cc); day = λ r d e. absurd (cc) }
+from_command text (Issue movement) s = record { instruction = λ i e. absurd (cc); day = λ r d e. absurd (cc) }
+from_command text (Redeem movement) s = record { instruction = λ i e. absurd (cc); day = λ r d e. absurd (cc) }
 from_command text (PayIn payment) s = record { instruction = λ i e. absurd (cc); day = λ r d e. absurd (cc) }
 from_command text (PayOut payment) s = record { instruction = λ i e. absurd (cc); day = λ r d e. absurd (cc) }
 from_command text (Instruct sender i) s = absurd s.command.spells
@@ -95,17 +95,17 @@ from_command text (RunDay reference date) s = record {
   day = λ r d e. let same : date ≡ d = cc in subst IsDay same s.command.spells.1;
 }
 
-by_message : (taken : Bool) (sender : List ℕ) (mt : Mt) (text : List ℕ) (entry : Entry) → MatchBool taken (IsMessageOrder sender mt text (Decide entry)) (Decide entry ≡ Answer unknown_form) → IsReadEntry entry
+by_message : (taken : Bool) (sender : List ℕ) (mt : Mt) (text : List ℕ) (entry : Entry) → MatchBool taken (IsMessageTask sender mt text (Decide entry)) (Decide entry ≡ Answer unknown_form) → IsReadEntry entry
 by_message true sender mt text entry is = from_message sender mt text entry is.0 is.1 is.2
 by_message false sender mt text entry is = absurd (cc)
 
-ordered : (asked : Asked) (entry : Entry) → IsOrder asked (Decide entry) → IsReadEntry entry
-ordered (message sender mt text) entry is = by_message (is_taken mt) sender mt text entry is
-ordered (operator text) entry is = from_command text entry is
-ordered (status sender reference) entry is = absurd (cc)
-ordered (sent receiver number) entry is = absurd (cc)
-ordered (holdings owner account) entry is = absurd (cc)
-ordered sums entry is = absurd (cc)
+tasked : (asked : Asked) (entry : Entry) → IsTask asked (Decide entry) → IsReadEntry entry
+tasked (message sender mt text) entry is = by_message (is_taken mt) sender mt text entry is
+tasked (operator text) entry is = from_command text entry is
+tasked (status sender reference) entry is = absurd (cc)
+tasked (sent receiver number) entry is = absurd (cc)
+tasked (holdings owner account) entry is = absurd (cc)
+tasked sums entry is = absurd (cc)
 
 -- books whose entries were read
 record AreRead (books : Books) : Type 0 where
@@ -117,8 +117,8 @@ grown Accept books after entry new was grows = record { are = grows.are; read = 
 grown (Repeat n) books after entry new was grows = subst AreRead (sym grows) was
 grown (Refuse refusal) books after entry new was grows = subst AreRead (sym grows) was
 
-replied : (limit : ℕ) (books after : Books) (asked : Asked) (order : Order) (reply : Reply) → IsOrder asked order → AreRead books → IsAnswer limit books order reply after → AreRead after
-replied limit books after asked (Decide entry) reply is was answer = grown answer.verdict books after entry (ordered asked entry is) was answer.grows
+replied : (limit : ℕ) (books after : Books) (asked : Asked) (task : Task) (reply : Reply) → IsTask asked task → AreRead books → IsAnswer limit books task reply after → AreRead after
+replied limit books after asked (Decide entry) reply is was answer = grown answer.verdict books after entry (tasked asked entry is) was answer.grows
 replied limit books after asked Totals reply is was answer = subst AreRead (sym answer.stays) was
 replied limit books after asked (Answer given) reply is was answer = subst AreRead (sym answer.1) was
 

@@ -9,7 +9,7 @@ pub mod CommandLemmas
 pub mod RowLemmas
 pub mod OneReading
 pub mod OneCommand
-pub mod OneOrder
+pub mod OneTask
 mod OnceLemmas
 mod ConfirmedRuns
 mod OneStep

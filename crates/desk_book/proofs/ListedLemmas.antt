@@ -71,8 +71,8 @@ registers (Security reference i kind) isin e = elim (cases_Bool (bytes_eq i isin
   | inl same ↦ ap Some (same_bytes i isin same)
   | inr other ↦ (let bad = rw other at e in cc)
 ]
-registers (Issue holding) isin e = cc
-registers (Redeem holding) isin e = cc
+registers (Issue movement) isin e = cc
+registers (Redeem movement) isin e = cc
 registers (PayIn payment) isin e = cc
 registers (PayOut payment) isin e = cc
 registers (Instruct sender instruction) isin e = cc

@@ -10,22 +10,22 @@ use Rattle.desk_rules.specs.declared.verdict.Verdict.TheVariants.{Accept, Repeat
 use Rattle.desk_rules.specs.Reply.{AreNext, IsReply}
 use Rattle.desk_rules.specs.Verdict.{Books, IsVerdict}
 use Rattle.desk_book.specs.declared.fault.Fault.{Fault}
-use Rattle.desk_book.specs.declared.order.Order.{Order}
-use Rattle.desk_book.specs.declared.order.Order.TheVariants.{Decide, Totals, Answer}
+use Rattle.desk_book.specs.declared.task.Task.{Task}
+use Rattle.desk_book.specs.declared.task.Task.TheVariants.{Decide, Totals, Answer}
 use Rattle.desk_book.specs.Answered.{ActsOnce, Grows, IsAnswer, IsRepeat, Run, Step, WithoutRepeats, answered, ended, failed, repeated, says_closed}
 use Rattle.desk_book.specs.Asked.{Asked}
-use Rattle.desk_book.specs.Order.{IsOrder}
-use Rattle.desk_book.proofs.OneOrder.{one_order}
+use Rattle.desk_book.specs.Task.{IsTask}
+use Rattle.desk_book.proofs.OneTask.{one_task}
 
 -- what is not decided on is no repeat, and neither is what has another verdict
 
-other_order : (limit : ℕ) (books : Books) (asked : Asked) (order : Order) → IsOrder asked order → ((entry : Entry) → order ≢ Decide entry) → ¬ IsRepeat limit books asked
-other_order limit books asked order is never r = never r.entry (one_order asked order (Decide r.entry) is r.reads)
+other_task : (limit : ℕ) (books : Books) (asked : Asked) (task : Task) → IsTask asked task → ((entry : Entry) → task ≢ Decide entry) → ¬ IsRepeat limit books asked
+other_task limit books asked task is never r = never r.entry (one_task asked task (Decide r.entry) is r.reads)
 
-other_verdict : (limit : ℕ) (books : Books) (asked : Asked) (entry : Entry) (verdict : Verdict) → IsOrder asked (Decide entry) → IsVerdict limit books entry verdict
+other_verdict : (limit : ℕ) (books : Books) (asked : Asked) (entry : Entry) (verdict : Verdict) → IsTask asked (Decide entry) → IsVerdict limit books entry verdict
     → ((number : ℕ) → verdict ≢ Repeat number) → ¬ IsRepeat limit books asked
 other_verdict limit books asked entry verdict is decided never r =
-    let same = one_order asked (Decide entry) (Decide r.entry) is r.reads in
+    let same = one_task asked (Decide entry) (Decide r.entry) is r.reads in
     let e : r.entry ≡ entry = cc in
     let P : Entry → Type 0 = λ x. IsVerdict limit books x (Repeat r.number) in
     never r.number (one_verdict limit books entry verdict (Repeat r.number) decided (subst P e r.repeats))
@@ -43,7 +43,7 @@ stay limit books next last asked more reply answers fresh step rest =
     }
 
 one_decided : (limit : ℕ) (books next last : Books) (asked : Asked) (more : List Asked) (entry : Entry) (reply : Reply) (answers : List (Result Reply Fault)) (verdict : Verdict)
-    → IsOrder asked (Decide entry) → IsVerdict limit books entry verdict → Grows verdict books entry next → IsReply books entry verdict next reply
+    → IsTask asked (Decide entry) → IsVerdict limit books entry verdict → Grows verdict books entry next → IsReply books entry verdict next reply
     → Step limit books asked (Ok reply) next → ActsOnce limit next more answers last → ActsOnce limit books (asked ∷ more) (Ok reply ∷ answers) last
 one_decided limit books next last asked more entry reply answers Accept is decided grows replied step rest =
     let never : (number : ℕ) → Accept ≢ Repeat number = λ number e. cc in
@@ -62,16 +62,16 @@ one_decided limit books next last asked more entry reply answers (Repeat n) is d
       run = subst Q grows rest.run;
     }
 
-one_step : (limit : ℕ) (books next last : Books) (asked : Asked) (more : List Asked) (reply : Reply) (answers : List (Result Reply Fault)) (order : Order)
-    → IsOrder asked order → IsAnswer limit books order reply next → ActsOnce limit next more answers last → ActsOnce limit books (asked ∷ more) (Ok reply ∷ answers) last
+one_step : (limit : ℕ) (books next last : Books) (asked : Asked) (more : List Asked) (reply : Reply) (answers : List (Result Reply Fault)) (task : Task)
+    → IsTask asked task → IsAnswer limit books task reply next → ActsOnce limit next more answers last → ActsOnce limit books (asked ∷ more) (Ok reply ∷ answers) last
 one_step limit books next last asked more reply answers (Decide entry) is answer rest =
     one_decided limit books next last asked more entry reply answers answer.verdict is answer.is_verdict answer.grows answer.replied (Decide entry, is, answer) rest
 one_step limit books next last asked more reply answers Totals is answer rest =
     let never : (entry : Entry) → Totals ≢ Decide entry = λ entry e. cc in
-    stay limit books next last asked more reply answers (other_order limit books asked Totals is never) (Totals, is, answer) rest
+    stay limit books next last asked more reply answers (other_task limit books asked Totals is never) (Totals, is, answer) rest
 one_step limit books next last asked more reply answers (Answer given) is answer rest =
     let never : (entry : Entry) → Answer given ≢ Decide entry = λ entry e. cc in
-    stay limit books next last asked more reply answers (other_order limit books asked (Answer given) is never) (Answer given, is, answer) rest
+    stay limit books next last asked more reply answers (other_task limit books asked (Answer given) is never) (Answer given, is, answer) rest
 
 pub act_once : (limit : ℕ) (was : Bool) (books last : Books) (requests : List Asked) (answers : List (Result Reply Fault)) (is : Bool)
     → Run limit was books requests answers is last → ActsOnce limit books requests answers last
@@ -102,7 +102,7 @@ grown_by books after entry Accept grows = record { more = entry ∷ []; history 
 grown_by books after entry (Repeat n) grows = same_books books after grows
 grown_by books after entry (Refuse refusal) grows = same_books books after grows
 
-answer_grows : (limit : ℕ) (books after : Books) (order : Order) (reply : Reply) → IsAnswer limit books order reply after → Grown books after
+answer_grows : (limit : ℕ) (books after : Books) (task : Task) (reply : Reply) → IsAnswer limit books task reply after → Grown books after
 answer_grows limit books after (Decide entry) reply answer = grown_by books after entry answer.verdict answer.grows
 answer_grows limit books after Totals reply answer = same_books books after answer.stays
 answer_grows limit books after (Answer given) reply answer = same_books books after answer.1
@@ -125,7 +125,7 @@ run_grows limit was is books last (asked ∷ more) (answer ∷ answers) run =
     grown_then books run.1.0 last (step_grows limit books run.1.0 asked answer run.1.1) (run_grows limit (says_closed answer) is run.1.0 last more answers run.1.2)
 
 -- what was accepted is a repeat when it is asked again
-pub accepted_again : (limit : ℕ) (was is : Bool) (books next last : Books) (asked : Asked) (entry : Entry) (requests : List Asked) (answers : List (Result Reply Fault)) → IsOrder asked (Decide entry)
+pub accepted_again : (limit : ℕ) (was is : Bool) (books next last : Books) (asked : Asked) (entry : Entry) (requests : List Asked) (answers : List (Result Reply Fault)) → IsTask asked (Decide entry)
     → IsVerdict limit books entry Accept → AreNext books entry next → Run limit was next requests answers is last → IsRepeat limit last asked
 accepted_again limit was is books next last asked entry requests answers reads accepted next_is run =
     let g = run_grows limit was is next last requests answers run in

@@ -12,16 +12,16 @@ use Rattle.desk_rules.specs.declared.entry.Entry.TheVariants.{Participant, Accou
 use Rattle.std.specs.Prelude.{◌<◌, ◌≤◌}
 use Rattle.std.proofs.Props.{props}
 use mathlib.Core.HLevel.{Σ_prop_path}
-use Rattle.desk_rules.specs.declared.entry.Holding.{Holding}
+use Rattle.desk_rules.specs.declared.entry.Movement.{Movement}
 use Rattle.desk_rules.specs.declared.entry.Payment.{Payment}
 use Rattle.desk_book.specs.Command.{IsCommand, Spells, text_at, number_at, kind_word}
 
 -- a condition that a type keeps has one proof
 
-holding_same : (a b : Holding) → a.reference ≡ b.reference → a.account ≡ b.account → a.isin ≡ b.isin → a.quantity ≡ b.quantity → a ≡ b
-holding_same a b e0 e1 e2 e3 =
+movement_same : (a b : Movement) → a.reference ≡ b.reference → a.account ≡ b.account → a.isin ≡ b.isin → a.quantity ≡ b.quantity → a ≡ b
+movement_same a b e0 e1 e2 e3 =
     let kept : List ℕ × List ℕ × List ℕ × ℕ → Type 0 = λ x. (0 < x.3) × (x.3 ≤ 99_999_999_999_999) in
-    let whole : ((x : List ℕ × List ℕ × List ℕ × ℕ) × kept x) → Holding = λ s. record { reference = s.0.0; account = s.0.1; isin = s.0.2; quantity = s.0.3; some = s.1.0; within = s.1.1 } in
+    let whole : ((x : List ℕ × List ℕ × List ℕ × ℕ) × kept x) → Movement = λ s. record { reference = s.0.0; account = s.0.1; isin = s.0.2; quantity = s.0.3; some = s.1.0; within = s.1.1 } in
     let base : ◌≡◌ {A = List ℕ × List ℕ × List ℕ × ℕ} (a.reference, a.account, a.isin, a.quantity) (b.reference, b.account, b.isin, b.quantity) = cc in
     let both : ◌≡◌ {A = (x : List ℕ × List ℕ × List ℕ × ℕ) × kept x} ((a.reference, a.account, a.isin, a.quantity), (a.some, a.within)) ((b.reference, b.account, b.isin, b.quantity), (b.some, b.within)) = Σ_prop_path (λ x. hlevel props) base in
     ap whole both
@@ -64,8 +64,8 @@ op_word : Entry → List ℕ
 op_word (Participant reference bic) = codes "participant"
 op_word (Account reference bic account) = codes "account"
 op_word (Security reference isin kind) = codes "security"
-op_word (Issue holding) = codes "issue"
-op_word (Redeem holding) = codes "redeem"
+op_word (Issue movement) = codes "issue"
+op_word (Redeem movement) = codes "redeem"
 op_word (PayIn payment) = codes "payin"
 op_word (PayOut payment) = codes "payout"
 op_word (Run reference day) = codes "run"
@@ -77,8 +77,8 @@ unfolding op_word
 op_is d (Participant reference bic) h = ap (text_at (codes "op")) h.3
 op_is d (Account reference bic account) h = ap (text_at (codes "op")) h.4
 op_is d (Security reference isin kind) h = ap (text_at (codes "op")) h.2
-op_is d (Issue holding) h = ap (text_at (codes "op")) h.1
-op_is d (Redeem holding) h = ap (text_at (codes "op")) h.1
+op_is d (Issue movement) h = ap (text_at (codes "op")) h.1
+op_is d (Redeem movement) h = ap (text_at (codes "op")) h.1
 op_is d (PayIn payment) h = ap (text_at (codes "op")) h.3
 op_is d (PayOut payment) h = ap (text_at (codes "op")) h.3
 op_is d (Run reference day) h = ap (text_at (codes "op")) h.2
@@ -102,10 +102,10 @@ one_entry d (Account reference bic account) (Account reference' bic' account') h
 one_entry d (Account reference bic account) b h k = let e = other_op d (Account reference bic account) b h k in cc
 one_entry d (Security reference isin kind) (Security reference' isin' kind') h k = let r = found (codes "ref") reference reference' d _ _ h.2 k.2 refl refl in let i = found (codes "isin") isin isin' d _ _ h.2 k.2 refl refl in let w = same_kind kind kind' (found (codes "kind") (kind_word kind) (kind_word kind') d _ _ h.2 k.2 refl refl) in cc
 one_entry d (Security reference isin kind) b h k = let e = other_op d (Security reference isin kind) b h k in cc
-one_entry d (Issue holding) (Issue holding') h k = ap Issue (holding_same holding holding' (found (codes "ref") holding.reference holding'.reference d _ _ h.1 k.1 refl refl) (found (codes "account") holding.account holding'.account d _ _ h.1 k.1 refl refl) (found (codes "isin") holding.isin holding'.isin d _ _ h.1 k.1 refl refl) (counted (codes "quantity") holding.quantity holding'.quantity d _ _ h.1 k.1 refl refl))
-one_entry d (Issue holding) b h k = let e = other_op d (Issue holding) b h k in cc
-one_entry d (Redeem holding) (Redeem holding') h k = ap Redeem (holding_same holding holding' (found (codes "ref") holding.reference holding'.reference d _ _ h.1 k.1 refl refl) (found (codes "account") holding.account holding'.account d _ _ h.1 k.1 refl refl) (found (codes "isin") holding.isin holding'.isin d _ _ h.1 k.1 refl refl) (counted (codes "quantity") holding.quantity holding'.quantity d _ _ h.1 k.1 refl refl))
-one_entry d (Redeem holding) b h k = let e = other_op d (Redeem holding) b h k in cc
+one_entry d (Issue movement) (Issue movement') h k = ap Issue (movement_same movement movement' (found (codes "ref") movement.reference movement'.reference d _ _ h.1 k.1 refl refl) (found (codes "account") movement.account movement'.account d _ _ h.1 k.1 refl refl) (found (codes "isin") movement.isin movement'.isin d _ _ h.1 k.1 refl refl) (counted (codes "quantity") movement.quantity movement'.quantity d _ _ h.1 k.1 refl refl))
+one_entry d (Issue movement) b h k = let e = other_op d (Issue movement) b h k in cc
+one_entry d (Redeem movement) (Redeem movement') h k = ap Redeem (movement_same movement movement' (found (codes "ref") movement.reference movement'.reference d _ _ h.1 k.1 refl refl) (found (codes "account") movement.account movement'.account d _ _ h.1 k.1 refl refl) (found (codes "isin") movement.isin movement'.isin d _ _ h.1 k.1 refl refl) (counted (codes "quantity") movement.quantity movement'.quantity d _ _ h.1 k.1 refl refl))
+one_entry d (Redeem movement) b h k = let e = other_op d (Redeem movement) b h k in cc
 one_entry d (PayIn payment) (PayIn payment') h k = ap PayIn (payment_same payment payment' (found (codes "ref") payment.reference payment'.reference d _ _ h.3 k.3 refl refl) (h.1.0 ∙ ap party_of (found (codes "bic") h.0 k.0 d _ _ h.3 k.3 refl refl) ∙ sym k.1.0) (same_letters payment.ccy payment'.ccy (found (codes "ccy") (letters_of payment.ccy) (letters_of payment'.ccy) d _ _ h.3 k.3 refl refl)) (counted (codes "amount") payment.amount payment'.amount d _ _ h.3 k.3 refl refl))
 one_entry d (PayIn payment) b h k = let e = other_op d (PayIn payment) b h k in cc
 one_entry d (PayOut payment) (PayOut payment') h k = ap PayOut (payment_same payment payment' (found (codes "ref") payment.reference payment'.reference d _ _ h.3 k.3 refl refl) (h.1.0 ∙ ap party_of (found (codes "bic") h.0 k.0 d _ _ h.3 k.3 refl refl) ∙ sym k.1.0) (same_letters payment.ccy payment'.ccy (found (codes "ccy") (letters_of payment.ccy) (letters_of payment'.ccy) d _ _ h.3 k.3 refl refl)) (counted (codes "amount") payment.amount payment'.amount d _ _ h.3 k.3 refl refl))

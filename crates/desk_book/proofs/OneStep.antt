@@ -25,10 +25,10 @@ use Rattle.desk_register.specs.Looked.{IsLess}
 use Rattle.desk_book.specs.Answered.{AreSums, Grows, IsAnswer, IsDecided, IsSum, IsToldSums, Step}
 use Rattle.desk_book.specs.Asked.{Asked}
 use Rattle.desk_book.specs.Sums.{sums_text}
-use Rattle.desk_book.specs.declared.order.Order.{Order}
-use Rattle.desk_book.specs.declared.order.Order.TheVariants.{Decide, Totals, Answer}
+use Rattle.desk_book.specs.declared.task.Task.{Task}
+use Rattle.desk_book.specs.declared.task.Task.TheVariants.{Decide, Totals, Answer}
 use Rattle.desk_book.specs.declared.total.SecurityTotal.{SecurityTotal}
-use Rattle.desk_book.proofs.OneOrder.{one_order}
+use Rattle.desk_book.proofs.OneTask.{one_task}
 
 -- Books.
 
@@ -168,12 +168,12 @@ one_telling books r s n m x y =
 
 -- Answers.
 
-one_to_order : (limit : ℕ) (books : Books) (order : Order) (r s : Reply) (n m : Books) → IsAnswer limit books order r n → IsAnswer limit books order s m → (r ≡ s) × (n ≡ m)
-one_to_order limit books (Decide entry) r s n m x y = one_decision limit books entry r s n m x y
-one_to_order limit books Totals r s n m x y = one_telling books r s n m x y
-one_to_order limit books (Answer given) r s n m x y = (x.0 ∙ sym y.0, x.1 ∙ sym y.1)
+one_to_task : (limit : ℕ) (books : Books) (task : Task) (r s : Reply) (n m : Books) → IsAnswer limit books task r n → IsAnswer limit books task s m → (r ≡ s) × (n ≡ m)
+one_to_task limit books (Decide entry) r s n m x y = one_decision limit books entry r s n m x y
+one_to_task limit books Totals r s n m x y = one_telling books r s n m x y
+one_to_task limit books (Answer given) r s n m x y = (x.0 ∙ sym y.0, x.1 ∙ sym y.1)
 
 pub one_step : (limit : ℕ) (books n m : Books) (asked : Asked) (r s : Reply) → Step limit books asked (Ok r) n → Step limit books asked (Ok s) m → (r ≡ s) × (n ≡ m)
 one_step limit books n m asked r s x y =
-    let P : Order → Type 0 = λ order. IsAnswer limit books order s m in
-    one_to_order limit books x.0 r s n m x.2 (subst P (sym (one_order asked x.0 y.0 x.1 y.1)) y.2)
+    let P : Task → Type 0 = λ task. IsAnswer limit books task s m in
+    one_to_task limit books x.0 r s n m x.2 (subst P (sym (one_task asked x.0 y.0 x.1 y.1)) y.2)

@@ -10,16 +10,16 @@ use Rattle.desk_rules.specs.Verdict.{Books}
 use Rattle.desk_register.specs.View.{View, IsLater}
 use Rattle.desk_book.specs.declared.fault.Fault.{Fault}
 use Rattle.desk_book.specs.declared.fault.Fault.TheVariants.{Memory, Storage, Closed}
-use Rattle.desk_book.specs.declared.order.Order.{Order}
+use Rattle.desk_book.specs.declared.task.Task.{Task}
 use Rattle.desk_book.specs.Answered.{Run, Step, says_closed, says_storage}
 use Rattle.desk_book.specs.Asked.{Asked, asked_by}
 use Rattle.desk_book.specs.declared.request.Request.{Request}
-use Rattle.desk_book.specs.Held.{Holds, IsObeyed, Steps}
-use Rattle.desk_book.specs.Order.{IsOrder}
+use Rattle.desk_book.specs.Held.{Holds, IsPerformed, Steps}
+use Rattle.desk_book.specs.Task.{IsTask}
 
--- what was read as an order, and obeyed, is a step
-pub step_of : {E : Type 0} (limit : ℕ) (books : Books) (asked : Asked) (order : Result Order E) (answer : Result Reply Fault) (closed : Bool) (view : View) → IfOk order (λ o. IsOrder asked o)
-    → IsObeyed limit books order answer closed view → Steps limit books asked answer closed view
+-- what was read as an task, and obeyed, is a step
+pub step_of : {E : Type 0} (limit : ℕ) (books : Books) (asked : Asked) (task : Result Task E) (answer : Result Reply Fault) (closed : Bool) (view : View) → IfOk task (λ o. IsTask asked o)
+    → IsPerformed limit books task answer closed view → Steps limit books asked answer closed view
 step_of limit books asked (Ok o) (Ok reply) closed view is obeyed = record { next = obeyed.next; step = (o, is, obeyed.answer); holds = obeyed.holds }
 step_of limit books asked (Ok o) (Err fault) closed view is obeyed = record { next = obeyed.next; step = obeyed.answer; holds = obeyed.holds }
 step_of limit books asked (Err want) (Ok reply) closed view is obeyed = absurd obeyed.answer

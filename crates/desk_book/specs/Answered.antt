@@ -10,12 +10,12 @@ use Rattle.desk_rules.specs.Reply.{plain_reply, AreNext, IsFirstReply, IsReply}
 use Rattle.desk_rules.specs.Verdict.{Books, IsVerdict, kind_of}
 use Rattle.desk_register.specs.Looked.{IsLess}
 use Rattle.desk_book.specs.Asked.{Asked}
-use Rattle.desk_book.specs.Order.{IsOrder}
+use Rattle.desk_book.specs.Task.{IsTask}
 use Rattle.desk_book.specs.Sums.{sums_text}
 use Rattle.desk_book.specs.declared.fault.Fault.{Fault}
 use Rattle.desk_book.specs.declared.fault.Fault.TheVariants.{Memory, Storage, Closed}
-use Rattle.desk_book.specs.declared.order.Order.{Order}
-use Rattle.desk_book.specs.declared.order.Order.TheVariants.{Decide, Totals, Answer}
+use Rattle.desk_book.specs.declared.task.Task.{Task}
+use Rattle.desk_book.specs.declared.task.Task.TheVariants.{Decide, Totals, Answer}
 use Rattle.desk_book.specs.declared.total.SecurityTotal.{SecurityTotal}
 
 -- what a verdict makes of the books: they grow by what is accepted, and by nothing else
@@ -53,15 +53,15 @@ pub record IsToldSums (books : Books) (reply : Reply) (after : Books) : Type 0 w
   pub stays : after ≡ books
 
 -- the answer to what a request is read as, and the books after it
-abbrev pub IsAnswer : ℕ → Books → Order → Reply → Books → Type 0
+abbrev pub IsAnswer : ℕ → Books → Task → Reply → Books → Type 0
 IsAnswer limit books (Decide entry) reply after = IsDecided limit books entry reply after
 IsAnswer limit books Totals reply after = IsToldSums books reply after
 IsAnswer limit books (Answer given) reply after = (reply ≡ given) × (after ≡ books)
 
--- One request: it is read as an order, and that is answered; a fault changes nothing in the books. (Of the tables of a
+-- One request: it is read as a task, and that is answered; a fault changes nothing in the books. (Of the tables of a
 -- desk that is closed nothing is said.)
 abbrev pub Step : ℕ → Books → Asked → Result Reply Fault → Books → Type 0
-Step limit books asked (Ok reply) after = (order : Order) × IsOrder asked order × IsAnswer limit books order reply after
+Step limit books asked (Ok reply) after = (task : Task) × IsTask asked task × IsAnswer limit books task reply after
 Step limit books asked (Err fault) after = after ≡ books
 
 -- the desk answered that it is closed
@@ -91,7 +91,7 @@ Run limit was books (asked ∷ more) [] is last = ⊥
 pub record IsRepeat (limit : ℕ) (books : Books) (asked : Asked) : Type 0 where
   pub entry : Entry
   pub number : ℕ
-  pub reads : IsOrder asked (Decide entry)
+  pub reads : IsTask asked (Decide entry)
   pub repeats : IsVerdict limit books entry (Repeat number)
 
 -- Requests and their answers, from these books to the last ones, and what is left of both once every repeat is taken

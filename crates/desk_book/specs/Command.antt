@@ -10,7 +10,7 @@ use Rattle.desk_codes.specs.Day.{IsDay}
 use Rattle.desk_codes.specs.Reference.{IsReference}
 use Rattle.desk_msg.specs.declared.instruction.Kind.{Kind}
 use Rattle.desk_msg.specs.declared.instruction.Kind.TheVariants.{Unit as Units, FaceAmount}
-use Rattle.desk_rules.specs.declared.entry.Holding.{Holding}
+use Rattle.desk_rules.specs.declared.entry.Movement.{Movement}
 use Rattle.desk_rules.specs.declared.entry.Entry.{Entry}
 use Rattle.desk_rules.specs.declared.entry.Entry.TheVariants.{Participant, Account, Security, Issue, Redeem, PayIn, PayOut, Instruct, Cancel, Run}
 use Rattle.desk_book.specs.Forms.{Names}
@@ -41,8 +41,8 @@ abbrev pub security_object : List ℕ → List ℕ → List ℕ → Data
 security_object reference isin kind =
     object (text_member (codes "isin") isin (text_member (codes "kind") kind (text_member (codes "op") (codes "security") (text_member (codes "ref") reference no_members))))
 
-abbrev pub holding_object : List ℕ → List ℕ → List ℕ → List ℕ → ℕ → Data
-holding_object op reference account isin quantity =
+abbrev pub movement_object : List ℕ → List ℕ → List ℕ → List ℕ → ℕ → Data
+movement_object op reference account isin quantity =
     object (text_member (codes "account") account (text_member (codes "isin") isin (text_member (codes "op") op
     (number_member (codes "quantity") quantity (text_member (codes "ref") reference no_members)))))
 
@@ -55,17 +55,17 @@ abbrev pub run_object : List ℕ → List ℕ → Data
 run_object reference day =
     object (text_member (codes "day") day (text_member (codes "op") (codes "run") (text_member (codes "ref") reference no_members)))
 
--- the codes of a holding and of a payment are well formed
-abbrev pub IsHolding : Holding → Type 0
-IsHolding h = IsReference h.reference × IsAccount h.account × IsIsin h.isin
+-- the codes of a movement and of a payment are well formed
+abbrev pub IsMovement : Movement → Type 0
+IsMovement h = IsReference h.reference × IsAccount h.account × IsIsin h.isin
 
 -- The value spells the entry, one equation an operation. A head office's BIC may be written with its branch XXX.
 abbrev pub IsCommand : Data → Entry → Type 0
 IsCommand d (Participant reference bic) = (name : List ℕ) × Names name bic × IsReference reference × (d ≡ participant_object reference name)
 IsCommand d (Account reference bic account) = (name : List ℕ) × Names name bic × IsReference reference × IsAccount account × (d ≡ account_object reference name account)
 IsCommand d (Security reference isin kind) = IsReference reference × IsIsin isin × (d ≡ security_object reference isin (kind_word kind))
-IsCommand d (Issue h) = IsHolding h × (d ≡ holding_object (codes "issue") h.reference h.account h.isin h.quantity)
-IsCommand d (Redeem h) = IsHolding h × (d ≡ holding_object (codes "redeem") h.reference h.account h.isin h.quantity)
+IsCommand d (Issue h) = IsMovement h × (d ≡ movement_object (codes "issue") h.reference h.account h.isin h.quantity)
+IsCommand d (Redeem h) = IsMovement h × (d ≡ movement_object (codes "redeem") h.reference h.account h.isin h.quantity)
 IsCommand d (PayIn p) = (name : List ℕ) × Names name p.bic × IsReference p.reference × (d ≡ payment_object (codes "payin") p.reference name (letters_of p.ccy) p.amount)
 IsCommand d (PayOut p) = (name : List ℕ) × Names name p.bic × IsReference p.reference × (d ≡ payment_object (codes "payout") p.reference name (letters_of p.ccy) p.amount)
 IsCommand d (Instruct sender instruction) = ⊥
@@ -77,8 +77,8 @@ abbrev pub is_known : Entry → Bool
 is_known (Participant reference bic) = true
 is_known (Account reference bic account) = true
 is_known (Security reference isin kind) = true
-is_known (Issue holding) = true
-is_known (Redeem holding) = false
+is_known (Issue movement) = true
+is_known (Redeem movement) = false
 is_known (PayIn payment) = false
 is_known (PayOut payment) = false
 is_known (Instruct sender instruction) = false

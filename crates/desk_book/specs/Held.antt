@@ -12,7 +12,7 @@ use Rattle.desk_register.specs.Content.{Content}
 use Rattle.desk_register.specs.View.{View, IsLater}
 use Rattle.desk_book.specs.Answered.{says_closed, IsAnswer, IsDecided, Step}
 use Rattle.desk_book.specs.Asked.{Asked}
-use Rattle.desk_book.specs.declared.order.Order.{Order}
+use Rattle.desk_book.specs.declared.task.Task.{Task}
 use Rattle.desk_book.specs.declared.fault.Fault.{Fault}
 use Rattle.desk_book.specs.declared.fault.Fault.TheVariants.{Memory, Storage, Closed}
 
@@ -69,20 +69,20 @@ pub record IsPut (limit : ℕ) (books : Books) (entry : Entry) (reply : Reply) (
   pub keeps : Keeps limit after content
   pub replied : reply ≡ reply_to after entry
 
--- what is answered to an order, and what is kept then
-pub record Answers (limit : ℕ) (books : Books) (order : Order) (reply : Reply) (content : Content) : Type 0 where
+-- what is answered to a task, and what is kept then
+pub record Answers (limit : ℕ) (books : Books) (task : Task) (reply : Reply) (content : Content) : Type 0 where
   pub after : Books
-  pub answer : IsAnswer limit books order reply after
+  pub answer : IsAnswer limit books task reply after
   pub keeps : Keeps limit after content
 
 -- what is answered to what a request is read as, where there was memory to read it
-abbrev pub AnswersOrder : {E : Type 0} → ℕ → Books → Result Order E → Result Reply Fault → Books → Type 0
-AnswersOrder limit books (Ok order) (Ok reply) after = IsAnswer limit books order reply after
-AnswersOrder limit books (Ok order) (Err fault) after = after ≡ books
-AnswersOrder limit books (Err want) (Ok reply) after = ⊥
-AnswersOrder limit books (Err want) (Err fault) after = after ≡ books
+abbrev pub AnswersTask : {E : Type 0} → ℕ → Books → Result Task E → Result Reply Fault → Books → Type 0
+AnswersTask limit books (Ok task) (Ok reply) after = IsAnswer limit books task reply after
+AnswersTask limit books (Ok task) (Err fault) after = after ≡ books
+AnswersTask limit books (Err want) (Ok reply) after = ⊥
+AnswersTask limit books (Err want) (Err fault) after = after ≡ books
 
-pub record IsObeyed {E : Type 0} (limit : ℕ) (books : Books) (order : Result Order E) (result : Result Reply Fault) (is_closed : Bool) (view : View) : Type 0 where
+pub record IsPerformed {E : Type 0} (limit : ℕ) (books : Books) (task : Result Task E) (result : Result Reply Fault) (is_closed : Bool) (view : View) : Type 0 where
   pub next : Books
-  pub answer : AnswersOrder limit books order result next
+  pub answer : AnswersTask limit books task result next
   pub holds : Holds is_closed view next

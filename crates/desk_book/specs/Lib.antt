@@ -6,7 +6,7 @@ pub mod Shown
 pub mod Command
 pub mod Members
 pub mod Sums
-pub mod Order
+pub mod Task
 pub mod Totals
 pub mod Answered
 pub mod Held

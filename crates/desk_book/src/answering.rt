@@ -4,15 +4,15 @@ ghost use Rattle.desk_rules.specs.History.{entry_at};
 ghost use Rattle.desk_rules.specs.Verdict.{Books, number_of_refusal};
 ghost use Rattle.desk_rules.specs.Reply.{IsFirstReply, refused_reply};
 ghost use Rattle.desk_register.specs.Applied.{CanApply, Keeps};
-ghost use Rattle.desk_register.specs.Decision.{is_of_today};
+ghost use Rattle.desk_register.specs.Decision.{is_supported};
 ghost use Rattle.desk_register.specs.View.{Breaks, IsLater};
 ghost use Rattle.desk_book.specs.Answered.{IsToldSums, says_closed};
-ghost use Rattle.desk_book.specs.Order.{IsOfToday};
+ghost use Rattle.desk_book.specs.Task.{IsSupported};
 ghost use Rattle.desk_book.specs.Held.{Answers, Decides, Ends, IsPut, IsReady, Recovers, named};
 
 use crate::fault::Fault;
-use crate::order::Order;
 use crate::summing::{security_totals, totals_text};
+use crate::task::Task;
 use desk_register::{
     Fault as RegisterFault, Register, Stage, accepted_reply, apply, decide, refused_reply,
 };
@@ -61,7 +61,7 @@ fn taken_back<R: Register>(alloc: Global, register: &mut R, fault: RegisterFault
 /// Takes an accepted entry into the tables, and keeps it. Answers its reply.
 fn put<R: Register>(alloc: Global, register: &mut R, entry: Entry) -> Result<Reply, RegisterFault>
     requires stage { (R.view register.old).stage ≡ Stage.Begun }
-    requires today { IsTrue (is_of_today entry) }
+    requires supported { IsTrue (is_supported entry) }
     requires accepted { (R.view register.old).is_honest → (R.view register.old).is_sure → CanApply (R.view register.old).room entry (R.view register.old).content }
     ensures put { (books : Books) → (R.view register.new).is_honest → (R.view register.old).is_sure → Keeps (R.view register.old).room books (R.view register.old).content
         → IfOk result (λ reply. IsPut (R.view register.old).room books entry reply (R.view register.new).content) }
@@ -80,7 +80,7 @@ fn put<R: Register>(alloc: Global, register: &mut R, entry: Entry) -> Result<Rep
 /// Takes an accepted entry in, within a `begin` of its own.
 fn accept<R: Register>(alloc: Global, register: &mut R, entry: Entry) -> Result<Reply, Fault>
     requires ready { IsReady false (R.view register.old) }
-    requires today { IsTrue (is_of_today entry) }
+    requires supported { IsTrue (is_supported entry) }
     requires accepted { (R.view register.old).is_honest → CanApply (R.view register.old).room entry (R.view register.old).content }
     ensures put { (books : Books) → (R.view register.new).is_honest → Keeps (R.view register.old).room books (R.view register.old).content
         → IfOk result (λ reply. IsPut (R.view register.old).room books entry reply (R.view register.new).content) }
@@ -145,7 +145,7 @@ fn repeat<R: Register>(
 /// Decides on an entry, and answers it.
 fn rule<R: Register>(alloc: Global, register: &mut R, entry: Entry) -> Result<Reply, Fault>
     requires ready { IsReady false (R.view register.old) }
-    requires today { IsTrue (is_of_today entry) }
+    requires supported { IsTrue (is_supported entry) }
     ensures decides { (books : Books) → (R.view register.new).is_honest → Keeps (R.view register.old).room books (R.view register.old).content
         → IfOk result (λ reply. Decides (R.view register.old).room books entry reply (R.view register.new).content) }
     ensures ends { Ends result (R.view register.old) (R.view register.new) }
@@ -182,17 +182,17 @@ fn tell_totals<R: Register>(alloc: Global, register: &mut R) -> Result<Reply, Fa
 }
 
 /// Answers what a request is read as.
-pub fn answer<R: Register>(alloc: Global, register: &mut R, order: Order) -> Result<Reply, Fault>
+pub fn answer<R: Register>(alloc: Global, register: &mut R, task: Task) -> Result<Reply, Fault>
     requires ready { IsReady false (R.view register.old) }
-    requires today { IsOfToday order }
+    requires supported { IsSupported task }
     ensures answered { (books : Books) → (R.view register.new).is_honest → Keeps (R.view register.old).room books (R.view register.old).content
-        → IfOk result (λ reply. Answers (R.view register.old).room books order reply (R.view register.new).content) }
+        → IfOk result (λ reply. Answers (R.view register.old).room books task reply (R.view register.new).content) }
     ensures ends { Ends result (R.view register.old) (R.view register.new) }
     ensures plain { R.plain ≡ true → says_closed result ≡ false }
 {
-    match order {
-        Order::Decide(entry) => rule(alloc, register, entry),
-        Order::Totals => tell_totals(alloc, register),
-        Order::Answer(reply) => Ok(reply),
+    match task {
+        Task::Decide(entry) => rule(alloc, register, entry),
+        Task::Totals => tell_totals(alloc, register),
+        Task::Answer(reply) => Ok(reply),
     }
 }

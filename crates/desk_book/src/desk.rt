@@ -4,13 +4,13 @@ ghost use Rattle.desk_rules.specs.Verdict.{Books};
 ghost use Rattle.desk_register.specs.View.{IsLater};
 ghost use Rattle.desk_book.specs.Answered.{ActsOnce, Run, says_closed, says_storage};
 ghost use Rattle.desk_book.specs.Asked.{asked_by};
-ghost use Rattle.desk_book.specs.Held.{Holds, IsObeyed, IsReady, Steps};
-ghost use Rattle.desk_book.specs.Order.{IsOfToday};
+ghost use Rattle.desk_book.specs.Held.{Holds, IsPerformed, IsReady, Steps};
+ghost use Rattle.desk_book.specs.Task.{IsSupported};
 
 use crate::answering::answer;
 use crate::fault::Fault;
-use crate::order::{Order, order_of};
 use crate::request::Request;
+use crate::task::{Task, task_of};
 use desk_register::Register;
 use desk_rules::Reply;
 use std::alloc::{AllocError, Global};
@@ -69,7 +69,7 @@ impl<R: Register> Desk<R> {
         ensures blame { result ≡ Err Fault.Storage → (R.view self.old.register).failures < (R.view self.new.register).failures }
         ensures plain { R.plain ≡ true → self.old.is_closed ≡ false → says_closed result ≡ false }
     {
-        self.obey(alloc, order_of(alloc, request))
+        self.perform(alloc, task_of(alloc, request))
     }
 
     /// Answers requests, one after another. Room for the answers is taken first: where there is none, nothing was
@@ -102,10 +102,10 @@ impl<R: Register> Desk<R> {
     }
 
     /// Answers what a request is read as, where there was memory to read it.
-    fn obey(&mut self, alloc: Global, order: Result<Order, AllocError>) -> Result<Reply, Fault>
-        requires today { IfOk order (λ order. IsOfToday order) }
+    fn perform(&mut self, alloc: Global, task: Result<Task, AllocError>) -> Result<Reply, Fault>
+        requires supported { IfOk task (λ task. IsSupported task) }
         ensures answered { (books : Books) → (R.view self.new.register).is_honest → Holds self.old.is_closed (R.view self.old.register) books
-            → IsObeyed (R.view self.old.register).room books order result self.new.is_closed (R.view self.new.register) }
+            → IsPerformed (R.view self.old.register).room books task result self.new.is_closed (R.view self.new.register) }
         ensures closed { self.new.is_closed ≡ says_closed result }
         ensures stays { self.old.is_closed ≡ true → says_closed result ≡ true }
         ensures later { IsLater (R.view self.old.register) (R.view self.new.register) }
@@ -115,10 +115,10 @@ impl<R: Register> Desk<R> {
         if self.is_closed {
             return Err(Fault::Closed);
         }
-        let Ok(order) = order else {
+        let Ok(task) = task else {
             return Err(Fault::Memory);
         };
-        let answer = answer(alloc, &mut self.register, order);
+        let answer = answer(alloc, &mut self.register, task);
         self.is_closed = is_closed_by(&answer);
         answer
     }

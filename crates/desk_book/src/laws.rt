@@ -8,11 +8,11 @@ ghost use Rattle.desk_rules.specs.Sent.{sent_of};
 ghost use Rattle.desk_rules.specs.Verdict.{Books, IsVerdict};
 ghost use Rattle.desk_register.specs.Applied.{no_books};
 ghost use Rattle.desk_book.specs.declared.fault.Fault.{Fault};
-ghost use Rattle.desk_book.specs.declared.order.Order.{Order};
-ghost use Rattle.desk_book.specs.declared.order.Order.TheVariants.{Decide};
+ghost use Rattle.desk_book.specs.declared.task.Task.{Task};
+ghost use Rattle.desk_book.specs.declared.task.Task.TheVariants.{Decide};
 ghost use Rattle.desk_book.specs.Answered.{ActsOnce, IsRepeat, Run, Step, says_closed};
 ghost use Rattle.desk_book.specs.Asked.{Asked};
-ghost use Rattle.desk_book.specs.Order.{IsOrder};
+ghost use Rattle.desk_book.specs.Task.{IsTask};
 ghost use Rattle.desk_rules.specs.declared.entry.Entry.{Entry};
 ghost use Rattle.desk_book.specs.Command.{Spells};
 ghost use Rattle.desk_book.specs.Script.{Script, Item};
@@ -27,9 +27,9 @@ pub fn one_script()
     ensures { (bytes : List ℕ) (a b : List Item) → Script bytes a → Script bytes b → a ≡ b }
 {}
 
-/// A request is read as one order at most.
-pub fn one_order()
-    ensures { (asked : Asked) (a b : Order) → IsOrder asked a → IsOrder asked b → a ≡ b }
+/// A request is read as one task at most.
+pub fn one_task()
+    ensures { (asked : Asked) (a b : Task) → IsTask asked a → IsTask asked b → a ≡ b }
 {}
 
 /// Once closed, a desk stays so: one that is open at the end of a run answered no request of it that it is closed.
@@ -48,7 +48,7 @@ pub fn repeats_act_once()
 /// A request that was accepted is a repeat when it is asked again, however many requests later.
 pub fn accepted_again()
     ensures { (limit : ℕ) (was is : Bool) (books next last : Books) (asked : Asked) (entry : Entry) (requests : List Asked) (answers : List (Result Reply Fault))
-        → IsOrder asked (Decide entry) → IsVerdict limit books entry Accept → AreNext books entry next → Run limit was next requests answers is last → IsRepeat limit last asked }
+        → IsTask asked (Decide entry) → IsVerdict limit books entry Accept → AreNext books entry next → Run limit was next requests answers is last → IsRepeat limit last asked }
 {}
 
 /// The abstract desk has one answer to a request: where two are given that are no faults, they are the same reply, and

@@ -14,12 +14,12 @@ mod laws;
 mod line;
 mod member;
 mod operation;
-mod order;
 mod playing;
 mod reading;
 mod request;
 mod script;
 mod summing;
+mod task;
 mod total;
 mod writing;
 
@@ -27,13 +27,13 @@ pub use command::read_command;
 pub use desk::Desk;
 pub use fault::{Fault, InputFault, PlayFault};
 pub use laws::{
-    accepted_again, changes_are_confirmed, closed_for_good, one_command, one_order, one_reply,
-    one_script, repeats_act_once,
+    accepted_again, changes_are_confirmed, closed_for_good, one_command, one_reply, one_script,
+    one_task, repeats_act_once,
 };
-pub use order::{Order, order_of};
 pub use reading::{LONGEST_SCRIPT, read_whole};
 pub use request::Request;
 pub use script::{Item, first_item, item_count};
 pub use summing::{security_totals, totals_text};
+pub use task::{Task, task_of};
 pub use total::{CashTotal, SecurityTotal, sums_text, write_sums};
 pub use writing::{write_answer, write_bad_line, write_fault};

@@ -14,10 +14,8 @@ ghost use Rattle.desk_book.specs.Members.{IsOrderedObject};
 
 use desk_codes::{AccountId, Bic, Day, Isin, Reference};
 use desk_msg::Kind;
+use desk_rules::MOST_QUANTITY;
 use serde_json::Value;
-
-/// The most of a security that one command issues, in units or by face amount.
-const MAX_QUANTITY: u64 = 99_999_999_999_999;
 
 /// How many members an object has.
 pub fn member_count(value: &Value) -> Option<usize>
@@ -121,12 +119,12 @@ pub fn day_in(value: &Value) -> Option<Day>
 pub fn quantity_in(value: &Value) -> Option<u64>
     ensures some { IfSome result (λ quantity. number_at (codes "quantity") (view value.now) ≡ Some quantity) }
     ensures least { IfSome result (λ quantity. 0 < quantity) }
-    ensures most { IfSome result (λ quantity. quantity ≤ MAX_QUANTITY) }
-    ensures none { IfNone result ((quantity : ℕ) → 0 < quantity → quantity ≤ MAX_QUANTITY
+    ensures most { IfSome result (λ quantity. quantity ≤ MOST_QUANTITY) }
+    ensures none { IfNone result ((quantity : ℕ) → 0 < quantity → quantity ≤ MOST_QUANTITY
         → ¬ (number_at (codes "quantity") (view value.now) ≡ Some quantity)) }
 {
     let quantity = whole(value, "quantity")?;
-    if quantity == 0 || MAX_QUANTITY < quantity {
+    if quantity == 0 || MOST_QUANTITY < quantity {
         return None;
     }
     Some(quantity)

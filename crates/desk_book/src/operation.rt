@@ -2,14 +2,14 @@
 ghost use Rattle.std.specs.Prelude.{◌≡◌, ℕ, List, Some, codes, IfSome, IfNone};
 ghost use Rattle.serde_json.specs.View.{view};
 ghost use Rattle.desk_msg.specs.declared.instruction.Kind.{Kind};
-ghost use Rattle.desk_rules.specs.declared.entry.Holding.{Holding as HoldingValue};
+ghost use Rattle.desk_rules.specs.declared.entry.Movement.{Movement as MovementValue};
 ghost use Rattle.desk_rules.specs.declared.entry.Entry.TheVariants.{Participant, Account, Security, Issue, Run};
 ghost use Rattle.desk_book.specs.Command.{IsCommand, IsKnownCommand, text_at};
 
 use crate::member::{
     account_in, day_in, isin_in, kind_in, member_count, party_in, quantity_in, reference_in,
 };
-use desk_rules::{Entry, Holding};
+use desk_rules::{Entry, Movement};
 use serde_json::Value;
 
 /// A new participant: `op`, `ref`, `bic`.
@@ -71,8 +71,8 @@ pub fn security(value: &Value) -> Option<Entry>
 pub fn issue(value: &Value) -> Option<Entry>
     requires { text_at (codes "op") (view value.now) ≡ Some (codes "issue") }
     ensures read { IfSome result (λ entry. IsKnownCommand (view value.now) entry) }
-    ensures refused { IfNone result ((holding : HoldingValue)
-        → ¬ IsCommand (view value.now) (Issue holding)) }
+    ensures refused { IfNone result ((movement : MovementValue)
+        → ¬ IsCommand (view value.now) (Issue movement)) }
 {
     if member_count(value)? != 5 {
         return None;
@@ -81,7 +81,7 @@ pub fn issue(value: &Value) -> Option<Entry>
     let account = account_in(value)?;
     let isin = isin_in(value)?;
     let quantity = quantity_in(value)?;
-    Some(Entry::Issue(Holding {
+    Some(Entry::Issue(Movement {
         reference,
         account,
         isin,

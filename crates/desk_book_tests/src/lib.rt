@@ -1,4 +1,4 @@
-//! The tests of `desk_book`: scripts, commands, orders and sums, each call once, and readers and writers that fail. They
+//! The tests of `desk_book`: scripts, commands, tasks and sums, each call once, and readers and writers that fail. They
 //! stand in a crate of their own, since a crate with tests is proved twice.
 #![tactic(auto)]
 

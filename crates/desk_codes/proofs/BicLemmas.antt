@@ -1,6 +1,6 @@
 -- The parts of a BIC.
-use Rattle.std.proofs.Common.{◌≡◌, ◌≢◌, ◌⊎◌, ℕ, ◌<◌, ◌≤◌, ◌+◌, Bool, true, false, List, [], ◌∷◌, All, take, drop, length, codes, arith, ap, sym, ◌∙◌, refl, subst, inl, inr, lit≤}
-use Rattle.std.proofs.lemmas.List.{drop-drop, length-drop, take_all, drop_all, length-take, drop-take, take-take}
+use Rattle.std.proofs.Common.{◌≡◌, ◌≢◌, ℕ, ◌≤◌, Bool, true, false, List, All, take, drop, length, codes, arith, ap, sym, ◌∙◌, subst, inl, inr, lit≤}
+use Rattle.std.proofs.lemmas.List.{drop-drop, drop_all, length-take, drop-take, take-take}
 use Rattle.std.proofs.lemmas.List.Elements.{All-take}
 use Rattle.std.specs.Prelude.{nat_eq, if◌then◌else◌}
 use Rattle.std.specs.Cmp.Lexicographic.{pointwise}

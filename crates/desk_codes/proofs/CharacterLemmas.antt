@@ -1,8 +1,8 @@
 -- Tests of the characters of a text, and of its parts.
-use Rattle.std.proofs.Common.{◌≡◌, ℕ, ◌<◌, ◌≤◌, ◌+◌, List, ◌++◌, All, take, drop, length, get_or, arith, ap, sym, ◌∙◌, inl, inr, subst}
+use Rattle.std.proofs.Common.{ℕ, ◌<◌, List, All, take, drop, arith, inl, inr, subst}
 use Rattle.std.proofs.lemmas.List.{take-append-drop}
-use Rattle.std.proofs.lemmas.List.Elements.{All-append, All-weaker, All-take, All-drop}
-use Rattle.desk_codes.specs.Characters.{IsCapital, IsCodeChar, IsDigit, IsPrintable}
+use Rattle.std.proofs.lemmas.List.Elements.{All-append, All-weaker}
+use Rattle.desk_codes.specs.Characters.{IsCapital, IsCodeChar}
 
 pub code_is_ascii : (text : List ℕ) → All IsCodeChar text → All (λ c. c < 128) text
 code_is_ascii text a = All-weaker IsCodeChar (λ c. c < 128) (λ c h. elim h [ inl d ↦ omega arith | inr l ↦ omega arith ]) text a

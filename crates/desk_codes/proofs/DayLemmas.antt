@@ -1,5 +1,5 @@
 -- The year, the month and the day of eight digits, as the calendar takes them.
-use Rattle.std.proofs.Common.{◌≡◌, ℕ, ◌<◌, ◌≤◌, ◌+◌, ◌^◌, List, take, drop, length, arith, ap, sym, ◌∙◌, subst, ℤ, pos, Result, Option, IsOk, is_ok, w8, w16, to_z, lit<, lit≤}
+use Rattle.std.proofs.Common.{◌≡◌, ℕ, ◌<◌, ◌≤◌, ◌^◌, List, take, length, arith, ap, sym, ◌∙◌, subst, ℤ, pos, Result, Option, IsOk, is_ok, w8, w16, to_z}
 use Rattle.std.specs.Prelude.{IsSome, is_some, ◌↔◌, Ok, Err, IfOk, IfSome}
 use Rattle.std.specs.Result.{result_ok}
 use Rattle.std.proofs.lemmas.Int.{to_z_pos}

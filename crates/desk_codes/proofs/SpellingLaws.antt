@@ -1,18 +1,17 @@
 -- A text spells one value, and no text that spells a value is shorter than its written form.
-use Rattle.std.proofs.Common.{◌≡◌, ℕ, zero, suc, ◌+◌, ◌-◌, ◌*◌, ◌<◌, ◌≤◌, ◌/◌, ◌%◌, ◌^◌, List, [], ◌∷◌, ◌++◌, All, fold, length, take, drop, replicate, refl, sym, ap, ◌∙◌, subst, lit≤, arith, length-append}
+use Rattle.std.proofs.Common.{◌≡◌, ℕ, zero, suc, ◌+◌, ◌-◌, ◌*◌, ◌<◌, ◌≤◌, ◌/◌, ◌%◌, ◌^◌, List, [], ◌∷◌, ◌++◌, All, fold, length, take, replicate, refl, sym, ap, ◌∙◌, subst, lit≤, arith, length-append}
 use Rattle.std.specs.Fmt.{decimal}
 use Rattle.std.proofs.lemmas.Fmt.{length-decimal-le}
-use Rattle.std.proofs.lemmas.Grind.{common_steps}
 use Rattle.std.proofs.lemmas.List.{length-take, length-replicate}
-use Rattle.std.proofs.lemmas.List.Elements.{All-head, All-tail, All-append, All-take, All-replicate}
+use Rattle.std.proofs.lemmas.List.Elements.{All-tail, All-append, All-take, All-replicate}
 use Rattle.std.proofs.lemmas.List.Sums.{fold-append}
 use Rattle.std.proofs.lemmas.Nat.{div_below, div-mul-add, mod-mul-add}
-use Rattle.std.proofs.Math.Nat.{pow-succ', one-le-pow, div-add-mod, mul-le-mul_left, mul_comm}
+use Rattle.std.proofs.Math.Nat.{pow-succ', one-le-pow, mul-le-mul_left, mul_comm}
 use Rattle.std.proofs.Math.Dec.{eqb-suc-zero}
 use Rattle.std.proofs.Math.Seq.{take-nil}
 use Rattle.desk_codes.specs.Characters.{IsDigit}
 use Rattle.desk_codes.specs.Number.{IsShaped, Spells, number_of, padded_part, fraction, plain}
-use Rattle.desk_codes.proofs.NumberLemmas.{same_split, digits_no_comma, number_below, number_below_from}
+use Rattle.desk_codes.proofs.NumberLemmas.{same_split, digits_no_comma, number_below}
 
 -- one more digit, or none at all
 fraction_more_len : (d rest n : ℕ) → length (fraction d (rest % 10 ^ d)) ≤ n → length (fraction (suc d) rest) ≤ suc n

@@ -1,5 +1,5 @@
 -- A short text in an array.
-use Rattle.std.proofs.Common.{◌≡◌, ℕ, ◌≤◌, List, ◌++◌, length, drop, replicate, arith, ap}
+use Rattle.std.proofs.Common.{ℕ, ◌≤◌, List, ◌++◌, length, drop, replicate, arith, ap}
 use Rattle.std.proofs.lemmas.Grind.{common_steps}
 use Rattle.std.proofs.lemmas.List.{drop-replicate}
 use Rattle.std.proofs.Math.Seq.{take-append_seam}

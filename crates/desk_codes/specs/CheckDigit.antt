@@ -1,5 +1,5 @@
 -- The check digit of an ISIN (ISO 6166, annex on the modulus 10 "double-add-double" digit).
-use Rattle.std.specs.Prelude.{◌≡◌, ℕ, ◌≤◌, ◌+◌, ◌-◌, ◌*◌, ◌/◌, ◌%◌, ◌==◌, Bool, List, [], ◌∷◌, length, nat_lt, if◌then◌else◌, All, take, slice_index}
+use Rattle.std.specs.Prelude.{◌≡◌, ℕ, ◌+◌, ◌-◌, ◌*◌, ◌/◌, ◌%◌, ◌==◌, Bool, List, [], ◌∷◌, length, nat_lt, if◌then◌else◌, All, take, slice_index}
 use Rattle.std.specs.List.{flat_map}
 use Rattle.desk_codes.specs.Characters.{IsCapital, IsCodeChar}
 

@@ -1,5 +1,5 @@
 -- Reading an ISIN (ISO 6166).
-use Rattle.std.specs.Prelude.{◌≡◌, ◌≢◌, ℕ, ◌≤◌, ◌+◌, List, length, All, take, slice_index, Result, Ok, Err}
+use Rattle.std.specs.Prelude.{◌≡◌, ◌≢◌, ℕ, ◌+◌, List, length, All, take, slice_index, Result, Ok, Err}
 use Rattle.desk_codes.specs.Characters.{IsCapital, IsCodeChar}
 use Rattle.desk_codes.specs.CheckDigit.{IsIsin, check_of}
 use Rattle.desk_codes.specs.declared.fault.CodeFault.{CodeFault}

@@ -9,8 +9,8 @@ use Rattle.desk_text.specs.declared.faults.TextFault.TheVariants as texts
 use Rattle.desk_msg.specs.declared.fault.MsgFault.{MsgFault}
 use Rattle.desk_msg.specs.declared.instruction.Message.{Message}
 use Rattle.desk_msg.specs.declared.mt.Mt.{Mt}
-use Rattle.desk_msg.specs.declared.refusal.Refusal.{Refusal}
-use Rattle.desk_msg.specs.declared.refusal.Refusal.TheVariants.{NotBlock, BadLine, BadNesting, TooLong, Fields}
+use Rattle.desk_msg.specs.declared.refusal.TextRefusal.{TextRefusal}
+use Rattle.desk_msg.specs.declared.refusal.TextRefusal.TheVariants.{NotBlock, BadLine, BadNesting, TooLong, Fields}
 use Rattle.desk_msg.specs.declared.refusal.ReadFault.TheVariants.{Refused}
 use Rattle.desk_msg.specs.Reads.{Reads}
 use Rattle.desk_msg.specs.Refused.{ReadsBlock, ReadsText}
@@ -25,34 +25,34 @@ one_block mt text a b x y =
 
 -- the fault of a text that is no block, and back
 
-abbrev fault_of : Refusal → TextFault
+abbrev fault_of : TextRefusal → TextFault
 fault_of NotBlock = texts.NotBlock
 fault_of (BadLine line) = texts.BadLine line
 fault_of (BadNesting line) = texts.BadNesting line
 fault_of TooLong = texts.TooLong
 fault_of (Fields fault) = texts.Memory
 
-abbrev refusal_of : TextFault → Refusal
+abbrev refusal_of : TextFault → TextRefusal
 refusal_of texts.NotBlock = NotBlock
 refusal_of (texts.BadLine line) = BadLine line
 refusal_of (texts.BadNesting line) = BadNesting line
 refusal_of texts.TooLong = TooLong
 refusal_of texts.Memory = NotBlock
 
-abbrev IsOfFields : Mt → List ℕ → Refusal → Type 0
+abbrev IsOfFields : Mt → List ℕ → TextRefusal → Type 0
 IsOfFields mt text refusal = (fault : MsgFault) × (refusal ≡ Fields fault) × ReadsBlock mt text (Err fault)
 
-abbrev IsOfText : List ℕ → Refusal → Type 0
+abbrev IsOfText : List ℕ → TextRefusal → Type 0
 IsOfText text refusal = IsFault text (fault_of refusal) × (refusal_of (fault_of refusal) ≡ refusal)
 
-kinds : (mt : Mt) (text : List ℕ) (refusal : Refusal) → ReadsText mt text (Err (Refused refusal)) → IsOfFields mt text refusal ⊎ IsOfText text refusal
+kinds : (mt : Mt) (text : List ℕ) (refusal : TextRefusal) → ReadsText mt text (Err (Refused refusal)) → IsOfFields mt text refusal ⊎ IsOfText text refusal
 kinds mt text NotBlock is = inr (is, refl)
 kinds mt text (BadLine line) is = inr (is, refl)
 kinds mt text (BadNesting line) is = inr (is, refl)
 kinds mt text TooLong is = inr (is, refl)
 kinds mt text (Fields fault) is = inl (fault, refl, is)
 
-pub one_refusal : (mt : Mt) (text : List ℕ) (a b : Refusal) → ReadsText mt text (Err (Refused a)) → ReadsText mt text (Err (Refused b)) → a ≡ b
+pub one_refusal : (mt : Mt) (text : List ℕ) (a b : TextRefusal) → ReadsText mt text (Err (Refused a)) → ReadsText mt text (Err (Refused b)) → a ≡ b
 one_refusal mt text a b x y = elim (kinds mt text a x) [
   | inl p ↦ elim (kinds mt text b y) [
     | inl q ↦ let same = one_block mt text (Err p.0) (Err q.0) p.2 q.2 in let e : p.0 ≡ q.0 = cc in p.1 ∙ ap Fields e ∙ sym q.1
@@ -67,7 +67,7 @@ one_refusal mt text a b x y = elim (kinds mt text a x) [
 pub one_message_of_text : (mt : Mt) (text : List ℕ) (a b : Message) → ReadsText mt text (Ok a) → ReadsText mt text (Ok b) → a ≡ b
 one_message_of_text mt text a b x y = let same = one_block mt text (Ok a) (Ok b) x y in cc
 
-pub message_not_refusal : (mt : Mt) (text : List ℕ) (a : Message) (b : Refusal) → ReadsText mt text (Ok a) → ReadsText mt text (Err (Refused b)) → ⊥
+pub message_not_refusal : (mt : Mt) (text : List ℕ) (a : Message) (b : TextRefusal) → ReadsText mt text (Ok a) → ReadsText mt text (Err (Refused b)) → ⊥
 message_not_refusal mt text a b x y = elim (kinds mt text b y) [
   | inl q ↦ let same = one_block mt text (Ok a) (Err q.0) x q.2 in cc
   | inr q ↦ block-no_fault text x.fields (fault_of b) x.short x.block q.0

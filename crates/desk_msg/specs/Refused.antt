@@ -9,8 +9,8 @@ use Rattle.desk_msg.specs.declared.mt.Mt.{Mt}
 use Rattle.desk_msg.specs.declared.instruction.Message.{Message}
 use Rattle.desk_msg.specs.declared.fault.MsgFault.{MsgFault}
 use Rattle.desk_msg.specs.declared.fault.MsgFault.TheVariants.{Missing, Repeated, BadValue, Function}
-use Rattle.desk_msg.specs.declared.refusal.Refusal.{Refusal}
-use Rattle.desk_msg.specs.declared.refusal.Refusal.TheVariants.{NotBlock, BadLine, BadNesting, TooLong, Fields}
+use Rattle.desk_msg.specs.declared.refusal.TextRefusal.{TextRefusal}
+use Rattle.desk_msg.specs.declared.refusal.TextRefusal.TheVariants.{NotBlock, BadLine, BadNesting, TooLong, Fields}
 use Rattle.desk_msg.specs.declared.refusal.ReadFault.{ReadFault}
 use Rattle.desk_msg.specs.declared.refusal.ReadFault.TheVariants.{Refused, Memory}
 use Rattle.desk_msg.specs.Words.{letters_of_word}
@@ -41,7 +41,7 @@ fault_of_text texts.TooLong = Refused TooLong
 fault_of_text texts.Memory = Memory
 
 -- a refusal's text
-abbrev pub refusal_line : Refusal → List ℕ
+abbrev pub refusal_line : TextRefusal → List ℕ
 refusal_line NotBlock = codes "refused 1"
 refusal_line (BadLine line) = codes "refused 2 " ++ decimal line
 refusal_line (BadNesting line) = codes "refused 3 " ++ decimal line

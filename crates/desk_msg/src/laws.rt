@@ -11,7 +11,7 @@ ghost use Rattle.desk_msg.specs.Confirms.{Confirmed, Confirms, confirmed_of};
 ghost use Rattle.desk_msg.specs.Reads.{Reads};
 ghost use Rattle.desk_msg.specs.Refused.{ReadsText};
 ghost use Rattle.desk_msg.specs.declared.refusal.ReadFault.{ReadFault};
-ghost use Rattle.desk_msg.specs.declared.refusal.Refusal.{Refusal};
+ghost use Rattle.desk_msg.specs.declared.refusal.TextRefusal.{TextRefusal};
 
 /// Fields read as one message or have one fault, and never both.
 pub fn one_reading()
@@ -21,8 +21,8 @@ pub fn one_reading()
 /// A text reads as one message or has one refusal, and never both.
 pub fn one_answer()
     ensures message { (mt : Mt) (text : List ℕ) (a b : Message) → ReadsText mt text (Ok a) → ReadsText mt text (Ok b) → a ≡ b }
-    ensures refusal { (mt : Mt) (text : List ℕ) (a b : Refusal) → ReadsText mt text (Err (ReadFault.Refused a)) → ReadsText mt text (Err (ReadFault.Refused b)) → a ≡ b }
-    ensures never_both { (mt : Mt) (text : List ℕ) (a : Message) (b : Refusal) → ReadsText mt text (Ok a) → ReadsText mt text (Err (ReadFault.Refused b)) → ⊥ }
+    ensures refusal { (mt : Mt) (text : List ℕ) (a b : TextRefusal) → ReadsText mt text (Err (ReadFault.Refused a)) → ReadsText mt text (Err (ReadFault.Refused b)) → a ≡ b }
+    ensures never_both { (mt : Mt) (text : List ℕ) (a : Message) (b : TextRefusal) → ReadsText mt text (Ok a) → ReadsText mt text (Err (ReadFault.Refused b)) → ⊥ }
 {}
 
 /// What is sent to confirm the settlement of an instruction is read back as that: its text is a block, and the fields

@@ -33,5 +33,5 @@ pub use laws::{confirmation_says, one_answer, one_confirmation, one_reading};
 pub use lines::fields_text;
 pub use mt::Mt;
 pub use reading::read_message;
-pub use refusal::{ReadFault, Refusal, read_instruction_text, refusal_text};
+pub use refusal::{ReadFault, TextRefusal, read_instruction_text, refusal_text};
 pub use status::{Case, Own, Reason, status_text};

@@ -15,7 +15,7 @@ use thiserror::Error;
 
 /// Why a text is no message that is read: the first reason of this list that fits. Lines are counted from 1.
 #[derive(Clone, Copy, Debug, PartialEq, Eq, Error)]
-pub enum Refusal {
+pub enum TextRefusal {
     /// The first line isn't `{4:`, or no `-}` came (refusal 1).
     #[error("no block")]
     NotBlock,
@@ -38,7 +38,7 @@ pub enum Refusal {
 pub enum ReadFault {
     /// The text is refused, whatever memory there is.
     #[error("{0}")]
-    Refused(Refusal),
+    Refused(TextRefusal),
     /// A growth was refused.
     #[error("out of memory")]
     Memory,
@@ -49,10 +49,10 @@ fn text_fault(fault: TextFault) -> ReadFault
     ensures { result ≡ fault_of_text fault }
 {
     match fault {
-        TextFault::NotBlock => ReadFault::Refused(Refusal::NotBlock),
-        TextFault::BadLine(line) => ReadFault::Refused(Refusal::BadLine(line)),
-        TextFault::BadNesting(line) => ReadFault::Refused(Refusal::BadNesting(line)),
-        TextFault::TooLong => ReadFault::Refused(Refusal::TooLong),
+        TextFault::NotBlock => ReadFault::Refused(TextRefusal::NotBlock),
+        TextFault::BadLine(line) => ReadFault::Refused(TextRefusal::BadLine(line)),
+        TextFault::BadNesting(line) => ReadFault::Refused(TextRefusal::BadNesting(line)),
+        TextFault::TooLong => ReadFault::Refused(TextRefusal::TooLong),
         TextFault::Memory => ReadFault::Memory,
     }
 }
@@ -65,7 +65,7 @@ pub fn read_instruction_text(alloc: Global, mt: Mt, text: &[u8]) -> Result<Messa
     match read_block(alloc, text) {
         Ok(block) => match read_message(mt, &block) {
             Ok(message) => Ok(message),
-            Err(fault) => Err(ReadFault::Refused(Refusal::Fields(fault))),
+            Err(fault) => Err(ReadFault::Refused(TextRefusal::Fields(fault))),
         },
         Err(fault) => Err(text_fault(fault)),
     }
@@ -92,17 +92,17 @@ fn word_text(alloc: Global, front: &[u8], word: Word) -> Result<Vec<u8>, AllocEr
 
 /// A refusal's text: `refused 1`, `refused 2 LINE`, `refused 3 LINE`, `refused 4`, `refused 5 WORD`, `refused 6
 /// WORD`, `refused 7 WORD` or `refused 8`. The only fault is want of memory.
-pub fn refusal_text(alloc: Global, refusal: Refusal) -> Result<Vec<u8>, AllocError>
+pub fn refusal_text(alloc: Global, refusal: TextRefusal) -> Result<Vec<u8>, AllocError>
     ensures { IfOk result (λ text. text.items ≡ refusal_line refusal) }
 {
     match refusal {
-        Refusal::NotBlock => Vec::from_slice(alloc, b"refused 1"),
-        Refusal::BadLine(line) => line_text(alloc, b"refused 2 ", line),
-        Refusal::BadNesting(line) => line_text(alloc, b"refused 3 ", line),
-        Refusal::TooLong => Vec::from_slice(alloc, b"refused 4"),
-        Refusal::Fields(MsgFault::Missing(word)) => word_text(alloc, b"refused 5 ", word),
-        Refusal::Fields(MsgFault::Repeated(word)) => word_text(alloc, b"refused 6 ", word),
-        Refusal::Fields(MsgFault::BadValue(word)) => word_text(alloc, b"refused 7 ", word),
-        Refusal::Fields(MsgFault::Function) => Vec::from_slice(alloc, b"refused 8"),
+        TextRefusal::NotBlock => Vec::from_slice(alloc, b"refused 1"),
+        TextRefusal::BadLine(line) => line_text(alloc, b"refused 2 ", line),
+        TextRefusal::BadNesting(line) => line_text(alloc, b"refused 3 ", line),
+        TextRefusal::TooLong => Vec::from_slice(alloc, b"refused 4"),
+        TextRefusal::Fields(MsgFault::Missing(word)) => word_text(alloc, b"refused 5 ", word),
+        TextRefusal::Fields(MsgFault::Repeated(word)) => word_text(alloc, b"refused 6 ", word),
+        TextRefusal::Fields(MsgFault::BadValue(word)) => word_text(alloc, b"refused 7 ", word),
+        TextRefusal::Fields(MsgFault::Function) => Vec::from_slice(alloc, b"refused 8"),
     }
 }

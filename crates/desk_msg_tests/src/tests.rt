@@ -9,8 +9,8 @@ use crate::vectors::{
 };
 use desk_codes::Reference;
 use desk_msg::{
-    Case, MsgFault, Mt, Own, ReadFault, Reason, Refusal, Word, fields_text, read_instruction_text,
-    refusal_text, status_text,
+    Case, MsgFault, Mt, Own, ReadFault, Reason, TextRefusal, Word, fields_text,
+    read_instruction_text, refusal_text, status_text,
 };
 use std::alloc::{AllocError, Global};
 use std::process::Abort;
@@ -194,11 +194,11 @@ fn want_of_memory_changes_nothing(rt: HostRuntime) -> Result<(), Fail> {
     };
     let text = fields_text(alloc, &message).or_else(|_| fields_text(alloc, &message))?;
     assert_eq!(rt; text.as_slice(), DELIVERY.as_bytes());
-    let refusals: [(Refusal, &str); 3] = [
-        (Refusal::NotBlock, "refused 1"),
-        (Refusal::BadLine(12), "refused 2 12"),
+    let refusals: [(TextRefusal, &str); 3] = [
+        (TextRefusal::NotBlock, "refused 1"),
+        (TextRefusal::BadLine(12), "refused 2 12"),
         (
-            Refusal::Fields(MsgFault::Repeated(Word::Seme)),
+            TextRefusal::Fields(MsgFault::Repeated(Word::Seme)),
             "refused 6 SEME",
         ),
     ];

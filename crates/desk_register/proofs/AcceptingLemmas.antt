@@ -29,7 +29,7 @@ use Rattle.desk_rules.proofs.Existence.{books_exist}
 use Rattle.desk_rules.proofs.SettlementLemmas.{due_facts}
 use Rattle.desk_rules.proofs.SettlementGrowth.{by_none}
 use Rattle.desk_register.specs.Content.{Content, appended, first_standing}
-use Rattle.desk_register.specs.Decision.{is_of_today}
+use Rattle.desk_register.specs.Decision.{is_supported}
 use Rattle.desk_register.specs.Tables.{Tables, Grown, IsAccepted, StandsAt, StandsSo, is_registration, mated, mate_in}
 use Rattle.desk_register.specs.Pass.{CanRun, RanTo, IsPassed}
 use Rattle.desk_register.specs.View.{View}
@@ -136,17 +136,17 @@ last_reply after e n reply are at here is = record {
 }
 
 pub keeps_more : (limit : ℕ) (books after : Books) (old new : Content) (e : Entry) (reply : Reply) → Keeps limit books old → after.history ≡ books.history ++ e ∷ []
-    → Tables limit after new → is_of_today e ≡ true → new.register ≡ old.register ++ record { entry = e; reply = reply } ∷ [] → reply ≡ reply_to after e → Keeps limit after new
-keeps_more limit books after old new e reply keeps longer tables today more is =
+    → Tables limit after new → is_supported e ≡ true → new.register ≡ old.register ++ record { entry = e; reply = reply } ∷ [] → reply ≡ reply_to after e → Keeps limit after new
+keeps_more limit books after old new e reply keeps longer tables supported more is =
     let h = books.history in
     let number : length old.register ≡ length h = length_is old h keeps.tables.history in
     let here : length (h ++ e ∷ []) ≡ length h + 1 = length-append h (e ∷ []) in
     record {
       tables = tables;
-      today = record {
+      supported = record {
         each = λ x c. elim (In-push_cases h e x (In-from_Contains (h ++ e ∷ []) x (let P : List Entry → Type 0 = λ z. Contains z x in subst P longer c))) [
-          | inl old ↦ keeps.today.each x (Contains-from_In h x old)
-          | inr new ↦ (let P : Entry → Type 0 = λ z. is_of_today z ≡ true in subst P new today)
+          | inl old ↦ keeps.supported.each x (Contains-from_In h x old)
+          | inr new ↦ (let P : Entry → Type 0 = λ z. is_supported z ≡ true in subst P new supported)
         ];
       };
       replies = λ n kept at.
@@ -173,16 +173,16 @@ keeps_more limit books after old new e reply keeps longer tables today more is =
 -- How an entry fared that is no run and no instruction.
 
 pub record IsQuietEntry (e : Entry) : Type 0 where
-  pub today : is_of_today e ≡ true
+  pub supported : is_supported e ≡ true
   pub no_run : run_day e ≡ None
   pub no_instruction : instructed e ≡ None
 
 pub quiet_entry : (e : Entry) → is_registration e ≡ true → IsQuietEntry e
-quiet_entry (Participant reference bic) is = record { today = refl; no_run = refl; no_instruction = refl }
-quiet_entry (Account reference bic account) is = record { today = refl; no_run = refl; no_instruction = refl }
-quiet_entry (Security reference isin kind) is = record { today = refl; no_run = refl; no_instruction = refl }
-quiet_entry (Issue holding) is = record { today = refl; no_run = refl; no_instruction = refl }
-quiet_entry (Redeem holding) is = absurd (cc)
+quiet_entry (Participant reference bic) is = record { supported = refl; no_run = refl; no_instruction = refl }
+quiet_entry (Account reference bic account) is = record { supported = refl; no_run = refl; no_instruction = refl }
+quiet_entry (Security reference isin kind) is = record { supported = refl; no_run = refl; no_instruction = refl }
+quiet_entry (Issue movement) is = record { supported = refl; no_run = refl; no_instruction = refl }
+quiet_entry (Redeem movement) is = absurd (cc)
 quiet_entry (PayIn payment) is = absurd (cc)
 quiet_entry (PayOut payment) is = absurd (cc)
 quiet_entry (Instruct sender instruction) is = absurd (cc)
@@ -211,7 +211,7 @@ registered limit books old new e reply n a keeps kind grown added is_number numb
     record {
       after = after;
       longer = refl;
-      keeps = keeps_more limit books after old new e reply keeps refl grown.tables quiet.today (ap (λ (c : Content). c.register) added) (replied after fared);
+      keeps = keeps_more limit books after old new e reply keeps refl grown.tables quiet.supported (ap (λ (c : Content). c.register) added) (replied after fared);
       fared = fared;
     }
 
@@ -252,9 +252,9 @@ stands_first e reply old n None at first = let test : n == length old.register +
 stands_first e reply old n (Some m) at first = let test : n == n ≡ true = grind (arith, nat_tests) in rw test refl
 
 pub instructed_applied : (limit : ℕ) (books : Books) (old new : Content) (sender : List ℕ) (i : Instruction) (reply : Reply) (n : ℕ) (m : Option ℕ) (a : Applied) → Keeps limit books old
-    → is_of_today (Instruct sender i) ≡ true → Grown limit books (Instruct sender i) new → new ≡ mated n m (appended (Instruct sender i) reply old) → n ≡ length old.register + 1
+    → is_supported (Instruct sender i) ≡ true → Grown limit books (Instruct sender i) new → new ≡ mated n m (appended (Instruct sender i) reply old) → n ≡ length old.register + 1
     → a.number ≡ n → a.mate ≡ m → a.settled ≡ 0 → a.waiting ≡ 0 → ((b : Books) → IsApplied b a → reply ≡ reply_to b (Instruct sender i)) → HasApplied limit books (Instruct sender i) a new
-instructed_applied limit books old new sender i reply n m a keeps today grown added is_number number mate settled waiting replied =
+instructed_applied limit books old new sender i reply n m a keeps supported grown added is_number number mate settled waiting replied =
     let h = books.history in
     let e : Entry = Instruct sender i in
     let after : Books = record { history = h ++ e ∷ []; pairs = grown.pairs; settled = grown.settled } in
@@ -278,7 +278,7 @@ instructed_applied limit books old new sender i reply n m a keeps today grown ad
     record {
       after = after;
       longer = refl;
-      keeps = keeps_more limit books after old new e reply keeps refl grown.tables today (kept_more m added) (replied after fared);
+      keeps = keeps_more limit books after old new e reply keeps refl grown.tables supported (kept_more m added) (replied after fared);
       fared = fared;
     }
   where
@@ -291,7 +291,7 @@ pub accepted_of : (limit : ℕ) (e : Entry) (content : Content) → CanApply lim
 accepted_of limit e content can = record { books = can.books; tables = can.keeps.tables; verdict = can.verdict }
 
 pub can_run_of : (limit : ℕ) (e : Entry) (content : Content) → CanApply limit e content → CanRun limit content
-can_run_of limit e content can = record { books = can.books; tables = can.keeps.tables; today = can.keeps.today }
+can_run_of limit e content can = record { books = can.books; tables = can.keeps.tables; supported = can.keeps.supported }
 
 pub room_of : (limit : ℕ) (e : Entry) (content : Content) → CanApply limit e content → length content.register < limit
 room_of limit e content can =
@@ -314,10 +314,10 @@ registered_step v0 v1 v2 books e reply n a same room kind grows added is_number 
     registered v0.room books v0.content v2.content e reply n a keeps kind grown (subst S same added) is_number number mate settled waiting replied
 
 pub instructed_step : (v0 v1 v2 : View) (books : Books) (sender : List ℕ) (i : Instruction) (reply : Reply) (n : ℕ) (m : Option ℕ) (a : Applied) → v1.content ≡ v0.content → v1.room ≡ v0.room
-    → is_of_today (Instruct sender i) ≡ true → (Tables v1.room books v1.content → Grown v1.room books (Instruct sender i) v2.content) → v2.content ≡ mated n m (appended (Instruct sender i) reply v1.content)
+    → is_supported (Instruct sender i) ≡ true → (Tables v1.room books v1.content → Grown v1.room books (Instruct sender i) v2.content) → v2.content ≡ mated n m (appended (Instruct sender i) reply v1.content)
     → n ≡ length v0.content.register + 1 → a.number ≡ n → a.mate ≡ m → a.settled ≡ 0 → a.waiting ≡ 0 → ((b : Books) → IsApplied b a → reply ≡ reply_to b (Instruct sender i))
     → Keeps v0.room books v0.content → HasApplied v0.room books (Instruct sender i) a v2.content
-instructed_step v0 v1 v2 books sender i reply n m a same room today grows added is_number number mate settled waiting replied keeps =
+instructed_step v0 v1 v2 books sender i reply n m a same room supported grows added is_number number mate settled waiting replied keeps =
     let e : Entry = Instruct sender i in
     let P : Content → Type 0 = λ c. Tables v1.room books c in
     let Q : ℕ → Type 0 = λ k. Tables k books v0.content in
@@ -325,7 +325,7 @@ instructed_step v0 v1 v2 books sender i reply n m a same room today grows added 
     let S : Content → Type 0 = λ c. v2.content ≡ mated n m (appended e reply c) in
     let tables : Tables v1.room books v1.content = subst P (sym same) (subst Q (sym room) keeps.tables) in
     let grown : Grown v0.room books e v2.content = subst R room (grows tables) in
-    instructed_applied v0.room books v0.content v2.content sender i reply n m a keeps today grown (subst S same added) is_number number mate settled waiting replied
+    instructed_applied v0.room books v0.content v2.content sender i reply n m a keeps supported grown (subst S same added) is_number number mate settled waiting replied
 
 pub number_after : (v0 v1 v2 : View) (e : Entry) (n : ℕ) → CanApply v0.room e v0.content → v1.content ≡ v0.content → v2.content ≡ v1.content
     → (length v0.content.register < v0.room → n ≡ length v0.content.register + 1) → n ≡ length v2.content.register + 1

@@ -9,7 +9,7 @@ use Rattle.desk_rules.specs.declared.entry.Entry.TheVariants.{Participant, Accou
 use Rattle.desk_rules.specs.declared.reply.Kept.{Kept}
 use Rattle.desk_rules.specs.declared.reply.Reply.{Reply}
 use Rattle.desk_register.specs.declared.standing.Standing.{Standing}
-use Rattle.desk_rules.specs.Balances.{issued, redeemed, issued_by, redeemed_by, holding_of}
+use Rattle.desk_rules.specs.Balances.{issued, redeemed, issued_by, redeemed_by, movement_of}
 use Rattle.desk_register.specs.Content.{Content, CanAppend, appended, positions_after, standing_at, first_standing, history_of}
 use Rattle.desk_register.specs.Lists.{AreTotals, Listed, SameBooks, value_in, is_key, content_in, outstanding_in, quantity_in, totals_after, SameEntries, standing_in, plain_standing}
 use Rattle.desk_register.proofs.QuantityLemmas.{by_bool, same_bytes}
@@ -64,7 +64,7 @@ total_after_redemption totals isin i q r n le e =
     (λ f. rw f (omega arith))
 
 totals_more : (content : Content) (entry : Entry) (totals : List ℕ → ℕ) → CanAppend entry content → ((i : List ℕ) → redeemed (history_of content) i + totals i ≡ issued (history_of content) i)
-    → (i : List ℕ) → (redeemed (history_of content) i + redeemed_by (holding_of i) entry) + totals_after entry totals i ≡ issued (history_of content) i + issued_by (holding_of i) entry
+    → (i : List ℕ) → (redeemed (history_of content) i + redeemed_by (movement_of i) entry) + totals_after entry totals i ≡ issued (history_of content) i + issued_by (movement_of i) entry
 totals_more content (Participant reference bic) totals fits each i = omega (arith, each i)
 totals_more content (Account reference bic account) totals fits each i = omega (arith, each i)
 totals_more content (Security reference isin kind) totals fits each i = omega (arith, each i)
@@ -92,7 +92,7 @@ totals_well (Ok x) old mid new entry reply totals fits rest moved is = record {
       let more = totals_more (content_in old) entry (outstanding_in old) fits totals.each i in
       let kept : new.kept ≡ old.kept ++ record { entry = entry; reply = reply } ∷ [] = ap (λ l. l.kept) is ∙ ap (λ z. z ++ record { entry = entry; reply = reply } ∷ []) rest.kept in
       let whole : outstanding_in new i ≡ totals_after entry (outstanding_in old) i = ap (λ l. outstanding_in l i) is ∙ ap (λ t. t i) moved in
-      rw (kept, whole, sum_push (redeemed_by (holding_of i)) old.kept (record { entry = entry; reply = reply }), sum_push (issued_by (holding_of i)) old.kept (record { entry = entry; reply = reply })) more;
+      rw (kept, whole, sum_push (redeemed_by (movement_of i)) old.kept (record { entry = entry; reply = reply }), sum_push (issued_by (movement_of i)) old.kept (record { entry = entry; reply = reply })) more;
 }
 
 -- Where entries stand, one of them changed.

@@ -59,7 +59,7 @@ empty_keeps limit = record {
     standing = stands;
     position = λ account isin. refl;
   };
-  today = record { each = λ entry c. absurd (In-from_Contains [] entry c) };
+  supported = record { each = λ entry c. absurd (In-from_Contains [] entry c) };
   replies = λ n kept at. (let k : n < 0 = slice_get-known [] n kept at in absurd (omega arith));
 }
   where

@@ -77,8 +77,8 @@ kind_from : (entry : Entry) (isin : List ℕ) → is_some (kind_by isin entry) �
 kind_from (Participant reference bic) isin = refl
 kind_from (Account reference bic account) isin = refl
 kind_from (Security reference i kind) isin = by_bool (bytes_eq i isin) (λ t. rw t refl) (λ f. rw f refl)
-kind_from (Issue holding) isin = refl
-kind_from (Redeem holding) isin = refl
+kind_from (Issue movement) isin = refl
+kind_from (Redeem movement) isin = refl
 kind_from (PayIn payment) isin = refl
 kind_from (PayOut payment) isin = refl
 kind_from (Instruct sender instruction) isin = refl

@@ -23,8 +23,8 @@ use Rattle.desk_rules.specs.Verdict.{Books, AreBooks}
 use Rattle.desk_register.specs.Content.{Content}
 use Rattle.desk_register.specs.Looked.{IsDue, IsDuePairAfter, IsMatchedPair, IsAbove, IsBefore}
 use Rattle.desk_register.specs.Tables.{mate_in}
-use Rattle.desk_register.specs.Decision.{is_of_today}
-use Rattle.desk_register.specs.Pass.{AreOfToday}
+use Rattle.desk_register.specs.Decision.{is_supported}
+use Rattle.desk_register.specs.Pass.{AreSupported}
 use Rattle.desk_register.proofs.PassInvariant.{PassesAt, PassesSo, IsWaiting, IsPassing}
 use Rattle.desk_rules.proofs.Decided.{In, In-from_Contains, Contains-from_In}
 use Rattle.desk_rules.proofs.HistoryLemmas.{entry_at-end, before-all}
@@ -34,19 +34,19 @@ use Rattle.desk_rules.proofs.PlainLemmas.{In-any}
 use Rattle.desk_rules.proofs.PairingLaws.{one_pair_of}
 use Rattle.desk_register.proofs.TablesLemmas.{pairs_known}
 
--- where nothing but commands of today was accepted, nothing is cancelled
+-- where nothing but supported commands was accepted, nothing is cancelled
 
-cancels_none : (e : Entry) (i : Instructed) → is_of_today e ≡ true → cancels e i ≡ false
-cancels_none (Participant reference bic) i today = refl
-cancels_none (Account reference bic account) i today = refl
-cancels_none (Security reference isin kind) i today = refl
-cancels_none (Issue holding) i today = refl
-cancels_none (Redeem holding) i today = refl
-cancels_none (PayIn payment) i today = refl
-cancels_none (PayOut payment) i today = refl
-cancels_none (Instruct sender instruction) i today = refl
-cancels_none (Cancel sender order) i today = absurd (cc)
-cancels_none (Run reference day) i today = refl
+cancels_none : (e : Entry) (i : Instructed) → is_supported e ≡ true → cancels e i ≡ false
+cancels_none (Participant reference bic) i supported = refl
+cancels_none (Account reference bic account) i supported = refl
+cancels_none (Security reference isin kind) i supported = refl
+cancels_none (Issue movement) i supported = refl
+cancels_none (Redeem movement) i supported = refl
+cancels_none (PayIn payment) i supported = refl
+cancels_none (PayOut payment) i supported = refl
+cancels_none (Instruct sender instruction) i supported = refl
+cancels_none (Cancel sender order) i supported = absurd (cc)
+cancels_none (Run reference day) i supported = refl
 
 In-drop : {X : Type 0} (k : ℕ) (xs : List X) (x : X) → In (drop k xs) x → In xs x
 In-drop zero xs x i = i
@@ -62,8 +62,8 @@ pub In-entry : (h : List Entry) (n : ℕ) (e : Entry) → entry_at h n ≡ Some 
 In-entry h zero e is = absurd (cc)
 In-entry h (suc n) e is = In-place h n e is
 
-never_cancelled : (h : List Entry) (k : ℕ) → AreOfToday h → is_cancelled h k ≡ false
-never_cancelled h k today = at (instruction_at h k)
+never_cancelled : (h : List Entry) (k : ℕ) → AreSupported h → is_cancelled h k ≡ false
+never_cancelled h k supported = at (instruction_at h k)
   where
     at : (o : Option Instructed) → is_cancelled_by (drop k h) o ≡ false
     at None = refl
@@ -72,7 +72,7 @@ never_cancelled h k today = at (instruction_at h k)
       | inl some ↦
           let found = In-any (λ e. cancels e i) (drop k h) some in
           let test : cancels found.0 i ≡ true = found.2 in
-          let never : cancels found.0 i ≡ false = cancels_none found.0 i (today.each found.0 (Contains-from_In h found.0 (In-drop k h found.0 found.1))) in
+          let never : cancels found.0 i ≡ false = cancels_none found.0 i (supported.each found.0 (Contains-from_In h found.0 (In-drop k h found.0 found.1))) in
           absurd (both_ways _ never test)
     ]
 
@@ -84,8 +84,8 @@ and_true a b x y = rw (x, y) refl
 not_true : (a : Bool) → a ≡ false → not a ≡ true
 not_true a x = rw x refl
 
-pub due_in_run : (h : List Entry) (reference day : List ℕ) (p : Pair) → AreOfToday h → p.later ≤ length h → day_of h p ≤ number_of day → is_due (h ++ Run reference day ∷ []) (length h + 1) p ≡ true
-due_in_run h reference day p today le by =
+pub due_in_run : (h : List Entry) (reference day : List ℕ) (p : Pair) → AreSupported h → p.later ≤ length h → day_of h p ≤ number_of day → is_due (h ++ Run reference day ∷ []) (length h + 1) p ≡ true
+due_in_run h reference day p supported le by =
     let e : Entry = Run reference day in
     let g = h ++ e ∷ [] in
     let n = length h + 1 in
@@ -95,7 +95,7 @@ due_in_run h reference day p today le by =
     ap (λ o. is_by (option_and_then run_day o) (day_of g p)) entry ∙ ap (λ d. nat_le d (number_of day)) days ∙ le-leb (day_of h p) (number_of day) by in
     let second : nat_lt p.later n ≡ true = lt-ltb p.later n (omega arith) in
     let third : stands (before n g) p ≡ true =
-    ap (λ z. stands z p) (before-all h (e ∷ []) n refl) ∙ and_true (not (is_cancelled h p.earlier)) (not (is_cancelled h p.later)) (not_true _ (never_cancelled h p.earlier today)) (not_true _ (never_cancelled h p.later today)) in
+    ap (λ z. stands z p) (before-all h (e ∷ []) n refl) ∙ and_true (not (is_cancelled h p.earlier)) (not (is_cancelled h p.later)) (not_true _ (never_cancelled h p.earlier supported)) (not_true _ (never_cancelled h p.later supported)) in
     and_true (is_by (option_and_then run_day (entry_at g n)) (day_of g p) && nat_lt p.later n) (stands (before n g) p) (and_true _ _ first second) third
 
 pub run_due_by : (h : List Entry) (reference day : List ℕ) (p : Pair) → p.later ≤ length h → is_due (h ++ Run reference day ∷ []) (length h + 1) p ≡ true → day_of h p ≤ number_of day
@@ -112,7 +112,7 @@ run_due_by h reference day p le due =
 -- The pair of a place that the register finds.
 
 module _ (books : Books) (reference day : List ℕ) (place : Option Place) (settled : List Settled) (content : Content)
-    (are : AreBooks books) (today : AreOfToday books.history) (passing : IsPassing books (Run reference day) place settled content)
+    (are : AreBooks books) (supported : AreSupported books.history) (passing : IsPassing books (Run reference day) place settled content)
     (reached : IsSettledTo (books.history ++ Run reference day ∷ []) books.pairs (length books.history + 1) place settled) where
   -- what stands at an instruction
   standing_at_instruction : (k : ℕ) (i : Instructed) → instruction_at books.history k ≡ Some i → PassesSo books (Run reference day) place settled k (content.standing k).mate (content.standing k).state
@@ -250,7 +250,7 @@ module _ (books : Books) (reference day : List ℕ) (place : Option Place) (sett
       record {
         is_open = record {
           paired = found.waiting.paired;
-          due = due_in_run books.history reference day p today known (omega arith);
+          due = due_in_run books.history reference day p supported known (omega arith);
           unsettled = λ s c lt. found.waiting.unsettled s c;
           above = place_above place p next d k due.above;
         };

@@ -26,17 +26,17 @@ use Rattle.desk_register.specs.declared.standing.Standing.{Standing}
 use Rattle.desk_rules.specs.declared.verdict.Refusal.TheVariants.{OverLimit}
 use Rattle.desk_rules.specs.declared.entry.Instructed.{Instructed}
 use Rattle.desk_rules.specs.History.{entry_at, instruction_at, instructed}
-use Rattle.desk_rules.specs.Balances.{credits, debits, issued, redeemed, issued_by, redeemed_by, holding_of}
+use Rattle.desk_rules.specs.Balances.{credits, debits, issued, redeemed, issued_by, redeemed_by, movement_of}
 use Rattle.desk_rules.specs.Covered.{is_covered}
 use Rattle.desk_rules.specs.Laws.{accounts_of}
 use Rattle.desk_rules.specs.Pairing.{IsSide}
 use Rattle.desk_rules.specs.Settlement.{IsNext}
 use Rattle.desk_rules.specs.Verdict.{Books, AreBooks, WasAccepted, most_outstanding, check}
-use Rattle.desk_register.specs.Decision.{is_of_today}
+use Rattle.desk_register.specs.Decision.{is_supported}
 use Rattle.desk_register.specs.Content.{Content, history_of, standing_both, CanSettle, Settles, SettlesSides, delivery_of as deliverer, receipt_of as receiver}
 use Rattle.desk_register.specs.Looked.{IsDue, IsDuePairAfter}
 use Rattle.desk_register.specs.Tables.{mate_in}
-use Rattle.desk_register.specs.Pass.{settled_of, AreOfToday}
+use Rattle.desk_register.specs.Pass.{settled_of, AreSupported}
 use Rattle.desk_register.proofs.PassInvariant.{PassesAt, IsPassing}
 use Rattle.desk_rules.proofs.Accepted.{accepted_last}
 use Rattle.desk_rules.proofs.Conservation.{accepted_all, account_registered, paired_add_up}
@@ -54,26 +54,26 @@ use Rattle.desk_register.proofs.StepLemmas.{HasSides, covered_if, uncovered_if, 
 -- Nothing is against payment.
 
 unpaid : (i : Instructed) → not (is_against_payment i.instruction.mt) ≡ true → i.instruction.cash ≡ None
-unpaid i today = by_cash i.instruction.cash i.instruction.paid
+unpaid i supported = by_cash i.instruction.cash i.instruction.paid
   where
     by_cash : (cash : Option Cash) → is_some cash ≡ is_against_payment i.instruction.mt → cash ≡ None
     by_cash None paid = refl
     by_cash (Some cash) paid =
         let test : is_against_payment i.instruction.mt ≡ true = sym paid in
-        let clash : false ≡ true = sym (ap not test) ∙ today in
+        let clash : false ≡ true = sym (ap not test) ∙ supported in
         absurd (cc)
 
-pub free_instruction : (h : List Entry) (k : ℕ) (i : Instructed) → AreOfToday h → instruction_at h k ≡ Some i → i.instruction.cash ≡ None
-free_instruction h k i today at =
+pub free_instruction : (h : List Entry) (k : ℕ) (i : Instructed) → AreSupported h → instruction_at h k ≡ Some i → i.instruction.cash ≡ None
+free_instruction h k i supported at =
     let found = some_before instructed (entry_at h k) i at in
-    by_entry found.0 found.2 (today.each found.0 (Contains-from_In h found.0 (In-entry h k found.0 found.1)))
+    by_entry found.0 found.2 (supported.each found.0 (Contains-from_In h found.0 (In-entry h k found.0 found.1)))
   where
-    by_entry : (e : Entry) → instructed e ≡ Some i → is_of_today e ≡ true → i.instruction.cash ≡ None
+    by_entry : (e : Entry) → instructed e ≡ Some i → is_supported e ≡ true → i.instruction.cash ≡ None
     by_entry (Participant reference bic) is good = absurd (cc)
     by_entry (Account reference bic account) is good = absurd (cc)
     by_entry (Security reference isin kind) is good = absurd (cc)
-    by_entry (Issue holding) is good = absurd (cc)
-    by_entry (Redeem holding) is good = absurd (cc)
+    by_entry (Issue movement) is good = absurd (cc)
+    by_entry (Redeem movement) is good = absurd (cc)
     by_entry (PayIn payment) is good = absurd (cc)
     by_entry (PayOut payment) is good = absurd (cc)
     by_entry (Instruct sender instruction) is good =
@@ -90,26 +90,26 @@ same_text : (a b : List ℕ) → bytes_eq a b ≡ true → a ≡ b
 same_text a b e = let d = bytes_eq-Decides a b in d.0 e
 
 outstanding_step : (h : List Entry) (e : Entry) (limit : ℕ) → WasAccepted limit (h ++ e ∷ []) → ((isin : List ℕ) → issued h isin ≤ redeemed h isin + most_outstanding)
-    → (isin : List ℕ) → issued h isin + issued_by (holding_of isin) e ≤ redeemed h isin + redeemed_by (holding_of isin) e + most_outstanding
+    → (isin : List ℕ) → issued h isin + issued_by (movement_of isin) e ≤ redeemed h isin + redeemed_by (movement_of isin) e + most_outstanding
 outstanding_step h (Participant reference bic) limit was all isin = let here = all isin in omega arith
 outstanding_step h (Account reference bic account) limit was all isin = let here = all isin in omega arith
 outstanding_step h (Security reference i kind) limit was all isin = let here = all isin in omega arith
-outstanding_step h (Issue holding) limit was all isin =
+outstanding_step h (Issue movement) limit was all isin =
     let here = all isin in
-    elim (cases_Bool (bytes_eq holding.isin isin)) [
+    elim (cases_Bool (bytes_eq movement.isin isin)) [
       | inr other ↦ rw other (omega arith)
       | inl of ↦
           let b = books_exist h in
-          let p = accepted_last limit h (Issue holding) b.0 b.1 was b.2 in
-          let third : nat_lt (redeemed h holding.isin + most_outstanding) (issued h holding.isin + holding.quantity) ≡ false =
-          p.checks (check (nat_lt (redeemed h holding.isin + most_outstanding) (issued h holding.isin + holding.quantity)) OverLimit) (inr (inr (inl refl))) in
-          let within : issued h holding.isin + holding.quantity ≤ redeemed h holding.isin + most_outstanding = ltb-false _ _ third in
-          let same : holding.isin ≡ isin = same_text holding.isin isin of in
-          let P : List ℕ → Type 0 = λ z. issued h z + holding.quantity ≤ redeemed h z + most_outstanding in
-          let moved : issued h isin + holding.quantity ≤ redeemed h isin + most_outstanding = subst P same within in
+          let p = accepted_last limit h (Issue movement) b.0 b.1 was b.2 in
+          let third : nat_lt (redeemed h movement.isin + most_outstanding) (issued h movement.isin + movement.quantity) ≡ false =
+          p.checks (check (nat_lt (redeemed h movement.isin + most_outstanding) (issued h movement.isin + movement.quantity)) OverLimit) (inr (inr (inl refl))) in
+          let within : issued h movement.isin + movement.quantity ≤ redeemed h movement.isin + most_outstanding = ltb-false _ _ third in
+          let same : movement.isin ≡ isin = same_text movement.isin isin of in
+          let P : List ℕ → Type 0 = λ z. issued h z + movement.quantity ≤ redeemed h z + most_outstanding in
+          let moved : issued h isin + movement.quantity ≤ redeemed h isin + most_outstanding = subst P same within in
           rw of (omega arith)
     ]
-outstanding_step h (Redeem holding) limit was all isin = let here = all isin in omega arith
+outstanding_step h (Redeem movement) limit was all isin = let here = all isin in omega arith
 outstanding_step h (PayIn payment) limit was all isin = let here = all isin in omega arith
 outstanding_step h (PayOut payment) limit was all isin = let here = all isin in omega arith
 outstanding_step h (Instruct sender instruction) limit was all isin = let here = all isin in omega arith
@@ -124,17 +124,17 @@ outstanding_within limit h was =
     accepted_all limit WithinLimit (record { each = λ isin. omega arith })
     (λ front e was' within. record {
       each = λ isin.
-          let more = sum_by_push (issued_by (holding_of isin)) front e in
-          let less = sum_by_push (redeemed_by (holding_of isin)) front e in
+          let more = sum_by_push (issued_by (movement_of isin)) front e in
+          let less = sum_by_push (redeemed_by (movement_of isin)) front e in
           let step = outstanding_step front e limit was' within.each isin in
           omega arith;
     }) h was
 
 -- what an account of an instruction holds is within the limit
-pub holding_within : (limit : ℕ) (books : Books) (settled : List Settled) (pos : List ℕ → List ℕ → ℕ) (k : ℕ) (i : Instructed) (isin : List ℕ) → AreBooks books → WasAccepted limit books.history
+pub movement_within : (limit : ℕ) (books : Books) (settled : List Settled) (pos : List ℕ → List ℕ → ℕ) (k : ℕ) (i : Instructed) (isin : List ℕ) → AreBooks books → WasAccepted limit books.history
     → ((s : Settled) → In settled s → Contains books.pairs s.pair) → ((a x : List ℕ) → pos a x + debits books.history settled a x ≡ credits books.history settled a x) → instruction_at books.history k ≡ Some i
     → pos i.instruction.account isin ≤ most_outstanding
-holding_within limit books settled pos k i isin are was inside all at =
+movement_within limit books settled pos k i isin are was inside all at =
     let h = books.history in
     let sums = paired_add_up limit h was books.pairs settled isin are.pairing inside in
     let member = account_registered limit h was k i at in
@@ -188,20 +188,20 @@ both_stand P standing m n state last first rest k = elim (cases_eq k n) [
 ]
 
 module _ (limit : ℕ) (books : Books) (reference day : List ℕ) (place : Option Place) (settled : List Settled) (old : Content)
-    (are : AreBooks books) (was : WasAccepted limit books.history) (today : AreOfToday books.history) (pass : Pass books reference day place settled old) where
+    (are : AreBooks books) (was : WasAccepted limit books.history) (supported : AreSupported books.history) (pass : Pass books reference day place settled old) where
   settled_in_pairs : (s : Settled) → In settled s → Contains books.pairs s.pair
   settled_in_pairs s i = let m = (pass.reached.exact s (pass.reached.within s i)).0 i in m.paired
 
   -- the two instructions of the next pair
   pub record NextSides (next : Place) (due : IsDue old (number_of day) place next) : Type 0 where
-    pub found : FoundPair books reference day place settled old are today pass.passing pass.reached next due.pair
+    pub found : FoundPair books reference day place settled old are supported pass.passing pass.reached next due.pair
     pub earlier : Instructed
     pub sides : HasSides books.history found.waiting.pair earlier due.pair.later
     pub is_earlier : instruction_at (history_of old) due.pair.mate ≡ Some earlier
 
   pub next_sides : (next : Place) (due : IsDue old (number_of day) place next) → NextSides next due
   next_sides next due =
-      let found = found_pair books reference day place settled old are today pass.passing pass.reached next due.pair in
+      let found = found_pair books reference day place settled old are supported pass.passing pass.reached next due.pair in
       let q = found.waiting.pair in
       let mate = (are.pairing.exact q).0 found.waiting.paired in
       let o = mate.candidate.opposite in
@@ -216,7 +216,7 @@ module _ (limit : ℕ) (books : Books) (reference day : List ℕ) (place : Optio
           first = o.is_first;
           second = later;
           opposite = subst P same o.opposite;
-          unpaid = free_instruction books.history q.earlier o.first today o.is_first;
+          unpaid = free_instruction books.history q.earlier o.first supported o.is_first;
         };
         is_earlier = ap (λ z. instruction_at z due.pair.mate) pass.passing.history ∙ ap (λ k. instruction_at books.history k) (sym found.earlier) ∙ o.is_first;
       }
@@ -224,8 +224,8 @@ module _ (limit : ℕ) (books : Books) (reference day : List ℕ) (place : Optio
   side_within : (next : Place) (due : IsDue old (number_of day) place next) (n : NextSides next due) (i : Instructed) → (i ≡ n.earlier) ⊎ (i ≡ due.pair.later) → (isin : List ℕ)
       → old.position i.instruction.account isin ≤ most_outstanding
   side_within next due n i which isin = elim which [
-    | inl first ↦ holding_within limit books settled old.position n.found.waiting.pair.earlier i isin are was settled_in_pairs pass.passing.position (n.sides.first ∙ ap Some (sym first))
-    | inr second ↦ holding_within limit books settled old.position n.found.waiting.pair.later i isin are was settled_in_pairs pass.passing.position (n.sides.second ∙ ap Some (sym second))
+    | inl first ↦ movement_within limit books settled old.position n.found.waiting.pair.earlier i isin are was settled_in_pairs pass.passing.position (n.sides.first ∙ ap Some (sym first))
+    | inr second ↦ movement_within limit books settled old.position n.found.waiting.pair.later i isin are was settled_in_pairs pass.passing.position (n.sides.second ∙ ap Some (sym second))
   ]
 
   which_receives : (a b : Instructed) → (receiver a b ≡ a) ⊎ (receiver a b ≡ b)
@@ -289,7 +289,7 @@ module _ (limit : ℕ) (books : Books) (reference day : List ℕ) (place : Optio
       let q = n.found.waiting.pair in
       let less : q.earlier < q.later = (let mate = (are.pairing.exact q).0 n.found.waiting.paired in mate.candidate.earlier) in
       record {
-        next_is = is_next books reference day place settled old are today pass.passing pass.reached next after.0 after.1 n.found;
+        next_is = is_next books reference day place settled old are supported pass.passing pass.reached next after.0 after.1 n.found;
         number_side = inr n.found.later;
         mate_side = inl n.found.earlier;
         number_mate = ap (mate_in q) (sym n.found.later) ∙ mate_of_last q less ∙ n.found.earlier;

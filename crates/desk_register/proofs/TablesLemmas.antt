@@ -38,7 +38,7 @@ use Rattle.std.proofs.lemmas.Bool.Decides.{nat_tests}
 use Rattle.std.proofs.Common.{lit<}
 use Rattle.std.specs.Prelude.{Result, Ok, Err, OnOk}
 use Rattle.desk_register.specs.declared.register.Fault.{Fault}
-use Rattle.desk_rules.specs.declared.entry.Holding.{Holding}
+use Rattle.desk_rules.specs.declared.entry.Movement.{Movement}
 use Rattle.desk_rules.specs.declared.verdict.Refusal.TheVariants.{AccountUnknown, OverLimit}
 use Rattle.desk_rules.specs.Verdict.{check}
 use Rattle.desk_register.specs.Tables.{IsAccepted}
@@ -50,7 +50,7 @@ use Rattle.desk_rules.specs.declared.reply.Reply.{Reply}
 use Rattle.desk_register.specs.Content.{appended, first_standing, positions_after, moved_to, CanAppend}
 use Rattle.desk_rules.specs.Verdict.{owner_of, most_outstanding}
 use Rattle.desk_rules.specs.Laws.{accounts_of}
-use Rattle.desk_rules.specs.Balances.{issued_by, redeemed_by, holding_on, quantity_if}
+use Rattle.desk_rules.specs.Balances.{issued_by, redeemed_by, movement_on, quantity_if}
 use Rattle.desk_rules.proofs.PairingLemmas.{pairing_alone}
 use Rattle.desk_rules.proofs.SettlementGrowth.{settlement_alone}
 use Rattle.desk_rules.proofs.BalanceLemmas.{IsIn, credits-entry, debits-entry}
@@ -247,7 +247,7 @@ issue_position d c pos account isin a i q all =
     ]
 
 registration_position : (d c pos : List ℕ → List ℕ → ℕ) (e : Entry) (a i : List ℕ) → is_registration e ≡ true → ((a i : List ℕ) → pos a i + d a i ≡ c a i)
-    → positions_after e pos a i + (d a i + redeemed_by (holding_on a i) e) ≡ c a i + issued_by (holding_on a i) e
+    → positions_after e pos a i + (d a i + redeemed_by (movement_on a i) e) ≡ c a i + issued_by (movement_on a i) e
 registration_position d c pos (Participant reference bic) a i is all = let here : pos a i + d a i ≡ c a i = all a i in omega arith
 registration_position d c pos (Account reference bic account) a i is all = let here : pos a i + d a i ≡ c a i = all a i in omega arith
 registration_position d c pos (Security reference isin kind) a i is all = let here : pos a i + d a i ≡ c a i = all a i in omega arith
@@ -373,27 +373,27 @@ position_within limit books content account isin tables member =
     let here : content.position account isin + debits h ss account isin ≡ credits h ss account isin = tables.position account isin in
     omega arith
 
-issue_fits : (limit : ℕ) (books : Books) (content : Content) (holding : Holding) → Tables limit books content → IsVerdict limit books (Issue holding) Accept → CanAppend (Issue holding) content
-issue_fits limit books content holding tables verdict =
+issue_fits : (limit : ℕ) (books : Books) (content : Content) (movement : Movement) → Tables limit books content → IsVerdict limit books (Issue movement) Accept → CanAppend (Issue movement) content
+issue_fits limit books content movement tables verdict =
     let h = books.history in
-    let p = passes limit books (Issue holding) verdict in
-    let first : is_none (owner_of h holding.account) ≡ false = p.checks (check (is_none (owner_of h holding.account)) AccountUnknown) (inl refl) in
-    let third : nat_lt (redeemed h holding.isin + most_outstanding) (issued h holding.isin + holding.quantity) ≡ false =
-    p.checks (check (nat_lt (redeemed h holding.isin + most_outstanding) (issued h holding.isin + holding.quantity)) OverLimit) (inr (inr (inl refl))) in
-    let within : issued h holding.isin + holding.quantity ≤ redeemed h holding.isin + most_outstanding = ltb-false _ _ third in
-    let owner = is_none_false (owner_of h holding.account) first in
-    let member = owned h holding.account owner.0 owner.1 in
-    let here : content.position holding.account holding.isin + redeemed h holding.isin ≤ issued h holding.isin = position_within limit books content holding.account holding.isin tables member in
+    let p = passes limit books (Issue movement) verdict in
+    let first : is_none (owner_of h movement.account) ≡ false = p.checks (check (is_none (owner_of h movement.account)) AccountUnknown) (inl refl) in
+    let third : nat_lt (redeemed h movement.isin + most_outstanding) (issued h movement.isin + movement.quantity) ≡ false =
+    p.checks (check (nat_lt (redeemed h movement.isin + most_outstanding) (issued h movement.isin + movement.quantity)) OverLimit) (inr (inr (inl refl))) in
+    let within : issued h movement.isin + movement.quantity ≤ redeemed h movement.isin + most_outstanding = ltb-false _ _ third in
+    let owner = is_none_false (owner_of h movement.account) first in
+    let member = owned h movement.account owner.0 owner.1 in
+    let here : content.position movement.account movement.isin + redeemed h movement.isin ≤ issued h movement.isin = position_within limit books content movement.account movement.isin tables member in
     let most : 99_999_999_999_999 < 2 ^ 63 = lit< tt in
-    let counted : content.position holding.account holding.isin + holding.quantity < 2 ^ 63 = omega arith in
+    let counted : content.position movement.account movement.isin + movement.quantity < 2 ^ 63 = omega arith in
     (counted, rw tables.history within)
 
 pub can_register : (limit : ℕ) (content : Content) (e : Entry) → is_registration e ≡ true → IsAccepted limit e content → CanAppend e content
 can_register limit content (Participant reference bic) is accepted = tt
 can_register limit content (Account reference bic account) is accepted = tt
 can_register limit content (Security reference isin kind) is accepted = tt
-can_register limit content (Issue holding) is accepted = issue_fits limit accepted.books content holding accepted.tables accepted.verdict
-can_register limit content (Redeem holding) is accepted = absurd (cc)
+can_register limit content (Issue movement) is accepted = issue_fits limit accepted.books content movement accepted.tables accepted.verdict
+can_register limit content (Redeem movement) is accepted = absurd (cc)
 can_register limit content (PayIn payment) is accepted = absurd (cc)
 can_register limit content (PayOut payment) is accepted = absurd (cc)
 can_register limit content (Instruct sender instruction) is accepted = absurd (cc)

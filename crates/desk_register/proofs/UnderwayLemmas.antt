@@ -13,7 +13,7 @@ use Rattle.desk_rules.specs.Verdict.{Books, AreBooks}
 use Rattle.desk_register.specs.Content.{Content, CanSettle}
 use Rattle.desk_register.specs.Looked.{IsDuePairAfter}
 use Rattle.desk_register.specs.Tables.{Tables}
-use Rattle.desk_register.specs.Pass.{AreOfToday, IsTaken, RanTo, books_after, settled_of}
+use Rattle.desk_register.specs.Pass.{AreSupported, IsTaken, RanTo, books_after, settled_of}
 use Rattle.desk_rules.proofs.Decided.{In, In-from_Contains, Contains-from_In, Ordered, filter-In}
 use Rattle.desk_rules.proofs.PairingLemmas.{lower, decided_pairing}
 use Rattle.desk_rules.proofs.SettlementLemmas.{ordered_pairs}
@@ -69,18 +69,18 @@ begins limit books reference day content tables = record {
   left = (let few = pairs_few books tables.are_books in let most = filter_most (is_above (books.history ++ Run reference day ∷ []) None) books.pairs in omega arith);
 }
 
-pub can_settle : (limit : ℕ) (books : Books) (reference day : List ℕ) (place : Option Place) (tried count waiting : ℕ) (first content : Content) → Tables limit books first → AreOfToday books.history
+pub can_settle : (limit : ℕ) (books : Books) (reference day : List ℕ) (place : Option Place) (tried count waiting : ℕ) (first content : Content) → Tables limit books first → AreSupported books.history
     → Underway books reference day place tried count waiting content → (next : Place) → IsDuePairAfter content (number_of day) place (Some next) → CanSettle content next.number
-can_settle limit books reference day place tried count waiting first content tables today u next due =
-    next_can_settle limit books reference day place u.settled content tables.are_books tables.accepted today u.pass next due
+can_settle limit books reference day place tried count waiting first content tables supported u next due =
+    next_can_settle limit books reference day place u.settled content tables.are_books tables.accepted supported u.pass next due
 
-pub goes_on : (limit : ℕ) (books : Books) (reference day : List ℕ) (place : Option Place) (tried count waiting new_waiting : ℕ) (first old new : Content) (taken : Taken) → Tables limit books first → AreOfToday books.history
+pub goes_on : (limit : ℕ) (books : Books) (reference day : List ℕ) (place : Option Place) (tried count waiting new_waiting : ℕ) (first old new : Content) (taken : Taken) → Tables limit books first → AreSupported books.history
     → Underway books reference day place tried count waiting old → IsTaken old (number_of day) place (Some taken) new → new_waiting + settled_of taken.outcome ≡ waiting + 1
     → Underway books reference day (Some taken.place) (tried + 1) (count + settled_of taken.outcome) new_waiting new
-goes_on limit books reference day place tried count waiting new_waiting first old new taken tables today u t waits =
-    let on = step limit books reference day place u.settled old tables.are_books tables.accepted today u.pass taken.place t.0 taken.outcome new t.1 in
-    let n = next_sides limit books reference day place u.settled old tables.are_books tables.accepted today u.pass taken.place t.0.0 in
-    let f = next_facts limit books reference day place u.settled old tables.are_books tables.accepted today u.pass taken.place t.0 n in
+goes_on limit books reference day place tried count waiting new_waiting first old new taken tables supported u t waits =
+    let on = step limit books reference day place u.settled old tables.are_books tables.accepted supported u.pass taken.place t.0 taken.outcome new t.1 in
+    let n = next_sides limit books reference day place u.settled old tables.are_books tables.accepted supported u.pass taken.place t.0.0 in
+    let f = next_facts limit books reference day place u.settled old tables.are_books tables.accepted supported u.pass taken.place t.0 n in
     let fewer = fewer_above (books.history ++ Run reference day ∷ []) books.pairs place taken.place n.found.waiting.pair f.next_is.is_open.paired n.found.place_is f.next_is.is_open.above in
     let left = u.left in
     let was = u.count_is in
@@ -113,20 +113,20 @@ ran_to limit books reference day place tried count waiting first content tables 
   waits = sym (all_left (books.history ++ Run reference day ∷ []) (length books.history + 1) place u.settled books.pairs none) ∙ u.waits;
 }
 
-pub ends_none : (limit : ℕ) (books : Books) (reference day : List ℕ) (place : Option Place) (tried count waiting : ℕ) (first old new : Content) → Tables limit books first → AreOfToday books.history
+pub ends_none : (limit : ℕ) (books : Books) (reference day : List ℕ) (place : Option Place) (tried count waiting : ℕ) (first old new : Content) → Tables limit books first → AreSupported books.history
     → Underway books reference day place tried count waiting old → IsTaken old (number_of day) place None new → RanTo books (Run reference day) count waiting new
-ends_none limit books reference day place tried count waiting first old new tables today u t =
+ends_none limit books reference day place tried count waiting first old new tables supported u t =
     let P : Content → Type 0 = λ c. RanTo books (Run reference day) count waiting c in
     subst P (sym t.1) (ran_to limit books reference day place tried count waiting first old tables u
-    (none_open books reference day place u.settled old tables.are_books today u.pass.passing u.pass.reached t.0))
+    (none_open books reference day place u.settled old tables.are_books supported u.pass.passing u.pass.reached t.0))
 
 member_some : {X : Type 0} (xs : List X) (x : X) → In xs x → 0 < length xs
 member_some [] x i = absurd i
 member_some (y ∷ ys) x i = omega arith
 
-pub ends_all : (limit : ℕ) (books : Books) (reference day : List ℕ) (place : Option Place) (tried count waiting : ℕ) (first content : Content) → Tables limit books first → AreOfToday books.history
+pub ends_all : (limit : ℕ) (books : Books) (reference day : List ℕ) (place : Option Place) (tried count waiting : ℕ) (first content : Content) → Tables limit books first → AreSupported books.history
     → Underway books reference day place tried count waiting content → length books.history ≤ tried → RanTo books (Run reference day) count waiting content
-ends_all limit books reference day place tried count waiting first content tables today u all =
+ends_all limit books reference day place tried count waiting first content tables supported u all =
     ran_to limit books reference day place tried count waiting first content tables u (λ p free.
     let i = filter-In (is_above (books.history ++ Run reference day ∷ []) place) books.pairs p (In-from_Contains books.pairs p free.paired) free.above in
     let some = member_some (filter (is_above (books.history ++ Run reference day ∷ []) place) books.pairs) p i in

@@ -10,12 +10,12 @@ use Rattle.desk_rules.specs.Reply.{IsFirstReply, settled_count, waiting_count}
 use Rattle.desk_register.specs.declared.rules.applied.Applied.{Applied}
 use Rattle.desk_register.specs.Content.{Content}
 use Rattle.desk_register.specs.Tables.{Tables}
-use Rattle.desk_register.specs.Pass.{AreOfToday}
+use Rattle.desk_register.specs.Pass.{AreSupported}
 
--- A register keeps the tables of books of today's commands, and with each entry the first reply that it got.
+-- A register keeps the tables of books of supported commands, and with each entry the first reply that it got.
 pub record Keeps (limit : ℕ) (books : Books) (content : Content) : Type 0 where
   pub tables : Tables limit books content
-  pub today : AreOfToday books.history
+  pub supported : AreSupported books.history
   pub replies : (n : ℕ) (kept : Kept) → slice_get content.register n ≡ Some kept → IsFirstReply books.history (n + 1) kept.reply
 
 -- the books of the empty history

@@ -46,8 +46,8 @@ abbrev pub first_standing : Entry → Standing
 first_standing (Participant reference bic) = record { mate = None; state = Plain }
 first_standing (Account reference bic account) = record { mate = None; state = Plain }
 first_standing (Security reference isin kind) = record { mate = None; state = Plain }
-first_standing (Issue holding) = record { mate = None; state = Plain }
-first_standing (Redeem holding) = record { mate = None; state = Plain }
+first_standing (Issue movement) = record { mate = None; state = Plain }
+first_standing (Redeem movement) = record { mate = None; state = Plain }
 first_standing (PayIn payment) = record { mate = None; state = Plain }
 first_standing (PayOut payment) = record { mate = None; state = Plain }
 first_standing (Instruct sender instruction) = record { mate = None; state = Unmatched }

@@ -12,24 +12,24 @@ use Rattle.desk_register.specs.View.{View, IfTrusted}
 use Rattle.desk_register.specs.Content.{history_of}
 
 -- the commands that the desk takes: participants, accounts, securities, issues, runs, and free instructions
-abbrev pub is_of_today : Entry → Bool
-is_of_today (Participant reference bic) = true
-is_of_today (Account reference bic account) = true
-is_of_today (Security reference isin kind) = true
-is_of_today (Issue holding) = true
-is_of_today (Redeem holding) = false
-is_of_today (PayIn payment) = false
-is_of_today (PayOut payment) = false
-is_of_today (Instruct sender instruction) = not (is_against_payment instruction.mt)
-is_of_today (Cancel sender order) = false
-is_of_today (Run reference day) = true
+abbrev pub is_supported : Entry → Bool
+is_supported (Participant reference bic) = true
+is_supported (Account reference bic account) = true
+is_supported (Security reference isin kind) = true
+is_supported (Issue movement) = true
+is_supported (Redeem movement) = false
+is_supported (PayIn payment) = false
+is_supported (PayOut payment) = false
+is_supported (Instruct sender instruction) = not (is_against_payment instruction.mt)
+is_supported (Cancel sender order) = false
+is_supported (Run reference day) = true
 
 -- the refusal of the first check that fails
 abbrev pub first_refusal : List Check → Option Refusal
 first_refusal [] = None
 first_refusal (c ∷ checks) = if c.fails then Some c.refusal else first_refusal checks
 
--- a history of which nothing is paired or settled: the checks of today's commands read no more
+-- a history of which nothing is paired or settled: the checks of supported commands read no more
 abbrev pub with_history : List Entry → Books
 with_history history = record { history = history; pairs = []; settled = [] }
 

@@ -119,8 +119,8 @@ abbrev pub security_by : Entry → Option (List ℕ)
 security_by (Participant reference bic) = None
 security_by (Account reference bic account) = None
 security_by (Security reference isin kind) = Some isin
-security_by (Issue holding) = None
-security_by (Redeem holding) = None
+security_by (Issue movement) = None
+security_by (Redeem movement) = None
 security_by (PayIn payment) = None
 security_by (PayOut payment) = None
 security_by (Instruct sender instruction) = None

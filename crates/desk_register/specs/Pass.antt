@@ -1,4 +1,4 @@
--- What a run of today's commands comes to: all due pairs tried, and what is settled, before the run itself is added.
+-- What a run over supported commands comes to: all due pairs tried, and what is settled, before the run itself is added.
 use Rattle.std.specs.Prelude.{◌≡◌, ℕ, ◌+◌, true, List, [], ◌∷◌, ◌++◌, length, Contains, Option, Some, None}
 use Rattle.desk_rules.specs.declared.entry.Entry.{Entry}
 use Rattle.desk_rules.specs.declared.pair.Place.{Place}
@@ -9,7 +9,7 @@ use Rattle.desk_rules.specs.Balances.{credits, debits}
 use Rattle.desk_rules.specs.Reply.{settled_count, waiting_count}
 use Rattle.desk_rules.specs.Settlement.{IsSettlement}
 use Rattle.desk_rules.specs.Verdict.{Books, AreBooks, IsVerdict, WasAccepted}
-use Rattle.desk_register.specs.Decision.{is_of_today}
+use Rattle.desk_register.specs.Decision.{is_supported}
 use Rattle.desk_register.specs.Content.{Content, history_of, Settles as SettlesPair}
 use Rattle.desk_register.specs.Looked.{IsDuePairAfter}
 use Rattle.desk_register.specs.declared.rules.settlement_run.Taken.{Taken}
@@ -19,8 +19,8 @@ use Rattle.desk_register.specs.declared.found.Outcome.TheVariants.{Lacks}
 use Rattle.desk_register.specs.Tables.{Tables, StandsAt}
 
 -- a history of nothing but the commands that the desk takes
-pub record AreOfToday (history : List Entry) : Type 0 where
-  pub each : (entry : Entry) → Contains history entry → is_of_today entry ≡ true
+pub record AreSupported (history : List Entry) : Type 0 where
+  pub each : (entry : Entry) → Contains history entry → is_supported entry ≡ true
 
 -- the books with the run, where this is settled
 abbrev pub books_after : Books → Entry → List Settled → Books
@@ -52,11 +52,11 @@ abbrev pub settled_of : Outcome → ℕ
 settled_of outcomes.Settled = 1
 settled_of (Lacks lack) = 0
 
--- a register with the tables of a history of today's commands
+-- a register with the tables of a history of supported commands
 pub record CanRun (limit : ℕ) (content : Content) : Type 0 where
   pub books : Books
   pub tables : Tables limit books content
-  pub today : AreOfToday books.history
+  pub supported : AreSupported books.history
 
 -- what a run came to: all due pairs were tried, so many settled in the run, and so many were due in it and are not settled
 pub record RanTo (books : Books) (run : Entry) (settled_so waiting_so : ℕ) (content : Content) : Type 0 where

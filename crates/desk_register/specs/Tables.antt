@@ -101,8 +101,8 @@ abbrev pub is_registration : Entry → Bool
 is_registration (Participant reference bic) = true
 is_registration (Account reference bic account) = true
 is_registration (Security reference isin kind) = true
-is_registration (Issue holding) = true
-is_registration (Redeem holding) = false
+is_registration (Issue movement) = true
+is_registration (Redeem movement) = false
 is_registration (PayIn payment) = false
 is_registration (PayOut payment) = false
 is_registration (Instruct sender instruction) = false

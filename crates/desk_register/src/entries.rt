@@ -90,7 +90,7 @@ pub fn reference_of(entry: &Entry) -> Reference
         | Entry::Account { reference, .. }
         | Entry::Security { reference, .. }
         | Entry::Run { reference, .. } => *reference,
-        Entry::Issue(holding) | Entry::Redeem(holding) => holding.reference,
+        Entry::Issue(movement) | Entry::Redeem(movement) => movement.reference,
         Entry::PayIn(payment) | Entry::PayOut(payment) => payment.reference,
         Entry::Instruct { instruction, .. } => instruction.reference,
         Entry::Cancel { order, .. } => order.reference,

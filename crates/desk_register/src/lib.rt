@@ -16,9 +16,9 @@ mod rules;
 mod standing;
 
 pub use found::{Found, Outcome};
-pub use list_store::ListRegister;
+pub use list_store::{ListRegister, MOST_ENTRIES};
 pub use register::{Fault, Register, Stage};
 pub use rules::{
-    Applied, accepted_reply, apply, decide, is_of_today, positions_add_up, refused_reply,
+    Applied, accepted_reply, apply, decide, is_supported, positions_add_up, refused_reply,
 };
 pub use standing::Standing;

@@ -21,4 +21,4 @@ mod securities;
 mod settling;
 mod standings;
 
-pub use list_register::ListRegister;
+pub use list_register::{ListRegister, MOST_ENTRIES};

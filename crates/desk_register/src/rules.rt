@@ -11,11 +11,11 @@ mod decision;
 mod laws;
 mod replies;
 mod settlement_run;
-mod today;
+mod supported;
 
 pub use applied::Applied;
 pub use applying::apply;
 pub use decision::decide;
 pub use laws::positions_add_up;
 pub use replies::{accepted_reply, refused_reply};
-pub use today::is_of_today;
+pub use supported::is_supported;

@@ -9,7 +9,7 @@ use Rattle.desk_rules.specs.declared.entry.Entry.{Entry}
 use Rattle.desk_rules.specs.declared.pair.Pair.{Pair}
 use Rattle.desk_rules.specs.declared.pair.Settled.{Settled}
 use Rattle.desk_rules.specs.History.{Instructed, instruction_at}
-use Rattle.desk_rules.specs.Balances.{same_ccy, is_delivered_by, deliverer_of, receiver_of, delivery_of, receipt_of, quantity_if, holding_on, issued_by, redeemed_by, quantity_on, credits, debits, payment_of, paid_in_by, paid_out_by, cash_in, amount_of, cash_credits, cash_debits}
+use Rattle.desk_rules.specs.Balances.{same_ccy, is_delivered_by, deliverer_of, receiver_of, delivery_of, receipt_of, quantity_if, movement_on, issued_by, redeemed_by, quantity_on, credits, debits, payment_of, paid_in_by, paid_out_by, cash_in, amount_of, cash_credits, cash_debits}
 use Rattle.desk_rules.specs.Covered.{can_deliver, can_pay_cash, can_pay, has_securities, has_cash, is_covered}
 use Rattle.desk_rules.specs.Laws.{AreNonNegative}
 use Rattle.desk_rules.proofs.Decided.{In}
@@ -55,15 +55,15 @@ receipt_of-front h g p is =
 -- One entry more.
 
 module _ (h : List Entry) (e : Entry) (settled : List Settled) (within : (s : Settled) → In settled s → IsIn h s.pair) where
-  pub credits-entry : (account isin : List ℕ) → credits (h ++ e ∷ []) settled account isin ≡ credits h settled account isin + issued_by (holding_on account isin) e
+  pub credits-entry : (account isin : List ℕ) → credits (h ++ e ∷ []) settled account isin ≡ credits h settled account isin + issued_by (movement_on account isin) e
   credits-entry account isin =
-      let entries = sum_by_push (issued_by (holding_on account isin)) h e in
+      let entries = sum_by_push (issued_by (movement_on account isin)) h e in
       let pairs = sum_same (λ s. quantity_on account isin (receipt_of (h ++ e ∷ []) s.pair)) (λ s. quantity_on account isin (receipt_of h s.pair)) settled (λ s i. ap (λ o. quantity_on account isin o) (receipt_of-front h (e ∷ []) s.pair (within s i))) in
       omega arith
 
-  pub debits-entry : (account isin : List ℕ) → debits (h ++ e ∷ []) settled account isin ≡ debits h settled account isin + redeemed_by (holding_on account isin) e
+  pub debits-entry : (account isin : List ℕ) → debits (h ++ e ∷ []) settled account isin ≡ debits h settled account isin + redeemed_by (movement_on account isin) e
   debits-entry account isin =
-      let entries = sum_by_push (redeemed_by (holding_on account isin)) h e in
+      let entries = sum_by_push (redeemed_by (movement_on account isin)) h e in
       let pairs = sum_same (λ s. quantity_on account isin (delivery_of (h ++ e ∷ []) s.pair)) (λ s. quantity_on account isin (delivery_of h s.pair)) settled (λ s i. ap (λ o. quantity_on account isin o) (delivery_of-front h (e ∷ []) s.pair (within s i))) in
       omega arith
 

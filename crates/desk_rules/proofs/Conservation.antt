@@ -16,7 +16,7 @@ use Rattle.desk_rules.specs.declared.pair.Settled.{Settled}
 use Rattle.desk_rules.specs.History.{Instructed, instructed, entry_at, before, instruction_at}
 use Rattle.desk_rules.specs.Opposite.{AreOpposite, AreOppositeAt}
 use Rattle.desk_rules.specs.Pairing.{IsPairing}
-use Rattle.desk_rules.specs.Balances.{is_delivered_by, delivery_of, receipt_of, quantity_if, holding_of, holding_on, issued_by, redeemed_by, issued, redeemed, quantity_on, credits, debits, payment_in, payment_of, paid_in_by, paid_out_by, paid_in, paid_out, cash_in, amount_of, cash_credits, cash_debits}
+use Rattle.desk_rules.specs.Balances.{is_delivered_by, delivery_of, receipt_of, quantity_if, movement_of, movement_on, issued_by, redeemed_by, issued, redeemed, quantity_on, credits, debits, payment_in, payment_of, paid_in_by, paid_out_by, paid_in, paid_out, cash_in, amount_of, cash_credits, cash_debits}
 use Rattle.desk_rules.specs.Settlement.{IsSettlement}
 use Rattle.desk_rules.specs.Verdict.{Books, is_participant, is_owner, or_else, owner_of, WasAccepted}
 use Rattle.desk_rules.specs.Laws.{account_by, participant_by, accounts_of, participants_of}
@@ -143,8 +143,8 @@ ownerless (Account reference bic account ∷ h) a none y i =
       | inr later ↦ ownerless h a parts.1 y later
     ]
 ownerless (Security reference isin kind ∷ h) a none y i = ownerless h a none y i
-ownerless (Issue holding ∷ h) a none y i = ownerless h a none y i
-ownerless (Redeem holding ∷ h) a none y i = ownerless h a none y i
+ownerless (Issue movement ∷ h) a none y i = ownerless h a none y i
+ownerless (Redeem movement ∷ h) a none y i = ownerless h a none y i
 ownerless (PayIn payment ∷ h) a none y i = ownerless h a none y i
 ownerless (PayOut payment ∷ h) a none y i = ownerless h a none y i
 ownerless (Instruct sender instruction ∷ h) a none y i = ownerless h a none y i
@@ -160,8 +160,8 @@ owned (Account reference bic account ∷ h) a owner e = elim (some_else (if byte
   | inr later ↦ inr (owned h a owner later)
 ]
 owned (Security reference isin kind ∷ h) a owner e = owned h a owner e
-owned (Issue holding ∷ h) a owner e = owned h a owner e
-owned (Redeem holding ∷ h) a owner e = owned h a owner e
+owned (Issue movement ∷ h) a owner e = owned h a owner e
+owned (Redeem movement ∷ h) a owner e = owned h a owner e
 owned (PayIn payment ∷ h) a owner e = owned h a owner e
 owned (PayOut payment ∷ h) a owner e = owned h a owner e
 owned (Instruct sender instruction ∷ h) a owner e = owned h a owner e
@@ -178,8 +178,8 @@ stranger (Participant reference bic ∷ h) b none y i =
     ]
 stranger (Account reference bic account ∷ h) b none y i = stranger h b none y i
 stranger (Security reference isin kind ∷ h) b none y i = stranger h b none y i
-stranger (Issue holding ∷ h) b none y i = stranger h b none y i
-stranger (Redeem holding ∷ h) b none y i = stranger h b none y i
+stranger (Issue movement ∷ h) b none y i = stranger h b none y i
+stranger (Redeem movement ∷ h) b none y i = stranger h b none y i
 stranger (PayIn payment ∷ h) b none y i = stranger h b none y i
 stranger (PayOut payment ∷ h) b none y i = stranger h b none y i
 stranger (Instruct sender instruction ∷ h) b none y i = stranger h b none y i
@@ -194,8 +194,8 @@ takes_part (Participant reference bic ∷ h) b e = elim (or_cases (bytes_eq bic 
 ]
 takes_part (Account reference bic account ∷ h) b e = takes_part h b e
 takes_part (Security reference isin kind ∷ h) b e = takes_part h b e
-takes_part (Issue holding ∷ h) b e = takes_part h b e
-takes_part (Redeem holding ∷ h) b e = takes_part h b e
+takes_part (Issue movement ∷ h) b e = takes_part h b e
+takes_part (Redeem movement ∷ h) b e = takes_part h b e
 takes_part (PayIn payment ∷ h) b e = takes_part h b e
 takes_part (PayOut payment ∷ h) b e = takes_part h b e
 takes_part (Instruct sender instruction ∷ h) b e = takes_part h b e
@@ -243,8 +243,8 @@ accounts_apart limit h (Account reference bic account) was apart =
     let P : List (List ℕ) → Type 0 = Apart in
     subst P (sym (accounts_push h (Account reference bic account))) (apart_push (accounts_of h) account apart (ownerless h account none))
 accounts_apart limit h (Security reference isin kind) was apart = accounts_stay h (Security reference isin kind) refl apart
-accounts_apart limit h (Issue holding) was apart = accounts_stay h (Issue holding) refl apart
-accounts_apart limit h (Redeem holding) was apart = accounts_stay h (Redeem holding) refl apart
+accounts_apart limit h (Issue movement) was apart = accounts_stay h (Issue movement) refl apart
+accounts_apart limit h (Redeem movement) was apart = accounts_stay h (Redeem movement) refl apart
 accounts_apart limit h (PayIn payment) was apart = accounts_stay h (PayIn payment) refl apart
 accounts_apart limit h (PayOut payment) was apart = accounts_stay h (PayOut payment) refl apart
 accounts_apart limit h (Instruct sender instruction) was apart = accounts_stay h (Instruct sender instruction) refl apart
@@ -268,8 +268,8 @@ participants_apart limit h (Participant reference bic) was apart =
     subst P (sym (participants_push h (Participant reference bic))) (apart_push (participants_of h) bic apart (stranger h bic (p.checks _ (inl refl))))
 participants_apart limit h (Account reference bic account) was apart = participants_stay h (Account reference bic account) refl apart
 participants_apart limit h (Security reference isin kind) was apart = participants_stay h (Security reference isin kind) refl apart
-participants_apart limit h (Issue holding) was apart = participants_stay h (Issue holding) refl apart
-participants_apart limit h (Redeem holding) was apart = participants_stay h (Redeem holding) refl apart
+participants_apart limit h (Issue movement) was apart = participants_stay h (Issue movement) refl apart
+participants_apart limit h (Redeem movement) was apart = participants_stay h (Redeem movement) refl apart
 participants_apart limit h (PayIn payment) was apart = participants_stay h (PayIn payment) refl apart
 participants_apart limit h (PayOut payment) was apart = participants_stay h (PayOut payment) refl apart
 participants_apart limit h (Instruct sender instruction) was apart = participants_stay h (Instruct sender instruction) refl apart
@@ -282,8 +282,8 @@ abbrev IsRegistered : List Entry → Entry → Type 0
 IsRegistered h (Participant reference bic) = Unit {0}
 IsRegistered h (Account reference bic account) = Unit {0}
 IsRegistered h (Security reference isin kind) = Unit {0}
-IsRegistered h (Issue holding) = In (accounts_of h) holding.account
-IsRegistered h (Redeem holding) = In (accounts_of h) holding.account
+IsRegistered h (Issue movement) = In (accounts_of h) movement.account
+IsRegistered h (Redeem movement) = In (accounts_of h) movement.account
 IsRegistered h (PayIn payment) = In (participants_of h) payment.bic
 IsRegistered h (PayOut payment) = In (participants_of h) payment.bic
 IsRegistered h (Instruct sender instruction) = In (accounts_of h) instruction.account × In (participants_of h) sender
@@ -352,11 +352,11 @@ module _ (limit : ℕ) (h : List Entry) (was : WasAccepted limit h) where
   participants_once : (x : List ℕ) → In (participants_of h) x → Once x (participants_of h)
   participants_once x i = once_from x (participants_of h) (accepted_all limit (λ z. Apart (participants_of z)) tt (participants_apart limit) h was) i
 
-  issued_once : (isin : List ℕ) (e : Entry) → IsRegistered h e → sum_by (λ a. issued_by (holding_on a isin) e) (accounts_of h) ≡ issued_by (holding_of isin) e
+  issued_once : (isin : List ℕ) (e : Entry) → IsRegistered h e → sum_by (λ a. issued_by (movement_on a isin) e) (accounts_of h) ≡ issued_by (movement_of isin) e
   issued_once isin (Participant reference bic) r = sum_zero (λ a. 0) (accounts_of h) (λ a i. refl)
   issued_once isin (Account reference bic account) r = sum_zero (λ a. 0) (accounts_of h) (λ a i. refl)
   issued_once isin (Security reference i kind) r = sum_zero (λ a. 0) (accounts_of h) (λ a i. refl)
-  issued_once isin (Issue x) r = sum_once x.account (holding_of isin x) (accounts_of h) (accounts_once x.account r)
+  issued_once isin (Issue x) r = sum_once x.account (movement_of isin x) (accounts_of h) (accounts_once x.account r)
   issued_once isin (Redeem x) r = sum_zero (λ a. 0) (accounts_of h) (λ a i. refl)
   issued_once isin (PayIn x) r = sum_zero (λ a. 0) (accounts_of h) (λ a i. refl)
   issued_once isin (PayOut x) r = sum_zero (λ a. 0) (accounts_of h) (λ a i. refl)
@@ -364,12 +364,12 @@ module _ (limit : ℕ) (h : List Entry) (was : WasAccepted limit h) where
   issued_once isin (Cancel sender order) r = sum_zero (λ a. 0) (accounts_of h) (λ a i. refl)
   issued_once isin (Run reference day) r = sum_zero (λ a. 0) (accounts_of h) (λ a i. refl)
 
-  redeemed_once : (isin : List ℕ) (e : Entry) → IsRegistered h e → sum_by (λ a. redeemed_by (holding_on a isin) e) (accounts_of h) ≡ redeemed_by (holding_of isin) e
+  redeemed_once : (isin : List ℕ) (e : Entry) → IsRegistered h e → sum_by (λ a. redeemed_by (movement_on a isin) e) (accounts_of h) ≡ redeemed_by (movement_of isin) e
   redeemed_once isin (Participant reference bic) r = sum_zero (λ a. 0) (accounts_of h) (λ a i. refl)
   redeemed_once isin (Account reference bic account) r = sum_zero (λ a. 0) (accounts_of h) (λ a i. refl)
   redeemed_once isin (Security reference i kind) r = sum_zero (λ a. 0) (accounts_of h) (λ a i. refl)
   redeemed_once isin (Issue x) r = sum_zero (λ a. 0) (accounts_of h) (λ a i. refl)
-  redeemed_once isin (Redeem x) r = sum_once x.account (holding_of isin x) (accounts_of h) (accounts_once x.account r)
+  redeemed_once isin (Redeem x) r = sum_once x.account (movement_of isin x) (accounts_of h) (accounts_once x.account r)
   redeemed_once isin (PayIn x) r = sum_zero (λ a. 0) (accounts_of h) (λ a i. refl)
   redeemed_once isin (PayOut x) r = sum_zero (λ a. 0) (accounts_of h) (λ a i. refl)
   redeemed_once isin (Instruct sender instruction) r = sum_zero (λ a. 0) (accounts_of h) (λ a i. refl)
@@ -403,11 +403,11 @@ module _ (limit : ℕ) (h : List Entry) (was : WasAccepted limit h) where
   member_registered : (e : Entry) → In h e → IsRegistered h e
   member_registered e i = let n = number_of_member h e i in registered limit h was n.0 e n.1
 
-  all_issued : (isin : List ℕ) → sum_by (λ a. sum_by (issued_by (holding_on a isin)) h) (accounts_of h) ≡ issued h isin
-  all_issued isin = sum_swap (λ a. issued_by (holding_on a isin)) (accounts_of h) h ∙ sum_same (λ e. sum_by (λ a. issued_by (holding_on a isin) e) (accounts_of h)) (issued_by (holding_of isin)) h (λ e i. issued_once isin e (member_registered e i))
+  all_issued : (isin : List ℕ) → sum_by (λ a. sum_by (issued_by (movement_on a isin)) h) (accounts_of h) ≡ issued h isin
+  all_issued isin = sum_swap (λ a. issued_by (movement_on a isin)) (accounts_of h) h ∙ sum_same (λ e. sum_by (λ a. issued_by (movement_on a isin) e) (accounts_of h)) (issued_by (movement_of isin)) h (λ e i. issued_once isin e (member_registered e i))
 
-  all_redeemed : (isin : List ℕ) → sum_by (λ a. sum_by (redeemed_by (holding_on a isin)) h) (accounts_of h) ≡ redeemed h isin
-  all_redeemed isin = sum_swap (λ a. redeemed_by (holding_on a isin)) (accounts_of h) h ∙ sum_same (λ e. sum_by (λ a. redeemed_by (holding_on a isin) e) (accounts_of h)) (redeemed_by (holding_of isin)) h (λ e i. redeemed_once isin e (member_registered e i))
+  all_redeemed : (isin : List ℕ) → sum_by (λ a. sum_by (redeemed_by (movement_on a isin)) h) (accounts_of h) ≡ redeemed h isin
+  all_redeemed isin = sum_swap (λ a. redeemed_by (movement_on a isin)) (accounts_of h) h ∙ sum_same (λ e. sum_by (λ a. redeemed_by (movement_on a isin) e) (accounts_of h)) (redeemed_by (movement_of isin)) h (λ e i. redeemed_once isin e (member_registered e i))
 
   all_paid_in : (ccy : Ccy) → sum_by (λ b. sum_by (paid_in_by (payment_of b ccy)) h) (participants_of h) ≡ paid_in h ccy
   all_paid_in ccy = sum_swap (λ b. paid_in_by (payment_of b ccy)) (participants_of h) h ∙ sum_same (λ e. sum_by (λ b. paid_in_by (payment_of b ccy) e) (participants_of h)) (paid_in_by (payment_in ccy)) h (λ e i. paid_in_once ccy e (member_registered e i))
@@ -501,8 +501,8 @@ module _ (limit : ℕ) (h : List Entry) (was : WasAccepted limit h) where
   pub paired_add_up : (ps : List Pair) (settled : List Settled) (isin : List ℕ) → IsPairing h ps → ((s : Settled) → In settled s → Contains ps s.pair)
       → sum_by (λ a. credits h settled a isin) (accounts_of h) + redeemed h isin ≡ sum_by (λ a. debits h settled a isin) (accounts_of h) + issued h isin
   paired_add_up ps settled isin pairing inside =
-      let come = sum_add (λ a. sum_by (issued_by (holding_on a isin)) h) (λ a. sum_by (λ s. quantity_on a isin (receipt_of h s.pair)) settled) (accounts_of h) in
-      let gone = sum_add (λ a. sum_by (redeemed_by (holding_on a isin)) h) (λ a. sum_by (λ s. quantity_on a isin (delivery_of h s.pair)) settled) (accounts_of h) in
+      let come = sum_add (λ a. sum_by (issued_by (movement_on a isin)) h) (λ a. sum_by (λ s. quantity_on a isin (receipt_of h s.pair)) settled) (accounts_of h) in
+      let gone = sum_add (λ a. sum_by (redeemed_by (movement_on a isin)) h) (λ a. sum_by (λ s. quantity_on a isin (delivery_of h s.pair)) settled) (accounts_of h) in
       let received = sum_swap (λ a s. quantity_on a isin (receipt_of h s.pair)) (accounts_of h) settled in
       let delivered = sum_swap (λ a s. quantity_on a isin (delivery_of h s.pair)) (accounts_of h) settled in
       let same = sum_same (λ s. sum_by (λ a. quantity_on a isin (receipt_of h s.pair)) (accounts_of h)) (λ s. sum_by (λ a. quantity_on a isin (delivery_of h s.pair)) (accounts_of h)) settled
@@ -521,8 +521,8 @@ module _ (limit : ℕ) (h : List Entry) (was : WasAccepted limit h) where
 
     pub securities_add_up : (isin : List ℕ) → sum_by (λ a. credits h settled a isin) (accounts_of h) + redeemed h isin ≡ sum_by (λ a. debits h settled a isin) (accounts_of h) + issued h isin
     securities_add_up isin =
-        let come = sum_add (λ a. sum_by (issued_by (holding_on a isin)) h) (λ a. sum_by (λ s. quantity_on a isin (receipt_of h s.pair)) settled) (accounts_of h) in
-        let gone = sum_add (λ a. sum_by (redeemed_by (holding_on a isin)) h) (λ a. sum_by (λ s. quantity_on a isin (delivery_of h s.pair)) settled) (accounts_of h) in
+        let come = sum_add (λ a. sum_by (issued_by (movement_on a isin)) h) (λ a. sum_by (λ s. quantity_on a isin (receipt_of h s.pair)) settled) (accounts_of h) in
+        let gone = sum_add (λ a. sum_by (redeemed_by (movement_on a isin)) h) (λ a. sum_by (λ s. quantity_on a isin (delivery_of h s.pair)) settled) (accounts_of h) in
         let received = sum_swap (λ a s. quantity_on a isin (receipt_of h s.pair)) (accounts_of h) settled in
         let delivered = sum_swap (λ a s. quantity_on a isin (delivery_of h s.pair)) (accounts_of h) settled in
         let same = sum_same (λ s. sum_by (λ a. quantity_on a isin (receipt_of h s.pair)) (accounts_of h)) (λ s. sum_by (λ a. quantity_on a isin (delivery_of h s.pair)) (accounts_of h)) settled (λ s i. same_moved s.pair (settled_sides s i) isin) in

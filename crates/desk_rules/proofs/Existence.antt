@@ -182,8 +182,8 @@ run_instructs : (e : Entry) (day : ℕ) (i : Instructed) → run_day e ≡ Some 
 run_instructs (Participant reference bic) day i r s = cc
 run_instructs (Account reference bic account) day i r s = cc
 run_instructs (Security reference isin kind) day i r s = cc
-run_instructs (Issue holding) day i r s = cc
-run_instructs (Redeem holding) day i r s = cc
+run_instructs (Issue movement) day i r s = cc
+run_instructs (Redeem movement) day i r s = cc
 run_instructs (PayIn payment) day i r s = cc
 run_instructs (PayOut payment) day i r s = cc
 run_instructs (Instruct sender instruction) day i r s = cc

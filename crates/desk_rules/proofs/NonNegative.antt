@@ -12,7 +12,7 @@ use Rattle.desk_rules.specs.declared.pair.Pair.{Pair}
 use Rattle.desk_rules.specs.declared.pair.Settled.{Settled}
 use Rattle.desk_rules.specs.History.{entry_at, before, run_day}
 use Rattle.desk_rules.specs.Pairing.{IsMate, IsPairing}
-use Rattle.desk_rules.specs.Balances.{same_ccy, holding_on, redeemed_by, credits, debits, payment_of, paid_out_by, cash_credits, cash_debits}
+use Rattle.desk_rules.specs.Balances.{same_ccy, movement_on, redeemed_by, credits, debits, payment_of, paid_out_by, cash_credits, cash_debits}
 use Rattle.desk_rules.specs.Covered.{is_covered}
 use Rattle.desk_rules.specs.Settlement.{is_by, day_of, precedes, settled_before, Settles, IsSettlement}
 use Rattle.desk_rules.specs.Verdict.{Books, WasAccepted}
@@ -33,7 +33,7 @@ bytes_same a b e = let d = bytes_eq-Decides a b in d.0 e
 -- What an accepted entry takes is there.
 
 pub entry_securities : (b : Books) (e : Entry) → Passes b e → AreNonNegative b.history b.settled → (account isin : List ℕ)
-    → debits b.history b.settled account isin + redeemed_by (holding_on account isin) e ≤ credits b.history b.settled account isin
+    → debits b.history b.settled account isin + redeemed_by (movement_on account isin) e ≤ credits b.history b.settled account isin
 entry_securities b (Participant reference bic) p is account isin = let below = is.positions account isin in omega arith
 entry_securities b (Account reference bic a) p is account isin = let below = is.positions account isin in omega arith
 entry_securities b (Security reference i kind) p is account isin = let below = is.positions account isin in omega arith
@@ -63,12 +63,12 @@ entry_cash b (Cancel sender order) p is bic ccy = let below = is.cash bic ccy in
 entry_cash b (Run reference day) p is bic ccy = let below = is.cash bic ccy in omega arith
 
 -- a run takes nothing itself
-run_takes : (e : Entry) (day : ℕ) → run_day e ≡ Some day → ((account isin : List ℕ) → redeemed_by (holding_on account isin) e ≡ 0) × ((bic : List ℕ) (ccy : Ccy) → paid_out_by (payment_of bic ccy) e ≡ 0)
+run_takes : (e : Entry) (day : ℕ) → run_day e ≡ Some day → ((account isin : List ℕ) → redeemed_by (movement_on account isin) e ≡ 0) × ((bic : List ℕ) (ccy : Ccy) → paid_out_by (payment_of bic ccy) e ≡ 0)
 run_takes (Participant reference bic) day is = absurd (cc)
 run_takes (Account reference bic account) day is = absurd (cc)
 run_takes (Security reference isin kind) day is = absurd (cc)
-run_takes (Issue holding) day is = absurd (cc)
-run_takes (Redeem holding) day is = absurd (cc)
+run_takes (Issue movement) day is = absurd (cc)
+run_takes (Redeem movement) day is = absurd (cc)
 run_takes (PayIn payment) day is = absurd (cc)
 run_takes (PayOut payment) day is = absurd (cc)
 run_takes (Instruct sender instruction) day is = absurd (cc)
@@ -77,7 +77,7 @@ run_takes (Run reference date) day is = (λ account isin. refl, λ bic ccy. refl
 
 -- an entry that takes no more than is there
 grown_non_negative : (h : List Entry) (e : Entry) (settled : List Settled) → ((s : Settled) → In settled s → IsIn h s.pair)
-    → ((account isin : List ℕ) → debits h settled account isin + redeemed_by (holding_on account isin) e ≤ credits h settled account isin)
+    → ((account isin : List ℕ) → debits h settled account isin + redeemed_by (movement_on account isin) e ≤ credits h settled account isin)
     → ((bic : List ℕ) (ccy : Ccy) → cash_debits h settled bic ccy + paid_out_by (payment_of bic ccy) e ≤ cash_credits h settled bic ccy)
     → AreNonNegative (h ++ e ∷ []) settled
 grown_non_negative h e settled within securities cash = record {

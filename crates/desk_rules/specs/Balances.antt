@@ -5,7 +5,7 @@ use Rattle.desk_codes.specs.declared.currency.Ccy.{Ccy}
 use Rattle.desk_codes.specs.Currency.{letters_of}
 use Rattle.desk_msg.specs.declared.instruction.Cash.{Cash}
 use Rattle.desk_msg.specs.MessageType.{is_delivery}
-use Rattle.desk_rules.specs.declared.entry.Holding.{Holding}
+use Rattle.desk_rules.specs.declared.entry.Movement.{Movement}
 use Rattle.desk_rules.specs.declared.entry.Payment.{Payment}
 use Rattle.desk_rules.specs.declared.entry.Entry.{Entry}
 use Rattle.desk_rules.specs.declared.entry.Entry.TheVariants.{Participant, Account, Security, Issue, Redeem, PayIn, PayOut, Instruct, Cancel, Run}
@@ -40,32 +40,32 @@ receipt_of history p = instruction_at history (receiver_of history p)
 abbrev pub quantity_if : Bool → ℕ → ℕ
 quantity_if test quantity = if test then quantity else 0
 
--- a holding's quantity of the security, and so much of it as is on the account
-abbrev pub holding_of : List ℕ → Holding → ℕ
-holding_of isin h = quantity_if (bytes_eq h.isin isin) h.quantity
+-- a movement's quantity of the security, and so much of it as is on the account
+abbrev pub movement_of : List ℕ → Movement → ℕ
+movement_of isin h = quantity_if (bytes_eq h.isin isin) h.quantity
 
-abbrev pub holding_on : List ℕ → List ℕ → Holding → ℕ
-holding_on account isin h = quantity_if (bytes_eq h.account account) (holding_of isin h)
+abbrev pub movement_on : List ℕ → List ℕ → Movement → ℕ
+movement_on account isin h = quantity_if (bytes_eq h.account account) (movement_of isin h)
 
 -- what an entry issues of a security, and redeems
-abbrev pub issued_by : (Holding → ℕ) → Entry → ℕ
+abbrev pub issued_by : (Movement → ℕ) → Entry → ℕ
 issued_by share (Participant reference bic) = 0
 issued_by share (Account reference bic account) = 0
 issued_by share (Security reference isin kind) = 0
-issued_by share (Issue holding) = share holding
-issued_by share (Redeem holding) = 0
+issued_by share (Issue movement) = share movement
+issued_by share (Redeem movement) = 0
 issued_by share (PayIn payment) = 0
 issued_by share (PayOut payment) = 0
 issued_by share (Instruct sender instruction) = 0
 issued_by share (Cancel sender order) = 0
 issued_by share (Run reference day) = 0
 
-abbrev pub redeemed_by : (Holding → ℕ) → Entry → ℕ
+abbrev pub redeemed_by : (Movement → ℕ) → Entry → ℕ
 redeemed_by share (Participant reference bic) = 0
 redeemed_by share (Account reference bic account) = 0
 redeemed_by share (Security reference isin kind) = 0
-redeemed_by share (Issue holding) = 0
-redeemed_by share (Redeem holding) = share holding
+redeemed_by share (Issue movement) = 0
+redeemed_by share (Redeem movement) = share movement
 redeemed_by share (PayIn payment) = 0
 redeemed_by share (PayOut payment) = 0
 redeemed_by share (Instruct sender instruction) = 0
@@ -74,10 +74,10 @@ redeemed_by share (Run reference day) = 0
 
 -- what was issued of a security, and redeemed
 abbrev pub issued : List Entry → List ℕ → ℕ
-issued history isin = sum_by (issued_by (holding_of isin)) history
+issued history isin = sum_by (issued_by (movement_of isin)) history
 
 abbrev pub redeemed : List Entry → List ℕ → ℕ
-redeemed history isin = sum_by (redeemed_by (holding_of isin)) history
+redeemed history isin = sum_by (redeemed_by (movement_of isin)) history
 
 -- what an instruction moves of a security on an account
 abbrev pub quantity_on : List ℕ → List ℕ → Option Instructed → ℕ
@@ -87,12 +87,12 @@ quantity_on account isin (Some i) = quantity_if (bytes_eq i.instruction.account 
 -- what comes on the account: what is issued to it, and what it receives
 abbrev pub credits : List Entry → List Settled → List ℕ → List ℕ → ℕ
 credits history settled account isin =
-    sum_by (issued_by (holding_on account isin)) history + sum_by (λ s. quantity_on account isin (receipt_of history s.pair)) settled
+    sum_by (issued_by (movement_on account isin)) history + sum_by (λ s. quantity_on account isin (receipt_of history s.pair)) settled
 
 -- what goes from the account: what is redeemed, and what it delivers
 abbrev pub debits : List Entry → List Settled → List ℕ → List ℕ → ℕ
 debits history settled account isin =
-    sum_by (redeemed_by (holding_on account isin)) history + sum_by (λ s. quantity_on account isin (delivery_of history s.pair)) settled
+    sum_by (redeemed_by (movement_on account isin)) history + sum_by (λ s. quantity_on account isin (delivery_of history s.pair)) settled
 
 -- Cash of a participant in a currency.
 
@@ -106,8 +106,8 @@ abbrev pub paid_in_by : (Payment → ℕ) → Entry → ℕ
 paid_in_by share (Participant reference bic) = 0
 paid_in_by share (Account reference bic account) = 0
 paid_in_by share (Security reference isin kind) = 0
-paid_in_by share (Issue holding) = 0
-paid_in_by share (Redeem holding) = 0
+paid_in_by share (Issue movement) = 0
+paid_in_by share (Redeem movement) = 0
 paid_in_by share (PayIn payment) = share payment
 paid_in_by share (PayOut payment) = 0
 paid_in_by share (Instruct sender instruction) = 0
@@ -118,8 +118,8 @@ abbrev pub paid_out_by : (Payment → ℕ) → Entry → ℕ
 paid_out_by share (Participant reference bic) = 0
 paid_out_by share (Account reference bic account) = 0
 paid_out_by share (Security reference isin kind) = 0
-paid_out_by share (Issue holding) = 0
-paid_out_by share (Redeem holding) = 0
+paid_out_by share (Issue movement) = 0
+paid_out_by share (Redeem movement) = 0
 paid_out_by share (PayIn payment) = 0
 paid_out_by share (PayOut payment) = share payment
 paid_out_by share (Instruct sender instruction) = 0

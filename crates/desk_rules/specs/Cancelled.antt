@@ -11,8 +11,8 @@ abbrev pub cancels : Entry → Instructed → Bool
 cancels (Participant reference bic) i = false
 cancels (Account reference bic account) i = false
 cancels (Security reference isin kind) i = false
-cancels (Issue holding) i = false
-cancels (Redeem holding) i = false
+cancels (Issue movement) i = false
+cancels (Redeem movement) i = false
 cancels (PayIn payment) i = false
 cancels (PayOut payment) i = false
 cancels (Instruct sender instruction) i = false

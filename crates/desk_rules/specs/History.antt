@@ -21,8 +21,8 @@ abbrev pub instructed : Entry → Option Instructed
 instructed (Participant reference bic) = None
 instructed (Account reference bic account) = None
 instructed (Security reference isin kind) = None
-instructed (Issue holding) = None
-instructed (Redeem holding) = None
+instructed (Issue movement) = None
+instructed (Redeem movement) = None
 instructed (PayIn payment) = None
 instructed (PayOut payment) = None
 instructed (Instruct sender instruction) = Some (record { sender = sender; instruction = instruction })
@@ -38,8 +38,8 @@ abbrev pub run_day : Entry → Option ℕ
 run_day (Participant reference bic) = None
 run_day (Account reference bic account) = None
 run_day (Security reference isin kind) = None
-run_day (Issue holding) = None
-run_day (Redeem holding) = None
+run_day (Issue movement) = None
+run_day (Redeem movement) = None
 run_day (PayIn payment) = None
 run_day (PayOut payment) = None
 run_day (Instruct sender instruction) = None
@@ -51,8 +51,8 @@ abbrev pub sender_of : Entry → Sender
 sender_of (Participant reference bic) = Operator
 sender_of (Account reference bic account) = Operator
 sender_of (Security reference isin kind) = Operator
-sender_of (Issue holding) = Operator
-sender_of (Redeem holding) = Operator
+sender_of (Issue movement) = Operator
+sender_of (Redeem movement) = Operator
 sender_of (PayIn payment) = Operator
 sender_of (PayOut payment) = Operator
 sender_of (Instruct sender instruction) = FromParticipant sender
@@ -63,8 +63,8 @@ abbrev pub reference_of : Entry → List ℕ
 reference_of (Participant reference bic) = reference
 reference_of (Account reference bic account) = reference
 reference_of (Security reference isin kind) = reference
-reference_of (Issue holding) = holding.reference
-reference_of (Redeem holding) = holding.reference
+reference_of (Issue movement) = movement.reference
+reference_of (Redeem movement) = movement.reference
 reference_of (PayIn payment) = payment.reference
 reference_of (PayOut payment) = payment.reference
 reference_of (Instruct sender instruction) = instruction.reference

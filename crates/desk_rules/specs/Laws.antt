@@ -11,8 +11,8 @@ abbrev pub account_by : Entry → Option (List ℕ)
 account_by (Participant reference bic) = None
 account_by (Account reference bic account) = Some account
 account_by (Security reference isin kind) = None
-account_by (Issue holding) = None
-account_by (Redeem holding) = None
+account_by (Issue movement) = None
+account_by (Redeem movement) = None
 account_by (PayIn payment) = None
 account_by (PayOut payment) = None
 account_by (Instruct sender instruction) = None
@@ -23,8 +23,8 @@ abbrev pub participant_by : Entry → Option (List ℕ)
 participant_by (Participant reference bic) = Some bic
 participant_by (Account reference bic account) = None
 participant_by (Security reference isin kind) = None
-participant_by (Issue holding) = None
-participant_by (Redeem holding) = None
+participant_by (Issue movement) = None
+participant_by (Redeem movement) = None
 participant_by (PayIn payment) = None
 participant_by (PayOut payment) = None
 participant_by (Instruct sender instruction) = None

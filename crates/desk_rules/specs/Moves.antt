@@ -13,7 +13,7 @@ use Rattle.desk_rules.specs.declared.entry.Entry.{Entry}
 use Rattle.desk_rules.specs.declared.entry.Entry.TheVariants.{Run}
 use Rattle.desk_rules.specs.declared.reply.Sent.{Sent}
 use Rattle.desk_rules.specs.History.{Instructed, entry_at, instruction_at}
-use Rattle.desk_rules.specs.Balances.{same_ccy, quantity_if, holding_on, issued_by, redeemed_by, credits, debits, payment_of, paid_in_by, paid_out_by, cash_credits, cash_debits}
+use Rattle.desk_rules.specs.Balances.{same_ccy, quantity_if, movement_on, issued_by, redeemed_by, credits, debits, payment_of, paid_in_by, paid_out_by, cash_credits, cash_debits}
 use Rattle.desk_rules.specs.Verdict.{Books}
 
 -- a message is of one of the types 544 to 547
@@ -70,8 +70,8 @@ cash_taken moves bic ccy = sum_by (λ move. quantity_if (not (is_delivery move.m
 -- Moves account for all balances: to what the operator books (issues, redemptions, what is paid in and paid out) they
 -- bring and take the whole change of each account and of each participant's cash, and nothing else does.
 pub record AccountFor (books : Books) (moves : List Move) : Type 0 where
-  pub credited : (account isin : List ℕ) → credits books.history books.settled account isin ≡ sum_by (issued_by (holding_on account isin)) books.history + brought moves account isin
-  pub debited : (account isin : List ℕ) → debits books.history books.settled account isin ≡ sum_by (redeemed_by (holding_on account isin)) books.history + taken moves account isin
+  pub credited : (account isin : List ℕ) → credits books.history books.settled account isin ≡ sum_by (issued_by (movement_on account isin)) books.history + brought moves account isin
+  pub debited : (account isin : List ℕ) → debits books.history books.settled account isin ≡ sum_by (redeemed_by (movement_on account isin)) books.history + taken moves account isin
   pub paid : (bic : List ℕ) (ccy : Ccy) → cash_credits books.history books.settled bic ccy ≡ sum_by (paid_in_by (payment_of bic ccy)) books.history + cash_brought moves bic ccy
   pub paying : (bic : List ℕ) (ccy : Ccy) → cash_debits books.history books.settled bic ccy ≡ sum_by (paid_out_by (payment_of bic ccy)) books.history + cash_taken moves bic ccy
 

@@ -53,8 +53,8 @@ abbrev pub message_reply : Books → ℕ → Entry → Reply
 message_reply books n (Participant reference bic) = refused_question 17
 message_reply books n (Account reference bic account) = refused_question 17
 message_reply books n (Security reference isin kind) = refused_question 17
-message_reply books n (Issue holding) = refused_question 17
-message_reply books n (Redeem holding) = refused_question 17
+message_reply books n (Issue movement) = refused_question 17
+message_reply books n (Redeem movement) = refused_question 17
 message_reply books n (PayIn payment) = refused_question 17
 message_reply books n (PayOut payment) = refused_question 17
 message_reply books n (Instruct sender i) = instruction_reply books n i (state_of books n)

@@ -51,8 +51,8 @@ abbrev pub adds_participant : List ℕ → Entry → Bool
 adds_participant bic (Participant reference b) = bytes_eq b bic
 adds_participant bic (Account reference b account) = false
 adds_participant bic (Security reference isin kind) = false
-adds_participant bic (Issue holding) = false
-adds_participant bic (Redeem holding) = false
+adds_participant bic (Issue movement) = false
+adds_participant bic (Redeem movement) = false
 adds_participant bic (PayIn payment) = false
 adds_participant bic (PayOut payment) = false
 adds_participant bic (Instruct sender instruction) = false
@@ -67,8 +67,8 @@ abbrev pub owner_by : List ℕ → Entry → Option (List ℕ)
 owner_by account (Participant reference b) = None
 owner_by account (Account reference b a) = if bytes_eq a account then Some b else None
 owner_by account (Security reference isin kind) = None
-owner_by account (Issue holding) = None
-owner_by account (Redeem holding) = None
+owner_by account (Issue movement) = None
+owner_by account (Redeem movement) = None
 owner_by account (PayIn payment) = None
 owner_by account (PayOut payment) = None
 owner_by account (Instruct sender instruction) = None
@@ -80,8 +80,8 @@ abbrev pub kind_by : List ℕ → Entry → Option Kind
 kind_by isin (Participant reference b) = None
 kind_by isin (Account reference b a) = None
 kind_by isin (Security reference i kind) = if bytes_eq i isin then Some kind else None
-kind_by isin (Issue holding) = None
-kind_by isin (Redeem holding) = None
+kind_by isin (Issue movement) = None
+kind_by isin (Redeem movement) = None
 kind_by isin (PayIn payment) = None
 kind_by isin (PayOut payment) = None
 kind_by isin (Instruct sender instruction) = None

@@ -1,8 +1,12 @@
 //! What the desk's history is made of.
-ghost use Rattle.std.specs.Prelude.{◌<◌, ◌≤◌};
+ghost use Rattle.std.specs.Prelude.{◌≡◌, ◌<◌, ◌≤◌};
+ghost use Rattle.desk_rules.specs.History.{instructed};
 
 use desk_codes::{AccountId, Bic, Ccy, Day, Isin, Reference};
 use desk_msg::{CancelOrder, Cash, Instruction, Kind, Mt};
+
+/// The most of a security that one command puts on an account or takes off it, in units or by face amount.
+pub const MOST_QUANTITY: u64 = 99_999_999_999_999;
 
 /// Who a command is from. All commands of the operator share one sender.
 #[derive(Clone, Copy, Debug, PartialEq, Eq)]
@@ -21,11 +25,11 @@ pub struct Instructed {
 
 /// So much of a security put on an account, or taken off it.
 #[derive(Clone, Copy, Debug, PartialEq, Eq)]
-pub struct Holding {
+pub struct Movement {
     pub reference: Reference,
     pub account: AccountId,
     pub isin: Isin,
-    /// 1 to 99,999,999,999,999, in units or by face amount
+    /// 1 to `MOST_QUANTITY`
     pub quantity: u64,
     ghost some: { 0 < quantity },
     ghost within: { quantity ≤ 99_999_999_999_999 },
@@ -64,9 +68,9 @@ pub enum Entry {
         kind: Kind,
     },
     /// A security issued to an account
-    Issue(Holding),
+    Issue(Movement),
     /// A security redeemed from an account
-    Redeem(Holding),
+    Redeem(Movement),
     /// Cash paid in
     PayIn(Payment),
     /// Cash paid out
@@ -86,4 +90,22 @@ pub enum Entry {
         reference: Reference,
         day: Day,
     },
+}
+
+impl Entry {
+    /// What it instructs, and who; None where it is no instruction.
+    pub fn instructed(&self) -> Option<Instructed>
+        ensures { result ≡ instructed self.now }
+    {
+        match self {
+            Entry::Instruct {
+                sender,
+                instruction,
+            } => Some(Instructed {
+                sender: *sender,
+                instruction: *instruction,
+            }),
+            _ => None,
+        }
+    }
 }

@@ -16,7 +16,7 @@ mod reply;
 mod same;
 mod verdict;
 
-pub use entry::{Entry, Holding, Instructed, Payment, Sender};
+pub use entry::{Entry, Instructed, MOST_QUANTITY, Movement, Payment, Sender};
 pub use laws::{
     accepted_fronts, accepted_once, adds_up, confirmed_changes, fronts, never_negative,
     one_content, one_pair_each, one_pairing, one_settlement, one_verdict, opposites, sent_for_good,

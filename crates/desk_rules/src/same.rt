@@ -1,10 +1,10 @@
 //! Whether two values have the same content.
 ghost use Rattle.std.specs.Prelude.{◌≡◌, ◌↔◌, IsTrue};
 
-use crate::entry::{Entry, Holding, Payment};
+use crate::entry::{Entry, Movement, Payment};
 use desk_msg::{CancelOrder, Cash, Instruction};
 
-fn same_holding(a: Holding, b: Holding) -> bool
+fn same_movement(a: Movement, b: Movement) -> bool
     ensures { IsTrue result ↔ (a ≡ b) }
 {
     if a.reference != b.reference {
@@ -135,8 +135,8 @@ pub fn same_entry(a: &Entry, b: &Entry) -> bool
                 kind: k,
             },
         ) => { reference == r && isin == x && kind == k }
-        (Entry::Issue(a), Entry::Issue(b)) => same_holding(*a, *b),
-        (Entry::Redeem(a), Entry::Redeem(b)) => same_holding(*a, *b),
+        (Entry::Issue(a), Entry::Issue(b)) => same_movement(*a, *b),
+        (Entry::Redeem(a), Entry::Redeem(b)) => same_movement(*a, *b),
         (Entry::PayIn(a), Entry::PayIn(b)) => same_payment(*a, *b),
         (Entry::PayOut(a), Entry::PayOut(b)) => same_payment(*a, *b),
         (

@@ -10,7 +10,7 @@ use Rattle.desk_msg.specs.declared.instruction.Cash.{Cash}
 use Rattle.desk_msg.specs.declared.instruction.Kind.TheVariants.{Unit as Units}
 use Rattle.desk_msg.specs.declared.instruction.Instruction.{Instruction}
 use Rattle.desk_msg.specs.declared.instruction.CancelOrder.{CancelOrder}
-use Rattle.desk_rules.specs.declared.entry.Holding.{Holding}
+use Rattle.desk_rules.specs.declared.entry.Movement.{Movement}
 use Rattle.desk_rules.specs.declared.entry.Payment.{Payment}
 use Rattle.desk_rules.specs.declared.entry.Entry.{Entry}
 use Rattle.desk_rules.specs.declared.entry.Entry.TheVariants.{Participant, Account, Security, Issue, PayIn, Instruct, Cancel, Run}
@@ -82,8 +82,8 @@ abbrev pub larger : Instruction
 larger = record delivery { quantity = 401; some = lit< tt; short = short_larger }
 
 -- so much of the security on an account, and so much of a participant's cash
-abbrev pub holding : List ℕ → List ℕ → (quantity : ℕ) → 0 < quantity → quantity ≤ 99_999_999_999_999 → Holding
-holding reference account quantity some within = record { reference = reference; account = account; isin = share; quantity = quantity; some = some; within = within }
+abbrev pub movement : List ℕ → List ℕ → (quantity : ℕ) → 0 < quantity → quantity ≤ 99_999_999_999_999 → Movement
+movement reference account quantity some within = record { reference = reference; account = account; isin = share; quantity = quantity; some = some; within = within }
 
 abbrev pub payment : List ℕ → List ℕ → (amount : ℕ) → 0 < amount → amount ≤ 999_999_999_999_999_999 → Payment
 payment reference bic amount some within = record { reference = reference; bic = bic; ccy = Eur; amount = amount; some = some; within = within }
@@ -95,7 +95,7 @@ history =
     ∷ Account (codes "C1") alpha a_1
     ∷ Account (codes "C2") beta b_1
     ∷ Security (codes "S1") share Units
-    ∷ Issue (holding (codes "I1") a_1 1000 (lit< tt) (lit≤ tt))
+    ∷ Issue (movement (codes "I1") a_1 1000 (lit< tt) (lit≤ tt))
     ∷ PayIn (payment (codes "M1") beta 100_050 (lit< tt) (lit≤ tt))
     ∷ Instruct alpha delivery
     ∷ Instruct beta receipt

@@ -7,7 +7,7 @@ use desk_rules::plain::{
     before, cash_credits, cash_debits, credits, debits, is_cancelled, issued, lack_of, paid_in,
     paid_out, pairing_of, redeemed, settlement_of,
 };
-use desk_rules::{Entry, Holding, Lack, Pair, Payment, Settled};
+use desk_rules::{Entry, Lack, Movement, Pair, Payment, Settled};
 use std::alloc::{AllocError, Global};
 use std::test::Fail;
 
@@ -54,11 +54,11 @@ fn security(key: &str) -> Result<Entry, Fail> {
     })
 }
 
-fn holding(key: &str, name: &str, quantity: u64) -> Result<Holding, Fail>
+fn movement(key: &str, name: &str, quantity: u64) -> Result<Movement, Fail>
     requires some { 0 < quantity }
     requires within { quantity ≤ 99_999_999_999_999 }
 {
-    Ok(Holding {
+    Ok(Movement {
         reference: reference(key)?,
         account: account(name)?,
         isin: isin()?,
@@ -181,7 +181,7 @@ fn base_with(alloc: Global, cash: u64) -> Result<Vec<Entry>, Fail>
     entries.push(new_account("C1", "ALPHDEFF", "A-1")?)?;
     entries.push(new_account("C2", "BETADEFF", "B-1")?)?;
     entries.push(security("S1")?)?;
-    entries.push(Entry::Issue(holding("I1", "A-1", 1000)?))?;
+    entries.push(Entry::Issue(movement("I1", "A-1", 1000)?))?;
     entries.push(Entry::PayIn(payment("M1", "BETADEFF", cash)?))?;
     Ok(entries)
 }
@@ -309,7 +309,7 @@ fn base_of_three(alloc: Global) -> Result<Vec<Entry>, Fail> {
     entries.push(new_account("C2", "BETADEFF", "B-1")?)?;
     entries.push(new_account("C3", "GAMMDEFF", "C-1")?)?;
     entries.push(security("S1")?)?;
-    entries.push(Entry::Issue(holding("I1", "A-1", 100)?))?;
+    entries.push(Entry::Issue(movement("I1", "A-1", 100)?))?;
     Ok(entries)
 }
 
@@ -423,8 +423,8 @@ fn waits_for_the_cash(rt: HostRuntime) -> Result<(), Fail> {
 fn counts_what_comes_and_goes(rt: HostRuntime) -> Result<(), Fail> {
     let alloc = rt.alloc();
     let mut entries = base(alloc)?;
-    entries.push(Entry::Issue(holding("I2", "B-1", 7)?))?;
-    entries.push(Entry::Redeem(holding("D1", "A-1", 300)?))?;
+    entries.push(Entry::Issue(movement("I2", "B-1", 7)?))?;
+    entries.push(Entry::Redeem(movement("D1", "A-1", 300)?))?;
     entries.push(Entry::PayIn(payment("M2", "ALPHDEFF", 5)?))?;
     entries.push(Entry::PayOut(payment("O1", "BETADEFF", 50)?))?;
     let isin = isin()?;

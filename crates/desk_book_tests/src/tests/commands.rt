@@ -2,7 +2,7 @@
 use desk_book::*;
 use desk_codes::{AccountId, Bic, Day, Isin, Reference};
 use desk_msg::Kind;
-use desk_rules::{Entry, Holding};
+use desk_rules::{Entry, Movement};
 use std::alloc::{AllocError, Global};
 use std::test::Fail;
 
@@ -63,7 +63,7 @@ fn commands(rt: HostRuntime) -> Result<(), Fail> {
     }
     let text =
         br#"{"op":"issue","ref":"X1","account":"A-1","isin":"DE0007164600","quantity":1000}"#;
-    let want = Entry::Issue(Holding {
+    let want = Entry::Issue(Movement {
         reference,
         account,
         isin,

@@ -9,7 +9,7 @@ use desk_book::{security_totals, totals_text};
 use desk_codes::{AccountId, Bic, Isin, Reference};
 use desk_msg::Kind;
 use desk_register::{Fault, ListRegister, Register, Stage};
-use desk_rules::{Entry, Holding, Reply, Text};
+use desk_rules::{Entry, Movement, Reply, Text};
 use std::alloc::Global;
 use std::process::Abort;
 use std::test::Fail;
@@ -34,18 +34,18 @@ fn issue(
     rt: &impl Abort,
     alloc: Global,
     register: &mut ListRegister,
-    holding: Holding,
+    movement: Movement,
 ) -> Result<(), Fault>
     requires stage { (view_of_lists register.old).stage ≡ Stage.Begun }
-    requires little { holding.quantity ≤ 1000 }
+    requires little { movement.quantity ≤ 1000 }
     ensures stage { OnOk result ((view_of_lists register.new).stage ≡ Stage.Begun) }
-    ensures added { OnOk result ((reply : ReplyValue) × ((view_of_lists register.new).content ≡ appended (Entry.Issue holding) reply (view_of_lists register.old).content)) }
+    ensures added { OnOk result ((reply : ReplyValue) × ((view_of_lists register.new).content ≡ appended (Entry.Issue movement) reply (view_of_lists register.old).content)) }
 {
-    let held = register.position(alloc, holding.account, holding.isin)?;
-    let outstanding = register.outstanding(alloc, holding.isin)?;
+    let held = register.position(alloc, movement.account, movement.isin)?;
+    let outstanding = register.outstanding(alloc, movement.isin)?;
     assert!(rt; held <= 10_000);
     assert!(rt; outstanding <= 10_000);
-    add(alloc, register, Entry::Issue(holding))
+    add(alloc, register, Entry::Issue(movement))
 }
 
 /// Two securities, registered against the order of their bytes and held on two accounts.
@@ -109,7 +109,7 @@ fn filled(rt: &impl Abort, alloc: Global, held: &Held) -> Result<ListRegister, F
         rt,
         alloc,
         &mut register,
-        Holding {
+        Movement {
             reference,
             account: held.first,
             isin: held.later,
@@ -120,7 +120,7 @@ fn filled(rt: &impl Abort, alloc: Global, held: &Held) -> Result<ListRegister, F
         rt,
         alloc,
         &mut register,
-        Holding {
+        Movement {
             reference,
             account: held.first,
             isin: held.earlier,
@@ -131,7 +131,7 @@ fn filled(rt: &impl Abort, alloc: Global, held: &Held) -> Result<ListRegister, F
         rt,
         alloc,
         &mut register,
-        Holding {
+        Movement {
             reference,
             account: held.second,
             isin: held.earlier,

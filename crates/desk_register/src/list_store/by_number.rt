@@ -8,7 +8,7 @@ ghost use Rattle.desk_register.specs.Looked.{found_at, view_of};
 use crate::found::Found;
 use crate::list_store::lists::Lists;
 use crate::standing::Standing;
-use desk_rules::{Entry, Instructed, Reply, State, Text};
+use desk_rules::{Instructed, Reply, State, Text};
 use std::alloc::{AllocError, Global};
 
 /// The entry of a number, with its reply and where it stands.
@@ -29,22 +29,6 @@ pub fn find(lists: &Lists, alloc: Global, number: u64) -> Result<Option<Found>, 
     }))
 }
 
-/// What an entry instructs.
-pub fn instructed(entry: &Entry) -> Option<Instructed>
-    ensures { result ≡ instructed entry.now }
-{
-    match entry {
-        Entry::Instruct {
-            sender,
-            instruction,
-        } => Some(Instructed {
-            sender: *sender,
-            instruction: *instruction,
-        }),
-        _ => None,
-    }
-}
-
 /// The instruction of a number.
 pub fn instruction(lists: &Lists, number: u64) -> Option<Instructed>
     ensures { result ≡ instruction_at (history_of (content_in (listed lists.now))) number }
@@ -52,7 +36,7 @@ pub fn instruction(lists: &Lists, number: u64) -> Option<Instructed>
     if number == 0 || number > lists.kept.len() as u64 {
         return None;
     }
-    instructed(&lists.kept[(number - 1) as usize].entry)
+    lists.kept[(number - 1) as usize].entry.instructed()
 }
 
 /// Where the entry of a number stands.

@@ -25,7 +25,7 @@ use desk_rules::{Entry, Instructed, Place, Reply, Sender};
 use std::alloc::Global;
 
 impl ListRegister {
-    /// An empty register for at most `limit` entries, which are 999,999,999 at most.
+    /// An empty register for at most `limit` entries, which are `MOST_ENTRIES` at most.
     pub fn new(alloc: Global, limit: u64) -> ListRegister
         requires { limit ≤ 999_999_999 }
         ensures empty { Keeps limit no_books (view_of_lists result).content }

@@ -2,7 +2,7 @@
 ghost use Rattle.std.specs.Prelude.{◌≡◌, ◌+◌, ◌<◌, length, IfOk, OnOk, IsTrue};
 ghost use Rattle.desk_register.specs.View.{IfTrusted, IsStep};
 ghost use Rattle.desk_register.specs.Applied.{CanApply, HasApplied, Keeps};
-ghost use Rattle.desk_register.specs.Decision.{is_of_today};
+ghost use Rattle.desk_register.specs.Decision.{is_supported};
 ghost use Rattle.desk_register.specs.Tables.{is_registration};
 ghost use Rattle.desk_rules.specs.Verdict.{Books};
 
@@ -21,7 +21,7 @@ use std::alloc::Global;
 /// known until `back`.
 pub fn apply<R: Register>(alloc: Global, register: &mut R, entry: Entry) -> Result<Applied, Fault>
     requires stage { (R.view register.old).stage ≡ Stage.Begun }
-    requires today { IsTrue (is_of_today entry) }
+    requires supported { IsTrue (is_supported entry) }
     requires accepted { IfTrusted (R.view register.old) (R.view register.old) (CanApply (R.view register.old).room entry (R.view register.old).content) }
     ensures applied { (books : Books) → IfTrusted (R.view register.old) (R.view register.new) (Keeps (R.view register.old).room books (R.view register.old).content
         → IfOk result (λ applied. HasApplied (R.view register.old).room books entry applied (R.view register.new).content)) }
@@ -75,7 +75,7 @@ fn apply_instruction<R: Register>(
     instruction: Instruction,
 ) -> Result<Applied, Fault>
     requires stage { (R.view register.old).stage ≡ Stage.Begun }
-    requires today { IsTrue (is_of_today (Entry.Instruct sender instruction)) }
+    requires supported { IsTrue (is_supported (Entry.Instruct sender instruction)) }
     requires accepted { IfTrusted (R.view register.old) (R.view register.old) (CanApply (R.view register.old).room (Entry.Instruct sender instruction) (R.view register.old).content) }
     ensures applied { (books : Books) → IfTrusted (R.view register.old) (R.view register.new) (Keeps (R.view register.old).room books (R.view register.old).content
         → IfOk result (λ applied. HasApplied (R.view register.old).room books (Entry.Instruct sender instruction) applied (R.view register.new).content)) }

@@ -2,13 +2,13 @@
 ghost use Rattle.std.specs.Prelude.{◌≡◌, not, is_none, is_some, [], ◌∷◌, IfOk, IsTrue, bytes_eq, option_map};
 ghost use Rattle.desk_codes.specs.Number.{number_of};
 ghost use Rattle.desk_register.specs.View.{IsRead};
-ghost use Rattle.desk_register.specs.Decision.{first_refusal, is_of_today, Reading, with_history};
+ghost use Rattle.desk_register.specs.Decision.{first_refusal, is_supported, Reading, with_history};
 ghost use Rattle.desk_rules.specs.Verdict.{check, checks_of, desk_bic, is_after, is_of_kind, is_owner, is_participant, kind_of, last_run, owner_of};
 
 use crate::register::{Fault, Register};
 use desk_codes::{AccountId, Bic, Day, Isin};
 use desk_msg::{Instruction, Kind};
-use desk_rules::{Entry, Holding, Refusal};
+use desk_rules::{Entry, Movement, Refusal};
 use std::alloc::Global;
 
 /// The depository's own BIC.
@@ -107,19 +107,19 @@ fn refuse_security<R: Register>(
 fn refuse_issue<R: Register>(
     alloc: Global,
     register: &mut R,
-    holding: &Holding,
+    movement: &Movement,
 ) -> Result<Option<Refusal>, Fault>
     ensures value { Reading (R.view register.old) (R.view register.new) (λ h. IfOk result (λ r.
-        r ≡ first_refusal (checks_of (with_history h) (Entry.Issue holding.now)))) }
+        r ≡ first_refusal (checks_of (with_history h) (Entry.Issue movement.now)))) }
     ensures read { IsRead result (R.view register.old) (R.view register.new) }
 {
-    if register.owner(alloc, holding.account)?.is_none() {
+    if register.owner(alloc, movement.account)?.is_none() {
         return Ok(Some(Refusal::AccountUnknown));
     }
-    if register.security(alloc, holding.isin)?.is_none() {
+    if register.security(alloc, movement.isin)?.is_none() {
         return Ok(Some(Refusal::SecurityUnknown));
     }
-    if register.outstanding(alloc, holding.isin)? > MOST_OUTSTANDING - holding.quantity {
+    if register.outstanding(alloc, movement.isin)? > MOST_OUTSTANDING - movement.quantity {
         return Ok(Some(Refusal::OverLimit));
     }
     Ok(None)
@@ -178,7 +178,7 @@ pub fn refuse<R: Register>(
     register: &mut R,
     entry: &Entry,
 ) -> Result<Option<Refusal>, Fault>
-    requires { IsTrue (is_of_today entry.now) }
+    requires { IsTrue (is_supported entry.now) }
     ensures value { Reading (R.view register.old) (R.view register.new) (λ h. IfOk result (λ r. r ≡ first_refusal (checks_of (with_history h) entry.now))) }
     ensures read { IsRead result (R.view register.old) (R.view register.new) }
 {
@@ -186,7 +186,7 @@ pub fn refuse<R: Register>(
         Entry::Participant { bic, .. } => refuse_participant(alloc, register, *bic),
         Entry::Account { bic, account, .. } => refuse_account(alloc, register, *bic, *account),
         Entry::Security { isin, .. } => refuse_security(alloc, register, *isin),
-        Entry::Issue(holding) => refuse_issue(alloc, register, holding),
+        Entry::Issue(movement) => refuse_issue(alloc, register, movement),
         Entry::Instruct {
             sender,
             instruction,

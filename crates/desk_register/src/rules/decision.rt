@@ -2,7 +2,7 @@
 ghost use Rattle.std.specs.Prelude.{◌≡◌, nat_le, length, IfOk, IsTrue};
 ghost use Rattle.desk_register.specs.View.{IsRead};
 ghost use Rattle.desk_rules.specs.History.{sender_of};
-ghost use Rattle.desk_register.specs.Decision.{is_of_today, IsVerdictIfKnown, Reading, with_history};
+ghost use Rattle.desk_register.specs.Decision.{is_supported, IsVerdictIfKnown, Reading, with_history};
 ghost use Rattle.desk_rules.specs.Verdict.{Books, checks_of, first_failing, is_from_stranger, IsVerdict, reused_by};
 
 use crate::entries;
@@ -69,7 +69,7 @@ fn verdict_on_new<R: Register>(
     limit: u64,
     entry: &Entry,
 ) -> Result<Verdict, Fault>
-    requires { IsTrue (is_of_today entry.now) }
+    requires { IsTrue (is_supported entry.now) }
     ensures value { Reading (R.view register.old) (R.view register.new) (λ h. IfOk result (λ r. r ≡ first_failing (checks_of (with_history h) entry.now) (nat_le limit (length h)))) }
     ensures read { IsRead result (R.view register.old) (R.view register.new) }
 {
@@ -84,7 +84,7 @@ fn verdict_on_new<R: Register>(
 
 /// What the desk decides on an entry. Nothing changes, and no `begin` is needed.
 pub fn decide<R: Register>(alloc: Global, register: &mut R, entry: &Entry) -> Result<Verdict, Fault>
-    requires { IsTrue (is_of_today entry.now) }
+    requires { IsTrue (is_supported entry.now) }
     ensures verdict { (books : Books) → Reading (R.view register.old) (R.view register.new) (λ h. h ≡ books.history → IfOk result (λ verdict. IsVerdict (R.view register.old).room books entry.now verdict)) }
     ensures read { IsRead result (R.view register.old) (R.view register.new) }
 {

@@ -5,7 +5,7 @@ ghost use Rattle.desk_register.specs.View.{IfTrusted, IsChange};
 ghost use Rattle.desk_register.specs.Content.{CanSettle, appended, history_of};
 ghost use Rattle.desk_register.specs.Looked.{IsDuePairAfter};
 ghost use Rattle.desk_register.specs.Tables.{Grown, Tables};
-ghost use Rattle.desk_register.specs.Pass.{AreOfToday, CanRun, IsPassed, IsTaken, RanTo, settled_of};
+ghost use Rattle.desk_register.specs.Pass.{AreSupported, CanRun, IsPassed, IsTaken, RanTo, settled_of};
 ghost use Rattle.desk_rules.specs.Verdict.{Books};
 
 use crate::found::Outcome;
@@ -80,7 +80,7 @@ pub fn run_pass<R: Register>(alloc: Global, register: &mut R, day: Day) -> Resul
     requires stage { (R.view register.old).stage ≡ Stage.Begun }
     requires tables { IfTrusted (R.view register.old) (R.view register.old) (CanRun (R.view register.old).room (R.view register.old).content) }
     ensures kept { IfTrusted (R.view register.old) (R.view register.new) (OnOk result ((R.view register.new).content.register ≡ (R.view register.old).content.register)) }
-    ensures ran { (books : Books) (reference : List ℕ) → IfTrusted (R.view register.old) (R.view register.new) (Tables (R.view register.old).room books (R.view register.old).content → AreOfToday books.history
+    ensures ran { (books : Books) (reference : List ℕ) → IfTrusted (R.view register.old) (R.view register.new) (Tables (R.view register.old).room books (R.view register.old).content → AreSupported books.history
         → IfOk result (λ passed. RanTo books (Entry.Run reference day) passed.settled passed.waiting (R.view register.new).content)) }
     ensures change { IsChange result (R.view register.old) (R.view register.new) }
 {

@@ -3,7 +3,7 @@ ghost use Rattle.std.specs.Prelude.{◌<◌, ◌≤◌};
 
 use desk_codes::{AccountId, Bic, Day, Isin, Reference};
 use desk_msg::{Instruction, Kind, Message, Mt, read_instruction_text};
-use desk_rules::{Entry, Holding, Sender};
+use desk_rules::{Entry, Movement, Sender};
 use std::alloc::Global;
 use std::test::Fail;
 
@@ -63,11 +63,11 @@ pub fn security(key: &str, code: &str, kind: Kind) -> Result<Entry, Fail> {
     })
 }
 
-fn holding(key: &str, name: &str, code: &str, quantity: u64) -> Result<Holding, Fail>
+fn movement(key: &str, name: &str, code: &str, quantity: u64) -> Result<Movement, Fail>
     requires some { 0 < quantity }
     requires within { quantity ≤ 99_999_999_999_999 }
 {
-    Ok(Holding {
+    Ok(Movement {
         reference: reference(key)?,
         account: account(name)?,
         isin: isin(code)?,
@@ -79,14 +79,14 @@ pub fn issue(key: &str, name: &str, code: &str, quantity: u64) -> Result<Entry, 
     requires some { 0 < quantity }
     requires within { quantity ≤ 99_999_999_999_999 }
 {
-    Ok(Entry::Issue(holding(key, name, code, quantity)?))
+    Ok(Entry::Issue(movement(key, name, code, quantity)?))
 }
 
 pub fn redeem(key: &str, name: &str, code: &str, quantity: u64) -> Result<Entry, Fail>
     requires some { 0 < quantity }
     requires within { quantity ≤ 99_999_999_999_999 }
 {
-    Ok(Entry::Redeem(holding(key, name, code, quantity)?))
+    Ok(Entry::Redeem(movement(key, name, code, quantity)?))
 }
 
 pub fn run(key: &str, text: &[u8; 8]) -> Result<Entry, Fail> {

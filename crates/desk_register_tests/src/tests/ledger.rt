@@ -2,12 +2,12 @@
 ghost use Rattle.std.specs.Prelude.{◌≡◌, ◌≤◌, IfOk, OnOk, IsTrue};
 ghost use Rattle.desk_rules.specs.Verdict.{Books};
 ghost use Rattle.desk_register.specs.Applied.{CanApply, Keeps};
-ghost use Rattle.desk_register.specs.Decision.{is_of_today};
+ghost use Rattle.desk_register.specs.Decision.{is_supported};
 ghost use Rattle.desk_register.specs.ListView.{view_of_lists};
 
 use desk_codes::{Day, Isin};
 use desk_register::{
-    Applied, Fault, ListRegister, Outcome, Register, Stage, apply, decide, is_of_today,
+    Applied, Fault, ListRegister, Outcome, Register, Stage, apply, decide, is_supported,
 };
 use desk_rules::{Entry, Refusal, Verdict};
 use std::alloc::Global;
@@ -68,7 +68,7 @@ impl Ledger {
 
     /// Takes an accepted entry in; after a fault all is taken back.
     fn take(&mut self, alloc: Global, entry: Entry) -> Result<Applied, Fault>
-        requires today { IsTrue (is_of_today entry) }
+        requires supported { IsTrue (is_supported entry) }
         requires accepted { CanApply (view_of_lists self.old).room entry (view_of_lists self.old).content }
     {
         self.register.begin(alloc)?;
@@ -86,8 +86,8 @@ impl Ledger {
 
     /// Decides on an entry, and takes it in where it is accepted.
     pub fn enter(&mut self, alloc: Global, entry: Entry) -> Result<Entered, Fail> {
-        if !is_of_today(&entry) {
-            return Err("no command of today")?;
+        if !is_supported(&entry) {
+            return Err("no supported command")?;
         }
         match decide(alloc, &mut self.register, &entry)? {
             Verdict::Accept => {

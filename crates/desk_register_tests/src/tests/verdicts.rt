@@ -1,4 +1,4 @@
-//! The verdicts on today's commands. What is refused leaves no trace, so that its reference can be used.
+//! The verdicts on supported commands. What is refused leaves no trace, so that its reference can be used.
 
 use crate::tests::entries::{
     BOND, Deal, SHARE, UNKNOWN, delivery, instruct, issue, new_account, participant, receipt,
@@ -6,7 +6,7 @@ use crate::tests::entries::{
 };
 use crate::tests::ledger::{Entered, Ledger};
 use desk_msg::{Kind, Mt};
-use desk_register::is_of_today;
+use desk_register::is_supported;
 use desk_rules::Entry;
 use std::alloc::Global;
 use std::process::Abort;
@@ -219,16 +219,16 @@ fn full(rt: HostRuntime) -> Result<(), Fail> {
 }
 
 #[test]
-fn of_today(rt: HostRuntime) -> Result<(), Fail> {
+fn tells_what_is_supported(rt: HostRuntime) -> Result<(), Fail> {
     let alloc = rt.alloc();
     let paid = Deal {
         mt: Mt::Mt543,
         amount: ":16R:AMT\n:19A::SETT//EUR1000,50\n:16S:AMT\n",
         ..delivery("A1")
     };
-    assert!(rt; is_of_today(&run("R1", b"20240229")?));
-    assert!(rt; is_of_today(&instruct(alloc, delivery("A1"))?));
-    assert!(rt; !is_of_today(&instruct(alloc, paid)?));
-    assert!(rt; !is_of_today(&redeem("D1", "A-1", SHARE, 1)?));
+    assert!(rt; is_supported(&run("R1", b"20240229")?));
+    assert!(rt; is_supported(&instruct(alloc, delivery("A1"))?));
+    assert!(rt; !is_supported(&instruct(alloc, paid)?));
+    assert!(rt; !is_supported(&redeem("D1", "A-1", SHARE, 1)?));
     Ok(())
 }

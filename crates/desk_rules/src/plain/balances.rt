@@ -1,9 +1,9 @@
 //! What was credited and debited, by a list of entries and of settled pairs.
 ghost use Rattle.std.specs.Prelude.{◌≡◌, ◌≤◌, ◌+◌, ◌^◌, sum_by, bytes_eq};
 ghost use Rattle.desk_rules.specs.History.{instruction_at};
-ghost use Rattle.desk_rules.specs.Balances.{quantity_if, same_ccy, cash_in, is_delivered_by, deliverer_of, receiver_of, delivery_of, receipt_of, holding_on, issued_by, redeemed_by, quantity_on, credits, debits, payment_of, paid_in_by, paid_out_by, amount_of, cash_credits, cash_debits};
+ghost use Rattle.desk_rules.specs.Balances.{quantity_if, same_ccy, cash_in, is_delivered_by, deliverer_of, receiver_of, delivery_of, receipt_of, movement_on, issued_by, redeemed_by, quantity_on, credits, debits, payment_of, paid_in_by, paid_out_by, amount_of, cash_credits, cash_debits};
 
-use crate::entry::{Entry, Holding, Instructed, Payment};
+use crate::entry::{Entry, Instructed, Movement, Payment};
 use crate::pair::{Pair, Settled};
 use crate::plain::history::instruction_at;
 use desk_codes::{AccountId, Bic, Ccy, Isin};
@@ -52,12 +52,12 @@ pub fn receipt_of(entries: &[Entry], pair: Pair) -> Option<Instructed>
     instruction_at(entries, receiver_of(entries, pair))
 }
 
-fn holding_on(account: &AccountId, isin: &Isin, holding: &Holding) -> u64
-    ensures share { result ≡ holding_on account.now isin.now holding.now }
+fn movement_on(account: &AccountId, isin: &Isin, movement: &Movement) -> u64
+    ensures share { result ≡ movement_on account.now isin.now movement.now }
     ensures small { result ≤ 10 ^ 18 }
 {
-    if holding.account == *account && holding.isin == *isin {
-        holding.quantity
+    if movement.account == *account && movement.isin == *isin {
+        movement.quantity
     } else {
         0
     }
@@ -129,21 +129,21 @@ fn amount_of(bic: &Bic, ccy: Ccy, found: Option<Instructed>) -> u64
 }
 
 fn issued_by(account: &AccountId, isin: &Isin, entry: &Entry) -> u64
-    ensures share { result ≡ issued_by (holding_on account.now isin.now) entry.now }
+    ensures share { result ≡ issued_by (movement_on account.now isin.now) entry.now }
     ensures small { result ≤ 10 ^ 18 }
 {
     match entry {
-        Entry::Issue(holding) => holding_on(account, isin, holding),
+        Entry::Issue(movement) => movement_on(account, isin, movement),
         _ => 0,
     }
 }
 
 fn redeemed_by(account: &AccountId, isin: &Isin, entry: &Entry) -> u64
-    ensures share { result ≡ redeemed_by (holding_on account.now isin.now) entry.now }
+    ensures share { result ≡ redeemed_by (movement_on account.now isin.now) entry.now }
     ensures small { result ≤ 10 ^ 18 }
 {
     match entry {
-        Entry::Redeem(holding) => holding_on(account, isin, holding),
+        Entry::Redeem(movement) => movement_on(account, isin, movement),
         _ => 0,
     }
 }
@@ -169,7 +169,7 @@ fn paid_out_by(bic: &Bic, ccy: Ccy, entry: &Entry) -> u64
 }
 
 fn issued(entries: &[Entry], account: &AccountId, isin: &Isin) -> u128
-    ensures sum { result ≡ sum_by (issued_by (holding_on account.now isin.now)) entries.now }
+    ensures sum { result ≡ sum_by (issued_by (movement_on account.now isin.now)) entries.now }
     ensures small { result ≤ 2 ^ 126 }
 {
     let mut total = 0;
@@ -180,7 +180,7 @@ fn issued(entries: &[Entry], account: &AccountId, isin: &Isin) -> u128
 }
 
 fn redeemed(entries: &[Entry], account: &AccountId, isin: &Isin) -> u128
-    ensures sum { result ≡ sum_by (redeemed_by (holding_on account.now isin.now)) entries.now }
+    ensures sum { result ≡ sum_by (redeemed_by (movement_on account.now isin.now)) entries.now }
     ensures small { result ≤ 2 ^ 126 }
 {
     let mut total = 0;

@@ -29,21 +29,6 @@ pub fn before(n: u64, entries: &[Entry]) -> &[Entry]
     }
 }
 
-fn instructed(entry: &Entry) -> Option<Instructed>
-    ensures { result ≡ instructed entry.now }
-{
-    match entry {
-        Entry::Instruct {
-            sender,
-            instruction,
-        } => Some(Instructed {
-            sender: *sender,
-            instruction: *instruction,
-        }),
-        _ => None,
-    }
-}
-
 /// The day of a run, as the number YYYYMMDD.
 pub fn run_day(entry: &Entry) -> Option<u64>
     ensures { result ≡ run_day entry.now }
@@ -59,7 +44,7 @@ pub fn instruction_at(entries: &[Entry], number: u64) -> Option<Instructed>
     ensures { result ≡ instruction_at entries.now number }
 {
     match entry_at(entries, number) {
-        Some(entry) => instructed(&entry),
+        Some(entry) => entry.instructed(),
         None => None,
     }
 }

@@ -1,17 +1,17 @@
 //! What a list of entries issues and redeems of a security, and pays in and out in a currency, over all accounts
 //! and participants.
 ghost use Rattle.std.specs.Prelude.{◌≡◌, ◌≤◌, ◌^◌, sum_by};
-ghost use Rattle.desk_rules.specs.Balances.{holding_of, issued_by, redeemed_by, issued, redeemed, payment_in, paid_in_by, paid_out_by, paid_in, paid_out};
+ghost use Rattle.desk_rules.specs.Balances.{movement_of, issued_by, redeemed_by, issued, redeemed, payment_in, paid_in_by, paid_out_by, paid_in, paid_out};
 
-use crate::entry::{Entry, Holding, Payment};
+use crate::entry::{Entry, Movement, Payment};
 use desk_codes::{Ccy, Isin};
 
-fn holding_of(isin: &Isin, holding: &Holding) -> u64
-    ensures share { result ≡ holding_of isin.now holding.now }
+fn movement_of(isin: &Isin, movement: &Movement) -> u64
+    ensures share { result ≡ movement_of isin.now movement.now }
     ensures small { result ≤ 10 ^ 18 }
 {
-    if holding.isin == *isin {
-        holding.quantity
+    if movement.isin == *isin {
+        movement.quantity
     } else {
         0
     }
@@ -29,21 +29,21 @@ fn payment_in(ccy: Ccy, payment: &Payment) -> u64
 }
 
 fn issued_by(isin: &Isin, entry: &Entry) -> u64
-    ensures share { result ≡ issued_by (holding_of isin.now) entry.now }
+    ensures share { result ≡ issued_by (movement_of isin.now) entry.now }
     ensures small { result ≤ 10 ^ 18 }
 {
     match entry {
-        Entry::Issue(holding) => holding_of(isin, holding),
+        Entry::Issue(movement) => movement_of(isin, movement),
         _ => 0,
     }
 }
 
 fn redeemed_by(isin: &Isin, entry: &Entry) -> u64
-    ensures share { result ≡ redeemed_by (holding_of isin.now) entry.now }
+    ensures share { result ≡ redeemed_by (movement_of isin.now) entry.now }
     ensures small { result ≤ 10 ^ 18 }
 {
     match entry {
-        Entry::Redeem(holding) => holding_of(isin, holding),
+        Entry::Redeem(movement) => movement_of(isin, movement),
         _ => 0,
     }
 }

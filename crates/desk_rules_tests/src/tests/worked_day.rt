@@ -20,7 +20,7 @@ ghost use Rattle.desk_rules.specs.Sent.{sent_of};
 ghost use Rattle.desk_rules.specs.Moves.{brought, cash_brought, cash_taken, taken};
 ghost use Rattle.desk_rules.specs.Content.{mate_of};
 ghost use Rattle.desk_rules.specs.Questions.{sent_reply, status_reply};
-ghost use Rattle.desk_rules_tests.specs.WorkedDay.{a_1, alpha, at_cancel, at_delivery, at_receipt, at_run, at_short_run, b_1, beta, cancel, cancel_as_free, delivery, gamma, holding, larger, leap_day, moved, payment, receipt, share};
+ghost use Rattle.desk_rules_tests.specs.WorkedDay.{a_1, alpha, at_cancel, at_delivery, at_receipt, at_run, at_short_run, b_1, beta, cancel, cancel_as_free, delivery, gamma, movement, larger, leap_day, moved, payment, receipt, share};
 
 /// The replies to what was accepted, and two of refusals.
 fn replies()
@@ -139,13 +139,13 @@ fn verdicts_on_registrations()
 
 /// The verdicts on issues and redemptions, pay ins and pay outs at the end of the day: up to the limit, and past it.
 fn verdicts_on_balances()
-    ensures issue { IsVerdict 999 at_run (entries.Issue (holding (codes "I2") b_1 99_999_999_998_999 (lit< tt) (lit≤ tt))) Accept }
-    ensures over { IsVerdict 999 at_run (entries.Issue (holding (codes "I2") b_1 99_999_999_999_000 (lit< tt) (lit≤ tt))) (Refuse refusals.OverLimit) }
-    ensures nowhere { IsVerdict 999 at_run (entries.Issue (record (holding (codes "I2") gamma 99_999_999_999_000 (lit< tt) (lit≤ tt)) { isin = gamma })) (Refuse refusals.AccountUnknown) }
-    ensures nothing { IsVerdict 999 at_run (entries.Redeem (record (holding (codes "I2") a_1 601 (lit< tt) (lit≤ tt)) { isin = gamma })) (Refuse refusals.SecurityUnknown) }
-    ensures redeem { IsVerdict 999 at_run (entries.Redeem (holding (codes "I2") a_1 600 (lit< tt) (lit≤ tt))) Accept }
-    ensures too_much { IsVerdict 999 at_run (entries.Redeem (holding (codes "I2") a_1 601 (lit< tt) (lit≤ tt))) (Refuse refusals.NotEnough) }
-    ensures received { IsVerdict 999 at_run (entries.Redeem (holding (codes "I2") b_1 400 (lit< tt) (lit≤ tt))) Accept }
+    ensures issue { IsVerdict 999 at_run (entries.Issue (movement (codes "I2") b_1 99_999_999_998_999 (lit< tt) (lit≤ tt))) Accept }
+    ensures over { IsVerdict 999 at_run (entries.Issue (movement (codes "I2") b_1 99_999_999_999_000 (lit< tt) (lit≤ tt))) (Refuse refusals.OverLimit) }
+    ensures nowhere { IsVerdict 999 at_run (entries.Issue (record (movement (codes "I2") gamma 99_999_999_999_000 (lit< tt) (lit≤ tt)) { isin = gamma })) (Refuse refusals.AccountUnknown) }
+    ensures nothing { IsVerdict 999 at_run (entries.Redeem (record (movement (codes "I2") a_1 601 (lit< tt) (lit≤ tt)) { isin = gamma })) (Refuse refusals.SecurityUnknown) }
+    ensures redeem { IsVerdict 999 at_run (entries.Redeem (movement (codes "I2") a_1 600 (lit< tt) (lit≤ tt))) Accept }
+    ensures too_much { IsVerdict 999 at_run (entries.Redeem (movement (codes "I2") a_1 601 (lit< tt) (lit≤ tt))) (Refuse refusals.NotEnough) }
+    ensures received { IsVerdict 999 at_run (entries.Redeem (movement (codes "I2") b_1 400 (lit< tt) (lit≤ tt))) Accept }
     ensures pay_in { IsVerdict 999 at_run (entries.PayIn (payment (codes "M2") alpha 999_999_999_999_899_949 (lit< tt) (lit≤ tt))) Accept }
     ensures paid_over { IsVerdict 999 at_run (entries.PayIn (payment (codes "M2") alpha 999_999_999_999_899_950 (lit< tt) (lit≤ tt))) (Refuse refusals.OverLimit) }
     ensures pay_out { IsVerdict 999 at_run (entries.PayOut (payment (codes "M2") alpha 100_050 (lit< tt) (lit≤ tt))) Accept }

@@ -6,13 +6,13 @@ use Rattle.desk_book.proofs.FormLemmas.{even_none}
 use Rattle.desk_book.proofs.operation.issue.Goals as goal
 
 pub returns-in_err-account-clause-refused : goal.returns-in_err-account-clause-refused
-returns-in_err-account-clause-refused c = even_none c.from_residual-in_err-account.result (λ holding h. c.in_err-account.ensures.none holding.account h.0.1 (ap (text_at (codes "account")) h.1))
+returns-in_err-account-clause-refused c = even_none c.from_residual-in_err-account.result (λ movement h. c.in_err-account.ensures.none movement.account h.0.1 (ap (text_at (codes "account")) h.1))
 
 pub returns-in_err-isin-clause-refused : goal.returns-in_err-isin-clause-refused
-returns-in_err-isin-clause-refused c = even_none c.from_residual-in_err-isin.result (λ holding h. c.in_err-isin.ensures.none holding.isin h.0.2 (ap (text_at (codes "isin")) h.1))
+returns-in_err-isin-clause-refused c = even_none c.from_residual-in_err-isin.result (λ movement h. c.in_err-isin.ensures.none movement.isin h.0.2 (ap (text_at (codes "isin")) h.1))
 
 pub returns-in_err-quantity-clause-refused : goal.returns-in_err-quantity-clause-refused
-returns-in_err-quantity-clause-refused c = even_none c.from_residual-in_err-quantity.result (λ holding h. c.in_err-quantity.ensures.none holding.quantity holding.some holding.within (ap (number_at (codes "quantity")) h.1))
+returns-in_err-quantity-clause-refused c = even_none c.from_residual-in_err-quantity.result (λ movement h. c.in_err-quantity.ensures.none movement.quantity movement.some movement.within (ap (number_at (codes "quantity")) h.1))
 
 pub returns-clause-read : goal.returns-clause-read
 returns-clause-read c = record {

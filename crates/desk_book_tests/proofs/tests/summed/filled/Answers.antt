@@ -3,7 +3,7 @@ use Rattle.std.proofs.lemmas.Bool.{cases_Bool}
 use Rattle.desk_msg.specs.declared.instruction.Kind.{Kind}
 use Rattle.desk_rules.specs.declared.entry.Entry.{Entry}
 use Rattle.desk_rules.specs.declared.entry.Entry.TheVariants.{Participant, Account, Security, Issue}
-use Rattle.desk_rules.specs.declared.entry.Holding.{Holding}
+use Rattle.desk_rules.specs.declared.entry.Movement.{Movement}
 use Rattle.desk_rules.specs.declared.reply.Reply.{Reply}
 use Rattle.desk_rules.specs.declared.reply.Kept.{Kept}
 use Rattle.desk_register.specs.Content.{Content, Positions, appended, history_of, moved_to}
@@ -29,7 +29,7 @@ none_kept (kept ∷ register) e = cc
 abbrev Added : Entry → Content → Content → Type 0
 Added entry old new = (reply : Reply) × (new ≡ appended entry reply old)
 
-small : (c0 c1 c2 c3 c4 c5 c6 c7 c8 : Content) (reference bic first second later earlier : List ℕ) (kind other : Kind) (h1 h2 h3 : Holding) → history_of c0 ≡ [] → AreAtMost 0 c0.position → Added (Participant reference bic) c0 c1 → Added (Account reference bic first) c1 c2
+small : (c0 c1 c2 c3 c4 c5 c6 c7 c8 : Content) (reference bic first second later earlier : List ℕ) (kind other : Kind) (h1 h2 h3 : Movement) → history_of c0 ≡ [] → AreAtMost 0 c0.position → Added (Participant reference bic) c0 c1 → Added (Account reference bic first) c1 c2
     → Added (Account reference bic second) c2 c3 → Added (Security reference later kind) c3 c4 → Added (Security reference earlier other) c4 c5 → Added (Issue h1) c5 c6 → Added (Issue h2) c6 c7 → Added (Issue h3) c7 c8
     → h1.quantity ≤ 1000 → h2.quantity ≤ 1000 → h3.quantity ≤ 1000 → (isin : List ℕ) → held_of c8 isin < 2 ^ 64
 small c0 c1 c2 c3 c4 c5 c6 c7 c8 reference bic first second later earlier kind other h1 h2 h3 e0 none (r1, e1) (r2, e2) (r3, e3) (r4, e4) (r5, e5) (r6, e6) (r7, e7) (r8, e8) l1 l2 l3 isin =

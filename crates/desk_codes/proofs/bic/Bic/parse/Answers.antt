@@ -1,4 +1,4 @@
-use Rattle.std.proofs.Common.{refl, inl, inr, ◌≡◌, drop, codes, false, rules, ◌⊎◌, sym, ap, ◌∙◌}
+use Rattle.std.proofs.Common.{refl, inl, inr, ◌≡◌, drop, codes, false, rules, sym, ap, ◌∙◌}
 use Rattle.std.specs.Prelude.{nat_eq}
 use Rattle.std.specs.Cmp.Lexicographic.{pointwise}
 use Rattle.desk_codes.specs.Bic.{HasBicLength}

@@ -25,10 +25,10 @@ returns-in_err-take_next-clause-change g c =
     change_then (g.R.Register.view c.args.register.now) (g.R.Register.view c.pairs.register) (g.R.Register.view c.take_next.new.register) i.stays i.later c.from_residual-in_err-take_next.result c.requires.stage same
 
 pub returns-in-None-clause-ran : goal.returns-in-None-clause-ran
-returns-in-None-clause-ran g c = λ books reference honest sure tables today.
+returns-in-None-clause-ran g c = λ books reference honest sure tables supported.
     let taken = c.in_ok-take_next.ensures in
     running_ends_none (g.R.Register.view c.args.register.now).room c.in_ok-count.count (g.R.Register.view c.args.register.now) (g.R.Register.view c.pairs.register) (g.R.Register.view c.take_next.new.register) c.args.day c.pairs.place c.pairs._tried
-    c.pairs.passed.settled c.pairs.passed.waiting books reference c.pairs.invariant taken.change.later (rw c.in-None.is at taken.taken) honest sure tables today
+    c.pairs.passed.settled c.pairs.passed.waiting books reference c.pairs.invariant taken.change.later (rw c.in-None.is at taken.taken) honest sure tables supported
 
 pub returns-in-None-clause-change : goal.returns-in-None-clause-change
 returns-in-None-clause-change g c =
@@ -49,10 +49,10 @@ pairs-preserved g c =
     c.counted-passed.ensures.settled c.counted-passed.ensures.all
 
 pub returns-clause-ran : goal.returns-clause-ran
-returns-clause-ran g c = λ books reference honest sure tables today.
+returns-clause-ran g c = λ books reference honest sure tables supported.
     let all : c.in_ok-count.count ≤ c.pairs._tried = omega arith in
     running_ends_all (g.R.Register.view c.args.register.now).room c.in_ok-count.count (g.R.Register.view c.args.register.now) (g.R.Register.view c.pairs.register) c.args.day c.pairs.place c.pairs._tried
-    c.pairs.passed.settled c.pairs.passed.waiting books reference c.pairs.invariant all honest sure tables today
+    c.pairs.passed.settled c.pairs.passed.waiting books reference c.pairs.invariant all honest sure tables supported
 
 pub returns-clause-change : goal.returns-clause-change
 returns-clause-change g c = let i = c.pairs.invariant in change_ok c.pairs.passed (g.R.Register.view c.args.register.now) (g.R.Register.view c.pairs.register) i.stays i.later

@@ -12,4 +12,4 @@ settle_pair-requires-clause-fits c = λ honest sure.
     let keeps = kept_in _ _ kept.0 _ _ b.later.room (b.ok.content tt tt) kept.1 in
     let P : Content → Type 0 = λ content. CanSettle content c.in-Some.place.number in
     subst P (sym (d.read.same tt tt))
-    (can_settle _ kept.0 [] c.args.day None 0 0 0 _ _ keeps.tables keeps.today (begins _ kept.0 [] c.args.day _ keeps.tables) c.in-Some.place (rw c.in-Some.is at (d.value tt tt)))
+    (can_settle _ kept.0 [] c.args.day None 0 0 0 _ _ keeps.tables keeps.supported (begins _ kept.0 [] c.args.day _ keeps.tables) c.in-Some.place (rw c.in-Some.is at (d.value tt tt)))

@@ -4,7 +4,7 @@ use Rattle.desk_msg.specs.declared.mt.Mt.{Mt}
 use Rattle.desk_msg.specs.declared.instruction.CancelOrder.{CancelOrder}
 use Rattle.desk_msg.specs.declared.instruction.Instruction.{Instruction}
 use Rattle.desk_msg.specs.declared.instruction.Message.TheVariants.{New, Cancel as CancelMessage}
-use Rattle.desk_msg.specs.declared.refusal.Refusal.{Refusal}
+use Rattle.desk_msg.specs.declared.refusal.TextRefusal.{TextRefusal}
 use Rattle.desk_msg.specs.declared.refusal.ReadFault.TheVariants.{Refused}
 use Rattle.desk_msg.specs.MessageType.{is_instruction, is_against_payment}
 use Rattle.desk_msg.specs.Refused.{ReadsText, refusal_line}
@@ -12,11 +12,11 @@ use Rattle.desk_rules.specs.declared.entry.Entry.{Entry}
 use Rattle.desk_rules.specs.declared.entry.Entry.TheVariants.{Instruct}
 use Rattle.desk_rules.specs.declared.reply.Reply.{Reply}
 use Rattle.desk_rules.specs.Reply.{plain_reply}
-use Rattle.desk_register.specs.Decision.{is_of_today}
+use Rattle.desk_register.specs.Decision.{is_supported}
 use Rattle.desk_book.specs.Asked.{Asked, message, operator, status, sent, holdings, sums}
 use Rattle.desk_book.specs.Command.{Spells}
-use Rattle.desk_book.specs.declared.order.Order.{Order}
-use Rattle.desk_book.specs.declared.order.Order.TheVariants.{Decide, Totals, Answer}
+use Rattle.desk_book.specs.declared.task.Task.{Task}
+use Rattle.desk_book.specs.declared.task.Task.TheVariants.{Decide, Totals, Answer}
 
 -- the types of message that the desk takes: instructions to receive or deliver free
 abbrev pub is_taken : Mt → Bool
@@ -28,30 +28,30 @@ unknown_form = plain_reply 400 (codes "refused 41")
 
 -- A message is an instruction to decide on; a cancellation is refused as a function that the desk does not take,
 -- and a text that is no message with its own refusal.
-abbrev pub IsMessageOrder : List ℕ → Mt → List ℕ → Order → Type 0
-IsMessageOrder sender mt text (Decide entry) = (i : Instruction) × ReadsText mt text (Ok (New i)) × (entry ≡ Instruct sender i)
-IsMessageOrder sender mt text Totals = ⊥
-IsMessageOrder sender mt text (Answer reply) =
+abbrev pub IsMessageTask : List ℕ → Mt → List ℕ → Task → Type 0
+IsMessageTask sender mt text (Decide entry) = (i : Instruction) × ReadsText mt text (Ok (New i)) × (entry ≡ Instruct sender i)
+IsMessageTask sender mt text Totals = ⊥
+IsMessageTask sender mt text (Answer reply) =
     ((c : CancelOrder) × ReadsText mt text (Ok (CancelMessage c)) × (reply ≡ plain_reply 400 (codes "refused 8")))
-    ⊎ ((r : Refusal) × ReadsText mt text (Err (Refused r)) × (reply ≡ plain_reply 400 (refusal_line r)))
+    ⊎ ((r : TextRefusal) × ReadsText mt text (Err (Refused r)) × (reply ≡ plain_reply 400 (refusal_line r)))
 
 -- An operator's text is a command to decide on, or is refused.
-abbrev pub IsCommandOrder : List ℕ → Order → Type 0
-IsCommandOrder text (Decide entry) = Spells text entry
-IsCommandOrder text Totals = ⊥
-IsCommandOrder text (Answer reply) = ((entry : Entry) → ¬ Spells text entry) × (reply ≡ plain_reply 400 (codes "refused 30"))
+abbrev pub IsCommandTask : List ℕ → Task → Type 0
+IsCommandTask text (Decide entry) = Spells text entry
+IsCommandTask text Totals = ⊥
+IsCommandTask text (Answer reply) = ((entry : Entry) → ¬ Spells text entry) × (reply ≡ plain_reply 400 (codes "refused 30"))
 
--- What a request orders, one equation a form.
-abbrev pub IsOrder : Asked → Order → Type 0
-IsOrder (message sender mt text) order = MatchBool (is_taken mt) (IsMessageOrder sender mt text order) (order ≡ Answer unknown_form)
-IsOrder (operator text) order = IsCommandOrder text order
-IsOrder (status sender reference) order = order ≡ Answer unknown_form
-IsOrder (sent receiver number) order = order ≡ Answer unknown_form
-IsOrder (holdings owner account) order = order ≡ Answer unknown_form
-IsOrder sums order = order ≡ Totals
+-- What a request gives the desk to do, one equation a form.
+abbrev pub IsTask : Asked → Task → Type 0
+IsTask (message sender mt text) task = MatchBool (is_taken mt) (IsMessageTask sender mt text task) (task ≡ Answer unknown_form)
+IsTask (operator text) task = IsCommandTask text task
+IsTask (status sender reference) task = task ≡ Answer unknown_form
+IsTask (sent receiver number) task = task ≡ Answer unknown_form
+IsTask (holdings owner account) task = task ≡ Answer unknown_form
+IsTask sums task = task ≡ Totals
 
 -- a command to decide on is one that the desk takes
-abbrev pub IsOfToday : Order → Type 0
-IsOfToday (Decide entry) = is_of_today entry ≡ true
-IsOfToday Totals = Unit {0}
-IsOfToday (Answer reply) = Unit {0}
+abbrev pub IsSupported : Task → Type 0
+IsSupported (Decide entry) = is_supported entry ≡ true
+IsSupported Totals = Unit {0}
+IsSupported (Answer reply) = Unit {0}

@@ -2,7 +2,7 @@
 ghost use Rattle.std.specs.Prelude.{◌≡◌, true, IfOk};
 ghost use Rattle.desk_rules.specs.Reply.{plain_reply};
 ghost use Rattle.desk_book.specs.Asked.{asked_by};
-ghost use Rattle.desk_book.specs.Order.{IsOrder, IsMessageOrder, IsCommandOrder, IsOfToday, is_taken, unknown_form};
+ghost use Rattle.desk_book.specs.Task.{IsTask, IsMessageTask, IsCommandTask, IsSupported, is_taken, unknown_form};
 
 use crate::command::read_command;
 use crate::request::Request;
@@ -13,7 +13,7 @@ use std::alloc::{AllocError, Global};
 
 /// What a request is read as.
 #[derive(Debug, Drop)]
-pub enum Order {
+pub enum Task {
     /// A command to decide on: an operator's, or a participant's message
     Decide(Entry),
     /// The desk's totals
@@ -23,18 +23,18 @@ pub enum Order {
 }
 
 /// What a request is read as. The only fault is want of memory.
-pub fn order_of(alloc: Global, request: &Request<'_>) -> Result<Order, AllocError>
-    ensures order { IfOk result (λ order. IsOrder (asked_by request.now) order) }
-    ensures today { IfOk result (λ order. IsOfToday order) }
+pub fn task_of(alloc: Global, request: &Request<'_>) -> Result<Task, AllocError>
+    ensures task { IfOk result (λ task. IsTask (asked_by request.now) task) }
+    ensures supported { IfOk result (λ task. IsSupported task) }
 {
     match *request {
         Request::Message(sender, mt, text) if is_taken(mt) => {
-            message_order(alloc, sender, mt, text)
+            message_task(alloc, sender, mt, text)
         }
-        Request::Operator(text) => command_order(alloc, text),
-        Request::Sums => Ok(Order::Totals),
+        Request::Operator(text) => command_task(alloc, text),
+        Request::Sums => Ok(Task::Totals),
         Request::Message(..) | Request::Status(..) | Request::Sent(..) | Request::Holdings(..) => {
-            Ok(Order::Answer(unknown(alloc)?))
+            Ok(Task::Answer(unknown(alloc)?))
         }
     }
 }
@@ -46,39 +46,39 @@ fn is_taken(mt: Mt) -> bool
     mt.is_instruction() && !mt.is_against_payment()
 }
 
-/// What a participant's message orders.
-fn message_order(alloc: Global, sender: Bic, mt: Mt, text: &[u8]) -> Result<Order, AllocError>
+/// What a participant's message gives the desk to do.
+fn message_task(alloc: Global, sender: Bic, mt: Mt, text: &[u8]) -> Result<Task, AllocError>
     requires { is_taken mt ≡ true }
-    ensures order { IfOk result (λ order. IsMessageOrder sender mt text.now order) }
-    ensures today { IfOk result (λ order. IsOfToday order) }
+    ensures task { IfOk result (λ task. IsMessageTask sender mt text.now task) }
+    ensures supported { IfOk result (λ task. IsSupported task) }
 {
     match read_instruction_text(alloc, mt, text) {
-        Ok(Message::New(instruction)) => Ok(Order::Decide(Entry::Instruct {
+        Ok(Message::New(instruction)) => Ok(Task::Decide(Entry::Instruct {
             sender,
             instruction,
         })),
         Ok(Message::Cancel(_)) => {
             let line = Vec::from_slice(alloc, b"refused 8")?;
-            Ok(Order::Answer(bad_request(line)))
+            Ok(Task::Answer(bad_request(line)))
         }
         Err(ReadFault::Refused(refusal)) => {
             let line = refusal_text(alloc, refusal)?;
-            Ok(Order::Answer(bad_request(line)))
+            Ok(Task::Answer(bad_request(line)))
         }
         Err(ReadFault::Memory) => Err(AllocError),
     }
 }
 
-/// What an operator's text orders.
-fn command_order(alloc: Global, text: &[u8]) -> Result<Order, AllocError>
-    ensures order { IfOk result (λ order. IsCommandOrder text.now order) }
-    ensures today { IfOk result (λ order. IsOfToday order) }
+/// What an operator's text gives the desk to do.
+fn command_task(alloc: Global, text: &[u8]) -> Result<Task, AllocError>
+    ensures task { IfOk result (λ task. IsCommandTask text.now task) }
+    ensures supported { IfOk result (λ task. IsSupported task) }
 {
     match read_command(alloc, text)? {
-        Some(entry) => Ok(Order::Decide(entry)),
+        Some(entry) => Ok(Task::Decide(entry)),
         None => {
             let line = Vec::from_slice(alloc, b"refused 30")?;
-            Ok(Order::Answer(bad_request(line)))
+            Ok(Task::Answer(bad_request(line)))
         }
     }
 }

@@ -47,10 +47,10 @@ const RECEIVED: &str =
     "function NEWM\nreference B1\ndate 20240229\nisin DE0007164600\nquantity UNIT 400,\naccount B-1\nsettlement TRAD\nplace DESKDEFF\ncounterparty ALPHDEFF";
 
 /// The command to decide on, if there is one.
-fn command_in(order: &Order) -> Option<Entry> {
-    match order {
-        Order::Decide(entry) => Some(*entry),
-        Order::Totals | Order::Answer(_) => None,
+fn command_in(task: &Task) -> Option<Entry> {
+    match task {
+        Task::Decide(entry) => Some(*entry),
+        Task::Totals | Task::Answer(_) => None,
     }
 }
 
@@ -58,8 +58,8 @@ fn command_in(order: &Order) -> Option<Entry> {
 fn message_to_decide_on(rt: HostRuntime) -> Result<(), Fail> {
     let alloc = rt.alloc();
     let sender = Bic::parse(b"BETADEFF")?;
-    let order = order_of(alloc, &Request::Message(sender, Mt::Mt540, RECEIPT))?;
-    let entry = command_in(&order).ok_or("no command")?;
+    let task = task_of(alloc, &Request::Message(sender, Mt::Mt540, RECEIPT))?;
+    let entry = command_in(&task).ok_or("no command")?;
     let (from, message) = match entry {
         Entry::Instruct {
             sender,
@@ -83,21 +83,21 @@ fn command_to_decide_on(rt: HostRuntime) -> Result<(), Fail> {
         reference: Reference::read(b"R1").ok_or("reference")?,
         day: Day::read(b"20240229").ok_or("day")?,
     };
-    let order = order_of(rt.alloc(), &Request::Operator(text))?;
-    assert!(rt; command_in(&order) == Some(run));
+    let task = task_of(rt.alloc(), &Request::Operator(text))?;
+    assert!(rt; command_in(&task) == Some(run));
     Ok(())
 }
 
 #[test]
 fn totals_asked(rt: HostRuntime) -> Result<(), Fail> {
-    let order = order_of(rt.alloc(), &Request::Sums)?;
-    assert!(rt; matches!(order, Order::Totals));
+    let task = task_of(rt.alloc(), &Request::Sums)?;
+    assert!(rt; matches!(task, Task::Totals));
     Ok(())
 }
 
-/// That an order answers with status 400 and this line.
-fn is_refused(rt: &impl Abort, order: &Order, line: &str) {
-    let Order::Answer(reply) = order else {
+/// That an task answers with status 400 and this line.
+fn is_refused(rt: &impl Abort, task: &Task, line: &str) {
+    let Task::Answer(reply) = task else {
         assert!(rt; false, "no answer {line}");
         return;
     };
@@ -127,22 +127,22 @@ fn refused_as_they_are_read(rt: HostRuntime) -> Result<(), Fail> {
         (Mt::Mt544, RECEIPT, "refused 41"),
         (Mt::Mt546, RECEIPT, "refused 41"),
     ] {
-        let order = order_of(alloc, &Request::Message(bic, mt, text))?;
-        is_refused(&rt, &order, line);
+        let task = task_of(alloc, &Request::Message(bic, mt, text))?;
+        is_refused(&rt, &task, line);
     }
     for text in [
         b"".as_slice(),
         br#"{"op":"redeem","ref":"X1","account":"A-1","isin":"DE0007164600","quantity":1}"#.as_slice(),
         RECEIPT,
     ] {
-        let order = order_of(alloc, &Request::Operator(text))?;
-        is_refused(&rt, &order, "refused 30");
+        let task = task_of(alloc, &Request::Operator(text))?;
+        is_refused(&rt, &task, "refused 30");
     }
-    let status = order_of(alloc, &Request::Status(bic, b"B1".as_slice()))?;
+    let status = task_of(alloc, &Request::Status(bic, b"B1".as_slice()))?;
     is_refused(&rt, &status, "refused 41");
-    let sent = order_of(alloc, &Request::Sent(bic, 1))?;
+    let sent = task_of(alloc, &Request::Sent(bic, 1))?;
     is_refused(&rt, &sent, "refused 41");
-    let holdings = order_of(alloc, &Request::Holdings(bic, b"B-1".as_slice()))?;
+    let holdings = task_of(alloc, &Request::Holdings(bic, b"B-1".as_slice()))?;
     is_refused(&rt, &holdings, "refused 41");
     Ok(())
 }

@@ -1,13 +1,13 @@
 //! The commands that the desk takes.
 ghost use Rattle.std.specs.Prelude.{◌≡◌};
-ghost use Rattle.desk_register.specs.Decision.{is_of_today};
+ghost use Rattle.desk_register.specs.Decision.{is_supported};
 
 use desk_rules::Entry;
 
 /// Whether the desk takes a command: a participant, an account, a security, an issue, a run, or an instruction to
 /// receive or deliver free.
-pub fn is_of_today(entry: &Entry) -> bool
-    ensures { result ≡ is_of_today entry.now }
+pub fn is_supported(entry: &Entry) -> bool
+    ensures { result ≡ is_supported entry.now }
 {
     match entry {
         Entry::Participant { .. }

@@ -1,0 +1,14 @@
+use Rattle.std.proofs.Common.{refl, inl, ap, ◌∙◌}
+use Rattle.desk_rules.specs.Reply.{plain_reply}
+use Rattle.desk_book.proofs.task.message_task.Goals as goal
+
+pub returns-in-Ok-New-clause-task : goal.returns-in-Ok-New-clause-task
+returns-in-Ok-New-clause-task c = (c.in-Ok-New.instruction, rw (c.in-Ok-New.is, c.in-Ok-New.field-0-is) at c.read_instruction_text.ensures, refl)
+
+pub returns-in_ok-line-in-Ok-Cancel-clause-task : goal.returns-in_ok-line-in-Ok-Cancel-clause-task
+returns-in_ok-line-in-Ok-Cancel-clause-task c =
+    inl (
+      c.in-Ok-Cancel.field-0-0,
+      rw (c.in-Ok-Cancel.is, c.in-Ok-Cancel.field-0-is) at c.read_instruction_text.ensures,
+      c.bad_request.ensures ∙ ap (λ line. plain_reply 400 line) c.in_ok-line-in-Ok-Cancel.ensures.items,
+    )
