@@ -1,6 +1,5 @@
 //! What the desk's history is made of.
-ghost use Rattle.std.specs.Prelude.{◌≡◌, ◌<◌, ◌≤◌};
-ghost use Rattle.desk_rules.specs.History.{instructed};
+ghost use Rattle.std.specs.Prelude.{◌<◌, ◌≤◌};
 
 use desk_codes::{AccountId, Bic, Ccy, Day, Isin, Reference};
 use desk_msg::{CancelOrder, Cash, Instruction, Kind, Mt};
@@ -90,22 +89,4 @@ pub enum Entry {
         reference: Reference,
         day: Day,
     },
-}
-
-impl Entry {
-    /// What it instructs, and who; None where it is no instruction.
-    pub fn instructed(&self) -> Option<Instructed>
-        ensures { result ≡ instructed self.now }
-    {
-        match self {
-            Entry::Instruct {
-                sender,
-                instruction,
-            } => Some(Instructed {
-                sender: *sender,
-                instruction: *instruction,
-            }),
-            _ => None,
-        }
-    }
 }

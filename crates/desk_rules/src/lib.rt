@@ -8,6 +8,7 @@
 #![tactic(auto)]
 
 mod entry;
+mod instructed;
 mod laws;
 mod opposite;
 mod pair;

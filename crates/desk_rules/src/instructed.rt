@@ -1,0 +1,23 @@
+//! What an entry instructs. (Apart from `entry.rt`: the definitions read its types.)
+ghost use Rattle.std.specs.Prelude.{◌≡◌};
+ghost use Rattle.desk_rules.specs.History.{instructed};
+
+use crate::entry::{Entry, Instructed};
+
+impl Entry {
+    /// What it instructs, and who; None where it is no instruction.
+    pub fn instructed(&self) -> Option<Instructed>
+        ensures { result ≡ instructed self.now }
+    {
+        match self {
+            Entry::Instruct {
+                sender,
+                instruction,
+            } => Some(Instructed {
+                sender: *sender,
+                instruction: *instruction,
+            }),
+            _ => None,
+        }
+    }
+}
