@@ -5,7 +5,7 @@ ghost use Rattle.desk_rules.specs.Verdict.{Books, number_of_refusal};
 ghost use Rattle.desk_rules.specs.Reply.{IsFirstReply, refused_reply};
 ghost use Rattle.desk_register.specs.Applied.{CanApply, Keeps};
 ghost use Rattle.desk_register.specs.Decision.{is_supported};
-ghost use Rattle.desk_register.specs.View.{Breaks, IsLater};
+ghost use Rattle.desk_register.specs.View.{Breaks, IfTrusted, IsLater};
 ghost use Rattle.desk_book.specs.Answered.{IsToldSums, says_closed};
 ghost use Rattle.desk_book.specs.Task.{IsSupported};
 ghost use Rattle.desk_book.specs.Held.{Answers, Decides, Ends, IsPut, IsReady, Recovers, named};
@@ -62,11 +62,11 @@ fn taken_back<R: Register>(alloc: Global, register: &mut R, fault: RegisterFault
 fn put<R: Register>(alloc: Global, register: &mut R, entry: Entry) -> Result<Reply, RegisterFault>
     requires stage { (R.view register.old).stage ≡ Stage.Begun }
     requires supported { IsTrue (is_supported entry) }
-    requires accepted { (R.view register.old).is_honest → (R.view register.old).is_sure → CanApply (R.view register.old).room entry (R.view register.old).content }
-    ensures put { (books : Books) → (R.view register.new).is_honest → (R.view register.old).is_sure → Keeps (R.view register.old).room books (R.view register.old).content
-        → IfOk result (λ reply. IsPut (R.view register.old).room books entry reply (R.view register.new).content) }
+    requires accepted { IfTrusted (R.view register.old) (R.view register.old) (CanApply (R.view register.old).room entry (R.view register.old).content) }
+    ensures put { (books : Books) → IfTrusted (R.view register.old) (R.view register.new) (Keeps (R.view register.old).room books (R.view register.old).content
+        → IfOk result (λ reply. IsPut (R.view register.old).room books entry reply (R.view register.new).content)) }
     ensures ok { OnOk result ((R.view register.new).stage ≡ Stage.Idle) }
-    ensures sure { (R.view register.new).is_honest → (R.view register.old).is_sure → OnOk result (R.view register.new).is_sure }
+    ensures sure { IfTrusted (R.view register.old) (R.view register.new) (OnOk result (R.view register.new).is_sure) }
     ensures err { OnErr result (Breaks (R.view register.old) (R.view register.new)) }
     ensures later { IsLater (R.view register.old) (R.view register.new) }
     ensures blame { result ≡ Err RegisterFault.Storage → (R.view register.old).failures < (R.view register.new).failures }

@@ -1,6 +1,6 @@
 //! The totals of a register's securities.
 ghost use Rattle.std.specs.Prelude.{◌≡◌, ◌<◌, ◌^◌, ℕ, List, [], true, is_some, IfOk};
-ghost use Rattle.desk_register.specs.View.{IsRead};
+ghost use Rattle.desk_register.specs.View.{IfTrusted, IsRead};
 ghost use Rattle.desk_register.specs.Content.{history_of};
 ghost use Rattle.desk_register.specs.Looked.{held_of};
 ghost use Rattle.desk_rules.specs.Verdict.{kind_of};
@@ -18,8 +18,8 @@ pub fn security_totals<R: Register>(
     register: &mut R,
 ) -> Result<Vec<SecurityTotal>, Fault>
     requires stage { (R.view register.old).stage ≡ Stage.Idle }
-    requires small { (R.view register.old).is_honest → (R.view register.old).is_sure → (isin : List ℕ) → held_of (R.view register.old).content isin < 2 ^ 64 }
-    ensures totals { (R.view register.new).is_honest → (R.view register.old).is_sure → IfOk result (λ totals. AreTotals (R.view register.old).content totals.items) }
+    requires small { IfTrusted (R.view register.old) (R.view register.old) ((isin : List ℕ) → held_of (R.view register.old).content isin < 2 ^ 64) }
+    ensures totals { IfTrusted (R.view register.old) (R.view register.new) (IfOk result (λ totals. AreTotals (R.view register.old).content totals.items)) }
     ensures read { IsRead result (R.view register.old) (R.view register.new) }
 {
     let count = register.count(alloc)?;
@@ -45,10 +45,10 @@ fn total_of<R: Register>(
     isin: Isin,
 ) -> Result<SecurityTotal, Fault>
     requires stage { (R.view register.old).stage ≡ Stage.Idle }
-    requires small { (R.view register.old).is_honest → (R.view register.old).is_sure → held_of (R.view register.old).content isin < 2 ^ 64 }
+    requires small { IfTrusted (R.view register.old) (R.view register.old) (held_of (R.view register.old).content isin < 2 ^ 64) }
     ensures isin { IfOk result (λ total. total.isin ≡ isin) }
-    ensures total { (R.view register.new).is_honest → (R.view register.old).is_sure → is_some (kind_of (history_of (R.view register.old).content) isin) ≡ true
-        → IfOk result (λ total. IsTotal (R.view register.old).content total) }
+    ensures total { IfTrusted (R.view register.old) (R.view register.new) (is_some (kind_of (history_of (R.view register.old).content) isin) ≡ true
+        → IfOk result (λ total. IsTotal (R.view register.old).content total)) }
     ensures read { IsRead result (R.view register.old) (R.view register.new) }
 {
     let held = register.held(alloc, isin)?;
