@@ -1,6 +1,7 @@
 //! Why work was not done.
 
 use desk_register::Fault;
+use desk_worked::entries::EntryFault;
 use std::alloc::AllocError;
 use std::io;
 
@@ -28,6 +29,15 @@ impl From<Fault> for Failure {
         match fault {
             Fault::Memory => Failure::Memory,
             Fault::Storage => Failure::Storage,
+        }
+    }
+}
+
+impl From<EntryFault> for Failure {
+    fn from(fault: EntryFault) -> Failure {
+        match fault {
+            EntryFault::Memory => Failure::Memory,
+            _ => Failure::Form,
         }
     }
 }

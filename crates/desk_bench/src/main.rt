@@ -9,7 +9,6 @@
 mod blocks;
 mod codes;
 mod failure;
-mod ledger;
 mod market;
 mod rounds;
 mod shown;

@@ -7,6 +7,7 @@ use crate::failure::Failure;
 use desk_codes::{AccountId, Bic, Day, Isin, Reference};
 use desk_msg::{Instruction, Kind, Mt, SettlementType};
 use desk_rules::{Entry, Movement};
+use desk_worked::entries::{EntryFault, SHARE, account, bic, isin};
 
 /// How many entries `Market::opening` has.
 pub const OPENING: u32 = 5;
@@ -56,15 +57,11 @@ pub struct Market {
     settlement: SettlementType,
 }
 
-fn make_party(bic: &[u8], account: &[u8]) -> Result<Party, Failure> {
+fn make_party(party: &str, name: &str) -> Result<Party, EntryFault> {
     Ok(Party {
-        bic: bic_of(bic)?,
-        account: AccountId::read(account).ok_or(Failure::Form)?,
+        bic: bic(party)?,
+        account: account(name)?,
     })
-}
-
-fn bic_of(text: &[u8]) -> Result<Bic, Failure> {
-    Bic::parse(text).map_err(|_| Failure::Form)
 }
 
 /// A reference of its own for each number.
@@ -74,17 +71,13 @@ pub fn reference(number: u32) -> Result<Reference, Failure> {
     Reference::read(&text).ok_or(Failure::Form)
 }
 
-pub fn day(digits: &[u8; 8]) -> Result<Day, Failure> {
-    Day::read(digits).ok_or(Failure::Form)
-}
-
 impl Market {
     pub fn new() -> Result<Market, Failure> {
         Ok(Market {
-            deliverer: make_party(b"ALPHDEFF", b"A-1")?,
-            receiver: make_party(b"BETADEFF", b"B-1")?,
-            isin: Isin::parse(b"DE0007164600").map_err(|_| Failure::Form)?,
-            place: bic_of(b"DESKDEFF")?,
+            deliverer: make_party("ALPHDEFF", "A-1")?,
+            receiver: make_party("BETADEFF", "B-1")?,
+            isin: isin(SHARE)?,
+            place: bic("DESKDEFF")?,
             settlement: SettlementType::read(b"TRAD").ok_or(Failure::Form)?,
         })
     }

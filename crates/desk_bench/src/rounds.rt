@@ -1,11 +1,12 @@
 //! Entries taken into a register in plain lists, with no message or script around it.
 
 use crate::failure::Failure;
-use crate::ledger::{Entered, Ledger};
-use crate::market::{Market, OPENING, Side, day, reference};
+use crate::market::{Market, OPENING, Side, reference};
 use desk_codes::Day;
 use desk_register::MOST_ENTRIES;
 use desk_rules::Entry;
+use desk_worked::entries::day;
+use desk_worked::ledger::{Entered, Ledger};
 use std::alloc::Global;
 
 /// The entries of a round.

@@ -1,8 +1,9 @@
 //! What a register shows, as text.
 
 use crate::failure::Failure;
-use crate::ledger::Ledger;
-use crate::market::{Market, day};
+use crate::market::Market;
+use desk_worked::entries::day;
+use desk_worked::ledger::Ledger;
 use std::alloc::Global;
 use std::fmt::Write;
 

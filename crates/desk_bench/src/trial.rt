@@ -1,11 +1,12 @@
 //! A day's entries, asked of a register where any one growth of memory may be refused.
 
 use crate::failure::Failure;
-use crate::ledger::{Entered, Ledger};
-use crate::market::{Market, OPENING, Side, day, reference};
+use crate::market::{Market, OPENING, Side, reference};
 use crate::shown::shown;
 use desk_codes::{Day, Reference};
 use desk_rules::Entry;
+use desk_worked::entries::day;
+use desk_worked::ledger::{Entered, Ledger};
 use std::alloc::Global;
 
 /// The register holds so many entries at most.

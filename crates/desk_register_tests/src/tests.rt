@@ -2,7 +2,5 @@
 //! days, against the plain program of the definitions.
 mod calls;
 mod days;
-mod entries;
-mod ledger;
 mod replies;
 mod verdicts;

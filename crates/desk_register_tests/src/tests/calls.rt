@@ -1,17 +1,17 @@
 //! Each call of a register in plain lists, once at an empty register and once at a filled one. The values are
 //! worked by hand from the entries of `filled`.
-ghost use Rattle.std.specs.Prelude.{◌≡◌, ◌≤◌, OnOk};
+ghost use Rattle.std.specs.Prelude.{◌≡◌, ◌≤◌, IfOk, OnOk};
 ghost use Rattle.desk_register.specs.ListView.{view_of_lists};
 
-use crate::tests::entries::{
-    BOND, Deal, SHARE, UNKNOWN, account, bic, day, delivery, instruct, instruction, isin, issue,
-    new_account, of, participant, receipt, reference, run, security,
-};
-use crate::tests::ledger::{Ledger, held, try_first};
-use desk_codes::{AccountId, Bic, Isin, Reference};
+use desk_codes::{AccountId, Bic, Day, Isin, Reference};
 use desk_msg::{Kind, Reason};
 use desk_register::{Fault, ListRegister, Outcome, Register, Stage, Standing};
 use desk_rules::{Entry, Lack, Place, Reply, Sender, State, Text};
+use desk_worked::entries::{
+    BOND, Deal, SHARE, UNKNOWN, account, bic, day, delivery, instruct, instruction, isin, issue,
+    new_account, participant, receipt, reference, run, security,
+};
+use desk_worked::ledger::Ledger;
 use std::alloc::Global;
 use std::process::Abort;
 use std::test::Fail;
@@ -149,7 +149,8 @@ fn empty(rt: HostRuntime) -> Result<(), Fail> {
     );
     assert_eq!(rt; register.first_opposite(alloc, names.bic, &wanted)?, None);
     assert_eq!(rt; register.due_pair_after(alloc, end, None)?, None);
-    assert_eq!(rt; held(alloc, Ledger::new(alloc, 3), names.isin)?, 0);
+    let mut ledger = Ledger::new(alloc, 3);
+    assert_eq!(rt; ledger.held(alloc, names.isin)?, 0);
     Ok(())
 }
 
@@ -196,8 +197,9 @@ fn counts_and_order(rt: HostRuntime) -> Result<(), Fail> {
     assert_eq!(rt; register.security_after(alloc, None)?, Some(share));
     assert_eq!(rt; register.security_after(alloc, Some(share))?, Some(bond));
     assert_eq!(rt; register.security_after(alloc, Some(bond))?, None);
-    assert_eq!(rt; held(alloc, filled(alloc)?, share)?, 1000);
-    assert_eq!(rt; held(alloc, filled(alloc)?, bond)?, 7);
+    let mut ledger = filled(alloc)?;
+    assert_eq!(rt; ledger.held(alloc, share)?, 1000);
+    assert_eq!(rt; ledger.held(alloc, bond)?, 7);
     Ok(())
 }
 
@@ -206,8 +208,8 @@ fn entries_by_reference(rt: HostRuntime) -> Result<(), Fail> {
     let alloc = rt.alloc();
     let s_1 = reference("S1")?;
     let a_1 = reference("A1")?;
-    let alpha = of("ALPHDEFF")?;
-    let beta = of("BETADEFF")?;
+    let alpha = Sender::Participant(bic("ALPHDEFF")?);
+    let beta = Sender::Participant(bic("BETADEFF")?);
     let mut register = filled(alloc)?.into_register();
     assert_eq!(rt;
         number_of(alloc, &mut register, Sender::Operator, s_1)?,
@@ -416,6 +418,25 @@ struct Sides {
     to: u64,
     delivery: Option<(u64, Standing)>,
     receipt: Option<(u64, Standing)>,
+}
+
+/// Tries the first pair due by a day, and how it fared; the register, with the `begin` open still.
+fn try_first(
+    alloc: Global,
+    ledger: Ledger,
+    day: Day,
+) -> Result<(ListRegister, Option<Outcome>), Fault>
+    ensures { IfOk result (λ tried. (view_of_lists tried.0).stage ≡ Stage.Begun) }
+{
+    let mut register = ledger.into_register();
+    register.begin(alloc)?;
+    match register.due_pair_after(alloc, day, None)? {
+        Some(place) => {
+            let outcome = register.settle_pair(alloc, place.number)?;
+            Ok((register, Some(outcome)))
+        }
+        None => Ok((register, None)),
+    }
 }
 
 #[test]

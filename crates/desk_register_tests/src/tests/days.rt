@@ -1,15 +1,15 @@
 //! Worked days at a register, which the plain program of the definitions gives alike.
 
-use crate::tests::entries::{
-    Deal, SHARE, account, delivery, instruct, isin, issue, new_account, participant, receipt, run,
-    security,
-};
-use crate::tests::ledger::{Entered, Ledger};
 use desk_codes::{AccountId, Isin};
 use desk_msg::{Kind, Reason};
 use desk_register::{ListRegister, Register, Standing};
 use desk_rules::plain::{credits, debits, instruction_at, is_due, pairing_of, settlement_of};
 use desk_rules::{Entry, Pair, Settled, State};
+use desk_worked::entries::{
+    Deal, EntryFault, SHARE, account, delivery, instruct, isin, issue, new_account, participant,
+    receipt, run, security,
+};
+use desk_worked::ledger::{Entered, Ledger};
 use std::alloc::{AllocError, Global};
 use std::process::Abort;
 use std::test::Fail;
@@ -170,15 +170,10 @@ fn enters(
     entry: Entry,
     pairs: (u64, u64),
 ) -> Result<(), Fail> {
-    let Entered::Accepted {
-        settled,
-        waiting,
-        ..
-    } = ledger.enter(alloc, entry)?
-    else {
+    let Entered::Accepted(applied) = ledger.enter(alloc, entry)? else {
         return Err("not accepted")?;
     };
-    assert_eq!(rt; (settled, waiting), pairs);
+    assert_eq!(rt; (applied.settled, applied.waiting), pairs);
     Ok(())
 }
 
@@ -197,7 +192,9 @@ fn base(alloc: Global) -> Result<Ledger, Fail> {
     ];
     let mut ledger = Ledger::new(alloc, 1000);
     for entry in entries {
-        let _ = ledger.enter(alloc, entry)?;
+        let Entered::Accepted(_) = ledger.enter(alloc, entry)? else {
+            return Err("not accepted")?;
+        };
     }
     Ok(ledger)
 }
@@ -376,7 +373,7 @@ fn waits_for_securities(rt: HostRuntime) -> Result<(), Fail> {
 }
 
 /// One of sixteen entries.
-fn drawn(alloc: Global, number: u64) -> Result<Entry, Fail> {
+fn drawn(alloc: Global, number: u64) -> Result<Entry, EntryFault> {
     let (given, taken) = onward();
     match number {
         0 => instruct(alloc, delivery("A1")),
@@ -407,7 +404,7 @@ fn drawn_day(rt: &impl Abort, alloc: Global, seed: u64) -> Result<[u64; 4], Fail
             .wrapping_mul(6_364_136_223_846_793_005)
             .wrapping_add(1_442_695_040_888_963_407);
         let entry = drawn(alloc, (state >> 32) % 16)?;
-        let _ = ledger.enter(alloc, entry)?;
+        assert!(rt; ledger.enter(alloc, entry)? != Entered::NotTaken);
     }
     compared(rt, alloc, ledger)
 }

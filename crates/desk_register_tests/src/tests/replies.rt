@@ -1,8 +1,8 @@
 //! The replies, against texts written by hand.
 
-use crate::tests::entries::{delivery, instruct, participant, receipt, run};
 use desk_register::{Applied, accepted_reply, refused_reply};
 use desk_rules::{Refusal, Reply};
+use desk_worked::entries::{delivery, instruct, participant, receipt, run};
 use std::process::Abort;
 use std::test::Fail;
 

@@ -1,13 +1,14 @@
 //! The verdicts on supported commands. What is refused leaves no trace, so that its reference can be used.
+ghost use Rattle.std.specs.Prelude.{◌≤◌};
 
-use crate::tests::entries::{
-    BOND, Deal, SHARE, UNKNOWN, delivery, instruct, issue, new_account, participant, receipt,
-    redeem, run, security,
-};
-use crate::tests::ledger::{Entered, Ledger};
-use desk_msg::{Kind, Mt};
-use desk_register::is_supported;
+use desk_msg::Kind;
+use desk_register::{Applied, is_supported};
 use desk_rules::Entry;
+use desk_worked::entries::{
+    BOND, Deal, SHARE, UNKNOWN, against_payment, delivery, instruct, issue, new_account,
+    participant, receipt, redeem, run, security,
+};
+use desk_worked::ledger::{Entered, Ledger};
 use std::alloc::Global;
 use std::process::Abort;
 use std::test::Fail;
@@ -19,13 +20,15 @@ fn accepts(
     ledger: &mut Ledger,
     entry: Entry,
     number: u64,
-) -> Result<(), Fail> {
-    let want = Entered::Accepted {
+) -> Result<(), Fail>
+    requires { number ≤ 999_999_999 }
+{
+    let want = Entered::Accepted(Applied {
         number,
         mate: None,
         settled: 0,
         waiting: 0,
-    };
+    });
     assert_eq!(rt; ledger.enter(alloc, entry)?, want);
     Ok(())
 }
@@ -146,12 +149,12 @@ fn messages(rt: HostRuntime) -> Result<(), Fail> {
     repeats(&rt, alloc, &mut ledger, right, 6)?;
     refuses(&rt, alloc, &mut ledger, larger, 11)?;
     // the same reference of another sender is another key
-    let paired = Entered::Accepted {
+    let paired = Entered::Accepted(Applied {
         number: 7,
         mate: Some(6),
         settled: 0,
         waiting: 0,
-    };
+    });
     assert_eq!(rt; ledger.enter(alloc, of_beta)?, paired);
     Ok(())
 }
@@ -221,11 +224,7 @@ fn full(rt: HostRuntime) -> Result<(), Fail> {
 #[test]
 fn tells_what_is_supported(rt: HostRuntime) -> Result<(), Fail> {
     let alloc = rt.alloc();
-    let paid = Deal {
-        mt: Mt::Mt543,
-        amount: ":16R:AMT\n:19A::SETT//EUR1000,50\n:16S:AMT\n",
-        ..delivery("A1")
-    };
+    let paid = against_payment(delivery("A1"));
     assert!(rt; is_supported(&run("R1", b"20240229")?));
     assert!(rt; is_supported(&instruct(alloc, delivery("A1"))?));
     assert!(rt; !is_supported(&instruct(alloc, paid)?));

@@ -1,0 +1,10 @@
+use Rattle.desk_register.proofs.TestLemmas.{kept_in}
+use Rattle.desk_worked.proofs.LedgerLemmas.{read_idle}
+use Rattle.desk_worked.proofs.ledger.Ledger.due_pair_after.Goals as goal
+
+pub invariant_of-self : goal.invariant_of-self
+invariant_of-self c =
+    let read = c.due_pair_after.ensures.read in
+    let kept = c.self.invariant.1 in
+    let idle = read_idle c.due_pair_after.result _ _ read tt tt tt c.self.invariant.0 in
+    (idle.0, (kept.0, kept_in _ _ kept.0 _ _ read.later.room idle.1 kept.1))

@@ -1,0 +1,19 @@
+use Rattle.std.proofs.Common.{◌<◌, ◌^◌, arith, lit<}
+use Rattle.desk_register.proofs.HeldLemmas.{held_within}
+use Rattle.desk_register.proofs.TestLemmas.{kept_in}
+use Rattle.desk_worked.proofs.LedgerLemmas.{read_idle}
+use Rattle.desk_worked.proofs.ledger.Ledger.held.Goals as goal
+
+pub invariant_of-self : goal.invariant_of-self
+invariant_of-self c =
+    let read = c.held.ensures.read in
+    let kept = c.self.invariant.1 in
+    let idle = read_idle c.held.result _ _ read tt tt tt c.self.invariant.0 in
+    (idle.0, (kept.0, kept_in _ _ kept.0 _ _ read.later.room idle.1 kept.1))
+
+pub held-requires : goal.held-requires
+held-requires c = λ honest sure.
+    let kept = c.self.invariant.1 in
+    let within = held_within _ kept.0 _ c.args.isin kept.1.tables in
+    let small : 99_999_999_999_999 < 2 ^ 64 = lit< tt in
+    omega arith

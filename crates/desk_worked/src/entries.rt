@@ -1,0 +1,252 @@
+//! Codes, entries and instructions from the texts that name them.
+ghost use Rattle.std.specs.Prelude.{◌<◌, ◌≤◌};
+
+use desk_codes::{AccountId, Bic, CodeFault, Day, Isin, Reference};
+use desk_msg::{Instruction, Kind, Message, Mt, ReadFault, TextRefusal, read_instruction_text};
+use desk_rules::{Entry, Movement};
+use std::alloc::{AllocError, Global};
+use thiserror::Error;
+
+/// A security that is counted in units.
+pub const SHARE: &str = "DE0007164600";
+
+/// A security that is counted by face amount.
+pub const BOND: &str = "US0378331005";
+
+/// A security that nobody registers.
+pub const UNKNOWN: &str = "US5949181045";
+
+/// The lines of an amount of EUR 1000.50.
+const AMOUNT: &str = ":16R:AMT\n:19A::SETT//EUR1000,50\n:16S:AMT\n";
+
+/// Why an entry cannot be made of the texts that are to name it.
+#[derive(Clone, Copy, Debug, PartialEq, Eq, Error)]
+pub enum EntryFault {
+    /// A text is no reference.
+    #[error("no reference")]
+    Reference,
+    /// A text names no account.
+    #[error("no account")]
+    Account,
+    /// Eight digits are no day.
+    #[error("no day")]
+    Day,
+    /// A text is no BIC or no ISIN.
+    #[error("{0}")]
+    Code(#[from] CodeFault),
+    /// A message is none that instructs.
+    #[error("no instruction")]
+    Instruction,
+    /// The text of a message is refused.
+    #[error("{0}")]
+    Message(TextRefusal),
+    /// A growth of memory was refused.
+    #[error("out of memory")]
+    Memory,
+}
+
+impl From<ReadFault> for EntryFault {
+    fn from(fault: ReadFault) -> EntryFault {
+        match fault {
+            ReadFault::Refused(refusal) => EntryFault::Message(refusal),
+            ReadFault::Memory => EntryFault::Memory,
+        }
+    }
+}
+
+impl From<AllocError> for EntryFault {
+    fn from(_error: AllocError) -> EntryFault {
+        EntryFault::Memory
+    }
+}
+
+/// The reference that a text spells.
+pub fn reference(text: &str) -> Result<Reference, EntryFault> {
+    Reference::read(text.as_bytes()).ok_or(EntryFault::Reference)
+}
+
+/// The BIC that a text spells.
+pub fn bic(text: &str) -> Result<Bic, EntryFault> {
+    Ok(Bic::parse(text.as_bytes())?)
+}
+
+/// The account that a text names.
+pub fn account(text: &str) -> Result<AccountId, EntryFault> {
+    AccountId::read(text.as_bytes()).ok_or(EntryFault::Account)
+}
+
+/// The ISIN that a text spells.
+pub fn isin(text: &str) -> Result<Isin, EntryFault> {
+    Ok(Isin::parse(text.as_bytes())?)
+}
+
+/// The day that eight digits spell.
+pub fn day(digits: &[u8; 8]) -> Result<Day, EntryFault> {
+    Day::read(digits).ok_or(EntryFault::Day)
+}
+
+/// A new participant, under the reference `key`.
+pub fn participant(key: &str, party: &str) -> Result<Entry, EntryFault> {
+    Ok(Entry::Participant {
+        reference: reference(key)?,
+        bic: bic(party)?,
+    })
+}
+
+/// A new account of a participant.
+pub fn new_account(key: &str, party: &str, name: &str) -> Result<Entry, EntryFault> {
+    Ok(Entry::Account {
+        reference: reference(key)?,
+        bic: bic(party)?,
+        account: account(name)?,
+    })
+}
+
+/// A new security.
+pub fn security(key: &str, code: &str, kind: Kind) -> Result<Entry, EntryFault> {
+    Ok(Entry::Security {
+        reference: reference(key)?,
+        isin: isin(code)?,
+        kind,
+    })
+}
+
+/// So much of a security, on an account.
+fn movement(key: &str, name: &str, code: &str, quantity: u64) -> Result<Movement, EntryFault>
+    requires some { 0 < quantity }
+    requires within { quantity ≤ 99_999_999_999_999 }
+{
+    Ok(Movement {
+        reference: reference(key)?,
+        account: account(name)?,
+        isin: isin(code)?,
+        quantity,
+    })
+}
+
+/// So much of a security issued to an account.
+pub fn issue(key: &str, name: &str, code: &str, quantity: u64) -> Result<Entry, EntryFault>
+    requires some { 0 < quantity }
+    requires within { quantity ≤ 99_999_999_999_999 }
+{
+    Ok(Entry::Issue(movement(key, name, code, quantity)?))
+}
+
+/// So much of a security redeemed from an account.
+pub fn redeem(key: &str, name: &str, code: &str, quantity: u64) -> Result<Entry, EntryFault>
+    requires some { 0 < quantity }
+    requires within { quantity ≤ 99_999_999_999_999 }
+{
+    Ok(Entry::Redeem(movement(key, name, code, quantity)?))
+}
+
+/// A settlement run for the pairs due by a day.
+pub fn run(key: &str, digits: &[u8; 8]) -> Result<Entry, EntryFault> {
+    Ok(Entry::Run {
+        reference: reference(key)?,
+        day: day(digits)?,
+    })
+}
+
+/// An instruction: who sends it, and what it says.
+#[derive(Clone, Copy)]
+pub struct Deal<'a> {
+    pub sender: &'a str,
+    pub mt: Mt,
+    pub key: &'a str,
+    pub account: &'a str,
+    pub isin: &'a str,
+    /// UNIT or FAMT
+    pub kind: &'a str,
+    pub quantity: &'a str,
+    pub other: &'a str,
+    pub place: &'a str,
+    pub day: &'a str,
+    /// The lines of its amount; none where it is free
+    pub amount: &'a str,
+}
+
+/// 400 of the share delivered free by ALPHDEFF to BETADEFF.
+pub fn delivery(key: &str) -> Deal<'_> {
+    Deal {
+        sender: "ALPHDEFF",
+        mt: Mt::Mt542,
+        key,
+        account: "A-1",
+        isin: SHARE,
+        kind: "UNIT",
+        quantity: "400",
+        other: "BETADEFF",
+        place: "DESKDEFF",
+        day: "20240229",
+        amount: "",
+    }
+}
+
+/// The receipt of it.
+pub fn receipt(key: &str) -> Deal<'_> {
+    Deal {
+        sender: "BETADEFF",
+        mt: Mt::Mt540,
+        account: "B-1",
+        other: "ALPHDEFF",
+        ..delivery(key)
+    }
+}
+
+/// The same against EUR 1000.50.
+pub fn against_payment(deal: Deal<'_>) -> Deal<'_> {
+    Deal {
+        mt: if deal.mt.is_delivery() {
+            Mt::Mt543
+        } else {
+            Mt::Mt541
+        },
+        amount: AMOUNT,
+        ..deal
+    }
+}
+
+/// The message of it: block 4, with the fields that the desk reads and no other.
+pub fn message_text(alloc: Global, deal: Deal) -> Result<String, EntryFault> {
+    let side = if deal.mt.is_delivery() {
+        "REAG"
+    } else {
+        "DEAG"
+    };
+    let key = deal.key;
+    let day = deal.day;
+    let isin = deal.isin;
+    let kind = deal.kind;
+    let quantity = deal.quantity;
+    let account = deal.account;
+    let other = deal.other;
+    let place = deal.place;
+    let amount = deal.amount;
+    let front = format!(in alloc;
+        "{{4:\n:16R:GENL\n:20C::SEME//{key}\n:23G:NEWM\n:16S:GENL\n:16R:TRADDET\n:98A::SETT//{day}\n:35B:ISIN {isin}\n:16S:TRADDET\n"
+    )?;
+    Ok(format!(in alloc;
+        "{front}:16R:FIAC\n:36B::SETT//{kind}/{quantity},\n:97A::SAFE//{account}\n:16S:FIAC\n:16R:SETDET\n:22F::SETR//TRAD\n:16R:SETPRTY\n:95P::{side}//{other}\n:16S:SETPRTY\n:16R:SETPRTY\n:95P::PSET//{place}\n:16S:SETPRTY\n{amount}:16S:SETDET\n-}}\n"
+    )?)
+}
+
+/// What a participant instructs by it.
+pub fn instruction(alloc: Global, deal: Deal) -> Result<Instruction, EntryFault> {
+    if !deal.mt.is_instruction() {
+        return Err(EntryFault::Instruction);
+    }
+    let text = message_text(alloc, deal)?;
+    match read_instruction_text(alloc, deal.mt, text.as_bytes())? {
+        Message::New(instruction) => Ok(instruction),
+        Message::Cancel(_) => Err(EntryFault::Instruction),
+    }
+}
+
+/// An instruction of the participant that sends it.
+pub fn instruct(alloc: Global, deal: Deal) -> Result<Entry, EntryFault> {
+    Ok(Entry::Instruct {
+        sender: bic(deal.sender)?,
+        instruction: instruction(alloc, deal)?,
+    })
+}

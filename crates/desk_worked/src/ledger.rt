@@ -1,0 +1,161 @@
+//! A register in plain lists that takes in what the desk accepts, entry by entry, as the desk does.
+ghost use Rattle.std.specs.Prelude.{◌≡◌, ◌≤◌, IfOk, OnErr, OnOk, IsTrue};
+ghost use Rattle.desk_rules.specs.Verdict.{Books};
+ghost use Rattle.desk_register.specs.Applied.{CanApply, HasApplied, Keeps};
+ghost use Rattle.desk_register.specs.Decision.{is_supported};
+ghost use Rattle.desk_register.specs.ListView.{view_of_lists};
+ghost use Rattle.desk_register.specs.View.{Breaks, IsLater};
+
+use desk_codes::{AccountId, Day, Isin};
+use desk_register::{
+    Applied, Fault, Found, ListRegister, Register, Stage, accepted_reply, apply, decide,
+    is_supported,
+};
+use desk_rules::{Entry, Place, Refusal, Verdict};
+use std::alloc::Global;
+use std::marker::Model;
+
+/// A register with no `begin` open, that keeps the tables of a history.
+#[derive(Drop)]
+pub struct Ledger {
+    register: ListRegister,
+}
+
+impl Model for Ledger {
+    ghost use Rattle.std.specs.Prelude.{◌≡◌};
+    ghost use Rattle.desk_rules.specs.Verdict.{Books};
+    ghost use Rattle.desk_register.specs.declared.list_store.list_register.ListRegister.{ListRegister};
+    ghost use Rattle.desk_register.specs.declared.register.Stage.TheVariants.{Idle};
+    ghost use Rattle.desk_register.specs.Applied.{Keeps};
+    ghost use Rattle.desk_register.specs.ListView.{view_of_lists};
+
+    ghost Value = { ListRegister };
+
+    ghost view = { λ ledger. ledger.register };
+
+    ghost invariant = { λ ledger. ((view_of_lists ledger.register).stage ≡ Idle) × ((books : Books) × Keeps (view_of_lists ledger.register).room books (view_of_lists ledger.register).content) };
+}
+
+/// What came of an entry.
+#[derive(Clone, Copy, Debug, PartialEq, Eq)]
+pub enum Entered {
+    /// It is accepted, and fared so.
+    Accepted(Applied),
+    /// It is the entry of that number, once more.
+    Repeated(u64),
+    /// It is refused for this reason.
+    Refused(Refusal),
+    /// The desk takes no such command yet.
+    NotTaken,
+}
+
+/// Takes an accepted entry into the tables, makes its reply as the desk does, and keeps it.
+fn put<R: Register>(alloc: Global, register: &mut R, entry: Entry) -> Result<Applied, Fault>
+    requires stage { (R.view register.old).stage ≡ Stage.Begun }
+    requires supported { IsTrue (is_supported entry) }
+    requires accepted { (R.view register.old).is_honest → (R.view register.old).is_sure → CanApply (R.view register.old).room entry (R.view register.old).content }
+    ensures put { (books : Books) → (R.view register.new).is_honest → (R.view register.old).is_sure → Keeps (R.view register.old).room books (R.view register.old).content
+        → IfOk result (λ applied. HasApplied (R.view register.old).room books entry applied (R.view register.new).content) }
+    ensures ok { OnOk result ((R.view register.new).stage ≡ Stage.Idle) }
+    ensures err { OnErr result (Breaks (R.view register.old) (R.view register.new)) }
+    ensures later { IsLater (R.view register.old) (R.view register.new) }
+{
+    let applied = apply(alloc, register, entry)?;
+    let _reply = accepted_reply(alloc, &entry, &applied)?;
+    register.commit(alloc)?;
+    Ok(applied)
+}
+
+impl Ledger {
+    /// An empty one, for at most `limit` entries.
+    pub fn new(alloc: Global, limit: u64) -> Ledger
+        requires { limit ≤ 999_999_999 }
+    {
+        Ledger {
+            register: ListRegister::new(alloc, limit),
+        }
+    }
+
+    /// Its register.
+    pub fn into_register(self) -> ListRegister
+        ensures idle { (view_of_lists result).stage ≡ Stage.Idle }
+        ensures keeps { (books : Books) × Keeps (view_of_lists result).room books (view_of_lists result).content }
+    {
+        self.register
+    }
+
+    /// Takes an accepted entry in; after a fault all is taken back.
+    fn take(&mut self, alloc: Global, entry: Entry) -> Result<Applied, Fault>
+        requires supported { IsTrue (is_supported entry) }
+        requires accepted { CanApply (view_of_lists self.old).room entry (view_of_lists self.old).content }
+    {
+        self.register.begin(alloc)?;
+        match put(alloc, &mut self.register, entry) {
+            Ok(applied) => Ok(applied),
+            Err(fault) => {
+                self.register.back(alloc)?;
+                Err(fault)
+            }
+        }
+    }
+
+    /// Decides on an entry, and takes it in where it is accepted.
+    pub fn enter(&mut self, alloc: Global, entry: Entry) -> Result<Entered, Fault> {
+        if !is_supported(&entry) {
+            return Ok(Entered::NotTaken);
+        }
+        match decide(alloc, &mut self.register, &entry)? {
+            Verdict::Accept => {
+                let applied = self.take(alloc, entry)?;
+                Ok(Entered::Accepted(applied))
+            }
+            Verdict::Repeat(number) => Ok(Entered::Repeated(number)),
+            Verdict::Refuse(refusal) => Ok(Entered::Refused(refusal)),
+        }
+    }
+
+    /// How many entries there are.
+    pub fn count(&mut self, alloc: Global) -> Result<u64, Fault> {
+        self.register.count(alloc)
+    }
+
+    /// The entry of this number, counted from 1; None where there is none.
+    pub fn by_number(&mut self, alloc: Global, number: u64) -> Result<Option<Found>, Fault> {
+        self.register.by_number(alloc, number)
+    }
+
+    /// What an account holds of a security.
+    pub fn position(
+        &mut self,
+        alloc: Global,
+        account: AccountId,
+        isin: Isin,
+    ) -> Result<u64, Fault> {
+        self.register.position(alloc, account, isin)
+    }
+
+    /// What is outstanding of a security.
+    pub fn outstanding(&mut self, alloc: Global, isin: Isin) -> Result<u64, Fault> {
+        self.register.outstanding(alloc, isin)
+    }
+
+    /// What all accounts hold of a security.
+    pub fn held(&mut self, alloc: Global, isin: Isin) -> Result<u64, Fault> {
+        self.register.held(alloc, isin)
+    }
+
+    /// The day of the last run; None before any.
+    pub fn last_run(&mut self, alloc: Global) -> Result<Option<Day>, Fault> {
+        self.register.last_run(alloc)
+    }
+
+    /// The first matched pair due by a day, above a place.
+    pub fn due_pair_after(
+        &mut self,
+        alloc: Global,
+        day: Day,
+        place: Option<Place>,
+    ) -> Result<Option<Place>, Fault> {
+        self.register.due_pair_after(alloc, day, place)
+    }
+}
