@@ -1,71 +1,23 @@
 //! Worked rows from outside, through the plain program.
 ghost use Rattle.std.specs.Prelude.{◌<◌, ◌≤◌};
 
-use desk_codes::{AccountId, Bic, Ccy, Day, Isin, Reference};
+use desk_codes::Ccy;
 use desk_msg::{Kind, Message, Mt, read_instruction_text};
 use desk_rules::plain::{
     before, cash_credits, cash_debits, credits, debits, is_cancelled, issued, lack_of, paid_in,
     paid_out, pairing_of, redeemed, settlement_of,
 };
-use desk_rules::{Entry, Lack, Movement, Pair, Payment, Settled};
+use desk_rules::{Entry, Lack, Pair, Payment, Settled};
+use desk_worked::entries::{
+    BOND, Deal, SHARE, account, against_payment, bic, delivery, instruct, isin, issue, new_account,
+    participant, receipt, redeem, reference, run, security,
+};
 use std::alloc::{AllocError, Global};
 use std::test::Fail;
 
 mod worked_day;
 
-const ISIN: &str = "DE0007164600";
-
-fn reference(text: &str) -> Result<Reference, Fail> {
-    Ok(Reference::read(text.as_bytes()).ok_or("reference")?)
-}
-
-fn bic(text: &str) -> Result<Bic, Fail> {
-    Ok(Bic::parse(text.as_bytes())?)
-}
-
-fn account(text: &str) -> Result<AccountId, Fail> {
-    Ok(AccountId::read(text.as_bytes()).ok_or("account")?)
-}
-
-fn isin() -> Result<Isin, Fail> {
-    Ok(Isin::parse(ISIN.as_bytes())?)
-}
-
-fn participant(key: &str, party: &str) -> Result<Entry, Fail> {
-    Ok(Entry::Participant {
-        reference: reference(key)?,
-        bic: bic(party)?,
-    })
-}
-
-fn new_account(key: &str, party: &str, name: &str) -> Result<Entry, Fail> {
-    Ok(Entry::Account {
-        reference: reference(key)?,
-        bic: bic(party)?,
-        account: account(name)?,
-    })
-}
-
-fn security(key: &str) -> Result<Entry, Fail> {
-    Ok(Entry::Security {
-        reference: reference(key)?,
-        isin: isin()?,
-        kind: Kind::Unit,
-    })
-}
-
-fn movement(key: &str, name: &str, quantity: u64) -> Result<Movement, Fail>
-    requires some { 0 < quantity }
-    requires within { quantity ≤ 99_999_999_999_999 }
-{
-    Ok(Movement {
-        reference: reference(key)?,
-        account: account(name)?,
-        isin: isin()?,
-        quantity,
-    })
-}
-
+/// So much cash of a participant, in cents.
 fn payment(key: &str, party: &str, amount: u64) -> Result<Payment, Fail>
     requires some { 0 < amount }
     requires within { amount ≤ 999_999_999_999_999_999 }
@@ -78,90 +30,28 @@ fn payment(key: &str, party: &str, amount: u64) -> Result<Payment, Fail>
     })
 }
 
-fn run(key: &str, day: &[u8; 8]) -> Result<Entry, Fail> {
-    Ok(Entry::Run {
-        reference: reference(key)?,
-        day: Day::read(day).ok_or("day")?,
-    })
-}
-
-/// An instruction: who sends it, and what it says.
-#[derive(Clone, Copy)]
-struct Deal<'a> {
-    sender: &'a str,
-    mt: Mt,
-    key: &'a str,
-    account: &'a str,
-    quantity: &'a str,
-    other: &'a str,
-    day: &'a str,
-    /// The lines of its amount; none where it is free
-    amount: &'a str,
-}
-
-fn message(alloc: Global, sender: &str, mt: Mt, text: &str) -> Result<Entry, Fail> {
-    let sender = bic(sender)?;
+/// A cancellation that a participant sends.
+fn cancel(alloc: Global, sender: &str, mt: Mt, text: &str) -> Result<Entry, Fail> {
     if !mt.is_instruction() {
         return Err("type")?;
     }
     match read_instruction_text(alloc, mt, text.as_bytes())? {
-        Message::New(instruction) => Ok(Entry::Instruct {
-            sender,
-            instruction,
+        Message::New(_) => Err("instruction")?,
+        Message::Cancel(order) => Ok(Entry::Cancel {
+            sender: bic(sender)?,
+            order,
         }),
-        Message::Cancel(order) => Ok(Entry::Cancel { sender, order }),
     }
 }
-
-fn instruct(alloc: Global, deal: Deal) -> Result<Entry, Fail> {
-    let side = if deal.mt.is_delivery() {
-        "REAG"
-    } else {
-        "DEAG"
-    };
-    let key = deal.key;
-    let day = deal.day;
-    let quantity = deal.quantity;
-    let account = deal.account;
-    let other = deal.other;
-    let amount = deal.amount;
-    let front = format!(in alloc;
-        "{{4:\n:16R:GENL\n:20C::SEME//{key}\n:23G:NEWM\n:16S:GENL\n:16R:TRADDET\n:98A::SETT//{day}\n:35B:ISIN {ISIN}\n:16S:TRADDET\n"
-    )?;
-    let text = format!(in alloc;
-        "{front}:16R:FIAC\n:36B::SETT//UNIT/{quantity},\n:97A::SAFE//{account}\n:16S:FIAC\n:16R:SETDET\n:22F::SETR//TRAD\n:16R:SETPRTY\n:95P::{side}//{other}\n:16S:SETPRTY\n:16R:SETPRTY\n:95P::PSET//DESKDEFF\n:16S:SETPRTY\n{amount}:16S:SETDET\n-}}\n"
-    )?;
-    message(alloc, deal.sender, deal.mt, text.as_str())
-}
-
-const AMOUNT: &str = ":16R:AMT\n:19A::SETT//EUR1000,50\n:16S:AMT\n";
 
 /// 400 delivered by ALPHDEFF to BETADEFF against EUR 1000.50.
-fn delivery(key: &'static str) -> Deal<'static> {
-    Deal {
-        sender: "ALPHDEFF",
-        mt: Mt::Mt543,
-        key,
-        account: "A-1",
-        quantity: "400",
-        other: "BETADEFF",
-        day: "20240229",
-        amount: AMOUNT,
-    }
+fn paid_delivery(key: &str) -> Deal<'_> {
+    against_payment(delivery(key))
 }
 
 /// The receipt of it.
-fn receipt(key: &'static str) -> Deal<'static> {
-    Deal {
-        sender: "BETADEFF",
-        mt: Mt::Mt541,
-        key,
-        account: "B-1",
-        quantity: "400",
-        other: "ALPHDEFF",
-        day: "20240229",
-        amount: AMOUNT,
-    }
+fn paid_receipt(key: &str) -> Deal<'_> {
+    against_payment(receipt(key))
 }
 
 /// Two participants with an account each, a security, 1000 of it on A-1, and EUR 1000.50 of BETADEFF: seven
@@ -180,8 +70,8 @@ fn base_with(alloc: Global, cash: u64) -> Result<Vec<Entry>, Fail>
     entries.push(participant("P2", "BETADEFF")?)?;
     entries.push(new_account("C1", "ALPHDEFF", "A-1")?)?;
     entries.push(new_account("C2", "BETADEFF", "B-1")?)?;
-    entries.push(security("S1")?)?;
-    entries.push(Entry::Issue(movement("I1", "A-1", 1000)?))?;
+    entries.push(security("S1", SHARE, Kind::Unit)?)?;
+    entries.push(issue("I1", "A-1", SHARE, 1000)?)?;
     entries.push(Entry::PayIn(payment("M1", "BETADEFF", cash)?))?;
     Ok(entries)
 }
@@ -208,19 +98,19 @@ fn of_run(run: u64, earlier: u64, later: u64) -> Settled {
 fn settles_a_pair_against_payment(rt: HostRuntime) -> Result<(), Fail> {
     let alloc = rt.alloc();
     let mut entries = base(alloc)?;
-    entries.push(instruct(alloc, delivery("A1"))?)?;
-    entries.push(instruct(alloc, receipt("B1"))?)?;
+    entries.push(instruct(alloc, paid_delivery("A1"))?)?;
+    entries.push(instruct(alloc, paid_receipt("B1"))?)?;
     entries.push(run("R1", b"20240229")?)?;
     entries.push(run("R2", b"20240229")?)?;
     let (pairs, settled) = settled(alloc, &entries)?;
     assert_eq!(rt; pairs.as_slice(), [pair(8, 9)].as_slice());
     // The second run doesn't settle it again.
     assert_eq!(rt; settled.as_slice(), [of_run(10, 8, 9)].as_slice());
-    let isin = isin()?;
-    assert_eq!(rt; credits(&entries, &settled, &account("A-1")?, &isin), 1000);
-    assert_eq!(rt; debits(&entries, &settled, &account("A-1")?, &isin), 400);
-    assert_eq!(rt; credits(&entries, &settled, &account("B-1")?, &isin), 400);
-    assert_eq!(rt; debits(&entries, &settled, &account("B-1")?, &isin), 0);
+    let share = isin(SHARE)?;
+    assert_eq!(rt; credits(&entries, &settled, &account("A-1")?, &share), 1000);
+    assert_eq!(rt; debits(&entries, &settled, &account("A-1")?, &share), 400);
+    assert_eq!(rt; credits(&entries, &settled, &account("B-1")?, &share), 400);
+    assert_eq!(rt; debits(&entries, &settled, &account("B-1")?, &share), 0);
     assert_eq!(rt;
         cash_credits(&entries, &settled, &bic("ALPHDEFF")?, Ccy::Eur),
         100_050
@@ -236,28 +126,14 @@ fn settles_a_pair_against_payment(rt: HostRuntime) -> Result<(), Fail> {
 fn settles_a_free_pair(rt: HostRuntime) -> Result<(), Fail> {
     let alloc = rt.alloc();
     let mut entries = base(alloc)?;
-    entries.push(instruct(
-        alloc,
-        Deal {
-            mt: Mt::Mt542,
-            amount: "",
-            ..delivery("A1")
-        },
-    )?)?;
-    entries.push(instruct(
-        alloc,
-        Deal {
-            mt: Mt::Mt540,
-            amount: "",
-            ..receipt("B1")
-        },
-    )?)?;
+    entries.push(instruct(alloc, delivery("A1"))?)?;
+    entries.push(instruct(alloc, receipt("B1"))?)?;
     entries.push(run("R1", b"20240229")?)?;
     let (pairs, settled) = settled(alloc, &entries)?;
     assert_eq!(rt; pairs.as_slice(), [pair(8, 9)].as_slice());
     assert_eq!(rt; settled.as_slice(), [of_run(10, 8, 9)].as_slice());
     assert_eq!(rt;
-        credits(&entries, &settled, &account("B-1")?, &isin()?),
+        credits(&entries, &settled, &account("B-1")?, &isin(SHARE)?),
         400
     );
     assert_eq!(rt;
@@ -277,19 +153,19 @@ fn pairs_the_least_that_stands(rt: HostRuntime) -> Result<(), Fail> {
         alloc,
         Deal {
             amount: dollars,
-            ..delivery("A0")
+            ..paid_delivery("A0")
         },
     )?)?;
-    entries.push(instruct(alloc, delivery("A1"))?)?;
-    entries.push(instruct(alloc, delivery("A2"))?)?;
-    entries.push(instruct(alloc, delivery("A3"))?)?;
-    entries.push(message(
+    entries.push(instruct(alloc, paid_delivery("A1"))?)?;
+    entries.push(instruct(alloc, paid_delivery("A2"))?)?;
+    entries.push(instruct(alloc, paid_delivery("A3"))?)?;
+    entries.push(cancel(
         alloc,
         "ALPHDEFF",
         Mt::Mt543,
         "{4:\n:16R:GENL\n:20C::SEME//X1\n:23G:CANC\n:16R:LINK\n:20C::PREV//A1\n:16S:LINK\n:16S:GENL\n-}\n",
     )?)?;
-    entries.push(instruct(alloc, receipt("B1"))?)?;
+    entries.push(instruct(alloc, paid_receipt("B1"))?)?;
     let pairs = pairing_of(alloc, &entries)?;
     assert_eq!(rt; pairs.as_slice(), [pair(10, 13)].as_slice());
     assert!(rt; is_cancelled(&entries, 9));
@@ -308,23 +184,19 @@ fn base_of_three(alloc: Global) -> Result<Vec<Entry>, Fail> {
     entries.push(new_account("C1", "ALPHDEFF", "A-1")?)?;
     entries.push(new_account("C2", "BETADEFF", "B-1")?)?;
     entries.push(new_account("C3", "GAMMDEFF", "C-1")?)?;
-    entries.push(security("S1")?)?;
-    entries.push(Entry::Issue(movement("I1", "A-1", 100)?))?;
+    entries.push(security("S1", SHARE, Kind::Unit)?)?;
+    entries.push(issue("I1", "A-1", SHARE, 100)?)?;
     Ok(entries)
 }
 
 /// 100 delivered free by ALPHDEFF to BETADEFF, and the receipt of it.
 fn first_link() -> (Deal<'static>, Deal<'static>) {
     let free = Deal {
-        mt: Mt::Mt542,
         quantity: "100",
-        amount: "",
         ..delivery("A1")
     };
     let taken = Deal {
-        mt: Mt::Mt540,
         quantity: "100",
-        amount: "",
         ..receipt("B2")
     };
     (free, taken)
@@ -395,7 +267,10 @@ fn settles_a_chain_in_its_order(rt: HostRuntime) -> Result<(), Fail> {
         moved.as_slice(),
         [of_run(13, 9, 10), of_run(13, 11, 12)].as_slice()
     );
-    assert_eq!(rt; credits(&entries, &moved, &account("C-1")?, &isin()?), 100);
+    assert_eq!(rt;
+        credits(&entries, &moved, &account("C-1")?, &isin(SHARE)?),
+        100
+    );
     Ok(())
 }
 
@@ -404,13 +279,16 @@ fn settles_a_chain_in_its_order(rt: HostRuntime) -> Result<(), Fail> {
 fn waits_for_the_cash(rt: HostRuntime) -> Result<(), Fail> {
     let alloc = rt.alloc();
     let mut entries = base_with(alloc, 100_049)?;
-    entries.push(instruct(alloc, delivery("A1"))?)?;
-    entries.push(instruct(alloc, receipt("B1"))?)?;
+    entries.push(instruct(alloc, paid_delivery("A1"))?)?;
+    entries.push(instruct(alloc, paid_receipt("B1"))?)?;
     entries.push(run("R1", b"20240229")?)?;
     let (_, moved) = settled(alloc, &entries)?;
     assert_eq!(rt; moved.len(), 0);
     assert_eq!(rt; lack_of(&entries, &moved, pair(8, 9)), Some(Lack::Money));
-    assert_eq!(rt; debits(&entries, &moved, &account("A-1")?, &isin()?), 0);
+    assert_eq!(rt;
+        debits(&entries, &moved, &account("A-1")?, &isin(SHARE)?),
+        0
+    );
     entries.push(Entry::PayIn(payment("M2", "BETADEFF", 1)?))?;
     entries.push(run("R2", b"20240229")?)?;
     let (_, moved) = settled(alloc, &entries)?;
@@ -423,20 +301,20 @@ fn waits_for_the_cash(rt: HostRuntime) -> Result<(), Fail> {
 fn counts_what_comes_and_goes(rt: HostRuntime) -> Result<(), Fail> {
     let alloc = rt.alloc();
     let mut entries = base(alloc)?;
-    entries.push(Entry::Issue(movement("I2", "B-1", 7)?))?;
-    entries.push(Entry::Redeem(movement("D1", "A-1", 300)?))?;
+    entries.push(issue("I2", "B-1", SHARE, 7)?)?;
+    entries.push(redeem("D1", "A-1", SHARE, 300)?)?;
     entries.push(Entry::PayIn(payment("M2", "ALPHDEFF", 5)?))?;
     entries.push(Entry::PayOut(payment("O1", "BETADEFF", 50)?))?;
-    let isin = isin()?;
-    assert_eq!(rt; issued(&entries, &isin), 1007);
-    assert_eq!(rt; redeemed(&entries, &isin), 300);
-    assert_eq!(rt; issued(&entries, &Isin::parse(b"US0378331005")?), 0);
+    let share = isin(SHARE)?;
+    assert_eq!(rt; issued(&entries, &share), 1007);
+    assert_eq!(rt; redeemed(&entries, &share), 300);
+    assert_eq!(rt; issued(&entries, &isin(BOND)?), 0);
     assert_eq!(rt; paid_in(&entries, Ccy::Eur), 100_055);
     assert_eq!(rt; paid_out(&entries, Ccy::Eur), 50);
     assert_eq!(rt; paid_in(&entries, Ccy::Usd), 0);
-    assert_eq!(rt; credits(&entries, &[], &account("A-1")?, &isin), 1000);
-    assert_eq!(rt; debits(&entries, &[], &account("A-1")?, &isin), 300);
-    assert_eq!(rt; debits(&entries, &[], &account("B-1")?, &isin), 0);
+    assert_eq!(rt; credits(&entries, &[], &account("A-1")?, &share), 1000);
+    assert_eq!(rt; debits(&entries, &[], &account("A-1")?, &share), 300);
+    assert_eq!(rt; debits(&entries, &[], &account("B-1")?, &share), 0);
     let beta = bic("BETADEFF")?;
     assert_eq!(rt; cash_credits(&entries, &[], &beta, Ccy::Eur), 100_050);
     assert_eq!(rt; cash_debits(&entries, &[], &beta, Ccy::Eur), 50);
@@ -449,15 +327,11 @@ fn settles_in_order_of_settlement_day(rt: HostRuntime) -> Result<(), Fail> {
     let alloc = rt.alloc();
     let mut entries = base(alloc)?;
     let free = Deal {
-        mt: Mt::Mt542,
         quantity: "1000",
-        amount: "",
         ..delivery("A1")
     };
     let taken = Deal {
-        mt: Mt::Mt540,
         quantity: "1000",
-        amount: "",
         ..receipt("B1")
     };
     entries.push(instruct(
@@ -493,10 +367,8 @@ fn settles_in_order_of_settlement_day(rt: HostRuntime) -> Result<(), Fail> {
 fn transfers_within_an_account(rt: HostRuntime) -> Result<(), Fail> {
     let alloc = rt.alloc();
     let free = Deal {
-        mt: Mt::Mt542,
         quantity: "1000",
         other: "ALPHDEFF",
-        amount: "",
         ..delivery("A3")
     };
     let taken = Deal {
@@ -510,8 +382,14 @@ fn transfers_within_an_account(rt: HostRuntime) -> Result<(), Fail> {
     entries.push(run("R1", b"20240229")?)?;
     let (_, moved) = settled(alloc, &entries)?;
     assert_eq!(rt; moved.as_slice(), [of_run(10, 8, 9)].as_slice());
-    assert_eq!(rt; credits(&entries, &moved, &account("A-1")?, &isin()?), 2000);
-    assert_eq!(rt; debits(&entries, &moved, &account("A-1")?, &isin()?), 1000);
+    assert_eq!(rt;
+        credits(&entries, &moved, &account("A-1")?, &isin(SHARE)?),
+        2000
+    );
+    assert_eq!(rt;
+        debits(&entries, &moved, &account("A-1")?, &isin(SHARE)?),
+        1000
+    );
 
     let mut entries = base(alloc)?;
     entries.push(instruct(
@@ -548,7 +426,7 @@ fn transfers_between_own_accounts(rt: HostRuntime) -> Result<(), Fail> {
         quantity: "10",
         other: "ALPHDEFF",
         amount,
-        ..delivery("A5")
+        ..paid_delivery("A5")
     };
     let taken = Deal {
         mt: Mt::Mt541,
@@ -564,8 +442,14 @@ fn transfers_between_own_accounts(rt: HostRuntime) -> Result<(), Fail> {
     entries.push(run("R1", b"20240229")?)?;
     let (_, moved) = settled(alloc, &entries)?;
     assert_eq!(rt; moved.as_slice(), [of_run(12, 10, 11)].as_slice());
-    assert_eq!(rt; debits(&entries, &moved, &account("A-1")?, &isin()?), 10);
-    assert_eq!(rt; credits(&entries, &moved, &account("A-2")?, &isin()?), 10);
+    assert_eq!(rt;
+        debits(&entries, &moved, &account("A-1")?, &isin(SHARE)?),
+        10
+    );
+    assert_eq!(rt;
+        credits(&entries, &moved, &account("A-2")?, &isin(SHARE)?),
+        10
+    );
     assert_eq!(rt;
         cash_credits(&entries, &moved, &bic("ALPHDEFF")?, Ccy::Eur),
         1000
