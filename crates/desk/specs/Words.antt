@@ -1,8 +1,9 @@
 -- Which words ask for what.
-use Rattle.std.specs.Prelude.{◌≡◌, ◌≢◌, ℕ, List, [], ◌∷◌, Option, Some, pos, true, codes, slice_index}
-use Rattle.clap.specs.Words.{App, Row, Rule, first_of, new_app, new_rule, one_of, with_rule, with_subcommand}
+use Rattle.std.specs.Prelude.{◌≡◌, ◌≢◌, ℕ, List, [], ◌∷◌, Option, Some, pos, true, codes, slice_index, IsSomeAnd, MatchOption}
+use Rattle.std.specs.Str.Parse.{IsNumeral, digits_value, without_leading_plus}
+use Rattle.clap.specs.Words.{App, Row, Rule, first_of, new_app, new_rule, one_of, subcommand_of, with_rule, with_subcommand}
 use Rattle.clap.specs.declared.builder.value_parser.ValueParser.TheVariants.{Signed}
-use Rattle.desk_msg.specs.MessageType.{digits_of_type, is_instruction}
+use Rattle.desk_msg.specs.MessageType.{digits_of_type, is_instruction, number_of_type}
 use Rattle.desk_msg.specs.declared.mt.Mt.{Mt}
 use Rattle.desk.specs.declared.words.Call.{Call}
 use Rattle.desk.specs.declared.words.Call.TheVariants.{Isin, Read, Play}
@@ -60,3 +61,17 @@ play_app = new_app (codes "play")
 
 abbrev pub desk_app : App
 desk_app = with_subcommand (with_subcommand (with_subcommand (new_app (codes "desk")) isin_app.top) read_app.top) play_app.top
+
+-- digits that write a type's number; a plus may stand before them
+abbrev pub IsTypeText : Mt → List ℕ → Type 0
+IsTypeText mt text = IsNumeral 10 (without_leading_plus text) × (digits_value 10 (without_leading_plus text) ≡ number_of_type mt)
+
+-- a subcommand's name and matches say this, and nothing else
+abbrev pub IsSaid : Asked → List ℕ → List Row → Type 0
+IsSaid (isin code) name rows = (name ≡ codes "isin") × (first_of (codes "code") rows ≡ Some code)
+IsSaid (read mt) name rows = (name ≡ codes "read") × IsSomeAnd (one_of (codes "mt") rows) (IsTypeText mt)
+IsSaid play name rows = name ≡ codes "play"
+
+-- the words say this by their subcommand; without one, to play
+abbrev pub IsSaidBy : Asked → List (List ℕ) → Type 0
+IsSaidBy asked words = MatchOption (subcommand_of desk_app words) (asked ≡ play) (λ found. IsSaid asked found.0 found.1)

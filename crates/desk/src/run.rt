@@ -4,7 +4,7 @@ ghost use Rattle.std.specs.Io.KnownBytes.{Appends};
 ghost use Rattle.clap.specs.Words.{kind_of};
 ghost use Rattle.desk.specs.CallAnswer.{IsAnswer, IsMemoryTold};
 ghost use Rattle.desk.specs.Status.{failure_line, status_of_error};
-ghost use Rattle.desk.specs.Words.{Asked, IsAskable, IsReadable, asked_by, words_for};
+ghost use Rattle.desk.specs.Words.{Asked, IsAskable, IsReadable, IsSaidBy, asked_by, words_for};
 
 use crate::isin::answer_isin;
 use crate::play::answer_play;
@@ -28,7 +28,7 @@ pub fn run<S: AsStr, R: Read, W: Write>(
     ensures nothing { (program : List ℕ) → map S.text words.now ≡ program ∷ []
         → (result ≡ Status.Fault) ⊎ IsAnswer Asked.play (R.remaining reader.old) result (W.contents writer.old) (W.contents writer.new) }
     ensures refused { result ≡ Status.Refused
-        → (asked : Asked) × IsAnswer asked (R.remaining reader.old) result (W.contents writer.old) (W.contents writer.new) }
+        → (asked : Asked) × IsSaidBy asked (map S.text words.now) × IsAnswer asked (R.remaining reader.old) result (W.contents writer.old) (W.contents writer.new) }
 {
     answer_words(alloc, words, reader, writer).unwrap_or(Status::Fault)
 }
@@ -45,7 +45,7 @@ fn answer_words<S: AsStr, R: Read, W: Write>(
     ensures nothing { (program : List ℕ) → map S.text words.now ≡ program ∷ []
         → IfOk result (λ status. IsMemoryTold status (W.contents writer.old) (W.contents writer.new) ⊎ IsAnswer Asked.play (R.remaining reader.old) status (W.contents writer.old) (W.contents writer.new)) }
     ensures refused { IfOk result (λ status. status ≡ Status.Refused
-        → (asked : Asked) × IsAnswer asked (R.remaining reader.old) status (W.contents writer.old) (W.contents writer.new)) }
+        → (asked : Asked) × IsSaidBy asked (map S.text words.now) × IsAnswer asked (R.remaining reader.old) status (W.contents writer.old) (W.contents writer.new)) }
 {
     match call_of(alloc, words) {
         Ok(call) => answer(alloc, call, reader, writer),

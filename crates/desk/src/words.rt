@@ -1,10 +1,10 @@
 //! The words of the command line.
-ghost use Rattle.std.specs.Prelude.{◌≡◌, [], ◌∷◌, ℕ, List, false, true, codes, map, IfOk, IfSome, IsSomeAnd, MatchResult};
+ghost use Rattle.std.specs.Prelude.{◌≡◌, [], ◌∷◌, ℕ, List, false, true, codes, map, IfOk, IfSome, IsSomeAnd, MatchOption, MatchResult};
 ghost use Rattle.clap.specs.Words.{app_of, found_of, kind_of, one_text, rows_of, subcommand_rows_of};
 ghost use Rattle.clap.specs.declared.builder.command.Command.TheViews.{out-Command};
 ghost use Rattle.desk_msg.specs.MessageType.{digits_of_type, is_instruction, number_of_type};
 ghost use Rattle.desk_msg.specs.declared.mt.Mt.{Mt};
-ghost use Rattle.desk.specs.Words.{Asked, IsAskable, IsNamed, IsReadable, asked_by, desk_app, isin_app, play_app, read_app, words_for};
+ghost use Rattle.desk.specs.Words.{Asked, IsAskable, IsNamed, IsReadable, IsSaid, IsSaidBy, IsTypeText, asked_by, desk_app, isin_app, play_app, read_app, words_for};
 
 use clap::error::{Error, ErrorKind};
 use clap::{Arg, ArgMatches, Command, value_parser};
@@ -35,6 +35,7 @@ Exit status:
 /// subcommand, or want of memory.
 pub fn call_of<'a, S: AsStr>(alloc: Global, words: &'a [S]) -> Result<Call<'a>, Error>
     ensures readable { IfOk result IsReadable }
+    ensures said { IfOk result (λ call. IsSaidBy (asked_by call) (map S.text words.entry.now)) }
     ensures asked { (program : List ℕ) (asked : Asked) → IsAskable asked → map S.text words.entry.now ≡ program ∷ words_for asked
         → MatchResult result (λ call. asked_by call ≡ asked) (λ error. kind_of error ≡ ErrorKind.OutOfMemory) }
     ensures nothing { (program : List ℕ) → map S.text words.entry.now ≡ program ∷ []
@@ -58,6 +59,7 @@ pub fn usage_error(alloc: Global, message: &str) -> Result<Error, AllocError>
 /// What the matches ask for; no subcommand asks for a script's answers.
 fn call_in<'a>(matches: &ArgMatches<'a>) -> Option<Call<'a>>
     ensures readable { IfSome result IsReadable }
+    ensures said { IfSome result (λ call. MatchOption (subcommand_rows_of matches.now) (asked_by call ≡ Asked.play) (λ found. IsSaid (asked_by call) found.0 found.1)) }
     ensures asked { (asked : Asked) → IsSomeAnd (subcommand_rows_of matches.now) (λ found. IsNamed asked found.0 found.1)
         → IsSomeAnd result (λ call. asked_by call ≡ asked) }
     ensures nothing { subcommand_rows_of matches.now ≡ None → IsSomeAnd result (λ call. asked_by call ≡ Asked.play) }
@@ -71,6 +73,7 @@ fn call_in<'a>(matches: &ArgMatches<'a>) -> Option<Call<'a>>
 /// What a subcommand with these matches asks for.
 fn subcommand_call<'a>(name: &str, inner: &ArgMatches<'a>) -> Option<Call<'a>>
     ensures readable { IfSome result IsReadable }
+    ensures said { IfSome result (λ call. IsSaid (asked_by call) name.now (rows_of (found_of inner.now))) }
     ensures asked { (asked : Asked) → IsNamed asked name.now (rows_of (found_of inner.now))
         → IsSomeAnd result (λ call. asked_by call ≡ asked) }
 {
@@ -85,6 +88,7 @@ fn subcommand_call<'a>(name: &str, inner: &ArgMatches<'a>) -> Option<Call<'a>>
 /// The type that a message is to be read as.
 fn type_in(inner: &ArgMatches) -> Option<Mt>
     ensures right { IfSome result (λ mt. is_instruction mt ≡ true) }
+    ensures said { IfSome result (λ mt. IsSomeAnd (one_text (found_of inner.now) (codes "mt")) (IsTypeText mt)) }
     ensures asked { (mt : Mt) → is_instruction mt ≡ true → one_text (found_of inner.now) (codes "mt") ≡ Some (digits_of_type mt)
         → IsSomeAnd result (λ found. found ≡ mt) }
 {

@@ -1,5 +1,5 @@
 use Rattle.clap.specs.Words.{found_of, rows_of}
-use Rattle.desk.proofs.WordsLemmas.{named_in, none_in, one_in}
+use Rattle.desk.proofs.WordsLemmas.{named_in, none_in, one_in, said_in, said_of_none}
 use Rattle.desk.proofs.words.call_in.Goals as goal
 
 pub returns-in-Some-clause-asked : goal.returns-in-Some-clause-asked
@@ -11,3 +11,9 @@ returns-in-Some-clause-nothing c = λ none. absurd (one_in c.args.matches.now c.
 
 pub returns-in-None-clause-asked : goal.returns-in-None-clause-asked
 returns-in-None-clause-asked c = λ asked named. let none = none_in c.args.matches.now c.in-None.ensures.name in absurd (rw none at named)
+
+pub returns-in-Some-clause-said : goal.returns-in-Some-clause-said
+returns-in-Some-clause-said c = said_in c.args.matches.now c.in-Some.name.now (rows_of (found_of c.in-Some.inner.now)) c.subcommand_call.result c.in-Some.ensures.name c.in-Some.ensures.rows c.subcommand_call.ensures.said
+
+pub returns-in-None-clause-said : goal.returns-in-None-clause-said
+returns-in-None-clause-said c = said_of_none c.args.matches.now c.in-None.ensures.name

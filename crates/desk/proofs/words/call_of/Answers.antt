@@ -1,6 +1,5 @@
-use Rattle.std.proofs.Common.{◌≡◌, ap}
 use Rattle.std.proofs.lemmas.Result.{err_from_is_err_and}
-use Rattle.desk.proofs.WordsLemmas.{entered, taken, taken_alone}
+use Rattle.desk.proofs.WordsLemmas.{entered, said_by, taken, taken_alone}
 use Rattle.desk.proofs.words.call_of.Goals as goal
 
 pub returns-in_err-matches-clause-asked : goal.returns-in_err-matches-clause-asked
@@ -20,3 +19,6 @@ returns-in-Some-clause-asked g c = λ program asked right are.
 pub returns-clause-asked : goal.returns-clause-asked
 returns-clause-asked g c = λ program asked right are.
     absurd (c.in-None.ensures.asked asked (entered _ _ c.in_ok-matches.matches program asked c.in_ok-matches.ensures.matches c.in_ok-desk.ensures are right))
+
+pub returns-in-Some-clause-said : goal.returns-in-Some-clause-said
+returns-in-Some-clause-said g c = said_by _ _ c.in_ok-matches.matches _ c.in_ok-matches.ensures.matches c.in_ok-desk.ensures c.in-Some.ensures.said

@@ -1,5 +1,5 @@
 use Rattle.clap.specs.Words.{found_of}
-use Rattle.desk.proofs.WordsLemmas.{no_code, no_type, same_code, same_type}
+use Rattle.desk.proofs.WordsLemmas.{no_code, no_type, said_code, said_type, same_code, same_type}
 use Rattle.desk.proofs.words.subcommand_call.Goals as goal
 
 pub returns-in_err-get_str-in-isin-clause-asked : goal.returns-in_err-get_str-in-isin-clause-asked
@@ -13,3 +13,9 @@ returns-in_err-type_in-in-read-clause-asked c = λ asked named. absurd (no_type 
 
 pub returns-in_ok-type_in-in-read-clause-asked : goal.returns-in_ok-type_in-in-read-clause-asked
 returns-in_ok-type_in-in-read-clause-asked c = λ asked named. same_type asked c.args.name.now (found_of c.args.inner.now) _ c.in-read.is c.in_ok-type_in-in-read.ensures.asked named
+
+pub returns-in_ok-get_str-in-isin-clause-said : goal.returns-in_ok-get_str-in-isin-clause-said
+returns-in_ok-get_str-in-isin-clause-said c = said_code c.args.name.now (found_of c.args.inner.now) _ c.in-isin.is c.in_ok-get_str-in-isin.ensures
+
+pub returns-in_ok-type_in-in-read-clause-said : goal.returns-in_ok-type_in-in-read-clause-said
+returns-in_ok-type_in-in-read-clause-said c = said_type c.args.name.now (found_of c.args.inner.now) _ c.in-read.is c.in_ok-type_in-in-read.ensures.said
