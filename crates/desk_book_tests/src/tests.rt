@@ -1,5 +1,6 @@
 //! Outside vectors, each call once with ample memory, and readers and writers that fail.
 mod commands;
+mod day;
 mod desks;
 mod failed_plays;
 mod failing;

@@ -1,8 +1,8 @@
 //! Operator's commands: what is read, and what is none.
 use desk_book::*;
-use desk_codes::{AccountId, Bic, Day, Isin, Reference};
 use desk_msg::Kind;
-use desk_rules::{Entry, Movement};
+use desk_rules::Entry;
+use desk_worked::entries::{SHARE, issue, new_account, participant, run, security};
 use std::alloc::{AllocError, Global};
 use std::test::Fail;
 
@@ -23,39 +23,23 @@ fn letter(alloc: Global, text: &[u8]) -> Result<char, AllocError> {
 #[test]
 fn commands(rt: HostRuntime) -> Result<(), Fail> {
     let alloc = rt.alloc();
-    let reference = Reference::read(b"X1").ok_or("reference")?;
-    let bic = Bic::parse(b"ALPHDEFF")?;
-    let account = AccountId::read(b"A-1").ok_or("account")?;
-    let isin = Isin::parse(b"DE0007164600")?;
-    let day = Day::read(b"20240229").ok_or("day")?;
-    let participant = Entry::Participant { reference, bic };
+    let want = participant("X1", "ALPHDEFF")?;
     for text in [
         br#"{"op":"participant","ref":"X1","bic":"ALPHDEFF"}"#.as_slice(),
         br#" { "bic" : "ALPHDEFFXXX" , "ref" : "X1" , "op" : "participant" } "#.as_slice(),
         br#"{"op":"parti\u0063ipant","ref":"\u0058\u0031","b\u0069c":"ALPHDEFF"}"#.as_slice(),
         br#"{"op":"participant","ref":"X1","bic":"BETADEFF","bic":"ALPHDEFF"}"#.as_slice(),
     ] {
-        assert!(rt;
-            read_command(alloc, text)? == Some(participant),
-            "at {text:?}"
-        );
+        assert!(rt; read_command(alloc, text)? == Some(want), "at {text:?}");
     }
     let text = br#"{"op":"account","ref":"X1","bic":"ALPHDEFF","account":"A-1"}"#;
-    let want = Entry::Account {
-        reference,
-        bic,
-        account,
-    };
+    let want = new_account("X1", "ALPHDEFF", "A-1")?;
     assert!(rt; read_command(alloc, text)? == Some(want));
     for (word, kind) in [("UNIT", Kind::Unit), ("FAMT", Kind::FaceAmount)] {
         let text = format!(in alloc;
             "{{\"op\":\"security\",\"ref\":\"X1\",\"isin\":\"DE0007164600\",\"kind\":\"{word}\"}}"
         )?;
-        let want = Entry::Security {
-            reference,
-            isin,
-            kind,
-        };
+        let want = security("X1", SHARE, kind)?;
         assert!(rt;
             read_command(alloc, text.as_bytes())? == Some(want),
             "at {word}"
@@ -63,15 +47,11 @@ fn commands(rt: HostRuntime) -> Result<(), Fail> {
     }
     let text =
         br#"{"op":"issue","ref":"X1","account":"A-1","isin":"DE0007164600","quantity":1000}"#;
-    let want = Entry::Issue(Movement {
-        reference,
-        account,
-        isin,
-        quantity: 1000,
-    });
+    let want = issue("X1", "A-1", SHARE, 1000)?;
     assert!(rt; read_command(alloc, text)? == Some(want));
     let text = br#"{"op":"run","ref":"X1","day":"20240229"}"#;
-    assert!(rt; read_command(alloc, text)? == Some(Entry::Run { reference, day }));
+    let want = run("X1", b"20240229")?;
+    assert!(rt; read_command(alloc, text)? == Some(want));
     Ok(())
 }
 

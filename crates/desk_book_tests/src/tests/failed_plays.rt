@@ -94,12 +94,7 @@ fn one_failed_call_is_told(rt: HostRuntime) -> Result<(), Fail> {
         want.extend_from_slice(before)?;
         want.extend_from_slice(FAULT)?;
         want.extend_from_slice(behind)?;
-        let plan = Plan {
-            first,
-            gap: 0,
-            count: 1,
-            is_late: false,
-        };
+        let plan = Plan::failing(first, 1);
         let written = played(alloc, &mut failing_desk(alloc, plan), FREE_PAIR)?;
         assert_eq!(rt; written.as_slice(), want.as_slice(), "at {first}");
     }
@@ -121,12 +116,7 @@ fn a_closed_desk_is_told(rt: HostRuntime) -> Result<(), Fail> {
         for _ in hit..item_count(FREE_PAIR) {
             want.extend_from_slice(CLOSED)?;
         }
-        let plan = Plan {
-            first,
-            gap: 0,
-            count: 2,
-            is_late: false,
-        };
+        let plan = Plan::failing(first, 2);
         let written = played(alloc, &mut failing_desk(alloc, plan), FREE_PAIR)?;
         assert_eq!(rt; written.as_slice(), want.as_slice(), "at {first}");
     }

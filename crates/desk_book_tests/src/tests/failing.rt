@@ -24,6 +24,18 @@ pub struct Plan {
     pub is_late: bool,
 }
 
+impl Plan {
+    /// So many calls in a row fail, from this one on, each before it changes the store.
+    pub fn failing(first: u64, count: u64) -> Plan {
+        Plan {
+            first,
+            gap: 0,
+            count,
+            is_late: false,
+        }
+    }
+}
+
 /// The calls of a store, and which of them fail.
 #[derive(Clone, Copy, Debug)]
 pub struct Calls {

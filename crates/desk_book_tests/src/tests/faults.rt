@@ -1,133 +1,13 @@
 //! A desk over a store of which calls fail, each in turn: what it answers then and afterwards, and what it keeps.
-use crate::tests::desks::{DELIVERY, MATCHED, RECEIPT, UNMATCHED, is_reply};
+use crate::tests::day::{Asked, DELIVERER, RECEIVER, ask, day, is_wanted};
 use crate::tests::failing::{FailingRegister, Plan};
 use desk_book::*;
 use desk_codes::Bic;
-use desk_msg::Mt;
 use desk_register::{ListRegister, Register, Stage};
 use desk_rules::Reply;
 use std::alloc::{AllocError, Global};
 use std::process::Abort;
 use std::test::Fail;
-
-const DELIVERER: &[u8] = b"ALPHDEFF";
-
-const RECEIVER: &[u8] = b"BETADEFF";
-
-/// What is asked: a command, a participant's message, or the totals.
-#[derive(Clone, Copy)]
-enum Form {
-    Command,
-    Message(Bic, Mt),
-    Sums,
-}
-
-/// A request, and its answer on a day on which nothing fails.
-#[derive(Clone, Copy)]
-struct Asked<'a> {
-    form: Form,
-    text: &'a [u8],
-    status: u16,
-    mt: Option<u16>,
-    answer: &'a [u8],
-}
-
-fn command<'a>(text: &'a [u8], status: u16, answer: &'a [u8]) -> Asked<'a> {
-    Asked {
-        form: Form::Command,
-        text,
-        status,
-        mt: None,
-        answer,
-    }
-}
-
-fn message<'a>(sender: Bic, mt: Mt, text: &'a [u8], answer: &'a [u8]) -> Asked<'a> {
-    Asked {
-        form: Form::Message(sender, mt),
-        text,
-        status: 200,
-        mt: Some(548),
-        answer,
-    }
-}
-
-fn totals<'a>(answer: &'a [u8]) -> Asked<'a> {
-    Asked {
-        form: Form::Sums,
-        text: b"",
-        status: 200,
-        mt: None,
-        answer,
-    }
-}
-
-/// A short day: all that the desk takes once, a free pair, a run that settles it, a repeat, a refusal, what is no
-/// command, and the totals.
-fn day<'a>(deliverer: Bic, receiver: Bic) -> [Asked<'a>; 13] {
-    [
-        command(
-            br#"{"op":"participant","ref":"P1","bic":"ALPHDEFF"}"#,
-            200,
-            b"accepted 1",
-        ),
-        command(
-            br#"{"op":"participant","ref":"P2","bic":"BETADEFF"}"#,
-            200,
-            b"accepted 2",
-        ),
-        command(
-            br#"{"op":"account","ref":"C1","bic":"ALPHDEFF","account":"A-1"}"#,
-            200,
-            b"accepted 3",
-        ),
-        command(
-            br#"{"op":"account","ref":"C2","bic":"BETADEFF","account":"B-1"}"#,
-            200,
-            b"accepted 4",
-        ),
-        command(
-            br#"{"op":"security","ref":"S1","isin":"DE0007164600","kind":"UNIT"}"#,
-            200,
-            b"accepted 5",
-        ),
-        command(
-            br#"{"op":"issue","ref":"I1","account":"A-1","isin":"DE0007164600","quantity":1000}"#,
-            200,
-            b"accepted 6",
-        ),
-        message(deliverer, Mt::Mt542, DELIVERY, UNMATCHED),
-        message(receiver, Mt::Mt540, RECEIPT, MATCHED),
-        command(
-            br#"{"op":"run","ref":"R1","day":"20240229"}"#,
-            200,
-            b"accepted 9 settled 1 waiting 0",
-        ),
-        message(deliverer, Mt::Mt542, DELIVERY, UNMATCHED),
-        command(
-            br#"{"op":"account","ref":"C3","bic":"GAMMDEFF","account":"C-1"}"#,
-            422,
-            b"refused 33",
-        ),
-        command(b"{}", 400, b"refused 30"),
-        totals(
-            br#"{"cash":[],"securities":[{"held":1000,"isin":"DE0007164600","outstanding":1000}]}"#,
-        ),
-    ]
-}
-
-/// Whether an answer is that of a day on which nothing fails.
-fn is_wanted(answer: &Result<Reply, Fault>, asked: &Asked<'_>) -> bool {
-    is_reply(answer, asked.status, asked.mt, asked.answer)
-}
-
-fn ask<R: Register>(alloc: Global, desk: &mut Desk<R>, asked: &Asked<'_>) -> Result<Reply, Fault> {
-    match asked.form {
-        Form::Command => desk.ask(alloc, &Request::Operator(asked.text)),
-        Form::Message(sender, mt) => desk.ask(alloc, &Request::Message(sender, mt, asked.text)),
-        Form::Sums => desk.ask(alloc, &Request::Sums),
-    }
-}
 
 /// A desk over a store of which calls fail so.
 pub fn failing_desk(alloc: Global, plan: Plan) -> Desk<FailingRegister> {
@@ -153,6 +33,13 @@ fn calls_after(alloc: Global, day: &[Asked<'_>]) -> Result<Vec<u64>, AllocError>
         calls.push(desk.into_register().calls())?;
     }
     Ok(calls)
+}
+
+/// How many calls a store has got after each request of a day, where none fails, and how many in all.
+fn counted_calls(alloc: Global, day: &[Asked<'_>]) -> Result<(Vec<u64>, u64), Fail> {
+    let calls = calls_after(alloc, day)?;
+    let all = *calls.last().ok_or("calls")?;
+    Ok((calls, all))
 }
 
 /// The index of the request in which a call falls.
@@ -257,16 +144,13 @@ fn ask_with_one_fault(
 fn each_call_fails_once(rt: HostRuntime) -> Result<(), Fail> {
     let alloc = rt.alloc();
     let day = day(Bic::parse(DELIVERER)?, Bic::parse(RECEIVER)?);
-    let calls = calls_after(alloc, &day)?;
-    let all = *calls.last().ok_or("calls")?;
+    let (calls, all) = counted_calls(alloc, &day)?;
     let sound = held_after(alloc, &day, day.len());
     for is_late in [false, true] {
         for first in 1..all.saturating_add(2) {
             let plan = Plan {
-                first,
-                gap: 0,
-                count: 1,
                 is_late,
+                ..Plan::failing(first, 1)
             };
             let hit = request_of(&calls, first);
             let register = ask_with_one_fault(&rt, alloc, &day, plan, hit);
@@ -283,16 +167,13 @@ fn each_call_fails_once(rt: HostRuntime) -> Result<(), Fail> {
 fn a_fault_changes_nothing(rt: HostRuntime) -> Result<(), Fail> {
     let alloc = rt.alloc();
     let day = day(Bic::parse(DELIVERER)?, Bic::parse(RECEIVER)?);
-    let calls = calls_after(alloc, &day)?;
-    let all = *calls.last().ok_or("calls")?;
+    let (calls, all) = counted_calls(alloc, &day)?;
     for is_late in [false, true] {
         for first in 1..all.saturating_add(1) {
             let hit = request_of(&calls, first);
             let plan = Plan {
-                first,
-                gap: 0,
-                count: 1,
                 is_late,
+                ..Plan::failing(first, 1)
             };
             let mut desk = failing_desk(alloc, plan);
             for asked in day.iter().take(hit) {
@@ -315,16 +196,10 @@ fn a_fault_changes_nothing(rt: HostRuntime) -> Result<(), Fail> {
 fn a_failed_request_is_left_out(rt: HostRuntime) -> Result<(), Fail> {
     let alloc = rt.alloc();
     let day = day(Bic::parse(DELIVERER)?, Bic::parse(RECEIVER)?);
-    let calls = calls_after(alloc, &day)?;
-    let all = *calls.last().ok_or("calls")?;
+    let (calls, all) = counted_calls(alloc, &day)?;
     for first in 1..all.saturating_add(1) {
         let hit = request_of(&calls, first);
-        let plan = Plan {
-            first,
-            gap: 0,
-            count: 1,
-            is_late: false,
-        };
+        let plan = Plan::failing(first, 1);
         ask_last(&rt, alloc, &day, plan, hit);
     }
     Ok(())
@@ -365,16 +240,13 @@ fn ask_last(rt: &impl Abort, alloc: Global, day: &[Asked<'_>], plan: Plan, hit: 
 fn two_failed_calls_close_the_desk(rt: HostRuntime) -> Result<(), Fail> {
     let alloc = rt.alloc();
     let day = day(Bic::parse(DELIVERER)?, Bic::parse(RECEIVER)?);
-    let calls = calls_after(alloc, &day)?;
-    let all = *calls.last().ok_or("calls")?;
+    let (calls, all) = counted_calls(alloc, &day)?;
     for is_late in [false, true] {
         for first in 1..all.saturating_add(1) {
             let hit = request_of(&calls, first);
             let plan = Plan {
-                first,
-                gap: 0,
-                count: 2,
                 is_late,
+                ..Plan::failing(first, 2)
             };
             let mut register = ask_till_closed(&rt, alloc, &day, plan, hit);
             assert_eq!(rt; register.calls(), first.saturating_add(1));
@@ -413,12 +285,7 @@ fn ask_till_closed(
 
 /// The stage of the store in which a call of a day falls.
 fn stage_of(alloc: Global, day: &[Asked<'_>], call: u64) -> Stage {
-    let plan = Plan {
-        first: call,
-        gap: 0,
-        count: 1,
-        is_late: false,
-    };
+    let plan = Plan::failing(call, 1);
     let mut desk = failing_desk(alloc, plan);
     for asked in day {
         let _answer = ask(alloc, &mut desk, asked);
@@ -436,16 +303,13 @@ const LEAST_WITHIN: u64 = 18;
 fn two_failed_calls_apart(rt: HostRuntime) -> Result<(), Fail> {
     let alloc = rt.alloc();
     let day = day(Bic::parse(DELIVERER)?, Bic::parse(RECEIVER)?);
-    let calls = calls_after(alloc, &day)?;
-    let all = *calls.last().ok_or("calls")?;
+    let (calls, all) = counted_calls(alloc, &day)?;
     let mut within: u64 = 0;
     for first in 1..all.saturating_add(1) {
         let hit = request_of(&calls, first);
         let plan = Plan {
-            first,
             gap: 1,
-            count: 2,
-            is_late: false,
+            ..Plan::failing(first, 2)
         };
         let register = if stage_of(alloc, &day, first) == Stage::Idle {
             ask_till_closed(&rt, alloc, &day, plan, hit)

@@ -1,160 +1,44 @@
 //! The totals of a register in plain lists, and their text.
-ghost use Rattle.std.specs.Prelude.{◌≡◌, ◌<◌, ◌≤◌, ◌^◌, ℕ, List, IfOk, OnOk};
-ghost use Rattle.desk_rules.specs.declared.reply.Reply.{Reply as ReplyValue};
-ghost use Rattle.desk_register.specs.Content.{CanAppend, appended};
-ghost use Rattle.desk_register.specs.ListView.{view_of_lists};
-ghost use Rattle.desk_register.specs.Looked.{held_of};
-
-use desk_book::{security_totals, totals_text};
-use desk_codes::{AccountId, Bic, Isin, Reference};
+use desk_book::{SecurityTotal, security_totals, totals_text};
 use desk_msg::Kind;
-use desk_register::{Fault, ListRegister, Register, Stage};
-use desk_rules::{Entry, Movement, Reply, Text};
+use desk_register::{Fault, ListRegister};
+use desk_worked::entries::{BOND, SHARE, issue, new_account, participant, security};
+use desk_worked::ledger::{Entered, Ledger};
 use std::alloc::Global;
-use std::process::Abort;
 use std::test::Fail;
 
-/// Adds an entry, with an empty reply.
-fn add(alloc: Global, register: &mut ListRegister, entry: Entry) -> Result<(), Fault>
-    requires stage { (view_of_lists register.old).stage ≡ Stage.Begun }
-    requires fits { CanAppend entry (view_of_lists register.old).content }
-    ensures stage { OnOk result ((view_of_lists register.new).stage ≡ Stage.Begun) }
-    ensures added { OnOk result ((reply : ReplyValue) × ((view_of_lists register.new).content ≡ appended entry reply (view_of_lists register.old).content)) }
-{
-    let reply = Reply {
-        status: 200,
-        mt: None,
-        text: Text::new(Vec::new(alloc)),
-    };
-    register.append(alloc, entry, reply)
+/// Two securities, registered against the order of their bytes, 7 of the later one on A-1, and 600 and 400 of the
+/// earlier one on A-1 and A-2.
+fn filled(alloc: Global) -> Result<Ledger, Fail> {
+    let entries = [
+        participant("P1", "ALPHDEFF")?,
+        new_account("C1", "ALPHDEFF", "A-1")?,
+        new_account("C2", "ALPHDEFF", "A-2")?,
+        security("S1", BOND, Kind::Unit)?,
+        security("S2", SHARE, Kind::Unit)?,
+        issue("I1", "A-1", BOND, 7)?,
+        issue("I2", "A-1", SHARE, 600)?,
+        issue("I3", "A-2", SHARE, 400)?,
+    ];
+    let mut ledger = Ledger::new(alloc, 1000);
+    for entry in entries {
+        let Entered::Accepted(_) = ledger.enter(alloc, entry)? else {
+            return Err("not accepted")?;
+        };
+    }
+    Ok(ledger)
 }
 
-/// Adds an issue, where little was issued before.
-fn issue(
-    rt: &impl Abort,
-    alloc: Global,
-    register: &mut ListRegister,
-    movement: Movement,
-) -> Result<(), Fault>
-    requires stage { (view_of_lists register.old).stage ≡ Stage.Begun }
-    requires little { movement.quantity ≤ 1000 }
-    ensures stage { OnOk result ((view_of_lists register.new).stage ≡ Stage.Begun) }
-    ensures added { OnOk result ((reply : ReplyValue) × ((view_of_lists register.new).content ≡ appended (Entry.Issue movement) reply (view_of_lists register.old).content)) }
-{
-    let held = register.position(alloc, movement.account, movement.isin)?;
-    let outstanding = register.outstanding(alloc, movement.isin)?;
-    assert!(rt; held <= 10_000);
-    assert!(rt; outstanding <= 10_000);
-    add(alloc, register, Entry::Issue(movement))
-}
-
-/// Two securities, registered against the order of their bytes and held on two accounts.
-#[derive(Clone, Copy)]
-struct Held {
-    reference: Reference,
-    bic: Bic,
-    first: AccountId,
-    second: AccountId,
-    later: Isin,
-    earlier: Isin,
-}
-
-/// A register of 7 of the later security on the first account, and 600 and 400 of the earlier one on both.
-fn filled(rt: &impl Abort, alloc: Global, held: &Held) -> Result<ListRegister, Fault>
-    ensures stage { IfOk result (λ register. (view_of_lists register).stage ≡ Stage.Idle) }
-    ensures small { IfOk result (λ register. (isin : List ℕ) → held_of (view_of_lists register).content isin < 2 ^ 64) }
-{
-    let reference = held.reference;
-    let bic = held.bic;
-    let mut register = ListRegister::new(alloc, 1000);
-    register.begin(alloc)?;
-    add(alloc, &mut register, Entry::Participant { reference, bic })?;
-    add(
-        alloc,
-        &mut register,
-        Entry::Account {
-            reference,
-            bic,
-            account: held.first,
-        },
-    )?;
-    add(
-        alloc,
-        &mut register,
-        Entry::Account {
-            reference,
-            bic,
-            account: held.second,
-        },
-    )?;
-    add(
-        alloc,
-        &mut register,
-        Entry::Security {
-            reference,
-            isin: held.later,
-            kind: Kind::Unit,
-        },
-    )?;
-    add(
-        alloc,
-        &mut register,
-        Entry::Security {
-            reference,
-            isin: held.earlier,
-            kind: Kind::Unit,
-        },
-    )?;
-    issue(
-        rt,
-        alloc,
-        &mut register,
-        Movement {
-            reference,
-            account: held.first,
-            isin: held.later,
-            quantity: 7,
-        },
-    )?;
-    issue(
-        rt,
-        alloc,
-        &mut register,
-        Movement {
-            reference,
-            account: held.first,
-            isin: held.earlier,
-            quantity: 600,
-        },
-    )?;
-    issue(
-        rt,
-        alloc,
-        &mut register,
-        Movement {
-            reference,
-            account: held.second,
-            isin: held.earlier,
-            quantity: 400,
-        },
-    )?;
-    register.commit(alloc)?;
-    Ok(register)
+/// The totals of all securities.
+fn totals_of(alloc: Global, ledger: Ledger) -> Result<Vec<SecurityTotal>, Fault> {
+    let mut register = ledger.into_register();
+    security_totals(alloc, &mut register)
 }
 
 #[test]
 fn securities_in_order(rt: HostRuntime) -> Result<(), Fail> {
     let alloc = rt.alloc();
-    let held = Held {
-        reference: Reference::read(b"X1").ok_or("reference")?,
-        bic: Bic::parse(b"ALPHDEFF")?,
-        first: AccountId::read(b"A-1").ok_or("account")?,
-        second: AccountId::read(b"A-2").ok_or("account")?,
-        later: Isin::parse(b"US0378331005")?,
-        earlier: Isin::parse(b"DE0007164600")?,
-    };
-    let mut register = filled(&rt, alloc, &held)?;
-    let totals = security_totals(alloc, &mut register)?;
+    let totals = totals_of(alloc, filled(alloc)?)?;
     let text = totals_text(alloc, &totals)?;
     let want =
         br#"{"cash":[],"securities":[{"held":1000,"isin":"DE0007164600","outstanding":1000},{"held":7,"isin":"US0378331005","outstanding":7}]}"#;

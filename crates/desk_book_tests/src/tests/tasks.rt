@@ -1,35 +1,11 @@
 //! What each form of request is read as.
 use desk_book::*;
-use desk_codes::{Bic, Day, Reference};
+use desk_codes::Bic;
 use desk_msg::{Message, Mt, fields_text};
 use desk_rules::Entry;
+use desk_worked::entries::{message_text, receipt, run};
 use std::process::Abort;
 use std::test::Fail;
-
-/// A receipt of 400 units, free.
-const RECEIPT: &[u8] = b"{4:\n\
-      :16R:GENL\n\
-      :20C::SEME//B1\n\
-      :23G:NEWM\n\
-      :16S:GENL\n\
-      :16R:TRADDET\n\
-      :98A::SETT//20240229\n\
-      :35B:ISIN DE0007164600\n\
-      :16S:TRADDET\n\
-      :16R:FIAC\n\
-      :36B::SETT//UNIT/400,\n\
-      :97A::SAFE//B-1\n\
-      :16S:FIAC\n\
-      :16R:SETDET\n\
-      :22F::SETR//TRAD\n\
-      :16R:SETPRTY\n\
-      :95P::DEAG//ALPHDEFF\n\
-      :16S:SETPRTY\n\
-      :16R:SETPRTY\n\
-      :95P::PSET//DESKDEFF\n\
-      :16S:SETPRTY\n\
-      :16S:SETDET\n\
-      -}\n";
 
 /// A cancellation of B1.
 const CANCELLATION: &[u8] = b"{4:\n\
@@ -42,7 +18,7 @@ const CANCELLATION: &[u8] = b"{4:\n\
       :16S:GENL\n\
       -}\n";
 
-/// What the receipt says.
+/// What the receipt B1 says.
 const RECEIVED: &str =
     "function NEWM\nreference B1\ndate 20240229\nisin DE0007164600\nquantity UNIT 400,\naccount B-1\nsettlement TRAD\nplace DESKDEFF\ncounterparty ALPHDEFF";
 
@@ -58,7 +34,8 @@ fn command_in(task: &Task) -> Option<Entry> {
 fn message_to_decide_on(rt: HostRuntime) -> Result<(), Fail> {
     let alloc = rt.alloc();
     let sender = Bic::parse(b"BETADEFF")?;
-    let task = task_of(alloc, &Request::Message(sender, Mt::Mt540, RECEIPT))?;
+    let text = message_text(alloc, receipt("B1"))?;
+    let task = task_of(alloc, &Request::Message(sender, Mt::Mt540, text.as_bytes()))?;
     let entry = command_in(&task).ok_or("no command")?;
     let (from, message) = match entry {
         Entry::Instruct {
@@ -79,10 +56,7 @@ fn message_to_decide_on(rt: HostRuntime) -> Result<(), Fail> {
 #[test]
 fn command_to_decide_on(rt: HostRuntime) -> Result<(), Fail> {
     let text = br#"{"op":"run","ref":"R1","day":"20240229"}"#;
-    let run = Entry::Run {
-        reference: Reference::read(b"R1").ok_or("reference")?,
-        day: Day::read(b"20240229").ok_or("day")?,
-    };
+    let run = run("R1", b"20240229")?;
     let task = task_of(rt.alloc(), &Request::Operator(text))?;
     assert!(rt; command_in(&task) == Some(run));
     Ok(())
@@ -95,7 +69,7 @@ fn totals_asked(rt: HostRuntime) -> Result<(), Fail> {
     Ok(())
 }
 
-/// That an task answers with status 400 and this line.
+/// That a task answers with status 400 and this line.
 fn is_refused(rt: &impl Abort, task: &Task, line: &str) {
     let Task::Answer(reply) = task else {
         assert!(rt; false, "no answer {line}");
@@ -110,6 +84,8 @@ fn is_refused(rt: &impl Abort, task: &Task, line: &str) {
 fn refused_as_they_are_read(rt: HostRuntime) -> Result<(), Fail> {
     let alloc = rt.alloc();
     let bic = Bic::parse(b"BETADEFF")?;
+    let received = message_text(alloc, receipt("B1"))?;
+    let received = received.as_bytes();
     for (mt, text, line) in [
         (Mt::Mt540, b"".as_slice(), "refused 1"),
         (Mt::Mt540, b"{4:\nabc\n-}\n".as_slice(), "refused 2 2"),
@@ -119,13 +95,13 @@ fn refused_as_they_are_read(rt: HostRuntime) -> Result<(), Fail> {
             "refused 3 3",
         ),
         (Mt::Mt540, b"{4:\n-}\n".as_slice(), "refused 5 23G"),
-        (Mt::Mt542, RECEIPT, "refused 5 REAG"),
+        (Mt::Mt542, received, "refused 5 REAG"),
         (Mt::Mt540, CANCELLATION, "refused 8"),
         (Mt::Mt542, CANCELLATION, "refused 8"),
-        (Mt::Mt541, RECEIPT, "refused 41"),
+        (Mt::Mt541, received, "refused 41"),
         (Mt::Mt543, b"".as_slice(), "refused 41"),
-        (Mt::Mt544, RECEIPT, "refused 41"),
-        (Mt::Mt546, RECEIPT, "refused 41"),
+        (Mt::Mt544, received, "refused 41"),
+        (Mt::Mt546, received, "refused 41"),
     ] {
         let task = task_of(alloc, &Request::Message(bic, mt, text))?;
         is_refused(&rt, &task, line);
@@ -133,7 +109,7 @@ fn refused_as_they_are_read(rt: HostRuntime) -> Result<(), Fail> {
     for text in [
         b"".as_slice(),
         br#"{"op":"redeem","ref":"X1","account":"A-1","isin":"DE0007164600","quantity":1}"#.as_slice(),
-        RECEIPT,
+        received,
     ] {
         let task = task_of(alloc, &Request::Operator(text))?;
         is_refused(&rt, &task, "refused 30");
