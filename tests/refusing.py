@@ -1,4 +1,5 @@
-"""Runs a program while one growth of memory is refused: what tests/refuse_memory and tests/refuse_register share."""
+"""Runs a program while one growth of memory is refused: what tests/refuse_memory,
+tests/refuse_words and tests/refuse_register share."""
 
 import os
 import subprocess

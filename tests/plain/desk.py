@@ -10,7 +10,7 @@ from .messages import MATCHED, RECEIPTS, UNMATCHED, refused_case, status_text
 MOST_OUTSTANDING = 99_999_999_999_999
 DEPOSITORY = b"DESKDEFF"
 
-# the entries of today
+# the supported entries
 Participant = namedtuple("Participant", "reference bic")
 Account = namedtuple("Account", "reference bic account")
 Security = namedtuple("Security", "reference isin kind")

@@ -27,7 +27,7 @@ pub enum Call<'a> {
 const EXIT_STATUS: &str = "\
 Exit status:
   0  done
-  1  refused: the code is no ISIN, or the message is not accepted
+  1  refused: the code is no ISIN, or the text is no message
   2  usage: the words are wrong
   3  fault: memory, the input or the output failed";
 

@@ -99,13 +99,13 @@ by_message : (taken : Bool) (sender : List ℕ) (mt : Mt) (text : List ℕ) (ent
 by_message true sender mt text entry is = from_message sender mt text entry is.0 is.1 is.2
 by_message false sender mt text entry is = absurd (cc)
 
-tasked : (asked : Asked) (entry : Entry) → IsTask asked (Decide entry) → IsReadEntry entry
-tasked (message sender mt text) entry is = by_message (is_taken mt) sender mt text entry is
-tasked (operator text) entry is = from_command text entry is
-tasked (status sender reference) entry is = absurd (cc)
-tasked (sent receiver number) entry is = absurd (cc)
-tasked (holdings owner account) entry is = absurd (cc)
-tasked sums entry is = absurd (cc)
+from_task : (asked : Asked) (entry : Entry) → IsTask asked (Decide entry) → IsReadEntry entry
+from_task (message sender mt text) entry is = by_message (is_taken mt) sender mt text entry is
+from_task (operator text) entry is = from_command text entry is
+from_task (status sender reference) entry is = absurd (cc)
+from_task (sent receiver number) entry is = absurd (cc)
+from_task (holdings owner account) entry is = absurd (cc)
+from_task sums entry is = absurd (cc)
 
 -- books whose entries were read
 record AreRead (books : Books) : Type 0 where
@@ -118,7 +118,7 @@ grown (Repeat n) books after entry new was grows = subst AreRead (sym grows) was
 grown (Refuse refusal) books after entry new was grows = subst AreRead (sym grows) was
 
 replied : (limit : ℕ) (books after : Books) (asked : Asked) (task : Task) (reply : Reply) → IsTask asked task → AreRead books → IsAnswer limit books task reply after → AreRead after
-replied limit books after asked (Decide entry) reply is was answer = grown answer.verdict books after entry (tasked asked entry is) was answer.grows
+replied limit books after asked (Decide entry) reply is was answer = grown answer.verdict books after entry (from_task asked entry is) was answer.grows
 replied limit books after asked Totals reply is was answer = subst AreRead (sym answer.stays) was
 replied limit books after asked (Answer given) reply is was answer = subst AreRead (sym answer.1) was
 

@@ -17,13 +17,13 @@ use Rattle.desk_book.specs.declared.request.Request.{Request}
 use Rattle.desk_book.specs.Held.{Holds, IsPerformed, Steps}
 use Rattle.desk_book.specs.Task.{IsTask}
 
--- what was read as an task, and obeyed, is a step
+-- what was read as a task, and performed, is a step
 pub step_of : {E : Type 0} (limit : ℕ) (books : Books) (asked : Asked) (task : Result Task E) (answer : Result Reply Fault) (closed : Bool) (view : View) → IfOk task (λ o. IsTask asked o)
     → IsPerformed limit books task answer closed view → Steps limit books asked answer closed view
-step_of limit books asked (Ok o) (Ok reply) closed view is obeyed = record { next = obeyed.next; step = (o, is, obeyed.answer); holds = obeyed.holds }
-step_of limit books asked (Ok o) (Err fault) closed view is obeyed = record { next = obeyed.next; step = obeyed.answer; holds = obeyed.holds }
-step_of limit books asked (Err want) (Ok reply) closed view is obeyed = absurd obeyed.answer
-step_of limit books asked (Err want) (Err fault) closed view is obeyed = record { next = obeyed.next; step = obeyed.answer; holds = obeyed.holds }
+step_of limit books asked (Ok o) (Ok reply) closed view is performed = record { next = performed.next; step = (o, is, performed.answer); holds = performed.holds }
+step_of limit books asked (Ok o) (Err fault) closed view is performed = record { next = performed.next; step = performed.answer; holds = performed.holds }
+step_of limit books asked (Err want) (Ok reply) closed view is performed = absurd performed.answer
+step_of limit books asked (Err want) (Err fault) closed view is performed = record { next = performed.next; step = performed.answer; holds = performed.holds }
 
 -- a run goes on by another
 pub run_then : (limit : ℕ) (was : Bool) (books : Books) (front rest : List Asked) (answers more : List (Result Reply Fault)) (is next : Bool) (between last : Books) → Run limit was books front answers is between

@@ -55,17 +55,17 @@ abbrev pub run_object : List ℕ → List ℕ → Data
 run_object reference day =
     object (text_member (codes "day") day (text_member (codes "op") (codes "run") (text_member (codes "ref") reference no_members)))
 
--- the codes of a movement and of a payment are well formed
+-- the codes of a movement are well formed
 abbrev pub IsMovement : Movement → Type 0
-IsMovement h = IsReference h.reference × IsAccount h.account × IsIsin h.isin
+IsMovement m = IsReference m.reference × IsAccount m.account × IsIsin m.isin
 
 -- The value spells the entry, one equation an operation. A head office's BIC may be written with its branch XXX.
 abbrev pub IsCommand : Data → Entry → Type 0
 IsCommand d (Participant reference bic) = (name : List ℕ) × Names name bic × IsReference reference × (d ≡ participant_object reference name)
 IsCommand d (Account reference bic account) = (name : List ℕ) × Names name bic × IsReference reference × IsAccount account × (d ≡ account_object reference name account)
 IsCommand d (Security reference isin kind) = IsReference reference × IsIsin isin × (d ≡ security_object reference isin (kind_word kind))
-IsCommand d (Issue h) = IsMovement h × (d ≡ movement_object (codes "issue") h.reference h.account h.isin h.quantity)
-IsCommand d (Redeem h) = IsMovement h × (d ≡ movement_object (codes "redeem") h.reference h.account h.isin h.quantity)
+IsCommand d (Issue m) = IsMovement m × (d ≡ movement_object (codes "issue") m.reference m.account m.isin m.quantity)
+IsCommand d (Redeem m) = IsMovement m × (d ≡ movement_object (codes "redeem") m.reference m.account m.isin m.quantity)
 IsCommand d (PayIn p) = (name : List ℕ) × Names name p.bic × IsReference p.reference × (d ≡ payment_object (codes "payin") p.reference name (letters_of p.ccy) p.amount)
 IsCommand d (PayOut p) = (name : List ℕ) × Names name p.bic × IsReference p.reference × (d ≡ payment_object (codes "payout") p.reference name (letters_of p.ccy) p.amount)
 IsCommand d (Instruct sender instruction) = ⊥

@@ -13,7 +13,7 @@ pub enum Fault {
     /// The device under the tables failed. Nothing has changed.
     #[error("fault 61")]
     Storage,
-    /// The tables could not be taken back to what they were, so this desk answers nothing any more.
+    /// It cannot be shown that the tables are as before, so this desk answers nothing any more.
     #[error("fault 62")]
     Closed,
 }

@@ -2,7 +2,8 @@
 //! its answers are written.
 //!
 //! Begin with `Request` in `request.rt`. What a script asks stands in specs/Script.antt, which lines ask
-//! something in specs/Forms.antt; `first_item` of `script.rt` reads one.
+//! something in specs/Forms.antt; `first_item` of `script.rt` reads one. `task_of` says what a request is read as,
+//! `Desk::ask` (`desk.rt`, `answering.rt`) answers it, and `Desk::play` (`playing.rt`) a whole script.
 #![tactic(auto)]
 
 mod answering;

@@ -131,10 +131,10 @@ outstanding_within limit h was =
     }) h was
 
 -- what an account of an instruction holds is within the limit
-pub movement_within : (limit : ℕ) (books : Books) (settled : List Settled) (pos : List ℕ → List ℕ → ℕ) (k : ℕ) (i : Instructed) (isin : List ℕ) → AreBooks books → WasAccepted limit books.history
+pub instructed_position_within : (limit : ℕ) (books : Books) (settled : List Settled) (pos : List ℕ → List ℕ → ℕ) (k : ℕ) (i : Instructed) (isin : List ℕ) → AreBooks books → WasAccepted limit books.history
     → ((s : Settled) → In settled s → Contains books.pairs s.pair) → ((a x : List ℕ) → pos a x + debits books.history settled a x ≡ credits books.history settled a x) → instruction_at books.history k ≡ Some i
     → pos i.instruction.account isin ≤ most_outstanding
-movement_within limit books settled pos k i isin are was inside all at =
+instructed_position_within limit books settled pos k i isin are was inside all at =
     let h = books.history in
     let sums = paired_add_up limit h was books.pairs settled isin are.pairing inside in
     let member = account_registered limit h was k i at in
@@ -224,8 +224,8 @@ module _ (limit : ℕ) (books : Books) (reference day : List ℕ) (place : Optio
   side_within : (next : Place) (due : IsDue old (number_of day) place next) (n : NextSides next due) (i : Instructed) → (i ≡ n.earlier) ⊎ (i ≡ due.pair.later) → (isin : List ℕ)
       → old.position i.instruction.account isin ≤ most_outstanding
   side_within next due n i which isin = elim which [
-    | inl first ↦ movement_within limit books settled old.position n.found.waiting.pair.earlier i isin are was settled_in_pairs pass.passing.position (n.sides.first ∙ ap Some (sym first))
-    | inr second ↦ movement_within limit books settled old.position n.found.waiting.pair.later i isin are was settled_in_pairs pass.passing.position (n.sides.second ∙ ap Some (sym second))
+    | inl first ↦ instructed_position_within limit books settled old.position n.found.waiting.pair.earlier i isin are was settled_in_pairs pass.passing.position (n.sides.first ∙ ap Some (sym first))
+    | inr second ↦ instructed_position_within limit books settled old.position n.found.waiting.pair.later i isin are was settled_in_pairs pass.passing.position (n.sides.second ∙ ap Some (sym second))
   ]
 
   which_receives : (a b : Instructed) → (receiver a b ≡ a) ⊎ (receiver a b ≡ b)

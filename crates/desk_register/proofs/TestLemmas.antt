@@ -1,4 +1,4 @@
--- What the tests' register keeps, from call to call.
+-- What the register of the tests and of the benchmark keeps, from call to call.
 use Rattle.std.proofs.Common.{◌≡◌, ℕ, sym, subst}
 use Rattle.desk_rules.specs.declared.entry.Entry.{Entry}
 use Rattle.desk_rules.specs.Verdict.{Books}

@@ -187,8 +187,8 @@ pub trait Register {
         ensures paired { IfTrusted (view self.old) (view self.new) (OnOk result ((view self.new).content ≡ paired earlier later (view self.old).content)) }
         ensures change { IsChange result (view self.old) (view self.new) };
 
-    /// Settles the matched pair of this number where it is covered, and moves both legs; else says what it
-    /// lacks, and changes the reason alone.
+    /// Settles the matched pair of this number where it is covered, and moves its quantity from the deliverer's
+    /// account to the receiver's; else says what it lacks, and changes the reason alone.
     fn settle_pair(&mut self, alloc: Global, number: u64) -> Result<Outcome, Fault>
         requires stage { (view self.old).stage ≡ Stage.Begun }
         requires fits { IfTrusted (view self.old) (view self.old) (CanSettle (view self.old).content number) }

@@ -40,12 +40,12 @@ receipt_of history p = instruction_at history (receiver_of history p)
 abbrev pub quantity_if : Bool → ℕ → ℕ
 quantity_if test quantity = if test then quantity else 0
 
--- a movement's quantity of the security, and so much of it as is on the account
+-- a movement's quantity of the security, and the same where it is of the account too
 abbrev pub movement_of : List ℕ → Movement → ℕ
-movement_of isin h = quantity_if (bytes_eq h.isin isin) h.quantity
+movement_of isin m = quantity_if (bytes_eq m.isin isin) m.quantity
 
 abbrev pub movement_on : List ℕ → List ℕ → Movement → ℕ
-movement_on account isin h = quantity_if (bytes_eq h.account account) (movement_of isin h)
+movement_on account isin m = quantity_if (bytes_eq m.account account) (movement_of isin m)
 
 -- what an entry issues of a security, and redeems
 abbrev pub issued_by : (Movement → ℕ) → Entry → ℕ

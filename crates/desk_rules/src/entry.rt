@@ -46,7 +46,7 @@ pub struct Payment {
     ghost within: { amount ≤ 999_999_999_999_999_999 },
 }
 
-/// An accepted command: of the operator, or a message of a participant.
+/// A command, to be decided on or accepted: of the operator, or a message of a participant.
 #[derive(Clone, Copy, Debug, PartialEq, Eq)]
 pub enum Entry {
     /// A new participant

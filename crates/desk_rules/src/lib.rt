@@ -3,8 +3,8 @@
 //! The only state is the history, a list of accepted entries (`Entry`). The definitions of specs/ say what follows
 //! from it, a module each for pairing, balances, settlement, verdicts, replies and sent messages; the laws in
 //! `laws.rt` say what every history keeps: one pairing, one settlement, each pair settled once, nothing made or lost,
-//! nothing below 0, each change confirmed, and what was sent stays. `plain` computes pairing, settlement and balances straight from the definitions, slowly. Begin
-//! with `entry.rt`, then specs/History.antt.
+//! nothing below 0, each change confirmed, and what was sent stays. `plain` computes pairing, settlement and balances
+//! straight from the definitions, slowly. Begin with `entry.rt`, then specs/History.antt.
 #![tactic(auto)]
 
 mod entry;

@@ -81,7 +81,7 @@ receipt = record delivery { mt = Mt541; reference = codes "B1"; account = b_1; c
 abbrev pub larger : Instruction
 larger = record delivery { quantity = 401; some = lit< tt; short = short_larger }
 
--- so much of the security on an account, and so much of a participant's cash
+-- so much of the security put on an account or taken off it, and so much of a participant's cash
 abbrev pub movement : List ℕ → List ℕ → (quantity : ℕ) → 0 < quantity → quantity ≤ 99_999_999_999_999 → Movement
 movement reference account quantity some within = record { reference = reference; account = account; isin = share; quantity = quantity; some = some; within = within }
 

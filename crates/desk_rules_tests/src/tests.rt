@@ -9,8 +9,8 @@ use desk_rules::plain::{
 };
 use desk_rules::{Entry, Lack, Pair, Payment, Settled};
 use desk_worked::entries::{
-    BOND, Deal, SHARE, account, against_payment, bic, delivery, instruct, isin, issue, new_account,
-    participant, receipt, redeem, reference, run, security,
+    Deal, SHARE, UNKNOWN, account, against_payment, bic, delivery, instruct, isin, issue,
+    new_account, participant, receipt, redeem, reference, run, security,
 };
 use std::alloc::{AllocError, Global};
 use std::test::Fail;
@@ -30,13 +30,10 @@ fn payment(key: &str, party: &str, amount: u64) -> Result<Payment, Fail>
     })
 }
 
-/// A cancellation that a participant sends.
-fn cancel(alloc: Global, sender: &str, mt: Mt, text: &str) -> Result<Entry, Fail> {
-    if !mt.is_instruction() {
-        return Err("type")?;
-    }
-    match read_instruction_text(alloc, mt, text.as_bytes())? {
-        Message::New(_) => Err("instruction")?,
+/// The cancellation of a delivery against payment, from the text that a participant sends.
+fn cancel(alloc: Global, sender: &str, text: &str) -> Result<Entry, Fail> {
+    match read_instruction_text(alloc, Mt::Mt543, text.as_bytes())? {
+        Message::New(_) => Err("no cancellation")?,
         Message::Cancel(order) => Ok(Entry::Cancel {
             sender: bic(sender)?,
             order,
@@ -162,7 +159,6 @@ fn pairs_the_least_that_stands(rt: HostRuntime) -> Result<(), Fail> {
     entries.push(cancel(
         alloc,
         "ALPHDEFF",
-        Mt::Mt543,
         "{4:\n:16R:GENL\n:20C::SEME//X1\n:23G:CANC\n:16R:LINK\n:20C::PREV//A1\n:16S:LINK\n:16S:GENL\n-}\n",
     )?)?;
     entries.push(instruct(alloc, paid_receipt("B1"))?)?;
@@ -308,7 +304,7 @@ fn counts_what_comes_and_goes(rt: HostRuntime) -> Result<(), Fail> {
     let share = isin(SHARE)?;
     assert_eq!(rt; issued(&entries, &share), 1007);
     assert_eq!(rt; redeemed(&entries, &share), 300);
-    assert_eq!(rt; issued(&entries, &isin(BOND)?), 0);
+    assert_eq!(rt; issued(&entries, &isin(UNKNOWN)?), 0);
     assert_eq!(rt; paid_in(&entries, Ccy::Eur), 100_055);
     assert_eq!(rt; paid_out(&entries, Ccy::Eur), 50);
     assert_eq!(rt; paid_in(&entries, Ccy::Usd), 0);

@@ -20,7 +20,7 @@ pub const UNKNOWN: &str = "US5949181045";
 const AMOUNT: &str = ":16R:AMT\n:19A::SETT//EUR1000,50\n:16S:AMT\n";
 
 /// Why an entry cannot be made of the texts that are to name it.
-#[derive(Clone, Copy, Debug, PartialEq, Eq, Error)]
+#[derive(Clone, Copy, Debug, Error)]
 pub enum EntryFault {
     /// A text is no reference.
     #[error("no reference")]
@@ -111,7 +111,7 @@ pub fn security(key: &str, code: &str, kind: Kind) -> Result<Entry, EntryFault> 
     })
 }
 
-/// So much of a security, on an account.
+/// So much of a security, put on an account or taken off it.
 fn movement(key: &str, name: &str, code: &str, quantity: u64) -> Result<Movement, EntryFault>
     requires some { 0 < quantity }
     requires within { quantity ≤ 99_999_999_999_999 }
@@ -208,7 +208,7 @@ pub fn against_payment(deal: Deal<'_>) -> Deal<'_> {
 }
 
 /// The message of it: block 4, with the fields that the desk reads and no other.
-pub fn message_text(alloc: Global, deal: Deal) -> Result<String, EntryFault> {
+fn message_text(alloc: Global, deal: Deal) -> Result<String, EntryFault> {
     let side = if deal.mt.is_delivery() {
         "REAG"
     } else {

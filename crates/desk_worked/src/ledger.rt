@@ -1,5 +1,5 @@
 //! A register in plain lists that takes in what the desk accepts, entry by entry, as the desk does.
-ghost use Rattle.std.specs.Prelude.{◌≡◌, ◌≤◌, IfOk, OnErr, OnOk, IsTrue};
+ghost use Rattle.std.specs.Prelude.{◌≡◌, ◌≤◌, IfOk, IfSome, OnErr, OnOk, IsTrue};
 ghost use Rattle.desk_rules.specs.Verdict.{Books};
 ghost use Rattle.desk_register.specs.Applied.{CanApply, HasApplied, Keeps};
 ghost use Rattle.desk_register.specs.Decision.{is_supported};
@@ -47,6 +47,18 @@ pub enum Entered {
     Refused(Refusal),
     /// The desk takes no such command yet.
     NotTaken,
+}
+
+impl Entered {
+    /// How it fared, where it was accepted.
+    pub fn accepted(self) -> Option<Applied>
+        ensures { IfSome result (λ applied. self ≡ Entered.Accepted applied) }
+    {
+        match self {
+            Entered::Accepted(applied) => Some(applied),
+            Entered::Repeated(_) | Entered::Refused(_) | Entered::NotTaken => None,
+        }
+    }
 }
 
 /// Takes an accepted entry into the tables, makes its reply as the desk does, and keeps it.

@@ -50,7 +50,7 @@ const DELIVERY: &[u8] = b"{4:\n\
       -}\n";
 
 /// Its receipt.
-const RECEIPT: &[u8] = b"{4:\n\
+pub const RECEIPT: &[u8] = b"{4:\n\
       :16R:GENL\n\
       :20C::SEME//B1\n\
       :23G:NEWM\n\
@@ -175,6 +175,12 @@ fn totals<'a>(answer: &'a [u8]) -> Asked<'a> {
         answer,
     }
 }
+
+/// How many of the day's requests are accepted.
+pub const ACCEPTED: u64 = 9;
+
+/// Which of them is no command, counted from 0, so that nothing is asked of the register.
+pub const NO_COMMAND: usize = 11;
 
 /// A short day: all that the desk takes once, a free pair, a run that settles it, a repeat, a refusal, what is no
 /// command, and the totals.

@@ -1,12 +1,12 @@
 //! A desk over plain lists: what is asked of it one by one, and several at once.
-use crate::tests::day::{DELIVERER, RECEIVER, ask, day, is_reply, is_wanted};
+use crate::tests::day::{ACCEPTED, DELIVERER, RECEIVER, ask, day, is_reply, is_wanted};
 use desk_book::*;
 use desk_codes::{AccountId, Bic, Isin};
 use desk_register::{ListRegister, Register};
 use std::test::Fail;
 
 #[test]
-fn a_free_pair_settles(rt: HostRuntime) -> Result<(), Fail> {
+fn a_day_is_answered(rt: HostRuntime) -> Result<(), Fail> {
     let alloc = rt.alloc();
     let mut desk = Desk::new(ListRegister::new(alloc, 999_999_999));
     let day = day(Bic::parse(DELIVERER)?, Bic::parse(RECEIVER)?);
@@ -20,7 +20,7 @@ fn a_free_pair_settles(rt: HostRuntime) -> Result<(), Fail> {
     let mut register = desk.into_register();
     assert_eq!(rt; register.position(alloc, from, isin)?, 600);
     assert_eq!(rt; register.position(alloc, to, isin)?, 400);
-    assert_eq!(rt; register.count(alloc)?, 9);
+    assert_eq!(rt; register.count(alloc)?, ACCEPTED);
     Ok(())
 }
 

@@ -6,6 +6,7 @@ use crate::tests::scripts::FREE_PAIR;
 use desk_book::*;
 use desk_register::{ListRegister, Register};
 use std::alloc::{AllocError, Global};
+use std::process::Abort;
 use std::test::Fail;
 
 /// What is written where the device failed in a request, and nothing has changed.
@@ -78,13 +79,19 @@ fn calls_after(alloc: Global, script: &[u8]) -> Result<Vec<u64>, Fail> {
     Ok(calls)
 }
 
+/// How many calls a store has got after each item of the free pair, and in all.
+fn counted_calls(rt: &impl Abort, alloc: Global) -> Result<(Vec<u64>, u64), Fail> {
+    let calls = calls_after(alloc, FREE_PAIR)?;
+    let all = *calls.last().ok_or("calls")?;
+    assert!(rt; all >= LEAST_CALLS);
+    Ok((calls, all))
+}
+
 /// One call fails: that is written for its request, and for the others what is written without it.
 #[test]
 fn one_failed_call_is_told(rt: HostRuntime) -> Result<(), Fail> {
     let alloc = rt.alloc();
-    let calls = calls_after(alloc, FREE_PAIR)?;
-    let all = *calls.last().ok_or("calls")?;
-    assert!(rt; all >= LEAST_CALLS);
+    let (calls, all) = counted_calls(&rt, alloc)?;
     for first in 1..all.saturating_add(1) {
         let hit = request_of(&calls, first);
         let mut plain = Desk::new(ListRegister::new(alloc, 999_999_999));
@@ -105,9 +112,7 @@ fn one_failed_call_is_told(rt: HostRuntime) -> Result<(), Fail> {
 #[test]
 fn a_closed_desk_is_told(rt: HostRuntime) -> Result<(), Fail> {
     let alloc = rt.alloc();
-    let calls = calls_after(alloc, FREE_PAIR)?;
-    let all = *calls.last().ok_or("calls")?;
-    assert!(rt; all >= LEAST_CALLS);
+    let (calls, all) = counted_calls(&rt, alloc)?;
     for first in 1..all.saturating_add(1) {
         let hit = request_of(&calls, first);
         let (before, _) = split_answers(ANSWERS, hit);

@@ -1,5 +1,5 @@
 //! A desk over a store of which calls fail, each in turn: what it answers then and afterwards, and what it keeps.
-use crate::tests::day::{Asked, DELIVERER, RECEIVER, ask, day, is_wanted};
+use crate::tests::day::{Asked, DELIVERER, NO_COMMAND, RECEIVER, ask, day, is_wanted};
 use crate::tests::failing::{FailingRegister, Plan};
 use desk_book::*;
 use desk_codes::Bic;
@@ -49,9 +49,6 @@ pub fn request_of(calls: &[u64], call: u64) -> usize {
         .position(|last| call <= *last)
         .unwrap_or(calls.len())
 }
-
-/// Where the day has what is no command.
-const NO_COMMAND: usize = 11;
 
 /// Each request calls the store, but for what is no command: so each of them is tried where it fails.
 #[test]

@@ -3,7 +3,7 @@ use desk_book::{SecurityTotal, security_totals, totals_text};
 use desk_msg::Kind;
 use desk_register::{Fault, ListRegister};
 use desk_worked::entries::{BOND, SHARE, issue, new_account, participant, security};
-use desk_worked::ledger::{Entered, Ledger};
+use desk_worked::ledger::Ledger;
 use std::alloc::Global;
 use std::test::Fail;
 
@@ -14,7 +14,7 @@ fn filled(alloc: Global) -> Result<Ledger, Fail> {
         participant("P1", "ALPHDEFF")?,
         new_account("C1", "ALPHDEFF", "A-1")?,
         new_account("C2", "ALPHDEFF", "A-2")?,
-        security("S1", BOND, Kind::Unit)?,
+        security("S1", BOND, Kind::FaceAmount)?,
         security("S2", SHARE, Kind::Unit)?,
         issue("I1", "A-1", BOND, 7)?,
         issue("I2", "A-1", SHARE, 600)?,
@@ -22,9 +22,10 @@ fn filled(alloc: Global) -> Result<Ledger, Fail> {
     ];
     let mut ledger = Ledger::new(alloc, 1000);
     for entry in entries {
-        let Entered::Accepted(_) = ledger.enter(alloc, entry)? else {
-            return Err("not accepted")?;
-        };
+        let _applied = ledger
+            .enter(alloc, entry)?
+            .accepted()
+            .ok_or("not accepted")?;
     }
     Ok(ledger)
 }

@@ -1,9 +1,10 @@
 //! What each form of request is read as.
+use crate::tests::day::RECEIPT;
 use desk_book::*;
 use desk_codes::Bic;
 use desk_msg::{Message, Mt, fields_text};
 use desk_rules::Entry;
-use desk_worked::entries::{message_text, receipt, run};
+use desk_worked::entries::run;
 use std::process::Abort;
 use std::test::Fail;
 
@@ -34,8 +35,7 @@ fn command_in(task: &Task) -> Option<Entry> {
 fn message_to_decide_on(rt: HostRuntime) -> Result<(), Fail> {
     let alloc = rt.alloc();
     let sender = Bic::parse(b"BETADEFF")?;
-    let text = message_text(alloc, receipt("B1"))?;
-    let task = task_of(alloc, &Request::Message(sender, Mt::Mt540, text.as_bytes()))?;
+    let task = task_of(alloc, &Request::Message(sender, Mt::Mt540, RECEIPT))?;
     let entry = command_in(&task).ok_or("no command")?;
     let (from, message) = match entry {
         Entry::Instruct {
@@ -84,8 +84,6 @@ fn is_refused(rt: &impl Abort, task: &Task, line: &str) {
 fn refused_as_they_are_read(rt: HostRuntime) -> Result<(), Fail> {
     let alloc = rt.alloc();
     let bic = Bic::parse(b"BETADEFF")?;
-    let received = message_text(alloc, receipt("B1"))?;
-    let received = received.as_bytes();
     for (mt, text, line) in [
         (Mt::Mt540, b"".as_slice(), "refused 1"),
         (Mt::Mt540, b"{4:\nabc\n-}\n".as_slice(), "refused 2 2"),
@@ -95,13 +93,13 @@ fn refused_as_they_are_read(rt: HostRuntime) -> Result<(), Fail> {
             "refused 3 3",
         ),
         (Mt::Mt540, b"{4:\n-}\n".as_slice(), "refused 5 23G"),
-        (Mt::Mt542, received, "refused 5 REAG"),
+        (Mt::Mt542, RECEIPT, "refused 5 REAG"),
         (Mt::Mt540, CANCELLATION, "refused 8"),
         (Mt::Mt542, CANCELLATION, "refused 8"),
-        (Mt::Mt541, received, "refused 41"),
+        (Mt::Mt541, RECEIPT, "refused 41"),
         (Mt::Mt543, b"".as_slice(), "refused 41"),
-        (Mt::Mt544, received, "refused 41"),
-        (Mt::Mt546, received, "refused 41"),
+        (Mt::Mt544, RECEIPT, "refused 41"),
+        (Mt::Mt546, RECEIPT, "refused 41"),
     ] {
         let task = task_of(alloc, &Request::Message(bic, mt, text))?;
         is_refused(&rt, &task, line);
@@ -109,7 +107,7 @@ fn refused_as_they_are_read(rt: HostRuntime) -> Result<(), Fail> {
     for text in [
         b"".as_slice(),
         br#"{"op":"redeem","ref":"X1","account":"A-1","isin":"DE0007164600","quantity":1}"#.as_slice(),
-        received,
+        RECEIPT,
     ] {
         let task = task_of(alloc, &Request::Operator(text))?;
         is_refused(&rt, &task, "refused 30");

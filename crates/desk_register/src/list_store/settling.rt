@@ -85,8 +85,8 @@ fn settle_sides(
     Ok(Outcome::Settled)
 }
 
-/// Tries the matched pair of a number: settles it and moves both legs where it is covered, else changes the
-/// reason alone.
+/// Tries the matched pair of a number: settles it, and moves its quantity between the accounts, where it is
+/// covered, else changes the reason alone.
 pub fn try_settle(
     lists: &mut Lists,
     changes: &mut Vec<Change>,

@@ -20,19 +20,27 @@ use std::test::Fail;
 /// entries 1 to 8. Then 400 of the share from A-1 to B-1, due on 29 February 2024, as the pair of 9 and 10; 600 more
 /// that no one receives, as 11; and a run for the day before, as 12.
 fn filled(alloc: Global) -> Result<Ledger, Fail> {
+    let entries = [
+        participant("P1", "ALPHDEFF")?,
+        participant("P2", "BETADEFF")?,
+        new_account("C1", "ALPHDEFF", "A-1")?,
+        new_account("C2", "BETADEFF", "B-1")?,
+        security("S1", SHARE, Kind::Unit)?,
+        security("S2", BOND, Kind::FaceAmount)?,
+        issue("I1", "A-1", SHARE, 1000)?,
+        issue("I2", "B-1", BOND, 7)?,
+        instruct(alloc, delivery("A1"))?,
+        instruct(alloc, receipt("B1"))?,
+        instruct(alloc, more(delivery("A2")))?,
+        run("R1", b"20240228")?,
+    ];
     let mut ledger = Ledger::new(alloc, 1000);
-    ledger.enter(alloc, participant("P1", "ALPHDEFF")?)?;
-    ledger.enter(alloc, participant("P2", "BETADEFF")?)?;
-    ledger.enter(alloc, new_account("C1", "ALPHDEFF", "A-1")?)?;
-    ledger.enter(alloc, new_account("C2", "BETADEFF", "B-1")?)?;
-    ledger.enter(alloc, security("S1", SHARE, Kind::Unit)?)?;
-    ledger.enter(alloc, security("S2", BOND, Kind::FaceAmount)?)?;
-    ledger.enter(alloc, issue("I1", "A-1", SHARE, 1000)?)?;
-    ledger.enter(alloc, issue("I2", "B-1", BOND, 7)?)?;
-    ledger.enter(alloc, instruct(alloc, delivery("A1"))?)?;
-    ledger.enter(alloc, instruct(alloc, receipt("B1"))?)?;
-    ledger.enter(alloc, instruct(alloc, more(delivery("A2")))?)?;
-    ledger.enter(alloc, run("R1", b"20240228")?)?;
+    for entry in entries {
+        let _applied = ledger
+            .enter(alloc, entry)?
+            .accepted()
+            .ok_or("not accepted")?;
+    }
     Ok(ledger)
 }
 
@@ -395,7 +403,7 @@ fn pairs(rt: HostRuntime) -> Result<(), Fail> {
     Ok(())
 }
 
-/// What A-1 and B-1 hold of the share, and how the entries 9 and 10 stand.
+/// What A-1 and B-1 hold of the share, and how the entry of a number and the next one stand.
 fn sides_of(alloc: Global, register: &mut ListRegister, number: u64) -> Result<Sides, Fail>
     requires { number ≤ 1000 }
     ensures { OnOk result ((view_of_lists register.new).stage ≡ (view_of_lists register.old).stage) }
@@ -477,8 +485,13 @@ fn short(alloc: Global) -> Result<Ledger, Fail> {
         ..receipt("B3")
     };
     let mut ledger = filled(alloc)?;
-    ledger.enter(alloc, instruct(alloc, given)?)?;
-    ledger.enter(alloc, instruct(alloc, taken)?)?;
+    for deal in [given, taken] {
+        let entry = instruct(alloc, deal)?;
+        let _applied = ledger
+            .enter(alloc, entry)?
+            .accepted()
+            .ok_or("not accepted")?;
+    }
     Ok(ledger)
 }
 

@@ -4,7 +4,7 @@ use desk_codes::{AccountId, Isin};
 use desk_msg::{Kind, Reason};
 use desk_register::{ListRegister, Register, Standing};
 use desk_rules::plain::{credits, debits, instruction_at, is_due, pairing_of, settlement_of};
-use desk_rules::{Entry, Pair, Settled, State};
+use desk_rules::{Entry, Pair, Refusal, Settled, State};
 use desk_worked::entries::{
     Deal, EntryFault, SHARE, account, delivery, instruct, isin, issue, new_account, participant,
     receipt, run, security,
@@ -170,9 +170,10 @@ fn enters(
     entry: Entry,
     pairs: (u64, u64),
 ) -> Result<(), Fail> {
-    let Entered::Accepted(applied) = ledger.enter(alloc, entry)? else {
-        return Err("not accepted")?;
-    };
+    let applied = ledger
+        .enter(alloc, entry)?
+        .accepted()
+        .ok_or("not accepted")?;
     assert_eq!(rt; (applied.settled, applied.waiting), pairs);
     Ok(())
 }
@@ -192,9 +193,10 @@ fn base(alloc: Global) -> Result<Ledger, Fail> {
     ];
     let mut ledger = Ledger::new(alloc, 1000);
     for entry in entries {
-        let Entered::Accepted(_) = ledger.enter(alloc, entry)? else {
-            return Err("not accepted")?;
-        };
+        let _applied = ledger
+            .enter(alloc, entry)?
+            .accepted()
+            .ok_or("not accepted")?;
     }
     Ok(ledger)
 }
@@ -395,7 +397,8 @@ fn drawn(alloc: Global, number: u64) -> Result<Entry, EntryFault> {
     }
 }
 
-/// A history of two dozen draws from a seed. What is drawn again is a repeat, and a run may be refused.
+/// A history of two dozen draws from a seed. What is drawn again is a repeat, and a run may be refused, since its day
+/// goes back; all else is accepted.
 fn drawn_day(rt: &impl Abort, alloc: Global, seed: u64) -> Result<[u64; 4], Fail> {
     let mut ledger = base(alloc)?;
     let mut state = seed;
@@ -404,7 +407,12 @@ fn drawn_day(rt: &impl Abort, alloc: Global, seed: u64) -> Result<[u64; 4], Fail
             .wrapping_mul(6_364_136_223_846_793_005)
             .wrapping_add(1_442_695_040_888_963_407);
         let entry = drawn(alloc, (state >> 32) % 16)?;
-        assert!(rt; ledger.enter(alloc, entry)? != Entered::NotTaken);
+        let is_run = matches!(entry, Entry::Run { .. });
+        match ledger.enter(alloc, entry)? {
+            Entered::Accepted(_) | Entered::Repeated(_) => {}
+            Entered::Refused(refusal) => assert!(rt; is_run && refusal == Refusal::DayGoesBack),
+            Entered::NotTaken => assert!(rt; false, "not taken"),
+        }
     }
     compared(rt, alloc, ledger)
 }

@@ -183,7 +183,13 @@ fn over_the_limit(rt: &impl Abort, alloc: Global, ledger: &mut Ledger) -> Result
     let most = issue("I1", "A-1", SHARE, 99_999_999_999_999)?;
     accepts(rt, alloc, ledger, most, 7)?;
     refuses(rt, alloc, ledger, issue("I2", "B-1", SHARE, 1)?, 36)?;
-    accepts(rt, alloc, ledger, security("I2", BOND, Kind::Unit)?, 8)?;
+    accepts(
+        rt,
+        alloc,
+        ledger,
+        security("I2", BOND, Kind::FaceAmount)?,
+        8,
+    )?;
     accepts(rt, alloc, ledger, issue("I3", "B-1", BOND, 1)?, 9)
 }
 
