@@ -1,5 +1,5 @@
 -- A script on a new desk in memory.
-use Rattle.std.proofs.Common.{◌≡◌, ◌<◌, ◌≤◌, ℕ, Bool, true, false, List, [], ◌∷◌, ◌++◌, length, All, Option, Some, None, IfSome, cond, count_by, refl, sym, subst, arith}
+use Rattle.std.proofs.Common.{◌≡◌, ◌≤◌, ℕ, Bool, false, List, [], ◌∷◌, ◌++◌, length, All, Option, Some, None, IfSome, cond, count_by, refl, sym, subst, arith}
 use Rattle.std.proofs.lemmas.List.Elements.{All-cons, All-head, All-nil, All-tail}
 use Rattle.std.proofs.lemmas.List.Sums.{sum_by-cons}
 use Rattle.std.specs.Prelude.{Result, Ok, Err, IfOk}
@@ -16,7 +16,6 @@ use Rattle.desk_book.specs.declared.fault.Fault.TheVariants.{Memory, Storage, Cl
 use Rattle.desk_book.specs.Answered.{Run, says_closed, says_storage}
 use Rattle.desk_book.specs.Held.{Holds}
 use Rattle.desk_book.specs.Played.{PlaysScript, asked_in}
-use Rattle.desk_book.specs.Script.{Script}
 use Rattle.desk.specs.PlayAnswer.{IsInMemory, IsPlayAnswer, told_answers, told_memory, told_input}
 use Rattle.desk.specs.Status.{failure_line}
 use Rattle.desk.specs.declared.status.Failure.{Failure}

@@ -23,7 +23,7 @@ pub memory_told : {E : Type 0} (r : Result Status E) (before after : Option (Lis
 memory_told (Ok status) before after P kind memory is wrote = inl (is ∙ ap status_of_error memory, wrote memory)
 memory_told (Err e) before after P kind memory is wrote = is
 
--- a status that is no fault is the one that was told
+-- a run that ends as refused told its answer
 pub told : {E : Type 0} (r : Result Status E) (P : Status → Type 0) → IfOk r (λ status. status ≡ exit.Refused → P status) → result_unwrap_or r exit.Fault ≡ exit.Refused → P (result_unwrap_or r exit.Fault)
 told (Ok status) P refused is = refused is
 told (Err e) P refused is = cc

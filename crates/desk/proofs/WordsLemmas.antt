@@ -1,6 +1,6 @@
--- What the parser of words makes of those that ask for something.
+-- What the parser of words makes of those that ask for something, and what is taken for a call says it.
 use Rattle.std.proofs.Common.{◌≡◌, ◌≢◌, ◌==◌, ◌∙◌, sym, ap, ap₂, ℕ, Bool, true, false, List, [], ◌∷◌, Option, Some, None, option_map, slice_index, codes, refl, arith, subst}
-use Rattle.std.specs.Prelude.{IfSome, IsSomeAnd, MatchOption}
+use Rattle.std.specs.Prelude.{IfSome, IsSomeAnd}
 use Rattle.std.specs.Str.{bytes_eq}
 use Rattle.clap.specs.Lexer.{long_of, short_of}
 use Rattle.std.specs.Box.{box_value}
@@ -8,12 +8,12 @@ use Rattle.clap.specs.declared.parser.matches.ArgMatches.{ArgMatches}
 use Rattle.clap.specs.declared.parser.matches.ArgMatches.TheViews.{out-ArgMatches, out-SubCommand}
 use Rattle.clap.specs.declared.parser.matches.Found.{Found}
 use Rattle.clap.proofs.WalkLemmas.{first_value-rows, one_text-rows}
-use Rattle.clap.specs.Words.{App, HasMatchesOf, Row, Text, first_of, first_value, found_of, is_simple, one_of, one_text, rows_of, subcommand_name_of, subcommand_of, subcommand_rows_of, takes}
+use Rattle.clap.specs.Words.{App, HasMatchesOf, Row, Text, fault_of, first_of, first_value, found_of, is_simple, is_simple_and_free, one_of, one_text, rows_of, subcommand_name_of, subcommand_of, subcommand_rows_of, takes}
 use Rattle.clap.proofs.OnLiterals.{clap_on_literals}
 use Rattle.desk_msg.specs.MessageType.{digits_of_type, is_instruction}
 use Rattle.desk_msg.specs.declared.mt.Mt.{Mt}
 use Rattle.desk_msg.specs.declared.mt.Mt.TheVariants.{Mt540, Mt541, Mt542, Mt543, Mt544, Mt545, Mt546, Mt547}
-use Rattle.desk.specs.Words.{Asked, IsAskable, IsNamed, IsSaid, IsSaidBy, IsTypeText, asked_by, desk_app, isin, play, read, words_for}
+use Rattle.desk.specs.Words.{Asked, IsAskable, IsNamed, IsSaid, IsSaidBy, IsSaidIn, IsTypeText, asked_by, desk_app, isin, play, read, words_for}
 use Rattle.desk.specs.declared.words.Call.{Call}
 
 pub simple : is_simple desk_app ≡ true
@@ -187,9 +187,6 @@ one_in m = one_found (out-ArgMatches m).subcommand (λ b. (out-SubCommand (box_v
 
 -- and what was found says it
 
-abbrev says : Asked → Option (List ℕ × List Row) → Type 0
-says asked found = MatchOption found (asked ≡ play) (λ p. IsSaid asked p.0 p.1)
-
 pub said_code : (name : List ℕ) (f : Found) (code : List ℕ) → name ≡ codes "isin" → Some code ≡ first_value f (codes "code") → IsSaid (isin code) name (rows_of f)
 said_code name f code is some = (is, sym (first_value-rows f (codes "code")) ∙ sym some)
 
@@ -200,7 +197,7 @@ said_type name f mt is text =
 
 said_parts : {S : Type 0} (found : Option S) (name_in : S → List ℕ) (rows_in : S → List Row) (asked : Asked) (name : List ℕ) (rows : List Row)
     → Some name ≡ option_map name_in found → Some rows ≡ option_map (λ p. p.1) (option_map (pair name_in rows_in) found) → IsSaid asked name rows
-    → says asked (option_map (pair name_in rows_in) found)
+    → IsSaidIn asked (option_map (pair name_in rows_in) found)
 said_parts None name_in rows_in asked name rows named matched is = cc
 said_parts (Some s) name_in rows_in asked name rows named matched is =
     let same : name_in s ≡ name = cc in
@@ -208,15 +205,21 @@ said_parts (Some s) name_in rows_in asked name rows named matched is =
     rw (same, same_rows) is
 
 pub said_in : (m : ArgMatches) (name : List ℕ) (rows : List Row) (result : Option Call) → Some name ≡ subcommand_name_of m → Some rows ≡ option_map (λ p. p.1) (subcommand_rows_of m)
-    → IfSome result (λ call. IsSaid (asked_by call) name rows) → IfSome result (λ call. says (asked_by call) (subcommand_rows_of m))
+    → IfSome result (λ call. IsSaid (asked_by call) name rows) → IfSome result (λ call. IsSaidIn (asked_by call) (subcommand_rows_of m))
 said_in m name rows None named matched is = is
 said_in m name rows (Some call) named matched is =
     said_parts (out-ArgMatches m).subcommand (λ b. (out-SubCommand (box_value b)).name.now) (λ b. rows_of (found_of (out-SubCommand (box_value b)).matches)) (asked_by call) name rows named matched is
 
-pub said_of_none : (m : ArgMatches) → None ≡ subcommand_name_of m → says play (subcommand_rows_of m)
+pub said_of_none : (m : ArgMatches) → None ≡ subcommand_name_of m → IsSaidIn play (subcommand_rows_of m)
 said_of_none m none = rw (none_in m none) refl
 
-pub said_by : (a : App) (words : List Text) (m : ArgMatches) (asked : Asked) → HasMatchesOf a words m → a ≡ desk_app → says asked (subcommand_rows_of m) → IsSaidBy asked words
-said_by a words m asked has is said =
+free : is_simple_and_free desk_app ≡ true
+unfolding clap_on_literals
+free = refl
+
+pub said_by : (a : App) (words : List Text) (m : ArgMatches) (asked : Asked) → HasMatchesOf a words m → (is_simple_and_free a ≡ true → fault_of a words ≡ []) → a ≡ desk_app
+    → IsSaidIn asked (subcommand_rows_of m) → IsSaidBy asked words
+said_by a words m asked has taken is said =
     let same : subcommand_rows_of m ≡ subcommand_of desk_app words = (has (ap is_simple is ∙ simple)).1 ∙ ap (λ b. subcommand_of b words) is in
-    subst (says asked) same said
+    let faultless : fault_of desk_app words ≡ [] = ap (λ b. fault_of b words) (sym is) ∙ taken (ap is_simple_and_free is ∙ free) in
+    (faultless, subst (IsSaidIn asked) same said)

@@ -1,9 +1,8 @@
 -- What `desk read` answers.
-use Rattle.std.specs.Prelude.{◌≡◌, ℕ, ◌<◌, List, [], ◌∷◌, ◌++◌, length, Result, Ok, Err}
+use Rattle.std.specs.Prelude.{◌≡◌, ℕ, ◌<◌, List, [], ◌∷◌, ◌++◌, length, Ok, Err}
 use Rattle.desk_msg.specs.declared.mt.Mt.{Mt}
 use Rattle.desk_msg.specs.declared.instruction.Message.{Message}
 use Rattle.desk_msg.specs.declared.refusal.TextRefusal.{TextRefusal}
-use Rattle.desk_msg.specs.declared.refusal.ReadFault.{ReadFault}
 use Rattle.desk_msg.specs.declared.refusal.ReadFault.TheVariants.{Refused}
 use Rattle.desk_msg.specs.Refused.{ReadsText, refusal_line}
 use Rattle.desk_msg.specs.FieldsText.{message_text}

@@ -1,7 +1,7 @@
 -- Which words ask for what.
 use Rattle.std.specs.Prelude.{◌≡◌, ◌≢◌, ℕ, List, [], ◌∷◌, Option, Some, pos, true, codes, slice_index, IsSomeAnd, MatchOption}
 use Rattle.std.specs.Str.Parse.{IsNumeral, digits_value, without_leading_plus}
-use Rattle.clap.specs.Words.{App, Row, Rule, first_of, new_app, new_rule, one_of, subcommand_of, with_rule, with_subcommand}
+use Rattle.clap.specs.Words.{App, Row, Rule, first_of, new_app, new_rule, fault_of, one_of, subcommand_of, with_rule, with_subcommand}
 use Rattle.clap.specs.declared.builder.value_parser.ValueParser.TheVariants.{Signed}
 use Rattle.desk_msg.specs.MessageType.{digits_of_type, is_instruction, number_of_type}
 use Rattle.desk_msg.specs.declared.mt.Mt.{Mt}
@@ -37,7 +37,7 @@ IsAskable (isin code) = slice_index code 0 ≢ 45
 IsAskable (read mt) = is_instruction mt ≡ true
 IsAskable play = Unit {0}
 
--- what a subcommand's name and matches ask for
+-- what a subcommand's name and matches ask for, spelled as `words_for` spells it
 abbrev pub IsNamed : Asked → List ℕ → List Row → Type 0
 IsNamed (isin code) name rows = (name ≡ codes "isin") × (first_of (codes "code") rows ≡ Some code)
 IsNamed (read mt) name rows = (name ≡ codes "read") × (one_of (codes "mt") rows ≡ Some (digits_of_type mt)) × (is_instruction mt ≡ true)
@@ -62,16 +62,20 @@ play_app = new_app (codes "play")
 abbrev pub desk_app : App
 desk_app = with_subcommand (with_subcommand (with_subcommand (new_app (codes "desk")) isin_app.top) read_app.top) play_app.top
 
--- digits that write a type's number; a plus may stand before them
+-- a numeral of a type's number; a plus and zeros may stand before it
 abbrev pub IsTypeText : Mt → List ℕ → Type 0
 IsTypeText mt text = IsNumeral 10 (without_leading_plus text) × (digits_value 10 (without_leading_plus text) ≡ number_of_type mt)
 
--- a subcommand's name and matches say this, and nothing else
+-- what a subcommand's name and matches say, however a type is spelled
 abbrev pub IsSaid : Asked → List ℕ → List Row → Type 0
 IsSaid (isin code) name rows = (name ≡ codes "isin") × (first_of (codes "code") rows ≡ Some code)
 IsSaid (read mt) name rows = (name ≡ codes "read") × IsSomeAnd (one_of (codes "mt") rows) (IsTypeText mt)
 IsSaid play name rows = name ≡ codes "play"
 
--- the words say this by their subcommand; without one, to play
+-- what is said where this subcommand was found; with none, to play
+abbrev pub IsSaidIn : Asked → Option (List ℕ × List Row) → Type 0
+IsSaidIn asked found = MatchOption found (asked ≡ play) (λ f. IsSaid asked f.0 f.1)
+
+-- the parser finds no fault in the words, and their subcommand says this
 abbrev pub IsSaidBy : Asked → List (List ℕ) → Type 0
-IsSaidBy asked words = MatchOption (subcommand_of desk_app words) (asked ≡ play) (λ found. IsSaid asked found.0 found.1)
+IsSaidBy asked words = (fault_of desk_app words ≡ []) × IsSaidIn asked (subcommand_of desk_app words)

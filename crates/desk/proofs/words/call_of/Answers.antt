@@ -21,4 +21,4 @@ returns-clause-asked g c = λ program asked right are.
     absurd (c.in-None.ensures.asked asked (entered _ _ c.in_ok-matches.matches program asked c.in_ok-matches.ensures.matches c.in_ok-desk.ensures are right))
 
 pub returns-in-Some-clause-said : goal.returns-in-Some-clause-said
-returns-in-Some-clause-said g c = said_by _ _ c.in_ok-matches.matches _ c.in_ok-matches.ensures.matches c.in_ok-desk.ensures c.in-Some.ensures.said
+returns-in-Some-clause-said g c = said_by _ _ c.in_ok-matches.matches _ c.in_ok-matches.ensures.matches c.in_ok-matches.ensures.kinds c.in_ok-desk.ensures c.in-Some.ensures.said
