@@ -3,7 +3,7 @@
 from collections import namedtuple
 
 # what an instruction is to say, as bytes but for the type and the quantity
-Order = namedtuple("Order", "mt reference day isin kind quantity account counterparty place settlement amount")
+Instruction = namedtuple("Instruction", "mt reference day isin kind quantity account counterparty place settlement amount")
 
 ISINS = (b"DE0007164600", b"US0378331005", b"AU0000XVGZA3")
 BICS = (b"ALPHDEFF", b"BETADEFF", b"GAMMDEFF", b"ALPHDEFFABC", b"DESKDEFF")
@@ -54,12 +54,12 @@ def unused(chance, percent, *lines):
     return [chance.pick(lines)] if chance.happens(percent) else []
 
 
-def general(chance, order, function):
+def general(chance, instruction, function):
     previous = []
     if function == b"CANC" or chance.happens(5):
-        previous = sequence(b"LINK", [field(b"20C", b":PREV//" + chance.pick((b"A1", b"B 2", order.reference)))])
+        previous = sequence(b"LINK", [field(b"20C", b":PREV//" + chance.pick((b"A1", b"B 2", instruction.reference)))])
     lines = [
-        [field(b"20C", b":SEME//" + order.reference)],
+        [field(b"20C", b":SEME//" + instruction.reference)],
         [field(b"23G", function + (b"/" + chance.pick((b"CODU", b"0000")) if chance.happens(10) else b""))],
         unused(chance, 15, b":98C::PREP//20240226101500", b":98A::PREP//20240226", b":20C::POOL//X", b":99B::TOSE//1"),
         previous,
@@ -79,12 +79,12 @@ def dated(chance, day):
     return field(b"98A", b":SETT//" + day)
 
 
-def trade(chance, order):
-    isin = [field(b"35B", b"ISIN " + order.isin)]
+def trade(chance, instruction):
+    isin = [field(b"35B", b"ISIN " + instruction.isin)]
     isin += [b"ORDINARY SHARES", b"", b"ISIN"][: chance.between(1, 3)] if chance.happens(20) else []
     nested = sequence(b"FIA", [b":11A::DENO//EUR", *unused(chance, 20, b":98A::SETT//20200101", b":35B:ISIN X")])
     lines = [
-        [dated(chance, order.day)],
+        [dated(chance, instruction.day)],
         unused(chance, 20, b":98A::TRAD//20240227", b":98B::SETT//OPEN", b":98E::SETT//20240229101500/02"),
         unused(chance, 15, b":90B::DEAL//ACTU/EUR2,50125", b":90A::DEAL//PRCT/99,5"),
         isin,
@@ -94,9 +94,9 @@ def trade(chance, order):
     return sequence(b"TRADDET", together(chance, lines))
 
 
-def holding(chance, order):
-    quantity = field(b"36B", b":SETT//%s/%s" % (order.kind, spelled(chance, order.quantity)))
-    account = field(b"97A", b":SAFE//" + order.account)
+def quantity_and_account(chance, instruction):
+    quantity = field(b"36B", b":SETT//%s/%s" % (instruction.kind, spelled(chance, instruction.quantity)))
+    account = field(b"97A", b":SAFE//" + instruction.account)
     other = unused(chance, 15, b":97A::CASH//123", b":97B::SAFE//BANK/A/A-1", b":36B::OTHR//UNIT/1,", b":94F::SAFE//X")
     if chance.happens(10):
         return sequence(b"FIAC", [quantity, *other]) + sequence(b"FIAC", [account])
@@ -107,24 +107,24 @@ def party(line):
     return sequence(b"SETPRTY", [line])
 
 
-def settling(chance, order):
+def settling(chance, instruction):
     issuer = b"/" + chance.pick((b"A", b"ABCD", b"12345678")) if chance.happens(10) else b"/"
-    role = b"DEAG" if order.mt in (540, 541) else b"REAG"
-    against = order.mt in (541, 543)
+    role = b"DEAG" if instruction.mt in (540, 541) else b"REAG"
+    against = instruction.mt in (541, 543)
     parts = [
-        [field(b"22F", b":SETR%s/%s" % (issuer, order.settlement)), *unused(chance, 10, b":22F::STCO//DLWM")],
+        [field(b"22F", b":SETR%s/%s" % (issuer, instruction.settlement)), *unused(chance, 10, b":22F::STCO//DLWM")],
         party(b":95P::BUYR//" + chance.pick(BICS)) if chance.happens(15) else [],
-        party(field(b"95P", b":%s//%s" % (role, spelled_bic(chance, order.counterparty)))),
-        party(field(b"95P", b":PSET//" + spelled_bic(chance, order.place))),
-        sequence(b"AMT", [field(b"19A", b":SETT//" + order.amount)]) if against or chance.happens(10) else [],
+        party(field(b"95P", b":%s//%s" % (role, spelled_bic(chance, instruction.counterparty)))),
+        party(field(b"95P", b":PSET//" + spelled_bic(chance, instruction.place))),
+        sequence(b"AMT", [field(b"19A", b":SETT//" + instruction.amount)]) if against or chance.happens(10) else [],
     ]
     return sequence(b"SETDET", together(chance, parts))
 
 
-def lines_of_order(chance, order):
-    """The lines of a message that says an order."""
-    first = general(chance, order, b"NEWM")
-    others = [trade(chance, order), holding(chance, order), settling(chance, order)]
+def lines_of_instruction(chance, instruction):
+    """The lines of a message that says an instruction."""
+    first = general(chance, instruction, b"NEWM")
+    others = [trade(chance, instruction), quantity_and_account(chance, instruction), settling(chance, instruction)]
     if chance.happens(15):
         others.append(sequence(b"OTHRPRTY", [b":95P::MEOR//ALPHDEFF"]))
     if chance.happens(5):
@@ -132,14 +132,14 @@ def lines_of_order(chance, order):
     return [b"{4:", *first, *together(chance, others), b"-}"]
 
 
-def lines_of_cancellation(chance, order):
-    return [b"{4:", *general(chance, order, b"CANC"), b"-}"]
+def lines_of_cancellation(chance, instruction):
+    return [b"{4:", *general(chance, instruction, b"CANC"), b"-}"]
 
 
-def random_order(chance, mt):
-    """An order of its own, for a message that stands alone."""
+def random_instruction(chance, mt):
+    """An instruction of its own, for a message that stands alone."""
     odd = chance.happens(15)
-    return Order(
+    return Instruction(
         mt,
         chance.pick(ODD_REFERENCES) if odd else b"A%d" % chance.below(100),
         chance.pick(EDGE_DAYS if odd else DAYS),
@@ -396,6 +396,6 @@ def random_text(chance, mt):
     if kind == "soup":
         return joined(chance, soup(chance))
     of_type = mt if chance.happens(90) else chance.pick((540, 541, 542, 543))
-    make = lines_of_order if chance.happens(80) else lines_of_cancellation
-    lines = make(chance, random_order(chance, of_type))
+    make = lines_of_instruction if chance.happens(80) else lines_of_cancellation
+    lines = make(chance, random_instruction(chance, of_type))
     return joined(chance, with_faults(chance, lines) if kind == "faulty" else lines)

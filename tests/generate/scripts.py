@@ -1,7 +1,7 @@
 """Random scripts of few parties, accounts and securities, so that they meet again and again."""
 
 from . import commands
-from .messages import BAD_BICS, ISINS, Order, joined, lines_of_cancellation, lines_of_order, spelled_bic, with_faults
+from .messages import BAD_BICS, ISINS, Instruction, joined, lines_of_cancellation, lines_of_instruction, spelled_bic, with_faults
 
 OWNERS = {
     b"A-1": b"ALPHDEFF",
@@ -38,7 +38,7 @@ class Script:
         self.chance = chance
         self.requests = []
         self.commands = []
-        self.orders = []
+        self.instructions = []
         self.day = 1
         self.ends = chance.weighted({(b"\n",): 70, (b"\r\n",): 15, (b"\n", b"\r\n"): 15})
         self.isins = chance.shuffled(ISINS)[: chance.between(1, 2)]
@@ -149,32 +149,32 @@ class Script:
 
     # instructions
 
-    def send(self, sender, order, make=lines_of_order):
-        lines = make(self.chance, order)
+    def send(self, sender, instruction, make=lines_of_instruction):
+        lines = make(self.chance, instruction)
         if self.chance.happens(5):
             lines = with_faults(self.chance, lines)
-        self.add(b"in %s %d" % (spelled_bic(self.chance, sender), order.mt), joined(self.chance, lines))
+        self.add(b"in %s %d" % (spelled_bic(self.chance, sender), instruction.mt), joined(self.chance, lines))
 
     def account_of(self, bic):
         own = [account for account in self.accounts if OWNERS[account] == bic]
         return self.chance.pick(own or list(OWNERS))
 
-    def fresh(self, order):
-        """An order under a new reference, now and then an old one, and now and then with one thing changed."""
+    def fresh(self, instruction):
+        """An instruction under a new reference, now and then an old one, and now and then with one thing changed."""
         chance = self.chance
-        old = chance.happens(4) and self.orders
-        order = order._replace(reference=chance.pick(self.orders)[1].reference if old else b"R%d" % len(self.orders))
+        old = chance.happens(4) and self.instructions
+        instruction = instruction._replace(reference=chance.pick(self.instructions)[1].reference if old else b"R%d" % len(self.instructions))
         for _ in range(chance.weighted({0: 88, 1: 8, 2: 4})):
-            order = self.changed(order)
-        return order
+            instruction = self.changed(instruction)
+        return instruction
 
-    def changed(self, order):
-        """An order with one thing changed."""
+    def changed(self, instruction):
+        """An instruction with one thing changed."""
         chance = self.chance
         changes = {
             "place": chance.pick((b"OTHRDEFF", b"DESKDEFFABC")),
             "isin": chance.pick(ISINS),
-            "kind": b"FAMT" if order.kind == b"UNIT" else b"UNIT",
+            "kind": b"FAMT" if instruction.kind == b"UNIT" else b"UNIT",
             "account": chance.pick([*OWNERS, b"Z-9"]),
             "counterparty": chance.pick(PARTIES),
             "day": chance.pick(DAYS),
@@ -183,12 +183,12 @@ class Script:
             "mt": chance.pick((540, 542)),
         }
         name = chance.pick(list(changes))
-        return order._replace(**{name: changes[name]})
+        return instruction._replace(**{name: changes[name]})
 
-    def instruct(self, sender, order):
-        order = self.fresh(order)
-        self.orders.append((sender, order))
-        self.send(sender, order)
+    def instruct(self, sender, instruction):
+        instruction = self.fresh(instruction)
+        self.instructions.append((sender, instruction))
+        self.send(sender, instruction)
 
     def new_instruction(self):
         chance = self.chance
@@ -197,31 +197,31 @@ class Script:
         isin = chance.pick(self.isins)
         mt, day, quantity = chance.pick((540, 542)), chance.pick(DAYS[1:4]), chance.between(1, 4)
         kind = self.kinds[isin].encode()
-        order = Order(mt, b"", day, isin, kind, quantity, account, OWNERS[other], b"DESKDEFF", b"TRAD", b"EUR1,")
-        self.instruct(sender, order)
+        instruction = Instruction(mt, b"", day, isin, kind, quantity, account, OWNERS[other], b"DESKDEFF", b"TRAD", b"EUR1,")
+        self.instruct(sender, instruction)
 
     def opposite_instruction(self):
         """The other side of an instruction, most often of one of the last."""
-        if not self.orders:
+        if not self.instructions:
             return self.new_instruction()
         last = self.chance.weighted({1: 50, 4: 35, 1_000: 15})
-        sender, order = self.chance.pick(self.orders[-last:])
-        account = self.account_of(order.counterparty)
-        other = order._replace(mt=OPPOSITE[order.mt], account=account, counterparty=sender)
-        return self.instruct(order.counterparty, other)
+        sender, instruction = self.chance.pick(self.instructions[-last:])
+        account = self.account_of(instruction.counterparty)
+        other = instruction._replace(mt=OPPOSITE[instruction.mt], account=account, counterparty=sender)
+        return self.instruct(instruction.counterparty, other)
 
     def old_instruction(self):
         """An instruction that was sent before, in another spelling, and now and then with one thing changed."""
-        if not self.orders:
+        if not self.instructions:
             return
-        sender, order = self.chance.pick(self.orders)
-        self.send(sender, self.changed(order) if self.chance.happens(40) else order)
+        sender, instruction = self.chance.pick(self.instructions)
+        self.send(sender, self.changed(instruction) if self.chance.happens(40) else instruction)
 
     def twin_instruction(self):
         """One of the last instructions once more, of another account."""
-        if self.orders:
-            sender, order = self.chance.pick(self.orders[-4:])
-            self.instruct(sender, order._replace(account=self.account_of(sender)))
+        if self.instructions:
+            sender, instruction = self.chance.pick(self.instructions[-4:])
+            self.instruct(sender, instruction._replace(account=self.account_of(sender)))
 
     def same_request(self):
         """An earlier request byte by byte."""
@@ -229,14 +229,14 @@ class Script:
             self.requests.append(self.chance.pick(self.requests))
 
     def faulty_instruction(self):
-        if not self.orders:
+        if not self.instructions:
             return
         chance = self.chance
-        sender, order = chance.pick(self.orders)
+        sender, instruction = chance.pick(self.instructions)
         if chance.happens(20):
-            return self.send(sender, order, lines_of_cancellation)
-        lines = with_faults(chance, lines_of_order(chance, order))
-        return self.add(b"in %s %d" % (sender, order.mt), joined(chance, lines))
+            return self.send(sender, instruction, lines_of_cancellation)
+        lines = with_faults(chance, lines_of_instruction(chance, instruction))
+        return self.add(b"in %s %d" % (sender, instruction.mt), joined(chance, lines))
 
     def busy_day(self):
         """Some pairs of one security in any order, more than may be covered, and runs for the last of their days."""
@@ -245,10 +245,10 @@ class Script:
         sides = []
         for _ in range(chance.between(2, 5)):
             sides += self.both_sides(isin)
-        for sender, order in chance.shuffled(sides) if chance.happens(50) else sides:
-            order = order._replace(reference=b"R%d" % len(self.orders))
-            self.orders.append((sender, order))
-            self.send(sender, order)
+        for sender, instruction in chance.shuffled(sides) if chance.happens(50) else sides:
+            instruction = instruction._replace(reference=b"R%d" % len(self.instructions))
+            self.instructions.append((sender, instruction))
+            self.send(sender, instruction)
         for _ in range(chance.between(1, 2)):
             self.day = max(self.day, 3)
             self.command("run", ("day", DAYS[self.day].decode()))
@@ -261,7 +261,7 @@ class Script:
         day, quantity = chance.pick(DAYS[1:4]), chance.between(1, 5)
         giver, taker = OWNERS[giving], OWNERS[taking]
         kind = self.kinds[isin].encode()
-        delivery = Order(542, b"", day, isin, kind, quantity, giving, taker, b"DESKDEFF", b"TRAD", b"EUR1,")
+        delivery = Instruction(542, b"", day, isin, kind, quantity, giving, taker, b"DESKDEFF", b"TRAD", b"EUR1,")
         receipt = delivery._replace(mt=540, account=taking, counterparty=giver)
         twin = chance.pick([(giver, delivery._replace(account=self.account_of(giver)))] * 2 + [(taker, receipt)])
         return [*([twin] if chance.happens(30) else []), (giver, delivery), (taker, receipt)]

@@ -104,8 +104,8 @@ def position(history, settled, account, isin):
 def is_covered(history, settled, pair):
     """Whether the account that delivers holds enough for a free delivery."""
     deliverer, _ = sides_of(history, pair)
-    order = deliverer.instruction
-    return position(history, settled, order.account, order.isin) >= order.quantity
+    instruction = deliverer.instruction
+    return position(history, settled, instruction.account, instruction.isin) >= instruction.quantity
 
 
 def due_pairs(history, pairs, number, settled):
@@ -164,15 +164,15 @@ def first_that_fails(checks):
 
 
 def refusal_of_instruction(history, entry):
-    order = entry.instruction
-    kind = kind_of(history, order.isin)
+    instruction = entry.instruction
+    kind = kind_of(history, instruction.isin)
     return first_that_fails(
         [
-            (12, order.place == DEPOSITORY),
+            (12, instruction.place == DEPOSITORY),
             (13, kind is not None),
-            (14, kind == order.kind),
-            (15, owner_of(history, order.account) == entry.sender),
-            (16, order.counterparty in participants(history)),
+            (14, kind == instruction.kind),
+            (15, owner_of(history, instruction.account) == entry.sender),
+            (16, instruction.counterparty in participants(history)),
         ]
     )
 
@@ -230,8 +230,8 @@ def accepted_run(history):
 
 
 def advice(history, entry, status, case):
-    order = entry.instruction
-    return Reply(status, 548, status_text(len(history), order.mt, order.reference, case))
+    instruction = entry.instruction
+    return Reply(status, 548, status_text(len(history), instruction.mt, instruction.reference, case))
 
 
 def accepted_reply(history):
