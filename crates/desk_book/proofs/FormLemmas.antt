@@ -11,9 +11,9 @@ use Rattle.desk_codes.specs.declared.fault.CodeFault.{CodeFault}
 use Rattle.desk_codes.specs.declared.fault.CodeFault.TheVariants.{Length, Prefix, Body, Check, Shape}
 use Rattle.desk_codes.proofs.BicLemmas.{shape_codes, same_bytes}
 use Rattle.desk_msg.specs.declared.mt.Mt.{Mt}
-use Rattle.desk_msg.specs.MessageType.{is_instruction, is_against_payment}
+use Rattle.desk_msg.specs.MessageType.{digits_of_type, is_instruction, is_against_payment}
 use Rattle.desk_book.specs.Asked.{Asked, message, operator, status, sent, holdings, sums}
-use Rattle.desk_book.specs.Forms.{Names, IsLineOf, Asks, type_digits}
+use Rattle.desk_book.specs.Forms.{Names, IsLineOf, Asks}
 
 abbrev pub NoSpace : List ℕ → Type 0
 NoSpace text = All (λ c. c ≢ 32) text
@@ -52,7 +52,7 @@ even_none (Some x) h = tt
 
 -- the line of a message is none of another
 pub none_free : (said rest : List ℕ) → NoSpace rest → said ≡ codes "in " ++ rest → (sender : List ℕ) (mt : Mt) → is_against_payment mt ≡ false → ¬ IsLineOf (message sender mt []) said
-none_free said rest none is sender mt free form = none_to_split rest form.0 (type_digits mt) none (cc)
+none_free said rest none is sender mt free form = none_to_split rest form.0 (digits_of_type mt) none (cc)
 
 not_true : (b : Bool) → not b ≡ true → b ≡ false
 not_true true h = cc
@@ -74,9 +74,9 @@ stripped said rest begins is = sym (take-append-drop 3 said) ∙ ap (λ x. x ++ 
 
 -- the words behind `in` are those of the form
 form_words : (said rest bic digits : List ℕ) (sender : List ℕ) (mt : Mt) → said ≡ codes "in " ++ rest → rest ≡ bic ++ 32 ∷ digits → NoSpace bic
-    → (form : IsLineOf (message sender mt []) said) → (bic ≡ form.0) × (digits ≡ type_digits mt)
+    → (form : IsLineOf (message sender mt []) said) → (bic ≡ form.0) × (digits ≡ digits_of_type mt)
 form_words said rest bic digits sender mt is split none form =
-    same_split bic form.0 digits (type_digits mt) none (bic_no_space form.0 sender form.1) (cc)
+    same_split bic form.0 digits (digits_of_type mt) none (bic_no_space form.0 sender form.1) (cc)
 
 pub none_named : (said rest bic digits : List ℕ) (fault : CodeFault) → said ≡ codes "in " ++ rest → rest ≡ bic ++ 32 ∷ digits → NoSpace bic → ReadsBic bic (Err fault)
     → (sender : List ℕ) (mt : Mt) → is_against_payment mt ≡ false → ¬ IsLineOf (message sender mt []) said
@@ -85,7 +85,7 @@ none_named said rest bic digits fault is split none bad sender mt free form =
     unread bic sender fault bad (rw words.0 form.1)
 
 pub none_typed : (said rest bic digits : List ℕ) → said ≡ codes "in " ++ rest → rest ≡ bic ++ 32 ∷ digits → NoSpace bic
-    → ((mt : Mt) → is_instruction mt ≡ true → is_against_payment mt ≡ false → ¬ (type_digits mt ≡ digits))
+    → ((mt : Mt) → is_instruction mt ≡ true → is_against_payment mt ≡ false → ¬ (digits_of_type mt ≡ digits))
     → (sender : List ℕ) (mt : Mt) → is_against_payment mt ≡ false → ¬ IsLineOf (message sender mt []) said
 none_typed said rest bic digits is split none other sender mt free form =
     let words = form_words said rest bic digits sender mt is split none form in

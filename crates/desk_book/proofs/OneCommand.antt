@@ -14,7 +14,8 @@ use Rattle.std.proofs.Props.{props}
 use mathlib.Core.HLevel.{Σ_prop_path}
 use Rattle.desk_rules.specs.declared.entry.Movement.{Movement}
 use Rattle.desk_rules.specs.declared.entry.Payment.{Payment}
-use Rattle.desk_book.specs.Command.{IsCommand, Spells, text_at, number_at, kind_word}
+use Rattle.desk_msg.specs.Profile.{code_of_kind}
+use Rattle.desk_book.specs.Command.{IsCommand, Spells, text_at, number_at}
 
 -- a condition that a type keeps has one proof
 
@@ -37,12 +38,12 @@ payment_same a b e0 e1 e2 e3 =
 kind_of : List ℕ → Kind
 kind_of word = cond (eqb (get_or word 0 0) 85) Units FaceAmount
 
-kind_back : (kind : Kind) → kind_of (kind_word kind) ≡ kind
+kind_back : (kind : Kind) → kind_of (code_of_kind kind) ≡ kind
 unfolding kind_of
 kind_back Units = refl
 kind_back FaceAmount = refl
 
-same_kind : (a b : Kind) → kind_word a ≡ kind_word b → a ≡ b
+same_kind : (a b : Kind) → code_of_kind a ≡ code_of_kind b → a ≡ b
 same_kind a b e = sym (kind_back a) ∙ ap kind_of e ∙ kind_back b
 
 ccy_of : List ℕ → Ccy
@@ -100,7 +101,7 @@ one_entry d (Participant reference bic) (Participant reference' bic') h k = let 
 one_entry d (Participant reference bic) b h k = let e = other_op d (Participant reference bic) b h k in cc
 one_entry d (Account reference bic account) (Account reference' bic' account') h k = let r = found (codes "ref") reference reference' d _ _ h.4 k.4 refl refl in let x = found (codes "account") account account' d _ _ h.4 k.4 refl refl in let n = found (codes "bic") h.0 k.0 d _ _ h.4 k.4 refl refl in let p : bic ≡ bic' = h.1.0 ∙ ap party_of n ∙ sym k.1.0 in cc
 one_entry d (Account reference bic account) b h k = let e = other_op d (Account reference bic account) b h k in cc
-one_entry d (Security reference isin kind) (Security reference' isin' kind') h k = let r = found (codes "ref") reference reference' d _ _ h.2 k.2 refl refl in let i = found (codes "isin") isin isin' d _ _ h.2 k.2 refl refl in let w = same_kind kind kind' (found (codes "kind") (kind_word kind) (kind_word kind') d _ _ h.2 k.2 refl refl) in cc
+one_entry d (Security reference isin kind) (Security reference' isin' kind') h k = let r = found (codes "ref") reference reference' d _ _ h.2 k.2 refl refl in let i = found (codes "isin") isin isin' d _ _ h.2 k.2 refl refl in let w = same_kind kind kind' (found (codes "kind") (code_of_kind kind) (code_of_kind kind') d _ _ h.2 k.2 refl refl) in cc
 one_entry d (Security reference isin kind) b h k = let e = other_op d (Security reference isin kind) b h k in cc
 one_entry d (Issue movement) (Issue movement') h k = ap Issue (movement_same movement movement' (found (codes "ref") movement.reference movement'.reference d _ _ h.1 k.1 refl refl) (found (codes "account") movement.account movement'.account d _ _ h.1 k.1 refl refl) (found (codes "isin") movement.isin movement'.isin d _ _ h.1 k.1 refl refl) (counted (codes "quantity") movement.quantity movement'.quantity d _ _ h.1 k.1 refl refl))
 one_entry d (Issue movement) b h k = let e = other_op d (Issue movement) b h k in cc

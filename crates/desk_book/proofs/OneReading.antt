@@ -7,7 +7,8 @@ use Rattle.desk_codes.specs.Bic.{party_of}
 use Rattle.desk_msg.specs.declared.mt.Mt.{Mt}
 use Rattle.desk_msg.specs.declared.mt.Mt.TheVariants.{Mt540, Mt541, Mt542, Mt543, Mt544, Mt545, Mt546, Mt547}
 use Rattle.desk_book.specs.Asked.{Asked, message, operator, status, sent, holdings, sums}
-use Rattle.desk_book.specs.Forms.{IsLineOf, Asks, type_digits}
+use Rattle.desk_msg.specs.MessageType.{digits_of_type}
+use Rattle.desk_book.specs.Forms.{IsLineOf, Asks}
 use Rattle.desk_book.specs.Lines.{lines_of, content, is_skipped, has_body, is_stop}
 use Rattle.desk_book.specs.Script.{Item, ask, bad_line, Asking, ended, skipped, plain, posted, cut, Means, Script, IsOpen, posted_text, BeginsWith, SpellsOnly}
 use Rattle.desk_book.proofs.FormLemmas.{bic_no_space, same_split}
@@ -19,7 +20,7 @@ type_of digits =
     let d = get_or digits 2 0 in
     cond (eqb d 48) Mt540 (cond (eqb d 49) Mt541 (cond (eqb d 50) Mt542 (cond (eqb d 51) Mt543 (cond (eqb d 52) Mt544 (cond (eqb d 53) Mt545 (cond (eqb d 54) Mt546 Mt547))))))
 
-type_back : (mt : Mt) → type_of (type_digits mt) ≡ mt
+type_back : (mt : Mt) → type_of (digits_of_type mt) ≡ mt
 unfolding type_of
 type_back Mt540 = refl
 type_back Mt541 = refl
@@ -30,13 +31,13 @@ type_back Mt545 = refl
 type_back Mt546 = refl
 type_back Mt547 = refl
 
-same_type : (a b : Mt) → type_digits a ≡ type_digits b → a ≡ b
+same_type : (a b : Mt) → digits_of_type a ≡ digits_of_type b → a ≡ b
 same_type a b e = sym (type_back a) ∙ ap type_of e ∙ type_back b
 
 same_message : (s t : List ℕ) (a b : Mt) (x y said : List ℕ) → x ≡ y → IsLineOf (message s a x) said → IsLineOf (message t b y) said → message s a x ≡ message t b y
 same_message s t a b x y said text f g =
-    let both : f.0 ++ 32 ∷ type_digits a ≡ g.0 ++ 32 ∷ type_digits b = let e = sym f.3 ∙ g.3 in cc in
-    let words = same_split f.0 g.0 (type_digits a) (type_digits b) (bic_no_space f.0 s f.1) (bic_no_space g.0 t g.1) both in
+    let both : f.0 ++ 32 ∷ digits_of_type a ≡ g.0 ++ 32 ∷ digits_of_type b = let e = sym f.3 ∙ g.3 in cc in
+    let words = same_split f.0 g.0 (digits_of_type a) (digits_of_type b) (bic_no_space f.0 s f.1) (bic_no_space g.0 t g.1) both in
     let kind = same_type a b words.1 in
     let party : s ≡ t = f.1.0 ∙ ap party_of words.0 ∙ sym g.1.0 in
     cc

@@ -8,8 +8,7 @@ use Rattle.desk_codes.specs.CheckDigit.{IsIsin}
 use Rattle.desk_codes.specs.Currency.{letters_of}
 use Rattle.desk_codes.specs.Day.{IsDay}
 use Rattle.desk_codes.specs.Reference.{IsReference}
-use Rattle.desk_msg.specs.declared.instruction.Kind.{Kind}
-use Rattle.desk_msg.specs.declared.instruction.Kind.TheVariants.{Unit as Units, FaceAmount}
+use Rattle.desk_msg.specs.Profile.{code_of_kind}
 use Rattle.desk_rules.specs.declared.entry.Movement.{Movement}
 use Rattle.desk_rules.specs.declared.entry.Entry.{Entry}
 use Rattle.desk_rules.specs.declared.entry.Entry.TheVariants.{Participant, Account, Security, Issue, Redeem, PayIn, PayOut, Instruct, Cancel, Run}
@@ -21,11 +20,6 @@ text_member name text more = member name (string text) more
 
 abbrev pub number_member : List ℕ → ℕ → Members → Members
 number_member name value more = member name (number (unsigned value)) more
-
--- how a command names the kind of a security
-abbrev pub kind_word : Kind → List ℕ
-kind_word Units = codes "UNIT"
-kind_word FaceAmount = codes "FAMT"
 
 -- The objects that spell commands. The members of an object stand in the order of their names.
 
@@ -63,7 +57,7 @@ IsMovement m = IsReference m.reference × IsAccount m.account × IsIsin m.isin
 abbrev pub IsCommand : Data → Entry → Type 0
 IsCommand d (Participant reference bic) = (name : List ℕ) × Names name bic × IsReference reference × (d ≡ participant_object reference name)
 IsCommand d (Account reference bic account) = (name : List ℕ) × Names name bic × IsReference reference × IsAccount account × (d ≡ account_object reference name account)
-IsCommand d (Security reference isin kind) = IsReference reference × IsIsin isin × (d ≡ security_object reference isin (kind_word kind))
+IsCommand d (Security reference isin kind) = IsReference reference × IsIsin isin × (d ≡ security_object reference isin (code_of_kind kind))
 IsCommand d (Issue m) = IsMovement m × (d ≡ movement_object (codes "issue") m.reference m.account m.isin m.quantity)
 IsCommand d (Redeem m) = IsMovement m × (d ≡ movement_object (codes "redeem") m.reference m.account m.isin m.quantity)
 IsCommand d (PayIn p) = (name : List ℕ) × Names name p.bic × IsReference p.reference × (d ≡ payment_object (codes "payin") p.reference name (letters_of p.ccy) p.amount)

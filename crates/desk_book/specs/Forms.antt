@@ -3,25 +3,12 @@ use Rattle.std.specs.Prelude.{◌≡◌, ℕ, ◌≤◌, Bool, true, false, List
 use Rattle.desk_codes.specs.Bic.{ReadsBic}
 use Rattle.desk_codes.specs.Characters.{IsDigit}
 use Rattle.desk_codes.specs.Number.{number_of}
-use Rattle.desk_msg.specs.declared.mt.Mt.{Mt}
-use Rattle.desk_msg.specs.declared.mt.Mt.TheVariants.{Mt540, Mt541, Mt542, Mt543, Mt544, Mt545, Mt546, Mt547}
-use Rattle.desk_msg.specs.MessageType.{is_instruction, is_against_payment}
+use Rattle.desk_msg.specs.MessageType.{digits_of_type, is_instruction, is_against_payment}
 use Rattle.desk_book.specs.Asked.{Asked, message, operator, status, sent, holdings, sums}
 
 -- the characters are a BIC of the party
 abbrev pub Names : List ℕ → List ℕ → Type 0
 Names bic party = ReadsBic bic (Ok party)
-
--- the three digits of a message type
-abbrev pub type_digits : Mt → List ℕ
-type_digits Mt540 = codes "540"
-type_digits Mt541 = codes "541"
-type_digits Mt542 = codes "542"
-type_digits Mt543 = codes "543"
-type_digits Mt544 = codes "544"
-type_digits Mt545 = codes "545"
-type_digits Mt546 = codes "546"
-type_digits Mt547 = codes "547"
 
 -- 1 to 9 digits that write a number
 pub record IsCount (digits : List ℕ) (number : ℕ) : Type 0 where
@@ -32,7 +19,7 @@ pub record IsCount (digits : List ℕ) (number : ℕ) : Type 0 where
 
 -- The line that asks a request, one equation a form. Single spaces part the words.
 abbrev pub IsLineOf : Asked → List ℕ → Type 0
-IsLineOf (message sender mt text) line = (bic : List ℕ) × Names bic sender × (is_instruction mt ≡ true) × (line ≡ codes "in " ++ (bic ++ 32 ∷ type_digits mt))
+IsLineOf (message sender mt text) line = (bic : List ℕ) × Names bic sender × (is_instruction mt ≡ true) × (line ≡ codes "in " ++ (bic ++ 32 ∷ digits_of_type mt))
 IsLineOf (operator text) line = line ≡ codes "op"
 IsLineOf (status sender reference) line = (bic : List ℕ) × Names bic sender × (line ≡ codes "status " ++ (bic ++ 32 ∷ reference))
 IsLineOf (sent receiver number) line = (bic digits : List ℕ) × Names bic receiver × IsCount digits number × (line ≡ codes "sent " ++ (bic ++ 32 ∷ digits))

@@ -1,9 +1,9 @@
 //! The lines that ask something.
 ghost use Rattle.std.specs.Prelude.{◌≡◌, ℕ, List, [], Some, None, false, true, IfSome, IfNone};
 ghost use Rattle.desk_msg.specs.declared.mt.Mt.{Mt};
-ghost use Rattle.desk_msg.specs.MessageType.{is_instruction, is_against_payment};
+ghost use Rattle.desk_msg.specs.MessageType.{digits_of_type, is_instruction, is_against_payment};
 ghost use Rattle.desk_book.specs.Asked.{message};
-ghost use Rattle.desk_book.specs.Forms.{IsLineOf, type_digits};
+ghost use Rattle.desk_book.specs.Forms.{IsLineOf};
 ghost use Rattle.desk_book.specs.Script.{Means, item_of};
 
 use crate::line::COMMAND;
@@ -63,11 +63,11 @@ fn free_message(said: &[u8]) -> Option<(Bic, Mt)>
 
 /// The type of three digits, of those that instruct without payment.
 fn free_type(digits: &[u8]) -> Option<Mt>
-    ensures digits { IfSome result (λ mt. type_digits mt ≡ digits.now) }
+    ensures digits { IfSome result (λ mt. digits_of_type mt ≡ digits.now) }
     ensures instructs { IfSome result (λ mt. is_instruction mt ≡ true) }
     ensures free { IfSome result (λ mt. is_against_payment mt ≡ false) }
     ensures none { IfNone result ((mt : Mt) → is_instruction mt ≡ true → is_against_payment mt ≡ false
-        → ¬ (type_digits mt ≡ digits.now)) }
+        → ¬ (digits_of_type mt ≡ digits.now)) }
 {
     match digits {
         b"540" => Some(Mt::Mt540),

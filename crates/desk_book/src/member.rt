@@ -8,7 +8,8 @@ ghost use Rattle.desk_codes.specs.CheckDigit.{IsIsin};
 ghost use Rattle.desk_codes.specs.Day.{IsDay};
 ghost use Rattle.desk_codes.specs.Reference.{IsReference};
 ghost use Rattle.desk_msg.specs.declared.instruction.Kind.{Kind as KindValue};
-ghost use Rattle.desk_book.specs.Command.{kind_word, text_at, number_at};
+ghost use Rattle.desk_msg.specs.Profile.{code_of_kind};
+ghost use Rattle.desk_book.specs.Command.{text_at, number_at};
 ghost use Rattle.desk_book.specs.Forms.{Names};
 ghost use Rattle.desk_book.specs.Members.{IsOrderedObject};
 
@@ -88,9 +89,9 @@ pub fn isin_in(value: &Value) -> Option<Isin>
 
 /// The kind of a security.
 pub fn kind_in(value: &Value) -> Option<Kind>
-    ensures some { IfSome result (λ kind. text_at (codes "kind") (view value.now) ≡ Some (kind_word kind)) }
+    ensures some { IfSome result (λ kind. text_at (codes "kind") (view value.now) ≡ Some (code_of_kind kind)) }
     ensures none { IfNone result ((kind : KindValue)
-        → ¬ (text_at (codes "kind") (view value.now) ≡ Some (kind_word kind))) }
+        → ¬ (text_at (codes "kind") (view value.now) ≡ Some (code_of_kind kind))) }
 {
     match text(value, "kind")? {
         "UNIT" => Some(Kind::Unit),
