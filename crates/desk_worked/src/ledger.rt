@@ -1,6 +1,7 @@
 //! A register in plain lists that takes in what the desk accepts, entry by entry, as the desk does.
-ghost use Rattle.std.specs.Prelude.{◌≡◌, ◌≤◌, IfOk, IfSome, OnErr, OnOk, IsTrue};
+ghost use Rattle.std.specs.Prelude.{◌≡◌, ◌≢◌, ◌≤◌, IfNone, IfOk, IfSome, OnErr, OnOk, IsTrue};
 ghost use Rattle.desk_rules.specs.Verdict.{Books};
+ghost use Rattle.desk_register.specs.declared.rules.applied.Applied.{Applied as AppliedValue};
 ghost use Rattle.desk_register.specs.Applied.{CanApply, HasApplied, Keeps};
 ghost use Rattle.desk_register.specs.Decision.{is_supported};
 ghost use Rattle.desk_register.specs.ListView.{view_of_lists};
@@ -52,7 +53,8 @@ pub enum Entered {
 impl Entered {
     /// How it fared, where it was accepted.
     pub fn accepted(self) -> Option<Applied>
-        ensures { IfSome result (λ applied. self ≡ Entered.Accepted applied) }
+        ensures some { IfSome result (λ applied. self ≡ Entered.Accepted applied) }
+        ensures none { IfNone result ((applied : AppliedValue) → self ≢ Entered.Accepted applied) }
     {
         match self {
             Entered::Accepted(applied) => Some(applied),
