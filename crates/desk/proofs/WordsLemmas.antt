@@ -13,7 +13,7 @@ use Rattle.clap.proofs.OnLiterals.{clap_on_literals}
 use Rattle.desk_msg.specs.MessageType.{digits_of_type, is_instruction}
 use Rattle.desk_msg.specs.declared.mt.Mt.{Mt}
 use Rattle.desk_msg.specs.declared.mt.Mt.TheVariants.{Mt540, Mt541, Mt542, Mt543, Mt544, Mt545, Mt546, Mt547}
-use Rattle.desk.specs.Words.{Asked, IsAskable, IsNamed, IsSaid, IsSaidBy, IsSaidIn, IsTypeText, asked_by, desk_app, isin, play, read, words_for}
+use Rattle.desk.specs.Words.{Asked, IsAskable, IsSpelledOut, IsSaid, IsSaidBy, IsSaidIn, IsTypeText, asked_by, desk_app, isin, play, read, words_for}
 use Rattle.desk.specs.declared.words.Call.{Call}
 
 pub simple : is_simple desk_app ≡ true
@@ -94,7 +94,7 @@ enters_play : (program : List ℕ) → IsSomeAnd (subcommand_of desk_app (progra
 unfolding clap_on_literals
 enters_play program = refl
 
-pub enters_asked : (program : List ℕ) (asked : Asked) → IsAskable asked → IsSomeAnd (subcommand_of desk_app (program ∷ words_for asked)) (λ p. IsNamed asked p.0 p.1)
+pub enters_asked : (program : List ℕ) (asked : Asked) → IsAskable asked → IsSomeAnd (subcommand_of desk_app (program ∷ words_for asked)) (λ p. IsSpelledOut asked p.0 p.1)
 enters_asked program (isin code) other = enters_isin program code (no_dashes code other) (no_long code other) (no_short code other)
 enters_asked program (read mt) is = enters_read program mt is
 enters_asked program play is = enters_play program
@@ -110,7 +110,7 @@ pair name_in rows_in s = (name_in s, rows_in s)
 
 pub named_parts : {S : Type 0} (found : Option S) (name_in : S → List ℕ) (rows_in : S → List Row) (asked : Asked) (name : List ℕ) (rows : List Row)
     → Some name ≡ option_map name_in found → Some rows ≡ option_map (λ p. p.1) (option_map (pair name_in rows_in) found)
-    → IsSomeAnd (option_map (pair name_in rows_in) found) (λ p. IsNamed asked p.0 p.1) → IsNamed asked name rows
+    → IsSomeAnd (option_map (pair name_in rows_in) found) (λ p. IsSpelledOut asked p.0 p.1) → IsSpelledOut asked name rows
 named_parts None name_in rows_in asked name rows named matched is = absurd is
 named_parts (Some s) name_in rows_in asked name rows named matched is =
     let same : name ≡ name_in s = cc in
@@ -128,37 +128,37 @@ one_found (Some s) name_in rows_in name e none = cc
 -- what the getters give
 
 module _ (asked : Asked) (name : List ℕ) (f : Found) where
-  named_isin : name ≡ codes "isin" → IsNamed asked name (rows_of f) → (code : List ℕ) × (asked ≡ isin code) × (first_value f (codes "code") ≡ Some code)
+  named_isin : name ≡ codes "isin" → IsSpelledOut asked name (rows_of f) → (code : List ℕ) × (asked ≡ isin code) × (first_value f (codes "code") ≡ Some code)
   named_isin is named = go asked named
     where
-      go : (a : Asked) → IsNamed a name (rows_of f) → (code : List ℕ) × (a ≡ isin code) × (first_value f (codes "code") ≡ Some code)
+      go : (a : Asked) → IsSpelledOut a name (rows_of f) → (code : List ℕ) × (a ≡ isin code) × (first_value f (codes "code") ≡ Some code)
       go (isin code) h = (code, refl, first_value-rows f (codes "code") ∙ h.1)
       go (read mt) h = let bad : 114 ≡ 105 = ap (λ t. slice_index t 0) (sym h.0 ∙ is) in absurd (omega (arith, bad))
       go play h = let bad : 112 ≡ 105 = ap (λ t. slice_index t 0) (sym h ∙ is) in absurd (omega (arith, bad))
 
-  named_read : name ≡ codes "read" → IsNamed asked name (rows_of f) → (mt : Mt) × (asked ≡ read mt) × (one_text f (codes "mt") ≡ Some (digits_of_type mt)) × (is_instruction mt ≡ true)
+  named_read : name ≡ codes "read" → IsSpelledOut asked name (rows_of f) → (mt : Mt) × (asked ≡ read mt) × (one_text f (codes "mt") ≡ Some (digits_of_type mt)) × (is_instruction mt ≡ true)
   named_read is named = go asked named
     where
-      go : (a : Asked) → IsNamed a name (rows_of f) → (mt : Mt) × (a ≡ read mt) × (one_text f (codes "mt") ≡ Some (digits_of_type mt)) × (is_instruction mt ≡ true)
+      go : (a : Asked) → IsSpelledOut a name (rows_of f) → (mt : Mt) × (a ≡ read mt) × (one_text f (codes "mt") ≡ Some (digits_of_type mt)) × (is_instruction mt ≡ true)
       go (isin code) h = let bad : 105 ≡ 114 = ap (λ t. slice_index t 0) (sym h.0 ∙ is) in absurd (omega (arith, bad))
       go (read mt) h = (mt, refl, one_text-rows f (codes "mt") ∙ h.1, h.2)
       go play h = let bad : 112 ≡ 114 = ap (λ t. slice_index t 0) (sym h ∙ is) in absurd (omega (arith, bad))
 
-  pub no_code : name ≡ codes "isin" → None ≡ first_value f (codes "code") → IsNamed asked name (rows_of f) → ⊥
+  pub no_code : name ≡ codes "isin" → None ≡ first_value f (codes "code") → IsSpelledOut asked name (rows_of f) → ⊥
   no_code is none named = let n = named_isin is named in let bad : None ≡ Some n.0 = none ∙ n.2 in cc
 
-  pub same_code : (code : List ℕ) → name ≡ codes "isin" → Some code ≡ first_value f (codes "code") → IsNamed asked name (rows_of f) → isin code ≡ asked
+  pub same_code : (code : List ℕ) → name ≡ codes "isin" → Some code ≡ first_value f (codes "code") → IsSpelledOut asked name (rows_of f) → isin code ≡ asked
   same_code code is some named =
       let n = named_isin is named in
       let both : Some code ≡ Some n.0 = some ∙ n.2 in
       let same : code ≡ n.0 = cc in
       ap isin same ∙ sym n.1
 
-  pub no_type : name ≡ codes "read" → ((mt : Mt) → is_instruction mt ≡ true → one_text f (codes "mt") ≡ Some (digits_of_type mt) → ⊥) → IsNamed asked name (rows_of f) → ⊥
+  pub no_type : name ≡ codes "read" → ((mt : Mt) → is_instruction mt ≡ true → one_text f (codes "mt") ≡ Some (digits_of_type mt) → ⊥) → IsSpelledOut asked name (rows_of f) → ⊥
   no_type is none named = let n = named_read is named in none n.0 n.3 n.2
 
   pub same_type : (found : Mt) → name ≡ codes "read" → ((mt : Mt) → is_instruction mt ≡ true → one_text f (codes "mt") ≡ Some (digits_of_type mt) → found ≡ mt)
-      → IsNamed asked name (rows_of f) → read found ≡ asked
+      → IsSpelledOut asked name (rows_of f) → read found ≡ asked
   same_type found is one named = let n = named_read is named in ap read (one n.0 n.3 n.2) ∙ sym n.1
 
 -- a parse of the words, by a command that is the desk's
@@ -170,13 +170,13 @@ pub taken_alone : (a : App) (words : List Text) (program : List ℕ) → a ≡ d
 taken_alone a words program is are = ap₂ takes is are ∙ takes_nothing program
 
 pub entered : (a : App) (words : List Text) (m : ArgMatches) (program : List ℕ) (asked : Asked) → HasMatchesOf a words m → a ≡ desk_app → words ≡ program ∷ words_for asked → IsAskable asked
-    → IsSomeAnd (subcommand_rows_of m) (λ p. IsNamed asked p.0 p.1)
+    → IsSomeAnd (subcommand_rows_of m) (λ p. IsSpelledOut asked p.0 p.1)
 entered a words m program asked has is are right =
     let same : subcommand_rows_of m ≡ subcommand_of desk_app (program ∷ words_for asked) = (has (ap is_simple is ∙ simple)).1 ∙ ap₂ subcommand_of is are in
     rw same (enters_asked program asked right)
 
 pub named_in : (m : ArgMatches) (asked : Asked) (name : List ℕ) (rows : List Row) → Some name ≡ subcommand_name_of m → Some rows ≡ option_map (λ p. p.1) (subcommand_rows_of m)
-    → IsSomeAnd (subcommand_rows_of m) (λ p. IsNamed asked p.0 p.1) → IsNamed asked name rows
+    → IsSomeAnd (subcommand_rows_of m) (λ p. IsSpelledOut asked p.0 p.1) → IsSpelledOut asked name rows
 named_in m = named_parts (out-ArgMatches m).subcommand (λ b. (out-SubCommand (box_value b)).name.now) (λ b. rows_of (found_of (out-SubCommand (box_value b)).matches))
 
 pub none_in : (m : ArgMatches) → None ≡ subcommand_name_of m → subcommand_rows_of m ≡ None

@@ -37,11 +37,11 @@ IsAskable (isin code) = slice_index code 0 ≢ 45
 IsAskable (read mt) = is_instruction mt ≡ true
 IsAskable play = Unit {0}
 
--- what a subcommand's name and matches ask for, spelled as `words_for` spells it
-abbrev pub IsNamed : Asked → List ℕ → List Row → Type 0
-IsNamed (isin code) name rows = (name ≡ codes "isin") × (first_of (codes "code") rows ≡ Some code)
-IsNamed (read mt) name rows = (name ≡ codes "read") × (one_of (codes "mt") rows ≡ Some (digits_of_type mt)) × (is_instruction mt ≡ true)
-IsNamed play name rows = name ≡ codes "play"
+-- what a subcommand's name and matches ask for, spelled out as `words_for` spells it
+abbrev pub IsSpelledOut : Asked → List ℕ → List Row → Type 0
+IsSpelledOut (isin code) name rows = (name ≡ codes "isin") × (first_of (codes "code") rows ≡ Some code)
+IsSpelledOut (read mt) name rows = (name ≡ codes "read") × (one_of (codes "mt") rows ≡ Some (digits_of_type mt)) × (is_instruction mt ≡ true)
+IsSpelledOut play name rows = name ≡ codes "play"
 
 -- what the parser of words knows of the program
 abbrev pub code_rule : Rule

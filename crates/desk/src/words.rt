@@ -4,7 +4,7 @@ ghost use Rattle.clap.specs.Words.{app_of, found_of, kind_of, one_text, rows_of,
 ghost use Rattle.clap.specs.declared.builder.command.Command.TheViews.{out-Command};
 ghost use Rattle.desk_msg.specs.MessageType.{digits_of_type, is_instruction, number_of_type};
 ghost use Rattle.desk_msg.specs.declared.mt.Mt.{Mt};
-ghost use Rattle.desk.specs.Words.{Asked, IsAskable, IsNamed, IsReadable, IsSaid, IsSaidBy, IsSaidIn, IsTypeText, asked_by, desk_app, isin_app, play_app, read_app, words_for};
+ghost use Rattle.desk.specs.Words.{Asked, IsAskable, IsSpelledOut, IsReadable, IsSaid, IsSaidBy, IsSaidIn, IsTypeText, asked_by, desk_app, isin_app, play_app, read_app, words_for};
 
 use clap::error::{Error, ErrorKind};
 use clap::{Arg, ArgMatches, Command, value_parser};
@@ -60,7 +60,7 @@ pub fn usage_error(alloc: Global, message: &str) -> Result<Error, AllocError>
 fn call_in<'a>(matches: &ArgMatches<'a>) -> Option<Call<'a>>
     ensures readable { IfSome result IsReadable }
     ensures said { IfSome result (λ call. IsSaidIn (asked_by call) (subcommand_rows_of matches.now)) }
-    ensures asked { (asked : Asked) → IsSomeAnd (subcommand_rows_of matches.now) (λ found. IsNamed asked found.0 found.1)
+    ensures asked { (asked : Asked) → IsSomeAnd (subcommand_rows_of matches.now) (λ found. IsSpelledOut asked found.0 found.1)
         → IsSomeAnd result (λ call. asked_by call ≡ asked) }
     ensures nothing { subcommand_rows_of matches.now ≡ None → IsSomeAnd result (λ call. asked_by call ≡ Asked.play) }
 {
@@ -74,7 +74,7 @@ fn call_in<'a>(matches: &ArgMatches<'a>) -> Option<Call<'a>>
 fn subcommand_call<'a>(name: &str, inner: &ArgMatches<'a>) -> Option<Call<'a>>
     ensures readable { IfSome result IsReadable }
     ensures said { IfSome result (λ call. IsSaid (asked_by call) name.now (rows_of (found_of inner.now))) }
-    ensures asked { (asked : Asked) → IsNamed asked name.now (rows_of (found_of inner.now))
+    ensures asked { (asked : Asked) → IsSpelledOut asked name.now (rows_of (found_of inner.now))
         → IsSomeAnd result (λ call. asked_by call ≡ asked) }
 {
     match name {

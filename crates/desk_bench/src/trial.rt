@@ -10,7 +10,7 @@ use desk_worked::ledger::{Entered, Ledger};
 use std::alloc::Global;
 
 /// The register holds so many entries at most.
-const MOST_ENTRIES: u64 = 1000;
+const TRIAL_ENTRIES: u64 = 1000;
 
 /// How many entries the day has.
 const DAY: u32 = 19;
@@ -21,7 +21,7 @@ const DAY: u32 = 19;
 pub fn try_day(rt: &(impl Print + AllocGlobal)) -> Result<bool, Failure> {
     let alloc = rt.alloc();
     let market = Market::new()?;
-    let mut ledger = Ledger::new(alloc, MOST_ENTRIES);
+    let mut ledger = Ledger::new(alloc, TRIAL_ENTRIES);
     for number in 0..DAY {
         let entry = entry_at(&market, number)?;
         let Some(entered) = try_entry(rt, &market, &mut ledger, number, entry)? else {

@@ -111,11 +111,11 @@ only_participant d op none (Participant reference bic) c = none reference bic c.
 only_participant d op none (Account reference bic account) c = let h = c.spells in let other : Some (codes "account") ≡ Some (codes "participant") = sym (ap (text_at (codes "op")) h.4) ∙ op in cc
 only_participant d op none (Security reference isin kind) c = let h = c.spells in let other : Some (codes "security") ≡ Some (codes "participant") = sym (ap (text_at (codes "op")) h.2) ∙ op in cc
 only_participant d op none (Issue movement) c = let h = c.spells in let other : Some (codes "issue") ≡ Some (codes "participant") = sym (ap (text_at (codes "op")) h.1) ∙ op in cc
-only_participant d op none (Redeem movement) c = let bad = c.known in cc
-only_participant d op none (PayIn payment) c = let bad = c.known in cc
-only_participant d op none (PayOut payment) c = let bad = c.known in cc
-only_participant d op none (Instruct sender instruction) c = let bad = c.known in cc
-only_participant d op none (Cancel sender order) c = let bad = c.known in cc
+only_participant d op none (Redeem movement) c = let bad = c.supported in cc
+only_participant d op none (PayIn payment) c = let bad = c.supported in cc
+only_participant d op none (PayOut payment) c = let bad = c.supported in cc
+only_participant d op none (Instruct sender instruction) c = let bad = c.supported in cc
+only_participant d op none (Cancel sender order) c = let bad = c.supported in cc
 only_participant d op none (Run reference day) c = let h = c.spells in let other : Some (codes "run") ≡ Some (codes "participant") = sym (ap (text_at (codes "op")) h.2) ∙ op in cc
 
 pub only_account : (d : Data) → text_at (codes "op") d ≡ Some (codes "account") → ((reference bic account : List ℕ) → ¬ IsCommand d (Account reference bic account))
@@ -124,11 +124,11 @@ only_account d op none (Participant reference bic) c = let h = c.spells in let o
 only_account d op none (Account reference bic account) c = none reference bic account c.spells
 only_account d op none (Security reference isin kind) c = let h = c.spells in let other : Some (codes "security") ≡ Some (codes "account") = sym (ap (text_at (codes "op")) h.2) ∙ op in cc
 only_account d op none (Issue movement) c = let h = c.spells in let other : Some (codes "issue") ≡ Some (codes "account") = sym (ap (text_at (codes "op")) h.1) ∙ op in cc
-only_account d op none (Redeem movement) c = let bad = c.known in cc
-only_account d op none (PayIn payment) c = let bad = c.known in cc
-only_account d op none (PayOut payment) c = let bad = c.known in cc
-only_account d op none (Instruct sender instruction) c = let bad = c.known in cc
-only_account d op none (Cancel sender order) c = let bad = c.known in cc
+only_account d op none (Redeem movement) c = let bad = c.supported in cc
+only_account d op none (PayIn payment) c = let bad = c.supported in cc
+only_account d op none (PayOut payment) c = let bad = c.supported in cc
+only_account d op none (Instruct sender instruction) c = let bad = c.supported in cc
+only_account d op none (Cancel sender order) c = let bad = c.supported in cc
 only_account d op none (Run reference day) c = let h = c.spells in let other : Some (codes "run") ≡ Some (codes "account") = sym (ap (text_at (codes "op")) h.2) ∙ op in cc
 
 pub only_security : (d : Data) → text_at (codes "op") d ≡ Some (codes "security") → ((reference isin : List ℕ) (kind : Kind) → ¬ IsCommand d (Security reference isin kind))
@@ -137,11 +137,11 @@ only_security d op none (Participant reference bic) c = let h = c.spells in let 
 only_security d op none (Account reference bic account) c = let h = c.spells in let other : Some (codes "account") ≡ Some (codes "security") = sym (ap (text_at (codes "op")) h.4) ∙ op in cc
 only_security d op none (Security reference isin kind) c = none reference isin kind c.spells
 only_security d op none (Issue movement) c = let h = c.spells in let other : Some (codes "issue") ≡ Some (codes "security") = sym (ap (text_at (codes "op")) h.1) ∙ op in cc
-only_security d op none (Redeem movement) c = let bad = c.known in cc
-only_security d op none (PayIn payment) c = let bad = c.known in cc
-only_security d op none (PayOut payment) c = let bad = c.known in cc
-only_security d op none (Instruct sender instruction) c = let bad = c.known in cc
-only_security d op none (Cancel sender order) c = let bad = c.known in cc
+only_security d op none (Redeem movement) c = let bad = c.supported in cc
+only_security d op none (PayIn payment) c = let bad = c.supported in cc
+only_security d op none (PayOut payment) c = let bad = c.supported in cc
+only_security d op none (Instruct sender instruction) c = let bad = c.supported in cc
+only_security d op none (Cancel sender order) c = let bad = c.supported in cc
 only_security d op none (Run reference day) c = let h = c.spells in let other : Some (codes "run") ≡ Some (codes "security") = sym (ap (text_at (codes "op")) h.2) ∙ op in cc
 
 pub only_issue : (d : Data) → text_at (codes "op") d ≡ Some (codes "issue") → ((movement : Movement) → ¬ IsCommand d (Issue movement))
@@ -150,11 +150,11 @@ only_issue d op none (Participant reference bic) c = let h = c.spells in let oth
 only_issue d op none (Account reference bic account) c = let h = c.spells in let other : Some (codes "account") ≡ Some (codes "issue") = sym (ap (text_at (codes "op")) h.4) ∙ op in cc
 only_issue d op none (Security reference isin kind) c = let h = c.spells in let other : Some (codes "security") ≡ Some (codes "issue") = sym (ap (text_at (codes "op")) h.2) ∙ op in cc
 only_issue d op none (Issue movement) c = none movement c.spells
-only_issue d op none (Redeem movement) c = let bad = c.known in cc
-only_issue d op none (PayIn payment) c = let bad = c.known in cc
-only_issue d op none (PayOut payment) c = let bad = c.known in cc
-only_issue d op none (Instruct sender instruction) c = let bad = c.known in cc
-only_issue d op none (Cancel sender order) c = let bad = c.known in cc
+only_issue d op none (Redeem movement) c = let bad = c.supported in cc
+only_issue d op none (PayIn payment) c = let bad = c.supported in cc
+only_issue d op none (PayOut payment) c = let bad = c.supported in cc
+only_issue d op none (Instruct sender instruction) c = let bad = c.supported in cc
+only_issue d op none (Cancel sender order) c = let bad = c.supported in cc
 only_issue d op none (Run reference day) c = let h = c.spells in let other : Some (codes "run") ≡ Some (codes "issue") = sym (ap (text_at (codes "op")) h.2) ∙ op in cc
 
 pub only_run : (d : Data) → text_at (codes "op") d ≡ Some (codes "run") → ((reference day : List ℕ) → ¬ IsCommand d (Run reference day))
@@ -163,11 +163,11 @@ only_run d op none (Participant reference bic) c = let h = c.spells in let other
 only_run d op none (Account reference bic account) c = let h = c.spells in let other : Some (codes "account") ≡ Some (codes "run") = sym (ap (text_at (codes "op")) h.4) ∙ op in cc
 only_run d op none (Security reference isin kind) c = let h = c.spells in let other : Some (codes "security") ≡ Some (codes "run") = sym (ap (text_at (codes "op")) h.2) ∙ op in cc
 only_run d op none (Issue movement) c = let h = c.spells in let other : Some (codes "issue") ≡ Some (codes "run") = sym (ap (text_at (codes "op")) h.1) ∙ op in cc
-only_run d op none (Redeem movement) c = let bad = c.known in cc
-only_run d op none (PayIn payment) c = let bad = c.known in cc
-only_run d op none (PayOut payment) c = let bad = c.known in cc
-only_run d op none (Instruct sender instruction) c = let bad = c.known in cc
-only_run d op none (Cancel sender order) c = let bad = c.known in cc
+only_run d op none (Redeem movement) c = let bad = c.supported in cc
+only_run d op none (PayIn payment) c = let bad = c.supported in cc
+only_run d op none (PayOut payment) c = let bad = c.supported in cc
+only_run d op none (Instruct sender instruction) c = let bad = c.supported in cc
+only_run d op none (Cancel sender order) c = let bad = c.supported in cc
 only_run d op none (Run reference day) c = none reference day c.spells
 
 pub if_none : {T : Type 0} {P Q : Type 0} (o : Option T) → (P → Q) → IfNone o P → IfNone o Q

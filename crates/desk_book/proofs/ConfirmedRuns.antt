@@ -15,7 +15,7 @@ use Rattle.desk_rules.specs.declared.verdict.Verdict.{Verdict}
 use Rattle.desk_rules.specs.declared.verdict.Verdict.TheVariants.{Accept, Repeat, Refuse}
 use Rattle.desk_rules.specs.declared.entry.Instructed.{Instructed}
 use Rattle.desk_rules.specs.History.{entry_at, instructed}
-use Rattle.desk_rules.specs.Moves.{AccountFor, Move, SayMoves, WasRead}
+use Rattle.desk_rules.specs.Confirmations.{AccountFor, Confirmation, SayConfirmations, WasRead}
 use Rattle.desk_rules.specs.Sent.{sent_of}
 use Rattle.desk_rules.specs.Verdict.{Books, AreBooks}
 use Rattle.desk_rules.proofs.ConfirmedChanges.{confirmed}
@@ -28,7 +28,7 @@ use Rattle.desk_book.specs.declared.task.Task.TheVariants.{Decide, Totals, Answe
 use Rattle.desk_book.specs.Answered.{Grows, IsAnswer, Run, Step, says_closed}
 use Rattle.desk_book.specs.Asked.{Asked, message, operator, status, sent, holdings, sums}
 use Rattle.desk_book.specs.Command.{Spells}
-use Rattle.desk_book.specs.Task.{IsTask, IsMessageTask, is_taken, unknown_form}
+use Rattle.desk_book.specs.Task.{IsTask, IsMessageTask, is_supported_type, unknown_form}
 
 -- what an entry tells was read: an instruction from a message, a day from a command
 record IsReadEntry (entry : Entry) : Type 0 where
@@ -100,7 +100,7 @@ by_message true sender mt text entry is = from_message sender mt text entry is.0
 by_message false sender mt text entry is = absurd (cc)
 
 from_task : (asked : Asked) (entry : Entry) → IsTask asked (Decide entry) → IsReadEntry entry
-from_task (message sender mt text) entry is = by_message (is_taken mt) sender mt text entry is
+from_task (message sender mt text) entry is = by_message (is_supported_type mt) sender mt text entry is
 from_task (operator text) entry is = from_command text entry is
 from_task (status sender reference) entry is = absurd (cc)
 from_task (sent receiver number) entry is = absurd (cc)
@@ -143,5 +143,5 @@ nothing_read = record {
 }
 
 pub changes_are_confirmed : (limit : ℕ) (was is : Bool) (requests : List Asked) (answers : List (Result Reply Fault)) (last : Books) → Run limit was empty_books requests answers is last
-    → (moves : List Move) × SayMoves (sent_of last) moves × AccountFor last moves
+    → (confirmations : List Confirmation) × SayConfirmations (sent_of last) confirmations × AccountFor last confirmations
 changes_are_confirmed limit was is requests answers last run = let read = ran limit was is empty_books last requests answers nothing_read run in confirmed last read.are read.read

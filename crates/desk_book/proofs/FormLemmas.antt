@@ -61,7 +61,7 @@ not_true false h = refl
 -- a line that posts a body asks what its form says, or nothing
 pub nothing_posted : (said text : List ℕ) → (said ≡ codes "op" → ⊥) → ((sender : List ℕ) (mt : Mt) → is_against_payment mt ≡ false → ¬ IsLineOf (message sender mt []) said)
     → (a : Asked) → ¬ Asks said (Some text) a
-nothing_posted said text op none (message sender mt body) h = none sender mt (not_true _ h.served) h.form
+nothing_posted said text op none (message sender mt body) h = none sender mt (not_true _ h.supported) h.form
 nothing_posted said text op none (operator body) h = op h.form
 nothing_posted said text op none (status sender reference) h = let b = h.behind in cc
 nothing_posted said text op none (sent receiver number) h = let b = h.behind in cc

@@ -54,18 +54,18 @@ one_request said body (operator x) sums h k = let e = h.behind ∙ sym k.behind 
 one_request said body sums (message t n y) h k = let e = h.behind ∙ sym k.behind in cc
 one_request said body sums (operator y) h k = let e = h.behind ∙ sym k.behind in cc
 one_request said body sums sums h k = refl
-one_request said body (status s r) b h k = let bad = h.served in cc
-one_request said body (sent r n) b h k = let bad = h.served in cc
-one_request said body (holdings o x) b h k = let bad = h.served in cc
-one_request said body (message s m x) (status t r) h k = let bad = k.served in cc
-one_request said body (message s m x) (sent t n) h k = let bad = k.served in cc
-one_request said body (message s m x) (holdings t y) h k = let bad = k.served in cc
-one_request said body (operator x) (status t r) h k = let bad = k.served in cc
-one_request said body (operator x) (sent t n) h k = let bad = k.served in cc
-one_request said body (operator x) (holdings t y) h k = let bad = k.served in cc
-one_request said body sums (status t r) h k = let bad = k.served in cc
-one_request said body sums (sent t n) h k = let bad = k.served in cc
-one_request said body sums (holdings t y) h k = let bad = k.served in cc
+one_request said body (status s r) b h k = let bad = h.supported in cc
+one_request said body (sent r n) b h k = let bad = h.supported in cc
+one_request said body (holdings o x) b h k = let bad = h.supported in cc
+one_request said body (message s m x) (status t r) h k = let bad = k.supported in cc
+one_request said body (message s m x) (sent t n) h k = let bad = k.supported in cc
+one_request said body (message s m x) (holdings t y) h k = let bad = k.supported in cc
+one_request said body (operator x) (status t r) h k = let bad = k.supported in cc
+one_request said body (operator x) (sent t n) h k = let bad = k.supported in cc
+one_request said body (operator x) (holdings t y) h k = let bad = k.supported in cc
+one_request said body sums (status t r) h k = let bad = k.supported in cc
+one_request said body sums (sent t n) h k = let bad = k.supported in cc
+one_request said body sums (holdings t y) h k = let bad = k.supported in cc
 
 one_item : (said : List ℕ) (body : Option (List ℕ)) (x y : Item) → Means said body x → Means said body y → x ≡ y
 one_item said body (ask a) (ask b) h k = ap ask (one_request said body a b h k)

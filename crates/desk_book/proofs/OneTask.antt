@@ -10,7 +10,7 @@ use Rattle.desk_rules.specs.declared.entry.Entry.TheVariants.{Instruct}
 use Rattle.desk_rules.specs.declared.reply.Reply.{Reply}
 use Rattle.desk_rules.specs.Reply.{plain_reply}
 use Rattle.desk_book.specs.Asked.{Asked, message, operator, status, sent, holdings, sums}
-use Rattle.desk_book.specs.Task.{IsMessageTask, IsCommandTask, IsTask, is_taken, unknown_form}
+use Rattle.desk_book.specs.Task.{IsMessageTask, IsCommandTask, IsTask, is_supported_type, unknown_form}
 use Rattle.desk_book.specs.declared.task.Task.{Task}
 use Rattle.desk_book.specs.declared.task.Task.TheVariants.{Decide, Totals, Answer}
 use Rattle.desk_book.proofs.OneCommand.{one_each}
@@ -63,7 +63,7 @@ one_of_command text (Answer a) Totals x y = absurd y
 one_of_command text (Answer a) (Answer b) x y = ap Answer (x.1 ∙ sym y.1)
 
 pub one_task : (asked : Asked) (a b : Task) → IsTask asked a → IsTask asked b → a ≡ b
-one_task (message sender mt text) a b x y = one_of_taken (is_taken mt) mt sender text a b x y
+one_task (message sender mt text) a b x y = one_of_taken (is_supported_type mt) mt sender text a b x y
 one_task (operator text) a b x y = one_of_command text a b x y
 one_task (status sender reference) a b x y = x ∙ sym y
 one_task (sent receiver number) a b x y = x ∙ sym y

@@ -67,22 +67,22 @@ IsCommand d (Cancel sender order) = ⊥
 IsCommand d (Run reference day) = IsReference reference × IsDay day × (d ≡ run_object reference day)
 
 -- The operations that the desk knows today.
-abbrev pub is_known : Entry → Bool
-is_known (Participant reference bic) = true
-is_known (Account reference bic account) = true
-is_known (Security reference isin kind) = true
-is_known (Issue movement) = true
-is_known (Redeem movement) = false
-is_known (PayIn payment) = false
-is_known (PayOut payment) = false
-is_known (Instruct sender instruction) = false
-is_known (Cancel sender order) = false
-is_known (Run reference day) = true
+abbrev pub is_supported_command : Entry → Bool
+is_supported_command (Participant reference bic) = true
+is_supported_command (Account reference bic account) = true
+is_supported_command (Security reference isin kind) = true
+is_supported_command (Issue movement) = true
+is_supported_command (Redeem movement) = false
+is_supported_command (PayIn payment) = false
+is_supported_command (PayOut payment) = false
+is_supported_command (Instruct sender instruction) = false
+is_supported_command (Cancel sender order) = false
+is_supported_command (Run reference day) = true
 
 -- a value is a command that the desk knows
 pub record IsKnownCommand (d : Data) (entry : Entry) : Type 0 where
   pub spells : IsCommand d entry
-  pub known : is_known entry ≡ true
+  pub supported : is_supported_command entry ≡ true
 
 -- the bytes are a command's: JSON whose value spells it
 pub record Spells (bytes : List ℕ) (entry : Entry) : Type 0 where

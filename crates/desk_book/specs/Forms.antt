@@ -36,17 +36,17 @@ body_of (holdings owner account) = None
 body_of sums = None
 
 -- The requests that the desk answers today: messages of free instructions, operator commands, and sums.
-abbrev pub is_served : Asked → Bool
-is_served (message sender mt text) = not (is_against_payment mt)
-is_served (operator text) = true
-is_served (status sender reference) = false
-is_served (sent receiver number) = false
-is_served (holdings owner account) = false
-is_served sums = true
+abbrev pub is_supported_request : Asked → Bool
+is_supported_request (message sender mt text) = not (is_against_payment mt)
+is_supported_request (operator text) = true
+is_supported_request (status sender reference) = false
+is_supported_request (sent receiver number) = false
+is_supported_request (holdings owner account) = false
+is_supported_request sums = true
 
 -- a line that says this, with this body behind it or none, asks the request
 pub record Asks (said : List ℕ) (body : Option (List ℕ)) (a : Asked) : Type 0 where
   pub short : length said ≤ 1024
   pub form : IsLineOf a said
   pub behind : body_of a ≡ body
-  pub served : is_served a ≡ true
+  pub supported : is_supported_request a ≡ true

@@ -19,8 +19,8 @@ use Rattle.desk_book.specs.declared.task.Task.{Task}
 use Rattle.desk_book.specs.declared.task.Task.TheVariants.{Decide, Totals, Answer}
 
 -- the types of message that the desk takes: instructions to receive or deliver free
-abbrev pub is_taken : Mt → Bool
-is_taken mt = is_instruction mt && not (is_against_payment mt)
+abbrev pub is_supported_type : Mt → Bool
+is_supported_type mt = is_instruction mt && not (is_against_payment mt)
 
 -- the answer to what is none of the desk's forms
 abbrev pub unknown_form : Reply
@@ -43,7 +43,7 @@ IsCommandTask text (Answer reply) = ((entry : Entry) → ¬ Spells text entry) �
 
 -- What a request gives the desk to do, one equation a form.
 abbrev pub IsTask : Asked → Task → Type 0
-IsTask (message sender mt text) task = MatchBool (is_taken mt) (IsMessageTask sender mt text task) (task ≡ Answer unknown_form)
+IsTask (message sender mt text) task = MatchBool (is_supported_type mt) (IsMessageTask sender mt text task) (task ≡ Answer unknown_form)
 IsTask (operator text) task = IsCommandTask text task
 IsTask (status sender reference) task = task ≡ Answer unknown_form
 IsTask (sent receiver number) task = task ≡ Answer unknown_form

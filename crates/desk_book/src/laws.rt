@@ -3,7 +3,7 @@ ghost use Rattle.std.specs.Prelude.{◌≡◌, ℕ, Bool, false, List, All, Resu
 ghost use Rattle.desk_rules.specs.declared.reply.Reply.{Reply};
 ghost use Rattle.desk_rules.specs.declared.verdict.Verdict.TheVariants.{Accept};
 ghost use Rattle.desk_rules.specs.Reply.{AreNext};
-ghost use Rattle.desk_rules.specs.Moves.{AccountFor, Move, SayMoves};
+ghost use Rattle.desk_rules.specs.Confirmations.{AccountFor, Confirmation, SayConfirmations};
 ghost use Rattle.desk_rules.specs.Sent.{sent_of};
 ghost use Rattle.desk_rules.specs.Verdict.{Books, IsVerdict};
 ghost use Rattle.desk_register.specs.Applied.{no_books};
@@ -58,9 +58,9 @@ pub fn one_reply()
 {}
 
 /// Each change is confirmed: after any list of requests to a desk that began empty, whatever was answered, the texts of
-/// the messages sent by then say moves, and these account for every balance. (What was accepted was read from messages
-/// and commands, so nothing is left to assume of it.)
+/// the messages sent by then say confirmations, and these account for every balance. (What was accepted was read from
+/// messages and commands, so nothing is left to assume of it.)
 pub fn changes_are_confirmed()
     ensures { (limit : ℕ) (was is : Bool) (requests : List Asked) (answers : List (Result Reply Fault)) (last : Books)
-        → Run limit was no_books requests answers is last → (moves : List Move) × SayMoves (sent_of last) moves × AccountFor last moves }
+        → Run limit was no_books requests answers is last → (confirmations : List Confirmation) × SayConfirmations (sent_of last) confirmations × AccountFor last confirmations }
 {}

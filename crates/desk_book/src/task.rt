@@ -2,7 +2,7 @@
 ghost use Rattle.std.specs.Prelude.{◌≡◌, true, IfOk};
 ghost use Rattle.desk_rules.specs.Reply.{plain_reply};
 ghost use Rattle.desk_book.specs.Asked.{asked_by};
-ghost use Rattle.desk_book.specs.Task.{IsTask, IsMessageTask, IsCommandTask, IsSupported, is_taken, unknown_form};
+ghost use Rattle.desk_book.specs.Task.{IsTask, IsMessageTask, IsCommandTask, IsSupported, is_supported_type, unknown_form};
 
 use crate::command::read_command;
 use crate::request::Request;
@@ -28,7 +28,7 @@ pub fn task_of(alloc: Global, request: &Request<'_>) -> Result<Task, AllocError>
     ensures supported { IfOk result (λ task. IsSupported task) }
 {
     match *request {
-        Request::Message(sender, mt, text) if is_taken(mt) => {
+        Request::Message(sender, mt, text) if is_supported_type(mt) => {
             message_task(alloc, sender, mt, text)
         }
         Request::Operator(text) => command_task(alloc, text),
@@ -40,15 +40,15 @@ pub fn task_of(alloc: Global, request: &Request<'_>) -> Result<Task, AllocError>
 }
 
 /// Whether the desk takes messages of a type: instructions to receive or deliver free.
-fn is_taken(mt: Mt) -> bool
-    ensures { result ≡ is_taken mt }
+fn is_supported_type(mt: Mt) -> bool
+    ensures { result ≡ is_supported_type mt }
 {
     mt.is_instruction() && !mt.is_against_payment()
 }
 
 /// What a participant's message gives the desk to do.
 fn message_task(alloc: Global, sender: Bic, mt: Mt, text: &[u8]) -> Result<Task, AllocError>
-    requires { is_taken mt ≡ true }
+    requires { is_supported_type mt ≡ true }
     ensures task { IfOk result (λ task. IsMessageTask sender mt text.now task) }
     ensures supported { IfOk result (λ task. IsSupported task) }
 {

@@ -11,6 +11,7 @@ use Rattle.desk_msg.specs.declared.instruction.Instruction.{Instruction}
 use Rattle.desk_msg.specs.MessageType.{is_delivery}
 use Rattle.desk_msg.specs.Profile.{code_of_kind}
 use Rattle.desk_msg.specs.OwnText.{own_reference, generic_part, sequence_parts}
+use Rattle.desk_msg.specs.Depository.{desk_bic}
 
 -- the type that confirms a type of instruction
 abbrev pub confirming_type : Mt → Mt
@@ -22,10 +23,6 @@ confirming_type Mt544 = Mt544
 confirming_type Mt545 = Mt545
 confirming_type Mt546 = Mt546
 confirming_type Mt547 = Mt547
-
--- the place of settlement
-abbrev pub our_place : List ℕ
-our_place = codes "DESKDEFF"
 
 -- a party
 abbrev pub party_parts : List ℕ → List ℕ → List Part
@@ -54,7 +51,7 @@ confirmation_parts n i day =
     ++ sequence_parts (codes "SETDET") (
     generic_part (codes "22F") (codes "SETR") i.settlement
     ∷ (party_parts (if is_delivery i.mt then codes "REAG" else codes "DEAG") i.counterparty
-    ++ party_parts (codes "PSET") our_place
+    ++ party_parts (codes "PSET") desk_bic
     ++ paid_parts i.cash))
 
 -- its text

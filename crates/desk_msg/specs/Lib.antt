@@ -8,5 +8,6 @@ pub mod Finding
 pub mod FieldsText
 pub mod AdviceParts
 pub mod Refused
+pub mod Depository
 pub mod ConfirmationText
 pub mod Confirms

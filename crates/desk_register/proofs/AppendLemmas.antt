@@ -11,7 +11,7 @@ use Rattle.desk_rules.specs.declared.reply.Reply.{Reply}
 use Rattle.desk_register.specs.declared.standing.Standing.{Standing}
 use Rattle.desk_rules.specs.Balances.{issued, redeemed, issued_by, redeemed_by, movement_of}
 use Rattle.desk_register.specs.Content.{Content, CanAppend, appended, positions_after, standing_at, first_standing, history_of}
-use Rattle.desk_register.specs.Lists.{AreTotals, Listed, SameBooks, value_in, is_key, content_in, outstanding_in, quantity_in, totals_after, SameEntries, standing_in, plain_standing}
+use Rattle.desk_register.specs.Lists.{OutstandingIsKept, Listed, SameBooks, value_in, is_key, content_in, outstanding_in, quantity_in, outstanding_after, SameEntries, standing_in, plain_standing}
 use Rattle.desk_register.proofs.QuantityLemmas.{by_bool, same_bytes}
 
 -- where entries stand, with one more at the end
@@ -51,47 +51,47 @@ appended_well (Ok x) old mid new entry reply len rest moved is =
 
 -- What is outstanding stays what is issued less what is redeemed.
 
-total_after_issue : (totals : List ℕ → ℕ) (isin i : List ℕ) (q r n : ℕ) → r + totals i ≡ n → (r + 0) + (if bytes_eq isin i then totals isin + q else totals i) ≡ n + (if bytes_eq isin i then q else 0)
-total_after_issue totals isin i q r n e =
+outstanding_after_issue : (outstanding : List ℕ → ℕ) (isin i : List ℕ) (q r n : ℕ) → r + outstanding i ≡ n → (r + 0) + (if bytes_eq isin i then outstanding isin + q else outstanding i) ≡ n + (if bytes_eq isin i then q else 0)
+outstanding_after_issue outstanding isin i q r n e =
     by_bool (bytes_eq isin i)
-    (λ t. let same = ap totals (same_bytes isin i t) in rw t (omega arith))
+    (λ t. let same = ap outstanding (same_bytes isin i t) in rw t (omega arith))
     (λ f. rw f (omega arith))
 
-total_after_redemption : (totals : List ℕ → ℕ) (isin i : List ℕ) (q r n : ℕ) → q ≤ totals isin → r + totals i ≡ n → (r + (if bytes_eq isin i then q else 0)) + (if bytes_eq isin i then totals isin - q else totals i) ≡ n + 0
-total_after_redemption totals isin i q r n le e =
+outstanding_after_redemption : (outstanding : List ℕ → ℕ) (isin i : List ℕ) (q r n : ℕ) → q ≤ outstanding isin → r + outstanding i ≡ n → (r + (if bytes_eq isin i then q else 0)) + (if bytes_eq isin i then outstanding isin - q else outstanding i) ≡ n + 0
+outstanding_after_redemption outstanding isin i q r n le e =
     by_bool (bytes_eq isin i)
-    (λ t. let same = ap totals (same_bytes isin i t) in rw t (omega arith))
+    (λ t. let same = ap outstanding (same_bytes isin i t) in rw t (omega arith))
     (λ f. rw f (omega arith))
 
-totals_more : (content : Content) (entry : Entry) (totals : List ℕ → ℕ) → CanAppend entry content → ((i : List ℕ) → redeemed (history_of content) i + totals i ≡ issued (history_of content) i)
-    → (i : List ℕ) → (redeemed (history_of content) i + redeemed_by (movement_of i) entry) + totals_after entry totals i ≡ issued (history_of content) i + issued_by (movement_of i) entry
-totals_more content (Participant reference bic) totals fits each i = omega (arith, each i)
-totals_more content (Account reference bic account) totals fits each i = omega (arith, each i)
-totals_more content (Security reference isin kind) totals fits each i = omega (arith, each i)
-totals_more content (Issue h) totals fits each i = total_after_issue totals h.isin i h.quantity _ _ (each i)
-totals_more content (Redeem h) totals fits each i =
+outstanding_more : (content : Content) (entry : Entry) (outstanding : List ℕ → ℕ) → CanAppend entry content → ((i : List ℕ) → redeemed (history_of content) i + outstanding i ≡ issued (history_of content) i)
+    → (i : List ℕ) → (redeemed (history_of content) i + redeemed_by (movement_of i) entry) + outstanding_after entry outstanding i ≡ issued (history_of content) i + issued_by (movement_of i) entry
+outstanding_more content (Participant reference bic) outstanding fits each i = omega (arith, each i)
+outstanding_more content (Account reference bic account) outstanding fits each i = omega (arith, each i)
+outstanding_more content (Security reference isin kind) outstanding fits each i = omega (arith, each i)
+outstanding_more content (Issue movement) outstanding fits each i = outstanding_after_issue outstanding movement.isin i movement.quantity _ _ (each i)
+outstanding_more content (Redeem movement) outstanding fits each i =
     let room = fits.1 in
-    let whole = each h.isin in
-    total_after_redemption totals h.isin i h.quantity _ _ (omega arith) (each i)
-totals_more content (PayIn payment) totals fits each i = omega (arith, each i)
-totals_more content (PayOut payment) totals fits each i = omega (arith, each i)
-totals_more content (Instruct sender instruction) totals fits each i = omega (arith, each i)
-totals_more content (Cancel sender order) totals fits each i = omega (arith, each i)
-totals_more content (Run reference day) totals fits each i = omega (arith, each i)
+    let whole = each movement.isin in
+    outstanding_after_redemption outstanding movement.isin i movement.quantity _ _ (omega arith) (each i)
+outstanding_more content (PayIn payment) outstanding fits each i = omega (arith, each i)
+outstanding_more content (PayOut payment) outstanding fits each i = omega (arith, each i)
+outstanding_more content (Instruct sender instruction) outstanding fits each i = omega (arith, each i)
+outstanding_more content (Cancel sender order) outstanding fits each i = omega (arith, each i)
+outstanding_more content (Run reference day) outstanding fits each i = omega (arith, each i)
 
 sum_push : (f : Entry → ℕ) (kept : List Kept) (k : Kept) → sum_by f (map (λ k. k.entry) (kept ++ k ∷ [])) ≡ sum_by f (map (λ k. k.entry) kept) + f k.entry
 sum_push f kept k = ap (sum_by f) (map-append (λ k. k.entry) kept (k ∷ [])) ∙ sum_by-append f (map (λ k. k.entry) kept) (k.entry ∷ []) ∙ omega arith
 
-pub totals_well : {T E : Type 0} (r : Result T E) (old mid new : Listed) (entry : Entry) (reply : Reply) → AreTotals old → CanAppend entry (content_in old)
-    → SameEntries old mid → outstanding_in mid ≡ totals_after entry (outstanding_in old)
+pub outstanding_well : {T E : Type 0} (r : Result T E) (old mid new : Listed) (entry : Entry) (reply : Reply) → OutstandingIsKept old → CanAppend entry (content_in old)
+    → SameEntries old mid → outstanding_in mid ≡ outstanding_after entry (outstanding_in old)
     → OnOk r (new ≡ record mid { kept = mid.kept ++ record { entry = entry; reply = reply } ∷ []; standings = mid.standings ++ first_standing entry ∷ [] })
-    → OnOk r (AreTotals new)
-totals_well (Err f) old mid new entry reply totals fits rest moved is = is
-totals_well (Ok x) old mid new entry reply totals fits rest moved is = record {
+    → OnOk r (OutstandingIsKept new)
+outstanding_well (Err f) old mid new entry reply outstanding fits rest moved is = is
+outstanding_well (Ok x) old mid new entry reply outstanding fits rest moved is = record {
   each = λ i.
-      let more = totals_more (content_in old) entry (outstanding_in old) fits totals.each i in
+      let more = outstanding_more (content_in old) entry (outstanding_in old) fits outstanding.each i in
       let kept : new.kept ≡ old.kept ++ record { entry = entry; reply = reply } ∷ [] = ap (λ l. l.kept) is ∙ ap (λ z. z ++ record { entry = entry; reply = reply } ∷ []) rest.kept in
-      let whole : outstanding_in new i ≡ totals_after entry (outstanding_in old) i = ap (λ l. outstanding_in l i) is ∙ ap (λ t. t i) moved in
+      let whole : outstanding_in new i ≡ outstanding_after entry (outstanding_in old) i = ap (λ l. outstanding_in l i) is ∙ ap (λ t. t i) moved in
       rw (kept, whole, sum_push (redeemed_by (movement_of i)) old.kept (record { entry = entry; reply = reply }), sum_push (issued_by (movement_of i)) old.kept (record { entry = entry; reply = reply })) more;
 }
 

@@ -221,8 +221,8 @@ plain_entry : (e : Entry) → is_registration e ≡ true → IsPlain e
 plain_entry (Participant reference bic) is = record { no_run = refl; no_instruction = refl; no_cancel = λ i. refl; first = refl }
 plain_entry (Account reference bic account) is = record { no_run = refl; no_instruction = refl; no_cancel = λ i. refl; first = refl }
 plain_entry (Security reference isin kind) is = record { no_run = refl; no_instruction = refl; no_cancel = λ i. refl; first = refl }
-plain_entry (Issue h) is = record { no_run = refl; no_instruction = refl; no_cancel = λ i. refl; first = refl }
-plain_entry (Redeem h) is = absurd (cc)
+plain_entry (Issue movement) is = record { no_run = refl; no_instruction = refl; no_cancel = λ i. refl; first = refl }
+plain_entry (Redeem movement) is = absurd (cc)
 plain_entry (PayIn p) is = absurd (cc)
 plain_entry (PayOut p) is = absurd (cc)
 plain_entry (Instruct sender i) is = absurd (cc)
@@ -251,8 +251,8 @@ registration_position : (d c pos : List ℕ → List ℕ → ℕ) (e : Entry) (a
 registration_position d c pos (Participant reference bic) a i is all = let here : pos a i + d a i ≡ c a i = all a i in omega arith
 registration_position d c pos (Account reference bic account) a i is all = let here : pos a i + d a i ≡ c a i = all a i in omega arith
 registration_position d c pos (Security reference isin kind) a i is all = let here : pos a i + d a i ≡ c a i = all a i in omega arith
-registration_position d c pos (Issue h) a i is all = issue_position d c pos h.account h.isin a i h.quantity all
-registration_position d c pos (Redeem h) a i is all = absurd (cc)
+registration_position d c pos (Issue movement) a i is all = issue_position d c pos movement.account movement.isin a i movement.quantity all
+registration_position d c pos (Redeem movement) a i is all = absurd (cc)
 registration_position d c pos (PayIn p) a i is all = absurd (cc)
 registration_position d c pos (PayOut p) a i is all = absurd (cc)
 registration_position d c pos (Instruct sender j) a i is all = absurd (cc)

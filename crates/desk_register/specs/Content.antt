@@ -59,8 +59,8 @@ abbrev pub positions_after : Entry → Positions → Positions
 positions_after (Participant reference bic) position = position
 positions_after (Account reference bic account) position = position
 positions_after (Security reference isin kind) position = position
-positions_after (Issue h) position = moved_to position h.account h.isin (position h.account h.isin + h.quantity)
-positions_after (Redeem h) position = moved_to position h.account h.isin (position h.account h.isin - h.quantity)
+positions_after (Issue movement) position = moved_to position movement.account movement.isin (position movement.account movement.isin + movement.quantity)
+positions_after (Redeem movement) position = moved_to position movement.account movement.isin (position movement.account movement.isin - movement.quantity)
 positions_after (PayIn payment) position = position
 positions_after (PayOut payment) position = position
 positions_after (Instruct sender instruction) position = position
@@ -72,11 +72,11 @@ abbrev pub CanAppend : Entry → Content → Type 0
 CanAppend (Participant reference bic) content = Unit {0}
 CanAppend (Account reference bic account) content = Unit {0}
 CanAppend (Security reference isin kind) content = Unit {0}
-CanAppend (Issue h) content =
-    (content.position h.account h.isin + h.quantity < 2 ^ 63)
-    × (issued (history_of content) h.isin + h.quantity ≤ redeemed (history_of content) h.isin + most_outstanding)
-CanAppend (Redeem h) content =
-    (h.quantity ≤ content.position h.account h.isin) × (redeemed (history_of content) h.isin + h.quantity ≤ issued (history_of content) h.isin)
+CanAppend (Issue movement) content =
+    (content.position movement.account movement.isin + movement.quantity < 2 ^ 63)
+    × (issued (history_of content) movement.isin + movement.quantity ≤ redeemed (history_of content) movement.isin + most_outstanding)
+CanAppend (Redeem movement) content =
+    (movement.quantity ≤ content.position movement.account movement.isin) × (redeemed (history_of content) movement.isin + movement.quantity ≤ issued (history_of content) movement.isin)
 CanAppend (PayIn payment) content = Unit {0}
 CanAppend (PayOut payment) content = Unit {0}
 CanAppend (Instruct sender instruction) content = Unit {0}

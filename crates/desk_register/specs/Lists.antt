@@ -88,8 +88,8 @@ undone [] l = l
 undone (change ∷ later) l = undo change (undone later l)
 
 -- one total is another, and the rest is as before
-abbrev pub with_total : (List ℕ → ℕ) → List ℕ → ℕ → List ℕ → ℕ
-with_total totals isin quantity i = if bytes_eq isin i then quantity else totals i
+abbrev pub with_outstanding : (List ℕ → ℕ) → List ℕ → ℕ → List ℕ → ℕ
+with_outstanding outstanding isin quantity i = if bytes_eq isin i then quantity else outstanding i
 
 -- nothing but quantities of accounts has changed
 pub record SameButQuantities (old new : Listed) : Type 0 where
@@ -106,21 +106,21 @@ pub record SameButOutstanding (old new : Listed) : Type 0 where
   pub quantities : new.quantities ≡ old.quantities
 
 -- what is outstanding by the lists is what the entries issue less what they redeem
-pub record AreTotals (l : Listed) : Type 0 where
+pub record OutstandingIsKept (l : Listed) : Type 0 where
   pub each : (isin : List ℕ) → redeemed (map (λ k. k.entry) l.kept) isin + outstanding_in l isin ≡ issued (map (λ k. k.entry) l.kept) isin
 
 -- what is outstanding after an entry
-abbrev pub totals_after : Entry → (List ℕ → ℕ) → List ℕ → ℕ
-totals_after (Participant reference bic) totals = totals
-totals_after (Account reference bic account) totals = totals
-totals_after (Security reference isin kind) totals = totals
-totals_after (Issue h) totals = with_total totals h.isin (totals h.isin + h.quantity)
-totals_after (Redeem h) totals = with_total totals h.isin (totals h.isin - h.quantity)
-totals_after (PayIn payment) totals = totals
-totals_after (PayOut payment) totals = totals
-totals_after (Instruct sender instruction) totals = totals
-totals_after (Cancel sender order) totals = totals
-totals_after (Run reference day) totals = totals
+abbrev pub outstanding_after : Entry → (List ℕ → ℕ) → List ℕ → ℕ
+outstanding_after (Participant reference bic) outstanding = outstanding
+outstanding_after (Account reference bic account) outstanding = outstanding
+outstanding_after (Security reference isin kind) outstanding = outstanding
+outstanding_after (Issue movement) outstanding = with_outstanding outstanding movement.isin (outstanding movement.isin + movement.quantity)
+outstanding_after (Redeem movement) outstanding = with_outstanding outstanding movement.isin (outstanding movement.isin - movement.quantity)
+outstanding_after (PayIn payment) outstanding = outstanding
+outstanding_after (PayOut payment) outstanding = outstanding
+outstanding_after (Instruct sender instruction) outstanding = outstanding
+outstanding_after (Cancel sender order) outstanding = outstanding
+outstanding_after (Run reference day) outstanding = outstanding
 
 -- the entries are the same, and stand as they did
 pub record SameEntries (old new : Listed) : Type 0 where
@@ -136,7 +136,7 @@ pub record SameBooks (old new : Listed) : Type 0 where
   pub outstanding : new.outstanding ≡ old.outstanding
 
 -- the entries are the same, and so is what is outstanding
-pub record SameTotals (old new : Listed) : Type 0 where
+pub record SameOutstanding (old new : Listed) : Type 0 where
   pub kept : new.kept ≡ old.kept
   pub securities : new.securities ≡ old.securities
   pub outstanding : new.outstanding ≡ old.outstanding

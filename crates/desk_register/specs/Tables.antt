@@ -96,7 +96,7 @@ pub record IsAccepted (limit : ℕ) (entry : Entry) (content : Content) : Type 0
   pub tables : Tables limit books content
   pub verdict : IsVerdict limit books entry Accept
 
--- participants, accounts, securities and issues: they pair and settle nothing
+-- what the operator registers: a participant, an account, a security, or an issue; these pair and settle nothing
 abbrev pub is_registration : Entry → Bool
 is_registration (Participant reference bic) = true
 is_registration (Account reference bic account) = true

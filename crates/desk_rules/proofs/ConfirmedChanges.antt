@@ -1,4 +1,4 @@
--- The moves that are said account for all balances, and messages say one list of moves.
+-- The confirmations that are said account for all balances, and messages say one list of confirmations.
 use Rattle.std.proofs.Common.{◌≡◌, ℕ, ◌+◌, ◌<◌, ◌≤◌, Bool, true, false, not, if◌then◌else◌, List, [], ◌∷◌, ◌++◌, length, bytes_eq, sum_by, refl, sym, ◌∙◌, ap, subst, arith, Option, Some, None, Result, Ok, inl, inr}
 use Rattle.std.specs.Prelude.{◌==◌, MatchBool, option_and_then}
 use Rattle.std.specs.List.{range_with_len, flat_map}
@@ -23,12 +23,12 @@ use Rattle.desk_rules.specs.Balances.{delivery_of, receipt_of, quantity_if, quan
 use Rattle.desk_rules.specs.Settlement.{is_by, day_of}
 use Rattle.desk_rules.specs.Sent.{Notice, told_of_pair, told_of_settled, told_by, notices_of, date_in, sent_of}
 use Rattle.desk_rules.specs.Verdict.{Books, AreBooks}
-use Rattle.desk_rules.specs.Moves.{Move, SaysMove, SayMoves, is_confirmation, quantity_said, amount_in, amount_said, AccountFor, WasRead}
+use Rattle.desk_rules.specs.Confirmations.{Confirmation, SaysConfirmation, SayConfirmations, is_confirmation, quantity_said, amount_in, amount_said, AccountFor, WasRead}
 use Rattle.desk_rules.proofs.Decided.{In, Contains-from_In}
 use Rattle.desk_rules.proofs.BalanceLemmas.{sum_same}
 use Rattle.desk_rules.proofs.HistoryLemmas.{entry_at-known}
 use Rattle.desk_rules.proofs.SettlementLemmas.{due_facts, by_some}
-use Rattle.desk_rules.proofs.SaidMoves.{move_of, moves_of, HaveDays, say_all}
+use Rattle.desk_rules.proofs.SaidConfirmations.{confirmation_by, confirmations_of, HaveDays, say_all}
 use Rattle.desk_rules.proofs.MovedSums.{HasLegs, legs_of, of_leg, legs_value, all_said}
 
 -- The days of runs.
@@ -114,11 +114,11 @@ module _ (books : Books) (are : AreBooks books) (read : WasRead books.history) w
   in_range : (s : Settled) → In books.settled s → (1 ≤ s.run) × (s.run < 1 + length books.history)
   in_range s i = let k = known s i in (k.from, k.below)
 
-  abbrev moves : List Move
-  moves = moves_of books.history (notices_of books)
+  abbrev confirmations : List Confirmation
+  confirmations = confirmations_of books.history (notices_of books)
 
-  from_receipts : (f : Move → ℕ) (q : Option Instructed → ℕ) → ((i : Instructed) (day : List ℕ) → f (move_of i day) ≡ quantity_if (not (is_delivery (confirming_type i.instruction.mt))) (q (Some i)))
-      → sum_by f moves ≡ sum_by (λ s. q (receipt_of books.history s.pair)) books.settled
+  from_receipts : (f : Confirmation → ℕ) (q : Option Instructed → ℕ) → ((i : Instructed) (day : List ℕ) → f (confirmation_by i day) ≡ quantity_if (not (is_delivery (confirming_type i.instruction.mt))) (q (Some i)))
+      → sum_by f confirmations ≡ sum_by (λ s. q (receipt_of books.history s.pair)) books.settled
   from_receipts f q same =
       let g : Instructed → ℕ = λ i. quantity_if (not (is_delivery (confirming_type i.instruction.mt))) (q (Some i)) in
       all_said books f g same in_range
@@ -128,8 +128,8 @@ module _ (books : Books) (are : AreBooks books) (read : WasRead books.history) w
       let come : of_leg books f g same (receipt_of books.history s.pair) ≡ q (receipt_of books.history s.pair) = ap (of_leg books f g same) legs.received ∙ kept _ (q (Some legs.receipt)) (ap not (delivering legs.receipt.instruction.mt ∙ legs.receives)) ∙ sym (ap q legs.received) in
       omega (arith, gone, come))
 
-  from_deliveries : (f : Move → ℕ) (q : Option Instructed → ℕ) → ((i : Instructed) (day : List ℕ) → f (move_of i day) ≡ quantity_if (is_delivery (confirming_type i.instruction.mt)) (q (Some i)))
-      → sum_by f moves ≡ sum_by (λ s. q (delivery_of books.history s.pair)) books.settled
+  from_deliveries : (f : Confirmation → ℕ) (q : Option Instructed → ℕ) → ((i : Instructed) (day : List ℕ) → f (confirmation_by i day) ≡ quantity_if (is_delivery (confirming_type i.instruction.mt)) (q (Some i)))
+      → sum_by f confirmations ≡ sum_by (λ s. q (delivery_of books.history s.pair)) books.settled
   from_deliveries f q same =
       let g : Instructed → ℕ = λ i. quantity_if (is_delivery (confirming_type i.instruction.mt)) (q (Some i)) in
       all_said books f g same in_range
@@ -139,18 +139,18 @@ module _ (books : Books) (are : AreBooks books) (read : WasRead books.history) w
       let gone : of_leg books f g same (delivery_of books.history s.pair) ≡ q (delivery_of books.history s.pair) = ap (of_leg books f g same) legs.delivered ∙ kept _ (q (Some legs.delivery)) (delivering legs.delivery.instruction.mt ∙ legs.delivers) ∙ sym (ap q legs.delivered) in
       omega (arith, gone, come))
 
-  account : AccountFor books moves
+  account : AccountFor books confirmations
   account = record {
-    credited = λ account isin. let said = from_receipts (λ move. quantity_if (not (is_delivery move.mt)) (quantity_said account isin move)) (quantity_on account isin) (λ i day. refl) in omega (arith, said);
-    debited = λ account isin. let said = from_deliveries (λ move. quantity_if (is_delivery move.mt) (quantity_said account isin move)) (quantity_on account isin) (λ i day. refl) in omega (arith, said);
-    paid = λ bic ccy. let said = from_deliveries (λ move. quantity_if (is_delivery move.mt) (amount_said bic ccy move)) (amount_of bic ccy) (λ i day. ap (λ n. quantity_if (is_delivery (confirming_type i.instruction.mt)) (quantity_if (bytes_eq i.sender bic) n)) (same_cash ccy i.instruction.cash)) in omega (arith, said);
-    paying = λ bic ccy. let said = from_receipts (λ move. quantity_if (not (is_delivery move.mt)) (amount_said bic ccy move)) (amount_of bic ccy) (λ i day. ap (λ n. quantity_if (not (is_delivery (confirming_type i.instruction.mt))) (quantity_if (bytes_eq i.sender bic) n)) (same_cash ccy i.instruction.cash)) in omega (arith, said);
+    credited = λ account isin. let said = from_receipts (λ confirmation. quantity_if (not (is_delivery confirmation.mt)) (quantity_said account isin confirmation)) (quantity_on account isin) (λ i day. refl) in omega (arith, said);
+    debited = λ account isin. let said = from_deliveries (λ confirmation. quantity_if (is_delivery confirmation.mt) (quantity_said account isin confirmation)) (quantity_on account isin) (λ i day. refl) in omega (arith, said);
+    paid = λ bic ccy. let said = from_deliveries (λ confirmation. quantity_if (is_delivery confirmation.mt) (amount_said bic ccy confirmation)) (amount_of bic ccy) (λ i day. ap (λ n. quantity_if (is_delivery (confirming_type i.instruction.mt)) (quantity_if (bytes_eq i.sender bic) n)) (same_cash ccy i.instruction.cash)) in omega (arith, said);
+    paying = λ bic ccy. let said = from_receipts (λ confirmation. quantity_if (not (is_delivery confirmation.mt)) (amount_said bic ccy confirmation)) (amount_of bic ccy) (λ i day. ap (λ n. quantity_if (not (is_delivery (confirming_type i.instruction.mt))) (quantity_if (bytes_eq i.sender bic) n)) (same_cash ccy i.instruction.cash)) in omega (arith, said);
   }
 
-  pub confirmed : (ms : List Move) × SayMoves (sent_of books) ms × AccountFor books ms
-  confirmed = (moves, say_all books.history read 1 (notices_of books) all_days, account)
+  pub confirmed : (ms : List Confirmation) × SayConfirmations (sent_of books) ms × AccountFor books ms
+  confirmed = (confirmations, say_all books.history read 1 (notices_of books) all_days, account)
 
--- Messages say one list of moves.
+-- Messages say one list of confirmations.
 
 type_of : ℕ → Mt
 type_of n =
@@ -174,7 +174,7 @@ type_back Mt545 = refl
 type_back Mt546 = refl
 type_back Mt547 = refl
 
-move_from : Mt → List ℕ → Confirmed → Move
+move_from : Mt → List ℕ → Confirmed → Confirmation
 move_from mt bic confirmed = record { mt = mt; bic = bic; confirmed = confirmed }
 
 same_move : (m n : Mt) (b c : List ℕ) (x y : Confirmed) → m ≡ n → b ≡ c → x ≡ y → move_from m b x ≡ move_from n c y
@@ -186,7 +186,7 @@ as_result x = Ok x
 same_settlement : (x y : Confirmed) → as_result x ≡ as_result y → x ≡ y
 same_settlement x y e = cc
 
-one_move : (message : Sent) (u v : Move) → SaysMove message u → SaysMove message v → u ≡ v
+one_move : (message : Sent) (u v : Confirmation) → SaysConfirmation message u → SaysConfirmation message v → u ≡ v
 unfolding move_from
 one_move message u v x y =
     let type : u.mt ≡ v.mt = sym (type_back u.mt) ∙ ap type_of (sym x.type ∙ y.type) ∙ type_back v.mt in
@@ -195,21 +195,21 @@ one_move message u v x y =
     same_move u.mt v.mt u.bic v.bic u.confirmed v.confirmed type (sym x.addressee ∙ y.addressee)
     (same_settlement u.confirmed v.confirmed (one_confirmation u.mt x.fields (Ok u.confirmed) (Ok v.confirmed) x.says says))
 
-pub one_list : (messages : List Sent) (a b : List Move) → SayMoves messages a → SayMoves messages b → a ≡ b
+pub one_list : (messages : List Sent) (a b : List Confirmation) → SayConfirmations messages a → SayConfirmations messages b → a ≡ b
 one_list [] [] [] x y = refl
 one_list [] [] (v ∷ b) x y = absurd y
 one_list [] (u ∷ a) [] x y = absurd x
 one_list [] (u ∷ a) (v ∷ b) x y = absurd x
 one_list (message ∷ messages) [] [] x y = refl
 one_list (message ∷ messages) [] (v ∷ b) x y =
-    let P : Bool → Type 0 = λ t. MatchBool t (SaysMove message v × SayMoves messages b) (SayMoves messages (v ∷ b)) in
+    let P : Bool → Type 0 = λ t. MatchBool t (SaysConfirmation message v × SayConfirmations messages b) (SayConfirmations messages (v ∷ b)) in
     one_list messages [] (v ∷ b) x.1 (subst P x.0 y)
 one_list (message ∷ messages) (u ∷ a) [] x y =
-    let P : Bool → Type 0 = λ t. MatchBool t (SaysMove message u × SayMoves messages a) (SayMoves messages (u ∷ a)) in
+    let P : Bool → Type 0 = λ t. MatchBool t (SaysConfirmation message u × SayConfirmations messages a) (SayConfirmations messages (u ∷ a)) in
     one_list messages (u ∷ a) [] (subst P y.0 x) y.1
 one_list (message ∷ messages) (u ∷ a) (v ∷ b) x y =
-    let P : Bool → Type 0 = λ t. MatchBool t (SaysMove message u × SayMoves messages a) (SayMoves messages (u ∷ a)) in
-    let Q : Bool → Type 0 = λ t. MatchBool t (SaysMove message v × SayMoves messages b) (SayMoves messages (v ∷ b)) in
+    let P : Bool → Type 0 = λ t. MatchBool t (SaysConfirmation message u × SayConfirmations messages a) (SayConfirmations messages (u ∷ a)) in
+    let Q : Bool → Type 0 = λ t. MatchBool t (SaysConfirmation message v × SayConfirmations messages b) (SayConfirmations messages (v ∷ b)) in
     elim (cases_Bool (is_confirmation message)) [
       | inl e ↦
           let first = subst P e x in

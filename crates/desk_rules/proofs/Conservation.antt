@@ -298,8 +298,8 @@ registered_before : (b : Books) (e : Entry) → Passes b e → IsRegistered b.hi
 registered_before b (Participant reference bic) p = tt
 registered_before b (Account reference bic account) p = tt
 registered_before b (Security reference isin kind) p = tt
-registered_before b (Issue h) p = let o = is_none_false (owner_of b.history h.account) (p.checks _ (inl refl)) in owned b.history h.account o.0 o.1
-registered_before b (Redeem h) p = let o = is_none_false (owner_of b.history h.account) (p.checks _ (inl refl)) in owned b.history h.account o.0 o.1
+registered_before b (Issue movement) p = let o = is_none_false (owner_of b.history movement.account) (p.checks _ (inl refl)) in owned b.history movement.account o.0 o.1
+registered_before b (Redeem movement) p = let o = is_none_false (owner_of b.history movement.account) (p.checks _ (inl refl)) in owned b.history movement.account o.0 o.1
 registered_before b (PayIn x) p = takes_part b.history x.bic (not-false (is_participant b.history x.bic) (p.checks _ (inl refl)))
 registered_before b (PayOut x) p = takes_part b.history x.bic (not-false (is_participant b.history x.bic) (p.checks _ (inl refl)))
 registered_before b (Instruct sender i) p =

@@ -15,7 +15,7 @@ pub mod AcceptedOnce
 pub mod BalanceLemmas
 pub mod NonNegative
 pub mod Conservation
-pub mod SaidMoves
+pub mod SaidConfirmations
 pub mod MovedSums
 pub mod ConfirmedChanges
 pub mod FreshParts

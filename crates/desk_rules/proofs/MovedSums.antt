@@ -1,4 +1,4 @@
--- The moves that the sent messages of a history say add up to what its settlements moved.
+-- The confirmations that a history sends add up to what its settlements moved.
 use Rattle.std.proofs.Common.{◌≡◌, ◌≢◌, ℕ, zero, suc, ◌+◌, ◌<◌, ◌≤◌, inl, inr, Bool, true, false, cond, if◌then◌else◌, List, [], ◌∷◌, length, sum_by, refl, sym, ◌∙◌, ap, arith, Option, Some, None}
 use Rattle.std.specs.Prelude.{◌==◌}
 use Rattle.std.specs.List.{range_with_len, flat_map}
@@ -14,11 +14,11 @@ use Rattle.desk_rules.specs.Opposite.{AreOppositeAt}
 use Rattle.desk_rules.specs.Balances.{is_delivered_by, deliverer_of, receiver_of, delivery_of, receipt_of, quantity_if}
 use Rattle.desk_rules.specs.Sent.{Notice, told_of_pair, told_of_settled, told_by, notices_of, date_in}
 use Rattle.desk_rules.specs.Verdict.{Books}
-use Rattle.desk_rules.specs.Moves.{Move}
+use Rattle.desk_rules.specs.Confirmations.{Confirmation}
 use Rattle.desk_rules.proofs.Decided.{In}
 use Rattle.desk_rules.proofs.BalanceLemmas.{sum_same}
 use Rattle.desk_rules.proofs.Conservation.{sum_zero, sum_swap, if_true, if_false}
-use Rattle.desk_rules.proofs.SaidMoves.{move_of, moves_to, moves_of}
+use Rattle.desk_rules.proofs.SaidConfirmations.{confirmation_by, confirmations_to, confirmations_of}
 
 sum_flat : {X Y : Type 0} (g : Y → ℕ) (f : X → List Y) (xs : List X) → sum_by g (flat_map f xs) ≡ sum_by (λ x. sum_by g (f x)) xs
 sum_flat g f [] = refl
@@ -96,27 +96,27 @@ legs_of h p o =
       }
     ]
 
--- A measure of moves that does not look at the day, and what it is of an instruction.
-module _ (books : Books) (f : Move → ℕ) (g : Instructed → ℕ) (same : (i : Instructed) (day : List ℕ) → f (move_of i day) ≡ g i) where
+-- A measure of confirmations that does not look at the day, and what it is of an instruction.
+module _ (books : Books) (f : Confirmation → ℕ) (g : Instructed → ℕ) (same : (i : Instructed) (day : List ℕ) → f (confirmation_by i day) ≡ g i) where
   abbrev pub of_leg : Option Instructed → ℕ
   of_leg None = 0
   of_leg (Some i) = g i
 
   abbrev pub value : Notice → ℕ
-  value n = sum_by f (moves_to books.history n.run (instruction_at books.history n.about))
+  value n = sum_by f (confirmations_to books.history n.run (instruction_at books.history n.about))
 
-  sum_moves : (ns : List Notice) → sum_by f (moves_of books.history ns) ≡ sum_by value ns
-  sum_moves [] = refl
-  sum_moves (n ∷ ns) =
-      sum_by-append f (moves_to books.history n.run (instruction_at books.history n.about)) (moves_of books.history ns)
-      ∙ ap (λ m. value n + m) (sum_moves ns)
+  sum_confirmations : (ns : List Notice) → sum_by f (confirmations_of books.history ns) ≡ sum_by value ns
+  sum_confirmations [] = refl
+  sum_confirmations (n ∷ ns) =
+      sum_by-append f (confirmations_to books.history n.run (instruction_at books.history n.about)) (confirmations_of books.history ns)
+      ∙ ap (λ m. value n + m) (sum_confirmations ns)
       ∙ sym (sum_by-cons value n ns)
 
-  leg_value : (run : ℕ) (o : Option Instructed) → sum_by f (moves_to books.history (Some run) o) ≡ of_leg o
+  leg_value : (run : ℕ) (o : Option Instructed) → sum_by f (confirmations_to books.history (Some run) o) ≡ of_leg o
   leg_value run None = refl
   leg_value run (Some i) =
-      let move = move_of i (date_in (entry_at books.history run)) in
-      let one = sum_by-cons f move [] in
+      let confirmation = confirmation_by i (date_in (entry_at books.history run)) in
+      let one = sum_by-cons f confirmation [] in
       let is = same i (date_in (entry_at books.history run)) in
       one ∙ omega (arith, is)
 
@@ -153,10 +153,10 @@ module _ (books : Books) (f : Move → ℕ) (g : Instructed → ℕ) (same : (i 
       parts ∙ omega (arith, pairs, settled)
 
   -- all that is said is what the settlements moved
-  pub all_said : ((s : Settled) → In books.settled s → (1 ≤ s.run) × (s.run < 1 + length books.history)) → sum_by f (moves_of books.history (notices_of books)) ≡ sum_by legs_value books.settled
+  pub all_said : ((s : Settled) → In books.settled s → (1 ≤ s.run) × (s.run < 1 + length books.history)) → sum_by f (confirmations_of books.history (notices_of books)) ≡ sum_by legs_value books.settled
   all_said ranged =
       let range = range_with_len 1 (length books.history) in
-      sum_moves (notices_of books)
+      sum_confirmations (notices_of books)
       ∙ sum_flat value (told_by books) range
       ∙ sum_same (λ n. sum_by value (told_by books n)) (λ n. sum_by (λ s. quantity_if (s.run == n) (legs_value s)) books.settled) range (λ n i. told_value n)
       ∙ sum_swap (λ n s. quantity_if (s.run == n) (legs_value s)) range books.settled

@@ -37,10 +37,10 @@ pub entry_securities : (b : Books) (e : Entry) → Passes b e → AreNonNegative
 entry_securities b (Participant reference bic) p is account isin = let below = is.positions account isin in omega arith
 entry_securities b (Account reference bic a) p is account isin = let below = is.positions account isin in omega arith
 entry_securities b (Security reference i kind) p is account isin = let below = is.positions account isin in omega arith
-entry_securities b (Issue h) p is account isin = let below = is.positions account isin in omega arith
-entry_securities b (Redeem h) p is account isin =
-    let enough = ltb-false (credits b.history b.settled h.account h.isin) (debits b.history b.settled h.account h.isin + h.quantity) (p.checks _ (inr (inr (inl refl)))) in
-    share_fits bytes_eq bytes_same (debits b.history b.settled) (credits b.history b.settled) h.account h.isin h.quantity enough is.positions account isin
+entry_securities b (Issue movement) p is account isin = let below = is.positions account isin in omega arith
+entry_securities b (Redeem movement) p is account isin =
+    let enough = ltb-false (credits b.history b.settled movement.account movement.isin) (debits b.history b.settled movement.account movement.isin + movement.quantity) (p.checks _ (inr (inr (inl refl)))) in
+    share_fits bytes_eq bytes_same (debits b.history b.settled) (credits b.history b.settled) movement.account movement.isin movement.quantity enough is.positions account isin
 entry_securities b (PayIn payment) p is account isin = let below = is.positions account isin in omega arith
 entry_securities b (PayOut payment) p is account isin = let below = is.positions account isin in omega arith
 entry_securities b (Instruct sender instruction) p is account isin = let below = is.positions account isin in omega arith
@@ -52,8 +52,8 @@ pub entry_cash : (b : Books) (e : Entry) → Passes b e → AreNonNegative b.his
 entry_cash b (Participant reference x) p is bic ccy = let below = is.cash bic ccy in omega arith
 entry_cash b (Account reference x a) p is bic ccy = let below = is.cash bic ccy in omega arith
 entry_cash b (Security reference i kind) p is bic ccy = let below = is.cash bic ccy in omega arith
-entry_cash b (Issue h) p is bic ccy = let below = is.cash bic ccy in omega arith
-entry_cash b (Redeem h) p is bic ccy = let below = is.cash bic ccy in omega arith
+entry_cash b (Issue movement) p is bic ccy = let below = is.cash bic ccy in omega arith
+entry_cash b (Redeem movement) p is bic ccy = let below = is.cash bic ccy in omega arith
 entry_cash b (PayIn payment) p is bic ccy = let below = is.cash bic ccy in omega arith
 entry_cash b (PayOut payment) p is bic ccy =
     let enough = ltb-false (cash_credits b.history b.settled payment.bic payment.ccy) (cash_debits b.history b.settled payment.bic payment.ccy + payment.amount) (p.checks _ (inr (inl refl))) in

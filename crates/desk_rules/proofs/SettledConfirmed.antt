@@ -18,7 +18,7 @@ use Rattle.desk_rules.proofs.Decided.{In, In-left, In-right, In-cases, In-from_C
 use Rattle.desk_rules.proofs.PairingLaws.{one_pair_of, settled_once}
 use Rattle.desk_rules.proofs.HistoryLemmas.{entry_at-known}
 use Rattle.desk_rules.proofs.SettlementLemmas.{due_facts, by_some}
-use Rattle.desk_rules.proofs.SaidMoves.{confirming}
+use Rattle.desk_rules.proofs.SaidConfirmations.{confirming}
 
 -- Members of lists of lists.
 

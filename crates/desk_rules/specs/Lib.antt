@@ -9,6 +9,6 @@ pub mod Verdict
 pub mod Laws
 pub mod Reply
 pub mod Sent
-pub mod Moves
+pub mod Confirmations
 pub mod Content
 pub mod Questions

@@ -18,7 +18,7 @@ use Rattle.desk_rules.specs.History.{entry_at, number_of_key}
 use Rattle.desk_rules.specs.Verdict.{Books, is_participant}
 use Rattle.desk_rules.specs.Reply.{plain_reply, advice_reply}
 use Rattle.desk_rules.specs.Sent.{sent_of}
-use Rattle.desk_rules.specs.Moves.{is_confirmation}
+use Rattle.desk_rules.specs.Confirmations.{is_confirmation}
 use Rattle.desk_rules.specs.Content.{state_of}
 
 abbrev pub refused_question : ℕ → Reply

@@ -1,10 +1,11 @@
 -- What the desk decides on an entry: the first check that fails, in the order of the table, else Accept.
-use Rattle.std.specs.Prelude.{◌≡◌, ℕ, ◌+◌, nat_lt, nat_le, ◌==◌, Bool, true, false, not, if◌then◌else◌, List, [], ◌∷◌, length, bytes_eq, codes, MatchBool, Option, Some, None, is_none, is_some, option_and_then}
+use Rattle.std.specs.Prelude.{◌≡◌, ℕ, ◌+◌, nat_lt, nat_le, ◌==◌, Bool, true, false, not, if◌then◌else◌, List, [], ◌∷◌, length, bytes_eq, MatchBool, Option, Some, None, is_none, is_some, option_and_then}
 use Rattle.std.specs.List.{list_any}
 use Rattle.desk_codes.specs.Number.{number_of}
 use Rattle.desk_msg.specs.declared.instruction.CancelOrder.{CancelOrder}
 use Rattle.desk_msg.specs.declared.instruction.Kind.{Kind}
 use Rattle.desk_msg.specs.declared.instruction.Kind.TheVariants.{Unit as Units, FaceAmount}
+use Rattle.desk_msg.specs.Depository.{desk_bic}
 use Rattle.desk_msg.specs.MessageType.{number_of_type}
 use Rattle.desk_rules.specs.declared.entry.Sender.{Sender}
 use Rattle.desk_rules.specs.declared.entry.Sender.TheVariants.{Operator, Participant as FromParticipant}
@@ -119,10 +120,6 @@ most_outstanding = 99_999_999_999_999
 abbrev pub most_paid : ℕ
 most_paid = 999_999_999_999_999_999
 
--- the depository's own BIC
-abbrev pub desk_bic : List ℕ
-desk_bic = codes "DESKDEFF"
-
 -- A history with its pairing and its settlement.
 pub record Books : Type 0 where
   pub history : List Entry
@@ -185,20 +182,20 @@ checks_of books (Account reference bic account) =
     ∷ check (not (is_participant books.history bic)) ParticipantUnknown ∷ []
 checks_of books (Security reference isin kind) =
     check (is_some (kind_of books.history isin)) Exists ∷ []
-checks_of books (Issue h) =
-    check (is_none (owner_of books.history h.account)) AccountUnknown
-    ∷ check (is_none (kind_of books.history h.isin)) SecurityUnknown
-    ∷ check (nat_lt (redeemed books.history h.isin + most_outstanding) (issued books.history h.isin + h.quantity)) OverLimit ∷ []
-checks_of books (Redeem h) =
-    check (is_none (owner_of books.history h.account)) AccountUnknown
-    ∷ check (is_none (kind_of books.history h.isin)) SecurityUnknown
-    ∷ check (nat_lt (credits books.history books.settled h.account h.isin) (debits books.history books.settled h.account h.isin + h.quantity)) NotEnough ∷ []
-checks_of books (PayIn p) =
-    check (not (is_participant books.history p.bic)) ParticipantUnknown
-    ∷ check (nat_lt (paid_out books.history p.ccy + most_paid) (paid_in books.history p.ccy + p.amount)) OverLimit ∷ []
-checks_of books (PayOut p) =
-    check (not (is_participant books.history p.bic)) ParticipantUnknown
-    ∷ check (nat_lt (cash_credits books.history books.settled p.bic p.ccy) (cash_debits books.history books.settled p.bic p.ccy + p.amount)) NotEnough ∷ []
+checks_of books (Issue movement) =
+    check (is_none (owner_of books.history movement.account)) AccountUnknown
+    ∷ check (is_none (kind_of books.history movement.isin)) SecurityUnknown
+    ∷ check (nat_lt (redeemed books.history movement.isin + most_outstanding) (issued books.history movement.isin + movement.quantity)) OverLimit ∷ []
+checks_of books (Redeem movement) =
+    check (is_none (owner_of books.history movement.account)) AccountUnknown
+    ∷ check (is_none (kind_of books.history movement.isin)) SecurityUnknown
+    ∷ check (nat_lt (credits books.history books.settled movement.account movement.isin) (debits books.history books.settled movement.account movement.isin + movement.quantity)) NotEnough ∷ []
+checks_of books (PayIn payment) =
+    check (not (is_participant books.history payment.bic)) ParticipantUnknown
+    ∷ check (nat_lt (paid_out books.history payment.ccy + most_paid) (paid_in books.history payment.ccy + payment.amount)) OverLimit ∷ []
+checks_of books (PayOut payment) =
+    check (not (is_participant books.history payment.bic)) ParticipantUnknown
+    ∷ check (nat_lt (cash_credits books.history books.settled payment.bic payment.ccy) (cash_debits books.history books.settled payment.bic payment.ccy + payment.amount)) NotEnough ∷ []
 checks_of books (Instruct sender i) =
     check (not (bytes_eq i.place desk_bic)) PlaceNotUs
     ∷ check (is_none (kind_of books.history i.isin)) UnknownSecurity

@@ -8,7 +8,7 @@ ghost use Rattle.desk_rules.specs.Sent.{sent_of, told};
 ghost use Rattle.desk_rules.specs.Reply.{reply_to};
 ghost use Rattle.desk_rules.specs.Questions.{confirmation_of, sent_reply, status_reply};
 ghost use Rattle.desk_rules.specs.Content.{AreTables, Content, IsSameContent, history_of};
-ghost use Rattle.desk_rules.specs.Moves.{AccountFor, Move, SayMoves, WasRead};
+ghost use Rattle.desk_rules.specs.Confirmations.{AccountFor, Confirmation, SayConfirmations, WasRead};
 ghost use Rattle.desk_rules.specs.Laws.{accounts_of, participants_of, AreNonNegative};
 ghost use Rattle.desk_rules.specs.Opposite.{AreOpposite};
 ghost use Rattle.desk_rules.specs.Pairing.{IsPairing, IsSide};
@@ -105,12 +105,12 @@ pub fn accepted_once()
         → IsVerdict limit after entry (Repeat (length books.history + 1)) }
 {}
 
-/// Each change is confirmed. The texts that are sent say moves, as messages are read, and say them in one way; and these
-/// moves account for every balance: on no account, and in no participant's cash, is there a change by settlement that
-/// its confirmations don't say, and they say none that isn't there.
+/// Each change is confirmed. The texts that are sent say confirmations, as messages are read, and say them in one way;
+/// and these account for every balance: on no account, and in no participant's cash, is there a change by settlement
+/// that its confirmations don't say, and they say none that isn't there.
 pub fn confirmed_changes()
-    ensures confirmed { (books : Books) → AreBooks books → WasRead books.history → (moves : List Move) × SayMoves (sent_of books) moves × AccountFor books moves }
-    ensures one { (messages : List Sent) (a b : List Move) → SayMoves messages a → SayMoves messages b → a ≡ b }
+    ensures confirmed { (books : Books) → AreBooks books → WasRead books.history → (confirmations : List Confirmation) × SayConfirmations (sent_of books) confirmations × AccountFor books confirmations }
+    ensures one { (messages : List Sent) (a b : List Confirmation) → SayConfirmations messages a → SayConfirmations messages b → a ≡ b }
 {}
 
 /// What was sent stays: a longer history sends first what its front sent, in that order. So the k-th message that a

@@ -16,7 +16,7 @@ use Rattle.desk_rules.specs.declared.entry.Entry.{Entry}
 use Rattle.desk_rules.specs.declared.entry.Entry.TheVariants.{Participant, Account, Security, Issue, PayIn, Instruct, Cancel, Run}
 use Rattle.desk_rules.specs.declared.pair.Pair.{Pair}
 use Rattle.desk_rules.specs.Verdict.{Books}
-use Rattle.desk_rules.specs.Moves.{Move}
+use Rattle.desk_rules.specs.Confirmations.{Confirmation}
 
 abbrev pub alpha : List ℕ
 alpha = codes "ALPHDEFF"
@@ -137,7 +137,7 @@ abbrev pub at_cancel : Books
 at_cancel = record { history = take 8 history ++ Cancel alpha (cancel (codes "X1") (codes "A1")) ∷ []; pairs = []; settled = [] }
 
 -- what the confirmations of the day say
-abbrev pub moved : List Move
+abbrev pub moved : List Confirmation
 moved =
     record { mt = Mt547; bic = alpha; confirmed = record { related = codes "A1"; day = leap_day; isin = share; kind = Units; quantity = 400; account = a_1; cash = Some (Eur, 100_050) } }
     ∷ record { mt = Mt545; bic = beta; confirmed = record { related = codes "B1"; day = leap_day; isin = share; kind = Units; quantity = 400; account = b_1; cash = Some (Eur, 100_050) } }

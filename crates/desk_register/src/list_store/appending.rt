@@ -1,7 +1,7 @@
 //! An entry, added to the lists.
 ghost use Rattle.std.specs.Prelude.{◌≡◌, OnOk};
 ghost use Rattle.desk_register.specs.Content.{CanAppend, appended, positions_after};
-ghost use Rattle.desk_register.specs.Lists.{AreTotals, content_in, listed, outstanding_in, quantity_in, undone, totals_after, SameEntries};
+ghost use Rattle.desk_register.specs.Lists.{OutstandingIsKept, content_in, listed, outstanding_in, quantity_in, undone, outstanding_after, SameEntries};
 
 use crate::entries::first_standing;
 use crate::list_store::changes::push_entry;
@@ -17,9 +17,9 @@ fn move_balances(
     entry: &Entry,
 ) -> Result<(), AllocError>
     requires fits { CanAppend entry.now (content_in (listed lists.old)) }
-    requires totals { AreTotals (listed lists.old) }
+    requires outstanding { OutstandingIsKept (listed lists.old) }
     ensures positions { OnOk result (quantity_in (listed lists.new) ≡ positions_after entry.now (quantity_in (listed lists.old))) }
-    ensures totals { OnOk result (outstanding_in (listed lists.new) ≡ totals_after entry.now (outstanding_in (listed lists.old))) }
+    ensures outstanding { OnOk result (outstanding_in (listed lists.new) ≡ outstanding_after entry.now (outstanding_in (listed lists.old))) }
     ensures rest { OnOk result (SameEntries (listed lists.old) (listed lists.new)) }
     ensures before { undone changes.new.items (listed lists.new) ≡ undone changes.old.items (listed lists.old) }
 {
@@ -49,9 +49,9 @@ pub fn append_entry(
     reply: Reply,
 ) -> Result<(), AllocError>
     requires fits { CanAppend entry (content_in (listed lists.old)) }
-    requires totals { AreTotals (listed lists.old) }
+    requires outstanding { OutstandingIsKept (listed lists.old) }
     ensures added { OnOk result (content_in (listed lists.new) ≡ appended entry reply (content_in (listed lists.old))) }
-    ensures totals { OnOk result (AreTotals (listed lists.new)) }
+    ensures outstanding { OnOk result (OutstandingIsKept (listed lists.new)) }
     ensures before { undone changes.new.items (listed lists.new) ≡ undone changes.old.items (listed lists.old) }
 {
     move_balances(lists, changes, &entry)?;

@@ -1,6 +1,6 @@
 //! A register that keeps plain lists.
 ghost use Rattle.std.specs.Prelude.{◌≡◌, ◌≢◌, ◌≤◌, []};
-ghost use Rattle.desk_register.specs.Lists.{listed, undone, AreTotals};
+ghost use Rattle.desk_register.specs.Lists.{listed, undone, OutstandingIsKept};
 ghost use Rattle.desk_register.specs.declared.register.Stage.TheVariants.{Idle, Failed};
 
 use crate::list_store::lists::{Change, Lists};
@@ -21,6 +21,6 @@ pub struct ListRegister {
     pub stage: Stage,
     ghost limited: { limit ≤ 999_999_999 },
     ghost idle: { stage ≡ Idle → changes.items ≡ [] },
-    ghost totals: { stage ≢ Failed → AreTotals (listed lists) },
-    ghost totals_marked: { AreTotals (undone changes.items (listed lists)) },
+    ghost outstanding: { stage ≢ Failed → OutstandingIsKept (listed lists) },
+    ghost outstanding_marked: { OutstandingIsKept (undone changes.items (listed lists)) },
 }

@@ -1,7 +1,7 @@
 //! Positions of accounts, put into the lists.
 ghost use Rattle.std.specs.Prelude.{◌≡◌, OnOk, OnErr};
 ghost use Rattle.desk_register.specs.Content.{moved_to};
-ghost use Rattle.desk_register.specs.Lists.{listed, quantity_in, outstanding_in, undone, with_total, SameButQuantities, SameButOutstanding};
+ghost use Rattle.desk_register.specs.Lists.{listed, quantity_in, outstanding_in, undone, with_outstanding, SameButQuantities, SameButOutstanding};
 
 use crate::list_store::balances::{index_of_key, index_of_security, outstanding, quantity};
 use crate::list_store::changes::{list_security, move_quantity, open_quantity, resize};
@@ -35,7 +35,7 @@ pub fn put_outstanding(
     isin: Isin,
     quantity: u64,
 ) -> Result<(), AllocError>
-    ensures put { OnOk result (outstanding_in (listed lists.new) ≡ with_total (outstanding_in (listed lists.old)) isin quantity) }
+    ensures put { OnOk result (outstanding_in (listed lists.new) ≡ with_outstanding (outstanding_in (listed lists.old)) isin quantity) }
     ensures positions { OnOk result (quantity_in (listed lists.new) ≡ quantity_in (listed lists.old)) }
     ensures rest { OnOk result (SameButOutstanding (listed lists.old) (listed lists.new)) }
     ensures before { OnOk result (undone changes.new.items (listed lists.new) ≡ undone changes.old.items (listed lists.old)) }

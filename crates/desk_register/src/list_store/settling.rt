@@ -1,7 +1,7 @@
 //! A pair, settled in the lists.
 ghost use Rattle.std.specs.Prelude.{◌≡◌, ◌<◌, ◌≤◌, ◌+◌, ◌^◌, Some, None, length, IfOk, OnOk};
 ghost use Rattle.desk_register.specs.Content.{delivered, CanSettle, Settles, SettlesSides, delivery_of, receipt_of};
-ghost use Rattle.desk_register.specs.Lists.{content_in, listed, quantity_in, undone, SameButQuantities, SameTotals};
+ghost use Rattle.desk_register.specs.Lists.{content_in, listed, quantity_in, undone, SameButQuantities, SameOutstanding};
 
 use crate::found::Outcome;
 use crate::list_store::by_number::{instruction, standing};
@@ -69,7 +69,7 @@ fn settle_sides(
     requires fits { later.now.instruction.quantity ≤ quantity_in (listed lists.old) (delivery_of earlier.now later.now).instruction.account later.now.instruction.isin
         → quantity_in (listed lists.old) (receipt_of earlier.now later.now).instruction.account later.now.instruction.isin + later.now.instruction.quantity < 2 ^ 63 }
     ensures settled { IfOk result (λ outcome. SettlesSides (content_in (listed lists.old)) number mate earlier.now later.now outcome (content_in (listed lists.new))) }
-    ensures rest { OnOk result (SameTotals (listed lists.old) (listed lists.new)) }
+    ensures rest { OnOk result (SameOutstanding (listed lists.old) (listed lists.new)) }
     ensures before { undone changes.new.items (listed lists.new) ≡ undone changes.old.items (listed lists.old) }
 {
     let from = delivery(earlier, later).instruction.account;
@@ -94,7 +94,7 @@ pub fn try_settle(
 ) -> Result<Outcome, AllocError>
     requires { CanSettle (content_in (listed lists.old)) number }
     ensures settled { IfOk result (λ outcome. Settles (content_in (listed lists.old)) number outcome (content_in (listed lists.new))) }
-    ensures rest { OnOk result (SameTotals (listed lists.old) (listed lists.new)) }
+    ensures rest { OnOk result (SameOutstanding (listed lists.old) (listed lists.new)) }
     ensures before { undone changes.new.items (listed lists.new) ≡ undone changes.old.items (listed lists.old) }
 {
     let later = instruction(lists, number).unwrap();

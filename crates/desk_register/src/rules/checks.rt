@@ -3,7 +3,8 @@ ghost use Rattle.std.specs.Prelude.{◌≡◌, not, is_none, is_some, [], ◌∷
 ghost use Rattle.desk_codes.specs.Number.{number_of};
 ghost use Rattle.desk_register.specs.View.{IsRead};
 ghost use Rattle.desk_register.specs.Decision.{first_refusal, is_supported, Reading, with_history};
-ghost use Rattle.desk_rules.specs.Verdict.{check, checks_of, desk_bic, is_after, is_of_kind, is_owner, is_participant, kind_of, last_run, owner_of};
+ghost use Rattle.desk_msg.specs.Depository.{desk_bic};
+ghost use Rattle.desk_rules.specs.Verdict.{check, checks_of, is_after, is_of_kind, is_owner, is_participant, kind_of, last_run, owner_of};
 
 use crate::register::{Fault, Register};
 use desk_codes::{AccountId, Bic, Day, Isin};

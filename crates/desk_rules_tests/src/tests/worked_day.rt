@@ -1,4 +1,4 @@
-//! The definitions of verdicts, replies, messages and moves, tried on a day worked by hand (specs/WorkedDay.antt).
+//! The definitions of verdicts, replies, messages and confirmations, tried on a day worked by hand (specs/WorkedDay.antt).
 //! What each gives there stands in a contract, so it is the check that computes it: the run has nothing to do.
 ghost use Rattle.std.specs.Prelude.{◌≡◌, [], ◌∷◌, codes, Some, None};
 ghost use Rattle.std.proofs.Common.{lit<, lit≤};
@@ -17,7 +17,7 @@ ghost use Rattle.desk_rules.specs.declared.verdict.Refusal.TheVariants as refusa
 ghost use Rattle.desk_rules.specs.Verdict.{IsVerdict};
 ghost use Rattle.desk_rules.specs.Reply.{advice_reply, plain_reply, refused_reply, reply_to};
 ghost use Rattle.desk_rules.specs.Sent.{sent_of};
-ghost use Rattle.desk_rules.specs.Moves.{brought, cash_brought, cash_taken, taken};
+ghost use Rattle.desk_rules.specs.Confirmations.{brought, cash_brought, cash_taken, taken};
 ghost use Rattle.desk_rules.specs.Content.{mate_of};
 ghost use Rattle.desk_rules.specs.Questions.{sent_reply, status_reply};
 ghost use Rattle.desk_rules_tests.specs.WorkedDay.{a_1, alpha, at_cancel, at_delivery, at_receipt, at_run, at_short_run, b_1, beta, cancel, cancel_as_free, delivery, gamma, movement, larger, leap_day, moved, payment, receipt, share};
@@ -88,8 +88,8 @@ fn confirmed()
         ∷ [] }
 {}
 
-/// What the confirmations of the day move.
-fn moves()
+/// What the confirmations of the day bring and take.
+fn brought_and_taken()
     ensures from { (taken moved a_1 share ≡ 400) × (brought moved a_1 share ≡ 0) }
     ensures to { (brought moved b_1 share ≡ 400) × (taken moved b_1 share ≡ 0) }
     ensures paid { (cash_brought moved alpha Eur ≡ 100_050) × (cash_taken moved alpha Eur ≡ 0) }
@@ -159,7 +159,7 @@ fn the_definitions_give_the_worked_day(_rt: HostRuntime) {
     replies();
     messages();
     confirmed();
-    moves();
+    brought_and_taken();
     verdicts_on_messages();
     verdicts_on_registrations();
     verdicts_on_balances();

@@ -17,5 +17,5 @@ returns-in_err-quantity-clause-refused c = even_none c.from_residual-in_err-quan
 pub returns-clause-read : goal.returns-clause-read
 returns-clause-read c = record {
   spells = ((c.in_ok-reference.ensures.read, c.in_ok-account.ensures.read, c.in_ok-isin.ensures.read), issue_is _ _ _ _ _ c.in_ok-member_count.ensures.ordered (rw c.if-branch-ne5.false at (sym c.in_ok-member_count.ensures.count)) c.requires c.in_ok-reference.ensures.some c.in_ok-account.ensures.some c.in_ok-isin.ensures.some c.in_ok-quantity.ensures.some);
-  known = refl;
+  supported = refl;
 }

@@ -11,5 +11,5 @@ returns-in_err-bic-clause-refused c = even_none c.from_residual-in_err-bic.resul
 pub returns-clause-read : goal.returns-clause-read
 returns-clause-read c = record {
   spells = (c.in_ok-bic.ensures.some.0, c.in_ok-bic.ensures.some.1, c.in_ok-reference.ensures.read, participant_is _ _ _ c.in_ok-member_count.ensures.ordered (rw c.if-branch-ne3.false at (sym c.in_ok-member_count.ensures.count)) c.requires c.in_ok-reference.ensures.some c.in_ok-bic.ensures.some.2);
-  known = refl;
+  supported = refl;
 }

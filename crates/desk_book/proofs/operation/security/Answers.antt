@@ -14,5 +14,5 @@ returns-in_err-kind-clause-refused c = even_none c.from_residual-in_err-kind.res
 pub returns-clause-read : goal.returns-clause-read
 returns-clause-read c = record {
   spells = (c.in_ok-reference.ensures.read, c.in_ok-isin.ensures.read, security_is _ _ _ _ c.in_ok-member_count.ensures.ordered (rw c.if-branch-ne4.false at (sym c.in_ok-member_count.ensures.count)) c.requires c.in_ok-reference.ensures.some c.in_ok-isin.ensures.some c.in_ok-kind.ensures.some);
-  known = refl;
+  supported = refl;
 }
