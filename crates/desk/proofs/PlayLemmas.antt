@@ -16,7 +16,7 @@ use Rattle.desk_book.specs.declared.fault.Fault.TheVariants.{Memory, Storage, Cl
 use Rattle.desk_book.specs.Answered.{Run, says_closed, says_storage}
 use Rattle.desk_book.specs.Held.{Holds}
 use Rattle.desk_book.specs.Played.{PlaysScript, asked_in}
-use Rattle.desk.specs.PlayAnswer.{IsInMemory, IsPlayAnswer, told_answers, told_memory, told_input}
+use Rattle.desk.specs.PlayAnswer.{IsReplyOrMemory, IsPlayAnswer, told_answers, told_memory, told_input}
 use Rattle.desk.specs.Status.{failure_line}
 use Rattle.desk.specs.declared.status.Failure.{Failure}
 use Rattle.desk.specs.declared.status.Failure.TheVariants as failure
@@ -26,20 +26,20 @@ use Rattle.desk.specs.declared.status.Status.TheVariants as exit
 abbrev counted : Result Reply Fault → ℕ
 counted answer = cond (says_storage answer) 1 0
 
-is_in_memory : (answer : Result Reply Fault) → says_closed answer ≡ false → counted answer ≡ 0 → IsInMemory answer
+is_in_memory : (answer : Result Reply Fault) → says_closed answer ≡ false → counted answer ≡ 0 → IsReplyOrMemory answer
 is_in_memory (Ok reply) not_closed sound = tt
 is_in_memory (Err Memory) not_closed sound = refl
 is_in_memory (Err Storage) not_closed sound = absurd (omega (arith, sound))
 is_in_memory (Err Closed) not_closed sound = cc
 
 -- no fault of a device, and not closed: so want of memory
-only_memory : (answers : List (Result Reply Fault)) → All (λ answer. says_closed answer ≡ false) answers → count_by says_storage answers ≡ 0 → All IsInMemory answers
-only_memory [] not_closed sound = All-nil IsInMemory
+only_memory : (answers : List (Result Reply Fault)) → All (λ answer. says_closed answer ≡ false) answers → count_by says_storage answers ≡ 0 → All IsReplyOrMemory answers
+only_memory [] not_closed sound = All-nil IsReplyOrMemory
 only_memory (answer ∷ answers) not_closed sound =
     let sum = sum_by-cons counted answer answers in
     let now : counted answer ≡ 0 = omega (arith, sum, sound) in
     let later : count_by says_storage answers ≡ 0 = omega (arith, sum, sound) in
-    All-cons IsInMemory answer answers (is_in_memory answer (All-head (λ a. says_closed a ≡ false) answer answers not_closed) now)
+    All-cons IsReplyOrMemory answer answers (is_in_memory answer (All-head (λ a. says_closed a ≡ false) answer answers not_closed) now)
     (only_memory answers (All-tail (λ a. says_closed a ≡ false) answer answers not_closed) later)
 
 pub told : (r : Option (List ℕ)) (before after : Option (List ℕ)) (was is : Bool) (v0 v1 : View) → v0.room ≡ 999_999_999 → was ≡ false → is ≡ false → v1.failures ≡ v0.failures → v1.is_honest → Holds was v0 no_books

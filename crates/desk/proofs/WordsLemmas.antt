@@ -13,7 +13,7 @@ use Rattle.clap.proofs.OnLiterals.{clap_on_literals}
 use Rattle.desk_msg.specs.MessageType.{digits_of_type, is_instruction}
 use Rattle.desk_msg.specs.declared.mt.Mt.{Mt}
 use Rattle.desk_msg.specs.declared.mt.Mt.TheVariants.{Mt540, Mt541, Mt542, Mt543, Mt544, Mt545, Mt546, Mt547}
-use Rattle.desk.specs.Words.{Asked, IsAskable, IsSpelledOut, IsSaid, IsSaidBy, IsSaidIn, IsTypeText, asked_by, desk_app, isin, play, read, words_for}
+use Rattle.desk.specs.Words.{CallValue, IsAskable, IsSpelledOut, IsSaid, IsSaidBy, IsSaidIn, IsTypeText, value_of_call, desk_app, isin, play, read, words_for}
 use Rattle.desk.specs.declared.words.Call.{Call}
 
 pub simple : is_simple desk_app ≡ true
@@ -62,7 +62,7 @@ takes_play : (program : List ℕ) → takes desk_app (program ∷ words_for play
 unfolding clap_on_literals
 takes_play program = refl
 
-pub takes_asked : (program : List ℕ) (asked : Asked) → IsAskable asked → takes desk_app (program ∷ words_for asked) ≡ true
+pub takes_asked : (program : List ℕ) (asked : CallValue) → IsAskable asked → takes desk_app (program ∷ words_for asked) ≡ true
 takes_asked program (isin code) other = takes_isin program code (no_dashes code other) (no_long code other) (no_short code other)
 takes_asked program (read mt) is = takes_read program mt is
 takes_asked program play is = takes_play program
@@ -94,7 +94,7 @@ enters_play : (program : List ℕ) → IsSomeAnd (subcommand_of desk_app (progra
 unfolding clap_on_literals
 enters_play program = refl
 
-pub enters_asked : (program : List ℕ) (asked : Asked) → IsAskable asked → IsSomeAnd (subcommand_of desk_app (program ∷ words_for asked)) (λ p. IsSpelledOut asked p.0 p.1)
+pub enters_asked : (program : List ℕ) (asked : CallValue) → IsAskable asked → IsSomeAnd (subcommand_of desk_app (program ∷ words_for asked)) (λ p. IsSpelledOut asked p.0 p.1)
 enters_asked program (isin code) other = enters_isin program code (no_dashes code other) (no_long code other) (no_short code other)
 enters_asked program (read mt) is = enters_read program mt is
 enters_asked program play is = enters_play program
@@ -108,7 +108,7 @@ enters_nothing program = refl
 abbrev pair : {S : Type 0} → (S → List ℕ) → (S → List Row) → S → List ℕ × List Row
 pair name_in rows_in s = (name_in s, rows_in s)
 
-pub named_parts : {S : Type 0} (found : Option S) (name_in : S → List ℕ) (rows_in : S → List Row) (asked : Asked) (name : List ℕ) (rows : List Row)
+pub named_parts : {S : Type 0} (found : Option S) (name_in : S → List ℕ) (rows_in : S → List Row) (asked : CallValue) (name : List ℕ) (rows : List Row)
     → Some name ≡ option_map name_in found → Some rows ≡ option_map (λ p. p.1) (option_map (pair name_in rows_in) found)
     → IsSomeAnd (option_map (pair name_in rows_in) found) (λ p. IsSpelledOut asked p.0 p.1) → IsSpelledOut asked name rows
 named_parts None name_in rows_in asked name rows named matched is = absurd is
@@ -127,11 +127,11 @@ one_found (Some s) name_in rows_in name e none = cc
 
 -- what the getters give
 
-module _ (asked : Asked) (name : List ℕ) (f : Found) where
+module _ (asked : CallValue) (name : List ℕ) (f : Found) where
   named_isin : name ≡ codes "isin" → IsSpelledOut asked name (rows_of f) → (code : List ℕ) × (asked ≡ isin code) × (first_value f (codes "code") ≡ Some code)
   named_isin is named = go asked named
     where
-      go : (a : Asked) → IsSpelledOut a name (rows_of f) → (code : List ℕ) × (a ≡ isin code) × (first_value f (codes "code") ≡ Some code)
+      go : (a : CallValue) → IsSpelledOut a name (rows_of f) → (code : List ℕ) × (a ≡ isin code) × (first_value f (codes "code") ≡ Some code)
       go (isin code) h = (code, refl, first_value-rows f (codes "code") ∙ h.1)
       go (read mt) h = let bad : 114 ≡ 105 = ap (λ t. slice_index t 0) (sym h.0 ∙ is) in absurd (omega (arith, bad))
       go play h = let bad : 112 ≡ 105 = ap (λ t. slice_index t 0) (sym h ∙ is) in absurd (omega (arith, bad))
@@ -139,7 +139,7 @@ module _ (asked : Asked) (name : List ℕ) (f : Found) where
   named_read : name ≡ codes "read" → IsSpelledOut asked name (rows_of f) → (mt : Mt) × (asked ≡ read mt) × (one_text f (codes "mt") ≡ Some (digits_of_type mt)) × (is_instruction mt ≡ true)
   named_read is named = go asked named
     where
-      go : (a : Asked) → IsSpelledOut a name (rows_of f) → (mt : Mt) × (a ≡ read mt) × (one_text f (codes "mt") ≡ Some (digits_of_type mt)) × (is_instruction mt ≡ true)
+      go : (a : CallValue) → IsSpelledOut a name (rows_of f) → (mt : Mt) × (a ≡ read mt) × (one_text f (codes "mt") ≡ Some (digits_of_type mt)) × (is_instruction mt ≡ true)
       go (isin code) h = let bad : 105 ≡ 114 = ap (λ t. slice_index t 0) (sym h.0 ∙ is) in absurd (omega (arith, bad))
       go (read mt) h = (mt, refl, one_text-rows f (codes "mt") ∙ h.1, h.2)
       go play h = let bad : 112 ≡ 114 = ap (λ t. slice_index t 0) (sym h ∙ is) in absurd (omega (arith, bad))
@@ -163,19 +163,19 @@ module _ (asked : Asked) (name : List ℕ) (f : Found) where
 
 -- a parse of the words, by a command that is the desk's
 
-pub taken : (a : App) (words : List Text) (program : List ℕ) (asked : Asked) → a ≡ desk_app → words ≡ program ∷ words_for asked → IsAskable asked → takes a words ≡ true
+pub taken : (a : App) (words : List Text) (program : List ℕ) (asked : CallValue) → a ≡ desk_app → words ≡ program ∷ words_for asked → IsAskable asked → takes a words ≡ true
 taken a words program asked is are right = ap₂ takes is are ∙ takes_asked program asked right
 
 pub taken_alone : (a : App) (words : List Text) (program : List ℕ) → a ≡ desk_app → words ≡ program ∷ [] → takes a words ≡ true
 taken_alone a words program is are = ap₂ takes is are ∙ takes_nothing program
 
-pub entered : (a : App) (words : List Text) (m : ArgMatches) (program : List ℕ) (asked : Asked) → HasMatchesOf a words m → a ≡ desk_app → words ≡ program ∷ words_for asked → IsAskable asked
+pub entered : (a : App) (words : List Text) (m : ArgMatches) (program : List ℕ) (asked : CallValue) → HasMatchesOf a words m → a ≡ desk_app → words ≡ program ∷ words_for asked → IsAskable asked
     → IsSomeAnd (subcommand_rows_of m) (λ p. IsSpelledOut asked p.0 p.1)
 entered a words m program asked has is are right =
     let same : subcommand_rows_of m ≡ subcommand_of desk_app (program ∷ words_for asked) = (has (ap is_simple is ∙ simple)).1 ∙ ap₂ subcommand_of is are in
     rw same (enters_asked program asked right)
 
-pub named_in : (m : ArgMatches) (asked : Asked) (name : List ℕ) (rows : List Row) → Some name ≡ subcommand_name_of m → Some rows ≡ option_map (λ p. p.1) (subcommand_rows_of m)
+pub named_in : (m : ArgMatches) (asked : CallValue) (name : List ℕ) (rows : List Row) → Some name ≡ subcommand_name_of m → Some rows ≡ option_map (λ p. p.1) (subcommand_rows_of m)
     → IsSomeAnd (subcommand_rows_of m) (λ p. IsSpelledOut asked p.0 p.1) → IsSpelledOut asked name rows
 named_in m = named_parts (out-ArgMatches m).subcommand (λ b. (out-SubCommand (box_value b)).name.now) (λ b. rows_of (found_of (out-SubCommand (box_value b)).matches))
 
@@ -195,7 +195,7 @@ said_type name f mt is text =
     let P : Option (List ℕ) → Type 0 = λ found. IsSomeAnd found (IsTypeText mt) in
     (is, subst P (one_text-rows f (codes "mt")) text)
 
-said_parts : {S : Type 0} (found : Option S) (name_in : S → List ℕ) (rows_in : S → List Row) (asked : Asked) (name : List ℕ) (rows : List Row)
+said_parts : {S : Type 0} (found : Option S) (name_in : S → List ℕ) (rows_in : S → List Row) (asked : CallValue) (name : List ℕ) (rows : List Row)
     → Some name ≡ option_map name_in found → Some rows ≡ option_map (λ p. p.1) (option_map (pair name_in rows_in) found) → IsSaid asked name rows
     → IsSaidIn asked (option_map (pair name_in rows_in) found)
 said_parts None name_in rows_in asked name rows named matched is = cc
@@ -205,10 +205,10 @@ said_parts (Some s) name_in rows_in asked name rows named matched is =
     rw (same, same_rows) is
 
 pub said_in : (m : ArgMatches) (name : List ℕ) (rows : List Row) (result : Option Call) → Some name ≡ subcommand_name_of m → Some rows ≡ option_map (λ p. p.1) (subcommand_rows_of m)
-    → IfSome result (λ call. IsSaid (asked_by call) name rows) → IfSome result (λ call. IsSaidIn (asked_by call) (subcommand_rows_of m))
+    → IfSome result (λ call. IsSaid (value_of_call call) name rows) → IfSome result (λ call. IsSaidIn (value_of_call call) (subcommand_rows_of m))
 said_in m name rows None named matched is = is
 said_in m name rows (Some call) named matched is =
-    said_parts (out-ArgMatches m).subcommand (λ b. (out-SubCommand (box_value b)).name.now) (λ b. rows_of (found_of (out-SubCommand (box_value b)).matches)) (asked_by call) name rows named matched is
+    said_parts (out-ArgMatches m).subcommand (λ b. (out-SubCommand (box_value b)).name.now) (λ b. rows_of (found_of (out-SubCommand (box_value b)).matches)) (value_of_call call) name rows named matched is
 
 pub said_of_none : (m : ArgMatches) → None ≡ subcommand_name_of m → IsSaidIn play (subcommand_rows_of m)
 said_of_none m none = rw (none_in m none) refl
@@ -217,7 +217,7 @@ free : is_simple_and_free desk_app ≡ true
 unfolding clap_on_literals
 free = refl
 
-pub said_by : (a : App) (words : List Text) (m : ArgMatches) (asked : Asked) → HasMatchesOf a words m → (is_simple_and_free a ≡ true → fault_of a words ≡ []) → a ≡ desk_app
+pub said_by : (a : App) (words : List Text) (m : ArgMatches) (asked : CallValue) → HasMatchesOf a words m → (is_simple_and_free a ≡ true → fault_of a words ≡ []) → a ≡ desk_app
     → IsSaidIn asked (subcommand_rows_of m) → IsSaidBy asked words
 said_by a words m asked has taken is said =
     let same : subcommand_rows_of m ≡ subcommand_of desk_app words = (has (ap is_simple is ∙ simple)).1 ∙ ap (λ b. subcommand_of b words) is in

@@ -5,13 +5,13 @@ use Rattle.desk.specs.IsinAnswer.{IsIsinAnswer}
 use Rattle.desk.specs.PlayAnswer.{IsPlayAnswer}
 use Rattle.desk.specs.ReadAnswer.{IsReadAnswer}
 use Rattle.desk.specs.Status.{failure_line}
-use Rattle.desk.specs.Words.{Asked, isin, read, play}
+use Rattle.desk.specs.Words.{CallValue, isin, read, play}
 use Rattle.desk.specs.declared.status.Failure.TheVariants.{Memory}
 use Rattle.desk.specs.declared.status.Status.{Status}
 use Rattle.desk.specs.declared.status.Status.TheVariants as exit
 
 -- what was told, where these bytes came, if that is known, and what the writer held before and after
-abbrev pub IsAnswer : Asked → Option (List ℕ) → Status → Option (List ℕ) → Option (List ℕ) → Type 0
+abbrev pub IsAnswer : CallValue → Option (List ℕ) → Status → Option (List ℕ) → Option (List ℕ) → Type 0
 IsAnswer (isin code) given status before after = IsIsinAnswer code status (Appends before after)
 IsAnswer (read mt) given status before after = IfSome given (λ input. IsReadAnswer mt input status (Appends before after))
 IsAnswer play given status before after = (input : List ℕ) × IfSome given (λ known. known ≡ input) × IsPlayAnswer input status before after

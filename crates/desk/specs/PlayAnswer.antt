@@ -15,14 +15,14 @@ use Rattle.desk.specs.declared.status.Status.{Status}
 use Rattle.desk.specs.declared.status.Status.TheVariants as exit
 
 -- a desk in memory has no other fault than want of memory
-abbrev pub IsInMemory : Result Reply Fault → Type 0
-IsInMemory (Ok reply) = Unit {0}
-IsInMemory (Err fault) = fault ≡ desk_fault.Memory
+abbrev pub IsReplyOrMemory : Result Reply Fault → Type 0
+IsReplyOrMemory (Ok reply) = Unit {0}
+IsReplyOrMemory (Err fault) = fault ≡ desk_fault.Memory
 
 -- The whole script, of at most 16,777,216 bytes, was played on a desk of no history and its answers were written, with
 -- the status done; or a failure is told alone, as a fault. A desk in memory is never closed.
 pub data IsPlayAnswer (input : List ℕ) (status : Status) (before after : Option (List ℕ)) : Type 0 where
   told_answers : (items : List Item) (answers : List (Result Reply Fault)) (last : Books) → length input ≤ 16_777_216 → Script input items
-      → Run 999_999_999 false no_books (asked_in items) answers false last → All IsInMemory answers → Appends before after (answers_text items answers) → status ≡ exit.Done → IsPlayAnswer input status before after
+      → Run 999_999_999 false no_books (asked_in items) answers false last → All IsReplyOrMemory answers → Appends before after (answers_text items answers) → status ≡ exit.Done → IsPlayAnswer input status before after
   told_memory : status ≡ exit.Fault → Appends before after (failure_line Memory ++ 10 ∷ []) → IsPlayAnswer input status before after
   told_input : status ≡ exit.Fault → Appends before after (failure_line Input ++ 10 ∷ []) → IsPlayAnswer input status before after

@@ -1,5 +1,5 @@
 -- What `desk read` answers.
-use Rattle.std.specs.Prelude.{◌≡◌, ℕ, ◌<◌, List, [], ◌∷◌, ◌++◌, length, Ok, Err}
+use Rattle.std.specs.Prelude.{◌≡◌, ℕ, List, [], ◌∷◌, ◌++◌, Ok, Err}
 use Rattle.desk_msg.specs.declared.mt.Mt.{Mt}
 use Rattle.desk_msg.specs.declared.instruction.Message.{Message}
 use Rattle.desk_msg.specs.declared.refusal.TextRefusal.{TextRefusal}
@@ -10,10 +10,6 @@ use Rattle.desk.specs.Status.{failure_line}
 use Rattle.desk.specs.declared.status.Failure.TheVariants.{Memory, Input}
 use Rattle.desk.specs.declared.status.Status.{Status}
 use Rattle.desk.specs.declared.status.Status.TheVariants as exit
-
--- more bytes than a message may have
-abbrev pub IsLonger : List ℕ → Type 0
-IsLonger input = 65536 < length input
 
 -- What was told of the bytes that came for a type: what the message says, with the status done; the one refusal, as
 -- refused; or want of memory, or the reader's failure, as a fault. Each line is ended by a line feed.

@@ -9,15 +9,15 @@ use Rattle.desk.specs.declared.words.Call.{Call}
 use Rattle.desk.specs.declared.words.Call.TheVariants.{Isin, Read, Play}
 
 -- what is asked for: whether a code is an ISIN, what a message of a type says, or a script's answers
-pub data Asked : Type 0 where
-  isin : (code : List ℕ) → Asked
-  read : (mt : Mt) → Asked
-  play : Asked
+pub data CallValue : Type 0 where
+  isin : (code : List ℕ) → CallValue
+  read : (mt : Mt) → CallValue
+  play : CallValue
 
-abbrev pub asked_by : Call → Asked
-asked_by (Isin code) = isin code.now
-asked_by (Read mt) = read mt
-asked_by Play = play
+abbrev pub value_of_call : Call → CallValue
+value_of_call (Isin code) = isin code.now
+value_of_call (Read mt) = read mt
+value_of_call Play = play
 
 -- a message that is read is an instruction
 abbrev pub IsReadable : Call → Type 0
@@ -26,19 +26,19 @@ IsReadable (Read mt) = is_instruction mt ≡ true
 IsReadable Play = Unit {0}
 
 -- the words behind the program's name that ask for it
-abbrev pub words_for : Asked → List (List ℕ)
+abbrev pub words_for : CallValue → List (List ℕ)
 words_for (isin code) = codes "isin" ∷ code ∷ []
 words_for (read mt) = codes "read" ∷ digits_of_type mt ∷ []
 words_for play = codes "play" ∷ []
 
 -- the code does not begin as an option, by a hyphen, and the type is one of an instruction
-abbrev pub IsAskable : Asked → Type 0
+abbrev pub IsAskable : CallValue → Type 0
 IsAskable (isin code) = slice_index code 0 ≢ 45
 IsAskable (read mt) = is_instruction mt ≡ true
 IsAskable play = Unit {0}
 
 -- what a subcommand's name and matches ask for, spelled out as `words_for` spells it
-abbrev pub IsSpelledOut : Asked → List ℕ → List Row → Type 0
+abbrev pub IsSpelledOut : CallValue → List ℕ → List Row → Type 0
 IsSpelledOut (isin code) name rows = (name ≡ codes "isin") × (first_of (codes "code") rows ≡ Some code)
 IsSpelledOut (read mt) name rows = (name ≡ codes "read") × (one_of (codes "mt") rows ≡ Some (digits_of_type mt)) × (is_instruction mt ≡ true)
 IsSpelledOut play name rows = name ≡ codes "play"
@@ -67,15 +67,15 @@ abbrev pub IsTypeText : Mt → List ℕ → Type 0
 IsTypeText mt text = IsNumeral 10 (without_leading_plus text) × (digits_value 10 (without_leading_plus text) ≡ number_of_type mt)
 
 -- what a subcommand's name and matches say, however a type is spelled
-abbrev pub IsSaid : Asked → List ℕ → List Row → Type 0
+abbrev pub IsSaid : CallValue → List ℕ → List Row → Type 0
 IsSaid (isin code) name rows = (name ≡ codes "isin") × (first_of (codes "code") rows ≡ Some code)
 IsSaid (read mt) name rows = (name ≡ codes "read") × IsSomeAnd (one_of (codes "mt") rows) (IsTypeText mt)
 IsSaid play name rows = name ≡ codes "play"
 
 -- what is said where this subcommand was found; with none, to play
-abbrev pub IsSaidIn : Asked → Option (List ℕ × List Row) → Type 0
+abbrev pub IsSaidIn : CallValue → Option (List ℕ × List Row) → Type 0
 IsSaidIn asked found = MatchOption found (asked ≡ play) (λ f. IsSaid asked f.0 f.1)
 
 -- the parser finds no fault in the words, and their subcommand says this
-abbrev pub IsSaidBy : Asked → List (List ℕ) → Type 0
+abbrev pub IsSaidBy : CallValue → List (List ℕ) → Type 0
 IsSaidBy asked words = (fault_of desk_app words ≡ []) × IsSaidIn asked (subcommand_of desk_app words)

@@ -10,8 +10,6 @@ mod play;
 mod read;
 mod run;
 mod status;
-#[cfg(test)]
-mod tests;
 mod words;
 
 use std::process::ExitCode;

@@ -29,7 +29,7 @@ pub fn answer_read<R: Read, W: Write>(
     match read_whole(alloc, reader, LONGEST_TEXT) {
         Ok(text) => answer_text(alloc, mt, text.as_slice(), writer),
         Err(InputFault::TooLong) => tell_refusal(alloc, TextRefusal::TooLong, writer),
-        Err(InputFault::Reader) => tell_failure(Failure::Input, writer),
+        Err(InputFault::ReadFailed) => tell_failure(Failure::Input, writer),
         Err(InputFault::Memory) => tell_failure(Failure::Memory, writer),
     }
 }

@@ -4,7 +4,7 @@ ghost use Rattle.clap.specs.Words.{app_of, found_of, kind_of, one_text, rows_of,
 ghost use Rattle.clap.specs.declared.builder.command.Command.TheViews.{out-Command};
 ghost use Rattle.desk_msg.specs.MessageType.{digits_of_type, is_instruction, number_of_type};
 ghost use Rattle.desk_msg.specs.declared.mt.Mt.{Mt};
-ghost use Rattle.desk.specs.Words.{Asked, IsAskable, IsSpelledOut, IsReadable, IsSaid, IsSaidBy, IsSaidIn, IsTypeText, asked_by, desk_app, isin_app, play_app, read_app, words_for};
+ghost use Rattle.desk.specs.Words.{CallValue, IsAskable, IsSpelledOut, IsReadable, IsSaid, IsSaidBy, IsSaidIn, IsTypeText, value_of_call, desk_app, isin_app, play_app, read_app, words_for};
 
 use clap::error::{Error, ErrorKind};
 use clap::{Arg, ArgMatches, Command, value_parser};
@@ -35,11 +35,11 @@ Exit status:
 /// subcommand, or want of memory.
 pub fn call_of<'a, S: AsStr>(alloc: Global, words: &'a [S]) -> Result<Call<'a>, Error>
     ensures readable { IfOk result IsReadable }
-    ensures said { IfOk result (λ call. IsSaidBy (asked_by call) (map S.text words.entry.now)) }
-    ensures asked { (program : List ℕ) (asked : Asked) → IsAskable asked → map S.text words.entry.now ≡ program ∷ words_for asked
-        → MatchResult result (λ call. asked_by call ≡ asked) (λ error. kind_of error ≡ ErrorKind.OutOfMemory) }
+    ensures said { IfOk result (λ call. IsSaidBy (value_of_call call) (map S.text words.entry.now)) }
+    ensures asked { (program : List ℕ) (asked : CallValue) → IsAskable asked → map S.text words.entry.now ≡ program ∷ words_for asked
+        → MatchResult result (λ call. value_of_call call ≡ asked) (λ error. kind_of error ≡ ErrorKind.OutOfMemory) }
     ensures nothing { (program : List ℕ) → map S.text words.entry.now ≡ program ∷ []
-        → MatchResult result (λ call. asked_by call ≡ Asked.play) (λ error. kind_of error ≡ ErrorKind.OutOfMemory) }
+        → MatchResult result (λ call. value_of_call call ≡ CallValue.play) (λ error. kind_of error ≡ ErrorKind.OutOfMemory) }
 {
     let matches = desk(alloc)?.try_get_matches_from(words)?;
     match call_in(&matches) {
@@ -59,10 +59,10 @@ pub fn usage_error(alloc: Global, message: &str) -> Result<Error, AllocError>
 /// What the matches ask for; no subcommand asks for a script's answers.
 fn call_in<'a>(matches: &ArgMatches<'a>) -> Option<Call<'a>>
     ensures readable { IfSome result IsReadable }
-    ensures said { IfSome result (λ call. IsSaidIn (asked_by call) (subcommand_rows_of matches.now)) }
-    ensures asked { (asked : Asked) → IsSomeAnd (subcommand_rows_of matches.now) (λ found. IsSpelledOut asked found.0 found.1)
-        → IsSomeAnd result (λ call. asked_by call ≡ asked) }
-    ensures nothing { subcommand_rows_of matches.now ≡ None → IsSomeAnd result (λ call. asked_by call ≡ Asked.play) }
+    ensures said { IfSome result (λ call. IsSaidIn (value_of_call call) (subcommand_rows_of matches.now)) }
+    ensures asked { (asked : CallValue) → IsSomeAnd (subcommand_rows_of matches.now) (λ found. IsSpelledOut asked found.0 found.1)
+        → IsSomeAnd result (λ call. value_of_call call ≡ asked) }
+    ensures nothing { subcommand_rows_of matches.now ≡ None → IsSomeAnd result (λ call. value_of_call call ≡ CallValue.play) }
 {
     match matches.subcommand() {
         Some((name, inner)) => subcommand_call(name, inner),
@@ -73,9 +73,9 @@ fn call_in<'a>(matches: &ArgMatches<'a>) -> Option<Call<'a>>
 /// What a subcommand with these matches asks for.
 fn subcommand_call<'a>(name: &str, inner: &ArgMatches<'a>) -> Option<Call<'a>>
     ensures readable { IfSome result IsReadable }
-    ensures said { IfSome result (λ call. IsSaid (asked_by call) name.now (rows_of (found_of inner.now))) }
-    ensures asked { (asked : Asked) → IsSpelledOut asked name.now (rows_of (found_of inner.now))
-        → IsSomeAnd result (λ call. asked_by call ≡ asked) }
+    ensures said { IfSome result (λ call. IsSaid (value_of_call call) name.now (rows_of (found_of inner.now))) }
+    ensures asked { (asked : CallValue) → IsSpelledOut asked name.now (rows_of (found_of inner.now))
+        → IsSomeAnd result (λ call. value_of_call call ≡ asked) }
 {
     match name {
         "isin" => Some(Call::Isin(inner.get_str("code")?)),

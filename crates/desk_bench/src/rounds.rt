@@ -12,12 +12,12 @@ use std::alloc::Global;
 /// The entries of a round.
 const ROUND: u32 = 4;
 
-/// A run settles the pairs of so many rounds, and one those of the last.
+/// The last entry of every so many rounds, and of the last whole round, is a run.
 const ROUNDS: u32 = 100;
 
 /// Takes so many entries into a new register: the opening, and rounds of four. In a round a unit is issued,
-/// delivered and received, and then one is issued to the receiver, or a run settles the pairs of the rounds
-/// before it. The number of pairs that were settled.
+/// delivered and received, and then one is issued to the receiver, or a run settles all pairs made so far. The number
+/// of pairs that were settled.
 pub fn pairs_settled(alloc: Global, count: u32) -> Result<u64, Failure> {
     let market = Market::new()?;
     let day = day(b"20240229")?;

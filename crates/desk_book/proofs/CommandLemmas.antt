@@ -6,7 +6,7 @@ use Rattle.serde_json.proofs.OnLiterals.{serde_json_on_literals}
 use Rattle.serde_json.specs.Events.{members_len}
 use Rattle.serde_json.specs.Find.{get, get_member, as_object, as_str, as_number, as_u64}
 use Rattle.desk_book.specs.Command.{text_at, number_at, text_member, number_member, participant_object, account_object, security_object, movement_object, run_object}
-use Rattle.desk_book.specs.Command.{IsCommand, IsKnownCommand}
+use Rattle.desk_book.specs.Command.{IsCommand, IsSupportedCommand}
 use Rattle.desk_msg.specs.declared.instruction.Kind.{Kind}
 use Rattle.desk_rules.specs.declared.entry.Movement.{Movement}
 use Rattle.desk_rules.specs.declared.entry.Entry.{Entry}
@@ -106,7 +106,7 @@ issue_is d reference account isin quantity ordered long op has_ref has_account h
 -- a value whose `op` is this is no command of another operation
 
 pub only_participant : (d : Data) → text_at (codes "op") d ≡ Some (codes "participant") → ((reference bic : List ℕ) → ¬ IsCommand d (Participant reference bic))
-    → (entry : Entry) → ¬ IsKnownCommand d entry
+    → (entry : Entry) → ¬ IsSupportedCommand d entry
 only_participant d op none (Participant reference bic) c = none reference bic c.spells
 only_participant d op none (Account reference bic account) c = let h = c.spells in let other : Some (codes "account") ≡ Some (codes "participant") = sym (ap (text_at (codes "op")) h.4) ∙ op in cc
 only_participant d op none (Security reference isin kind) c = let h = c.spells in let other : Some (codes "security") ≡ Some (codes "participant") = sym (ap (text_at (codes "op")) h.2) ∙ op in cc
@@ -114,12 +114,12 @@ only_participant d op none (Issue movement) c = let h = c.spells in let other : 
 only_participant d op none (Redeem movement) c = let bad = c.supported in cc
 only_participant d op none (PayIn payment) c = let bad = c.supported in cc
 only_participant d op none (PayOut payment) c = let bad = c.supported in cc
-only_participant d op none (Instruct sender instruction) c = let bad = c.supported in cc
+only_participant d op none (Instruct sender instruction) c = c.spells
 only_participant d op none (Cancel sender order) c = let bad = c.supported in cc
 only_participant d op none (Run reference day) c = let h = c.spells in let other : Some (codes "run") ≡ Some (codes "participant") = sym (ap (text_at (codes "op")) h.2) ∙ op in cc
 
 pub only_account : (d : Data) → text_at (codes "op") d ≡ Some (codes "account") → ((reference bic account : List ℕ) → ¬ IsCommand d (Account reference bic account))
-    → (entry : Entry) → ¬ IsKnownCommand d entry
+    → (entry : Entry) → ¬ IsSupportedCommand d entry
 only_account d op none (Participant reference bic) c = let h = c.spells in let other : Some (codes "participant") ≡ Some (codes "account") = sym (ap (text_at (codes "op")) h.3) ∙ op in cc
 only_account d op none (Account reference bic account) c = none reference bic account c.spells
 only_account d op none (Security reference isin kind) c = let h = c.spells in let other : Some (codes "security") ≡ Some (codes "account") = sym (ap (text_at (codes "op")) h.2) ∙ op in cc
@@ -127,12 +127,12 @@ only_account d op none (Issue movement) c = let h = c.spells in let other : Some
 only_account d op none (Redeem movement) c = let bad = c.supported in cc
 only_account d op none (PayIn payment) c = let bad = c.supported in cc
 only_account d op none (PayOut payment) c = let bad = c.supported in cc
-only_account d op none (Instruct sender instruction) c = let bad = c.supported in cc
+only_account d op none (Instruct sender instruction) c = c.spells
 only_account d op none (Cancel sender order) c = let bad = c.supported in cc
 only_account d op none (Run reference day) c = let h = c.spells in let other : Some (codes "run") ≡ Some (codes "account") = sym (ap (text_at (codes "op")) h.2) ∙ op in cc
 
 pub only_security : (d : Data) → text_at (codes "op") d ≡ Some (codes "security") → ((reference isin : List ℕ) (kind : Kind) → ¬ IsCommand d (Security reference isin kind))
-    → (entry : Entry) → ¬ IsKnownCommand d entry
+    → (entry : Entry) → ¬ IsSupportedCommand d entry
 only_security d op none (Participant reference bic) c = let h = c.spells in let other : Some (codes "participant") ≡ Some (codes "security") = sym (ap (text_at (codes "op")) h.3) ∙ op in cc
 only_security d op none (Account reference bic account) c = let h = c.spells in let other : Some (codes "account") ≡ Some (codes "security") = sym (ap (text_at (codes "op")) h.4) ∙ op in cc
 only_security d op none (Security reference isin kind) c = none reference isin kind c.spells
@@ -140,12 +140,12 @@ only_security d op none (Issue movement) c = let h = c.spells in let other : Som
 only_security d op none (Redeem movement) c = let bad = c.supported in cc
 only_security d op none (PayIn payment) c = let bad = c.supported in cc
 only_security d op none (PayOut payment) c = let bad = c.supported in cc
-only_security d op none (Instruct sender instruction) c = let bad = c.supported in cc
+only_security d op none (Instruct sender instruction) c = c.spells
 only_security d op none (Cancel sender order) c = let bad = c.supported in cc
 only_security d op none (Run reference day) c = let h = c.spells in let other : Some (codes "run") ≡ Some (codes "security") = sym (ap (text_at (codes "op")) h.2) ∙ op in cc
 
 pub only_issue : (d : Data) → text_at (codes "op") d ≡ Some (codes "issue") → ((movement : Movement) → ¬ IsCommand d (Issue movement))
-    → (entry : Entry) → ¬ IsKnownCommand d entry
+    → (entry : Entry) → ¬ IsSupportedCommand d entry
 only_issue d op none (Participant reference bic) c = let h = c.spells in let other : Some (codes "participant") ≡ Some (codes "issue") = sym (ap (text_at (codes "op")) h.3) ∙ op in cc
 only_issue d op none (Account reference bic account) c = let h = c.spells in let other : Some (codes "account") ≡ Some (codes "issue") = sym (ap (text_at (codes "op")) h.4) ∙ op in cc
 only_issue d op none (Security reference isin kind) c = let h = c.spells in let other : Some (codes "security") ≡ Some (codes "issue") = sym (ap (text_at (codes "op")) h.2) ∙ op in cc
@@ -153,12 +153,12 @@ only_issue d op none (Issue movement) c = none movement c.spells
 only_issue d op none (Redeem movement) c = let bad = c.supported in cc
 only_issue d op none (PayIn payment) c = let bad = c.supported in cc
 only_issue d op none (PayOut payment) c = let bad = c.supported in cc
-only_issue d op none (Instruct sender instruction) c = let bad = c.supported in cc
+only_issue d op none (Instruct sender instruction) c = c.spells
 only_issue d op none (Cancel sender order) c = let bad = c.supported in cc
 only_issue d op none (Run reference day) c = let h = c.spells in let other : Some (codes "run") ≡ Some (codes "issue") = sym (ap (text_at (codes "op")) h.2) ∙ op in cc
 
 pub only_run : (d : Data) → text_at (codes "op") d ≡ Some (codes "run") → ((reference day : List ℕ) → ¬ IsCommand d (Run reference day))
-    → (entry : Entry) → ¬ IsKnownCommand d entry
+    → (entry : Entry) → ¬ IsSupportedCommand d entry
 only_run d op none (Participant reference bic) c = let h = c.spells in let other : Some (codes "participant") ≡ Some (codes "run") = sym (ap (text_at (codes "op")) h.3) ∙ op in cc
 only_run d op none (Account reference bic account) c = let h = c.spells in let other : Some (codes "account") ≡ Some (codes "run") = sym (ap (text_at (codes "op")) h.4) ∙ op in cc
 only_run d op none (Security reference isin kind) c = let h = c.spells in let other : Some (codes "security") ≡ Some (codes "run") = sym (ap (text_at (codes "op")) h.2) ∙ op in cc
@@ -166,7 +166,7 @@ only_run d op none (Issue movement) c = let h = c.spells in let other : Some (co
 only_run d op none (Redeem movement) c = let bad = c.supported in cc
 only_run d op none (PayIn payment) c = let bad = c.supported in cc
 only_run d op none (PayOut payment) c = let bad = c.supported in cc
-only_run d op none (Instruct sender instruction) c = let bad = c.supported in cc
+only_run d op none (Instruct sender instruction) c = c.spells
 only_run d op none (Cancel sender order) c = let bad = c.supported in cc
 only_run d op none (Run reference day) c = none reference day c.spells
 

@@ -13,13 +13,13 @@ use Rattle.desk_codes.proofs.BicLemmas.{shape_codes, same_bytes}
 use Rattle.desk_msg.specs.declared.mt.Mt.{Mt}
 use Rattle.desk_msg.specs.MessageType.{digits_of_type, is_instruction, is_against_payment}
 use Rattle.desk_book.specs.Asked.{Asked, message, operator, status, sent, holdings, sums}
-use Rattle.desk_book.specs.Forms.{Names, IsLineOf, Asks}
+use Rattle.desk_book.specs.Forms.{SpellsBic, IsLineOf, Asks}
 
 abbrev pub NoSpace : List ℕ → Type 0
 NoSpace text = All (λ c. c ≢ 32) text
 
 -- a BIC has no space
-pub bic_no_space : (bic party : List ℕ) → Names bic party → NoSpace bic
+pub bic_no_space : (bic party : List ℕ) → SpellsBic bic party → NoSpace bic
 bic_no_space bic party n = All-weaker IsCodeChar (λ c. c ≢ 32) (λ c d e. ⊎_elim (λ h. omega arith) (λ h. omega arith) d) bic (shape_codes bic n.2)
 
 -- a text splits at its first space in one way
@@ -39,7 +39,7 @@ none_to_split (x ∷ text) [] p a e = All-head (λ c. c ≢ 32) x text a cc
 none_to_split (x ∷ text) (y ∷ w) p a e = none_to_split text w p (All-tail (λ c. c ≢ 32) x text a) cc
 
 -- what is no BIC names nobody
-pub unread : (bic party : List ℕ) (fault : CodeFault) → ReadsBic bic (Err fault) → Names bic party → ⊥
+pub unread : (bic party : List ℕ) (fault : CodeFault) → ReadsBic bic (Err fault) → SpellsBic bic party → ⊥
 unread bic party Length h n = h n.1
 unread bic party Shape h n = h.1 n.2
 unread bic party Prefix h n = h

@@ -16,7 +16,7 @@ use Rattle.desk_rules.specs.Verdict.{or_else, kind_by, kind_of}
 use Rattle.desk_rules.proofs.Decided.{In, filter-In}
 use Rattle.desk_rules.proofs.Existence.{filter_fewer}
 use Rattle.desk_register.specs.Content.{Content, history_of}
-use Rattle.desk_register.specs.Looked.{IsLess, IsAboveText, IsListedAbove, IsSecurityAfter, security_by}
+use Rattle.desk_register.specs.Looked.{IsLess, IsAboveText, IsRegisteredAbove, IsSecurityAfter, security_by}
 use Rattle.desk_register.proofs.QuantityLemmas.{same_bytes}
 use Rattle.desk_book.specs.declared.total.SecurityTotal.{SecurityTotal}
 use Rattle.desk_book.specs.Totals.{AreTotals, IsTotal}
@@ -108,7 +108,7 @@ named_further last isin None up e = cc
 named_further last isin (Some i) up e = above_yes last i (above_then last isin i up (less_from (slice_cmp nat_cmp isin i) e))
 
 -- with each security that is gathered, fewer are above
-fewer : (history : List Entry) (last : Option (List ℕ)) (isin : List ℕ) → IsListedAbove history last isin → left_above history (Some isin) < left_above history last
+fewer : (history : List Entry) (last : Option (List ℕ)) (isin : List ℕ) → IsRegisteredAbove history last isin → left_above history (Some isin) < left_above history last
 fewer history last isin listed =
     let r = registered history isin listed.0 in
     filter_fewer (registers_above last) (registers_above (Some isin)) history r.entry
@@ -120,7 +120,7 @@ some_left : {X : Type 0} (xs : List X) (x : X) → In xs x → 0 < length xs
 some_left [] x i = absurd i
 some_left (y ∷ ys) x i = omega arith
 
-listed_is_left : (history : List Entry) (last : Option (List ℕ)) (isin : List ℕ) → IsListedAbove history last isin → 0 < left_above history last
+listed_is_left : (history : List Entry) (last : Option (List ℕ)) (isin : List ℕ) → IsRegisteredAbove history last isin → 0 < left_above history last
 listed_is_left history last isin listed =
     let r = registered history isin listed.0 in
     some_left (filter (registers_above last) history) r.entry
@@ -180,7 +180,7 @@ module _ (content : Content) (last : Option (List ℕ)) (gathered : ℕ) (totals
       left = (let less = fewer (history_of content) last isin after.0 in let had = g.left in omega arith);
     }
 
-  pub gathered_all : ((isin : List ℕ) → IsListedAbove (history_of content) last isin → ⊥) → AreTotals content totals
+  pub gathered_all : ((isin : List ℕ) → IsRegisteredAbove (history_of content) last isin → ⊥) → AreTotals content totals
   gathered_all none = record {
     each = g.each;
     all = λ isin listed. elim (cases_Bool (is_above last isin)) [

@@ -1,5 +1,5 @@
 -- Which bytes are an operator's command.
-use Rattle.std.specs.Prelude.{◌≡◌, ℕ, ◌≤◌, Bool, true, false, List, length, Option, Some, codes, IsUtf8, option_and_then}
+use Rattle.std.specs.Prelude.{◌≡◌, ℕ, ◌≤◌, true, List, length, Option, Some, codes, IsUtf8, option_and_then}
 use Rattle.serde_json.specs.Data.{Data, object, Members, no_members, member, string, number, unsigned}
 use Rattle.serde_json.specs.Find.{get, as_str, as_number, as_u64}
 use Rattle.serde_json.specs.Read.{read}
@@ -12,7 +12,8 @@ use Rattle.desk_msg.specs.Profile.{code_of_kind}
 use Rattle.desk_rules.specs.declared.entry.Movement.{Movement}
 use Rattle.desk_rules.specs.declared.entry.Entry.{Entry}
 use Rattle.desk_rules.specs.declared.entry.Entry.TheVariants.{Participant, Account, Security, Issue, Redeem, PayIn, PayOut, Instruct, Cancel, Run}
-use Rattle.desk_book.specs.Forms.{Names}
+use Rattle.desk_register.specs.Decision.{is_supported}
+use Rattle.desk_book.specs.Forms.{SpellsBic}
 
 -- a member that is a text, or a whole number
 abbrev pub text_member : List ℕ → List ℕ → Members → Members
@@ -55,34 +56,21 @@ IsMovement m = IsReference m.reference × IsAccount m.account × IsIsin m.isin
 
 -- The value spells the entry, one equation an operation. A head office's BIC may be written with its branch XXX.
 abbrev pub IsCommand : Data → Entry → Type 0
-IsCommand d (Participant reference bic) = (name : List ℕ) × Names name bic × IsReference reference × (d ≡ participant_object reference name)
-IsCommand d (Account reference bic account) = (name : List ℕ) × Names name bic × IsReference reference × IsAccount account × (d ≡ account_object reference name account)
+IsCommand d (Participant reference bic) = (name : List ℕ) × SpellsBic name bic × IsReference reference × (d ≡ participant_object reference name)
+IsCommand d (Account reference bic account) = (name : List ℕ) × SpellsBic name bic × IsReference reference × IsAccount account × (d ≡ account_object reference name account)
 IsCommand d (Security reference isin kind) = IsReference reference × IsIsin isin × (d ≡ security_object reference isin (code_of_kind kind))
 IsCommand d (Issue m) = IsMovement m × (d ≡ movement_object (codes "issue") m.reference m.account m.isin m.quantity)
 IsCommand d (Redeem m) = IsMovement m × (d ≡ movement_object (codes "redeem") m.reference m.account m.isin m.quantity)
-IsCommand d (PayIn p) = (name : List ℕ) × Names name p.bic × IsReference p.reference × (d ≡ payment_object (codes "payin") p.reference name (letters_of p.ccy) p.amount)
-IsCommand d (PayOut p) = (name : List ℕ) × Names name p.bic × IsReference p.reference × (d ≡ payment_object (codes "payout") p.reference name (letters_of p.ccy) p.amount)
+IsCommand d (PayIn p) = (name : List ℕ) × SpellsBic name p.bic × IsReference p.reference × (d ≡ payment_object (codes "payin") p.reference name (letters_of p.ccy) p.amount)
+IsCommand d (PayOut p) = (name : List ℕ) × SpellsBic name p.bic × IsReference p.reference × (d ≡ payment_object (codes "payout") p.reference name (letters_of p.ccy) p.amount)
 IsCommand d (Instruct sender instruction) = ⊥
 IsCommand d (Cancel sender order) = ⊥
 IsCommand d (Run reference day) = IsReference reference × IsDay day × (d ≡ run_object reference day)
 
--- The operations that the desk knows today.
-abbrev pub is_supported_command : Entry → Bool
-is_supported_command (Participant reference bic) = true
-is_supported_command (Account reference bic account) = true
-is_supported_command (Security reference isin kind) = true
-is_supported_command (Issue movement) = true
-is_supported_command (Redeem movement) = false
-is_supported_command (PayIn payment) = false
-is_supported_command (PayOut payment) = false
-is_supported_command (Instruct sender instruction) = false
-is_supported_command (Cancel sender order) = false
-is_supported_command (Run reference day) = true
-
--- a value is a command that the desk knows
-pub record IsKnownCommand (d : Data) (entry : Entry) : Type 0 where
+-- a value is a command that the desk takes today
+pub record IsSupportedCommand (d : Data) (entry : Entry) : Type 0 where
   pub spells : IsCommand d entry
-  pub supported : is_supported_command entry ≡ true
+  pub supported : is_supported entry ≡ true
 
 -- the bytes are a command's: JSON whose value spells it
 pub record Spells (bytes : List ℕ) (entry : Entry) : Type 0 where
@@ -90,7 +78,7 @@ pub record Spells (bytes : List ℕ) (entry : Entry) : Type 0 where
   pub utf8 : IsUtf8 bytes
   pub value : Data
   pub reads : read bytes ≡ Some value
-  pub command : IsKnownCommand value entry
+  pub command : IsSupportedCommand value entry
 
 -- the text, and the whole number, at a name
 abbrev pub text_at : List ℕ → Data → Option (List ℕ)

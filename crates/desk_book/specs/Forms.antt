@@ -7,23 +7,24 @@ use Rattle.desk_msg.specs.MessageType.{digits_of_type, is_instruction, is_agains
 use Rattle.desk_book.specs.Asked.{Asked, message, operator, status, sent, holdings, sums}
 
 -- the characters are a BIC of the party
-abbrev pub Names : List ℕ → List ℕ → Type 0
-Names bic party = ReadsBic bic (Ok party)
+abbrev pub SpellsBic : List ℕ → List ℕ → Type 0
+SpellsBic bic party = ReadsBic bic (Ok party)
 
--- 1 to 9 digits that write a number
+-- 1 to 9 digits that write a number (for requests to come)
 pub record IsCount (digits : List ℕ) (number : ℕ) : Type 0 where
   pub some : 1 ≤ length digits
   pub short : length digits ≤ 9
   pub all : All IsDigit digits
   pub is : number ≡ number_of digits
 
--- The line that asks a request, one equation a form. Single spaces part the words.
+-- The line that asks a request, one equation a form. Single spaces part the words. No line asks for a status, a sent
+-- message or holdings yet: `Asks` leaves these out.
 abbrev pub IsLineOf : Asked → List ℕ → Type 0
-IsLineOf (message sender mt text) line = (bic : List ℕ) × Names bic sender × (is_instruction mt ≡ true) × (line ≡ codes "in " ++ (bic ++ 32 ∷ digits_of_type mt))
+IsLineOf (message sender mt text) line = (bic : List ℕ) × SpellsBic bic sender × (is_instruction mt ≡ true) × (line ≡ codes "in " ++ (bic ++ 32 ∷ digits_of_type mt))
 IsLineOf (operator text) line = line ≡ codes "op"
-IsLineOf (status sender reference) line = (bic : List ℕ) × Names bic sender × (line ≡ codes "status " ++ (bic ++ 32 ∷ reference))
-IsLineOf (sent receiver number) line = (bic digits : List ℕ) × Names bic receiver × IsCount digits number × (line ≡ codes "sent " ++ (bic ++ 32 ∷ digits))
-IsLineOf (holdings owner account) line = (bic : List ℕ) × Names bic owner × (line ≡ codes "holdings " ++ (bic ++ 32 ∷ account))
+IsLineOf (status sender reference) line = (bic : List ℕ) × SpellsBic bic sender × (line ≡ codes "status " ++ (bic ++ 32 ∷ reference))
+IsLineOf (sent receiver number) line = (bic digits : List ℕ) × SpellsBic bic receiver × IsCount digits number × (line ≡ codes "sent " ++ (bic ++ 32 ∷ digits))
+IsLineOf (holdings owner account) line = (bic : List ℕ) × SpellsBic bic owner × (line ≡ codes "holdings " ++ (bic ++ 32 ∷ account))
 IsLineOf sums line = line ≡ codes "sums"
 
 -- the body of a request, of those that have one

@@ -6,7 +6,7 @@ use Rattle.desk_rules.specs.Verdict.{Books}
 use Rattle.desk_register.specs.View.{View}
 use Rattle.desk_book.specs.declared.fault.Fault.{Fault}
 use Rattle.desk_book.specs.declared.fault.InputFault.{InputFault}
-use Rattle.desk_book.specs.declared.fault.InputFault.TheVariants.{Memory, Reader, TooLong}
+use Rattle.desk_book.specs.declared.fault.InputFault.TheVariants.{Memory, ReadFailed, TooLong}
 use Rattle.desk_book.specs.declared.fault.PlayFault.{PlayFault}
 use Rattle.desk_book.specs.declared.fault.PlayFault.TheVariants as plays
 use Rattle.desk_book.specs.Answered.{Run, says_storage}
@@ -18,7 +18,7 @@ use Rattle.desk_book.specs.Shown.{shown, shown_fault, shown_bad_line}
 -- why a script that could not be read was not played
 abbrev pub unplayed : InputFault → PlayFault
 unplayed Memory = plays.Memory
-unplayed Reader = plays.ReadFailed
+unplayed ReadFailed = plays.ReadFailed
 unplayed TooLong = plays.TooLong
 
 -- what is written for an answer

@@ -5,7 +5,7 @@ ghost use Rattle.serde_json.specs.Find.{as_object};
 ghost use Rattle.serde_json.specs.View.{view};
 ghost use Rattle.desk_rules.specs.declared.entry.Entry.{Entry as EntryValue};
 ghost use Rattle.desk_rules.specs.declared.entry.Entry.TheVariants.{Participant as ParticipantValue};
-ghost use Rattle.desk_book.specs.Command.{Spells, IsCommand, IsKnownCommand, is_supported_command, text_at, number_at};
+ghost use Rattle.desk_book.specs.Command.{Spells, IsCommand, IsSupportedCommand, text_at, number_at};
 ghost use Rattle.desk_book.specs.Members.{IsOrderedObject};
 
 use crate::member::{member_count, text};
@@ -36,8 +36,8 @@ pub fn read_command(alloc: Global, bytes: &[u8]) -> Result<Option<Entry>, AllocE
 
 /// The command that a value spells.
 fn command_of(value: &Value) -> Option<Entry>
-    ensures read { IfSome result (λ entry. IsKnownCommand (view value.now) entry) }
-    ensures refused { IfNone result ((entry : EntryValue) → ¬ IsKnownCommand (view value.now) entry) }
+    ensures read { IfSome result (λ entry. IsSupportedCommand (view value.now) entry) }
+    ensures refused { IfNone result ((entry : EntryValue) → ¬ IsSupportedCommand (view value.now) entry) }
 {
     match text(value, "op")? {
         "participant" => participant(value),

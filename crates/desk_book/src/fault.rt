@@ -49,7 +49,7 @@ pub enum InputFault {
     Memory,
     /// The reader failed. An interrupted read counts as failed.
     #[error("reading failed")]
-    Reader,
+    ReadFailed,
     /// The reader has more bytes than the longest text.
     #[error("the text is too long")]
     TooLong,
@@ -80,7 +80,7 @@ impl From<InputFault> for PlayFault {
     fn from(fault: InputFault) -> PlayFault {
         match fault {
             InputFault::Memory => PlayFault::Memory,
-            InputFault::Reader => PlayFault::ReadFailed,
+            InputFault::ReadFailed => PlayFault::ReadFailed,
             InputFault::TooLong => PlayFault::TooLong,
         }
     }

@@ -10,7 +10,7 @@ ghost use Rattle.desk_codes.specs.Reference.{IsReference};
 ghost use Rattle.desk_msg.specs.declared.instruction.Kind.{Kind as KindValue};
 ghost use Rattle.desk_msg.specs.Profile.{code_of_kind};
 ghost use Rattle.desk_book.specs.Command.{text_at, number_at};
-ghost use Rattle.desk_book.specs.Forms.{Names};
+ghost use Rattle.desk_book.specs.Forms.{SpellsBic};
 ghost use Rattle.desk_book.specs.Members.{IsOrderedObject};
 
 use desk_codes::{AccountId, Bic, Day, Isin, Reference};
@@ -53,9 +53,9 @@ pub fn reference_in(value: &Value) -> Option<Reference>
 
 /// The party that a command names.
 pub fn party_in(value: &Value) -> Option<Bic>
-    ensures some { IfSome result (λ bic. (name : List ℕ) × Names name bic
+    ensures some { IfSome result (λ bic. (name : List ℕ) × SpellsBic name bic
         × (text_at (codes "bic") (view value.now) ≡ Some name)) }
-    ensures none { IfNone result ((name bic : List ℕ) → Names name bic
+    ensures none { IfNone result ((name bic : List ℕ) → SpellsBic name bic
         → ¬ (text_at (codes "bic") (view value.now) ≡ Some name)) }
 {
     match Bic::parse(text(value, "bic")?.as_bytes()) {

@@ -4,7 +4,7 @@ ghost use Rattle.serde_json.specs.View.{view};
 ghost use Rattle.desk_msg.specs.declared.instruction.Kind.{Kind};
 ghost use Rattle.desk_rules.specs.declared.entry.Movement.{Movement as MovementValue};
 ghost use Rattle.desk_rules.specs.declared.entry.Entry.TheVariants.{Participant, Account, Security, Issue, Run};
-ghost use Rattle.desk_book.specs.Command.{IsCommand, IsKnownCommand, text_at};
+ghost use Rattle.desk_book.specs.Command.{IsCommand, IsSupportedCommand, text_at};
 
 use crate::member::{
     account_in, day_in, isin_in, kind_in, member_count, party_in, quantity_in, reference_in,
@@ -15,7 +15,7 @@ use serde_json::Value;
 /// A new participant: `op`, `ref`, `bic`.
 pub fn participant(value: &Value) -> Option<Entry>
     requires { text_at (codes "op") (view value.now) ≡ Some (codes "participant") }
-    ensures read { IfSome result (λ entry. IsKnownCommand (view value.now) entry) }
+    ensures read { IfSome result (λ entry. IsSupportedCommand (view value.now) entry) }
     ensures refused { IfNone result ((reference bic : List ℕ)
         → ¬ IsCommand (view value.now) (Participant reference bic)) }
 {
@@ -30,7 +30,7 @@ pub fn participant(value: &Value) -> Option<Entry>
 /// A new account of a participant: `op`, `ref`, `bic`, `account`.
 pub fn account(value: &Value) -> Option<Entry>
     requires { text_at (codes "op") (view value.now) ≡ Some (codes "account") }
-    ensures read { IfSome result (λ entry. IsKnownCommand (view value.now) entry) }
+    ensures read { IfSome result (λ entry. IsSupportedCommand (view value.now) entry) }
     ensures refused { IfNone result ((reference bic account : List ℕ)
         → ¬ IsCommand (view value.now) (Account reference bic account)) }
 {
@@ -50,7 +50,7 @@ pub fn account(value: &Value) -> Option<Entry>
 /// A new security: `op`, `ref`, `isin`, `kind`.
 pub fn security(value: &Value) -> Option<Entry>
     requires { text_at (codes "op") (view value.now) ≡ Some (codes "security") }
-    ensures read { IfSome result (λ entry. IsKnownCommand (view value.now) entry) }
+    ensures read { IfSome result (λ entry. IsSupportedCommand (view value.now) entry) }
     ensures refused { IfNone result ((reference isin : List ℕ) (kind : Kind)
         → ¬ IsCommand (view value.now) (Security reference isin kind)) }
 {
@@ -70,7 +70,7 @@ pub fn security(value: &Value) -> Option<Entry>
 /// A security issued to an account: `op`, `ref`, `account`, `isin`, `quantity`.
 pub fn issue(value: &Value) -> Option<Entry>
     requires { text_at (codes "op") (view value.now) ≡ Some (codes "issue") }
-    ensures read { IfSome result (λ entry. IsKnownCommand (view value.now) entry) }
+    ensures read { IfSome result (λ entry. IsSupportedCommand (view value.now) entry) }
     ensures refused { IfNone result ((movement : MovementValue)
         → ¬ IsCommand (view value.now) (Issue movement)) }
 {
@@ -92,7 +92,7 @@ pub fn issue(value: &Value) -> Option<Entry>
 /// A settlement run: `op`, `ref`, `day`.
 pub fn run(value: &Value) -> Option<Entry>
     requires { text_at (codes "op") (view value.now) ≡ Some (codes "run") }
-    ensures read { IfSome result (λ entry. IsKnownCommand (view value.now) entry) }
+    ensures read { IfSome result (λ entry. IsSupportedCommand (view value.now) entry) }
     ensures refused { IfNone result ((reference day : List ℕ)
         → ¬ IsCommand (view value.now) (Run reference day)) }
 {

@@ -21,8 +21,8 @@ use std::io::{Read, Write};
 
 impl<R: Register> Desk<R> {
     /// Reads a whole script, and then asks its requests one after another and writes each answer. After
-    /// `ReadFailed`, `TooLong` and `Memory` nothing was asked or written; after `WriteFailed` the
-    /// first of the requests stand.
+    /// `ReadFailed`, `TooLong` and `Memory` nothing was asked or written; after `WriteFailed` what
+    /// was asked before the failed write stands.
     pub fn play<I: Read, O: Write>(
         &mut self,
         alloc: Global,

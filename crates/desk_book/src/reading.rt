@@ -35,7 +35,7 @@ pub fn read_whole<R: Read>(
         match read_more(reader, &mut chunk, &mut text, longest + 1) {
             Ok(true) => {}
             Ok(false) => return Ok(text),
-            Err(_) => return Err(InputFault::Reader),
+            Err(_) => return Err(InputFault::ReadFailed),
         }
     }
     Err(InputFault::TooLong)

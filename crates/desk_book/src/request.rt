@@ -6,11 +6,11 @@ use desk_msg::Mt;
 /// A request to the desk. Its bytes are as they came and not yet read.
 #[derive(Clone, Copy, Debug, PartialEq, Eq)]
 pub enum Request<'a> {
-    /// A participant's message: its sender, its type (540 to 543) and its text, which is block 4
+    /// A participant's message: its sender, its type and its text, which is block 4 of an instruction (540 to 543)
     Message(Bic, Mt, &'a [u8]),
     /// An operator's command, as JSON
     Operator(&'a [u8]),
-    /// How it stands with the message of this sender and reference
+    /// The status of the message with this sender and reference
     Status(Bic, &'a [u8]),
     /// The message that was sent to this participant as its k-th, counted from 1
     Sent(Bic, u64),

@@ -1,4 +1,4 @@
--- The plain number of a safekeeping account (ISO 15022, format 35x).
+-- The plain number of a safekeeping account (ISO 15022, format 35x, of any printable characters).
 use Rattle.std.specs.Prelude.{ℕ, ◌<◌, ◌≤◌, List, length, All}
 use Rattle.desk_codes.specs.Characters.{IsPrintable}
 

@@ -1,4 +1,4 @@
--- A message's reference (ISO 15022, format 16x, with the network's rule on slashes).
+-- A message's reference (ISO 15022, format 16x, of any printable characters, with the network's rule on slashes).
 use Rattle.std.specs.Prelude.{◌≡◌, ◌≢◌, ℕ, ◌<◌, ◌≤◌, ◌+◌, ◌-◌, List, length, All, slice_index}
 use Rattle.desk_codes.specs.Characters.{IsPrintable}
 

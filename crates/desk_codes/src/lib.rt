@@ -1,8 +1,8 @@
 //! The codes of a securities message: ISIN, BIC, currency, decimal number, day, reference and account.
 //!
 //! Each type is Copy, takes no memory, and can only hold a well-formed code: to have one is to know
-//! that it was checked. Contracts see a code as the list of its bytes, and equality and order are
-//! those of the bytes. Begin with `Isin` in `isin.rt`; what the words of the contracts mean stands in
+//! that it was checked. Contracts see a code as the list of its bytes (a currency as itself), and
+//! equality and order are those of the bytes. Begin with `Isin` in `isin.rt`; what the words of the contracts mean stands in
 //! specs/, a module a code.
 #![tactic(auto)]
 

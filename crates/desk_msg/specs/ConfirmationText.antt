@@ -13,7 +13,7 @@ use Rattle.desk_msg.specs.Profile.{code_of_kind}
 use Rattle.desk_msg.specs.OwnText.{own_reference, generic_part, sequence_parts}
 use Rattle.desk_msg.specs.Depository.{desk_bic}
 
--- the type that confirms a type of instruction
+-- the type that confirms a type of instruction; a confirmation's own type is given back
 abbrev pub confirming_type : Mt → Mt
 confirming_type Mt540 = Mt544
 confirming_type Mt541 = Mt545

@@ -40,7 +40,7 @@ abbrev pub ReadsRow : {X : Type 0} → List Found → Row → (X → Said) → R
 ReadsRow fields row said (Ok x) = Gives fields row (said x)
 ReadsRow fields row said (Err fault) = Fails fields row fault
 
--- a value of which this holds, seen so; or none, where it holds of none
+-- P holds of what was found, as `view` shows it; or nothing was found, and P holds of nothing
 abbrev pub IsFound : {X Y : Type 0} → (X → Y) → (Y → Type 0) → Option X → Type 0
 IsFound view P (Some x) = P (view x)
 IsFound view P None = (y : _) → P y → ⊥

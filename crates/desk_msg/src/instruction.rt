@@ -91,6 +91,7 @@ pub struct Cash {
 /// MT543. `cash` is there exactly against payment.
 #[derive(Clone, Copy, Debug, PartialEq, Eq)]
 pub struct Instruction {
+    /// The message's type, MT540 to MT543
     pub mt: Mt,
     /// The sender's reference (20C SEME)
     pub reference: Reference,
@@ -98,11 +99,13 @@ pub struct Instruction {
     pub day: Day,
     /// The security (35B)
     pub isin: Isin,
+    /// Whether its quantity counts units or a face amount (36B SETT)
     pub kind: Kind,
     /// How much of the security, in units or by face amount (36B SETT)
     pub quantity: u64,
     /// The sender's safekeeping account (97A SAFE)
     pub account: AccountId,
+    /// The type of the settlement, as TRAD (22F SETR)
     pub settlement: SettlementType,
     /// The other side: the delivering agent of a receipt (95P DEAG), the receiving agent of a delivery
     /// (95P REAG)

@@ -101,8 +101,9 @@ fn read_fields(mt: Mt, fields: &[Field]) -> Result<Message, MsgFault>
 
 /// The message that the fields of a block are, for an instruction's type (MT540 to MT543).
 ///
-/// The used fields are looked for one after another; the fault is that of the first one that is missing, is
-/// there twice, or has a value that doesn't fit. Other fields and sequences are not looked at.
+/// The used fields are looked for one after another; the fault is that of the first one that is missing (5), is there
+/// more than once (6), or has a value that doesn't fit (7); a function other than NEWM and CANC is 8. Other fields and
+/// sequences are not looked at.
 pub fn read_message(mt: Mt, block: &Block) -> Result<Message, MsgFault>
     requires { is_instruction mt ≡ true }
     ensures { Reads mt (found_in block.now) result }

@@ -13,13 +13,14 @@ use desk_text::{TextFault, read_block};
 use std::alloc::{AllocError, Global};
 use thiserror::Error;
 
-/// Why a text is no message that is read: the first reason of this list that fits. Lines are counted from 1.
+/// Why a text is no message that is read. `TooLong` goes before all others; else the fault is that of the first wrong
+/// line; the fields are looked at only where the text is a block. Lines are counted from 1.
 #[derive(Clone, Copy, Debug, PartialEq, Eq, Error)]
 pub enum TextRefusal {
-    /// The first line isn't `{4:`, or no `-}` came (refusal 1).
+    /// The first line isn't `{4:`, or the text ends before its `-}`, with no wrong line (refusal 1).
     #[error("no block")]
     NotBlock,
-    /// A line that stands in no block's place there (refusal 2).
+    /// A line that may not stand there (refusal 2).
     #[error("line {0} is wrong")]
     BadLine(usize),
     /// A line that is nested wrongly (refusal 3).
@@ -58,6 +59,7 @@ fn text_fault(fault: TextFault) -> ReadFault
 }
 
 /// The message of a text of an instruction's type (MT540 to MT543): block 4 of ISO 15022, read by the profile.
+/// Refused: why the text is no message, refusals 1 to 8. Memory: a growth was refused.
 pub fn read_instruction_text(alloc: Global, mt: Mt, text: &[u8]) -> Result<Message, ReadFault>
     requires { is_instruction mt ≡ true }
     ensures { ReadsText mt text.now result }

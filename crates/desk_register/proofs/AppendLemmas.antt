@@ -10,8 +10,8 @@ use Rattle.desk_rules.specs.declared.reply.Kept.{Kept}
 use Rattle.desk_rules.specs.declared.reply.Reply.{Reply}
 use Rattle.desk_register.specs.declared.standing.Standing.{Standing}
 use Rattle.desk_rules.specs.Balances.{issued, redeemed, issued_by, redeemed_by, movement_of}
-use Rattle.desk_register.specs.Content.{Content, CanAppend, appended, positions_after, standing_at, first_standing, history_of}
-use Rattle.desk_register.specs.Lists.{OutstandingIsKept, Listed, SameBooks, value_in, is_key, content_in, outstanding_in, quantity_in, outstanding_after, SameEntries, standing_in, plain_standing}
+use Rattle.desk_register.specs.Content.{Content, CanAppend, appended, positions_after, standing_at, first_standing, history_of, plain_standing}
+use Rattle.desk_register.specs.Lists.{OutstandingIsKept, Listed, SameBooks, value_in, is_key, content_in, outstanding_in, quantity_in, outstanding_after, SameEntries, standing_in}
 use Rattle.desk_register.proofs.QuantityLemmas.{by_bool, same_bytes}
 
 -- where entries stand, with one more at the end

@@ -7,7 +7,7 @@ use Rattle.desk_rules.specs.declared.reply.Kept.{Kept}
 use Rattle.desk_register.specs.declared.standing.Standing.{Standing}
 use Rattle.desk_register.specs.declared.list_store.lists.BalanceKey.{BalanceKey}
 use Rattle.desk_register.specs.declared.list_store.lists.Change.{Change}
-use Rattle.desk_register.specs.declared.list_store.lists.Change.TheVariants.{Appended, Stood, Opened, Moved, Listed as ListedOne, Resized}
+use Rattle.desk_register.specs.declared.list_store.lists.Change.TheVariants.{Appended, Stood, Opened, Moved, OutstandingAdded, OutstandingChanged}
 use Rattle.desk_register.specs.Lists.{Listed, undo, undone, without_last}
 
 pub undone-push : (changes : List Change) (change : Change) (l : Listed) → undone (changes ++ change ∷ []) l ≡ undone changes (undo change l)
@@ -37,14 +37,14 @@ pub before_moved : (changes : List Change) (l : Listed) (index was new : ℕ) �
     → undone (changes ++ Moved index was ∷ []) (record l { quantities = slice_set l.quantities index new }) ≡ undone changes l
 before_moved changes l index was new back = undone-push changes (Moved index was) _ ∙ ap (λ z. undone changes (record l { quantities = z })) back
 
-pub before_listed : (changes : List Change) (l : Listed) (isin : List ℕ) (quantity : ℕ)
-    → undone (changes ++ ListedOne ∷ []) (record l { securities = l.securities ++ isin ∷ []; outstanding = l.outstanding ++ quantity ∷ [] }) ≡ undone changes l
-before_listed changes l isin quantity =
-    undone-push changes ListedOne _ ∙ ap (undone changes) (rw (without_last-push l.securities isin, without_last-push l.outstanding quantity) refl)
+pub before_outstanding_added : (changes : List Change) (l : Listed) (isin : List ℕ) (quantity : ℕ)
+    → undone (changes ++ OutstandingAdded ∷ []) (record l { securities = l.securities ++ isin ∷ []; outstanding = l.outstanding ++ quantity ∷ [] }) ≡ undone changes l
+before_outstanding_added changes l isin quantity =
+    undone-push changes OutstandingAdded _ ∙ ap (undone changes) (rw (without_last-push l.securities isin, without_last-push l.outstanding quantity) refl)
 
-pub before_resized : (changes : List Change) (l : Listed) (index was new : ℕ) → slice_set (slice_set l.outstanding index new) index was ≡ l.outstanding
-    → undone (changes ++ Resized index was ∷ []) (record l { outstanding = slice_set l.outstanding index new }) ≡ undone changes l
-before_resized changes l index was new back = undone-push changes (Resized index was) _ ∙ ap (λ z. undone changes (record l { outstanding = z })) back
+pub before_outstanding_changed : (changes : List Change) (l : Listed) (index was new : ℕ) → slice_set (slice_set l.outstanding index new) index was ≡ l.outstanding
+    → undone (changes ++ OutstandingChanged index was ∷ []) (record l { outstanding = slice_set l.outstanding index new }) ≡ undone changes l
+before_outstanding_changed changes l index was new back = undone-push changes (OutstandingChanged index was) _ ∙ ap (λ z. undone changes (record l { outstanding = z })) back
 
 set_twice : {X : Type 0} (xs : List X) (i : ℕ) (a b : X) → slice_set (slice_set xs i a) i b ≡ slice_set xs i b
 set_twice [] i a b = refl

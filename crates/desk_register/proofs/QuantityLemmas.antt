@@ -145,28 +145,28 @@ quantity_opened l key v len e = λ k a i. opened_at l key v len e a i k
 lines_apart : (isin i : List ℕ) → bytes_eq isin i ≡ false → (line : List ℕ) → bytes_eq line isin ≡ true → bytes_eq line i ≡ false
 lines_apart isin i other line passes = rw (same_bytes line isin passes) other
 
-resized_at : (l : Listed) (isin : List ℕ) (j v : ℕ) → length l.outstanding ≡ length l.securities → first_from 0 (λ line. bytes_eq line isin) l.securities ≡ Some j
+outstanding_changed_at : (l : Listed) (isin : List ℕ) (j v : ℕ) → length l.outstanding ≡ length l.securities → first_from 0 (λ line. bytes_eq line isin) l.securities ≡ Some j
     → (i : List ℕ) → outstanding_in (record l { outstanding = slice_set l.outstanding j v }) i ≡ with_outstanding (outstanding_in l) isin v i
-resized_at l isin j v len e i =
+outstanding_changed_at l isin j v len e i =
     let whole : j - 0 ≡ j = omega arith in
     by_bool (bytes_eq isin i)
     (λ t. rw t (rw whole at (set_same 0 j v (λ line. bytes_eq line isin) (λ line. bytes_eq line i) l.securities l.outstanding len e (λ line. ap (bytes_eq line) (sym (same_bytes isin i t))))))
     (λ f. rw f (rw whole at (set_other 0 j v (λ line. bytes_eq line isin) (λ line. bytes_eq line i) l.securities l.outstanding len e (lines_apart isin i f))))
 
-pub outstanding_resized : (l : Listed) (isin : List ℕ) (j v : ℕ) → length l.outstanding ≡ length l.securities → first_from 0 (λ line. bytes_eq line isin) l.securities ≡ Some j
+pub outstanding_changed : (l : Listed) (isin : List ℕ) (j v : ℕ) → length l.outstanding ≡ length l.securities → first_from 0 (λ line. bytes_eq line isin) l.securities ≡ Some j
     → outstanding_in (record l { outstanding = slice_set l.outstanding j v }) ≡ with_outstanding (outstanding_in l) isin v
-outstanding_resized l isin j v len e = λ k i. resized_at l isin j v len e i k
+outstanding_changed l isin j v len e = λ k i. outstanding_changed_at l isin j v len e i k
 
-listed_at : (l : Listed) (isin : List ℕ) (v : ℕ) → length l.outstanding ≡ length l.securities → first_from 0 (λ line. bytes_eq line isin) l.securities ≡ None
+outstanding_added_at : (l : Listed) (isin : List ℕ) (v : ℕ) → length l.outstanding ≡ length l.securities → first_from 0 (λ line. bytes_eq line isin) l.securities ≡ None
     → (i : List ℕ) → outstanding_in (record l { securities = l.securities ++ isin ∷ []; outstanding = l.outstanding ++ v ∷ [] }) i ≡ with_outstanding (outstanding_in l) isin v i
-listed_at l isin v len e i =
+outstanding_added_at l isin v len e i =
     by_bool (bytes_eq isin i)
     (λ t. rw t (push_same 0 v (λ line. bytes_eq line isin) (λ line. bytes_eq line i) l.securities l.outstanding isin len e (bytes_refl isin) (λ line. ap (bytes_eq line) (sym (same_bytes isin i t)))))
     (λ f. rw f (push_other v (λ line. bytes_eq line i) l.securities l.outstanding isin len f))
 
-pub outstanding_listed : (l : Listed) (isin : List ℕ) (v : ℕ) → length l.outstanding ≡ length l.securities → first_from 0 (λ line. bytes_eq line isin) l.securities ≡ None
+pub outstanding_added : (l : Listed) (isin : List ℕ) (v : ℕ) → length l.outstanding ≡ length l.securities → first_from 0 (λ line. bytes_eq line isin) l.securities ≡ None
     → outstanding_in (record l { securities = l.securities ++ isin ∷ []; outstanding = l.outstanding ++ v ∷ [] }) ≡ with_outstanding (outstanding_in l) isin v
-outstanding_listed l isin v len e = λ k i. listed_at l isin v len e i k
+outstanding_added l isin v len e = λ k i. outstanding_added_at l isin v len e i k
 
 -- The same, of the call that did it.
 
@@ -180,12 +180,12 @@ pub opened_well : {T E : Type 0} (r : Result T E) (new l : Listed) (key : Balanc
 opened_well (Ok x) new l key v len e is = ap quantity_in is ∙ quantity_opened l key v len e
 opened_well (Err f) new l key v len e is = is
 
-pub resized_well : {T E : Type 0} (r : Result T E) (new l : Listed) (isin : List ℕ) (j v : ℕ) → length l.outstanding ≡ length l.securities → first_from 0 (λ line. bytes_eq line isin) l.securities ≡ Some j
+pub outstanding_changed_well : {T E : Type 0} (r : Result T E) (new l : Listed) (isin : List ℕ) (j v : ℕ) → length l.outstanding ≡ length l.securities → first_from 0 (λ line. bytes_eq line isin) l.securities ≡ Some j
     → OnOk r (new ≡ record l { outstanding = slice_set l.outstanding j v }) → OnOk r (outstanding_in new ≡ with_outstanding (outstanding_in l) isin v)
-resized_well (Ok x) new l isin j v len e is = ap outstanding_in is ∙ outstanding_resized l isin j v len e
-resized_well (Err f) new l isin j v len e is = is
+outstanding_changed_well (Ok x) new l isin j v len e is = ap outstanding_in is ∙ outstanding_changed l isin j v len e
+outstanding_changed_well (Err f) new l isin j v len e is = is
 
-pub listed_well : {T E : Type 0} (r : Result T E) (new l : Listed) (isin : List ℕ) (v : ℕ) → length l.outstanding ≡ length l.securities → first_from 0 (λ line. bytes_eq line isin) l.securities ≡ None
+pub outstanding_added_well : {T E : Type 0} (r : Result T E) (new l : Listed) (isin : List ℕ) (v : ℕ) → length l.outstanding ≡ length l.securities → first_from 0 (λ line. bytes_eq line isin) l.securities ≡ None
     → OnOk r (new ≡ record l { securities = l.securities ++ isin ∷ []; outstanding = l.outstanding ++ v ∷ [] }) → OnOk r (outstanding_in new ≡ with_outstanding (outstanding_in l) isin v)
-listed_well (Ok x) new l isin v len e is = ap outstanding_in is ∙ outstanding_listed l isin v len e
-listed_well (Err f) new l isin v len e is = is
+outstanding_added_well (Ok x) new l isin v len e is = ap outstanding_in is ∙ outstanding_added l isin v len e
+outstanding_added_well (Err f) new l isin v len e is = is

@@ -41,18 +41,22 @@ moved_to position account isin quantity a i = if bytes_eq account a && bytes_eq 
 abbrev pub standing_at : (ℕ → Standing) → ℕ → Standing → ℕ → Standing
 standing_at standing n new k = if k == n then new else standing k
 
+-- where what is no instruction stands
+abbrev pub plain_standing : Standing
+plain_standing = record { mate = None; state = Plain }
+
 -- where an entry stands as it is accepted
 abbrev pub first_standing : Entry → Standing
-first_standing (Participant reference bic) = record { mate = None; state = Plain }
-first_standing (Account reference bic account) = record { mate = None; state = Plain }
-first_standing (Security reference isin kind) = record { mate = None; state = Plain }
-first_standing (Issue movement) = record { mate = None; state = Plain }
-first_standing (Redeem movement) = record { mate = None; state = Plain }
-first_standing (PayIn payment) = record { mate = None; state = Plain }
-first_standing (PayOut payment) = record { mate = None; state = Plain }
+first_standing (Participant reference bic) = plain_standing
+first_standing (Account reference bic account) = plain_standing
+first_standing (Security reference isin kind) = plain_standing
+first_standing (Issue movement) = plain_standing
+first_standing (Redeem movement) = plain_standing
+first_standing (PayIn payment) = plain_standing
+first_standing (PayOut payment) = plain_standing
 first_standing (Instruct sender instruction) = record { mate = None; state = Unmatched }
-first_standing (Cancel sender order) = record { mate = None; state = Plain }
-first_standing (Run reference day) = record { mate = None; state = Plain }
+first_standing (Cancel sender order) = plain_standing
+first_standing (Run reference day) = plain_standing
 
 -- the positions after an entry: an issue is put on its account, a redemption taken off
 abbrev pub positions_after : Entry → Positions → Positions
@@ -91,10 +95,15 @@ appended entry reply content = record {
   position = positions_after entry content.position;
 }
 
+-- both instructions of a pair stand so
+abbrev pub standing_both : (ℕ → Standing) → ℕ → ℕ → State → ℕ → Standing
+standing_both standing m n state =
+    standing_at (standing_at standing m (record { mate = Some n; state = state })) n (record { mate = Some m; state = state })
+
 -- the content in which two entries are each other's mates, and wait for their day
 abbrev pub paired : ℕ → ℕ → Content → Content
 paired m n content = record content {
-  standing = standing_at (standing_at content.standing m (record { mate = Some n; state = Matched Future })) n (record { mate = Some m; state = Matched Future });
+  standing = standing_both content.standing m n (Matched Future);
 }
 
 -- two numbers of entries, the earlier first (that both are unmatched instructions is the caller's to see)
@@ -133,11 +142,6 @@ pub record CanSettle (content : Content) (n : ℕ) : Type 0 where
   pub free : earlier.instruction.cash ≡ None
   pub fits : later.instruction.quantity ≤ content.position (delivery_of earlier later).instruction.account later.instruction.isin
       → content.position (receipt_of earlier later).instruction.account later.instruction.isin + later.instruction.quantity < 2 ^ 63
-
--- both instructions of a pair stand so
-abbrev pub standing_both : (ℕ → Standing) → ℕ → ℕ → State → ℕ → Standing
-standing_both standing m n state =
-    standing_at (standing_at standing m (record { mate = Some n; state = state })) n (record { mate = Some m; state = state })
 
 -- what trying the pair of a number does: it settles and moves its quantity where the deliverer holds it, else
 -- only the reason changes

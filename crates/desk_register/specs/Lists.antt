@@ -7,10 +7,10 @@ use Rattle.desk_register.specs.declared.standing.Standing.{Standing}
 use Rattle.desk_rules.specs.declared.reply.State.TheVariants.{Plain}
 use Rattle.desk_register.specs.declared.list_store.lists.BalanceKey.{BalanceKey}
 use Rattle.desk_register.specs.declared.list_store.lists.Change.{Change}
-use Rattle.desk_register.specs.declared.list_store.lists.Change.TheVariants.{Appended, Stood, Opened, Moved, Listed as ListedOne, Resized}
+use Rattle.desk_register.specs.declared.list_store.lists.Change.TheVariants.{Appended, Stood, Opened, Moved, OutstandingAdded, OutstandingChanged}
 use Rattle.desk_register.specs.declared.list_store.lists.Lists.{Lists}
 use Rattle.desk_rules.specs.Balances.{issued, redeemed}
-use Rattle.desk_register.specs.Content.{Content}
+use Rattle.desk_register.specs.Content.{Content, plain_standing}
 
 -- The lists: the entries with their replies, where each stands, the quantities with their keys, and what is
 -- outstanding of each security.
@@ -54,9 +54,6 @@ quantity_in l account isin = value_in (is_key account isin) l.keys l.quantities
 abbrev pub outstanding_in : Listed → List ℕ → ℕ
 outstanding_in l isin = value_in (λ security. bytes_eq security isin) l.securities l.outstanding
 
-abbrev pub plain_standing : Standing
-plain_standing = record { mate = None; state = Plain }
-
 -- where the entry of a number stands
 abbrev pub standing_in : List Standing → ℕ → Standing
 standing_in standings zero = plain_standing
@@ -79,15 +76,15 @@ undo Appended l = record l { kept = without_last l.kept; standings = without_las
 undo (Stood index was) l = record l { standings = slice_set l.standings index was }
 undo Opened l = record l { keys = without_last l.keys; quantities = without_last l.quantities }
 undo (Moved index was) l = record l { quantities = slice_set l.quantities index was }
-undo ListedOne l = record l { securities = without_last l.securities; outstanding = without_last l.outstanding }
-undo (Resized index was) l = record l { outstanding = slice_set l.outstanding index was }
+undo OutstandingAdded l = record l { securities = without_last l.securities; outstanding = without_last l.outstanding }
+undo (OutstandingChanged index was) l = record l { outstanding = slice_set l.outstanding index was }
 
 -- the lists before some changes, of which the last is undone first
 abbrev pub undone : List Change → Listed → Listed
 undone [] l = l
 undone (change ∷ later) l = undo change (undone later l)
 
--- one total is another, and the rest is as before
+-- what is outstanding of one security is another, and the rest is as before
 abbrev pub with_outstanding : (List ℕ → ℕ) → List ℕ → ℕ → List ℕ → ℕ
 with_outstanding outstanding isin quantity i = if bytes_eq isin i then quantity else outstanding i
 

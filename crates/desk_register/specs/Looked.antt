@@ -91,13 +91,13 @@ IsAboveText None b = Unit {0}
 IsAboveText (Some a) b = IsLess a b
 
 -- a registered security above one, or above none
-abbrev pub IsListedAbove : List Entry → Option (List ℕ) → List ℕ → Type 0
-IsListedAbove history above isin = (is_some (kind_of history isin) ≡ true) × IsAboveText above isin
+abbrev pub IsRegisteredAbove : List Entry → Option (List ℕ) → List ℕ → Type 0
+IsRegisteredAbove history above isin = (is_some (kind_of history isin) ≡ true) × IsAboveText above isin
 
 -- the first such security, or there is none
 abbrev pub IsSecurityAfter : List Entry → Option (List ℕ) → Option (List ℕ) → Type 0
-IsSecurityAfter history above None = (isin : List ℕ) → IsListedAbove history above isin → ⊥
-IsSecurityAfter history above (Some isin) = IsListedAbove history above isin × ((other : List ℕ) → IsListedAbove history above other → IsLess other isin → ⊥)
+IsSecurityAfter history above None = (isin : List ℕ) → IsRegisteredAbove history above isin → ⊥
+IsSecurityAfter history above (Some isin) = IsRegisteredAbove history above isin × ((other : List ℕ) → IsRegisteredAbove history above other → IsLess other isin → ⊥)
 
 -- what the account that an entry registers holds, if it registers one
 abbrev pub held_by : (List ℕ → ℕ) → Option (List ℕ) → ℕ

@@ -22,7 +22,7 @@ use Rattle.desk_rules.specs.Settlement.{is_due, settled_before}
 use Rattle.desk_rules.specs.Verdict.{Books, AreBooks, IsVerdict, WasAccepted}
 use Rattle.desk_rules.specs.declared.verdict.Verdict.TheVariants.{Accept}
 use Rattle.desk_rules.specs.declared.entry.Entry.TheVariants.{Participant, Account, Security, Issue, Redeem, PayIn, PayOut, Instruct, Cancel, Run}
-use Rattle.desk_register.specs.Content.{Content, history_of, paired}
+use Rattle.desk_register.specs.Content.{Content, history_of, paired, plain_standing}
 
 -- the other side of a pair
 abbrev pub mate_in : Pair → ℕ → ℕ
@@ -73,7 +73,7 @@ StandsSo books k mate states.Settled = IsSettledSide books k mate
 
 -- where the entry of a number stands; what is no instruction is Plain
 abbrev pub StandsAt : Books → ℕ → Option Instructed → Standing → Type 0
-StandsAt books k None standing = standing ≡ record { mate = None; state = Plain }
+StandsAt books k None standing = standing ≡ plain_standing
 StandsAt books k (Some i) standing = StandsSo books k standing.mate standing.state
 
 -- A content is that of books, each entry of which was accepted in its turn by a desk that may hold `limit` entries.

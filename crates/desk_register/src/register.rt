@@ -117,7 +117,7 @@ pub trait Register {
         ensures read { IsRead result (view self.old) (view self.new) }
         ensures plain { plain ≡ true → IsOk result };
 
-    /// The entry with this key, with its reply and where it stands.
+    /// The entry with this key, with its reply and where it stands; None where there is none.
     fn by_reference(
         &mut self,
         alloc: Global,
@@ -132,7 +132,7 @@ pub trait Register {
         ensures value { IfTrusted (view self.old) (view self.new) (IfOk result (λ r. option_map view_of r ≡ found_at (view self.old).content number)) }
         ensures read { IsRead result (view self.old) (view self.new) };
 
-    /// The least number of an unmatched instruction that is opposite to one of this sender.
+    /// The least number of an unmatched instruction that is opposite to one of this sender; None where there is none.
     fn first_opposite(
         &mut self,
         alloc: Global,
@@ -149,7 +149,8 @@ pub trait Register {
         ensures read { IsRead result (view self.old) (view self.new) }
         ensures plain { plain ≡ true → IsOk result };
 
-    /// The first matched pair due by a day, in order of settlement day and number, above a place (above none: the first of all).
+    /// The first matched pair due by a day, in order of settlement day and number, after a place; with none, the first
+    /// of all. None where there is none.
     fn due_pair_after(
         &mut self,
         alloc: Global,
@@ -160,7 +161,7 @@ pub trait Register {
         ensures read { IsRead result (view self.old) (view self.new) }
         ensures plain { plain ≡ true → IsOk result };
 
-    /// The first security, in order of its bytes, above one (above none: the first of all).
+    /// The first security, in order of its bytes, after one; with none, the first of all. None where there is none.
     fn security_after(&mut self, alloc: Global, isin: Option<Isin>) -> Result<Option<Isin>, Fault>
         ensures value { IfTrusted (view self.old) (view self.new) (IfOk result (λ r. IsSecurityAfter (history_of (view self.old).content) isin r)) }
         ensures read { IsRead result (view self.old) (view self.new) }

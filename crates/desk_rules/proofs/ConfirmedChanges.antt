@@ -29,7 +29,7 @@ use Rattle.desk_rules.proofs.BalanceLemmas.{sum_same}
 use Rattle.desk_rules.proofs.HistoryLemmas.{entry_at-known}
 use Rattle.desk_rules.proofs.SettlementLemmas.{due_facts, by_some}
 use Rattle.desk_rules.proofs.SaidConfirmations.{confirmation_by, confirmations_of, HaveDays, say_all}
-use Rattle.desk_rules.proofs.MovedSums.{HasLegs, legs_of, of_leg, legs_value, all_said}
+use Rattle.desk_rules.proofs.ConfirmedSums.{HasLegs, legs_of, of_leg, legs_value, all_said}
 
 -- The days of runs.
 

@@ -16,7 +16,7 @@ pub mod BalanceLemmas
 pub mod NonNegative
 pub mod Conservation
 pub mod SaidConfirmations
-pub mod MovedSums
+pub mod ConfirmedSums
 pub mod ConfirmedChanges
 pub mod FreshParts
 pub mod SentFronts

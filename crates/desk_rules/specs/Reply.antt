@@ -24,10 +24,10 @@ plain_reply status text = record { status = status; mt = None; text = text }
 abbrev pub advice_reply : ℕ → List ℕ → Reply
 advice_reply status text = record { status = status; mt = Some 548; text = text }
 
--- the pair is among those settled
 abbrev pub same_pair : Pair → Pair → Bool
 same_pair p q = p.earlier == q.earlier && p.later == q.later
 
+-- the pair is among those settled
 abbrev pub is_settled_pair : List Settled → Pair → Bool
 is_settled_pair settled p = list_any (λ s. same_pair s.pair p) settled
 

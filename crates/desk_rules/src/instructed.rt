@@ -1,4 +1,5 @@
-//! What an entry instructs. (Apart from `entry.rt`: the definitions read its types.)
+//! What an entry instructs. (In a file of its own: the definitions of specs/History.antt use the types of `entry.rt`, so
+//! that no contract there can name them.)
 ghost use Rattle.std.specs.Prelude.{◌≡◌};
 ghost use Rattle.desk_rules.specs.History.{instructed};
 

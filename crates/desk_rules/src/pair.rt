@@ -20,6 +20,7 @@ pub struct Settled {
 pub struct Place {
     /// The settlement day, as the number YYYYMMDD
     pub day: u64,
+    /// The pair's number, that of its later instruction
     pub number: u64,
 }
 

@@ -1,5 +1,5 @@
 //! A plain program that computes pairing, settlement and balances of a list of entries straight from their
-//! definitions. It is slow, takes memory for its lists alone, and is what every faster body is compared with.
+//! definitions. It is slow and takes memory for its lists alone; tests hold the register, and days worked by hand, against it.
 
 mod balances;
 mod cover;

@@ -21,7 +21,7 @@ impl Model for Text {
 }
 
 impl Text {
-    /// The text of these bytes, kept where they lie.
+    /// The text of these bytes, taken over without a copy.
     pub fn new(bytes: Vec<u8>) -> Text
         ensures { result ≡ bytes.items }
     {

@@ -1,4 +1,5 @@
-//! Whether two values have the same content.
+//! Whether two values have the same content. Written out for its contract, by which such values are one: where a type
+//! keeps conditions, that rests on a condition having one proof (proofs/SameContent.antt).
 ghost use Rattle.std.specs.Prelude.{◌≡◌, ◌↔◌, IsTrue};
 
 use crate::entry::{Entry, Movement, Payment};

@@ -105,10 +105,7 @@ history =
 abbrev pub pair : Pair
 pair = record { earlier = 8; later = 9 }
 
--- the books before an entry of the day was accepted, and of the whole day
-abbrev pub at_base : Books
-at_base = record { history = take 7 history; pairs = []; settled = [] }
-
+-- the books right after an entry of the day was accepted, and of the whole day
 abbrev pub at_delivery : Books
 at_delivery = record { history = take 8 history; pairs = []; settled = [] }
 
@@ -137,8 +134,8 @@ abbrev pub at_cancel : Books
 at_cancel = record { history = take 8 history ++ Cancel alpha (cancel (codes "X1") (codes "A1")) ∷ []; pairs = []; settled = [] }
 
 -- what the confirmations of the day say
-abbrev pub moved : List Confirmation
-moved =
+abbrev pub confirmations : List Confirmation
+confirmations =
     record { mt = Mt547; bic = alpha; confirmed = record { related = codes "A1"; day = leap_day; isin = share; kind = Units; quantity = 400; account = a_1; cash = Some (Eur, 100_050) } }
     ∷ record { mt = Mt545; bic = beta; confirmed = record { related = codes "B1"; day = leap_day; isin = share; kind = Units; quantity = 400; account = b_1; cash = Some (Eur, 100_050) } }
     ∷ []

@@ -1,4 +1,4 @@
-//! Worked rows from outside, through the plain program.
+//! Days worked by hand, with cash and cancellations, through the plain program of the definitions.
 ghost use Rattle.std.specs.Prelude.{◌<◌, ◌≤◌};
 
 use desk_codes::Ccy;
@@ -119,27 +119,6 @@ fn settles_a_pair_against_payment(rt: HostRuntime) -> Result<(), Fail> {
     Ok(())
 }
 
-#[test]
-fn settles_a_free_pair(rt: HostRuntime) -> Result<(), Fail> {
-    let alloc = rt.alloc();
-    let mut entries = base(alloc)?;
-    entries.push(instruct(alloc, delivery("A1"))?)?;
-    entries.push(instruct(alloc, receipt("B1"))?)?;
-    entries.push(run("R1", b"20240229")?)?;
-    let (pairs, settled) = settled(alloc, &entries)?;
-    assert_eq!(rt; pairs.as_slice(), [pair(8, 9)].as_slice());
-    assert_eq!(rt; settled.as_slice(), [of_run(10, 8, 9)].as_slice());
-    assert_eq!(rt;
-        credits(&entries, &settled, &account("B-1")?, &isin(SHARE)?),
-        400
-    );
-    assert_eq!(rt;
-        cash_debits(&entries, &settled, &bic("BETADEFF")?, Ccy::Eur),
-        0
-    );
-    Ok(())
-}
-
 /// The least of two opposite instructions, none of another currency or type, and none that was cancelled.
 #[test]
 fn pairs_the_least_that_stands(rt: HostRuntime) -> Result<(), Fail> {
@@ -168,105 +147,6 @@ fn pairs_the_least_that_stands(rt: HostRuntime) -> Result<(), Fail> {
     assert!(rt; !is_cancelled(&entries, 8));
     // It was not, before the cancellation came.
     assert!(rt; !is_cancelled(before(12, &entries), 9));
-    Ok(())
-}
-
-/// Three participants with an account each, a security, and 100 of it on A-1: eight entries.
-fn base_of_three(alloc: Global) -> Result<Vec<Entry>, Fail> {
-    let mut entries = Vec::new(alloc);
-    entries.push(participant("P1", "ALPHDEFF")?)?;
-    entries.push(participant("P2", "BETADEFF")?)?;
-    entries.push(participant("P3", "GAMMDEFF")?)?;
-    entries.push(new_account("C1", "ALPHDEFF", "A-1")?)?;
-    entries.push(new_account("C2", "BETADEFF", "B-1")?)?;
-    entries.push(new_account("C3", "GAMMDEFF", "C-1")?)?;
-    entries.push(security("S1", SHARE, Kind::Unit)?)?;
-    entries.push(issue("I1", "A-1", SHARE, 100)?)?;
-    Ok(entries)
-}
-
-/// 100 delivered free by ALPHDEFF to BETADEFF, and the receipt of it.
-fn first_link() -> (Deal<'static>, Deal<'static>) {
-    let free = Deal {
-        quantity: "100",
-        ..delivery("A1")
-    };
-    let taken = Deal {
-        quantity: "100",
-        ..receipt("B2")
-    };
-    (free, taken)
-}
-
-/// The same 100 delivered on by BETADEFF to GAMMDEFF, and the receipt of it.
-fn second_link() -> (Deal<'static>, Deal<'static>) {
-    let (free, taken) = first_link();
-    let on = Deal {
-        sender: "BETADEFF",
-        key: "B1",
-        account: "B-1",
-        other: "GAMMDEFF",
-        ..free
-    };
-    let last = Deal {
-        sender: "GAMMDEFF",
-        key: "G1",
-        account: "C-1",
-        other: "BETADEFF",
-        ..taken
-    };
-    (on, last)
-}
-
-/// What a run brings to an account counts for the pairs after it, and not for those before it: of a chain whose
-/// last link has the lower number, a run settles the first link, and the next run the last.
-#[test]
-fn settles_a_chain_in_one_pass(rt: HostRuntime) -> Result<(), Fail> {
-    let alloc = rt.alloc();
-    let mut entries = base_of_three(alloc)?;
-    let (free, taken) = first_link();
-    let (on, last) = second_link();
-    entries.push(instruct(alloc, on)?)?;
-    entries.push(instruct(alloc, last)?)?;
-    entries.push(instruct(alloc, free)?)?;
-    entries.push(instruct(alloc, taken)?)?;
-    entries.push(run("R1", b"20240229")?)?;
-    entries.push(run("R2", b"20240229")?)?;
-    let (pairs, moved) = settled(alloc, &entries)?;
-    assert_eq!(rt; pairs.as_slice(), [pair(9, 10), pair(11, 12)].as_slice());
-    assert_eq!(rt;
-        moved.as_slice(),
-        [of_run(13, 11, 12), of_run(14, 9, 10)].as_slice()
-    );
-    // What the first run found when it tried the last link: nothing was settled yet.
-    assert_eq!(rt;
-        lack_of(before(13, &entries), &[], pair(9, 10)),
-        Some(Lack::Securities)
-    );
-    Ok(())
-}
-
-/// The chain in the order of its links settles in one run.
-#[test]
-fn settles_a_chain_in_its_order(rt: HostRuntime) -> Result<(), Fail> {
-    let alloc = rt.alloc();
-    let mut entries = base_of_three(alloc)?;
-    let (free, taken) = first_link();
-    let (on, last) = second_link();
-    entries.push(instruct(alloc, free)?)?;
-    entries.push(instruct(alloc, taken)?)?;
-    entries.push(instruct(alloc, on)?)?;
-    entries.push(instruct(alloc, last)?)?;
-    entries.push(run("R1", b"20240229")?)?;
-    let (_, moved) = settled(alloc, &entries)?;
-    assert_eq!(rt;
-        moved.as_slice(),
-        [of_run(13, 9, 10), of_run(13, 11, 12)].as_slice()
-    );
-    assert_eq!(rt;
-        credits(&entries, &moved, &account("C-1")?, &isin(SHARE)?),
-        100
-    );
     Ok(())
 }
 
@@ -317,91 +197,23 @@ fn counts_what_comes_and_goes(rt: HostRuntime) -> Result<(), Fail> {
     Ok(())
 }
 
-/// Of two pairs of which one is covered, it is the one of the earlier settlement day, and not the lower number.
+/// A transfer within one account asks for cover too: one unit more than it holds waits.
 #[test]
-fn settles_in_order_of_settlement_day(rt: HostRuntime) -> Result<(), Fail> {
+fn covers_a_transfer_within_an_account(rt: HostRuntime) -> Result<(), Fail> {
     let alloc = rt.alloc();
-    let mut entries = base(alloc)?;
-    let free = Deal {
-        quantity: "1000",
-        ..delivery("A1")
-    };
-    let taken = Deal {
-        quantity: "1000",
-        ..receipt("B1")
-    };
-    entries.push(instruct(
-        alloc,
-        Deal {
-            day: "20240302",
-            ..free
-        },
-    )?)?;
-    entries.push(instruct(
-        alloc,
-        Deal {
-            day: "20240302",
-            ..taken
-        },
-    )?)?;
-    entries.push(instruct(alloc, Deal { key: "A2", ..free })?)?;
-    entries.push(instruct(alloc, Deal { key: "B2", ..taken })?)?;
-    entries.push(run("R1", b"20240228")?)?;
-    entries.push(run("R2", b"20240302")?)?;
-    let (pairs, settled) = settled(alloc, &entries)?;
-    assert_eq!(rt; pairs.as_slice(), [pair(8, 9), pair(10, 11)].as_slice());
-    assert_eq!(rt; settled.as_slice(), [of_run(13, 10, 11)].as_slice());
-    assert_eq!(rt;
-        lack_of(&entries, &settled, pair(8, 9)),
-        Some(Lack::Securities)
-    );
-    Ok(())
-}
-
-/// A transfer within one account: cover is asked for, and the position stays.
-#[test]
-fn transfers_within_an_account(rt: HostRuntime) -> Result<(), Fail> {
-    let alloc = rt.alloc();
-    let free = Deal {
-        quantity: "1000",
+    let given = Deal {
+        quantity: "1001",
         other: "ALPHDEFF",
         ..delivery("A3")
     };
     let taken = Deal {
         mt: Mt::Mt540,
         key: "A4",
-        ..free
+        ..given
     };
     let mut entries = base(alloc)?;
-    entries.push(instruct(alloc, free)?)?;
+    entries.push(instruct(alloc, given)?)?;
     entries.push(instruct(alloc, taken)?)?;
-    entries.push(run("R1", b"20240229")?)?;
-    let (_, moved) = settled(alloc, &entries)?;
-    assert_eq!(rt; moved.as_slice(), [of_run(10, 8, 9)].as_slice());
-    assert_eq!(rt;
-        credits(&entries, &moved, &account("A-1")?, &isin(SHARE)?),
-        2000
-    );
-    assert_eq!(rt;
-        debits(&entries, &moved, &account("A-1")?, &isin(SHARE)?),
-        1000
-    );
-
-    let mut entries = base(alloc)?;
-    entries.push(instruct(
-        alloc,
-        Deal {
-            quantity: "1001",
-            ..free
-        },
-    )?)?;
-    entries.push(instruct(
-        alloc,
-        Deal {
-            quantity: "1001",
-            ..taken
-        },
-    )?)?;
     entries.push(run("R1", b"20240229")?)?;
     let (pairs, moved) = settled(alloc, &entries)?;
     assert_eq!(rt; pairs.as_slice(), [pair(8, 9)].as_slice());

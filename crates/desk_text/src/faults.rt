@@ -8,10 +8,10 @@ use thiserror::Error;
 /// Why a text isn't read. Lines are counted from 1.
 #[derive(Clone, Copy, Debug, PartialEq, Eq, Error)]
 pub enum TextFault {
-    /// The first line isn't `{4:`, or no `-}` came.
+    /// The first line isn't `{4:`, or the text ends before its `-}`, with no wrong line.
     #[error("no block")]
     NotBlock,
-    /// A line that stands in no block's place here.
+    /// A line that may not stand there.
     #[error("line {0} is wrong")]
     BadLine(usize),
     /// A closing that doesn't fit, a seventeenth opening, or `-}` with a sequence open.

@@ -21,7 +21,7 @@ pub fn one_tree()
     ensures fields { (text : List ℕ) (a b : List Found) → IsBlock text a → IsBlock text b → a ≡ b }
 {}
 
-/// What lines may follow goes by the names that are open, and by these alone, but for further lines of a value.
+/// Which lines may follow depends on the open names alone, except for further lines of a value.
 pub fn right_lines()
     // Lines that begin a block, and haven't ended it, have one list of open names.
     ensures names { (lines : List (List ℕ)) → Begins lines → lines ≢ [] → (Contains lines (codes "-}") → ⊥) → (names : List (List ℕ)) × AreOpen lines names }

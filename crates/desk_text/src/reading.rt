@@ -147,10 +147,10 @@ fn scan<'a>(alloc: Global, text: &'a [u8]) -> Result<Block<'a>, TextFault>
 
 /// The fields of a text that is a block, else its fault (ISO 15022, block 4).
 ///
-/// Lines are counted from 1. NotBlock: the first line isn't `{4:`, or the text has no `-}`. BadLine: a byte outside
-/// 0x20 to 0x7E, a CR not before LF, or a line that is right under no open sequences, as anything after `-}`.
-/// BadNesting: a closing that doesn't fit, a seventeenth open sequence, `-}` with a sequence open. TooLong: more than
-/// 65,536 bytes; this goes before all others. Memory: a growth was refused.
+/// Lines are counted from 1. NotBlock: the first line isn't `{4:`, or the text ends before its `-}`, with no wrong
+/// line. BadLine: a byte outside 0x20 to 0x7E, a CR not before LF, or a line that is right under no open sequences, as
+/// anything after `-}`. BadNesting: a closing that doesn't fit, a seventeenth open sequence, `-}` with a sequence open.
+/// TooLong: more than 65,536 bytes; this goes before all others. Memory: a growth was refused.
 pub fn read_block<'a>(alloc: Global, text: &'a [u8]) -> Result<Block<'a>, TextFault>
     ensures { Reads text.now result }
 {

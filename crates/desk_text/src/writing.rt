@@ -168,7 +168,7 @@ impl BlockWriter {
         append_field(&mut self.text, tag, value)
     }
 
-    /// Closes the innermost sequence.
+    /// Closes the innermost sequence; one must be open.
     pub fn close(&mut self) -> Result<(), AllocError>
         requires { self.old.names ≢ [] }
         ensures ok { OnOk result (self.new ≡ after (close_part (innermost self.old.names)) self.old) }

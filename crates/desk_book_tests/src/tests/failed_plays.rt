@@ -4,7 +4,7 @@ use crate::tests::faults::{SOUND, failing_desk, request_of};
 use crate::tests::plays::ANSWERS;
 use crate::tests::scripts::FREE_PAIR;
 use desk_book::*;
-use desk_register::{ListRegister, Register};
+use desk_register::{ListRegister, MOST_ENTRIES, Register};
 use std::alloc::{AllocError, Global};
 use std::process::Abort;
 use std::test::Fail;
@@ -94,7 +94,7 @@ fn one_failed_call_is_told(rt: HostRuntime) -> Result<(), Fail> {
     let (calls, all) = counted_calls(&rt, alloc)?;
     for first in 1..all.saturating_add(1) {
         let hit = request_of(&calls, first);
-        let mut plain = Desk::new(ListRegister::new(alloc, 999_999_999));
+        let mut plain = Desk::new(ListRegister::new(alloc, MOST_ENTRIES));
         let others = played(alloc, &mut plain, &without(alloc, FREE_PAIR, hit)?)?;
         let (before, behind) = split_answers(&others, hit);
         let mut want = Vec::new(alloc);

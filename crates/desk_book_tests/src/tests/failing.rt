@@ -7,7 +7,7 @@ ghost use Rattle.desk_book_tests.specs.Failing.{Fell};
 
 use desk_codes::{AccountId, Bic, Day, Isin, Reference};
 use desk_msg::{Instruction, Kind};
-use desk_register::{Fault, Found, ListRegister, Outcome, Register, Stage};
+use desk_register::{Fault, Found, ListRegister, MOST_ENTRIES, Outcome, Register, Stage};
 use desk_rules::{Entry, Place, Reply, Sender};
 use std::alloc::Global;
 
@@ -97,7 +97,7 @@ impl FailingRegister {
         ensures stage { result.inner.stage ≡ Stage.Idle }
     {
         FailingRegister {
-            inner: ListRegister::new(alloc, 999_999_999),
+            inner: ListRegister::new(alloc, MOST_ENTRIES),
             calls: Calls::new(plan),
             failed_in: Stage::Idle,
         }

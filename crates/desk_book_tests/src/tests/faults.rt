@@ -3,7 +3,7 @@ use crate::tests::day::{Asked, DELIVERER, NO_COMMAND, RECEIVER, ask, day, is_wan
 use crate::tests::failing::{FailingRegister, Plan};
 use desk_book::*;
 use desk_codes::Bic;
-use desk_register::{ListRegister, Register, Stage};
+use desk_register::{ListRegister, MOST_ENTRIES, Register, Stage};
 use desk_rules::Reply;
 use std::alloc::{AllocError, Global};
 use std::process::Abort;
@@ -65,7 +65,7 @@ fn calls_of_each_request(rt: HostRuntime) -> Result<(), Fail> {
 
 /// What plain lists hold after the first requests of a day.
 fn held_after(alloc: Global, day: &[Asked<'_>], count: usize) -> ListRegister {
-    let mut desk = Desk::new(ListRegister::new(alloc, 999_999_999));
+    let mut desk = Desk::new(ListRegister::new(alloc, MOST_ENTRIES));
     for asked in day.iter().take(count) {
         let _answer = ask(alloc, &mut desk, asked);
     }
@@ -74,14 +74,6 @@ fn held_after(alloc: Global, day: &[Asked<'_>], count: usize) -> ListRegister {
 
 fn same_reply(a: &Reply, b: &Reply) -> bool {
     a.status == b.status && a.mt == b.mt && a.text.as_bytes() == b.text.as_bytes()
-}
-
-fn same_answer(a: &Result<Reply, Fault>, b: &Result<Reply, Fault>) -> bool {
-    match (a, b) {
-        (Ok(a), Ok(b)) => same_reply(a, b),
-        (Err(a), Err(b)) => a == b,
-        (Ok(_), Err(_)) | (Err(_), Ok(_)) => false,
-    }
 }
 
 /// Whether two registers hold the same entries, with the same replies.
@@ -157,78 +149,6 @@ fn each_call_fails_once(rt: HostRuntime) -> Result<(), Fail> {
         }
     }
     Ok(())
-}
-
-/// After `fault 61` the store holds what it held, before anything else is asked.
-#[test]
-fn a_fault_changes_nothing(rt: HostRuntime) -> Result<(), Fail> {
-    let alloc = rt.alloc();
-    let day = day(Bic::parse(DELIVERER)?, Bic::parse(RECEIVER)?);
-    let (calls, all) = counted_calls(alloc, &day)?;
-    for is_late in [false, true] {
-        for first in 1..all.saturating_add(1) {
-            let hit = request_of(&calls, first);
-            let plan = Plan {
-                is_late,
-                ..Plan::failing(first, 1)
-            };
-            let mut desk = failing_desk(alloc, plan);
-            for asked in day.iter().take(hit) {
-                let _answer = ask(alloc, &mut desk, asked);
-            }
-            let failed = day.get(hit).ok_or("request")?;
-            let answer = ask(alloc, &mut desk, failed);
-            assert!(rt; matches!(&answer, Err(Fault::Storage)), "at {first}");
-            let register = desk.into_register();
-            let before = held_after(alloc, &day, hit);
-            assert!(rt; holds_same(&register.inner, &before), "at {first}");
-        }
-    }
-    Ok(())
-}
-
-/// The request that failed is asked again only at the end: till then the desk answers as one that was never asked it,
-/// and then as one that is asked it for the first time.
-#[test]
-fn a_failed_request_is_left_out(rt: HostRuntime) -> Result<(), Fail> {
-    let alloc = rt.alloc();
-    let day = day(Bic::parse(DELIVERER)?, Bic::parse(RECEIVER)?);
-    let (calls, all) = counted_calls(alloc, &day)?;
-    for first in 1..all.saturating_add(1) {
-        let hit = request_of(&calls, first);
-        let plan = Plan::failing(first, 1);
-        ask_last(&rt, alloc, &day, plan, hit);
-    }
-    Ok(())
-}
-
-/// Asks two desks a day's requests, one whose store fails in the request at `hit`, and one that is not asked that
-/// request. At the end both are asked it.
-fn ask_last(rt: &impl Abort, alloc: Global, day: &[Asked<'_>], plan: Plan, hit: usize) {
-    let mut desk = failing_desk(alloc, plan);
-    let mut plain = Desk::new(ListRegister::new(alloc, 999_999_999));
-    for (index, asked) in day.iter().enumerate() {
-        let answer = ask(alloc, &mut desk, asked);
-        if index == hit {
-            assert!(rt;
-                matches!(&answer, Err(Fault::Storage)),
-                "{plan:?} at {index}"
-            );
-        } else {
-            let want = ask(alloc, &mut plain, asked);
-            assert!(rt; same_answer(&answer, &want), "{plan:?} at {index}");
-        }
-    }
-    for asked in day.iter().skip(hit).take(1) {
-        let answer = ask(alloc, &mut desk, asked);
-        let want = ask(alloc, &mut plain, asked);
-        assert!(rt; same_answer(&answer, &want), "{plan:?} again");
-    }
-    let register = desk.into_register();
-    assert!(rt;
-        holds_same(&register.inner, &plain.into_register()),
-        "{plan:?}"
-    );
 }
 
 /// A call fails and so does the next one, by which the desk would take it back, or see what is held: the desk is

@@ -1,7 +1,7 @@
 //! Scripts played on a desk in memory, over readers and writers that are slow or fail.
 use crate::tests::scripts::FREE_PAIR;
 use desk_book::*;
-use desk_register::{ListRegister, Register};
+use desk_register::{ListRegister, MOST_ENTRIES, Register};
 use std::io;
 use std::io::{ErrorKind, Read, Write};
 use std::test::Fail;
@@ -77,19 +77,16 @@ pub const ANSWERS: &[u8] = b"200\n\
       {\"cash\":[],\"securities\":[{\"held\":1000,\"isin\":\"DE0007164600\",\"outstanding\":1000}]}\n\
       .\n";
 
-/// A script has so many bytes at most.
-const LONGEST: usize = 16_777_216;
-
 /// The free pair's requests that are accepted; the last of its script asks for the totals.
 const ACCEPTED: usize = 9;
 
 /// Gives a script in pieces, and fails at one read. It counts its reads.
 #[derive(Drop)]
-struct Pieces<'a> {
-    rest: &'a [u8],
-    piece: usize,
-    reads: usize,
-    fails_at: usize,
+pub struct Pieces<'a> {
+    pub rest: &'a [u8],
+    pub piece: usize,
+    pub reads: usize,
+    pub fails_at: usize,
 }
 
 impl Read for Pieces<'_> {
@@ -145,23 +142,6 @@ fn whole_answers(text: &[u8]) -> usize {
     count
 }
 
-#[test]
-fn a_script_in_memory(rt: HostRuntime) -> Result<(), Fail> {
-    let alloc = rt.alloc();
-    let mut desk = Desk::new(ListRegister::new(alloc, 999_999_999));
-    let mut reader = FREE_PAIR;
-    let mut written = Vec::new(alloc);
-    desk.play(alloc, &mut reader, &mut written)?;
-    assert_eq!(rt; written.as_slice(), ANSWERS);
-    let mut more = b"hello\nsums".as_slice();
-    let mut told = Vec::new(alloc);
-    desk.play(alloc, &mut more, &mut told)?;
-    let want =
-        b"400\nrefused 41\n.\n200\n{\"cash\":[],\"securities\":[{\"held\":1000,\"isin\":\"DE0007164600\",\"outstanding\":1000}]}\n.\n";
-    assert_eq!(rt; told.as_slice(), want.as_slice());
-    Ok(())
-}
-
 /// How many reads give the script in such pieces, with the one that finds its end.
 fn reads_in_pieces(piece: usize) -> usize {
     if piece == 0 {
@@ -174,7 +154,7 @@ fn reads_in_pieces(piece: usize) -> usize {
 fn a_script_read_in_pieces(rt: HostRuntime) -> Result<(), Fail> {
     let alloc = rt.alloc();
     for piece in [1, 7, 4095] {
-        let mut desk = Desk::new(ListRegister::new(alloc, 999_999_999));
+        let mut desk = Desk::new(ListRegister::new(alloc, MOST_ENTRIES));
         let mut reader = Pieces {
             rest: FREE_PAIR,
             piece,
@@ -194,7 +174,7 @@ fn each_failed_read(rt: HostRuntime) -> Result<(), Fail> {
     let alloc = rt.alloc();
     let reads = FREE_PAIR.len().div_ceil(16) + 1;
     for fails_at in 1..=reads {
-        let mut desk = Desk::new(ListRegister::new(alloc, 999_999_999));
+        let mut desk = Desk::new(ListRegister::new(alloc, MOST_ENTRIES));
         let mut reader = Pieces {
             rest: FREE_PAIR,
             piece: 16,
@@ -224,7 +204,7 @@ fn each_failed_write(rt: HostRuntime) -> Result<(), Fail> {
         (usize::MAX, false),
         (usize::MAX, true),
     ] {
-        let mut desk = Desk::new(ListRegister::new(alloc, 999_999_999));
+        let mut desk = Desk::new(ListRegister::new(alloc, MOST_ENTRIES));
         let mut reader = FREE_PAIR;
         let mut writer = Taking {
             taken: Vec::new(alloc),
@@ -236,7 +216,7 @@ fn each_failed_write(rt: HostRuntime) -> Result<(), Fail> {
         desk.play(alloc, &mut reader, &mut writer)?;
         assert_eq!(rt; writer.taken.as_slice(), ANSWERS);
         for fails_at in 1..writer.writes.saturating_add(1) {
-            let mut desk = Desk::new(ListRegister::new(alloc, 999_999_999));
+            let mut desk = Desk::new(ListRegister::new(alloc, MOST_ENTRIES));
             let mut reader = FREE_PAIR;
             let mut failing = Taking {
                 taken: Vec::new(alloc),
@@ -261,25 +241,5 @@ fn each_failed_write(rt: HostRuntime) -> Result<(), Fail> {
             );
         }
     }
-    Ok(())
-}
-
-#[test]
-fn a_script_too_long(rt: HostRuntime) -> Result<(), Fail> {
-    let alloc = rt.alloc();
-    let mut desk = Desk::new(ListRegister::new(alloc, 999_999_999));
-    let mut script = vec![in alloc; b'#'; LONGEST - 5]?;
-    script.extend_from_slice(b"\nsums")?;
-    let mut reader = script.as_slice();
-    let mut written = Vec::new(alloc);
-    desk.play(alloc, &mut reader, &mut written)?;
-    let want = b"200\n{\"cash\":[],\"securities\":[]}\n.\n".as_slice();
-    assert_eq!(rt; written.as_slice(), want);
-    script.push(b'\n')?;
-    let mut reader = script.as_slice();
-    let mut nothing = Vec::new(alloc);
-    let answer = desk.play(alloc, &mut reader, &mut nothing);
-    assert!(rt; matches!(&answer, Err(PlayFault::TooLong)));
-    assert!(rt; nothing.is_empty());
     Ok(())
 }

@@ -125,26 +125,6 @@ fn letter(item: Item<'_>) -> char {
 }
 
 #[test]
-fn scripts_of_the_cases(rt: HostRuntime) -> Result<(), Fail> {
-    for (script, want) in [
-        (FREE_PAIR, "OOOOOOMMOS"),
-        (b"hello\n".as_slice(), "-"),
-        (b"in ALPHDEFF 999\nsums\n.\n".as_slice(), "-"),
-        (b"op\n{}\n".as_slice(), "-"),
-        (
-            b"in ALPHDEFF 541\nsums\n.\nin ALPHDEFF 543\nsums\n.\n".as_slice(),
-            "--",
-        ),
-        (b"status ALPHDEFF A1\nsent ALPHDEFF 1\n".as_slice(), "--"),
-        (b"holdings ALPHDEFF A-1\n".as_slice(), "-"),
-        (b"".as_slice(), ""),
-    ] {
-        assert_eq!(rt; shape(rt.alloc(), script)?.as_str(), want, "at {script:?}");
-    }
-    Ok(())
-}
-
-#[test]
 fn line_ends(rt: HostRuntime) -> Result<(), Fail> {
     for (script, want) in [
         (b"sums".as_slice(), "S"),

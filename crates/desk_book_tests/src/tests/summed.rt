@@ -1,7 +1,7 @@
 //! The totals of a register in plain lists, and their text.
 use desk_book::{SecurityTotal, security_totals, totals_text};
 use desk_msg::Kind;
-use desk_register::{Fault, ListRegister};
+use desk_register::Fault;
 use desk_worked::entries::{BOND, SHARE, issue, new_account, participant, security};
 use desk_worked::ledger::Ledger;
 use std::alloc::Global;
@@ -44,19 +44,5 @@ fn securities_in_order(rt: HostRuntime) -> Result<(), Fail> {
     let want =
         br#"{"cash":[],"securities":[{"held":1000,"isin":"DE0007164600","outstanding":1000},{"held":7,"isin":"US0378331005","outstanding":7}]}"#;
     assert_eq!(rt; text.as_slice(), want.as_slice());
-    Ok(())
-}
-
-#[test]
-fn no_securities(rt: HostRuntime) -> Result<(), Fail> {
-    let alloc = rt.alloc();
-    let mut register = ListRegister::new(alloc, 1);
-    let totals = security_totals(alloc, &mut register)?;
-    assert_eq!(rt; totals.len(), 0);
-    let text = totals_text(alloc, &totals)?;
-    assert_eq!(rt;
-        text.as_slice(),
-        br#"{"cash":[],"securities":[]}"#.as_slice()
-    );
     Ok(())
 }

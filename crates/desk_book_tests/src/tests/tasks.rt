@@ -4,7 +4,6 @@ use desk_book::*;
 use desk_codes::Bic;
 use desk_msg::{Message, Mt, fields_text};
 use desk_rules::Entry;
-use desk_worked::entries::run;
 use std::process::Abort;
 use std::test::Fail;
 
@@ -50,22 +49,6 @@ fn message_to_decide_on(rt: HostRuntime) -> Result<(), Fail> {
     assert!(rt; from == sender);
     let fields = fields_text(alloc, &message)?;
     assert_eq!(rt; fields.as_slice(), RECEIVED.as_bytes());
-    Ok(())
-}
-
-#[test]
-fn command_to_decide_on(rt: HostRuntime) -> Result<(), Fail> {
-    let text = br#"{"op":"run","ref":"R1","day":"20240229"}"#;
-    let run = run("R1", b"20240229")?;
-    let task = task_of(rt.alloc(), &Request::Operator(text))?;
-    assert!(rt; command_in(&task) == Some(run));
-    Ok(())
-}
-
-#[test]
-fn totals_asked(rt: HostRuntime) -> Result<(), Fail> {
-    let task = task_of(rt.alloc(), &Request::Sums)?;
-    assert!(rt; matches!(task, Task::Totals));
     Ok(())
 }
 

@@ -26,16 +26,16 @@ fn move_balances(
     match entry {
         Entry::Issue(issue) => {
             let held = quantity_of(lists, &issue.account, &issue.isin) + issue.quantity;
-            let whole = outstanding_of(lists, &issue.isin) + issue.quantity;
+            let outstanding = outstanding_of(lists, &issue.isin) + issue.quantity;
             put_quantity(lists, changes, issue.account, issue.isin, held)?;
-            put_outstanding(lists, changes, issue.isin, whole)
+            put_outstanding(lists, changes, issue.isin, outstanding)
         }
         Entry::Redeem(redemption) => {
             let held = quantity_of(lists, &redemption.account, &redemption.isin)
                 - redemption.quantity;
-            let whole = outstanding_of(lists, &redemption.isin) - redemption.quantity;
+            let outstanding = outstanding_of(lists, &redemption.isin) - redemption.quantity;
             put_quantity(lists, changes, redemption.account, redemption.isin, held)?;
-            put_outstanding(lists, changes, redemption.isin, whole)
+            put_outstanding(lists, changes, redemption.isin, outstanding)
         }
         _ => Ok(()),
     }

@@ -32,11 +32,11 @@ impl Lists {
                     self.quantities[index] = was;
                 }
             }
-            Change::Listed => {
+            Change::OutstandingAdded => {
                 let _ = self.securities.pop();
                 let _ = self.outstanding.pop();
             }
-            Change::Resized { index, was } => {
+            Change::OutstandingChanged { index, was } => {
                 if index < self.outstanding.len() {
                     self.outstanding[index] = was;
                 }
@@ -130,7 +130,7 @@ pub fn move_quantity(
 }
 
 /// Adds what is outstanding of a security.
-pub fn list_security(
+pub fn add_outstanding(
     lists: &mut Lists,
     changes: &mut Vec<Change>,
     isin: Isin,
@@ -142,14 +142,14 @@ pub fn list_security(
 {
     lists.securities.reserve(1)?;
     lists.outstanding.reserve(1)?;
-    changes.push(Change::Listed)?;
+    changes.push(Change::OutstandingAdded)?;
     lists.securities.push(isin).unwrap();
     lists.outstanding.push(quantity).unwrap();
     Ok(())
 }
 
 /// Changes what is outstanding of a security, at its index.
-pub fn resize(
+pub fn change_outstanding(
     lists: &mut Lists,
     changes: &mut Vec<Change>,
     index: usize,
@@ -161,7 +161,7 @@ pub fn resize(
     ensures err { OnErr result ((listed lists.new ≡ listed lists.old) × (changes.new.items ≡ changes.old.items)) }
 {
     let was = lists.outstanding[index];
-    changes.push(Change::Resized { index, was })?;
+    changes.push(Change::OutstandingChanged { index, was })?;
     lists.outstanding[index] = quantity;
     Ok(())
 }

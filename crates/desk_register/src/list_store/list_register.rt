@@ -9,9 +9,9 @@ use crate::register::Stage;
 /// A register holds so many entries at most: their numbers have nine digits.
 pub const MOST_ENTRIES: u64 = 999_999_999;
 
-/// A register in plain lists. What is changed since `begin` is noted, so that `back` undoes it without a copy
-/// of the whole. Contracts see it by `view_of_lists`. Its fields are public for stores that are built around it, as the one
-/// of the tests of which calls fail.
+/// A register in plain lists. What is changed since `begin` is noted, so that `back` undoes it without a copy of the
+/// whole. Contracts see it by `view_of_lists`. Its fields are public for stores that are built around it, such as the
+/// tests' store whose calls fail.
 #[derive(Drop)]
 pub struct ListRegister {
     /// At most `MOST_ENTRIES`

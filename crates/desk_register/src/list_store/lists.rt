@@ -23,10 +23,10 @@ pub enum Change {
     Opened,
     /// A quantity of an account was changed; it was so much.
     Moved { index: usize, was: u64 },
-    /// The whole of a security was added.
-    Listed,
-    /// The whole of a security was changed; it was so much.
-    Resized { index: usize, was: u64 },
+    /// What is outstanding of a security was added.
+    OutstandingAdded,
+    /// What is outstanding of a security was changed; it was so much.
+    OutstandingChanged { index: usize, was: u64 },
 }
 
 /// The entries with their replies, where each stands, the quantities of accounts with their keys, and what is

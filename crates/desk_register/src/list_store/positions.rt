@@ -4,7 +4,9 @@ ghost use Rattle.desk_register.specs.Content.{moved_to};
 ghost use Rattle.desk_register.specs.Lists.{listed, quantity_in, outstanding_in, undone, with_outstanding, SameButQuantities, SameButOutstanding};
 
 use crate::list_store::balances::{index_of_key, index_of_security, outstanding, quantity};
-use crate::list_store::changes::{list_security, move_quantity, open_quantity, resize};
+use crate::list_store::changes::{
+    add_outstanding, change_outstanding, move_quantity, open_quantity,
+};
 use crate::list_store::lists::{BalanceKey, Change, Lists};
 use desk_codes::{AccountId, Isin};
 use std::alloc::AllocError;
@@ -42,8 +44,8 @@ pub fn put_outstanding(
     ensures err { OnErr result ((listed lists.new ≡ listed lists.old) × (changes.new.items ≡ changes.old.items)) }
 {
     match index_of_security(&lists.securities, &isin) {
-        Some(index) => resize(lists, changes, index, quantity),
-        None => list_security(lists, changes, isin, quantity),
+        Some(index) => change_outstanding(lists, changes, index, quantity),
+        None => add_outstanding(lists, changes, isin, quantity),
     }
 }
 

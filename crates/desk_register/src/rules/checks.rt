@@ -13,7 +13,7 @@ use desk_rules::{Entry, Movement, Refusal};
 use std::alloc::Global;
 
 /// The depository's own BIC.
-const DESK: &[u8] = b"DESKDEFF";
+const DESK_BIC: &[u8] = b"DESKDEFF";
 
 /// The most that may be outstanding of a security.
 const MOST_OUTSTANDING: u64 = 99_999_999_999_999;
@@ -39,7 +39,7 @@ fn is_owner(bic: &Bic, owner: Option<Bic>) -> bool
 fn is_desk(place: &Bic) -> bool
     ensures { result ≡ bytes_eq place.now desk_bic }
 {
-    place.as_bytes() == DESK
+    place.as_bytes() == DESK_BIC
 }
 
 /// Whether a day is before that of the last run.

@@ -2,11 +2,11 @@
 ghost use Rattle.std.specs.Prelude.{◌≤◌};
 
 use desk_msg::Kind;
-use desk_register::{Applied, is_supported};
+use desk_register::Applied;
 use desk_rules::Entry;
 use desk_worked::entries::{
-    BOND, Deal, SHARE, UNKNOWN, against_payment, delivery, instruct, issue, new_account,
-    participant, receipt, redeem, run, security,
+    BOND, Deal, SHARE, UNKNOWN, delivery, instruct, issue, new_account, participant, receipt,
+    run, security,
 };
 use desk_worked::ledger::{Entered, Ledger};
 use std::alloc::Global;
@@ -225,15 +225,4 @@ fn full(rt: HostRuntime) -> Result<(), Fail> {
     refuses(&rt, alloc, &mut ledger, command, 21)?;
     refuses(&rt, alloc, &mut ledger, again, 32)?;
     repeats(&rt, alloc, &mut ledger, last, 5)
-}
-
-#[test]
-fn tells_what_is_supported(rt: HostRuntime) -> Result<(), Fail> {
-    let alloc = rt.alloc();
-    let paid = against_payment(delivery("A1"));
-    assert!(rt; is_supported(&run("R1", b"20240229")?));
-    assert!(rt; is_supported(&instruct(alloc, delivery("A1"))?));
-    assert!(rt; !is_supported(&instruct(alloc, paid)?));
-    assert!(rt; !is_supported(&redeem("D1", "A-1", SHARE, 1)?));
-    Ok(())
 }

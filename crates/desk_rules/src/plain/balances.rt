@@ -256,7 +256,8 @@ fn spent(entries: &[Entry], settled: &[Settled], bic: &Bic, ccy: Ccy) -> u128
     total
 }
 
-/// What came on an account of a security: issues and receipts. The position is this less the debits.
+/// What came on an account of a security, in units or by face amount: issues and receipts. The position is this less
+/// the debits.
 pub fn credits(entries: &[Entry], settled: &[Settled], account: &AccountId, isin: &Isin) -> u128
     ensures sum { result ≡ credits entries.now settled.now account.now isin.now }
     ensures small { result ≤ 2 ^ 127 }
@@ -264,7 +265,7 @@ pub fn credits(entries: &[Entry], settled: &[Settled], account: &AccountId, isin
     issued(entries, account, isin) + received(entries, settled, account, isin)
 }
 
-/// What went from an account of a security: redemptions and deliveries.
+/// What went from an account of a security, in units or by face amount: redemptions and deliveries.
 pub fn debits(entries: &[Entry], settled: &[Settled], account: &AccountId, isin: &Isin) -> u128
     ensures sum { result ≡ debits entries.now settled.now account.now isin.now }
     ensures small { result ≤ 2 ^ 127 }
@@ -272,8 +273,8 @@ pub fn debits(entries: &[Entry], settled: &[Settled], account: &AccountId, isin:
     redeemed(entries, account, isin) + delivered(entries, settled, account, isin)
 }
 
-/// What came to a participant in a currency: pay ins, and what it was paid for deliveries. Its cash is this less
-/// the debits.
+/// What came to a participant in a currency, in minor units: pay ins, and what it was paid for deliveries. Its cash is
+/// this less the debits.
 pub fn cash_credits(entries: &[Entry], settled: &[Settled], bic: &Bic, ccy: Ccy) -> u128
     ensures sum { result ≡ cash_credits entries.now settled.now bic.now ccy }
     ensures small { result ≤ 2 ^ 127 }
@@ -281,7 +282,7 @@ pub fn cash_credits(entries: &[Entry], settled: &[Settled], bic: &Bic, ccy: Ccy)
     paid_in(entries, bic, ccy) + earned(entries, settled, bic, ccy)
 }
 
-/// What went from a participant in a currency: pay outs, and what it paid for receipts.
+/// What went from a participant in a currency, in minor units: pay outs, and what it paid for receipts.
 pub fn cash_debits(entries: &[Entry], settled: &[Settled], bic: &Bic, ccy: Ccy) -> u128
     ensures sum { result ≡ cash_debits entries.now settled.now bic.now ccy }
     ensures small { result ≤ 2 ^ 127 }

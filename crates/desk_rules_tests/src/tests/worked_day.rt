@@ -20,7 +20,7 @@ ghost use Rattle.desk_rules.specs.Sent.{sent_of};
 ghost use Rattle.desk_rules.specs.Confirmations.{brought, cash_brought, cash_taken, taken};
 ghost use Rattle.desk_rules.specs.Content.{mate_of};
 ghost use Rattle.desk_rules.specs.Questions.{sent_reply, status_reply};
-ghost use Rattle.desk_rules_tests.specs.WorkedDay.{a_1, alpha, at_cancel, at_delivery, at_receipt, at_run, at_short_run, b_1, beta, cancel, cancel_as_free, delivery, gamma, movement, larger, leap_day, moved, payment, receipt, share};
+ghost use Rattle.desk_rules_tests.specs.WorkedDay.{a_1, alpha, at_cancel, at_delivery, at_receipt, at_run, at_short_run, b_1, beta, cancel, cancel_as_free, confirmations, delivery, gamma, movement, larger, leap_day, payment, receipt, share};
 
 /// The replies to what was accepted, and two of refusals.
 fn replies()
@@ -90,10 +90,10 @@ fn confirmed()
 
 /// What the confirmations of the day bring and take.
 fn brought_and_taken()
-    ensures from { (taken moved a_1 share ≡ 400) × (brought moved a_1 share ≡ 0) }
-    ensures to { (brought moved b_1 share ≡ 400) × (taken moved b_1 share ≡ 0) }
-    ensures paid { (cash_brought moved alpha Eur ≡ 100_050) × (cash_taken moved alpha Eur ≡ 0) }
-    ensures paying { (cash_taken moved beta Eur ≡ 100_050) × (cash_brought moved beta Eur ≡ 0) }
+    ensures from { (taken confirmations a_1 share ≡ 400) × (brought confirmations a_1 share ≡ 0) }
+    ensures to { (brought confirmations b_1 share ≡ 400) × (taken confirmations b_1 share ≡ 0) }
+    ensures paid { (cash_brought confirmations alpha Eur ≡ 100_050) × (cash_taken confirmations alpha Eur ≡ 0) }
+    ensures paying { (cash_taken confirmations beta Eur ≡ 100_050) × (cash_brought confirmations beta Eur ≡ 0) }
 {}
 
 /// The verdicts on messages at the end of the day, and on cancellations in its course. Where several checks fail it

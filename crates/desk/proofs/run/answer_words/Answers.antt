@@ -1,13 +1,13 @@
 use Rattle.std.proofs.Common.{◌≡◌, inr}
 use Rattle.std.proofs.lemmas.Result.{IfOk-weaker}
 use Rattle.clap.specs.Words.{kind_of}
-use Rattle.desk.specs.Words.{asked_by, play}
+use Rattle.desk.specs.Words.{value_of_call, play}
 use Rattle.desk.proofs.RunLemmas.{memory_told}
 use Rattle.desk.proofs.run.answer_words.Goals as goal
 
 pub returns-in-Ok-clause-asked : goal.returns-in-Ok-clause-asked
 returns-in-Ok-clause-asked g c = λ program asked right are.
-    let same : asked_by c.in-Ok.call ≡ asked = c.in-Ok.ensures.asked program asked right are in
+    let same : value_of_call c.in-Ok.call ≡ asked = c.in-Ok.ensures.asked program asked right are in
     IfOk-weaker c.answer.result _ _ (λ status told. inr (rw same at told)) c.answer.ensures
 
 pub returns-in-Err-clause-asked : goal.returns-in-Err-clause-asked
@@ -16,7 +16,7 @@ returns-in-Err-clause-asked g c = λ program asked right are.
 
 pub returns-in-Ok-clause-nothing : goal.returns-in-Ok-clause-nothing
 returns-in-Ok-clause-nothing g c = λ program are.
-    let same : asked_by c.in-Ok.call ≡ play = c.in-Ok.ensures.nothing program are in
+    let same : value_of_call c.in-Ok.call ≡ play = c.in-Ok.ensures.nothing program are in
     IfOk-weaker c.answer.result _ _ (λ status told. inr (rw same at told)) c.answer.ensures
 
 pub returns-in-Err-clause-nothing : goal.returns-in-Err-clause-nothing

@@ -1,6 +1,6 @@
 use Rattle.desk.specs.CallAnswer.{IsAnswer}
 use Rattle.std.specs.Prelude.{map}
-use Rattle.desk.specs.Words.{Asked, IsSaidBy, play}
+use Rattle.desk.specs.Words.{CallValue, IsSaidBy, play}
 use Rattle.desk.proofs.RunLemmas.{ended, told}
 use Rattle.desk.proofs.run.run.Goals as goal
 
@@ -14,4 +14,4 @@ returns-clause-nothing g c = λ program are.
 
 pub returns-clause-refused : goal.returns-clause-refused
 returns-clause-refused g c =
-    rw c.unwrap_or.ensures (told c.answer_words.result (λ status. (asked : Asked) × IsSaidBy asked (map g.S.AsStr.text c.args.words.now) × IsAnswer asked (g.R.Read.remaining c.args.reader.now) status (g.W.Write.contents c.args.writer.now) (g.W.Write.contents c.answer_words.new.writer)) c.answer_words.ensures.refused)
+    rw c.unwrap_or.ensures (told c.answer_words.result (λ status. (asked : CallValue) × IsSaidBy asked (map g.S.AsStr.text c.args.words.now) × IsAnswer asked (g.R.Read.remaining c.args.reader.now) status (g.W.Write.contents c.args.writer.now) (g.W.Write.contents c.answer_words.new.writer)) c.answer_words.ensures.refused)
