@@ -1,11 +1,16 @@
 //! A register in plain lists that takes in what the desk accepts, entry by entry, as the desk does.
-ghost use Rattle.std.specs.Prelude.{◌≡◌, ◌≢◌, ◌≤◌, IfNone, IfOk, IfSome, OnErr, OnOk, IsTrue};
-ghost use Rattle.desk_rules.specs.Verdict.{Books};
+ghost use Rattle.std.specs.Prelude.{◌≡◌, ◌≢◌, ◌≤◌, ◌+◌, false, length, option_map, IfErr, IfNone, IfOk, IfSome, IsOk, OnErr, OnOk, IsTrue};
+ghost use Rattle.desk_codes.specs.Number.{number_of};
+ghost use Rattle.desk_rules.specs.Balances.{issued, redeemed};
+ghost use Rattle.desk_rules.specs.Verdict.{Books, last_run};
 ghost use Rattle.desk_register.specs.declared.rules.applied.Applied.{Applied as AppliedValue};
-ghost use Rattle.desk_register.specs.Applied.{CanApply, HasApplied, Keeps};
+ghost use Rattle.desk_register.specs.Applied.{CanApply, HasApplied, Keeps, no_books};
+ghost use Rattle.desk_register.specs.Content.{history_of};
 ghost use Rattle.desk_register.specs.Decision.{is_supported};
 ghost use Rattle.desk_register.specs.ListView.{view_of_lists};
-ghost use Rattle.desk_register.specs.View.{Breaks, IsLater};
+ghost use Rattle.desk_register.specs.Looked.{IsDuePairAfter, found_at, held_of, view_of};
+ghost use Rattle.desk_register.specs.View.{Blames, Breaks, IsLater};
+ghost use Rattle.desk_worked.specs.Ledger.{IsEntered, IsUnchanged, content_of, is_taken_in, room_of};
 
 use desk_codes::{AccountId, Day, Isin};
 use desk_register::{
@@ -73,6 +78,7 @@ fn put<R: Register>(alloc: Global, register: &mut R, entry: Entry) -> Result<App
     ensures ok { OnOk result ((R.view register.new).stage ≡ Stage.Idle) }
     ensures err { OnErr result (Breaks (R.view register.old) (R.view register.new)) }
     ensures later { IsLater (R.view register.old) (R.view register.new) }
+    ensures blame { Blames result (R.view register.old) (R.view register.new) }
 {
     let applied = apply(alloc, register, entry)?;
     let _reply = accepted_reply(alloc, &entry, &applied)?;
@@ -84,6 +90,8 @@ impl Ledger {
     /// An empty one, for at most `limit` entries.
     pub fn new(alloc: Global, limit: u64) -> Ledger
         requires { limit ≤ 999_999_999 }
+        ensures empty { Keeps limit no_books (content_of result) }
+        ensures room { room_of result ≡ limit }
     {
         Ledger {
             register: ListRegister::new(alloc, limit),
@@ -92,6 +100,7 @@ impl Ledger {
 
     /// Its register.
     pub fn into_register(self) -> ListRegister
+        ensures same { result ≡ self }
         ensures idle { (view_of_lists result).stage ≡ Stage.Idle }
         ensures keeps { (books : Books) × Keeps (view_of_lists result).room books (view_of_lists result).content }
     {
@@ -102,6 +111,11 @@ impl Ledger {
     fn take(&mut self, alloc: Global, entry: Entry) -> Result<Applied, Fault>
         requires supported { IsTrue (is_supported entry) }
         requires accepted { CanApply (view_of_lists self.old).room entry (view_of_lists self.old).content }
+        ensures taken { (books : Books) → Keeps (room_of self.old) books (content_of self.old)
+            → IfOk result (λ applied. HasApplied (room_of self.old) books entry applied (content_of self.new)) }
+        ensures err { OnErr result (content_of self.new ≡ content_of self.old) }
+        ensures memory { IfErr result (λ fault. fault ≡ Fault.Memory) }
+        ensures room { room_of self.new ≡ room_of self.old }
     {
         self.register.begin(alloc)?;
         match put(alloc, &mut self.register, entry) {
@@ -113,8 +127,15 @@ impl Ledger {
         }
     }
 
-    /// Decides on an entry, and takes it in where it is accepted.
-    pub fn enter(&mut self, alloc: Global, entry: Entry) -> Result<Entered, Fault> {
+    /// Decides on an entry, and takes it in where it is accepted. The only fault is want of memory.
+    pub fn enter(&mut self, alloc: Global, entry: Entry) -> Result<Entered, Fault>
+        ensures entered { (books : Books) → Keeps (room_of self.old) books (content_of self.old)
+            → IfOk result (λ entered. IsEntered (room_of self.old) books entry entered (content_of self.new)) }
+        ensures not_taken { is_supported entry ≡ false → result ≡ Ok Entered.NotTaken }
+        ensures same { is_taken_in result ≡ false → content_of self.new ≡ content_of self.old }
+        ensures memory { IfErr result (λ fault. fault ≡ Fault.Memory) }
+        ensures room { room_of self.new ≡ room_of self.old }
+    {
         if !is_supported(&entry) {
             return Ok(Entered::NotTaken);
         }
@@ -129,37 +150,56 @@ impl Ledger {
     }
 
     /// How many entries there are.
-    pub fn count(&mut self, alloc: Global) -> Result<u64, Fault> {
+    pub fn count(&mut self, alloc: Global) -> Result<u64, Fault>
+        ensures value { IfOk result (λ r. r ≡ length (content_of self.old).register) }
+        ensures same { IsUnchanged self.old self.new }
+        ensures ok { IsOk result }
+    {
         self.register.count(alloc)
     }
 
     /// The entry of this number, counted from 1; None where there is none.
-    pub fn by_number(&mut self, alloc: Global, number: u64) -> Result<Option<Found>, Fault> {
+    pub fn by_number(&mut self, alloc: Global, number: u64) -> Result<Option<Found>, Fault>
+        ensures value { IfOk result (λ r. option_map view_of r ≡ found_at (content_of self.old) number) }
+        ensures same { IsUnchanged self.old self.new }
+        ensures memory { IfErr result (λ fault. fault ≡ Fault.Memory) }
+    {
         self.register.by_number(alloc, number)
     }
 
     /// What an account holds of a security.
-    pub fn position(
-        &mut self,
-        alloc: Global,
-        account: AccountId,
-        isin: Isin,
-    ) -> Result<u64, Fault> {
+    pub fn position(&mut self, alloc: Global, account: AccountId, isin: Isin) -> Result<u64, Fault>
+        ensures value { IfOk result (λ r. r ≡ (content_of self.old).position account isin) }
+        ensures same { IsUnchanged self.old self.new }
+        ensures ok { IsOk result }
+    {
         self.register.position(alloc, account, isin)
     }
 
     /// What is outstanding of a security.
-    pub fn outstanding(&mut self, alloc: Global, isin: Isin) -> Result<u64, Fault> {
+    pub fn outstanding(&mut self, alloc: Global, isin: Isin) -> Result<u64, Fault>
+        ensures value { IfOk result (λ r. redeemed (history_of (content_of self.old)) isin + r ≡ issued (history_of (content_of self.old)) isin) }
+        ensures same { IsUnchanged self.old self.new }
+        ensures ok { IsOk result }
+    {
         self.register.outstanding(alloc, isin)
     }
 
     /// What all accounts hold of a security.
-    pub fn held(&mut self, alloc: Global, isin: Isin) -> Result<u64, Fault> {
+    pub fn held(&mut self, alloc: Global, isin: Isin) -> Result<u64, Fault>
+        ensures value { IfOk result (λ r. r ≡ held_of (content_of self.old) isin) }
+        ensures same { IsUnchanged self.old self.new }
+        ensures ok { IsOk result }
+    {
         self.register.held(alloc, isin)
     }
 
     /// The day of the last run; None before any.
-    pub fn last_run(&mut self, alloc: Global) -> Result<Option<Day>, Fault> {
+    pub fn last_run(&mut self, alloc: Global) -> Result<Option<Day>, Fault>
+        ensures value { IfOk result (λ r. option_map number_of r ≡ last_run (history_of (content_of self.old))) }
+        ensures same { IsUnchanged self.old self.new }
+        ensures ok { IsOk result }
+    {
         self.register.last_run(alloc)
     }
 
@@ -169,7 +209,11 @@ impl Ledger {
         alloc: Global,
         day: Day,
         place: Option<Place>,
-    ) -> Result<Option<Place>, Fault> {
+    ) -> Result<Option<Place>, Fault>
+        ensures value { IfOk result (λ r. IsDuePairAfter (content_of self.old) (number_of day) place r) }
+        ensures same { IsUnchanged self.old self.new }
+        ensures ok { IsOk result }
+    {
         self.register.due_pair_after(alloc, day, place)
     }
 }

@@ -1,5 +1,10 @@
+use Rattle.std.proofs.Common.{IfOk, subst}
+use Rattle.desk_codes.specs.Number.{number_of}
+use Rattle.desk_register.specs.Looked.{IsDuePairAfter}
+use Rattle.desk_register.specs.declared.list_store.list_register.ListRegister.{ListRegister}
+use Rattle.desk_worked.specs.Ledger.{content_of}
 use Rattle.desk_register.proofs.TestLemmas.{kept_in}
-use Rattle.desk_worked.proofs.LedgerLemmas.{read_idle}
+use Rattle.desk_worked.proofs.LedgerLemmas.{read_idle, read_unchanged}
 use Rattle.desk_worked.proofs.ledger.Ledger.due_pair_after.Goals as goal
 
 pub invariant_of-self : goal.invariant_of-self
@@ -8,3 +13,11 @@ invariant_of-self c =
     let kept = c.self.invariant.1 in
     let idle = read_idle c.due_pair_after.result _ _ read tt tt tt c.self.invariant.0 in
     (idle.0, (kept.0, kept_in _ _ kept.0 _ _ read.later.room idle.1 kept.1))
+
+pub returns-clause-same : goal.returns-clause-same
+returns-clause-same c = read_unchanged c.due_pair_after.result _ _ _ c.self.view_is c.due_pair_after.ensures.read c.self.invariant.0
+
+pub returns-clause-value : goal.returns-clause-value
+returns-clause-value c =
+    let P : ListRegister → Type 0 = λ r. IfOk c.due_pair_after.result (λ x. IsDuePairAfter (content_of r) (number_of c.args.day) c.args.place x) in
+    subst P c.self.view_is (c.due_pair_after.ensures.value tt tt)

@@ -4,7 +4,10 @@ use Rattle.desk_rules.specs.Verdict.{IsVerdict}
 use Rattle.desk_register.specs.declared.register.Stage.{Stage}
 use Rattle.desk_register.specs.declared.register.Stage.TheVariants.{Idle, Failed}
 use Rattle.desk_register.specs.View.{fallen}
+use Rattle.desk_register.specs.declared.list_store.list_register.ListRegister.{ListRegister}
+use Rattle.desk_register.specs.Applied.{HasApplied, Keeps}
 use Rattle.desk_register.proofs.TestLemmas.{kept_in}
+use Rattle.desk_worked.specs.Ledger.{content_of, room_of}
 use Rattle.desk_worked.proofs.ledger.Ledger.enter.Goals as goal
 
 not_failed : (stage : Stage) → stage ≡ Idle → stage ≡ Failed → ⊥
@@ -46,3 +49,30 @@ invariant_of-self-in-Refuse c =
     let read = c.in_ok-decide.ensures.read in
     let kept = c.self.invariant.1 in
     (read.ok.stage ∙ c.self.invariant.0, (kept.0, kept_in _ _ kept.0 _ _ read.later.room (read.same tt tt) kept.1))
+
+pub returns-in_err-decide-clause-same : goal.returns-in_err-decide-clause-same
+returns-in_err-decide-clause-same c = λ _.
+    c.in_err-decide.ensures.read.err.content tt tt c.self.invariant.0 ∙ ap content_of c.self.view_is
+
+pub returns-in_err-applied-in-Accept-clause-same :
+    goal.returns-in_err-applied-in-Accept-clause-same
+returns-in_err-applied-in-Accept-clause-same c = λ _.
+    c.in_err-applied-in-Accept.ensures.err ∙ c.in_ok-decide.ensures.read.same tt tt ∙ ap content_of c.self.view_is
+
+pub returns-in_ok-applied-in-Accept-clause-entered :
+    goal.returns-in_ok-applied-in-Accept-clause-entered
+returns-in_ok-applied-in-Accept-clause-entered c = λ books keeps.
+    let d = c.in_ok-decide.ensures in
+    let P : ListRegister → Type 0 = λ r. Keeps (room_of r) books (content_of r) in
+    let V : ℕ → Type 0 = λ limit. IsVerdict limit books c.args.entry Accept in
+    let Q : ℕ → Type 0 = λ limit. HasApplied limit books c.args.entry c.in_ok-applied-in-Accept.applied (content_of c.take.new.self) in
+    let kept = subst P (sym c.self.view_is) keeps in
+    let verdict = rw c.in-Accept.is at (d.verdict books tt tt (not_failed _ c.self.invariant.0) kept.tables.history) in
+    let has = c.in_ok-applied-in-Accept.ensures.taken books (kept_in _ _ books _ _ d.read.later.room (d.read.same tt tt) kept) in
+    (subst V (ap room_of c.self.view_is) verdict, subst Q (d.read.later.room ∙ ap room_of c.self.view_is) has)
+
+pub returns-in-Repeat-clause-same : goal.returns-in-Repeat-clause-same
+returns-in-Repeat-clause-same c = λ _. c.in_ok-decide.ensures.read.same tt tt ∙ ap content_of c.self.view_is
+
+pub returns-in-Refuse-clause-same : goal.returns-in-Refuse-clause-same
+returns-in-Refuse-clause-same c = λ _. c.in_ok-decide.ensures.read.same tt tt ∙ ap content_of c.self.view_is

@@ -1,7 +1,10 @@
-use Rattle.std.proofs.Common.{◌<◌, ◌^◌, arith, lit<}
+use Rattle.std.proofs.Common.{◌≡◌, ◌<◌, ◌^◌, IfOk, arith, lit<, subst}
+use Rattle.desk_register.specs.Looked.{held_of}
+use Rattle.desk_register.specs.declared.list_store.list_register.ListRegister.{ListRegister}
+use Rattle.desk_worked.specs.Ledger.{content_of}
 use Rattle.desk_register.proofs.HeldLemmas.{held_within}
 use Rattle.desk_register.proofs.TestLemmas.{kept_in}
-use Rattle.desk_worked.proofs.LedgerLemmas.{read_idle}
+use Rattle.desk_worked.proofs.LedgerLemmas.{read_idle, read_unchanged}
 use Rattle.desk_worked.proofs.ledger.Ledger.held.Goals as goal
 
 pub invariant_of-self : goal.invariant_of-self
@@ -17,3 +20,11 @@ held-requires c = λ honest sure.
     let within = held_within _ kept.0 _ c.args.isin kept.1.tables in
     let small : 99_999_999_999_999 < 2 ^ 64 = lit< tt in
     omega arith
+
+pub returns-clause-same : goal.returns-clause-same
+returns-clause-same c = read_unchanged c.held.result _ _ _ c.self.view_is c.held.ensures.read c.self.invariant.0
+
+pub returns-clause-value : goal.returns-clause-value
+returns-clause-value c =
+    let P : ListRegister → Type 0 = λ r. IfOk c.held.result (λ x. x ≡ held_of (content_of r) c.args.isin) in
+    subst P c.self.view_is (c.held.ensures.value tt tt)

@@ -1,5 +1,5 @@
 use Rattle.desk_register.proofs.TestLemmas.{kept_in}
-use Rattle.desk_worked.proofs.LedgerLemmas.{read_idle}
+use Rattle.desk_worked.proofs.LedgerLemmas.{read_idle, read_unchanged}
 use Rattle.desk_worked.proofs.ledger.Ledger.position.Goals as goal
 
 pub invariant_of-self : goal.invariant_of-self
@@ -8,3 +8,6 @@ invariant_of-self c =
     let kept = c.self.invariant.1 in
     let idle = read_idle c.position.result _ _ read tt tt tt c.self.invariant.0 in
     (idle.0, (kept.0, kept_in _ _ kept.0 _ _ read.later.room idle.1 kept.1))
+
+pub returns-clause-same : goal.returns-clause-same
+returns-clause-same c = read_unchanged c.position.result _ _ _ c.self.view_is c.position.ensures.read c.self.invariant.0
