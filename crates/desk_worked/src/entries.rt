@@ -1,5 +1,7 @@
 //! Codes, entries and instructions from the texts that name them.
-ghost use Rattle.std.specs.Prelude.{◌<◌, ◌≤◌};
+ghost use Rattle.std.specs.Prelude.{◌≡◌, ◌<◌, ◌≤◌, [], ◌∷◌};
+ghost use Rattle.desk_codes.specs.Bic.{party_of};
+ghost use Rattle.desk_worked.specs.Entries.{Issues, Moves, Redeems, Spells, account_text, bic_text, day_text, isin_text, reference_text};
 
 use desk_codes::{AccountId, Bic, CodeFault, Day, Isin, Reference};
 use desk_msg::{Instruction, Kind, Message, Mt, ReadFault, TextRefusal, read_instruction_text};
@@ -33,7 +35,7 @@ pub enum EntryFault {
     Day,
     /// A text is no BIC or no ISIN.
     #[error("{0}")]
-    Code(#[from] CodeFault),
+    Code(CodeFault),
     /// A message is none that instructs.
     #[error("no instruction")]
     Instruction,
@@ -45,7 +47,23 @@ pub enum EntryFault {
     Memory,
 }
 
+impl From<CodeFault> for EntryFault {
+    ghost use Rattle.std.specs.Prelude.{◌≡◌};
+    ghost use Rattle.desk_worked.specs.declared.entries.EntryFault.TheVariants.{Code};
+
+    ghost from_gives = { λ input fault. fault ≡ Code input };
+
+    fn from(fault: CodeFault) -> EntryFault {
+        EntryFault::Code(fault)
+    }
+}
+
 impl From<ReadFault> for EntryFault {
+    ghost use Rattle.std.specs.Prelude.{◌≡◌};
+    ghost use Rattle.desk_worked.specs.Entries.{fault_of_read};
+
+    ghost from_gives = { λ input fault. fault ≡ fault_of_read input };
+
     fn from(fault: ReadFault) -> EntryFault {
         match fault {
             ReadFault::Refused(refusal) => EntryFault::Message(refusal),
@@ -55,38 +73,55 @@ impl From<ReadFault> for EntryFault {
 }
 
 impl From<AllocError> for EntryFault {
+    ghost use Rattle.std.specs.Prelude.{◌≡◌};
+    ghost use Rattle.desk_worked.specs.declared.entries.EntryFault.TheVariants.{Memory};
+
+    ghost from_gives = { λ _ fault. fault ≡ Memory };
+
     fn from(_error: AllocError) -> EntryFault {
         EntryFault::Memory
     }
 }
 
 /// The reference that a text spells.
-pub fn reference(text: &str) -> Result<Reference, EntryFault> {
+pub fn reference(text: &str) -> Result<Reference, EntryFault>
+    ensures { Spells (reference_text text.now ∷ []) (λ value. value ≡ text.now) result }
+{
     Reference::read(text.as_bytes()).ok_or(EntryFault::Reference)
 }
 
 /// The BIC that a text spells.
-pub fn bic(text: &str) -> Result<Bic, EntryFault> {
+pub fn bic(text: &str) -> Result<Bic, EntryFault>
+    ensures { Spells (bic_text text.now ∷ []) (λ value. value ≡ party_of text.now) result }
+{
     Ok(Bic::parse(text.as_bytes())?)
 }
 
 /// The account that a text names.
-pub fn account(text: &str) -> Result<AccountId, EntryFault> {
+pub fn account(text: &str) -> Result<AccountId, EntryFault>
+    ensures { Spells (account_text text.now ∷ []) (λ value. value ≡ text.now) result }
+{
     AccountId::read(text.as_bytes()).ok_or(EntryFault::Account)
 }
 
 /// The ISIN that a text spells.
-pub fn isin(text: &str) -> Result<Isin, EntryFault> {
+pub fn isin(text: &str) -> Result<Isin, EntryFault>
+    ensures { Spells (isin_text text.now ∷ []) (λ value. value ≡ text.now) result }
+{
     Ok(Isin::parse(text.as_bytes())?)
 }
 
 /// The day that eight digits spell.
-pub fn day(digits: &[u8; 8]) -> Result<Day, EntryFault> {
+pub fn day(digits: &[u8; 8]) -> Result<Day, EntryFault>
+    ensures { Spells (day_text digits.now ∷ []) (λ value. value ≡ digits.now) result }
+{
     Day::read(digits).ok_or(EntryFault::Day)
 }
 
 /// A new participant, under the reference `key`.
-pub fn participant(key: &str, party: &str) -> Result<Entry, EntryFault> {
+pub fn participant(key: &str, party: &str) -> Result<Entry, EntryFault>
+    ensures { Spells (reference_text key.now ∷ bic_text party.now ∷ []) (λ entry. entry ≡ Entry.Participant key.now (party_of party.now)) result }
+{
     Ok(Entry::Participant {
         reference: reference(key)?,
         bic: bic(party)?,
@@ -94,7 +129,10 @@ pub fn participant(key: &str, party: &str) -> Result<Entry, EntryFault> {
 }
 
 /// A new account of a participant.
-pub fn new_account(key: &str, party: &str, name: &str) -> Result<Entry, EntryFault> {
+pub fn new_account(key: &str, party: &str, name: &str) -> Result<Entry, EntryFault>
+    ensures { Spells (reference_text key.now ∷ bic_text party.now ∷ account_text name.now ∷ [])
+        (λ entry. entry ≡ Entry.Account key.now (party_of party.now) name.now) result }
+{
     Ok(Entry::Account {
         reference: reference(key)?,
         bic: bic(party)?,
@@ -103,7 +141,9 @@ pub fn new_account(key: &str, party: &str, name: &str) -> Result<Entry, EntryFau
 }
 
 /// A new security.
-pub fn security(key: &str, code: &str, kind: Kind) -> Result<Entry, EntryFault> {
+pub fn security(key: &str, code: &str, kind: Kind) -> Result<Entry, EntryFault>
+    ensures { Spells (reference_text key.now ∷ isin_text code.now ∷ []) (λ entry. entry ≡ Entry.Security key.now code.now kind) result }
+{
     Ok(Entry::Security {
         reference: reference(key)?,
         isin: isin(code)?,
@@ -115,6 +155,8 @@ pub fn security(key: &str, code: &str, kind: Kind) -> Result<Entry, EntryFault> 
 fn movement(key: &str, name: &str, code: &str, quantity: u64) -> Result<Movement, EntryFault>
     requires some { 0 < quantity }
     requires within { quantity ≤ 99_999_999_999_999 }
+    ensures { Spells (reference_text key.now ∷ account_text name.now ∷ isin_text code.now ∷ [])
+        (Moves key.now name.now code.now quantity) result }
 {
     Ok(Movement {
         reference: reference(key)?,
@@ -128,6 +170,8 @@ fn movement(key: &str, name: &str, code: &str, quantity: u64) -> Result<Movement
 pub fn issue(key: &str, name: &str, code: &str, quantity: u64) -> Result<Entry, EntryFault>
     requires some { 0 < quantity }
     requires within { quantity ≤ 99_999_999_999_999 }
+    ensures { Spells (reference_text key.now ∷ account_text name.now ∷ isin_text code.now ∷ [])
+        (Issues (Moves key.now name.now code.now quantity)) result }
 {
     Ok(Entry::Issue(movement(key, name, code, quantity)?))
 }
@@ -136,12 +180,16 @@ pub fn issue(key: &str, name: &str, code: &str, quantity: u64) -> Result<Entry, 
 pub fn redeem(key: &str, name: &str, code: &str, quantity: u64) -> Result<Entry, EntryFault>
     requires some { 0 < quantity }
     requires within { quantity ≤ 99_999_999_999_999 }
+    ensures { Spells (reference_text key.now ∷ account_text name.now ∷ isin_text code.now ∷ [])
+        (Redeems (Moves key.now name.now code.now quantity)) result }
 {
     Ok(Entry::Redeem(movement(key, name, code, quantity)?))
 }
 
 /// A settlement run for the pairs due by a day.
-pub fn run(key: &str, digits: &[u8; 8]) -> Result<Entry, EntryFault> {
+pub fn run(key: &str, digits: &[u8; 8]) -> Result<Entry, EntryFault>
+    ensures { Spells (reference_text key.now ∷ day_text digits.now ∷ []) (λ entry. entry ≡ Entry.Run key.now digits.now) result }
+{
     Ok(Entry::Run {
         reference: reference(key)?,
         day: day(digits)?,
