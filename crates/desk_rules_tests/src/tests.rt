@@ -9,7 +9,7 @@ use desk_rules::plain::{
 };
 use desk_rules::{Entry, Lack, Pair, Payment, Settled};
 use desk_worked::entries::{
-    Deal, SHARE, UNKNOWN, account, against_payment, bic, delivery, instruct, isin, issue,
+    InstructionTexts, SHARE, UNKNOWN, account, against_payment, bic, delivery, instruct, isin, issue,
     new_account, participant, receipt, redeem, reference, run, security,
 };
 use std::alloc::{AllocError, Global};
@@ -42,12 +42,12 @@ fn cancel(alloc: Global, sender: &str, text: &str) -> Result<Entry, Fail> {
 }
 
 /// 400 delivered by ALPHDEFF to BETADEFF against EUR 1000.50.
-fn paid_delivery(key: &str) -> Deal<'_> {
+fn paid_delivery(key: &str) -> InstructionTexts<'_> {
     against_payment(delivery(key))
 }
 
 /// The receipt of it.
-fn paid_receipt(key: &str) -> Deal<'_> {
+fn paid_receipt(key: &str) -> InstructionTexts<'_> {
     against_payment(receipt(key))
 }
 
@@ -127,7 +127,7 @@ fn pairs_the_least_that_stands(rt: HostRuntime) -> Result<(), Fail> {
     let dollars = ":16R:AMT\n:19A::SETT//USD1000,50\n:16S:AMT\n";
     entries.push(instruct(
         alloc,
-        Deal {
+        InstructionTexts {
             amount: dollars,
             ..paid_delivery("A0")
         },
@@ -201,12 +201,12 @@ fn counts_what_comes_and_goes(rt: HostRuntime) -> Result<(), Fail> {
 #[test]
 fn covers_a_transfer_within_an_account(rt: HostRuntime) -> Result<(), Fail> {
     let alloc = rt.alloc();
-    let given = Deal {
+    let given = InstructionTexts {
         quantity: "1001",
         other: "ALPHDEFF",
         ..delivery("A3")
     };
-    let taken = Deal {
+    let taken = InstructionTexts {
         mt: Mt::Mt540,
         key: "A4",
         ..given
@@ -230,13 +230,13 @@ fn covers_a_transfer_within_an_account(rt: HostRuntime) -> Result<(), Fail> {
 fn transfers_between_own_accounts(rt: HostRuntime) -> Result<(), Fail> {
     let alloc = rt.alloc();
     let amount = ":16R:AMT\n:19A::SETT//EUR5,\n:16S:AMT\n";
-    let given = Deal {
+    let given = InstructionTexts {
         quantity: "10",
         other: "ALPHDEFF",
         amount,
         ..paid_delivery("A5")
     };
-    let taken = Deal {
+    let taken = InstructionTexts {
         mt: Mt::Mt541,
         key: "A6",
         account: "A-2",

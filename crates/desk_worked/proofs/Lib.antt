@@ -1,1 +1,2 @@
 pub mod LedgerLemmas
+pub mod MessageLemmas

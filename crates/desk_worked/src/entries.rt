@@ -1,7 +1,8 @@
 //! Codes, entries and instructions from the texts that name them.
-ghost use Rattle.std.specs.Prelude.{◌≡◌, ◌<◌, ◌≤◌, [], ◌∷◌};
+ghost use Rattle.std.specs.Prelude.{◌≡◌, ◌<◌, ◌≤◌, [], ◌∷◌, IfErr, IfOk, string_bytes};
 ghost use Rattle.desk_codes.specs.Bic.{party_of};
 ghost use Rattle.desk_worked.specs.Entries.{Issues, Moves, Redeems, Spells, account_text, bic_text, day_text, isin_text, reference_text};
+ghost use Rattle.desk_worked.specs.Instructed.{Instructs, IsInstructed, agent_of, free_delivery, free_receipt, message_text, paid, texts_seen};
 
 use desk_codes::{AccountId, Bic, CodeFault, Day, Isin, Reference};
 use desk_msg::{Instruction, Kind, Message, Mt, ReadFault, TextRefusal, read_instruction_text};
@@ -196,9 +197,9 @@ pub fn run(key: &str, digits: &[u8; 8]) -> Result<Entry, EntryFault>
     })
 }
 
-/// An instruction: who sends it, and what it says.
+/// The texts that an instruction is made of: who sends it, and what its fields say.
 #[derive(Clone, Copy)]
-pub struct Deal<'a> {
+pub struct InstructionTexts<'a> {
     pub sender: &'a str,
     pub mt: Mt,
     pub key: &'a str,
@@ -215,8 +216,10 @@ pub struct Deal<'a> {
 }
 
 /// 400 of the share delivered free by ALPHDEFF to BETADEFF.
-pub fn delivery(key: &str) -> Deal<'_> {
-    Deal {
+pub fn delivery(key: &str) -> InstructionTexts<'_>
+    ensures { texts_seen result ≡ free_delivery key.now }
+{
+    InstructionTexts {
         sender: "ALPHDEFF",
         mt: Mt::Mt542,
         key,
@@ -232,8 +235,10 @@ pub fn delivery(key: &str) -> Deal<'_> {
 }
 
 /// The receipt of it.
-pub fn receipt(key: &str) -> Deal<'_> {
-    Deal {
+pub fn receipt(key: &str) -> InstructionTexts<'_>
+    ensures { texts_seen result ≡ free_receipt key.now }
+{
+    InstructionTexts {
         sender: "BETADEFF",
         mt: Mt::Mt540,
         account: "B-1",
@@ -243,58 +248,74 @@ pub fn receipt(key: &str) -> Deal<'_> {
 }
 
 /// The same against EUR 1000.50.
-pub fn against_payment(deal: Deal<'_>) -> Deal<'_> {
-    Deal {
-        mt: if deal.mt.is_delivery() {
+pub fn against_payment(texts: InstructionTexts<'_>) -> InstructionTexts<'_>
+    ensures { texts_seen result ≡ paid (texts_seen texts.entry) }
+{
+    InstructionTexts {
+        mt: if texts.mt.is_delivery() {
             Mt::Mt543
         } else {
             Mt::Mt541
         },
         amount: AMOUNT,
-        ..deal
+        ..texts
     }
 }
 
-/// The message of it: block 4, with the fields that the desk reads and no other.
-fn message_text(alloc: Global, deal: Deal) -> Result<String, EntryFault> {
-    let side = if deal.mt.is_delivery() {
-        "REAG"
-    } else {
-        "DEAG"
-    };
-    let key = deal.key;
-    let day = deal.day;
-    let isin = deal.isin;
-    let kind = deal.kind;
-    let quantity = deal.quantity;
-    let account = deal.account;
-    let other = deal.other;
-    let place = deal.place;
-    let amount = deal.amount;
-    let front = format!(in alloc;
+/// The qualifier of the other side: the receiving agent of a delivery, the delivering agent of a receipt.
+fn agent_of(mt: Mt) -> &'static str
+    ensures { result.now ≡ agent_of mt }
+{
+    if mt.is_delivery() { "REAG" } else { "DEAG" }
+}
+
+/// The message of these texts: block 4, with the fields that the desk reads and no other.
+fn message_text(alloc: Global, texts: InstructionTexts) -> Result<String, EntryFault>
+    ensures text { IfOk result (λ text. string_bytes text ≡ message_text (texts_seen texts.entry)) }
+    ensures memory { IfErr result (λ fault. fault ≡ EntryFault.Memory) }
+{
+    let side = agent_of(texts.mt);
+    let key = texts.key;
+    let day = texts.day;
+    let isin = texts.isin;
+    let kind = texts.kind;
+    let quantity = texts.quantity;
+    let account = texts.account;
+    let other = texts.other;
+    let place = texts.place;
+    let amount = texts.amount;
+    let trade = format!(in alloc;
         "{{4:\n:16R:GENL\n:20C::SEME//{key}\n:23G:NEWM\n:16S:GENL\n:16R:TRADDET\n:98A::SETT//{day}\n:35B:ISIN {isin}\n:16S:TRADDET\n"
     )?;
-    Ok(format!(in alloc;
-        "{front}:16R:FIAC\n:36B::SETT//{kind}/{quantity},\n:97A::SAFE//{account}\n:16S:FIAC\n:16R:SETDET\n:22F::SETR//TRAD\n:16R:SETPRTY\n:95P::{side}//{other}\n:16S:SETPRTY\n:16R:SETPRTY\n:95P::PSET//{place}\n:16S:SETPRTY\n{amount}:16S:SETDET\n-}}\n"
-    )?)
+    let securities = format!(in alloc;
+        ":16R:FIAC\n:36B::SETT//{kind}/{quantity},\n:97A::SAFE//{account}\n:16S:FIAC\n"
+    )?;
+    let parties = format!(in alloc;
+        ":16R:SETDET\n:22F::SETR//TRAD\n:16R:SETPRTY\n:95P::{side}//{other}\n:16S:SETPRTY\n:16R:SETPRTY\n:95P::PSET//{place}\n:16S:SETPRTY\n"
+    )?;
+    Ok(format!(in alloc; "{trade}{securities}{parties}{amount}:16S:SETDET\n-}}\n")?)
 }
 
-/// What a participant instructs by it.
-pub fn instruction(alloc: Global, deal: Deal) -> Result<Instruction, EntryFault> {
-    if !deal.mt.is_instruction() {
+/// What a participant instructs by these texts.
+pub fn instruction(alloc: Global, texts: InstructionTexts) -> Result<Instruction, EntryFault>
+    ensures { Instructs (texts_seen texts.entry) result }
+{
+    if !texts.mt.is_instruction() {
         return Err(EntryFault::Instruction);
     }
-    let text = message_text(alloc, deal)?;
-    match read_instruction_text(alloc, deal.mt, text.as_bytes())? {
+    let text = message_text(alloc, texts)?;
+    match read_instruction_text(alloc, texts.mt, text.as_bytes())? {
         Message::New(instruction) => Ok(instruction),
         Message::Cancel(_) => Err(EntryFault::Instruction),
     }
 }
 
 /// An instruction of the participant that sends it.
-pub fn instruct(alloc: Global, deal: Deal) -> Result<Entry, EntryFault> {
+pub fn instruct(alloc: Global, texts: InstructionTexts) -> Result<Entry, EntryFault>
+    ensures { IsInstructed (texts_seen texts.entry) result }
+{
     Ok(Entry::Instruct {
-        sender: bic(deal.sender)?,
-        instruction: instruction(alloc, deal)?,
+        sender: bic(texts.sender)?,
+        instruction: instruction(alloc, texts)?,
     })
 }

@@ -8,8 +8,8 @@ use desk_msg::{Kind, Reason};
 use desk_register::{Fault, ListRegister, Outcome, Register, Stage, Standing};
 use desk_rules::{Entry, Lack, Place, Reply, Sender, State, Text};
 use desk_worked::entries::{
-    BOND, Deal, SHARE, UNKNOWN, account, bic, day, delivery, instruct, instruction, isin, issue,
-    new_account, participant, receipt, reference, run, security,
+    BOND, InstructionTexts, SHARE, UNKNOWN, account, bic, day, delivery, instruct, instruction,
+    isin, issue, new_account, participant, receipt, reference, run, security,
 };
 use desk_worked::ledger::Ledger;
 use std::alloc::Global;
@@ -45,10 +45,10 @@ fn filled(alloc: Global) -> Result<Ledger, Fail> {
 }
 
 /// The same with 600.
-fn more(deal: Deal<'_>) -> Deal<'_> {
-    Deal {
+fn more(texts: InstructionTexts<'_>) -> InstructionTexts<'_> {
+    InstructionTexts {
         quantity: "600",
-        ..deal
+        ..texts
     }
 }
 
@@ -474,19 +474,19 @@ fn settles_a_covered_pair(rt: HostRuntime) -> Result<(), Fail> {
 
 /// The same 1001 before it, where A-1 holds 1000: the entries 13 and 14.
 fn short(alloc: Global) -> Result<Ledger, Fail> {
-    let given = Deal {
+    let given = InstructionTexts {
         quantity: "1001",
         day: "20240201",
         ..delivery("A3")
     };
-    let taken = Deal {
+    let taken = InstructionTexts {
         quantity: "1001",
         day: "20240201",
         ..receipt("B3")
     };
     let mut ledger = filled(alloc)?;
-    for deal in [given, taken] {
-        let entry = instruct(alloc, deal)?;
+    for texts in [given, taken] {
+        let entry = instruct(alloc, texts)?;
         let _applied = ledger
             .enter(alloc, entry)?
             .accepted()

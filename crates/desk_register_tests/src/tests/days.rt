@@ -6,8 +6,8 @@ use desk_register::{ListRegister, Register, Standing};
 use desk_rules::plain::{credits, debits, instruction_at, is_due, pairing_of, settlement_of};
 use desk_rules::{Entry, Pair, Refusal, Settled, State};
 use desk_worked::entries::{
-    Deal, EntryFault, SHARE, account, delivery, instruct, isin, issue, new_account, participant,
-    receipt, run, security,
+    EntryFault, InstructionTexts, SHARE, account, delivery, instruct, isin, issue, new_account,
+    participant, receipt, run, security,
 };
 use desk_worked::ledger::{Entered, Ledger};
 use std::alloc::{AllocError, Global};
@@ -206,8 +206,8 @@ fn both(
     rt: &impl Abort,
     alloc: Global,
     ledger: &mut Ledger,
-    given: Deal,
-    taken: Deal,
+    given: InstructionTexts,
+    taken: InstructionTexts,
 ) -> Result<(), Fail> {
     enters(rt, alloc, ledger, instruct(alloc, given)?, (0, 0))?;
     enters(rt, alloc, ledger, instruct(alloc, taken)?, (0, 0))
@@ -228,14 +228,14 @@ fn free_pair(rt: HostRuntime) -> Result<(), Fail> {
 }
 
 /// The same 400 delivered on by BETADEFF to GAMMDEFF, and the receipt of it.
-fn onward() -> (Deal<'static>, Deal<'static>) {
-    let given = Deal {
+fn onward() -> (InstructionTexts<'static>, InstructionTexts<'static>) {
+    let given = InstructionTexts {
         sender: "BETADEFF",
         account: "B-1",
         other: "GAMMDEFF",
         ..delivery("B2")
     };
-    let taken = Deal {
+    let taken = InstructionTexts {
         sender: "GAMMDEFF",
         account: "C-1",
         other: "BETADEFF",
@@ -274,12 +274,16 @@ fn chain_backwards(rt: HostRuntime) -> Result<(), Fail> {
     Ok(())
 }
 
-/// A deal of another quantity and day.
-fn of_day<'a>(deal: Deal<'a>, quantity: &'a str, day: &'a str) -> Deal<'a> {
-    Deal {
+/// The texts for another quantity and day.
+fn of_day<'a>(
+    texts: InstructionTexts<'a>,
+    quantity: &'a str,
+    day: &'a str,
+) -> InstructionTexts<'a> {
+    InstructionTexts {
         quantity,
         day,
-        ..deal
+        ..texts
     }
 }
 
@@ -303,8 +307,8 @@ fn two_days(rt: HostRuntime) -> Result<(), Fail> {
 }
 
 /// A receipt of ALPHDEFF from itself, on this account.
-fn own_receipt<'a>(name: &'a str, quantity: &'a str) -> Deal<'a> {
-    Deal {
+fn own_receipt<'a>(name: &'a str, quantity: &'a str) -> InstructionTexts<'a> {
+    InstructionTexts {
         sender: "ALPHDEFF",
         account: name,
         other: "ALPHDEFF",
@@ -314,8 +318,8 @@ fn own_receipt<'a>(name: &'a str, quantity: &'a str) -> Deal<'a> {
 }
 
 /// A delivery of ALPHDEFF to itself.
-fn own_delivery(quantity: &str) -> Deal<'_> {
-    Deal {
+fn own_delivery(quantity: &str) -> InstructionTexts<'_> {
+    InstructionTexts {
         other: "ALPHDEFF",
         quantity,
         ..delivery("A3")
@@ -326,7 +330,7 @@ fn own_delivery(quantity: &str) -> Deal<'_> {
 fn own_day(
     rt: &impl Abort,
     alloc: Global,
-    taken: Deal,
+    taken: InstructionTexts,
     pairs: (u64, u64),
 ) -> Result<[u64; 4], Fail> {
     let given = own_delivery(taken.quantity);

@@ -5,7 +5,7 @@ use desk_msg::Kind;
 use desk_register::Applied;
 use desk_rules::Entry;
 use desk_worked::entries::{
-    BOND, Deal, SHARE, UNKNOWN, delivery, instruct, issue, new_account, participant, receipt,
+    BOND, InstructionTexts, SHARE, UNKNOWN, delivery, instruct, issue, new_account, participant, receipt,
     run, security,
 };
 use desk_worked::ledger::{Entered, Ledger};
@@ -76,56 +76,56 @@ fn refused_messages(rt: &impl Abort, alloc: Global, ledger: &mut Ledger) -> Resu
     let rows = [
         (
             10,
-            Deal {
+            InstructionTexts {
                 sender: "GAMMDEFF",
                 ..right
             },
         ),
         (
             12,
-            Deal {
+            InstructionTexts {
                 place: "GAMMDEFF",
                 ..right
             },
         ),
         (
             13,
-            Deal {
+            InstructionTexts {
                 isin: UNKNOWN,
                 ..right
             },
         ),
         (
             14,
-            Deal {
+            InstructionTexts {
                 kind: "FAMT",
                 ..right
             },
         ),
         (
             15,
-            Deal {
+            InstructionTexts {
                 account: "B-1",
                 ..right
             },
         ),
         (
             15,
-            Deal {
+            InstructionTexts {
                 account: "C-1",
                 ..right
             },
         ),
         (
             16,
-            Deal {
+            InstructionTexts {
                 other: "GAMMDEFF",
                 ..right
             },
         ),
     ];
-    for (number, deal) in rows {
-        refuses(rt, alloc, ledger, instruct(alloc, deal)?, number)?;
+    for (number, texts) in rows {
+        refuses(rt, alloc, ledger, instruct(alloc, texts)?, number)?;
     }
     Ok(())
 }
@@ -136,7 +136,7 @@ fn messages(rt: HostRuntime) -> Result<(), Fail> {
     let right = instruct(alloc, delivery("A1"))?;
     let larger = instruct(
         alloc,
-        Deal {
+        InstructionTexts {
             quantity: "401",
             ..delivery("A1")
         },
