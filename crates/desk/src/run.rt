@@ -1,6 +1,8 @@
 //! What the words ask for, answered.
 ghost use Rattle.std.specs.Prelude.{◌≡◌, ◌⊎◌, ℕ, List, [], ◌∷◌, ◌++◌, map, IfOk, OnOk};
 ghost use Rattle.std.specs.Io.KnownBytes.{Appends};
+ghost use Rattle.std.specs.IoError.{error_kind};
+ghost use Rattle.std.specs.declared.io.ErrorKind.TheVariants as io_kind;
 ghost use Rattle.clap.specs.Words.{kind_of};
 ghost use Rattle.desk.specs.CallAnswer.{IsAnswer, IsMemoryTold};
 ghost use Rattle.desk.specs.Status.{failure_line, status_of_error};
@@ -91,7 +93,8 @@ fn tell_error<W: Write>(error: &Error, writer: &mut W) -> io::Result<Status>
 
 /// Prints why the words could not be had: they are no text, or memory is wanting.
 pub fn tell_no_words<W: Write>(alloc: Global, error: &io::Error, writer: &mut W) -> Status
-    ensures { (result ≡ Status.Usage) ⊎ (result ≡ Status.Fault) }
+    ensures status { (result ≡ Status.Usage) ⊎ (result ≡ Status.Fault) }
+    ensures memory { error_kind error.now ≡ io_kind.OutOfMemory → result ≡ Status.Fault }
 {
     let told = if error.kind() == io::ErrorKind::OutOfMemory {
         tell_failure(Failure::Memory, writer)

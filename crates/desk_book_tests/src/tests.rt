@@ -1,4 +1,4 @@
-//! Outside vectors, each call once with ample memory, and readers and writers that fail.
+//! Outside vectors, each call once with ample memory, readers and writers that fail, and a store of which calls fail.
 mod commands;
 mod day;
 mod desks;

@@ -9,8 +9,8 @@ use desk_rules::plain::{
 };
 use desk_rules::{Entry, Lack, Pair, Payment, Settled};
 use desk_worked::entries::{
-    InstructionTexts, SHARE, UNKNOWN, account, against_payment, bic, delivery, instruct, isin, issue,
-    new_account, participant, receipt, redeem, reference, run, security,
+    InstructionTexts, SHARE, UNKNOWN, account, against_payment, bic, delivery, instruct, isin,
+    issue, new_account, participant, receipt, redeem, reference, run, security,
 };
 use std::alloc::{AllocError, Global};
 use std::test::Fail;

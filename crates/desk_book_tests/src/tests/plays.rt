@@ -80,7 +80,7 @@ pub const ANSWERS: &[u8] = b"200\n\
 /// The free pair's requests that are accepted; the last of its script asks for the totals.
 const ACCEPTED: usize = 9;
 
-/// Gives a script in pieces, and fails at one read. It counts its reads.
+/// Gives a text in pieces, and fails at one read, as one that is interrupted. It counts its reads.
 #[derive(Drop)]
 pub struct Pieces<'a> {
     pub rest: &'a [u8],
@@ -93,7 +93,7 @@ impl Read for Pieces<'_> {
     fn read(&mut self, buf: &mut [u8]) -> io::Result<usize> {
         self.reads = self.reads.wrapping_add(1);
         if self.reads == self.fails_at {
-            return Err(io::Error::from(ErrorKind::Other));
+            return Err(io::Error::from(ErrorKind::Interrupted));
         }
         let count = self.piece.min(self.rest.len()).min(buf.len());
         buf[..count].copy_from_slice(&self.rest[..count]);

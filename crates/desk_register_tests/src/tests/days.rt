@@ -1,4 +1,4 @@
-//! Worked days at a register, which the plain program of the definitions gives alike.
+//! Worked days at a register, checked by hand and against the plain program of the definitions.
 
 use desk_codes::{AccountId, Isin};
 use desk_msg::{Kind, Reason};

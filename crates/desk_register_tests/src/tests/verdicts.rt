@@ -5,8 +5,8 @@ use desk_msg::Kind;
 use desk_register::Applied;
 use desk_rules::Entry;
 use desk_worked::entries::{
-    BOND, InstructionTexts, SHARE, UNKNOWN, delivery, instruct, issue, new_account, participant, receipt,
-    run, security,
+    BOND, InstructionTexts, SHARE, UNKNOWN, delivery, instruct, issue, new_account, participant,
+    receipt, run, security,
 };
 use desk_worked::ledger::{Entered, Ledger};
 use std::alloc::Global;
