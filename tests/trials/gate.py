@@ -1,0 +1,78 @@
+"""Trials of ./test, with made-up parts."""
+
+import os
+import re
+
+from .room import BASH, TESTS, copy, fails, passes, run, write_script
+
+TOOLS = ["rt", "python3", "gcc", "git"]
+# the one script of tests/ that counts and is not in the gate
+OUTSIDE = "wrong_programs"
+WELL = "echo '99999 passed, 0 failed'"
+
+# each way in which a part goes wrong: how its script is changed, and what ./test says of it
+FAULTS = {
+    "runs nothing": (("99999", "0"), "tests/{} passed 0, and its least count is "),
+    "says nothing": (("echo", ": "), "tests/{} did not come to its end: status 0\n"),
+    "goes on behind its counts": (("failed'", "failed' 'and more'"), "tests/{} did not come to its end: status 0\n"),
+    "dies behind its counts": ((WELL, f"{WELL}; exit 7"), "tests/{} tells no failure and ended with status 7\n"),
+    "fails once": (("0 failed", "1 failed"), "9 passed, 1 failed\n"),
+}
+
+
+def parts():
+    """The scripts of tests/ of which the gate is made."""
+    paths = [f"{TESTS}/{name}" for name in sorted(os.listdir(TESTS)) if name != OUTSIDE]
+    return [os.path.basename(path) for path in paths if os.path.isfile(path) and os.access(path, os.X_OK)]
+
+
+def proofs(programs):
+    """The lines of a part that makes these programs; a file's time is kept to some milliseconds."""
+    made = " ".join(programs)
+    return "sleep 0.05", f"for it in {made}; do mkdir -p ${{it%/*}}; >$it; chmod +x $it; done", WELL
+
+
+def trials_of_parts(room):
+    for part in parts():
+        path = f"{room}/tests/{part}"
+        with open(path, encoding="utf-8") as file:
+            sound = file.read()
+        for fault, ((old, new), why) in FAULTS.items():
+            with open(path, "w", encoding="utf-8") as file:
+                file.write(sound.replace(old, new))
+            yield fails(f"{part} {fault}", run(room, "./test"), why.format(part))
+        with open(path, "w", encoding="utf-8") as file:
+            file.write(sound)
+
+
+def trials_of_programs(room, programs):
+    for program in programs:
+        write_script(f"{room}/tests/prove_all", *proofs(it for it in programs if it != program))
+        yield fails("a program of an earlier run", run(room, "./test"), f"this run built no {program}")
+        os.remove(f"{room}/{program}")
+        yield fails("no program", run(room, "./test"), f"this run built no {program}")
+
+
+def trials_of_tools(room):
+    for missing in TOOLS:
+        tools = f"{room}/without_{missing}"
+        write_script(f"{tools}/dirname", "echo .")
+        for tool in TOOLS:
+            if tool != missing:
+                write_script(f"{tools}/{tool}")
+        told = re.escape(f"test: {missing} is missing; install ") + ".*\n0 passed, 1 failed\n"
+        status, text = run(room, BASH, "./test", path=tools)
+        yield f"no {missing}", status != 0 and bool(re.fullmatch(told, text)), (status, text)
+
+
+def trials(room):
+    with open(copy("test", room), encoding="utf-8") as file:
+        programs = sorted(set(re.findall(r"crates/\w+/out/\w+", file.read())))
+    for part in parts():
+        write_script(f"{room}/tests/{part}", WELL)
+    write_script(f"{room}/tests/prove_all", *proofs(programs))
+    write_script(f"{room}/bin/rt")
+    yield passes("a sound gate", run(room, "./test"), "9 passed, 0 failed\n")
+    yield from trials_of_parts(room)
+    yield from trials_of_programs(room, programs)
+    yield from trials_of_tools(room)

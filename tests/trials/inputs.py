@@ -1,0 +1,29 @@
+"""Trials of the scripts that make input for the program, or refuse it memory, with programs that do nothing."""
+
+from .room import TESTS, fails, passes, run, write
+
+SILENT = "int main(void) { return 0; }\n"
+
+
+def trials(room):
+    def tried(script, *words):
+        return run(room, f"{TESTS}/{script}", *words)
+
+    plain, silent = f"{TESTS}/plain/desk", f"{room}/silent"
+    write(f"{room}/silent.c", SILENT)
+    run(room, "gcc", "-o", silent, f"{room}/silent.c")
+    for script in ("random_scripts", "random_blocks"):
+        yield passes(f"{script}: the plain program", tried(script, plain, "2"), "\n2 passed, 0 failed\n")
+        yield fails(f"{script}: a program that does nothing", tried(script, silent, "2"), "\n0 passed, 2 failed\n")
+        yield fails(f"{script}: no program", tried(script, f"{room}/none", "2"), "No such file")
+        yield fails(f"{script}: a count of 0", tried(script, plain, "0"), "with a count of 0 nothing is tried\n")
+    yield fails("limits: a program that does nothing", tried("limits", silent), "\n0 passed, ")
+    # no growth of memory can be refused to a program that asks for none
+    write(f"{room}/script", "sums\n")
+    write(f"{room}/case.stdout")
+    yield fails("refuse_memory: no growth", tried("refuse_memory", silent, "script"), "no refusal led to this")
+    yield fails("refuse_memory: no script", tried("refuse_memory", silent), "there is no script to play\n")
+    yield fails("refuse_words: no growth", tried("refuse_words", silent, "case"), "no refusal led to this")
+    yield fails("refuse_words: no case", tried("refuse_words", silent), "there is no case to run\n")
+    yield fails("refuse_words: an unknown case", tried("refuse_words", silent, "none"), "there is no none.stdout\n")
+    yield fails("refuse_register: no growth", tried("refuse_register", silent), "\n0 passed, 1 failed\n")

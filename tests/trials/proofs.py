@@ -1,0 +1,46 @@
+"""Trials of tests/prove_all, with crates of no content and an rt that tells what the real one would."""
+
+from .room import copy, fails, passes, run, write, write_script
+
+FILES = {
+    "crates/low/src/lib.rt": "// no #[test] stands here\n",
+    "crates/low/must-fail/one.edit": "",
+    "crates/low/must-fail/two.edit": "",
+    "crates/low_tests/src/lib.rt": "    #[test]\n",
+    "crates/top/src/main.rt": "",
+    # left from before a crate was renamed
+    "crates/gone/out/gone": "",
+}
+WANTED = [
+    "rt: low proved",
+    "rt: low_tests proved",
+    "rt: top proved",
+    "rt: must-fail low/one.edit: refused, as it must be",
+    "rt: must-fail low/two.edit: refused, as it must be",
+    "rt: low_tests: its tests passed",
+    "rt: top ran, and wrote what its file stdout has",
+]
+COUNTS = "5 passed, 0 failed"
+
+
+def told_by_rt(room, *lines, status=0):
+    """How tests/prove_all ends where rt ci tells these lines and ends with this status."""
+    write_script(f"{room}/bin/rt", "[ $* = ci ] || exit 2", "cat <<'TOLD'", *lines, "TOLD", f"exit {status}")
+    return run(room, "tests/prove_all")
+
+
+def trials(room):
+    copy("tests/prove_all", room)
+    for path, text in FILES.items():
+        write(f"{room}/{path}", text)
+    yield passes("a sound rt ci", told_by_rt(room, *WANTED, COUNTS), f"\n{len(WANTED)} passed, 0 failed\n")
+    for line in WANTED:
+        others = [it for it in WANTED if it != line]
+        ran = told_by_rt(room, *others, f"note: {line}", COUNTS)
+        yield fails(f"not told: {line}", ran, f"rt ci did not tell '{line}'\n6 passed, 1 failed\n")
+    yield fails("rt ci proves nothing", told_by_rt(room, COUNTS), "\n0 passed, 7 failed\n")
+    yield fails("rt ci ends with status 1", told_by_rt(room, *WANTED, COUNTS, status=1), "rt ci ended with status 1\n")
+    ran = told_by_rt(room, *WANTED, "5 passed, 1 failed")
+    yield fails("rt ci counts a failure", ran, "the last line of rt ci is '5 passed, 1 failed'\n")
+    yield fails("rt ci does not count", told_by_rt(room, *WANTED), f"the last line of rt ci is '{WANTED[-1]}'\n")
+    yield fails("rt ci cannot be run", told_by_rt(room, status=127), "rt ci ended with status 127\n")

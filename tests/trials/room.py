@@ -1,0 +1,45 @@
+"""What the trials share: a room is a folder in which scripts run beside made-up tools. A trial is its name, whether it
+went well, and the status and the text that the script ended with and told."""
+
+import os
+import shutil
+import subprocess
+
+TESTS = os.path.dirname(os.path.dirname(os.path.abspath(__file__)))
+TOP = os.path.dirname(TESTS)
+BASH = shutil.which("bash")
+
+
+def write(path, text=""):
+    os.makedirs(os.path.dirname(path), exist_ok=True)
+    with open(path, "w", encoding="utf-8") as file:
+        file.write(text)
+
+
+def write_script(path, *lines):
+    write(path, "\n".join([f"#!{BASH}", *lines, ""]))
+    os.chmod(path, 0o755)
+
+
+def copy(name, room):
+    """Copies a file of the repository to the same place in a room. Gives its path there."""
+    path = os.path.join(room, name)
+    os.makedirs(os.path.dirname(path), exist_ok=True)
+    return shutil.copy(os.path.join(TOP, name), path)
+
+
+def run(room, *words, path=None):
+    """Runs words in a room, whose folder bin comes first in PATH. Gives the status and all that was told."""
+    surroundings = {name: text for name, text in os.environ.items() if not name.startswith("GIT_")}
+    surroundings.update(PATH=path or f"{room}/bin:{os.environ['PATH']}", TMPDIR=room)
+    how = {"cwd": room, "env": surroundings, "stdin": subprocess.DEVNULL, "timeout": 120}
+    ran = subprocess.run(words, stdout=subprocess.PIPE, stderr=subprocess.STDOUT, errors="replace", **how)
+    return ran.returncode, ran.stdout
+
+
+def passes(name, ran, told=""):
+    return name, ran[0] == 0 and told in ran[1], ran
+
+
+def fails(name, ran, why):
+    return name, ran[0] != 0 and why in ran[1] and not ran[1].endswith("passed, 0 failed\n"), ran
