@@ -9,7 +9,10 @@ ISINS = (b"DE0007164600", b"US0378331005", b"AU0000XVGZA3")
 BICS = (b"ALPHDEFF", b"BETADEFF", b"GAMMDEFF", b"ALPHDEFFABC", b"DESKDEFF")
 DAYS = (b"20240228", b"20240229", b"20240301", b"20240302", b"20241231", b"20250101")
 SETTLEMENTS = (b"TRAD", b"RPTO", b"OWNI", b"0000")
-AMOUNTS = (b"EUR1000,50", b"EUR1000,5", b"USD0,01", b"JPY7,", b"JPY7,00", b"CHF0001,", b"GBP999999999999,99")
+AMOUNTS = (
+    (b"EUR1000,50", b"EUR1000,5", b"USD0,01", b"JPY7,", b"JPY7,00", b"CHF0001,", b"GBP999999999999,99")
+    + (b"KWD1,005", b"KWD1,0050")
+)
 
 ODD_REFERENCES = (b"A", b"A B", b"a/b", b" ", b"0123456789ABCDEF", b"X-1.(2)+'?:,")
 BAD_REFERENCES = (b"", b"/A", b"A/", b"A//B", b"0123456789ABCDEFG", b"A\x7f", b"\xc3\x84")
@@ -251,8 +254,9 @@ BAD_FIELDS = {
     b":95P::REAG/": lines_with(b":95P::REAG//", *BAD_BICS, b"ALPHDEFFXXX") + (b":95P::REAG/ALPHDEFF",),
     b":19A::SETT/": lines_with(b":19A::SETT//EUR", *BAD_NUMBERS, *ODD_NUMBERS, *FRACTIONS)
     + lines_with(b":19A::SETT//JPY", *FRACTIONS, *ZEROS, b"999999999999999,", b"1,")
+    + lines_with(b":19A::SETT//KWD", *FRACTIONS, *ZEROS, b"1,0005")
     + lines_with(b":19A::SETT//USD", *ZEROS)
-    + lines_with(b":19A::SETT/", b"/XXX1,", b"/eur1,", b"/EU1,", b"/NEUR1,", b"/KWD1,", b"EUR1,", b"/EUR 1,", b""),
+    + lines_with(b":19A::SETT/", b"/XXX1,", b"/eur1,", b"/EU1,", b"/NEUR1,", b"/BHD1,", b"EUR1,", b"/EUR 1,", b""),
 }
 
 

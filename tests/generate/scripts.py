@@ -79,9 +79,9 @@ class Script:
     def security(self, isin):
         self.command("security", ("isin", isin.decode()), ("kind", self.kinds[isin]))
 
-    def issue(self, account, quantity=None):
+    def issue(self, account, quantity=None, isin=None):
         """An issue; where no quantity is told, one about as large as the limit still allows."""
-        isin = self.chance.pick(self.isins if self.chance.happens(95) else ISINS)
+        isin = isin or self.chance.pick(self.isins if self.chance.happens(95) else ISINS)
         if quantity is None:
             quantity = min(MOST, MOST - self.issued[isin] + self.chance.between(-1, 1))
         self.issued[isin] += quantity
@@ -244,21 +244,43 @@ class Script:
         isin = chance.pick(self.isins)
         sides = []
         for _ in range(chance.between(2, 5)):
-            sides += self.both_sides(isin)
-        for sender, instruction in chance.shuffled(sides) if chance.happens(50) else sides:
+            giving, taking = chance.pick(self.accounts), chance.pick(self.accounts)
+            sides += self.both_sides(isin, giving, taking, chance.pick(DAYS[1:4]), chance.between(1, 5))
+        self.settle(chance.shuffled(sides) if chance.happens(50) else sides)
+
+    def chain_day(self):
+        """A chain of deliveries through accounts, each of what the one before brings, the last one most often first;
+        now and then smaller ones from within the chain, so that it matters which is tried first; and runs."""
+        chance = self.chance
+        isin, quantity = chance.pick(self.isins), chance.between(5, 9)
+        chain = chance.shuffled(self.accounts)[: chance.between(3, 5)]
+        self.issue(chain[0], quantity, isin)
+        links = [(giving, taking, quantity) for giving, taking in zip(chain, chain[1:])]
+        links = chance.shuffled(links) if chance.happens(30) else links[::-1]
+        for _ in range(chance.weighted({0: 50, 1: 20, 2: 20, 3: 10})):
+            less = (chance.pick(chain), chance.pick(self.accounts), chance.between(1, 4))
+            links.insert(chance.below(len(links) + 1), less)
+        same_day = chance.happens(80)
+        sides = []
+        for giving, taking, so_many in links:
+            day = DAYS[1] if same_day else chance.pick(DAYS[1:4])
+            sides += self.both_sides(isin, giving, taking, day, so_many)
+        self.settle(sides)
+
+    def settle(self, sides):
+        """Instructions, and a run or two for the last of their days."""
+        for sender, instruction in sides:
             instruction = instruction._replace(reference=b"R%d" % len(self.instructions))
             self.instructions.append((sender, instruction))
             self.send(sender, instruction)
-        for _ in range(chance.between(1, 2)):
+        for _ in range(self.chance.between(1, 2)):
             self.day = max(self.day, 3)
             self.command("run", ("day", DAYS[self.day].decode()))
 
-    def both_sides(self, isin):
+    def both_sides(self, isin, giving, taking, day, quantity):
         """A delivery and the receipt that is its opposite, each with its sender; now and then one of them twice, of
         any account of its sender, so that it matters which one is paired."""
         chance = self.chance
-        giving, taking = chance.pick(self.accounts), chance.pick(self.accounts)
-        day, quantity = chance.pick(DAYS[1:4]), chance.between(1, 5)
         giver, taker = OWNERS[giving], OWNERS[taking]
         kind = self.kinds[isin].encode()
         delivery = Instruction(542, b"", day, isin, kind, quantity, giving, taker, b"DESKDEFF", b"TRAD", b"EUR1,")
@@ -305,6 +327,7 @@ NEXT = {
     Script.opposite_instruction: 34,
     Script.twin_instruction: 6,
     Script.busy_day: 4,
+    Script.chain_day: 3,
     Script.run: 14,
     Script.another_command: 7,
     Script.old_instruction: 6,

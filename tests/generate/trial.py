@@ -2,6 +2,7 @@
 
 import os
 import subprocess
+import sys
 import tempfile
 import time
 
@@ -68,6 +69,8 @@ def show(program, words, parts, name, folder):
 
 def try_all(program, what, make, count, seed):
     """Tries so many inputs of a seed, each made as words and parts of the standard input. Gives the exit status."""
+    if count < 1:
+        sys.exit(f"{what}: with a count of {count} nothing is tried")
     program = os.path.abspath(program)
     started = time.monotonic()
     print(f"{what}: {count} of seed {seed}")

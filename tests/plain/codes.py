@@ -3,7 +3,7 @@
 import calendar
 import re
 
-DECIMALS = {b"CHF": 2, b"EUR": 2, b"GBP": 2, b"JPY": 0, b"USD": 2}
+DECIMALS = {b"CHF": 2, b"EUR": 2, b"GBP": 2, b"JPY": 0, b"KWD": 3, b"USD": 2}
 
 
 def expected_check_digit(body):

@@ -120,14 +120,21 @@ def due_pairs(history, pairs, number, settled):
     return sorted(due, key=lambda pair: (settlement_day(history, pair), pair.later))
 
 
+def pass_of(history, pairs, number, settled):
+    """What one pass of the run of this number settles, after all that was settled before it."""
+    before, in_it = history[: number - 1], []
+    for pair in due_pairs(history, pairs, number, settled):
+        if is_covered(before, settled + in_it, pair):
+            in_it.append(Settlement(number, pair))
+    return in_it
+
+
 def settlement_of(history):
-    """The settlements of a history in their order."""
+    """The settlements of a history in their order. A run makes passes until one settles nothing."""
     settled, pairs = [], pairs_of(history)
     for number, _ in numbered(history, Run):
-        before = history[: number - 1]
-        for pair in due_pairs(history, pairs, number, settled):
-            if is_covered(before, settled, pair):
-                settled.append(Settlement(number, pair))
+        while in_it := pass_of(history, pairs, number, settled):
+            settled += in_it
     return settled
 
 

@@ -5,11 +5,14 @@ use Rattle.std.proofs.lemmas.List.Sums.{sum_by-cons}
 use Rattle.std.specs.Prelude.{Result, Ok, Err, IfOk}
 use Rattle.std.specs.Io.KnownBytes.{Appends}
 use Rattle.desk_rules.specs.declared.reply.Reply.{Reply}
-use Rattle.desk_rules.specs.Verdict.{Books}
-use Rattle.desk_register.specs.declared.list_store.list_register.ListRegister.{ListRegister}
-use Rattle.desk_register.specs.Applied.{Keeps, no_books}
-use Rattle.desk_register.specs.ListView.{view_of_lists}
+use Rattle.desk_rules.specs.Books.{Books}
+use Rattle.desk_lists.specs.declared.list_register.ListRegister.{ListRegister}
+use Rattle.desk_engine.specs.Applied.{Keeps, no_books}
+use Rattle.desk_lists.specs.ListView.{view_of_lists}
+use Rattle.desk_rules.specs.declared.limits.TheConstants.{MOST_ENTRIES}
+use Rattle.desk_register.specs.Changes.{empty_content}
 use Rattle.desk_register.specs.View.{View}
+use Rattle.desk_engine.proofs.KeptLemmas.{empty_kept}
 use Rattle.desk_book.proofs.RunLemmas.{open_all_along}
 use Rattle.desk_book.specs.declared.fault.Fault.{Fault}
 use Rattle.desk_book.specs.declared.fault.Fault.TheVariants.{Memory, Storage, Closed}
@@ -42,22 +45,22 @@ only_memory (answer ∷ answers) not_closed sound =
     All-cons IsReplyOrMemory answer answers (is_in_memory answer (All-head (λ a. says_closed a ≡ false) answer answers not_closed) now)
     (only_memory answers (All-tail (λ a. says_closed a ≡ false) answer answers not_closed) later)
 
-pub told : (r : Option (List ℕ)) (before after : Option (List ℕ)) (was is : Bool) (v0 v1 : View) → v0.room ≡ 999_999_999 → was ≡ false → is ≡ false → v1.failures ≡ v0.failures → v1.is_honest → Holds was v0 no_books
+pub told : (r : Option (List ℕ)) (before after : Option (List ℕ)) (was is : Bool) (v0 v1 : View) → v0.room ≡ MOST_ENTRIES → was ≡ false → is ≡ false → v1.failures ≡ v0.failures → v1.is_honest → Holds was v0 no_books
     → ((books : Books) → v1.is_honest → Holds was v0 books → (script : List ℕ) × IfSome r (λ input. input ≡ script) × (length script ≤ 16_777_216) × PlaysScript was books script before after is v0 v1)
     → (input : List ℕ) × IfSome r (λ known. known ≡ input) × IsPlayAnswer input exit.Done before after
 told r before after was is v0 v1 most not_closed stays sound honest holds played =
     let p = played no_books honest holds in
     let s = p.3 in
     let P : ℕ → Type 0 = λ k. Run k was no_books (asked_in s.items) s.answers is s.played.last in
-    let Q : Bool → Type 0 = λ b. Run 999_999_999 b no_books (asked_in s.items) s.answers is s.played.last in
-    let R : Bool → Type 0 = λ b. Run 999_999_999 false no_books (asked_in s.items) s.answers b s.played.last in
-    let run : Run 999_999_999 false no_books (asked_in s.items) s.answers false s.played.last = subst R stays (subst Q not_closed (subst P most s.played.run)) in
+    let Q : Bool → Type 0 = λ b. Run MOST_ENTRIES b no_books (asked_in s.items) s.answers is s.played.last in
+    let R : Bool → Type 0 = λ b. Run MOST_ENTRIES false no_books (asked_in s.items) s.answers b s.played.last in
+    let run : Run MOST_ENTRIES false no_books (asked_in s.items) s.answers false s.played.last = subst R stays (subst Q not_closed (subst P most s.played.run)) in
     let blame = s.played.blame in
     let none : count_by says_storage s.answers ≡ 0 = omega (arith, blame, sound) in (
       p.0,
       p.1,
       told_answers s.items s.answers s.played.last p.2 s.spells run
-          (only_memory s.answers (open_all_along 999_999_999 false no_books s.played.last (asked_in s.items) s.answers run) none) s.written refl,
+          (only_memory s.answers (open_all_along MOST_ENTRIES false no_books s.played.last (asked_in s.items) s.answers run) none) s.written refl,
     )
 
 -- the bytes that a reader gives, where they are known
@@ -77,11 +80,10 @@ told_alone (Ok status) known before after told wrote = let i = given known in (i
 told_alone (Err e) known before after told wrote = wrote
 
 -- a new register keeps the tables of no history, and so does what is equal to it
-pub new_keeps : (made held : ListRegister) → held ≡ made → (view_of_lists made).room ≡ 999_999_999 → Keeps 999_999_999 no_books (view_of_lists made).content → Keeps (view_of_lists held).room no_books (view_of_lists held).content
-new_keeps made held same limit keeps =
+pub new_keeps : (made held : ListRegister) → held ≡ made → (view_of_lists made).content ≡ empty_content → Keeps (view_of_lists held).room no_books (view_of_lists held).content
+new_keeps made held same empty =
     let P : ListRegister → Type 0 = λ r. Keeps (view_of_lists r).room no_books (view_of_lists r).content in
-    let Q : ℕ → Type 0 = λ k. Keeps k no_books (view_of_lists made).content in
-    subst P (sym same) (subst Q (sym limit) keeps)
+    subst P (sym same) (empty_kept _ _ empty)
 
-pub limit_is : (made held : ListRegister) → held ≡ made → (view_of_lists made).room ≡ 999_999_999 → (view_of_lists held).room ≡ 999_999_999
-limit_is made held same limit = let P : ListRegister → Type 0 = λ r. (view_of_lists r).room ≡ 999_999_999 in subst P (sym same) limit
+pub limit_is : (made held : ListRegister) → held ≡ made → (view_of_lists made).room ≡ MOST_ENTRIES → (view_of_lists held).room ≡ MOST_ENTRIES
+limit_is made held same limit = let P : ListRegister → Type 0 = λ r. (view_of_lists r).room ≡ MOST_ENTRIES in subst P (sym same) limit

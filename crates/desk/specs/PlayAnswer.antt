@@ -2,8 +2,9 @@
 use Rattle.std.specs.Prelude.{◌≡◌, ◌≤◌, ℕ, false, List, [], ◌∷◌, ◌++◌, length, All, Option, Result, Ok, Err}
 use Rattle.std.specs.Io.KnownBytes.{Appends}
 use Rattle.desk_rules.specs.declared.reply.Reply.{Reply}
-use Rattle.desk_rules.specs.Verdict.{Books}
-use Rattle.desk_register.specs.Applied.{no_books}
+use Rattle.desk_rules.specs.Books.{Books}
+use Rattle.desk_rules.specs.declared.limits.TheConstants.{MOST_ENTRIES}
+use Rattle.desk_engine.specs.Applied.{no_books}
 use Rattle.desk_book.specs.declared.fault.Fault.{Fault}
 use Rattle.desk_book.specs.declared.fault.Fault.TheVariants as desk_fault
 use Rattle.desk_book.specs.Answered.{Run}
@@ -23,6 +24,6 @@ IsReplyOrMemory (Err fault) = fault ≡ desk_fault.Memory
 -- the status done; or a failure is told alone, as a fault. A desk in memory is never closed.
 pub data IsPlayAnswer (input : List ℕ) (status : Status) (before after : Option (List ℕ)) : Type 0 where
   told_answers : (items : List Item) (answers : List (Result Reply Fault)) (last : Books) → length input ≤ 16_777_216 → Script input items
-      → Run 999_999_999 false no_books (asked_in items) answers false last → All IsReplyOrMemory answers → Appends before after (answers_text items answers) → status ≡ exit.Done → IsPlayAnswer input status before after
+      → Run MOST_ENTRIES false no_books (asked_in items) answers false last → All IsReplyOrMemory answers → Appends before after (answers_text items answers) → status ≡ exit.Done → IsPlayAnswer input status before after
   told_memory : status ≡ exit.Fault → Appends before after (failure_line Memory ++ 10 ∷ []) → IsPlayAnswer input status before after
   told_input : status ≡ exit.Fault → Appends before after (failure_line Input ++ 10 ∷ []) → IsPlayAnswer input status before after

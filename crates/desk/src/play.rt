@@ -4,7 +4,8 @@ ghost use Rattle.desk.specs.PlayAnswer.{IsPlayAnswer};
 
 use crate::status::{Failure, Status, tell_failure};
 use desk_book::{Desk, PlayFault};
-use desk_register::{ListRegister, MOST_ENTRIES};
+use desk_lists::ListRegister;
+use desk_rules::MOST_ENTRIES;
 use std::alloc::Global;
 use std::io::{self, Read, Write};
 

@@ -149,11 +149,8 @@ fn instruction_type(number: u16) -> Option<Mt>
     ensures right { IfSome result (λ mt. (is_instruction mt ≡ true) × (number_of_type mt ≡ number)) }
     ensures known { (mt : Mt) → is_instruction mt ≡ true → number_of_type mt ≡ number → IsSomeAnd result (λ found. found ≡ mt) }
 {
-    match number {
-        540 => Some(Mt::Mt540),
-        541 => Some(Mt::Mt541),
-        542 => Some(Mt::Mt542),
-        543 => Some(Mt::Mt543),
-        _ => None,
+    match Mt::try_from(number) {
+        Ok(mt) if mt.is_instruction() => Some(mt),
+        Ok(_) | Err(_) => None,
     }
 }

@@ -1,7 +1,7 @@
 //! Why work was not done.
 
 use desk_register::Fault;
-use desk_worked::entries::EntryFault;
+use desk_samples::entries::EntryFault;
 use std::alloc::AllocError;
 use std::io;
 

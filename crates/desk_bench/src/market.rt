@@ -7,7 +7,7 @@ use crate::failure::Failure;
 use desk_codes::{AccountId, Bic, Day, Isin, Reference};
 use desk_msg::{Instruction, Kind, Mt, SettlementType};
 use desk_rules::{Entry, Movement};
-use desk_worked::entries::{EntryFault, SHARE, account, bic, isin};
+use desk_samples::entries::{EntryFault, SHARE, account, bic, isin};
 
 /// How many entries `Market::opening` has.
 pub const OPENING: u32 = 5;

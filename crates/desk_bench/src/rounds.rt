@@ -3,10 +3,9 @@
 use crate::failure::Failure;
 use crate::market::{Market, OPENING, Side, reference};
 use desk_codes::Day;
-use desk_register::MOST_ENTRIES;
-use desk_rules::Entry;
-use desk_worked::entries::day;
-use desk_worked::ledger::{Entered, Ledger};
+use desk_rules::{Entry, MOST_ENTRIES, RunRule};
+use desk_samples::entries::day;
+use desk_samples::ledger::{Entered, Ledger};
 use std::alloc::Global;
 
 /// The entries of a round.
@@ -43,7 +42,11 @@ fn entry_at(market: &Market, day: Day, count: u32, number: u32) -> Result<Entry,
         0 => market.issue(reference, Side::Deliverer, 1),
         1 => market.instruct(reference, Side::Deliverer, day),
         2 => market.instruct(reference, Side::Receiver, day),
-        _ if is_run_in(behind / ROUND, count) => Entry::Run { reference, day },
+        _ if is_run_in(behind / ROUND, count) => Entry::Run {
+            reference,
+            day,
+            rule: RunRule::Passes,
+        },
         _ => market.issue(reference, Side::Receiver, 1),
     })
 }

@@ -2,8 +2,8 @@
 
 use crate::failure::Failure;
 use crate::market::Market;
-use desk_worked::entries::day;
-use desk_worked::ledger::Ledger;
+use desk_samples::entries::day;
+use desk_samples::ledger::Ledger;
 use std::alloc::Global;
 use std::fmt::Write;
 

@@ -4,9 +4,9 @@ use crate::failure::Failure;
 use crate::market::{Market, OPENING, Side, reference};
 use crate::shown::shown;
 use desk_codes::{Day, Reference};
-use desk_rules::Entry;
-use desk_worked::entries::day;
-use desk_worked::ledger::{Entered, Ledger};
+use desk_rules::{Entry, RunRule};
+use desk_samples::entries::day;
+use desk_samples::ledger::{Entered, Ledger};
 use std::alloc::Global;
 
 /// The register holds so many entries at most.
@@ -102,5 +102,9 @@ fn entry_at(market: &Market, number: u32) -> Result<Entry, Failure> {
 }
 
 fn run(reference: Reference, day: Day) -> Entry {
-    Entry::Run { reference, day }
+    Entry::Run {
+        reference,
+        day,
+        rule: RunRule::Passes,
+    }
 }

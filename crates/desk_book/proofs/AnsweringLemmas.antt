@@ -1,5 +1,5 @@
 -- What is answered to an entry, from what the register keeps.
-use Rattle.std.proofs.Common.{◌≡◌, inl, inr, ℕ, zero, suc, ◌+◌, ◌<◌, ◌≤◌, ◌^◌, Bool, true, List, [], ◌∷◌, length, Option, Some, None, refl, ap, sym, ◌∙◌, subst, arith, lit<}
+use Rattle.std.proofs.Common.{◌≡◌, inl, inr, ℕ, zero, suc, ◌+◌, ◌<◌, ◌≤◌, ◌^◌, Bool, true, List, [], ◌∷◌, length, Option, Some, None, option_map, refl, ap, sym, ◌∙◌, subst, arith, lit<}
 use Rattle.std.specs.Prelude.{slice_get, is_some, nat_le, Result, Ok, Err, IfOk, OnOk}
 use Rattle.std.proofs.lemmas.Bool.{cases_Bool}
 use Rattle.desk_rules.specs.declared.entry.Entry.{Entry}
@@ -7,21 +7,23 @@ use Rattle.desk_rules.specs.declared.reply.Kept.{Kept}
 use Rattle.desk_rules.specs.declared.reply.Reply.{Reply}
 use Rattle.desk_rules.specs.declared.verdict.Verdict.TheVariants.{Accept, Repeat, Refuse}
 use Rattle.desk_rules.specs.declared.verdict.Refusal.TheVariants.{Full}
-use Rattle.desk_rules.specs.History.{entry_at, sender_of, reference_of, number_of_key}
+use Rattle.desk_rules.specs.History.{as_asked, entry_at, sender_of, reference_of, number_of_key}
 use Rattle.desk_rules.specs.Balances.{issued, redeemed}
 use Rattle.desk_rules.specs.Reply.{IsFirstReply, plain_reply}
-use Rattle.desk_rules.specs.Verdict.{Books, Check, IsVerdict, IsVerdictAt, checks_of, first_failing, is_from_stranger, kind_of}
+use Rattle.desk_rules.specs.Books.{Books}
+use Rattle.desk_rules.specs.Verdict.{AsksTheSame, Check, IsVerdict, IsVerdictAt, checks_of, first_failing, is_from_stranger}
+use Rattle.desk_rules.specs.Facts.{kind_of}
 use Rattle.desk_rules.proofs.HistoryLemmas.{entry_at-known, slice_get-some}
 use Rattle.desk_register.specs.declared.found.Found.{Found}
-use Rattle.desk_register.specs.Applied.{Keeps}
-use Rattle.desk_register.specs.Content.{Content}
+use Rattle.desk_engine.specs.Applied.{Keeps}
+use Rattle.desk_rules.specs.Content.{Content}
 use Rattle.desk_register.specs.Looked.{Finding, found_at, held_of, view_of}
 use Rattle.desk_register.specs.declared.register.Stage.{Stage}
 use Rattle.desk_register.specs.declared.register.Stage.TheVariants.{Idle, Failed}
 use Rattle.desk_register.specs.View.{View}
-use Rattle.desk_register.proofs.AcceptingLemmas.{entries_within}
-use Rattle.desk_register.proofs.HeldLemmas.{held_is, held_within}
-use Rattle.desk_register.proofs.TablesLemmas.{length_is}
+use Rattle.desk_engine.proofs.AcceptingLemmas.{entries_within}
+use Rattle.desk_engine.proofs.HeldLemmas.{held_is, held_within}
+use Rattle.desk_engine.proofs.TablesLemmas.{length_is}
 use Rattle.desk_book.specs.declared.fault.Fault.{Fault}
 use Rattle.desk_book.specs.declared.total.SecurityTotal.{SecurityTotal}
 use Rattle.desk_book.specs.Answered.{IsSum, IsToldSums}
@@ -41,7 +43,7 @@ keeps_at v0 v1 books same room keeps =
 pub count_shown : (v0 : View) (books : Books) (count limit shown : ℕ) → Keeps v0.room books v0.content → count ≡ length v0.content.register → limit ≡ v0.room → (count ≤ limit → shown ≡ count)
     → shown ≡ length books.history
 count_shown v0 books count limit shown keeps is_count is_limit least =
-    let within = entries_within v0.room books.history keeps.tables.accepted in
+    let within = entries_within v0.room books.history keeps.accepted in
     let size = length_is v0.content books.history keeps.tables.history in
     let is = least (omega arith) in
     omega arith
@@ -62,7 +64,7 @@ found_reply limit books content (suc m) found keeps is = at (slice_get content.r
         let both : Some (view_of found) ≡ Some (record { number = suc m; entry = kept.entry; reply = kept.reply; standing = content.standing (suc m) }) = is ∙ there in
         let same : found.reply ≡ kept.reply = reply_of both in
         let P : Reply → Type 0 = λ r. IsFirstReply books.history (suc m) r in
-        let first : IsFirstReply books.history (m + 1) kept.reply = keeps.replies m kept some in
+        let first : IsFirstReply books.history (m + 1) kept.reply = keeps.tables.replies.each m kept some in
         let Q : ℕ → Type 0 = λ k. IsFirstReply books.history k kept.reply in
         subst P (sym same) (subst Q (omega arith) first)
       where
@@ -72,9 +74,14 @@ found_reply limit books content (suc m) found keeps is = at (slice_get content.r
 none_some : {A : Type 0} (x : A) → None ≡ Some x → ⊥
 none_some x e = cc
 
-pub found_known : (limit : ℕ) (books : Books) (content : Content) (n : ℕ) (e : Entry) → Keeps limit books content → entry_at books.history n ≡ Some e → None ≡ found_at content n → ⊥
-found_known limit books content zero e keeps at is = absurd (let known = entry_at-known books.history 0 e at in let lt : 0 < 0 = known.0 in omega arith)
-found_known limit books content (suc m) e keeps at is =
+-- an entry that asks for the same is there
+pub asked_there : (o : Option Entry) (e : Entry) → option_map as_asked o ≡ Some (as_asked e) → (x : Entry) × (o ≡ Some x)
+asked_there None e same = absurd (none_some (as_asked e) same)
+asked_there (Some x) e same = (x, refl)
+
+entry_found : (limit : ℕ) (books : Books) (content : Content) (n : ℕ) (e : Entry) → Keeps limit books content → entry_at books.history n ≡ Some e → None ≡ found_at content n → ⊥
+entry_found limit books content zero e keeps at is = absurd (let known = entry_at-known books.history 0 e at in let lt : 0 < 0 = known.0 in omega arith)
+entry_found limit books content (suc m) e keeps at is =
     let known = entry_at-known books.history (suc m) e at in
     let le : suc m ≤ length books.history = known.1 in
     let size = length_is content books.history keeps.tables.history in
@@ -82,7 +89,10 @@ found_known limit books content (suc m) e keeps at is =
     let there : found_at content (suc m) ≡ Some (record { number = suc m; entry = some.0.entry; reply = some.0.reply; standing = content.standing (suc m) }) = rw some.1 refl in
     absurd (none_some _ (is ∙ there))
 
--- A repeat is of the entry that it names.
+pub found_known : (limit : ℕ) (books : Books) (content : Content) (n : ℕ) (e : Entry) → Keeps limit books content → AsksTheSame books.history n e → None ≡ found_at content n → ⊥
+found_known limit books content n e keeps same is = let there = asked_there (entry_at books.history n) e same in entry_found limit books content n there.0 keeps there.1 is
+
+-- A repeat asks for the same as the entry that it names.
 
 no_repeat : (checks : List Check) (full : Bool) (n : ℕ) → Repeat n ≡ first_failing checks full → ⊥
 no_repeat [] full n is = elim (cases_Bool full) [
@@ -94,11 +104,11 @@ no_repeat (c ∷ checks) full n is = elim (cases_Bool c.fails) [
   | inr good ↦ let f : first_failing (c ∷ checks) full ≡ first_failing checks full = rw good refl in no_repeat checks full n (is ∙ f)
 ]
 
-repeat_at : (limit : ℕ) (books : Books) (e : Entry) (key : Option ℕ) (n : ℕ) → IsVerdictAt limit books e key (Repeat n) → entry_at books.history n ≡ Some e
+repeat_at : (limit : ℕ) (books : Books) (e : Entry) (key : Option ℕ) (n : ℕ) → IsVerdictAt limit books e key (Repeat n) → AsksTheSame books.history n e
 repeat_at limit books e None n v = absurd (no_repeat (checks_of books e) (nat_le limit (length books.history)) n v)
-repeat_at limit books e (Some k) n v = (let P : ℕ → Type 0 = λ z. entry_at books.history z ≡ Some e in subst P (sym v.0) v.1)
+repeat_at limit books e (Some k) n v = (let P : ℕ → Type 0 = λ z. AsksTheSame books.history z e in subst P (sym v.0) v.1)
 
-pub repeat_known : (limit : ℕ) (books : Books) (e : Entry) (n : ℕ) → IsVerdict limit books e (Repeat n) → entry_at books.history n ≡ Some e
+pub repeat_known : (limit : ℕ) (books : Books) (e : Entry) (n : ℕ) → IsVerdict limit books e (Repeat n) → AsksTheSame books.history n e
 repeat_known limit books e n v = elim (cases_Bool (is_from_stranger books.history (sender_of e))) [
   | inl stranger ↦ let w : Repeat n ≡ Refuse _ = (rw stranger at v) in absurd (cc)
   | inr known ↦
@@ -115,8 +125,8 @@ decides_put limit books e content (Ok reply) verdict p = record {
   decided = record {
     verdict = Accept;
     is_verdict = verdict;
-    grows = record { history = p.longer; are = p.keeps.tables.are_books };
-    replied = (record { history = p.longer; are = p.keeps.tables.are_books }, p.replied);
+    grows = record { history = p.longer; are = p.keeps.tables.are };
+    replied = (record { history = p.longer; are = p.keeps.tables.are }, p.replied);
   };
   keeps = p.keeps;
 }
@@ -135,7 +145,7 @@ decides_repeat limit books e old new n (Err fault) verdict first same keeps = fi
 
 pub held_small : (limit : ℕ) (books : Books) (content : Content) (isin : List ℕ) → Keeps limit books content → held_of content isin < 2 ^ 64
 held_small limit books content isin keeps =
-    let within = held_within limit books content isin keeps.tables in
+    let within = held_within limit books content isin keeps in
     let small : 99_999_999_999_999 < 2 ^ 64 = lit< tt in
     omega arith
 
@@ -144,7 +154,7 @@ total_told limit books content total keeps is =
     let history = keeps.tables.history in
     let P : List Entry → Type 0 = λ h. is_some (kind_of h total.isin) ≡ true in
     let Q : List Entry → Type 0 = λ h. redeemed h total.isin + total.outstanding ≡ issued h total.isin in
-    let all = held_is limit books content total.isin keeps.tables in
+    let all = held_is limit books content total.isin keeps in
     record {
       known = subst P history is.known;
       held = (let h = is.held in omega arith);
@@ -176,7 +186,7 @@ decides_put_at v0 v1 v2 books e r same room keeps verdict puts =
     decides_put v0.room books e v2.content r verdict (subst P room (puts (keeps_at v0 v1 books same room keeps)))
 
 pub decides_repeat_at : (v0 v1 v2 : View) (books : Books) (e : Entry) (n : ℕ) (r : Result Reply Fault) → v1.content ≡ v0.content → v1.room ≡ v0.room → Keeps v0.room books v0.content
-    → IsVerdict v0.room books e (Repeat n) → (Keeps v1.room books v1.content → entry_at books.history n ≡ Some e → IfOk r (λ reply. IsFirstReply books.history n reply)) → OnOk r (v2.content ≡ v1.content)
+    → IsVerdict v0.room books e (Repeat n) → (Keeps v1.room books v1.content → AsksTheSame books.history n e → IfOk r (λ reply. IsFirstReply books.history n reply)) → OnOk r (v2.content ≡ v1.content)
     → IfOk r (λ reply. Decides v0.room books e reply v2.content)
 decides_repeat_at v0 v1 v2 books e n r same room keeps verdict repeats stays =
     let P : Content → Type 0 = λ c. OnOk r (v2.content ≡ c) in

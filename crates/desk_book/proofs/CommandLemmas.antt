@@ -1,5 +1,5 @@
 -- The objects of the commands, from what was looked up in a value.
-use Rattle.std.proofs.Common.{◌≡◌, ℕ, ◌<◌, List, [], ◌∷◌, length, arith, Some, None, Option, IfNone, codes, option_map, option_and_then, refl, sym, ap, ◌∙◌}
+use Rattle.std.proofs.Common.{◌≡◌, ℕ, ◌<◌, List, [], ◌∷◌, length, arith, Some, None, Option, IfNone, codes, option_map, option_and_then, refl, sym, ap, subst, ◌∙◌}
 use Rattle.serde_json.specs.Data.{Data, null, boolean, number, string, array, object, Members, no_members, unsigned, negative, float}
 use Rattle.serde_json.specs.Read.{read}
 use Rattle.serde_json.proofs.OnLiterals.{serde_json_on_literals}
@@ -11,6 +11,8 @@ use Rattle.desk_msg.specs.declared.instruction.Kind.{Kind}
 use Rattle.desk_rules.specs.declared.entry.Movement.{Movement}
 use Rattle.desk_rules.specs.declared.entry.Entry.{Entry}
 use Rattle.desk_rules.specs.declared.entry.Entry.TheVariants.{Participant, Account, Security, Issue, Redeem, PayIn, PayOut, Instruct, Cancel, Run}
+use Rattle.desk_rules.specs.declared.entry.RunRule.{RunRule}
+use Rattle.desk_rules.specs.declared.entry.RunRule.TheVariants.{Passes}
 use Rattle.desk_book.specs.Members.{IsOrderedObject}
 use Rattle.desk_book.proofs.ExactLemmas.{exact_object}
 
@@ -116,7 +118,7 @@ only_participant d op none (PayIn payment) c = let bad = c.supported in cc
 only_participant d op none (PayOut payment) c = let bad = c.supported in cc
 only_participant d op none (Instruct sender instruction) c = c.spells
 only_participant d op none (Cancel sender order) c = let bad = c.supported in cc
-only_participant d op none (Run reference day) c = let h = c.spells in let other : Some (codes "run") ≡ Some (codes "participant") = sym (ap (text_at (codes "op")) h.2) ∙ op in cc
+only_participant d op none (Run reference day rule) c = let h = c.spells in let other : Some (codes "run") ≡ Some (codes "participant") = sym (ap (text_at (codes "op")) h.2) ∙ op in cc
 
 pub only_account : (d : Data) → text_at (codes "op") d ≡ Some (codes "account") → ((reference bic account : List ℕ) → ¬ IsCommand d (Account reference bic account))
     → (entry : Entry) → ¬ IsSupportedCommand d entry
@@ -129,7 +131,7 @@ only_account d op none (PayIn payment) c = let bad = c.supported in cc
 only_account d op none (PayOut payment) c = let bad = c.supported in cc
 only_account d op none (Instruct sender instruction) c = c.spells
 only_account d op none (Cancel sender order) c = let bad = c.supported in cc
-only_account d op none (Run reference day) c = let h = c.spells in let other : Some (codes "run") ≡ Some (codes "account") = sym (ap (text_at (codes "op")) h.2) ∙ op in cc
+only_account d op none (Run reference day rule) c = let h = c.spells in let other : Some (codes "run") ≡ Some (codes "account") = sym (ap (text_at (codes "op")) h.2) ∙ op in cc
 
 pub only_security : (d : Data) → text_at (codes "op") d ≡ Some (codes "security") → ((reference isin : List ℕ) (kind : Kind) → ¬ IsCommand d (Security reference isin kind))
     → (entry : Entry) → ¬ IsSupportedCommand d entry
@@ -142,7 +144,7 @@ only_security d op none (PayIn payment) c = let bad = c.supported in cc
 only_security d op none (PayOut payment) c = let bad = c.supported in cc
 only_security d op none (Instruct sender instruction) c = c.spells
 only_security d op none (Cancel sender order) c = let bad = c.supported in cc
-only_security d op none (Run reference day) c = let h = c.spells in let other : Some (codes "run") ≡ Some (codes "security") = sym (ap (text_at (codes "op")) h.2) ∙ op in cc
+only_security d op none (Run reference day rule) c = let h = c.spells in let other : Some (codes "run") ≡ Some (codes "security") = sym (ap (text_at (codes "op")) h.2) ∙ op in cc
 
 pub only_issue : (d : Data) → text_at (codes "op") d ≡ Some (codes "issue") → ((movement : Movement) → ¬ IsCommand d (Issue movement))
     → (entry : Entry) → ¬ IsSupportedCommand d entry
@@ -155,9 +157,9 @@ only_issue d op none (PayIn payment) c = let bad = c.supported in cc
 only_issue d op none (PayOut payment) c = let bad = c.supported in cc
 only_issue d op none (Instruct sender instruction) c = c.spells
 only_issue d op none (Cancel sender order) c = let bad = c.supported in cc
-only_issue d op none (Run reference day) c = let h = c.spells in let other : Some (codes "run") ≡ Some (codes "issue") = sym (ap (text_at (codes "op")) h.2) ∙ op in cc
+only_issue d op none (Run reference day rule) c = let h = c.spells in let other : Some (codes "run") ≡ Some (codes "issue") = sym (ap (text_at (codes "op")) h.2) ∙ op in cc
 
-pub only_run : (d : Data) → text_at (codes "op") d ≡ Some (codes "run") → ((reference day : List ℕ) → ¬ IsCommand d (Run reference day))
+pub only_run : (d : Data) → text_at (codes "op") d ≡ Some (codes "run") → ((reference day : List ℕ) → ¬ IsCommand d (Run reference day Passes))
     → (entry : Entry) → ¬ IsSupportedCommand d entry
 only_run d op none (Participant reference bic) c = let h = c.spells in let other : Some (codes "participant") ≡ Some (codes "run") = sym (ap (text_at (codes "op")) h.3) ∙ op in cc
 only_run d op none (Account reference bic account) c = let h = c.spells in let other : Some (codes "account") ≡ Some (codes "run") = sym (ap (text_at (codes "op")) h.4) ∙ op in cc
@@ -168,7 +170,7 @@ only_run d op none (PayIn payment) c = let bad = c.supported in cc
 only_run d op none (PayOut payment) c = let bad = c.supported in cc
 only_run d op none (Instruct sender instruction) c = c.spells
 only_run d op none (Cancel sender order) c = let bad = c.supported in cc
-only_run d op none (Run reference day) c = none reference day c.spells
+only_run d op none (Run reference day rule) c = (let P : RunRule → Type 0 = λ r. IsCommand d (Run reference day r) in none reference day (subst P c.spells.3 c.spells))
 
 pub if_none : {T : Type 0} {P Q : Type 0} (o : Option T) → (P → Q) → IfNone o P → IfNone o Q
 if_none None f h = f h

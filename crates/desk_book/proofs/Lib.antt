@@ -10,6 +10,7 @@ pub mod RowLemmas
 pub mod OneReading
 pub mod OneCommand
 pub mod OneTask
+mod FormedLemmas
 mod OnceLemmas
 mod ConfirmedRuns
 mod OneStep

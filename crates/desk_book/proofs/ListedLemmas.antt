@@ -12,12 +12,12 @@ use Rattle.std.specs.declared.cmp.Ordering.TheVariants.{Less, Equal, Greater}
 use Rattle.desk_msg.specs.declared.instruction.Kind.{Kind}
 use Rattle.desk_rules.specs.declared.entry.Entry.{Entry}
 use Rattle.desk_rules.specs.declared.entry.Entry.TheVariants.{Participant, Account, Security, Issue, Redeem, PayIn, PayOut, Instruct, Cancel, Run}
-use Rattle.desk_rules.specs.Verdict.{or_else, kind_by, kind_of}
+use Rattle.desk_rules.specs.Facts.{or_else, kind_by, kind_of}
 use Rattle.desk_rules.proofs.Decided.{In, filter-In}
 use Rattle.desk_rules.proofs.Existence.{filter_fewer}
-use Rattle.desk_register.specs.Content.{Content, history_of}
+use Rattle.desk_rules.specs.Content.{Content, history_of}
 use Rattle.desk_register.specs.Looked.{IsLess, IsAboveText, IsRegisteredAbove, IsSecurityAfter, security_by}
-use Rattle.desk_register.proofs.QuantityLemmas.{same_bytes}
+use Rattle.desk_register.proofs.CaseLemmas.{same_bytes}
 use Rattle.desk_book.specs.declared.total.SecurityTotal.{SecurityTotal}
 use Rattle.desk_book.specs.Totals.{AreTotals, IsTotal}
 
@@ -77,7 +77,7 @@ registers (PayIn payment) isin e = cc
 registers (PayOut payment) isin e = cc
 registers (Instruct sender instruction) isin e = cc
 registers (Cancel sender order) isin e = cc
-registers (Run reference day) isin e = cc
+registers (Run reference day rule) isin e = cc
 
 pub record Registered (history : List Entry) (isin : List ℕ) : Type 0 where
   pub entry : Entry

@@ -8,7 +8,8 @@ use Rattle.desk_rules.specs.declared.reply.Reply.{Reply}
 use Rattle.desk_rules.specs.declared.verdict.Verdict.{Verdict}
 use Rattle.desk_rules.specs.declared.verdict.Verdict.TheVariants.{Accept, Repeat, Refuse}
 use Rattle.desk_rules.specs.Reply.{AreNext, IsReply}
-use Rattle.desk_rules.specs.Verdict.{Books, IsVerdict}
+use Rattle.desk_rules.specs.Books.{Books}
+use Rattle.desk_rules.specs.Verdict.{IsVerdict}
 use Rattle.desk_book.specs.declared.fault.Fault.{Fault}
 use Rattle.desk_book.specs.declared.task.Task.{Task}
 use Rattle.desk_book.specs.declared.task.Task.TheVariants.{Decide, Totals, Answer}

@@ -4,7 +4,7 @@ use Rattle.serde_json.specs.Data.{Data}
 use Rattle.desk_codes.specs.Bic.{party_of}
 use Rattle.desk_codes.specs.Currency.{letters_of}
 use Rattle.desk_codes.specs.declared.currency.Ccy.{Ccy}
-use Rattle.desk_codes.specs.declared.currency.Ccy.TheVariants.{Chf, Eur, Gbp, Jpy, Usd}
+use Rattle.desk_codes.specs.declared.currency.Ccy.TheVariants.{Chf, Eur, Gbp, Jpy, Kwd, Usd}
 use Rattle.desk_msg.specs.declared.instruction.Kind.{Kind}
 use Rattle.desk_msg.specs.declared.instruction.Kind.TheVariants.{Unit as Units, FaceAmount}
 use Rattle.desk_rules.specs.declared.entry.Entry.{Entry}
@@ -47,7 +47,7 @@ same_kind : (a b : Kind) → code_of_kind a ≡ code_of_kind b → a ≡ b
 same_kind a b e = sym (kind_back a) ∙ ap kind_of e ∙ kind_back b
 
 ccy_of : List ℕ → Ccy
-ccy_of letters = let c = get_or letters 0 0 in cond (eqb c 67) Chf (cond (eqb c 69) Eur (cond (eqb c 71) Gbp (cond (eqb c 74) Jpy Usd)))
+ccy_of letters = let c = get_or letters 0 0 in cond (eqb c 67) Chf (cond (eqb c 69) Eur (cond (eqb c 71) Gbp (cond (eqb c 74) Jpy (cond (eqb c 75) Kwd Usd))))
 
 ccy_back : (ccy : Ccy) → ccy_of (letters_of ccy) ≡ ccy
 unfolding ccy_of
@@ -55,6 +55,7 @@ ccy_back Chf = refl
 ccy_back Eur = refl
 ccy_back Gbp = refl
 ccy_back Jpy = refl
+ccy_back Kwd = refl
 ccy_back Usd = refl
 
 same_letters : (a b : Ccy) → letters_of a ≡ letters_of b → a ≡ b
@@ -69,7 +70,7 @@ op_word (Issue movement) = codes "issue"
 op_word (Redeem movement) = codes "redeem"
 op_word (PayIn payment) = codes "payin"
 op_word (PayOut payment) = codes "payout"
-op_word (Run reference day) = codes "run"
+op_word (Run reference day rule) = codes "run"
 op_word (Instruct sender instruction) = []
 op_word (Cancel sender order) = []
 
@@ -82,7 +83,7 @@ op_is d (Issue movement) h = ap (text_at (codes "op")) h.1
 op_is d (Redeem movement) h = ap (text_at (codes "op")) h.1
 op_is d (PayIn payment) h = ap (text_at (codes "op")) h.3
 op_is d (PayOut payment) h = ap (text_at (codes "op")) h.3
-op_is d (Run reference day) h = ap (text_at (codes "op")) h.2
+op_is d (Run reference day rule) h = ap (text_at (codes "op")) h.2
 op_is d (Instruct sender instruction) h = absurd h
 op_is d (Cancel sender order) h = absurd h
 
@@ -111,8 +112,8 @@ one_entry d (PayIn payment) (PayIn payment') h k = ap PayIn (payment_same paymen
 one_entry d (PayIn payment) b h k = let e = other_op d (PayIn payment) b h k in cc
 one_entry d (PayOut payment) (PayOut payment') h k = ap PayOut (payment_same payment payment' (found (codes "ref") payment.reference payment'.reference d _ _ h.3 k.3 refl refl) (h.1.0 ∙ ap party_of (found (codes "bic") h.0 k.0 d _ _ h.3 k.3 refl refl) ∙ sym k.1.0) (same_letters payment.ccy payment'.ccy (found (codes "ccy") (letters_of payment.ccy) (letters_of payment'.ccy) d _ _ h.3 k.3 refl refl)) (counted (codes "amount") payment.amount payment'.amount d _ _ h.3 k.3 refl refl))
 one_entry d (PayOut payment) b h k = let e = other_op d (PayOut payment) b h k in cc
-one_entry d (Run reference day) (Run reference' day') h k = let r = found (codes "ref") reference reference' d _ _ h.2 k.2 refl refl in let x = found (codes "day") day day' d _ _ h.2 k.2 refl refl in cc
-one_entry d (Run reference day) b h k = let e = other_op d (Run reference day) b h k in cc
+one_entry d (Run reference day rule) (Run reference' day' rule') h k = let p : rule ≡ rule' = h.3 ∙ sym k.3 in let r = found (codes "ref") reference reference' d _ _ h.2 k.2 refl refl in let x = found (codes "day") day day' d _ _ h.2 k.2 refl refl in cc
+one_entry d (Run reference day rule) b h k = let e = other_op d (Run reference day rule) b h k in cc
 one_entry d (Instruct sender instruction) b h k = absurd h
 one_entry d (Cancel sender order) b h k = absurd h
 

@@ -16,11 +16,11 @@ use Rattle.desk_rules.specs.declared.verdict.Verdict.{Verdict}
 use Rattle.desk_rules.specs.declared.verdict.Verdict.TheVariants.{Accept, Repeat, Refuse}
 use Rattle.desk_rules.specs.Balances.{issued, redeemed, credits, debits}
 use Rattle.desk_rules.specs.History.{entry_at}
-use Rattle.desk_rules.specs.Laws.{accounts_of}
+use Rattle.desk_rules.specs.Facts.{accounts_of}
 use Rattle.desk_rules.specs.Pairing.{IsPairing}
 use Rattle.desk_rules.specs.Reply.{IsFirstReply, IsReply, plain_reply, reply_to}
 use Rattle.desk_rules.specs.Settlement.{IsSettlement}
-use Rattle.desk_rules.specs.Verdict.{AreBooks, Books}
+use Rattle.desk_rules.specs.Books.{AreBooks, Books}
 use Rattle.desk_register.specs.Looked.{IsLess}
 use Rattle.desk_book.specs.Answered.{AreSums, Grows, IsAnswer, IsDecided, IsSum, IsToldSums, Step}
 use Rattle.desk_book.specs.Asked.{Asked}
@@ -28,6 +28,7 @@ use Rattle.desk_book.specs.Sums.{sums_text}
 use Rattle.desk_book.specs.declared.task.Task.{Task}
 use Rattle.desk_book.specs.declared.task.Task.TheVariants.{Decide, Totals, Answer}
 use Rattle.desk_book.specs.declared.total.SecurityTotal.{SecurityTotal}
+use Rattle.desk_book.proofs.AnsweringLemmas.{asked_there}
 use Rattle.desk_book.proofs.OneTask.{one_task}
 
 -- Books.
@@ -63,7 +64,7 @@ one_reply : (books : Books) (entry : Entry) (verdict : Verdict) (r s : Reply) (n
 one_reply books entry Accept r s n m g h x y =
     let same = one_books n m (g.history ∙ sym h.history) g.are h.are in
     (x.1 ∙ ap (λ b. reply_to b entry) same ∙ sym y.1, same)
-one_reply books entry (Repeat k) r s n m g h x y = (one_first books.history k entry r s x.0 x.1 y.1, g ∙ sym h)
+one_reply books entry (Repeat k) r s n m g h x y = (let there = asked_there (entry_at books.history k) entry x.0 in one_first books.history k there.0 r s there.1 x.1 y.1, g ∙ sym h)
 one_reply books entry (Refuse refusal) r s n m g h x y = (x ∙ sym y, g ∙ sym h)
 
 one_decision : (limit : ℕ) (books : Books) (entry : Entry) (r s : Reply) (n m : Books) → IsDecided limit books entry r n → IsDecided limit books entry s m → (r ≡ s) × (n ≡ m)

@@ -2,11 +2,11 @@
 use Rattle.std.proofs.Common.{◌≡◌, ℕ, ◌+◌, ◌≤◌, List, ◌∷◌, ◌++◌, [], length, Option, Some, None, is_some, true, ap, sym, ◌∙◌, subst, arith}
 use Rattle.std.proofs.lemmas.List.{length-map}
 use Rattle.std.specs.Prelude.{Result, Ok, Err}
-use Rattle.desk_rules.specs.Verdict.{kind_of}
+use Rattle.desk_rules.specs.Facts.{kind_of}
 use Rattle.desk_register.specs.declared.register.Fault.{Fault}
 use Rattle.desk_register.specs.declared.register.Stage.TheVariants.{Idle}
 use Rattle.desk_register.specs.View.{View, IsLater, Stays, fallen, IsRead}
-use Rattle.desk_register.specs.Content.{Content, history_of}
+use Rattle.desk_rules.specs.Content.{Content, history_of}
 use Rattle.desk_register.specs.Looked.{IsSecurityAfter}
 use Rattle.desk_register.proofs.ViewLemmas.{later_then, stays_then}
 use Rattle.desk_book.specs.declared.total.SecurityTotal.{SecurityTotal}

@@ -5,9 +5,10 @@ use Rattle.desk_rules.specs.declared.reply.Reply.{Reply}
 use Rattle.desk_rules.specs.declared.verdict.Verdict.{Verdict}
 use Rattle.desk_rules.specs.declared.verdict.Verdict.TheVariants.{Accept, Repeat, Refuse}
 use Rattle.desk_rules.specs.Balances.{issued, redeemed, credits, debits}
-use Rattle.desk_rules.specs.Laws.{accounts_of}
+use Rattle.desk_rules.specs.Facts.{accounts_of, kind_of}
 use Rattle.desk_rules.specs.Reply.{plain_reply, AreNext, IsFirstReply, IsReply}
-use Rattle.desk_rules.specs.Verdict.{Books, IsVerdict, kind_of}
+use Rattle.desk_rules.specs.Books.{Books}
+use Rattle.desk_rules.specs.Verdict.{IsVerdict}
 use Rattle.desk_register.specs.Looked.{IsLess}
 use Rattle.desk_book.specs.Asked.{Asked}
 use Rattle.desk_book.specs.Task.{IsTask}

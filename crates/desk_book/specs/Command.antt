@@ -9,10 +9,11 @@ use Rattle.desk_codes.specs.Currency.{letters_of}
 use Rattle.desk_codes.specs.Day.{IsDay}
 use Rattle.desk_codes.specs.Reference.{IsReference}
 use Rattle.desk_msg.specs.Profile.{code_of_kind}
-use Rattle.desk_rules.specs.declared.entry.Movement.{Movement}
 use Rattle.desk_rules.specs.declared.entry.Entry.{Entry}
 use Rattle.desk_rules.specs.declared.entry.Entry.TheVariants.{Participant, Account, Security, Issue, Redeem, PayIn, PayOut, Instruct, Cancel, Run}
-use Rattle.desk_register.specs.Decision.{is_supported}
+use Rattle.desk_rules.specs.declared.entry.RunRule.TheVariants.{Passes}
+use Rattle.desk_rules.specs.WellFormed.{IsMovement}
+use Rattle.desk_engine.specs.Decision.{is_supported}
 use Rattle.desk_book.specs.Forms.{SpellsBic}
 
 -- a member that is a text, or a whole number
@@ -50,11 +51,8 @@ abbrev pub run_object : List ℕ → List ℕ → Data
 run_object reference day =
     object (text_member (codes "day") day (text_member (codes "op") (codes "run") (text_member (codes "ref") reference no_members)))
 
--- the codes of a movement are well formed
-abbrev pub IsMovement : Movement → Type 0
-IsMovement m = IsReference m.reference × IsAccount m.account × IsIsin m.isin
-
--- The value spells the entry, one equation an operation. A head office's BIC may be written with its branch XXX.
+-- The value spells the entry, one equation an operation. A head office's BIC may be written with its branch XXX. A run
+-- that is asked for is one in passes.
 abbrev pub IsCommand : Data → Entry → Type 0
 IsCommand d (Participant reference bic) = (name : List ℕ) × SpellsBic name bic × IsReference reference × (d ≡ participant_object reference name)
 IsCommand d (Account reference bic account) = (name : List ℕ) × SpellsBic name bic × IsReference reference × IsAccount account × (d ≡ account_object reference name account)
@@ -65,7 +63,7 @@ IsCommand d (PayIn p) = (name : List ℕ) × SpellsBic name p.bic × IsReference
 IsCommand d (PayOut p) = (name : List ℕ) × SpellsBic name p.bic × IsReference p.reference × (d ≡ payment_object (codes "payout") p.reference name (letters_of p.ccy) p.amount)
 IsCommand d (Instruct sender instruction) = ⊥
 IsCommand d (Cancel sender order) = ⊥
-IsCommand d (Run reference day) = IsReference reference × IsDay day × (d ≡ run_object reference day)
+IsCommand d (Run reference day rule) = IsReference reference × IsDay day × (d ≡ run_object reference day) × (rule ≡ Passes)
 
 -- a value is a command that the desk takes today
 pub record IsSupportedCommand (d : Data) (entry : Entry) : Type 0 where

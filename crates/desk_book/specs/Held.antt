@@ -2,13 +2,15 @@
 use Rattle.std.specs.Prelude.{◌≡◌, ◌≢◌, ◌<◌, ℕ, Bool, false, [], ◌∷◌, ◌++◌, Result, Ok, Err, OnErr}
 use Rattle.desk_rules.specs.declared.entry.Entry.{Entry}
 use Rattle.desk_rules.specs.declared.reply.Reply.{Reply}
-use Rattle.desk_rules.specs.Verdict.{Books}
+use Rattle.desk_rules.specs.Books.{Books}
 use Rattle.desk_rules.specs.Reply.{reply_to}
 use Rattle.desk_register.specs.declared.register.Fault.{Fault as RegisterFault}
 use Rattle.desk_register.specs.declared.register.Fault.TheVariants as registers
 use Rattle.desk_register.specs.declared.register.Stage.TheVariants.{Idle}
-use Rattle.desk_register.specs.Applied.{Keeps}
-use Rattle.desk_register.specs.Content.{Content}
+use Rattle.desk_engine.specs.declared.accepting.Failure.{Failure}
+use Rattle.desk_engine.specs.declared.accepting.Failure.TheVariants.{Undone, Lost}
+use Rattle.desk_engine.specs.Applied.{Keeps}
+use Rattle.desk_rules.specs.Content.{Content}
 use Rattle.desk_register.specs.View.{View, IsLater}
 use Rattle.desk_book.specs.Answered.{says_closed, IsAnswer, IsDecided, Step}
 use Rattle.desk_book.specs.Asked.{Asked}
@@ -51,6 +53,11 @@ pub record Steps (limit : ℕ) (books : Books) (asked : Asked) (result : Result 
 abbrev pub named : RegisterFault → Fault
 named registers.Memory = Memory
 named registers.Storage = Storage
+
+-- what the desk answers to a failure of a step
+abbrev pub told : Failure → Fault
+told (Undone fault) = named fault
+told Lost = Closed
 
 -- What is answered to a fault: the fault, once the register shows this content with no `begin` open; else the desk is
 -- closed.

@@ -1,5 +1,6 @@
 -- What a request is read as.
 use Rattle.std.specs.Prelude.{◌≡◌, ◌⊎◌, ℕ, ◌&&◌, Bool, true, not, MatchBool, List, codes, Ok, Err}
+use Rattle.desk_codes.specs.Bic.{IsBic}
 use Rattle.desk_msg.specs.declared.mt.Mt.{Mt}
 use Rattle.desk_msg.specs.declared.instruction.CancelOrder.{CancelOrder}
 use Rattle.desk_msg.specs.declared.instruction.Instruction.{Instruction}
@@ -12,7 +13,8 @@ use Rattle.desk_rules.specs.declared.entry.Entry.{Entry}
 use Rattle.desk_rules.specs.declared.entry.Entry.TheVariants.{Instruct}
 use Rattle.desk_rules.specs.declared.reply.Reply.{Reply}
 use Rattle.desk_rules.specs.Reply.{plain_reply}
-use Rattle.desk_register.specs.Decision.{is_supported}
+use Rattle.desk_rules.specs.WellFormed.{IsWellFormed}
+use Rattle.desk_engine.specs.Decision.{is_supported}
 use Rattle.desk_book.specs.Asked.{Asked, message, operator, status, sent, holdings, sums}
 use Rattle.desk_book.specs.Command.{Spells}
 use Rattle.desk_book.specs.declared.task.Task.{Task}
@@ -26,10 +28,10 @@ is_supported_type mt = is_instruction mt && not (is_against_payment mt)
 abbrev pub unknown_form : Reply
 unknown_form = plain_reply 400 (codes "refused 41")
 
--- A message is an instruction to decide on; a cancellation is refused as a function that the desk does not take,
--- and a text that is no message with its own refusal.
+-- A message is an instruction to decide on, of a sender with a BIC; a cancellation is refused as a function that the
+-- desk does not take, and a text that is no message with its own refusal.
 abbrev pub IsMessageTask : List ℕ → Mt → List ℕ → Task → Type 0
-IsMessageTask sender mt text (Decide entry) = (i : Instruction) × ReadsText mt text (Ok (New i)) × (entry ≡ Instruct sender i)
+IsMessageTask sender mt text (Decide entry) = (i : Instruction) × ReadsText mt text (Ok (New i)) × (entry ≡ Instruct sender i) × IsBic sender
 IsMessageTask sender mt text Totals = ⊥
 IsMessageTask sender mt text (Answer reply) =
     ((c : CancelOrder) × ReadsText mt text (Ok (CancelMessage c)) × (reply ≡ plain_reply 400 (codes "refused 8")))
@@ -55,3 +57,9 @@ abbrev pub IsSupported : Task → Type 0
 IsSupported (Decide entry) = is_supported entry ≡ true
 IsSupported Totals = Unit {0}
 IsSupported (Answer reply) = Unit {0}
+
+-- a command to decide on is well formed
+abbrev pub IsFormed : Task → Type 0
+IsFormed (Decide entry) = IsWellFormed entry
+IsFormed Totals = Unit {0}
+IsFormed (Answer reply) = Unit {0}

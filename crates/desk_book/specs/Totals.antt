@@ -1,8 +1,8 @@
 -- The desk's totals of securities.
 use Rattle.std.specs.Prelude.{◌≡◌, ℕ, ◌+◌, true, List, AllPairs, Contains, is_some}
-use Rattle.desk_rules.specs.Verdict.{kind_of}
+use Rattle.desk_rules.specs.Facts.{kind_of}
 use Rattle.desk_rules.specs.Balances.{issued, redeemed}
-use Rattle.desk_register.specs.Content.{Content, history_of}
+use Rattle.desk_rules.specs.Content.{Content, history_of}
 use Rattle.desk_register.specs.Looked.{IsLess, held_of}
 use Rattle.desk_book.specs.declared.total.SecurityTotal.{SecurityTotal}
 

@@ -1,21 +1,20 @@
 //! The answer to one request, from an open desk's register.
-ghost use Rattle.std.specs.Prelude.{◌≡◌, ◌≢◌, ◌<◌, true, false, Some, Err, IfOk, OnOk, OnErr, IsTrue};
-ghost use Rattle.desk_rules.specs.History.{entry_at};
-ghost use Rattle.desk_rules.specs.Verdict.{Books, number_of_refusal};
+ghost use Rattle.std.specs.Prelude.{◌≡◌, ◌≢◌, true, false, IfOk, OnOk, IsTrue};
+ghost use Rattle.desk_rules.specs.Books.{Books};
+ghost use Rattle.desk_rules.specs.Refusals.{number_of_refusal};
 ghost use Rattle.desk_rules.specs.Reply.{IsFirstReply, refused_reply};
-ghost use Rattle.desk_register.specs.Applied.{CanApply, Keeps};
-ghost use Rattle.desk_register.specs.Decision.{is_supported};
-ghost use Rattle.desk_register.specs.View.{Breaks, IfTrusted, IsLater};
+ghost use Rattle.desk_rules.specs.Verdict.{AsksTheSame};
+ghost use Rattle.desk_engine.specs.Applied.{CanApply, Keeps};
+ghost use Rattle.desk_engine.specs.Decision.{is_supported};
 ghost use Rattle.desk_book.specs.Answered.{IsToldSums, says_closed};
 ghost use Rattle.desk_book.specs.Task.{IsSupported};
-ghost use Rattle.desk_book.specs.Held.{Answers, Decides, Ends, IsPut, IsReady, Recovers, named};
+ghost use Rattle.desk_book.specs.Held.{Answers, Decides, Ends, IsPut, IsReady, Recovers, named, told};
 
 use crate::fault::Fault;
 use crate::summing::{security_totals, totals_text};
 use crate::task::Task;
-use desk_register::{
-    Fault as RegisterFault, Register, Stage, accepted_reply, apply, decide, refused_reply,
-};
+use desk_engine::{Failure, accept, decide, recover, refused_reply};
+use desk_register::{Fault as RegisterFault, Register, Stage};
 use desk_rules::{Entry, Refusal, Reply, Text, Verdict};
 use std::alloc::Global;
 
@@ -29,6 +28,16 @@ fn named(fault: RegisterFault) -> Fault
     }
 }
 
+/// What the desk answers to a failure: the fault, of which nothing is left, or that it is closed.
+fn told(failure: Failure) -> Fault
+    ensures { result ≡ told failure }
+{
+    match failure {
+        Failure::Undone(fault) => named(fault),
+        Failure::Lost => Fault::Closed,
+    }
+}
+
 /// What is answered to a fault with no `begin` open: what the register shows is tried, and where that fails the
 /// desk is closed.
 fn recovered<R: Register>(alloc: Global, register: &mut R, fault: RegisterFault) -> Fault
@@ -36,49 +45,11 @@ fn recovered<R: Register>(alloc: Global, register: &mut R, fault: RegisterFault)
     ensures recovers { Recovers (named fault) result (R.view register.old) (R.view register.old).content (R.view register.new) }
     ensures plain { R.plain ≡ true → result ≢ Fault.Closed }
 {
-    match register.begin(alloc) {
-        Ok(()) => match register.back(alloc) {
-            Ok(()) => named(fault),
-            Err(_) => Fault::Closed,
-        },
-        Err(_) => Fault::Closed,
-    }
+    told(recover(alloc, register, fault))
 }
 
-/// What is answered to a fault within a `begin`: what was done is taken back, and where that fails the desk is
-/// closed.
-fn taken_back<R: Register>(alloc: Global, register: &mut R, fault: RegisterFault) -> Fault
-    requires { (R.view register.old).stage ≢ Stage.Idle }
-    ensures recovers { Recovers (named fault) result (R.view register.old) (R.view register.old).mark (R.view register.new) }
-    ensures plain { R.plain ≡ true → result ≢ Fault.Closed }
-{
-    match register.back(alloc) {
-        Ok(()) => named(fault),
-        Err(_) => Fault::Closed,
-    }
-}
-
-/// Takes an accepted entry into the tables, and keeps it. Answers its reply.
-fn put<R: Register>(alloc: Global, register: &mut R, entry: Entry) -> Result<Reply, RegisterFault>
-    requires stage { (R.view register.old).stage ≡ Stage.Begun }
-    requires supported { IsTrue (is_supported entry) }
-    requires accepted { IfTrusted (R.view register.old) (R.view register.old) (CanApply (R.view register.old).room entry (R.view register.old).content) }
-    ensures put { (books : Books) → IfTrusted (R.view register.old) (R.view register.new) (Keeps (R.view register.old).room books (R.view register.old).content
-        → IfOk result (λ reply. IsPut (R.view register.old).room books entry reply (R.view register.new).content)) }
-    ensures ok { OnOk result ((R.view register.new).stage ≡ Stage.Idle) }
-    ensures sure { IfTrusted (R.view register.old) (R.view register.new) (OnOk result (R.view register.new).is_sure) }
-    ensures err { OnErr result (Breaks (R.view register.old) (R.view register.new)) }
-    ensures later { IsLater (R.view register.old) (R.view register.new) }
-    ensures blame { result ≡ Err RegisterFault.Storage → (R.view register.old).failures < (R.view register.new).failures }
-{
-    let applied = apply(alloc, register, entry)?;
-    let reply = accepted_reply(alloc, &entry, &applied)?;
-    register.commit(alloc)?;
-    Ok(reply)
-}
-
-/// Takes an accepted entry in, within a `begin` of its own.
-fn accept<R: Register>(alloc: Global, register: &mut R, entry: Entry) -> Result<Reply, Fault>
+/// Takes an accepted entry in, and answers its reply.
+fn take_in<R: Register>(alloc: Global, register: &mut R, entry: Entry) -> Result<Reply, Fault>
     requires ready { IsReady false (R.view register.old) }
     requires supported { IsTrue (is_supported entry) }
     requires accepted { (R.view register.old).is_honest → CanApply (R.view register.old).room entry (R.view register.old).content }
@@ -87,12 +58,9 @@ fn accept<R: Register>(alloc: Global, register: &mut R, entry: Entry) -> Result<
     ensures ends { Ends result (R.view register.old) (R.view register.new) }
     ensures plain { R.plain ≡ true → says_closed result ≡ false }
 {
-    if let Err(fault) = register.begin(alloc) {
-        return Err(recovered(alloc, register, fault));
-    }
-    match put(alloc, register, entry) {
-        Ok(reply) => Ok(reply),
-        Err(fault) => Err(taken_back(alloc, register, fault)),
+    match accept(alloc, register, entry) {
+        Ok(accepted) => Ok(accepted.reply),
+        Err(failure) => Err(told(failure)),
     }
 }
 
@@ -129,7 +97,7 @@ fn repeat<R: Register>(
 ) -> Result<Reply, Fault>
     requires ready { IsReady false (R.view register.old) }
     ensures repeated { (books : Books) → (R.view register.new).is_honest → Keeps (R.view register.old).room books (R.view register.old).content
-        → entry_at books.history number ≡ Some entry.now → IfOk result (λ reply. IsFirstReply books.history number reply) }
+        → AsksTheSame books.history number entry.now → IfOk result (λ reply. IsFirstReply books.history number reply) }
     ensures same { (R.view register.new).is_honest → OnOk result ((R.view register.new).content ≡ (R.view register.old).content) }
     ensures ends { Ends result (R.view register.old) (R.view register.new) }
     ensures plain { R.plain ≡ true → says_closed result ≡ false }
@@ -152,7 +120,7 @@ fn rule<R: Register>(alloc: Global, register: &mut R, entry: Entry) -> Result<Re
     ensures plain { R.plain ≡ true → says_closed result ≡ false }
 {
     match decide(alloc, register, &entry) {
-        Ok(Verdict::Accept) => accept(alloc, register, entry),
+        Ok(Verdict::Accept) => take_in(alloc, register, entry),
         Ok(Verdict::Repeat(number)) => repeat(alloc, register, &entry, number),
         Ok(Verdict::Refuse(refusal)) => refuse(alloc, register, &entry, refusal),
         Err(fault) => Err(recovered(alloc, register, fault)),

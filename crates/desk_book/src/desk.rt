@@ -1,6 +1,6 @@
 //! The desk: requests, answered from a register's tables.
 ghost use Rattle.std.specs.Prelude.{◌≡◌, ◌+◌, ◌<◌, ◌≤◌, true, false, map, All, count_by, Err, IfErr, IfOk, OnErr};
-ghost use Rattle.desk_rules.specs.Verdict.{Books};
+ghost use Rattle.desk_rules.specs.Books.{Books};
 ghost use Rattle.desk_register.specs.View.{IsLater};
 ghost use Rattle.desk_book.specs.Answered.{ActsOnce, Run, says_closed, says_storage};
 ghost use Rattle.desk_book.specs.Asked.{asked_by};

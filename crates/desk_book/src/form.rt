@@ -69,9 +69,8 @@ fn free_type(digits: &[u8]) -> Option<Mt>
     ensures none { IfNone result ((mt : Mt) → is_instruction mt ≡ true → is_against_payment mt ≡ false
         → ¬ (digits_of_type mt ≡ digits.now)) }
 {
-    match digits {
-        b"540" => Some(Mt::Mt540),
-        b"542" => Some(Mt::Mt542),
-        _ => None,
+    match Mt::try_from(digits) {
+        Ok(mt) if mt.is_instruction() && !mt.is_against_payment() => Some(mt),
+        Ok(_) | Err(_) => None,
     }
 }

@@ -5,8 +5,10 @@ ghost use Rattle.desk_rules.specs.declared.verdict.Verdict.TheVariants.{Accept};
 ghost use Rattle.desk_rules.specs.Reply.{AreNext};
 ghost use Rattle.desk_rules.specs.Confirmations.{AccountFor, Confirmation, SayConfirmations};
 ghost use Rattle.desk_rules.specs.Sent.{sent_of};
-ghost use Rattle.desk_rules.specs.Verdict.{Books, IsVerdict};
-ghost use Rattle.desk_register.specs.Applied.{no_books};
+ghost use Rattle.desk_rules.specs.Books.{Books};
+ghost use Rattle.desk_rules.specs.Verdict.{IsVerdict};
+ghost use Rattle.desk_rules.specs.WellFormed.{IsWellFormed};
+ghost use Rattle.desk_engine.specs.Applied.{no_books};
 ghost use Rattle.desk_book.specs.declared.fault.Fault.{Fault};
 ghost use Rattle.desk_book.specs.declared.task.Task.{Task};
 ghost use Rattle.desk_book.specs.declared.task.Task.TheVariants.{Decide};
@@ -25,6 +27,11 @@ pub fn one_command()
 /// A script asks one list of items at most. That it asks one at all is what `item_count` shows.
 pub fn one_script()
     ensures { (bytes : List ℕ) (a b : List Item) → Script bytes a → Script bytes b → a ≡ b }
+{}
+
+/// Who reads an entry, reads a well formed one: each command that the desk decides on is.
+pub fn reads_well_formed()
+    ensures { (asked : Asked) (entry : Entry) → IsTask asked (Decide entry) → IsWellFormed entry }
 {}
 
 /// A request is read as one task at most.

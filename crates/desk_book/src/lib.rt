@@ -29,7 +29,7 @@ pub use desk::Desk;
 pub use fault::{Fault, InputFault, PlayFault};
 pub use laws::{
     accepted_again, changes_are_confirmed, closed_for_good, one_command, one_reply, one_script,
-    one_task, repeats_act_once,
+    one_task, reads_well_formed, repeats_act_once,
 };
 pub use reading::{LONGEST_SCRIPT, read_whole};
 pub use request::Request;

@@ -93,11 +93,7 @@ pub fn kind_in(value: &Value) -> Option<Kind>
     ensures none { IfNone result ((kind : KindValue)
         → ¬ (text_at (codes "kind") (view value.now) ≡ Some (code_of_kind kind))) }
 {
-    match text(value, "kind")? {
-        "UNIT" => Some(Kind::Unit),
-        "FAMT" => Some(Kind::FaceAmount),
-        _ => None,
-    }
+    Kind::try_from(text(value, "kind")?.as_bytes()).ok()
 }
 
 /// The day of a run.

@@ -4,12 +4,13 @@ ghost use Rattle.serde_json.specs.View.{view};
 ghost use Rattle.desk_msg.specs.declared.instruction.Kind.{Kind};
 ghost use Rattle.desk_rules.specs.declared.entry.Movement.{Movement as MovementValue};
 ghost use Rattle.desk_rules.specs.declared.entry.Entry.TheVariants.{Participant, Account, Security, Issue, Run};
+ghost use Rattle.desk_rules.specs.declared.entry.RunRule.TheVariants.{Passes};
 ghost use Rattle.desk_book.specs.Command.{IsCommand, IsSupportedCommand, text_at};
 
 use crate::member::{
     account_in, day_in, isin_in, kind_in, member_count, party_in, quantity_in, reference_in,
 };
-use desk_rules::{Entry, Movement};
+use desk_rules::{Entry, Movement, RunRule};
 use serde_json::Value;
 
 /// A new participant: `op`, `ref`, `bic`.
@@ -89,17 +90,21 @@ pub fn issue(value: &Value) -> Option<Entry>
     }))
 }
 
-/// A settlement run: `op`, `ref`, `day`.
+/// A settlement run in passes: `op`, `ref`, `day`.
 pub fn run(value: &Value) -> Option<Entry>
     requires { text_at (codes "op") (view value.now) ≡ Some (codes "run") }
     ensures read { IfSome result (λ entry. IsSupportedCommand (view value.now) entry) }
     ensures refused { IfNone result ((reference day : List ℕ)
-        → ¬ IsCommand (view value.now) (Run reference day)) }
+        → ¬ IsCommand (view value.now) (Run reference day Passes)) }
 {
     if member_count(value)? != 3 {
         return None;
     }
     let reference = reference_in(value)?;
     let day = day_in(value)?;
-    Some(Entry::Run { reference, day })
+    Some(Entry::Run {
+        reference,
+        day,
+        rule: RunRule::Passes,
+    })
 }

@@ -1,9 +1,9 @@
 //! The totals of a register's securities.
 ghost use Rattle.std.specs.Prelude.{◌≡◌, ◌<◌, ◌^◌, ℕ, List, [], true, is_some, IfOk};
 ghost use Rattle.desk_register.specs.View.{IfTrusted, IsRead};
-ghost use Rattle.desk_register.specs.Content.{history_of};
+ghost use Rattle.desk_rules.specs.Content.{history_of};
 ghost use Rattle.desk_register.specs.Looked.{held_of};
-ghost use Rattle.desk_rules.specs.Verdict.{kind_of};
+ghost use Rattle.desk_rules.specs.Facts.{kind_of};
 ghost use Rattle.desk_book.specs.Sums.{sums_text as text_of_sums};
 ghost use Rattle.desk_book.specs.Totals.{AreTotals, IsTotal};
 

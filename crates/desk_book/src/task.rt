@@ -2,7 +2,7 @@
 ghost use Rattle.std.specs.Prelude.{◌≡◌, true, IfOk};
 ghost use Rattle.desk_rules.specs.Reply.{plain_reply};
 ghost use Rattle.desk_book.specs.Asked.{asked_by};
-ghost use Rattle.desk_book.specs.Task.{IsTask, IsMessageTask, IsCommandTask, IsSupported, is_supported_type, unknown_form};
+ghost use Rattle.desk_book.specs.Task.{IsTask, IsMessageTask, IsCommandTask, IsFormed, IsSupported, is_supported_type, unknown_form};
 
 use crate::command::read_command;
 use crate::request::Request;
@@ -26,6 +26,7 @@ pub enum Task {
 pub fn task_of(alloc: Global, request: &Request<'_>) -> Result<Task, AllocError>
     ensures task { IfOk result (λ task. IsTask (asked_by request.now) task) }
     ensures supported { IfOk result (λ task. IsSupported task) }
+    ensures formed { IfOk result (λ task. IsFormed task) }
 {
     match *request {
         Request::Message(sender, mt, text) if is_supported_type(mt) => {
@@ -51,12 +52,17 @@ fn message_task(alloc: Global, sender: Bic, mt: Mt, text: &[u8]) -> Result<Task,
     requires { is_supported_type mt ≡ true }
     ensures task { IfOk result (λ task. IsMessageTask sender mt text.now task) }
     ensures supported { IfOk result (λ task. IsSupported task) }
+    ensures formed { IfOk result (λ task. IsFormed task) }
 {
     match read_instruction_text(alloc, mt, text) {
-        Ok(Message::New(instruction)) => Ok(Task::Decide(Entry::Instruct {
-            sender,
-            instruction,
-        })),
+        Ok(Message::New(instruction)) => {
+            // what its type keeps: it is a BIC
+            let _ = sender.as_bytes();
+            Ok(Task::Decide(Entry::Instruct {
+                sender,
+                instruction,
+            }))
+        }
         Ok(Message::Cancel(_)) => {
             let line = Vec::from_slice(alloc, b"refused 8")?;
             Ok(Task::Answer(bad_request(line)))
@@ -73,6 +79,7 @@ fn message_task(alloc: Global, sender: Bic, mt: Mt, text: &[u8]) -> Result<Task,
 fn command_task(alloc: Global, text: &[u8]) -> Result<Task, AllocError>
     ensures task { IfOk result (λ task. IsCommandTask text.now task) }
     ensures supported { IfOk result (λ task. IsSupported task) }
+    ensures formed { IfOk result (λ task. IsFormed task) }
 {
     match read_command(alloc, text)? {
         Some(entry) => Ok(Task::Decide(entry)),

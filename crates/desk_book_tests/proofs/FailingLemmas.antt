@@ -1,84 +1,97 @@
--- A register in plain lists of which calls fail: a call that fails, and one that goes to the lists.
-use Rattle.std.proofs.Common.{◌≡◌, ℕ, ◌+◌, ◌<◌, ◌≤◌, ap, sym, ◌∙◌, arith, refl}
-use Rattle.std.specs.Prelude.{Result, Ok, Err, OnOk, OnErr}
-use Rattle.desk_register.specs.declared.list_store.list_register.ListRegister.{ListRegister}
+-- A register in plain lists of which calls fail: a call that comes to the lists, and one that does not.
+use Rattle.std.proofs.Common.{◌≡◌, true, false, ℕ, ◌+◌, ◌<◌, ◌≤◌, refl, ap, sym, ◌∙◌, arith}
+use Rattle.std.specs.Prelude.{Result, Ok, Err, OnOk, OnErr, IsOk, is_ok, if◌then◌else◌}
 use Rattle.desk_register.specs.declared.register.Fault.{Fault}
-use Rattle.desk_register.specs.declared.register.Stage.TheVariants.{Idle, Begun}
-use Rattle.desk_register.specs.View.{IsLater, Begins, Commits, GoesBack, Stays, Falls, Blames, IsRead, IsChange, fallen}
-use Rattle.desk_book_tests.specs.Failing.{Fell, failing}
+use Rattle.desk_register.specs.declared.register.Stage.{Stage}
+use Rattle.desk_register.specs.declared.register.Stage.TheVariants.{Idle, Begun, Failed}
+use Rattle.desk_register.specs.View.{IsLater, Stays, Falls, Blames, IsRead, IsChange, fallen}
+use Rattle.desk_lists.specs.declared.list_register.ListRegister.{ListRegister}
+use Rattle.desk_lists.specs.ListView.{view_of_lists}
+use Rattle.desk_book_tests.specs.Failing.{failing}
+
+-- the stage after a call with this answer
+abbrev pub stage_after : {X : Type 0} → Result X Fault → Stage → Stage
+stage_after r stage = if is_ok r then stage else fallen stage
+
+-- a call that always goes well leaves the stage
+stays_well : {X : Type 0} (r : Result X Fault) (s : Stage) → IsOk r → s ≡ stage_after r s
+stays_well (Ok x) s well = refl
+stays_well (Err fault) s well = absurd (let clash : false ≡ true = well in cc)
 
 -- a call of the lists, which blames no device, between so many failures
-module _ (a b : ListRegister) (n m : ℕ) (more : n ≤ m) where
-  pub later_through : IsLater (failing a 0) (failing b 0) → IsLater (failing a n) (failing b m)
-  later_through l = record { honest = λ h. tt; sure = λ h s. tt; failures = more; room = l.room }
+module _ (a b : ListRegister) (s t : Stage) (n m : ℕ) (idle : s ≡ Idle → (view_of_lists a).stage ≡ Idle) (more : n ≤ m) where
+  later_through : IsLater (view_of_lists a) (view_of_lists b) → IsLater (failing (view_of_lists a) s n) (failing (view_of_lists b) t m)
+  later_through l = record { honest = λ h. tt; sure = λ h su. tt; failures = more; room = l.room }
 
-  pub blames_through : {X : Type 0} (r : Result X Fault) → Blames r (failing a 0) (failing b 0) → Blames r (failing a n) (failing b m)
+  blames_through : {X : Type 0} (r : Result X Fault) → Blames r (view_of_lists a) (view_of_lists b) → Blames r (failing (view_of_lists a) s n) (failing (view_of_lists b) t m)
   blames_through (Ok x) blame = tt
   blames_through (Err fault) blame = λ is. (let none : 0 < 0 = blame is in absurd (omega (arith, none)))
 
-  stays_through : {X : Type 0} (r : Result X Fault) → OnOk r (Stays (failing a 0) (failing b 0)) → OnOk r (Stays (failing a n) (failing b m))
-  stays_through (Ok x) s = record { stage = s.stage; sure = s.sure; mark = s.mark }
-  stays_through (Err fault) s = tt
+  stays_through : {X : Type 0} (r : Result X Fault) → t ≡ stage_after r s → OnOk r (Stays (view_of_lists a) (view_of_lists b)) → OnOk r (Stays (failing (view_of_lists a) s n) (failing (view_of_lists b) t m))
+  stays_through (Ok x) at is = record { stage = at; sure = is.sure; mark = is.mark }
+  stays_through (Err fault) at is = tt
 
-  pub falls_through : {X : Type 0} (r : Result X Fault) → OnErr r (Falls (failing a 0) (failing b 0)) → OnErr r (Falls (failing a n) (failing b m))
-  falls_through (Ok x) f = tt
-  falls_through (Err fault) f = record { stage = f.stage; mark = f.mark; content = f.content }
+  falls_through : {X : Type 0} (r : Result X Fault) → t ≡ stage_after r s → OnErr r (Falls (view_of_lists a) (view_of_lists b)) → OnErr r (Falls (failing (view_of_lists a) s n) (failing (view_of_lists b) t m))
+  falls_through (Ok x) at is = tt
+  falls_through (Err fault) at is = record { stage = at; mark = is.mark; content = λ h su stage. is.content h su (idle stage) }
 
-  pub begins_through : {X : Type 0} (r : Result X Fault) → OnOk r (Begins (failing a 0) (failing b 0)) → OnOk r (Begins (failing a n) (failing b m))
-  begins_through (Ok x) s = record { stage = s.stage; sure = s.sure; content = s.content; mark = s.mark }
-  begins_through (Err fault) s = tt
+  pub change_through : {X : Type 0} (r : Result X Fault) → t ≡ stage_after r s → IsChange r (view_of_lists a) (view_of_lists b) → IsChange r (failing (view_of_lists a) s n) (failing (view_of_lists b) t m)
+  change_through r at i = record { ok = stays_through r at i.ok; err = falls_through r at i.err; later = later_through i.later; blame = blames_through r i.blame }
 
-  pub commits_through : {X : Type 0} (r : Result X Fault) → OnOk r (Commits (failing a 0) (failing b 0)) → OnOk r (Commits (failing a n) (failing b m))
-  commits_through (Ok x) s = record { stage = s.stage; sure = s.sure; content = s.content }
-  commits_through (Err fault) s = tt
-
-  pub goes_back_through : {X : Type 0} (r : Result X Fault) → OnOk r (GoesBack (failing a 0) (failing b 0)) → OnOk r (GoesBack (failing a n) (failing b m))
-  goes_back_through (Ok x) s = record { stage = s.stage; sure = s.sure; content = s.content }
-  goes_back_through (Err fault) s = tt
-
-  pub read_through : {X : Type 0} (r : Result X Fault) → IsRead r (failing a 0) (failing b 0) → IsRead r (failing a n) (failing b m)
-  read_through r i = record {
+  pub read_through : {X : Type 0} (r : Result X Fault) → t ≡ stage_after r s → IsRead r (view_of_lists a) (view_of_lists b) → IsRead r (failing (view_of_lists a) s n) (failing (view_of_lists b) t m)
+  read_through r at i = record {
     same = i.same;
-    ok = stays_through r i.ok;
-    err = falls_through r i.err;
+    ok = stays_through r at i.ok;
+    err = falls_through r at i.err;
     later = later_through i.later;
     blame = blames_through r i.blame;
   }
 
-  pub change_through : {X : Type 0} (r : Result X Fault) → IsChange r (failing a 0) (failing b 0) → IsChange r (failing a n) (failing b m)
-  change_through r i = record { ok = stays_through r i.ok; err = falls_through r i.err; later = later_through i.later; blame = blames_through r i.blame }
+-- a reading call that always goes well
+pub read_well : (a b : ListRegister) (s : Stage) (n m : ℕ) → (s ≡ Idle → (view_of_lists a).stage ≡ Idle) → n ≤ m → {X : Type 0} (r : Result X Fault) → IsOk r
+    → IsRead r (view_of_lists a) (view_of_lists b) → IsRead r (failing (view_of_lists a) s n) (failing (view_of_lists b) s m)
+read_well a b s n m idle more r well i = read_through a b s s n m idle more r (stays_well r s well) i
 
 -- a call that fails, with one failure more after it
-module _ (a b : ListRegister) (n m : ℕ) (fell : Fell a b) (more : m ≡ n + 1) where
-  pub falls : Falls (failing a n) (failing b m)
+module _ (a b : ListRegister) (s t : Stage) (n m : ℕ) (same : b ≡ a) (at : t ≡ fallen s) (more : m ≡ n + 1) where
+  falls : Falls (failing (view_of_lists a) s n) (failing (view_of_lists b) t m)
   falls = record {
-    stage = fell.stage;
-    mark = λ h s. rw (fell.lists, fell.changes) refl;
-    content = λ h s idle. rw fell.lists refl;
+    stage = at;
+    mark = λ h su. ap (λ r. (view_of_lists r).mark) same;
+    content = λ h su idle. ap (λ r. (view_of_lists r).content) same;
   }
 
-  pub later_fallen : IsLater (failing a n) (failing b m)
-  later_fallen = record { honest = λ h. tt; sure = λ h s. tt; failures = omega (arith, more); room = fell.limit }
+  later_fallen : IsLater (failing (view_of_lists a) s n) (failing (view_of_lists b) t m)
+  later_fallen = record { honest = λ h. tt; sure = λ h su. tt; failures = omega (arith, more); room = ap (λ r. (view_of_lists r).room) same }
 
-  pub read_fallen : {X : Type 0} (fault : Fault) → IsRead {X = X} (Err fault) (failing a n) (failing b m)
-  read_fallen fault = record { same = λ h s. tt; ok = tt; err = falls; later = later_fallen; blame = λ is. omega (arith, more) }
+  pub read_fallen : {X : Type 0} (fault : Fault) → IsRead {X = X} (Err fault) (failing (view_of_lists a) s n) (failing (view_of_lists b) t m)
+  read_fallen fault = record { same = λ h su. tt; ok = tt; err = falls; later = later_fallen; blame = λ is. omega (arith, more) }
 
-  pub change_fallen : {X : Type 0} (fault : Fault) → IsChange {X = X} (Err fault) (failing a n) (failing b m)
+  pub change_fallen : {X : Type 0} (fault : Fault) → IsChange {X = X} (Err fault) (failing (view_of_lists a) s n) (failing (view_of_lists b) t m)
   change_fallen fault = record { ok = tt; err = falls; later = later_fallen; blame = λ is. omega (arith, more) }
 
--- a call of the lists changed them, and then it failed
-module _ (a b c : ListRegister) (n m : ℕ) (begun : a.stage ≡ Begun) (stays : Stays (failing a 0) (failing b 0)) (later : IsLater (failing a 0) (failing b 0)) (fell : Fell b c) (more : m ≡ n + 1) where
-  falls_late : Falls (failing a n) (failing c m)
-  falls_late = record {
-    stage = fell.stage ∙ ap fallen stays.stage;
-    mark = λ h s. rw (fell.lists, fell.changes) (stays.mark tt tt);
-    content = λ h s idle. (let clash : Begun ≡ Idle = sym begun ∙ idle in absurd (cc));
-  }
+late_mark : {X : Type 0} (r : Result X Fault) (a b : ListRegister) → IsChange r (view_of_lists a) (view_of_lists b) → (view_of_lists b).mark ≡ (view_of_lists a).mark
+late_mark (Ok x) a b i = i.ok.mark tt tt
+late_mark (Err fault) a b i = i.err.mark tt tt
 
-  pub change_late : {X : Type 0} (fault : Fault) → IsChange {X = X} (Err fault) (failing a n) (failing c m)
-  change_late fault = record {
+-- to fall twice is to fall
+late_stage : {X : Type 0} (r : Result X Fault) (s : Stage) → fallen (stage_after r s) ≡ fallen s
+late_stage (Ok x) s = refl
+late_stage (Err fault) Idle = refl
+late_stage (Err fault) Begun = refl
+late_stage (Err fault) Failed = refl
+
+-- a call came to the lists, and then it fails, whatever they answered
+module _ (a b c : ListRegister) (s was t : Stage) (n m : ℕ) (begun : s ≡ Begun) (same : c ≡ b) (more : m ≡ n + 1) where
+  pub change_late : {X Y : Type 0} (r : Result Y Fault) (fault : Fault) → was ≡ stage_after r s → t ≡ fallen was → IsChange r (view_of_lists a) (view_of_lists b)
+      → IsChange {X = X} (Err fault) (failing (view_of_lists a) s n) (failing (view_of_lists c) t m)
+  change_late r fault at fell i = record {
     ok = tt;
-    err = falls_late;
-    later = record { honest = λ h. tt; sure = λ h s. tt; failures = omega (arith, more); room = fell.limit ∙ later.room };
+    err = record {
+      stage = fell ∙ ap fallen at ∙ late_stage r s;
+      mark = λ h su. ap (λ r. (view_of_lists r).mark) same ∙ late_mark r a b i;
+      content = λ h su idle. (let clash : Begun ≡ Idle = sym begun ∙ idle in absurd (cc));
+    };
+    later = record { honest = λ h. tt; sure = λ h su. tt; failures = omega (arith, more); room = ap (λ r. (view_of_lists r).room) same ∙ i.later.room };
     blame = λ is. omega (arith, more);
   }

@@ -5,6 +5,7 @@ mod desks;
 mod failed_plays;
 mod failing;
 mod faults;
+mod over_lists;
 mod plays;
 mod scripts;
 mod streams;

@@ -14,6 +14,8 @@ pub enum Ccy {
     Gbp,
     /// Yen
     Jpy,
+    /// Kuwaiti dinar
+    Kwd,
     /// US dollar
     Usd,
 }
@@ -29,6 +31,7 @@ impl Ccy {
             b"EUR" => Some(Ccy::Eur),
             b"GBP" => Some(Ccy::Gbp),
             b"JPY" => Some(Ccy::Jpy),
+            b"KWD" => Some(Ccy::Kwd),
             b"USD" => Some(Ccy::Usd),
             _ => None,
         }
@@ -41,6 +44,7 @@ impl Ccy {
     {
         match self {
             Ccy::Jpy => 0,
+            Ccy::Kwd => 3,
             Ccy::Chf | Ccy::Eur | Ccy::Gbp | Ccy::Usd => 2,
         }
     }
@@ -61,6 +65,7 @@ impl Ccy {
             Ccy::Eur => "EUR",
             Ccy::Gbp => "GBP",
             Ccy::Jpy => "JPY",
+            Ccy::Kwd => "KWD",
             Ccy::Usd => "USD",
         }
     }

@@ -64,8 +64,9 @@ fn currencies(rt: HostRuntime) {
         (b"EUR".as_slice(), Some((Ccy::Eur, 2))),
         (b"GBP".as_slice(), Some((Ccy::Gbp, 2))),
         (b"JPY".as_slice(), Some((Ccy::Jpy, 0))),
+        (b"KWD".as_slice(), Some((Ccy::Kwd, 3))),
         (b"USD".as_slice(), Some((Ccy::Usd, 2))),
-        (b"KWD".as_slice(), None),
+        (b"BHD".as_slice(), None),
         (b"eur".as_slice(), None),
         (b"EURO".as_slice(), None),
         (b"".as_slice(), None),
@@ -81,9 +82,15 @@ fn currencies(rt: HostRuntime) {
             (Some(_), None) | (None, Some(_)) => assert!(rt; false, "at {text:?}"),
         }
     }
-    assert!(rt;
-        Ccy::Chf < Ccy::Eur && Ccy::Eur < Ccy::Gbp && Ccy::Gbp < Ccy::Jpy && Ccy::Jpy < Ccy::Usd
-    );
+    for [earlier, later] in [
+        [Ccy::Chf, Ccy::Eur],
+        [Ccy::Eur, Ccy::Gbp],
+        [Ccy::Gbp, Ccy::Jpy],
+        [Ccy::Jpy, Ccy::Kwd],
+        [Ccy::Kwd, Ccy::Usd],
+    ] {
+        assert!(rt; earlier < later, "at {earlier:?}");
+    }
 }
 
 #[test]
@@ -93,6 +100,8 @@ fn numbers_read(rt: HostRuntime) {
         (b"1,500".as_slice(), 2, Ok(150)),
         (b"1,005".as_slice(), 2, Err(NumberFault::Decimals)),
         (b"1,005".as_slice(), 3, Ok(1005)),
+        (b"1,0050".as_slice(), 3, Ok(1005)),
+        (b"1,0005".as_slice(), 3, Err(NumberFault::Decimals)),
         (b"1000".as_slice(), 2, Err(NumberFault::Shape)),
         (b",5".as_slice(), 2, Err(NumberFault::Shape)),
         (b"1,2,3".as_slice(), 2, Err(NumberFault::Shape)),
@@ -117,6 +126,7 @@ fn numbers_written(rt: HostRuntime) -> Result<(), Fail> {
         (5, 2, b"0,05".as_slice()),
         (400, 0, b"400,".as_slice()),
         (1000, 3, b"1,".as_slice()),
+        (1005, 3, b"1,005".as_slice()),
         (0, 2, b"0,".as_slice()),
     ] {
         let text = write_number(rt.alloc(), value, decimals)?;

@@ -9,7 +9,7 @@ use Rattle.desk_msg.specs.declared.status.Own.TheVariants.{Answer, Sent}
 use Rattle.desk_msg.specs.declared.status.Reason.{Reason}
 use Rattle.desk_msg.specs.declared.status.Reason.TheVariants.{Future, Lack, Money}
 use Rattle.desk_msg.specs.declared.status.Case.{Case}
-use Rattle.desk_msg.specs.declared.status.Case.TheVariants.{Unmatched, Matched, Cancelled, CancelDone, NewRefused, CancelRefused}
+use Rattle.desk_msg.specs.declared.status.Case.TheVariants.{Unmatched, Matched, Cancelled, CancelDone, CancelWaits, NewRefused, CancelRefused}
 use Rattle.desk_msg.specs.OwnText.{last_digits, own_reference}
 use Rattle.std.proofs.lemmas.List.{append-nil}
 use Rattle.desk_msg.specs.MessageType.{digits_of_type}
@@ -54,6 +54,7 @@ statuses_right (Matched reason) =
     (status_right (codes ":MTCH//MACH") pending refl (reasoned_right (codes ":SETT//PEND") (codes ":PEND//" ++ code_of_reason reason) last refl (pending_right reason) closed))
 statuses_right Cancelled = status_right (codes ":IPRC//CAND") last refl closed
 statuses_right CancelDone = status_right (codes ":CPRC//CAND") last refl closed
+statuses_right CancelWaits = status_right (codes ":CPRC//PACK") last refl closed
 statuses_right (NewRefused number) = refusal_right (codes ":IPRC//REJT") number last refl closed
 statuses_right (CancelRefused number) = refusal_right (codes ":CPRC//REJT") number last refl closed
 
@@ -62,6 +63,7 @@ function_right Unmatched = refl
 function_right (Matched reason) = refl
 function_right Cancelled = refl
 function_right CancelDone = refl
+function_right CancelWaits = refl
 function_right (NewRefused number) = refl
 function_right (CancelRefused number) = refl
 

@@ -1,13 +1,21 @@
 -- The confirmation of an instruction that was read is a block whose fields say what was settled.
-use Rattle.std.proofs.Common.{◌≡◌, ℕ, Bool, true, false, if◌then◌else◌, List, [], ◌∷◌, ◌++◌, codes, refl, sym, ◌∙◌, ap, Option, Some, None, Ok, subst, is_some, arith}
+use Rattle.std.proofs.Common.{◌≡◌, ℕ, Bool, true, false, if◌then◌else◌, List, [], ◌∷◌, ◌++◌, codes, refl, sym, ◌∙◌, ap, Option, Some, None, Ok, subst, is_some, arith, All, length, ◌<◌, ◌≤◌, ◌^◌}
 use Rattle.std.specs.List.{list_all}
+use Rattle.std.specs.Option.{ForSome}
 use Rattle.desk_codes.specs.Number.{plain, ReadsNumber}
 use Rattle.desk_codes.specs.Currency.{decimals_of}
 use Rattle.desk_codes.specs.Day.{IsDay}
+use Rattle.desk_codes.specs.Characters.{IsCodeChar}
+use Rattle.desk_codes.specs.Reference.{IsReference}
+use Rattle.desk_codes.specs.Account.{IsAccount}
+use Rattle.desk_codes.specs.CheckDigit.{IsIsin}
+use Rattle.desk_codes.specs.Bic.{IsBic}
+use Rattle.desk_codes.proofs.BicLemmas.{shape_codes}
+use Rattle.desk_codes.proofs.PlainSpells.{plain_spells}
 use Rattle.desk_text.specs.BlockGrammar.{is_printable}
 use Rattle.desk_text.specs.Fields.{Found, IsBlock}
 use Rattle.desk_text.specs.Lines.{value_lines}
-use Rattle.desk_text.specs.Written.{fields_written}
+use Rattle.desk_text.specs.Written.{AreParts, fields_written}
 use Rattle.desk_text.proofs.LawLemmas.{value-line}
 use Rattle.desk_text.proofs.PartLemmas.{parts-block}
 use Rattle.desk_msg.specs.declared.mt.Mt.{Mt}
@@ -30,7 +38,7 @@ use Rattle.desk_msg.proofs.ConfirmationLemmas.{ArePrintable, IsPrintedCash, quan
 use Rattle.desk_msg.proofs.ConfirmedFields.{said_fields, written_are, same_with, amount_text, paid_in, one_paid, party_value, function_given, rela_given, eset_given, security_given, settled_given, safe_given, paid_given}
 
 -- the amount is read back from its written form
-abbrev IsReadCash : Option Cash → Type 0
+abbrev pub IsReadCash : Option Cash → Type 0
 IsReadCash None = Unit {0}
 IsReadCash (Some cash) = ReadsNumber (plain cash.amount (decimals_of cash.ccy)) (decimals_of cash.ccy) (Ok cash.amount)
 
@@ -88,40 +96,54 @@ paid_all n i day false cash part e is read = tt
 paid_all n i day true None part e is read = absurd (let h = e in cc)
 paid_all n i day true (Some cash) part e is read = (subst (Gives (said_fields n i day (Some cash)) paid_row) (sym is) (paid_given n i day cash read), tt)
 
-pub confirms : (n : ℕ) (i : Instruction) (day : List ℕ) (fields : List Found) → Reads i.mt fields (Ok (New i)) → IsDay day → (said : List Found) × IsBlock (confirmation n i day) said × Confirms (confirming_type i.mt) said (Ok (confirmed_of i day))
+-- What a confirmation of an instruction says is read back: its texts are codes, and its numbers are read from their written form.
+pub record AreReadBack (i : Instruction) (day : List ℕ) : Type 0 where
+  pub reference : IsReference i.reference
+  pub is_day : IsDay day
+  pub isin : IsIsin i.isin
+  pub quantity : ReadsNumber (plain i.quantity 0) 0 (Ok i.quantity)
+  pub account : IsAccount i.account
+  pub settlement : All IsCodeChar i.settlement
+  pub counterparty : list_all is_printable i.counterparty ≡ true
+  pub cash : IsReadCash i.cash
+
+are_printed : (i : Instruction) (day : List ℕ) → AreReadBack i day → ArePrintable i day
+are_printed i day back = record {
+  reference = printable_text i.reference back.reference.printable;
+  day_text = day_text day back.is_day;
+  isin = isin_text i.isin back.isin;
+  quantity = number_text i.quantity 0 back.quantity;
+  account = printable_text i.account back.account.printable;
+  settlement = code_text i.settlement back.settlement;
+  counterparty = back.counterparty;
+}
+
+pub parts_right : (n : ℕ) (i : Instruction) (day : List ℕ) → AreReadBack i day → AreParts [] (confirmation_parts n i day)
+parts_right n i day back = confirmation_right n i day (are_printed i day back) (printed_cash i.cash back.cash)
+
+-- the text is a block, and its fields say what was settled
+pub said_back : (n : ℕ) (i : Instruction) (day : List ℕ) → AreReadBack i day → (said : List Found) × IsBlock (confirmation n i day) said × Confirms (confirming_type i.mt) said (Ok (confirmed_of i day))
 unfolding confirmation
-confirms n i day fields reads is_day =
-    let quantity = reads.1.1.1.1.1.0.says.1.2 in
-    let number = number_back quantity.0 i.quantity 0 (omega arith) quantity.2 in
-    let cash = read_cash fields (is_against_payment i.mt) i.cash (instructed i) i.paid refl reads.1.1.1.1.1.1.1.1.1.1 in
-    let printed : ArePrintable i day = record {
-      reference = printable_text i.reference reads.1.1.0.says.2.0.printable;
-      day_text = day_text day is_day;
-      isin = isin_text i.isin reads.1.1.1.1.0.says.3.0;
-      quantity = number_text i.quantity 0 number;
-      account = printable_text i.account reads.1.1.1.1.1.1.0.says.2.0.printable;
-      settlement = code_text i.settlement reads.1.1.1.1.1.1.1.0.says.2.0.1;
-      counterparty = party_given (is_delivery i.mt) fields i reads.1.1.1.1.1.1.1.1.1.0;
-    } in
-    let block = parts-block (confirmation_parts n i day) (confirmation_right n i day printed (printed_cash i.cash cash)) in
+said_back n i day back =
+    let block = parts-block (confirmation_parts n i day) (parts_right n i day back) in
     let against : is_some i.cash ≡ is_against_payment (confirming_type i.mt) = i.paid ∙ sym (against_same i.mt) in (
       said_fields n i day i.cash,
-      subst (IsBlock (confirmation n i day)) (fields_are n i day printed (printed_cash i.cash cash)) block,
+      subst (IsBlock (confirmation n i day)) (fields_are n i day (are_printed i day back) (printed_cash i.cash back.cash)) block,
       (
         paid_same i.cash ∙ against,
         (
-          function_given n i day i.cash fields reads.1.0,
+          function_given n i day i.cash,
           (
-            rela_given n i day i.cash reads.1.1.0.says.2.0,
+            rela_given n i day i.cash back.reference,
             (
-              eset_given n i day i.cash is_day,
+              eset_given n i day i.cash back.is_day,
               (
-                security_given n i day i.cash reads.1.1.1.1.0.says.3.0,
+                security_given n i day i.cash back.isin,
                 (
-                  settled_given n i day i.cash number,
+                  settled_given n i day i.cash back.quantity,
                   (
-                    safe_given n i day i.cash reads.1.1.1.1.1.1.0.says.2.0,
-                    paid_all n i day (is_against_payment (confirming_type i.mt)) i.cash _ against refl cash,
+                    safe_given n i day i.cash back.account,
+                    paid_all n i day (is_against_payment (confirming_type i.mt)) i.cash _ against refl back.cash,
                   ),
                 ),
               ),
@@ -130,3 +152,29 @@ confirms n i day fields reads is_day =
         ),
       ),
     )
+
+pub confirms : (n : ℕ) (i : Instruction) (day : List ℕ) (fields : List Found) → Reads i.mt fields (Ok (New i)) → IsDay day → (said : List Found) × IsBlock (confirmation n i day) said × Confirms (confirming_type i.mt) said (Ok (confirmed_of i day))
+confirms n i day fields reads is_day =
+    let quantity = reads.1.1.1.1.1.0.says.1.2 in
+    said_back n i day record {
+      reference = reads.1.1.0.says.2.0;
+      is_day = is_day;
+      isin = reads.1.1.1.1.0.says.3.0;
+      quantity = number_back quantity.0 i.quantity 0 (omega arith) quantity.2;
+      account = reads.1.1.1.1.1.1.0.says.2.0;
+      settlement = reads.1.1.1.1.1.1.1.0.says.2.0.1;
+      counterparty = party_given (is_delivery i.mt) fields i reads.1.1.1.1.1.1.1.1.1.0;
+      cash = read_cash fields (is_against_payment i.mt) i.cash (instructed i) i.paid refl reads.1.1.1.1.1.1.1.1.1.1;
+    }
+
+-- a number with a short written form is read back
+pub short_number : (value d : ℕ) → value < 2 ^ 64 → d ≤ 3 → 0 < value → length (plain value d) ≤ 15 → ReadsNumber (plain value d) d (Ok value)
+short_number value d small few some short = (plain_spells value d small few, short, some)
+
+-- an amount of its type is read back
+pub cash_back : (cash : Option Cash) → ForSome cash (λ c. c.amount < 2 ^ 64) → IsReadCash cash
+cash_back None small = tt
+cash_back (Some cash) small = short_number cash.amount (decimals_of cash.ccy) (small cash refl) (few_decimals cash.ccy) cash.some cash.short
+
+pub bic_text : (bic : List ℕ) → IsBic bic → list_all is_printable bic ≡ true
+bic_text bic is = code_text bic (shape_codes bic is.shaped)

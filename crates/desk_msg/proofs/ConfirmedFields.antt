@@ -1,5 +1,7 @@
 -- What the fields of a confirmation say.
-use Rattle.std.proofs.Common.{◌≡◌, ℕ, ◌+◌, if◌then◌else◌, List, [], ◌∷◌, ◌++◌, length, codes, refl, inl, Option, Some, None, Ok}
+use Rattle.std.proofs.Common.{◌≡◌, ℕ, ◌+◌, if◌then◌else◌, List, [], ◌∷◌, ◌++◌, length, codes, refl, inl, inr, lit≤, Option, Some, None, Ok}
+use Rattle.std.proofs.lemmas.List.Elements.{All-cons, All-nil}
+use Rattle.desk_codes.specs.Characters.{IsCodeChar}
 use Rattle.desk_codes.specs.Number.{plain, ReadsNumber}
 use Rattle.desk_codes.specs.Currency.{letters_of, decimals_of}
 use Rattle.desk_codes.specs.Reference.{IsReference}
@@ -13,7 +15,7 @@ use Rattle.desk_msg.specs.declared.status.Own.TheVariants.{Sent}
 use Rattle.desk_msg.specs.declared.instruction.Cash.{Cash}
 use Rattle.desk_msg.specs.declared.instruction.Instruction.{Instruction}
 use Rattle.desk_msg.specs.MessageType.{is_delivery}
-use Rattle.desk_msg.specs.Profile.{code_of_kind, function_row, security_row, safe_row, text_said, quantity_said, amount_said}
+use Rattle.desk_msg.specs.Profile.{IsCode, code_of_kind, function_row, security_row, safe_row, text_said, quantity_said, amount_said}
 use Rattle.desk_msg.specs.Reads.{Gives}
 use Rattle.desk_msg.specs.OwnText.{own_reference}
 use Rattle.desk_msg.specs.ConfirmationText.{confirmation_parts}
@@ -100,10 +102,13 @@ written_are n i day (Some cash) e = rw e refl
 pub same_with : (a b c d e f g h o p q r s t u v : List (List ℕ)) (paid also : ℕ → List Found) → a ≡ o → b ≡ p → c ≡ q → d ≡ r → e ≡ s → f ≡ t → g ≡ u → h ≡ v → paid ≡ also → fields_with a b c d e f g h paid ≡ fields_with o p q r s t u v also
 same_with a b c d e f g h o p q r s t u v paid also i j k l m n w x y = cc
 
-pub function_given : (n : ℕ) (i : Instruction) (day : List ℕ) (cash : Option Cash) → (fields : List Found) → Gives fields function_row (text_said (codes "NEWM")) → Gives (said_fields n i day cash) function_row (text_said (codes "NEWM"))
+newm_code : IsCode 4 (codes "NEWM")
+newm_code = (refl, All-cons IsCodeChar 78 (codes "EWM") (inr (lit≤ tt, lit≤ tt)) (All-cons IsCodeChar 69 (codes "WM") (inr (lit≤ tt, lit≤ tt)) (All-cons IsCodeChar 87 (codes "M") (inr (lit≤ tt, lit≤ tt)) (All-cons IsCodeChar 77 [] (inr (lit≤ tt, lit≤ tt)) (All-nil IsCodeChar)))))
+
+pub function_given : (n : ℕ) (i : Instruction) (day : List ℕ) (cash : Option Cash) → Gives (said_fields n i day cash) function_row (text_said (codes "NEWM"))
 unfolding fields_with
-function_given n i day None fields given = record { field = at general (codes "23G") (codes "NEWM" ∷ []) 4; only = refl; says = (codes "NEWM", refl, (given.says.2.0, inl refl)) }
-function_given n i day (Some cash) fields given = record { field = at general (codes "23G") (codes "NEWM" ∷ []) 4; only = refl; says = (codes "NEWM", refl, (given.says.2.0, inl refl)) }
+function_given n i day None = record { field = at general (codes "23G") (codes "NEWM" ∷ []) 4; only = refl; says = (codes "NEWM", refl, (newm_code, inl refl)) }
+function_given n i day (Some cash) = record { field = at general (codes "23G") (codes "NEWM" ∷ []) 4; only = refl; says = (codes "NEWM", refl, (newm_code, inl refl)) }
 
 pub rela_given : (n : ℕ) (i : Instruction) (day : List ℕ) (cash : Option Cash) → IsReference i.reference → Gives (said_fields n i day cash) rela_row (text_said i.reference)
 unfolding fields_with

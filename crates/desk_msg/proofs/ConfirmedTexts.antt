@@ -9,7 +9,7 @@ use Rattle.desk_codes.specs.Characters.{IsPrintable, IsCodeChar, IsDigit}
 use Rattle.desk_codes.specs.Number.{plain, ReadsNumber}
 use Rattle.desk_codes.specs.Currency.{letters_of, decimals_of}
 use Rattle.desk_codes.specs.declared.currency.Ccy.{Ccy}
-use Rattle.desk_codes.specs.declared.currency.Ccy.TheVariants.{Chf, Eur, Gbp, Jpy, Usd}
+use Rattle.desk_codes.specs.declared.currency.Ccy.TheVariants.{Chf, Eur, Gbp, Jpy, Kwd, Usd}
 use Rattle.desk_codes.specs.Day.{IsDay}
 use Rattle.desk_codes.specs.CheckDigit.{IsIsin, check_of, weighed_sum, expanded}
 use Rattle.desk_codes.specs.Bic.{ReadsBic, party_of}
@@ -78,6 +78,7 @@ few_decimals Chf = lit≤ tt
 few_decimals Eur = lit≤ tt
 few_decimals Gbp = lit≤ tt
 few_decimals Jpy = lit≤ tt
+few_decimals Kwd = lit≤ tt
 few_decimals Usd = lit≤ tt
 
 pub amount_printable : (ccy : Ccy) (number : List ℕ) → list_all is_printable number ≡ true → list_all is_printable (letters_of ccy ++ number) ≡ true
@@ -85,4 +86,5 @@ amount_printable Chf number p = p
 amount_printable Eur number p = p
 amount_printable Gbp number p = p
 amount_printable Jpy number p = p
+amount_printable Kwd number p = p
 amount_printable Usd number p = p

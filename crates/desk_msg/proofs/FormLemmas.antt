@@ -7,7 +7,7 @@ use Rattle.desk_codes.specs.declared.number.NumberFault.{NumberFault}
 use Rattle.desk_codes.specs.declared.number.NumberFault.TheVariants.{Shape, TooLong, Decimals, Zero}
 use Rattle.desk_codes.specs.Currency.{letters_of, decimals_of}
 use Rattle.desk_codes.specs.declared.currency.Ccy.{Ccy}
-use Rattle.desk_codes.specs.declared.currency.Ccy.TheVariants.{Chf, Eur, Gbp, Jpy, Usd}
+use Rattle.desk_codes.specs.declared.currency.Ccy.TheVariants.{Chf, Eur, Gbp, Jpy, Kwd, Usd}
 use Rattle.desk_codes.proofs.NumberLemmas.{one_shape, digits_no_comma}
 use Rattle.desk_codes.proofs.SpellingLaws.{one_value_each, plain_shortest}
 use Rattle.desk_codes.specs.Day.{IsDay}
@@ -46,7 +46,7 @@ plain_fits text d value small few read =
 
 -- a currency is known by its first letter
 ccy_of : ℕ → Ccy
-ccy_of c = if c == 67 then Chf else if c == 69 then Eur else if c == 71 then Gbp else if c == 74 then Jpy else Usd
+ccy_of c = if c == 67 then Chf else if c == 69 then Eur else if c == 71 then Gbp else if c == 74 then Jpy else if c == 75 then Kwd else Usd
 
 ccy_again : (ccy : Ccy) → ccy_of (get_or (letters_of ccy) 0 0) ≡ ccy
 unfolding ccy_of
@@ -54,6 +54,7 @@ ccy_again Chf = refl
 ccy_again Eur = refl
 ccy_again Gbp = refl
 ccy_again Jpy = refl
+ccy_again Kwd = refl
 ccy_again Usd = refl
 
 pub one_ccy : (a b : Ccy) → letters_of a ≡ letters_of b → a ≡ b
@@ -64,6 +65,7 @@ three_letters Chf = refl
 three_letters Eur = refl
 three_letters Gbp = refl
 three_letters Jpy = refl
+three_letters Kwd = refl
 three_letters Usd = refl
 
 pub few_decimals : (ccy : Ccy) → decimals_of ccy ≤ 3
@@ -71,6 +73,7 @@ few_decimals Chf = omega arith
 few_decimals Eur = omega arith
 few_decimals Gbp = omega arith
 few_decimals Jpy = omega arith
+few_decimals Kwd = omega arith
 few_decimals Usd = omega arith
 
 -- an amount is of one currency and has one number

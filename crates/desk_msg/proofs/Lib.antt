@@ -10,6 +10,7 @@ pub mod ConfirmationLemmas
 pub mod ConfirmedTexts
 pub mod ConfirmedFields
 pub mod ConfirmationLaws
+pub mod WrittenConfirmations
 pub mod SaidLaws
 pub mod ReadingLaws
 pub mod SameMessages

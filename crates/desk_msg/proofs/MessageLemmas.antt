@@ -6,15 +6,15 @@ use Rattle.desk_msg.specs.declared.mt.Mt.{Mt}
 use Rattle.desk_msg.specs.declared.instruction.Kind.{Kind}
 use Rattle.desk_msg.specs.declared.instruction.Cash.{Cash}
 use Rattle.desk_msg.specs.MessageType.{is_against_payment}
-use Rattle.desk_msg.specs.Profile.{quantity_row, quantity_said}
+use Rattle.desk_msg.specs.Profile.{Row, quantity_row, quantity_said}
 use Rattle.desk_msg.specs.Reads.{Gives}
 use Rattle.desk_msg.specs.Finding.{ReadsPayment}
 use Rattle.desk_msg.proofs.FormLemmas.{plain_fits}
 
 -- cash is there exactly against payment
-pub paid_exactly : (mt : Mt) (fields : List Found) (cash : Option Cash) → ReadsPayment mt fields (Ok cash) → is_some cash ≡ is_against_payment mt
-paid_exactly mt fields (Some cash) reads = sym reads.0
-paid_exactly mt fields None reads = sym reads
+pub paid_exactly : (mt : Mt) (fields : List Found) (row : Row) (cash : Option Cash) → ReadsPayment mt fields row (Ok cash) → is_some cash ≡ is_against_payment mt
+paid_exactly mt fields row (Some cash) reads = sym reads.0
+paid_exactly mt fields row None reads = sym reads
 
 -- a quantity that was read is above 0
 pub quantity_some : (fields : List Found) (kind : Kind) (quantity : ℕ) → Gives fields quantity_row (quantity_said kind quantity) → 0 < quantity

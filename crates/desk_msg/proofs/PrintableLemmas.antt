@@ -28,10 +28,11 @@ pub two_digits : (n : ℕ) → n ≤ 99 → (48 + n / 10) ∷ (48 + n % 10) ∷ 
 unfolding last_digits
 two_digits n h = let small : n / 10 % 10 ≡ n / 10 = omega arith in ap (λ d. (48 + d) ∷ (48 + n % 10) ∷ []) (sym small)
 
--- a list with one more at its end, and with what follows that one
-pub next_part : {X : Type 0} (a b z : List X) (p : X) (ps : List X) → b ≡ a ++ p ∷ [] → z ≡ b ++ ps → z ≡ a ++ p ∷ ps
-next_part a b z p ps e more = more ∙ ap (λ w. w ++ ps) e ∙ append_assoc a (p ∷ []) ps
+-- a list with a table behind it, which is these
+pub added : {X : Type 0} (a b table ps : List X) → b ≡ a ++ table → table ≡ ps → b ≡ a ++ ps
+added a b table ps e is = e ∙ ap (λ w. a ++ w) is
 
+-- a list with two more behind it, one after the other
 pub next_parts : {X : Type 0} (a b z ps qs : List X) → b ≡ a ++ ps → z ≡ b ++ qs → z ≡ a ++ (ps ++ qs)
 next_parts a b z ps qs e more = more ∙ ap (λ w. w ++ qs) e ∙ append_assoc a ps qs
 

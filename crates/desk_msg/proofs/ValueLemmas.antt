@@ -1,12 +1,12 @@
 -- What stands behind a beginning.
-use Rattle.std.proofs.Common.{◌≡◌, ℕ, true, false, List, [], ◌∷◌, ◌++◌, ◌≤◌, ◌-◌, length, take, drop, nat_eq, sym, ◌∙◌, ap, subst, arith, Option, Some, None}
+use Rattle.std.proofs.Common.{◌≡◌, ℕ, true, false, List, [], ◌∷◌, ◌++◌, ◌≤◌, ◌-◌, length, take, drop, nat_eq, sym, ◌∙◌, ap, subst, arith, Option, Some, None, Bor, codes, append_assoc}
 use Rattle.std.proofs.lemmas.Grind.{common_steps}
 use Rattle.std.proofs.lemmas.List.{append_cancel_left, take-append-drop}
 use Rattle.std.proofs.Math.Seq.{take-append_seam}
 use Rattle.std.specs.Cmp.Lexicographic.{pointwise, same_text, other_text}
 use Rattle.desk_text.specs.Fields.{Found}
-use Rattle.desk_msg.specs.Profile.{Bears, Behind}
-use Rattle.desk_msg.specs.Finding.{IsFound}
+use Rattle.desk_msg.specs.Profile.{Bears, Behind, slashed}
+use Rattle.desk_msg.specs.Finding.{IsFound, text_in}
 
 -- a text that begins so
 pub begins_so : (text begins : List ℕ) → pointwise nat_eq begins (take (length begins) text) ≡ true → text ≡ begins ++ drop (length begins) text
@@ -37,3 +37,8 @@ found_behind view P begins field text None bears found = λ y h. let Q : List �
 -- where no text stands behind a beginning, nothing is found there
 pub none_behind : {Y : Type 0} (P : List ℕ → Y → Type 0) (begins : List ℕ) (field : Found) → ((t : List ℕ) → Bears begins field t → ⊥) → (y : Y) → Behind begins field (λ t. P t y) → ⊥
 none_behind P begins field none y h = none h.0 h.1
+
+-- what stands behind `:QUAL/` and a slash
+pub text_under : (begins : List ℕ) (field : Found) (rest : List ℕ) (r : Option (Bor (List ℕ))) → Bears begins field rest → IsFound text_in (λ t. rest ≡ codes "/" ++ t) r → IsFound text_in (Bears (slashed begins) field) r
+text_under begins field rest (Some text) bears found = bears ∙ ap (λ v. v ∷ []) (ap (λ w. begins ++ w) found ∙ sym (append_assoc begins (47 ∷ []) text.now))
+text_under begins field rest None bears found = λ y h. found y (one_behind begins field rest (47 ∷ y) bears (h ∙ ap (λ v. v ∷ []) (append_assoc begins (47 ∷ []) y)))

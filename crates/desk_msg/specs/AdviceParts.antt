@@ -27,15 +27,6 @@ status_of status reason = open_part (codes "STAT") ∷ field_part (codes "25D") 
 abbrev pub reason_of : List ℕ → List Part → List Part
 reason_of reason narrative = open_part (codes "REAS") ∷ field_part (codes "24B") reason ∷ (narrative ++ close_part (codes "REAS") ∷ [])
 
--- a status up to its reason
-abbrev pub reason_front : List ℕ → List ℕ → List Part
-reason_front status reason =
-    open_part (codes "STAT") ∷ field_part (codes "25D") status ∷ open_part (codes "REAS") ∷ field_part (codes "24B") reason ∷ []
-
--- the end of a reason and its status
-abbrev pub reason_back : List Part
-reason_back = close_part (codes "REAS") ∷ close_part (codes "STAT") ∷ []
-
 -- the parts of an advice with these values
 abbrev pub parts_of : List ℕ → List ℕ → List ℕ → Case → List Part
 parts_of own link related about =

@@ -28,10 +28,14 @@ confirming_type Mt547 = Mt547
 abbrev pub party_parts : List ℕ → List ℕ → List Part
 party_parts qualifier party = sequence_parts (codes "SETPRTY") (generic_part (codes "95P") qualifier party ∷ [])
 
+-- an amount: its currency, and the number
+abbrev pub amount_text : Cash → List ℕ
+amount_text cash = letters_of cash.ccy ++ plain cash.amount (decimals_of cash.ccy)
+
 -- the amount that was paid, against payment
 abbrev pub paid_parts : Option Cash → List Part
 paid_parts None = []
-paid_parts (Some cash) = sequence_parts (codes "AMT") (generic_part (codes "19A") (codes "ESTT") (letters_of cash.ccy ++ plain cash.amount (decimals_of cash.ccy)) ∷ [])
+paid_parts (Some cash) = sequence_parts (codes "AMT") (generic_part (codes "19A") (codes "ESTT") (amount_text cash) ∷ [])
 
 -- the n-th sent message, which confirms that an instruction was settled on that day
 unfoldable pub confirmation_parts : ℕ → Instruction → List ℕ → List Part

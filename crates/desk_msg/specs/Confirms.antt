@@ -7,22 +7,12 @@ use Rattle.desk_msg.specs.declared.fault.Word.{Word}
 use Rattle.desk_msg.specs.declared.fault.Word.TheVariants.{Field23G, Seme, Prev, Date, Field35B, Field36B, Safe, Setr, Pset, Deag, Reag, Field19A, Rela, Eset}
 use Rattle.desk_msg.specs.declared.fault.MsgFault.{MsgFault}
 use Rattle.desk_msg.specs.declared.fault.MsgFault.TheVariants.{Missing, Repeated, BadValue, Function}
-use Rattle.desk_msg.specs.declared.instruction.Kind.{Kind}
 use Rattle.desk_msg.specs.declared.instruction.Cash.{Cash}
 use Rattle.desk_msg.specs.declared.instruction.Instruction.{Instruction}
 use Rattle.desk_msg.specs.MessageType.{is_against_payment}
 use Rattle.desk_msg.specs.Profile.{Row, row, within, within_two, reference_form, day_form, quantity_form, amount_form, function_row, security_row, safe_row, Said, text_said, quantity_said, amount_said, unsaid}
 use Rattle.desk_msg.specs.Reads.{Gives, Fails, FailsFirst, GiveAll}
-
--- what was settled: the reference of the instruction, the day, the security and how much of it, the account, and the amount
-pub record Confirmed : Type 0 where
-  pub related : List ℕ
-  pub day : List ℕ
-  pub isin : List ℕ
-  pub kind : Kind
-  pub quantity : ℕ
-  pub account : List ℕ
-  pub cash : Option (Ccy × ℕ)
+use Rattle.desk_msg.specs.declared.confirmed.Confirmed.{Confirmed}
 
 abbrev pub paid_by : Option Cash → Option (Ccy × ℕ)
 paid_by None = None

@@ -1,5 +1,5 @@
 -- What is found among the fields that the code holds.
-use Rattle.std.specs.Prelude.{◌≡◌, ℕ, ◌<◌, true, false, List, [], ◌∷◌, length, map, Option, Some, None, Result, Ok, Err}
+use Rattle.std.specs.Prelude.{◌≡◌, ℕ, ◌<◌, true, false, List, [], ◌∷◌, length, map, Option, Some, None, is_some, codes, Result, Ok, Err}
 use Rattle.std.specs.Borrow.{Bor}
 use Rattle.std.specs.List.{filter}
 use Rattle.desk_text.specs.declared.fields.Field.{Field}
@@ -16,16 +16,23 @@ use Rattle.desk_msg.specs.declared.instruction.CancelOrder.{CancelOrder}
 use Rattle.desk_msg.specs.declared.mt.Mt.{Mt}
 use Rattle.desk_msg.specs.declared.function.FunctionCode.TheVariants.{Newm, Canc}
 use Rattle.desk_msg.specs.MessageType.{is_against_payment}
-use Rattle.desk_msg.specs.Profile.{Row, Said, amount_said, Bears, amount_row, rows_of}
+use Rattle.desk_msg.specs.declared.profile.Row.{Row as TableRow}
+use Rattle.desk_msg.specs.Profile.{Row, Form, Said, text_said, amount_said, function_row, rows_of}
+use Rattle.desk_msg.specs.declared.confirmed.Confirmed.{Confirmed}
+use Rattle.desk_msg.specs.Confirms.{confirmation_rows, confirmed, FailsConfirming}
 use Rattle.desk_msg.specs.Reads.{belongs, Gives, Fails, FailsFirst, GiveAll, instructed, cancelled}
 
 -- the fields without where they lie in memory
 abbrev pub found_all : List Field → List Found
 found_all fields = map found_of fields
 
--- those of the fields that stand in these sequences, with one of these tags and a value that begins so
-abbrev pub found_among : List (Bor (List ℕ)) → List (Bor (List ℕ)) → List ℕ → List Field → List Found
-found_among path tags begins fields = filter (belongs (texts path) (texts tags) begins) (found_all fields)
+-- a row of the code's tables as the definitions see it; the form is that of the value that is read by it
+abbrev pub row_seen : Form → TableRow → Row
+row_seen form row = record { word = row.word; path = texts row.path.now; tags = texts row.tags.now; begins = row.begins.now; form = form }
+
+-- those of the fields that belong to a row
+abbrev pub found_among : TableRow → List Field → List Found
+found_among row fields = filter (belongs (texts row.path.now) (texts row.tags.now) row.begins.now) (found_all fields)
 
 -- the one field of a list; else the fault: it is missing, or it is repeated
 abbrev pub IsOne : Word → List Found → Result (Bor Field) MsgFault → Type 0
@@ -63,19 +70,11 @@ quantity_itself quantity = quantity
 abbrev pub amount_of_cash : Cash → Ccy × ℕ
 amount_of_cash cash = (cash.ccy, cash.amount)
 
--- the text behind a beginning, in the one field of a list; else the fault
-abbrev pub IsOneText : Word → List Found → List ℕ → Result (Bor (List ℕ)) MsgFault → Type 0
-IsOneText word found begins (Ok text) = (field : Found) × (found ≡ field ∷ []) × Bears begins field text.now
-IsOneText word found begins (Err (Missing w)) = (w ≡ word) × (found ≡ [])
-IsOneText word found begins (Err (Repeated w)) = (w ≡ word) × (1 < length found)
-IsOneText word found begins (Err (BadValue w)) = (w ≡ word) × ((field : Found) × (found ≡ field ∷ []) × ((text : List ℕ) → Bears begins field text → ⊥))
-IsOneText word found begins (Err Function) = ⊥
-
--- the amount, against payment; free of payment there is none, and nothing is looked for
-abbrev pub ReadsPayment : Mt → List Found → Result (Option Cash) MsgFault → Type 0
-ReadsPayment mt fields (Ok (Some cash)) = (is_against_payment mt ≡ true) × Gives fields amount_row (amount_said cash.ccy cash.amount)
-ReadsPayment mt fields (Ok None) = is_against_payment mt ≡ false
-ReadsPayment mt fields (Err fault) = (is_against_payment mt ≡ true) × Fails fields amount_row fault
+-- the amount that a row has, against payment; free of payment there is none, and nothing is looked for
+abbrev pub ReadsPayment : Mt → List Found → Row → Result (Option Cash) MsgFault → Type 0
+ReadsPayment mt fields row (Ok (Some cash)) = (is_against_payment mt ≡ true) × Gives fields row (amount_said cash.ccy cash.amount)
+ReadsPayment mt fields row (Ok None) = is_against_payment mt ≡ false
+ReadsPayment mt fields row (Err fault) = (is_against_payment mt ≡ true) × Fails fields row fault
 
 -- the rows behind the function that a new instruction has, and those that a cancellation has
 abbrev pub ReadsInstruction : Mt → List Found → Result Instruction MsgFault → Type 0
@@ -85,3 +84,12 @@ ReadsInstruction mt fields (Err fault) = FailsFirst fields (rows_of mt Newm) fau
 abbrev pub ReadsCancellation : Mt → List Found → Result CancelOrder MsgFault → Type 0
 ReadsCancellation mt fields (Ok c) = (c.mt ≡ mt) × GiveAll fields (rows_of mt Canc) (cancelled c)
 ReadsCancellation mt fields (Err fault) = FailsFirst fields (rows_of mt Canc) fault
+
+-- the function of a confirmation, and the rows behind it
+abbrev pub ReadsNew : List Found → Result Unit MsgFault → Type 0
+ReadsNew fields (Ok done) = Gives fields function_row (text_said (codes "NEWM"))
+ReadsNew fields (Err fault) = FailsConfirming fields fault
+
+abbrev pub ReadsSettlement : Mt → List Found → Result Confirmed MsgFault → Type 0
+ReadsSettlement mt fields (Ok c) = (is_some c.cash ≡ is_against_payment mt) × GiveAll fields (confirmation_rows mt) (confirmed c)
+ReadsSettlement mt fields (Err fault) = FailsFirst fields (confirmation_rows mt) fault

@@ -3,6 +3,7 @@ pub mod Words
 pub mod OwnText
 pub mod StatusText
 pub mod Profile
+pub mod Named
 pub mod Reads
 pub mod Finding
 pub mod FieldsText
@@ -11,3 +12,4 @@ pub mod Refused
 pub mod Depository
 pub mod ConfirmationText
 pub mod Confirms
+pub mod ConfirmationParts

@@ -5,6 +5,7 @@ use Rattle.desk_text.specs.declared.faults.TextFault.{TextFault}
 use Rattle.desk_text.specs.declared.faults.TextFault.TheVariants as texts
 use Rattle.desk_text.specs.Fields.{Found, IsBlock}
 use Rattle.desk_text.specs.BlockFault.{IsFault}
+use Rattle.desk_text.specs.Seen.{MayBeBlock}
 use Rattle.desk_msg.specs.declared.mt.Mt.{Mt}
 use Rattle.desk_msg.specs.declared.instruction.Message.{Message}
 use Rattle.desk_msg.specs.declared.fault.MsgFault.{MsgFault}
@@ -23,7 +24,7 @@ pub record ReadsBlock (mt : Mt) (text : List ℕ) (read : Result Message MsgFaul
   pub block : IsBlock text fields
   pub reads : Reads mt fields read
 
--- What a text of a type is: the message that the fields of its block read as, or the one refusal. Of want of memory nothing is said.
+-- What a text of a type is: the message that the fields of its block read as, or the one refusal. Memory is wanted only of a text that may be a block.
 abbrev pub ReadsText : Mt → List ℕ → Result Message ReadFault → Type 0
 ReadsText mt text (Ok message) = ReadsBlock mt text (Ok message)
 ReadsText mt text (Err (Refused NotBlock)) = IsFault text texts.NotBlock
@@ -31,7 +32,7 @@ ReadsText mt text (Err (Refused (BadLine line))) = IsFault text (texts.BadLine l
 ReadsText mt text (Err (Refused (BadNesting line))) = IsFault text (texts.BadNesting line)
 ReadsText mt text (Err (Refused TooLong)) = IsFault text texts.TooLong
 ReadsText mt text (Err (Refused (Fields fault))) = ReadsBlock mt text (Err fault)
-ReadsText mt text (Err Memory) = Unit {0}
+ReadsText mt text (Err Memory) = MayBeBlock text
 
 abbrev pub fault_of_text : TextFault → ReadFault
 fault_of_text texts.NotBlock = Refused NotBlock
@@ -39,6 +40,9 @@ fault_of_text (texts.BadLine line) = Refused (BadLine line)
 fault_of_text (texts.BadNesting line) = Refused (BadNesting line)
 fault_of_text texts.TooLong = Refused TooLong
 fault_of_text texts.Memory = Memory
+
+abbrev pub fault_of_fields : MsgFault → ReadFault
+fault_of_fields fault = Refused (Fields fault)
 
 -- a refusal's text
 abbrev pub refusal_line : TextRefusal → List ℕ

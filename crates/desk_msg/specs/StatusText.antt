@@ -7,7 +7,7 @@ use Rattle.desk_msg.specs.declared.status.Own.TheVariants.{Answer, Sent}
 use Rattle.desk_msg.specs.declared.status.Reason.{Reason}
 use Rattle.desk_msg.specs.declared.status.Reason.TheVariants.{Future, Lack, Money}
 use Rattle.desk_msg.specs.declared.status.Case.{Case}
-use Rattle.desk_msg.specs.declared.status.Case.TheVariants.{Unmatched, Matched, Cancelled, CancelDone, NewRefused, CancelRefused}
+use Rattle.desk_msg.specs.declared.status.Case.TheVariants.{Unmatched, Matched, Cancelled, CancelDone, CancelWaits, NewRefused, CancelRefused}
 use Rattle.desk_msg.specs.MessageType.{digits_of_type}
 use Rattle.desk_msg.specs.OwnText.{last_digits, own_reference, generic_part, sequence_parts}
 
@@ -18,6 +18,7 @@ function_of_advice (Matched reason) = codes "INST"
 function_of_advice Cancelled = codes "INST"
 function_of_advice (NewRefused number) = codes "INST"
 function_of_advice CancelDone = codes "CAST"
+function_of_advice CancelWaits = codes "CAST"
 function_of_advice (CancelRefused number) = codes "CAST"
 
 abbrev pub code_of_reason : Reason → List ℕ
@@ -49,6 +50,7 @@ statuses_of (Matched reason) =
     ++ status_parts (codes "SETT") (codes "PEND") (reason_parts (codes "PEND") (code_of_reason reason) [])
 statuses_of Cancelled = status_parts (codes "IPRC") (codes "CAND") []
 statuses_of CancelDone = status_parts (codes "CPRC") (codes "CAND") []
+statuses_of CancelWaits = status_parts (codes "CPRC") (codes "PACK") []
 statuses_of (NewRefused number) = refusal_parts (codes "IPRC") number
 statuses_of (CancelRefused number) = refusal_parts (codes "CPRC") number
 
@@ -84,6 +86,7 @@ IsCase Unmatched = Unit {0}
 IsCase (Matched reason) = Unit {0}
 IsCase Cancelled = Unit {0}
 IsCase CancelDone = Unit {0}
+IsCase CancelWaits = Unit {0}
 
 -- the number of a refusal; 0 in another case
 abbrev pub refused_number : Case → ℕ
@@ -93,3 +96,4 @@ refused_number Unmatched = 0
 refused_number (Matched reason) = 0
 refused_number Cancelled = 0
 refused_number CancelDone = 0
+refused_number CancelWaits = 0

@@ -7,7 +7,8 @@ ghost use Rattle.desk_text.specs.Seen.{texts, found_of};
 ghost use Rattle.desk_msg.specs.Reads.{belongs as belongs_to, first_value};
 ghost use Rattle.desk_msg.specs.Finding.{found_among, IsOne};
 
-use crate::fault::{MsgFault, Word};
+use crate::fault::MsgFault;
+use crate::profile::Row;
 use desk_text::Field;
 
 /// Whether two paths have the same names.
@@ -39,54 +40,41 @@ fn has_tag(tags: &[&[u8]], tag: &[u8]) -> bool
     false
 }
 
-/// Whether a field stands in these sequences, has one of these tags, and its value begins so.
-fn belongs(field: &Field, path: &[&[u8]], tags: &[&[u8]], begins: &[u8]) -> bool
-    ensures { result ≡ belongs_to (texts path.now) (texts tags.now) begins.now (found_of field.now) }
+/// Whether a field belongs to a row: it stands in the row's sequences, has one of its tags, and its value begins as the
+/// row says.
+fn belongs(field: &Field, row: &Row) -> bool
+    ensures { result ≡ belongs_to (texts row.now.path.now) (texts row.now.tags.now) row.now.begins.now (found_of field.now) }
 {
-    if !is_same_path(&field.path, path) {
-        return false;
-    }
-    if !has_tag(tags, field.tag) {
-        return false;
-    }
-    value_begins(field, begins)
+    is_same_path(&field.path, row.path)
+        && has_tag(row.tags, field.tag)
+        && value_begins(field, row.begins)
 }
 
-/// The first field that belongs, and the fields after it.
+/// The first field that belongs to a row, and the fields after it.
 fn next_belonging<'b, 'a>(
     fields: &'b [Field<'a>],
-    path: &[&[u8]],
-    tags: &[&[u8]],
-    begins: &[u8],
+    row: &Row,
 ) -> Option<(&'b Field<'a>, &'b [Field<'a>])>
-    ensures found { IfSome result (λ next. found_among path.now tags.now begins.now fields.now
-        ≡ found_of next.0.now ∷ found_among path.now tags.now begins.now next.1.now) }
-    ensures none { IfNone result (found_among path.now tags.now begins.now fields.now ≡ []) }
+    ensures found { IfSome result (λ next. found_among row.now fields.now ≡ found_of next.0.now ∷ found_among row.now next.1.now) }
+    ensures none { IfNone result (found_among row.now fields.now ≡ []) }
 {
     for (index, field) in fields.iter().enumerate() {
-        if belongs(field, path, tags, begins) {
+        if belongs(field, row) {
             return Some((field, &fields[index + 1..]));
         }
     }
     None
 }
 
-/// The one field that stands in these sequences, has one of these tags, and whose value begins so. Else the
-/// word is missing or repeated; values are not looked at.
-pub fn find_field<'b, 'a>(
-    fields: &'b [Field<'a>],
-    word: Word,
-    path: &[&[u8]],
-    tags: &[&[u8]],
-    begins: &[u8],
-) -> Result<&'b Field<'a>, MsgFault>
-    ensures { IsOne word (found_among path.now tags.now begins.now fields.now) result }
+/// The one field that belongs to a row. Else the row's word is missing or repeated; values are not looked at.
+pub fn find_field<'b, 'a>(fields: &'b [Field<'a>], row: &Row) -> Result<&'b Field<'a>, MsgFault>
+    ensures { IsOne row.now.word (found_among row.now fields.now) result }
 {
-    let Some((field, rest)) = next_belonging(fields, path, tags, begins) else {
-        return Err(MsgFault::Missing(word));
+    let Some((field, rest)) = next_belonging(fields, row) else {
+        return Err(MsgFault::Missing(row.word));
     };
-    if next_belonging(rest, path, tags, begins).is_some() {
-        return Err(MsgFault::Repeated(word));
+    if next_belonging(rest, row).is_some() {
+        return Err(MsgFault::Repeated(row.word));
     }
     Ok(field)
 }

@@ -8,6 +8,7 @@ ghost use Rattle.desk_msg.specs.MessageType.{is_instruction, is_against_payment}
 use crate::mt::Mt;
 use desk_codes::{AccountId, Bic, Ccy, Day, Isin, Reference, are_code_chars};
 use std::marker::Model;
+use thiserror::Error;
 
 /// Whether a security is counted in units or by face amount (ISO 15022, field 36B, quantity type code).
 #[derive(Clone, Copy, Debug, PartialEq, Eq, PartialOrd, Ord)]
@@ -16,6 +17,28 @@ pub enum Kind {
     Unit,
     /// FAMT
     FaceAmount,
+}
+
+/// A text that is no quantity type code of the desk.
+#[derive(Clone, Copy, Debug, PartialEq, Eq, Error)]
+#[error("no quantity type code")]
+pub struct UnknownKind;
+
+/// The kind that a quantity type code names.
+impl TryFrom<&[u8]> for Kind {
+    ghost use Rattle.desk_msg.specs.Named.{ReadsKind};
+
+    type Error = UnknownKind;
+
+    ghost try_from_gives = { λ code read. ReadsKind code.now read };
+
+    fn try_from(code: &[u8]) -> Result<Kind, UnknownKind> {
+        match code {
+            b"UNIT" => Ok(Kind::Unit),
+            b"FAMT" => Ok(Kind::FaceAmount),
+            _ => Err(UnknownKind),
+        }
+    }
 }
 
 impl Kind {

@@ -4,14 +4,17 @@
 //! message by the profile, and else the one refusal; `read_message` does the same for the fields of a block.
 //! Fields read as one message or have one fault, and never both (`one_reading`). An `Instruction` or a `CancelOrder`
 //! keeps the conditions of the profile in its type, so that nothing above tests them again. `fields_text`,
-//! `refusal_text` and `status_text` each write one defined text; an advice is a list of parts, and so a block whose
-//! fields are known. A confirmation is defined, as it is written and as it is read, and a law joins the two
-//! (`confirmation_says`); no function writes one yet.
+//! `refusal_text`, `status_text` and `confirmation_text` each write one defined text; an advice and a confirmation are
+//! tables of parts, and so blocks whose fields are known. `read_confirmation` reads what a block confirms, and each
+//! confirmation that is written is read back as what was settled.
 //!
 //! Begin with specs/Profile.antt (the used fields as a table, and what their values say) and specs/Reads.antt (which
-//! fields read as which message); then specs/StatusText.antt.
+//! fields read as which message), which src/profile.rt and src/value.rt follow; then specs/StatusText.antt,
+//! specs/ConfirmationText.antt and specs/Confirms.antt.
 #![tactic(auto)]
 
+mod confirmation;
+mod confirmed;
 mod digits;
 mod fault;
 mod find;
@@ -21,17 +24,20 @@ mod laws;
 mod lines;
 mod mt;
 mod pieces;
+mod profile;
 mod reading;
 mod refusal;
 mod rows;
 mod status;
 mod value;
 
+pub use confirmation::confirmation_text;
+pub use confirmed::{Confirmed, read_confirmation};
 pub use fault::{MsgFault, Word};
-pub use instruction::{CancelOrder, Cash, Instruction, Kind, Message, SettlementType};
+pub use instruction::{CancelOrder, Cash, Instruction, Kind, Message, SettlementType, UnknownKind};
 pub use laws::{confirmation_says, one_answer, one_confirmation, one_reading};
 pub use lines::fields_text;
-pub use mt::Mt;
+pub use mt::{Mt, UnknownType};
 pub use reading::read_message;
 pub use refusal::{ReadFault, TextRefusal, read_instruction_text, refusal_text};
 pub use status::{Case, Own, Reason, status_text};

@@ -1,19 +1,17 @@
 //! Reading a message from the fields of a block.
 ghost use Rattle.std.specs.Prelude.{◌≡◌, true, if◌then◌else◌};
 ghost use Rattle.desk_text.specs.Seen.{found_in};
-ghost use Rattle.desk_msg.specs.MessageType.{is_instruction, is_against_payment};
+ghost use Rattle.desk_msg.specs.MessageType.{is_instruction};
 ghost use Rattle.desk_msg.specs.Profile.{text_said, counterparty_row};
 ghost use Rattle.desk_msg.specs.Reads.{Reads};
-ghost use Rattle.desk_msg.specs.Finding.{found_all, ReadsRow, ReadsPayment, ReadsInstruction, ReadsCancellation};
+ghost use Rattle.desk_msg.specs.Finding.{found_all, ReadsRow, ReadsInstruction, ReadsCancellation};
 
 use crate::fault::MsgFault;
 use crate::function::FunctionCode;
-use crate::instruction::{CancelOrder, Cash, Instruction, Message};
+use crate::instruction::{CancelOrder, Instruction, Message};
 use crate::mt::Mt;
-use crate::rows::{
-    read_amount, read_date, read_deag, read_function, read_prev, read_pset, read_quantity,
-    read_reag, read_safe, read_security, read_seme, read_setr,
-};
+use crate::profile::{AMOUNT, DATE, DEAG, PREV, PSET, QUANTITY, REAG, SAFE, SECURITY, SEME, SETR};
+use crate::rows::{read_function, read_payment, read_row};
 use desk_codes::Bic;
 use desk_text::{Block, Field};
 
@@ -21,22 +19,8 @@ use desk_text::{Block, Field};
 fn read_counterparty(mt: Mt, fields: &[Field]) -> Result<Bic, MsgFault>
     ensures { ReadsRow (found_all fields.now) (counterparty_row mt) text_said result }
 {
-    if mt.is_delivery() {
-        read_reag(fields)
-    } else {
-        read_deag(fields)
-    }
-}
-
-/// The amount, where the type is against payment.
-fn read_payment(mt: Mt, fields: &[Field]) -> Result<Option<Cash>, MsgFault>
-    ensures { ReadsPayment mt (found_all fields.now) result }
-{
-    if !mt.is_against_payment() {
-        return Ok(None);
-    }
-    let cash = read_amount(fields)?;
-    Ok(Some(cash))
+    let row = if mt.is_delivery() { &REAG } else { &DEAG };
+    read_row(fields, row)
 }
 
 /// A new instruction.
@@ -44,15 +28,15 @@ fn read_instruction(mt: Mt, fields: &[Field]) -> Result<Instruction, MsgFault>
     requires { is_instruction mt ≡ true }
     ensures { ReadsInstruction mt (found_all fields.now) result }
 {
-    let reference = read_seme(fields)?;
-    let day = read_date(fields)?;
-    let isin = read_security(fields)?;
-    let (kind, quantity) = read_quantity(fields)?;
-    let account = read_safe(fields)?;
-    let settlement = read_setr(fields)?;
-    let place = read_pset(fields)?;
+    let reference = read_row(fields, &SEME)?;
+    let day = read_row(fields, &DATE)?;
+    let isin = read_row(fields, &SECURITY)?;
+    let (kind, quantity) = read_row(fields, &QUANTITY)?;
+    let account = read_row(fields, &SAFE)?;
+    let settlement = read_row(fields, &SETR)?;
+    let place = read_row(fields, &PSET)?;
     let counterparty = read_counterparty(mt, fields)?;
-    let cash = read_payment(mt, fields)?;
+    let cash = read_payment(mt, fields, &AMOUNT)?;
     Ok(Instruction {
         mt,
         reference,
@@ -73,8 +57,8 @@ fn read_cancellation(mt: Mt, fields: &[Field]) -> Result<CancelOrder, MsgFault>
     requires { is_instruction mt ≡ true }
     ensures { ReadsCancellation mt (found_all fields.now) result }
 {
-    let reference = read_seme(fields)?;
-    let previous = read_prev(fields)?;
+    let reference = read_row(fields, &SEME)?;
+    let previous = read_row(fields, &PREV)?;
     Ok(CancelOrder {
         mt,
         reference,

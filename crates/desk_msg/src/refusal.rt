@@ -3,7 +3,7 @@ ghost use Rattle.std.specs.Prelude.{◌≡◌, ◌++◌, true, IfOk};
 ghost use Rattle.desk_msg.specs.MessageType.{is_instruction};
 ghost use Rattle.std.specs.Fmt.{decimal};
 ghost use Rattle.desk_msg.specs.Words.{letters_of_word};
-ghost use Rattle.desk_msg.specs.Refused.{ReadsText, refusal_line, fault_of_text};
+ghost use Rattle.desk_msg.specs.Refused.{ReadsText, refusal_line, fault_of_text, fault_of_fields};
 
 use crate::fault::{MsgFault, Word};
 use crate::instruction::Message;
@@ -45,32 +45,38 @@ pub enum ReadFault {
     Memory,
 }
 
-/// The fault of a text that is no block.
-fn text_fault(fault: TextFault) -> ReadFault
-    ensures { result ≡ fault_of_text fault }
-{
-    match fault {
-        TextFault::NotBlock => ReadFault::Refused(TextRefusal::NotBlock),
-        TextFault::BadLine(line) => ReadFault::Refused(TextRefusal::BadLine(line)),
-        TextFault::BadNesting(line) => ReadFault::Refused(TextRefusal::BadNesting(line)),
-        TextFault::TooLong => ReadFault::Refused(TextRefusal::TooLong),
-        TextFault::Memory => ReadFault::Memory,
+impl From<TextFault> for ReadFault {
+    ghost from_gives = { λ fault read. read ≡ fault_of_text fault };
+
+    fn from(fault: TextFault) -> ReadFault {
+        match fault {
+            TextFault::NotBlock => ReadFault::Refused(TextRefusal::NotBlock),
+            TextFault::BadLine(line) => ReadFault::Refused(TextRefusal::BadLine(line)),
+            TextFault::BadNesting(line) => ReadFault::Refused(TextRefusal::BadNesting(line)),
+            TextFault::TooLong => ReadFault::Refused(TextRefusal::TooLong),
+            TextFault::Memory => ReadFault::Memory,
+        }
+    }
+}
+
+impl From<MsgFault> for ReadFault {
+    ghost from_gives = { λ fault read. read ≡ fault_of_fields fault };
+
+    fn from(fault: MsgFault) -> ReadFault {
+        ReadFault::Refused(TextRefusal::Fields(fault))
     }
 }
 
 /// The message of a text of an instruction's type (MT540 to MT543): block 4 of ISO 15022, read by the profile.
-/// Refused: why the text is no message, refusals 1 to 8. Memory: a growth was refused.
+/// Refused: why the text is no message, refusals 1 to 8. Memory: a growth was refused; a text that is too long, or whose
+/// first line isn't `{4:`, is refused without one.
 pub fn read_instruction_text(alloc: Global, mt: Mt, text: &[u8]) -> Result<Message, ReadFault>
     requires { is_instruction mt ≡ true }
     ensures { ReadsText mt text.now result }
 {
-    match read_block(alloc, text) {
-        Ok(block) => match read_message(mt, &block) {
-            Ok(message) => Ok(message),
-            Err(fault) => Err(ReadFault::Refused(TextRefusal::Fields(fault))),
-        },
-        Err(fault) => Err(text_fault(fault)),
-    }
+    let block = read_block(alloc, text)?;
+    let message = read_message(mt, &block)?;
+    Ok(message)
 }
 
 /// `refused`, the number and a line's number in decimal digits.

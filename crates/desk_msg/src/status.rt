@@ -6,11 +6,11 @@ ghost use Rattle.desk_text.specs.PartsSeen.{part_seen};
 ghost use Rattle.desk_msg.specs.MessageType.{digits_of_type};
 ghost use Rattle.desk_msg.specs.OwnText.{last_digits, own_reference, sequence_parts};
 ghost use Rattle.desk_msg.specs.StatusText.{advice, advice_parts, code_of_reason, statuses_of, function_of_advice, refused_number, IsOwn, IsCase};
-ghost use Rattle.desk_msg.specs.AdviceParts.{parts_seen, header_of, status_of, reason_of, reason_front, reason_back, parts_of};
+ghost use Rattle.desk_msg.specs.AdviceParts.{parts_seen, header_of, status_of, reason_of, parts_of};
 
 use crate::digits::fifteen_digits;
 use crate::mt::Mt;
-use crate::pieces::joined;
+use crate::pieces::{add_parts, value_of};
 use desk_codes::Reference;
 use desk_text::{BlockPart, write_block};
 use std::alloc::{AllocError, Global};
@@ -46,14 +46,17 @@ pub enum Case {
     Cancelled,
     /// A cancellation that was accepted and carried out
     CancelDone,
+    /// A cancellation that was accepted and waits for the other side's
+    CancelWaits,
     /// A new instruction that was refused, and the refusal's number, at most 99
     NewRefused(u8),
-    /// A cancellation that was refused, and the refusal's number, at most 99
+    /// A cancellation that was refused, and the refusal's number, at most 99. One that was accepted, and whose
+    /// instruction settled before the other side asked too, stands so with 19.
     CancelRefused(u8),
 }
 
 /// The value of the own reference, `:SEME//` and sixteen characters.
-fn own_value(own: Own) -> [u8; 23]
+pub fn own_value(own: Own) -> [u8; 23]
     ensures { result ≡ codes ":SEME//" ++ own_reference own }
 {
     let (letter, number) = match own {
@@ -89,95 +92,44 @@ fn pending_value(reason: Reason) -> &'static [u8]
     }
 }
 
-/// Adds a part.
-fn add<'a>(parts: &mut Vec<BlockPart<'a>>, part: BlockPart<'a>) -> Result<(), AllocError>
-    ensures { OnOk result (parts_seen parts.new.items ≡ parts_seen parts.old.items ++ part_seen part.entry ∷ []) }
+/// A status.
+fn status(status: &[u8]) -> [BlockPart<'_>; 3]
+    ensures { parts_seen result ≡ status_of status.now [] }
 {
-    parts.push(part)?;
-    Ok(())
+    [
+        BlockPart::Open(b"STAT"),
+        BlockPart::Field(b"25D", status),
+        BlockPart::Close(b"STAT"),
+    ]
 }
 
-/// Adds what stands before the statuses.
-fn add_header<'a>(
-    parts: &mut Vec<BlockPart<'a>>,
-    own: &'a [u8],
-    function: &'a [u8],
-    link: &'a [u8],
-    related: &'a [u8],
-) -> Result<(), AllocError>
-    ensures { OnOk result (parts_seen parts.new.items ≡ parts_seen parts.old.items
-        ++ (open_part (codes "GENL") ∷ header_of own.now function.now link.now related.now)) }
+/// A status with its reason.
+fn reasoned<'a>(status: &'a [u8], reason: &'a [u8]) -> [BlockPart<'a>; 6]
+    ensures { parts_seen result ≡ status_of status.now (reason_of reason.now []) }
 {
-    add(parts, BlockPart::Open(b"GENL"))?;
-    add(parts, BlockPart::Field(b"20C", own))?;
-    add(parts, BlockPart::Field(b"23G", function))?;
-    add(parts, BlockPart::Open(b"LINK"))?;
-    add(parts, BlockPart::Field(b"13A", link))?;
-    add(parts, BlockPart::Field(b"20C", related))?;
-    add(parts, BlockPart::Close(b"LINK"))?;
-    Ok(())
+    [
+        BlockPart::Open(b"STAT"),
+        BlockPart::Field(b"25D", status),
+        BlockPart::Open(b"REAS"),
+        BlockPart::Field(b"24B", reason),
+        BlockPart::Close(b"REAS"),
+        BlockPart::Close(b"STAT"),
+    ]
 }
 
-/// Adds a status.
-fn add_status<'a>(parts: &mut Vec<BlockPart<'a>>, status: &'a [u8]) -> Result<(), AllocError>
-    ensures { OnOk result (parts_seen parts.new.items ≡ parts_seen parts.old.items ++ status_of status.now []) }
+/// A refusal with its narrative.
+fn refused<'a>(status: &'a [u8], narrative: &'a [u8]) -> [BlockPart<'a>; 7]
+    ensures { parts_seen result ≡ status_of status.now (reason_of (codes ":REJT//NARR") (field_part (codes "70D") narrative.now ∷ [])) }
 {
-    add(parts, BlockPart::Open(b"STAT"))?;
-    add(parts, BlockPart::Field(b"25D", status))?;
-    add(parts, BlockPart::Close(b"STAT"))?;
-    Ok(())
-}
-
-/// Adds a status up to its reason.
-fn open_reason<'a>(
-    parts: &mut Vec<BlockPart<'a>>,
-    status: &'a [u8],
-    reason: &'a [u8],
-) -> Result<(), AllocError>
-    ensures { OnOk result (parts_seen parts.new.items ≡ parts_seen parts.old.items ++ reason_front status.now reason.now) }
-{
-    add(parts, BlockPart::Open(b"STAT"))?;
-    add(parts, BlockPart::Field(b"25D", status))?;
-    add(parts, BlockPart::Open(b"REAS"))?;
-    add(parts, BlockPart::Field(b"24B", reason))?;
-    Ok(())
-}
-
-/// Closes a reason and its status.
-fn close_reason(parts: &mut Vec<BlockPart<'_>>) -> Result<(), AllocError>
-    ensures { OnOk result (parts_seen parts.new.items ≡ parts_seen parts.old.items ++ reason_back) }
-{
-    add(parts, BlockPart::Close(b"REAS"))?;
-    add(parts, BlockPart::Close(b"STAT"))?;
-    Ok(())
-}
-
-/// Adds a status with its reason.
-fn add_reasoned<'a>(
-    parts: &mut Vec<BlockPart<'a>>,
-    status: &'a [u8],
-    reason: &'a [u8],
-) -> Result<(), AllocError>
-    ensures { OnOk result (parts_seen parts.new.items ≡ parts_seen parts.old.items ++ status_of status.now (reason_of reason.now [])) }
-{
-    open_reason(parts, status, reason)?;
-    close_reason(parts)?;
-    Ok(())
-}
-
-/// Adds a refusal with its narrative.
-fn add_refusal<'a>(
-    parts: &mut Vec<BlockPart<'a>>,
-    status: &'a [u8],
-    narrative: &'a [u8],
-) -> Result<(), AllocError>
-    ensures { OnOk result (parts_seen parts.new.items ≡ parts_seen parts.old.items
-        ++ status_of status.now (reason_of (codes ":REJT//NARR") (field_part (codes "70D") narrative.now ∷ []))) }
-{
-    open_reason(parts, status, b":REJT//NARR")?;
-    add(parts, BlockPart::Field(b"70D", narrative))?;
-    close_reason(parts)?;
-    Ok(())
+    [
+        BlockPart::Open(b"STAT"),
+        BlockPart::Field(b"25D", status),
+        BlockPart::Open(b"REAS"),
+        BlockPart::Field(b"24B", b":REJT//NARR"),
+        BlockPart::Field(b"70D", narrative),
+        BlockPart::Close(b"REAS"),
+        BlockPart::Close(b"STAT"),
+    ]
 }
 
 /// Adds the statuses of a case; the narrative is that of a refusal.
@@ -191,18 +143,19 @@ fn add_statuses<'a>(
 {
     match about {
         Case::Unmatched => {
-            add_status(parts, b":IPRC//PACK")?;
-            add_reasoned(parts, b":MTCH//NMAT", b":NMAT//CMIS")?;
+            add_parts(parts, &status(b":IPRC//PACK"))?;
+            add_parts(parts, &reasoned(b":MTCH//NMAT", b":NMAT//CMIS"))?;
         }
         Case::Matched(reason) => {
-            add_status(parts, b":IPRC//PACK")?;
-            add_status(parts, b":MTCH//MACH")?;
-            add_reasoned(parts, b":SETT//PEND", pending_value(reason))?;
+            add_parts(parts, &status(b":IPRC//PACK"))?;
+            add_parts(parts, &status(b":MTCH//MACH"))?;
+            add_parts(parts, &reasoned(b":SETT//PEND", pending_value(reason)))?;
         }
-        Case::Cancelled => add_status(parts, b":IPRC//CAND")?,
-        Case::CancelDone => add_status(parts, b":CPRC//CAND")?,
-        Case::NewRefused(_) => add_refusal(parts, b":IPRC//REJT", narrative)?,
-        Case::CancelRefused(_) => add_refusal(parts, b":CPRC//REJT", narrative)?,
+        Case::Cancelled => add_parts(parts, &status(b":IPRC//CAND"))?,
+        Case::CancelDone => add_parts(parts, &status(b":CPRC//CAND"))?,
+        Case::CancelWaits => add_parts(parts, &status(b":CPRC//PACK"))?,
+        Case::NewRefused(_) => add_parts(parts, &refused(b":IPRC//REJT", narrative))?,
+        Case::CancelRefused(_) => add_parts(parts, &refused(b":CPRC//REJT", narrative))?,
     }
     Ok(())
 }
@@ -214,7 +167,7 @@ fn function_value(about: Case) -> &'static [u8]
 {
     match about {
         Case::Unmatched | Case::Matched(_) | Case::Cancelled | Case::NewRefused(_) => b"INST",
-        Case::CancelDone | Case::CancelRefused(_) => b"CAST",
+        Case::CancelDone | Case::CancelWaits | Case::CancelRefused(_) => b"CAST",
     }
 }
 
@@ -226,7 +179,11 @@ fn refusal_number(about: Case) -> u8
 {
     match about {
         Case::NewRefused(number) | Case::CancelRefused(number) => number,
-        Case::Unmatched | Case::Matched(_) | Case::Cancelled | Case::CancelDone => 0,
+        Case::Unmatched
+        | Case::Matched(_)
+        | Case::Cancelled
+        | Case::CancelDone
+        | Case::CancelWaits => 0,
     }
 }
 
@@ -247,9 +204,20 @@ fn write_advice<'a>(
     ensures block { IfOk result (λ text. IsBlock text.items (fields_written (parts_of own.now link.now related.now about))) }
 {
     let mut parts = Vec::new(alloc);
-    add_header(&mut parts, own, function_value(about), link, related)?;
+    add_parts(
+        &mut parts,
+        &[
+            BlockPart::Open(b"GENL"),
+            BlockPart::Field(b"20C", own),
+            BlockPart::Field(b"23G", function_value(about)),
+            BlockPart::Open(b"LINK"),
+            BlockPart::Field(b"13A", link),
+            BlockPart::Field(b"20C", related),
+            BlockPart::Close(b"LINK"),
+        ],
+    )?;
     add_statuses(&mut parts, about, narrative)?;
-    add(&mut parts, BlockPart::Close(b"GENL"))?;
+    add_parts(&mut parts, &[BlockPart::Close(b"GENL")])?;
     write_block(alloc, &parts)
 }
 
@@ -269,8 +237,8 @@ pub fn status_text(
     ensures block { IfOk result (λ text. IsBlock text.items (fields_written (advice_parts own mt reference.now about))) }
 {
     let sender = own_value(own);
-    let link = joined(alloc, &[b":LINK//", mt.as_str().as_bytes()])?;
-    let related = joined(alloc, &[b":RELA//", reference.as_bytes()])?;
+    let link = value_of(alloc, b":LINK//", mt.as_str().as_bytes())?;
+    let related = value_of(alloc, b":RELA//", reference.as_bytes())?;
     let narrative = refusal_value(refusal_number(about));
     write_advice(alloc, about, &sender, &link, &related, &narrative)
 }

@@ -3,10 +3,11 @@
 ghost use Rattle.std.specs.Prelude.{◌≡◌, ◌↔◌, ◌++◌, ◌∷◌, [], List, ℕ, IsTrue, codes};
 ghost use Rattle.desk_codes.specs.Day.{IsDay};
 ghost use Rattle.desk_text.specs.Seen.{found_of};
-ghost use Rattle.desk_msg.specs.Profile.{Bears, Behind, IsCode, IsFunctionText, IsReferenceText, IsDayText, IsTimed, IsQuantityText, IsAccountText, IsSettlementText, IsPartyText, IsSecurityText, IsAmountText, SaysText, security_form, day_form, code_of_kind};
+ghost use Rattle.desk_msg.specs.Profile.{Bears, IsCode, IsFunctionText, IsReferenceText, IsDayText, IsTimed, IsQuantityText, IsAccountText, IsSettlementText, IsPartyText, IsSecurityText, IsAmountText, slashed, SaysText, function_form, reference_form, day_form, security_form, quantity_form, account_form, settlement_form, party_form, amount_form, text_said, quantity_said, amount_said, code_of_kind};
 ghost use Rattle.desk_msg.specs.Finding.{IsFound, text_in, code_itself, kinded, quantity_itself, amount_of_cash};
 
 use crate::instruction::{Cash, Kind, SettlementType};
+use crate::profile::Row;
 use desk_codes::{
     AccountId, Bic, Ccy, Day, Isin, Reference, are_code_chars, are_digits, read_number,
 };
@@ -23,13 +24,21 @@ fn text_behind<'a>(text: &'a [u8], begins: &[u8]) -> Option<&'a [u8]>
 }
 
 /// What a value of one line has behind its beginning.
-pub fn value_behind<'a>(field: &Field<'a>, begins: &[u8]) -> Option<&'a [u8]>
+fn value_behind<'a>(field: &Field<'a>, begins: &[u8]) -> Option<&'a [u8]>
     ensures { IsFound text_in (Bears begins.now (found_of field.now)) result }
 {
     match field.values.as_slice() {
         [line] => text_behind(line, begins),
         _ => None,
     }
+}
+
+/// What the value of a row's field has behind `:QUAL//`, where it has one line.
+fn text_under<'a>(row: &Row, field: &Field<'a>) -> Option<&'a [u8]>
+    ensures { IsFound text_in (Bears (slashed row.now.begins.now) (found_of field.now)) result }
+{
+    let rest = value_behind(field, row.begins)?;
+    text_behind(rest, b"/")
 }
 
 /// Whether a text is four letters or digits.
@@ -40,21 +49,21 @@ fn is_code(text: &[u8]) -> bool
 }
 
 /// A reference.
-pub fn reference_of(text: &[u8]) -> Option<Reference>
+fn reference_of(text: &[u8]) -> Option<Reference>
     ensures { IsFound code_itself (IsReferenceText text.now) result }
 {
     Reference::read(text)
 }
 
 /// A safekeeping account.
-pub fn account_of(text: &[u8]) -> Option<AccountId>
+fn account_of(text: &[u8]) -> Option<AccountId>
     ensures { IsFound code_itself (IsAccountText text.now) result }
 {
     AccountId::read(text)
 }
 
 /// The function's four characters; behind them a slash and four more may stand.
-pub fn function_of(text: &[u8]) -> Option<&[u8]>
+fn function_of(text: &[u8]) -> Option<&[u8]>
     ensures { IsFound text_in (IsFunctionText text.entry.now) result }
 {
     if text.len() < 4 {
@@ -72,6 +81,14 @@ pub fn function_of(text: &[u8]) -> Option<&[u8]>
         return None;
     }
     Some(function)
+}
+
+/// The function of a field.
+pub fn function_in<'a>(field: &Field<'a>) -> Option<&'a [u8]>
+    ensures { IsFound text_in (SaysText function_form [] (found_of field.now)) result }
+{
+    let text = value_behind(field, b"")?;
+    function_of(text)
 }
 
 /// A day of eight digits.
@@ -125,17 +142,19 @@ fn day_under(tag: &[u8], text: &[u8]) -> Option<Day>
 fn kind_and_number(text: &[u8]) -> Option<(Kind, &[u8])>
     ensures { IsFound kinded (λ found. text.entry.now ≡ code_of_kind found.0 ++ 47 ∷ found.1) result }
 {
-    if let Some(number) = text_behind(text, b"UNIT/") {
-        return Some((Kind::Unit, number));
+    if text.len() < 4 {
+        return None;
     }
-    if let Some(number) = text_behind(text, b"FAMT/") {
-        return Some((Kind::FaceAmount, number));
-    }
-    None
+    let (code, rest) = text.split_at(4);
+    let Ok(kind) = Kind::try_from(code) else {
+        return None;
+    };
+    let number = text_behind(rest, b"/")?;
+    Some((kind, number))
 }
 
 /// A quantity: how the security is counted, and the number in whole units.
-pub fn quantity_of(text: &[u8]) -> Option<(Kind, u64)>
+fn quantity_of(text: &[u8]) -> Option<(Kind, u64)>
     ensures { IsFound quantity_itself (λ quantity. IsQuantityText text.now quantity.0 quantity.1) result }
 {
     let (kind, number) = kind_and_number(text)?;
@@ -146,7 +165,7 @@ pub fn quantity_of(text: &[u8]) -> Option<(Kind, u64)>
 }
 
 /// The type of a settlement transaction, behind an issuer code or none.
-pub fn settlement_of(text: &[u8]) -> Option<SettlementType>
+fn settlement_of(text: &[u8]) -> Option<SettlementType>
     ensures { IsFound code_itself (IsSettlementText text.now) result }
 {
     if text.len() < 5 {
@@ -161,7 +180,7 @@ pub fn settlement_of(text: &[u8]) -> Option<SettlementType>
 }
 
 /// An amount: its currency, and the number in minor units.
-pub fn amount_of(text: &[u8]) -> Option<Cash>
+fn amount_of(text: &[u8]) -> Option<Cash>
     ensures { IsFound amount_of_cash (λ cash. IsAmountText text.now cash.0 cash.1) result }
 {
     if text.len() < 3 {
@@ -187,7 +206,7 @@ fn security_of(line: &[u8]) -> Option<Isin>
 }
 
 /// A party.
-pub fn party_of(text: &[u8]) -> Option<Bic>
+fn party_of(text: &[u8]) -> Option<Bic>
     ensures { IsFound code_itself (IsPartyText text.now) result }
 {
     match Bic::parse(text) {
@@ -196,18 +215,108 @@ pub fn party_of(text: &[u8]) -> Option<Bic>
     }
 }
 
-/// The day of a field, by its tag.
-pub fn day_in(field: &Field) -> Option<Day>
-    ensures { IsFound code_itself (SaysText day_form (codes ":SETT/") (found_of field.now)) result }
-{
-    let text = value_behind(field, b":SETT//")?;
-    day_under(field.tag, text)
+/// A value that a field has, read by its form.
+pub trait Value: Sized {
+    ghost use Rattle.desk_text.specs.Seen.{found_of};
+    ghost use Rattle.desk_msg.specs.Profile.{Form, Said, Says};
+    ghost use Rattle.desk_msg.specs.Finding.{IsFound, row_seen};
+
+    ghost form: { Form };
+
+    ghost said: { Self → Said };
+
+    /// What the value of a row's field says; None where it doesn't fit.
+    fn read(row: &Row, field: &Field) -> Option<Self>
+        ensures { IsFound said (Says (row_seen form row.now) (found_of field.now)) result };
 }
 
-/// The security of a field, whose further lines are free.
-pub fn security_in(field: &Field) -> Option<Isin>
-    ensures { IsFound code_itself (SaysText security_form [] (found_of field.now)) result }
-{
-    let line = field.values.first()?;
-    security_of(line)
+impl Value for Reference {
+    ghost form = { reference_form };
+
+    ghost said = { text_said };
+
+    fn read(row: &Row, field: &Field) -> Option<Reference> {
+        let text = text_under(row, field)?;
+        reference_of(text)
+    }
+}
+
+/// Under 98C six digits stand behind the day.
+impl Value for Day {
+    ghost form = { day_form };
+
+    ghost said = { text_said };
+
+    fn read(row: &Row, field: &Field) -> Option<Day> {
+        let text = text_under(row, field)?;
+        day_under(field.tag, text)
+    }
+}
+
+/// The further lines of a security are free.
+impl Value for Isin {
+    ghost form = { security_form };
+
+    ghost said = { text_said };
+
+    fn read(_row: &Row, field: &Field) -> Option<Isin> {
+        let line = field.values.first()?;
+        security_of(line)
+    }
+}
+
+impl Value for (Kind, u64) {
+    ghost form = { quantity_form };
+
+    ghost said = { λ quantity. quantity_said quantity.0 quantity.1 };
+
+    fn read(row: &Row, field: &Field) -> Option<(Kind, u64)> {
+        let text = text_under(row, field)?;
+        quantity_of(text)
+    }
+}
+
+impl Value for AccountId {
+    ghost form = { account_form };
+
+    ghost said = { text_said };
+
+    fn read(row: &Row, field: &Field) -> Option<AccountId> {
+        let text = text_under(row, field)?;
+        account_of(text)
+    }
+}
+
+/// An issuer code may stand between the slashes.
+impl Value for SettlementType {
+    ghost form = { settlement_form };
+
+    ghost said = { text_said };
+
+    fn read(row: &Row, field: &Field) -> Option<SettlementType> {
+        let text = value_behind(field, row.begins)?;
+        settlement_of(text)
+    }
+}
+
+impl Value for Bic {
+    ghost form = { party_form };
+
+    ghost said = { text_said };
+
+    fn read(row: &Row, field: &Field) -> Option<Bic> {
+        let text = text_under(row, field)?;
+        party_of(text)
+    }
+}
+
+impl Value for Cash {
+    ghost form = { amount_form };
+
+    ghost said = { λ cash. amount_said cash.ccy cash.amount };
+
+    fn read(row: &Row, field: &Field) -> Option<Cash> {
+        let text = text_under(row, field)?;
+        amount_of(text)
+    }
 }

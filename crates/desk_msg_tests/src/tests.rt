@@ -1,17 +1,19 @@
 //! Worked rows from outside.
-ghost use Rattle.std.specs.Prelude.{◌≡◌, true};
+ghost use Rattle.std.specs.Prelude.{◌≡◌, true, false};
 ghost use Rattle.desk_msg.specs.MessageType.{is_instruction};
 
 use crate::vectors::{
-    CHANGED_DELIVERIES, CHANGED_RECEIPTS, DELIVER_AGAINST_PAYMENT, OTHER_TEXTS,
-    RECEIVE_AGAINST_PAYMENT, SENT_MATCHED, STATUS_CANCELLED, STATUS_MATCHED, STATUS_REFUSED,
-    STATUS_UNMATCHED,
+    CHANGED_CONFIRMATIONS, CHANGED_DELIVERIES, CHANGED_RECEIPTS, CONFIRMED_DELIVERY,
+    CONFIRMED_RECEIPT, DELIVER_AGAINST_PAYMENT, OTHER_TEXTS, RECEIVE_AGAINST_PAYMENT, SENT_MATCHED,
+    STATUS_CANCELLED, STATUS_MATCHED, STATUS_REFUSED, STATUS_UNMATCHED,
 };
-use desk_codes::Reference;
+use desk_codes::{Ccy, Day, Reference};
 use desk_msg::{
-    Case, MsgFault, Mt, Own, ReadFault, Reason, TextRefusal, Word, fields_text,
-    read_instruction_text, refusal_text, status_text,
+    Case, Confirmed, Instruction, Message, MsgFault, Mt, Own, ReadFault, Reason, TextRefusal, Word,
+    confirmation_text, fields_text, read_confirmation, read_instruction_text, refusal_text,
+    status_text,
 };
+use desk_text::read_block;
 use std::alloc::{AllocError, Global};
 use std::process::Abort;
 use std::test::Fail;
@@ -165,17 +167,134 @@ fn writes_the_other_advices(rt: HostRuntime) -> Result<(), Fail> {
     let cancelled = cancelled.replace(alloc, "CPRC", "IPRC")?;
     let text = status_text(alloc, Own::Answer(9), Mt::Mt543, &x1, Case::Cancelled)?;
     assert_eq!(rt; text.as_slice(), cancelled.as_bytes());
+    let waiting = STATUS_CANCELLED.replace(alloc, "CPRC//CAND", "CPRC//PACK")?;
+    let text = status_text(alloc, Own::Answer(9), Mt::Mt543, &x1, Case::CancelWaits)?;
+    assert_eq!(rt; text.as_slice(), waiting.as_bytes());
     let refused = STATUS_REFUSED.replace(alloc, "INST", "CAST")?;
     let refused = refused.replace(alloc, "IPRC", "CPRC")?;
-    let refused = refused.replace(alloc, "DESK 11", "DESK 07")?;
-    let text = status_text(
-        alloc,
-        Own::Answer(10),
-        Mt::Mt543,
-        &a1,
-        Case::CancelRefused(7),
-    )?;
-    assert_eq!(rt; text.as_slice(), refused.as_bytes());
+    for (number, narrative) in [(7, "DESK 07"), (19, "DESK 19")] {
+        let refused = refused.replace(alloc, "DESK 11", narrative)?;
+        let text = status_text(
+            alloc,
+            Own::Answer(10),
+            Mt::Mt543,
+            &a1,
+            Case::CancelRefused(number),
+        )?;
+        assert_eq!(rt; text.as_slice(), refused.as_bytes());
+    }
+    Ok(())
+}
+
+/// The instruction of a text.
+fn instruction(alloc: Global, mt: Mt, text: &str) -> Result<Instruction, Fail>
+    requires { is_instruction mt ≡ true }
+{
+    let read = match read_instruction_text(alloc, mt, text.as_bytes())? {
+        Message::New(instruction) => Some(instruction),
+        Message::Cancel(_) => None,
+    };
+    let instruction = read.ok_or("a cancellation")?;
+    Ok(instruction)
+}
+
+/// What a text confirms.
+fn confirmed(alloc: Global, mt: Mt, text: &[u8]) -> Result<Confirmed, Fail>
+    requires { is_instruction mt ≡ false }
+{
+    let block = read_block(alloc, text)?;
+    let confirmed = read_confirmation(mt, &block)?;
+    Ok(confirmed)
+}
+
+/// What is to be confirmed of an instruction.
+fn expected(instruction: &Instruction, day: Day) -> Confirmed {
+    let cash = match instruction.cash {
+        Some(cash) => Some((cash.ccy, cash.amount)),
+        None => None,
+    };
+    Confirmed {
+        related: instruction.reference,
+        day,
+        isin: instruction.isin,
+        kind: instruction.kind,
+        quantity: instruction.quantity,
+        account: instruction.account,
+        cash,
+    }
+}
+
+/// The settlement day of the worked messages.
+fn settlement_day() -> Result<Day, Fail> {
+    let day = Day::read(b"20240229").ok_or("no day")?;
+    Ok(day)
+}
+
+#[test]
+fn writes_worked_confirmations(rt: HostRuntime) -> Result<(), Fail> {
+    let alloc = rt.alloc();
+    let day = settlement_day()?;
+    let delivery = instruction(alloc, Mt::Mt543, DELIVER_AGAINST_PAYMENT)?;
+    let text = confirmation_text(alloc, 2, &delivery, day)?;
+    assert_eq!(rt; text.as_slice(), CONFIRMED_DELIVERY.as_bytes());
+    let receipt = instruction(alloc, Mt::Mt541, RECEIVE_AGAINST_PAYMENT)?;
+    let text = confirmation_text(alloc, 3, &receipt, day)?;
+    assert_eq!(rt; text.as_slice(), CONFIRMED_RECEIPT.as_bytes());
+    for (mt, confirming) in [
+        (Mt::Mt540, Mt::Mt544),
+        (Mt::Mt541, Mt::Mt545),
+        (Mt::Mt542, Mt::Mt546),
+        (Mt::Mt543, Mt::Mt547),
+        (Mt::Mt545, Mt::Mt545),
+    ] {
+        assert_eq!(rt; mt.confirming(), confirming);
+    }
+    Ok(())
+}
+
+/// Each type's confirmation is read back; a free one has no amount.
+#[test]
+fn reads_confirmations_back(rt: HostRuntime) -> Result<(), Fail> {
+    let alloc = rt.alloc();
+    let day = settlement_day()?;
+    let delivery = instruction(alloc, Mt::Mt543, DELIVER_AGAINST_PAYMENT)?;
+    let read = confirmed(alloc, Mt::Mt547, CONFIRMED_DELIVERY.as_bytes())?;
+    assert_eq!(rt; read, expected(&delivery, day));
+    assert_eq!(rt; read.cash, Some((Ccy::Eur, 100050)));
+    let receipt = instruction(alloc, Mt::Mt541, RECEIVE_AGAINST_PAYMENT)?;
+    let read = confirmed(alloc, Mt::Mt545, CONFIRMED_RECEIPT.as_bytes())?;
+    assert_eq!(rt; read, expected(&receipt, day));
+    let delivery = instruction(alloc, Mt::Mt542, DELIVER_AGAINST_PAYMENT)?;
+    let text = confirmation_text(alloc, 999_999_999_999_999, &delivery, day)?;
+    let read = confirmed(alloc, Mt::Mt546, &text)?;
+    assert_eq!(rt; read, expected(&delivery, day));
+    assert_eq!(rt; read.cash, None);
+    let receipt = instruction(alloc, Mt::Mt540, RECEIVE_AGAINST_PAYMENT)?;
+    let text = confirmation_text(alloc, 1, &receipt, day)?;
+    let read = confirmed(alloc, Mt::Mt544, &text)?;
+    assert_eq!(rt; read, expected(&receipt, day));
+    let dinars = DELIVER_AGAINST_PAYMENT.replace(alloc, "EUR1000,50", "KWD1,005")?;
+    let delivery = instruction(alloc, Mt::Mt543, &dinars)?;
+    let text = confirmation_text(alloc, 1, &delivery, day)?;
+    let read = confirmed(alloc, Mt::Mt547, &text)?;
+    assert_eq!(rt; read.cash, Some((Ccy::Kwd, 1005)));
+    Ok(())
+}
+
+#[test]
+fn refuses_changed_confirmations(rt: HostRuntime) -> Result<(), Fail> {
+    let alloc = rt.alloc();
+    for row in CHANGED_CONFIRMATIONS.lines() {
+        let (from, rest) = row.split_once("|").ok_or("no change")?;
+        let (to, want) = rest.split_once("|").ok_or("no answer")?;
+        let from = from.replace(alloc, "~", "\r\n")?;
+        let to = to.replace(alloc, "~", "\r\n")?;
+        let text = CONFIRMED_DELIVERY.replace(alloc, from.as_str(), &to)?;
+        let block = read_block(alloc, text.as_bytes())?;
+        let fault = read_confirmation(Mt::Mt547, &block).err().ok_or("read")?;
+        let refusal = refusal_text(alloc, TextRefusal::Fields(fault))?;
+        assert_eq!(rt; refusal.as_slice(), want.as_bytes(), "at {row}");
+    }
     Ok(())
 }
 
@@ -212,5 +331,12 @@ fn want_of_memory_changes_nothing(rt: HostRuntime) -> Result<(), Fail> {
         Err(_) => status_text(alloc, Own::Answer(10), Mt::Mt543, &a1, Case::NewRefused(11))?,
     };
     assert_eq!(rt; text.as_slice(), STATUS_REFUSED.as_bytes());
+    let day = settlement_day()?;
+    if let Message::New(delivery) = message {
+        let text = confirmation_text(alloc, 2, &delivery, day).or_else(|_| confirmation_text(
+            alloc, 2, &delivery, day,
+        ))?;
+        assert_eq!(rt; text.as_slice(), CONFIRMED_DELIVERY.as_bytes());
+    }
     Ok(())
 }

@@ -181,6 +181,70 @@ pub const STATUS_CANCELLED: &str = "\
 :16S:GENL\r\n\
 -}";
 
+/// What is sent to the deliverer once it settled.
+pub const CONFIRMED_DELIVERY: &str = "\
+{4:\r\n\
+:16R:GENL\r\n\
+:20C::SEME//D000000000000002\r\n\
+:23G:NEWM\r\n\
+:16R:LINK\r\n\
+:20C::RELA//A1\r\n\
+:16S:LINK\r\n\
+:16S:GENL\r\n\
+:16R:TRADDET\r\n\
+:98A::ESET//20240229\r\n\
+:35B:ISIN DE0007164600\r\n\
+:16S:TRADDET\r\n\
+:16R:FIAC\r\n\
+:36B::ESTT//UNIT/400,\r\n\
+:97A::SAFE//A-1\r\n\
+:16S:FIAC\r\n\
+:16R:SETDET\r\n\
+:22F::SETR//TRAD\r\n\
+:16R:SETPRTY\r\n\
+:95P::REAG//BETADEFF\r\n\
+:16S:SETPRTY\r\n\
+:16R:SETPRTY\r\n\
+:95P::PSET//DESKDEFF\r\n\
+:16S:SETPRTY\r\n\
+:16R:AMT\r\n\
+:19A::ESTT//EUR1000,5\r\n\
+:16S:AMT\r\n\
+:16S:SETDET\r\n\
+-}";
+
+/// What is sent to the receiver.
+pub const CONFIRMED_RECEIPT: &str = "\
+{4:\r\n\
+:16R:GENL\r\n\
+:20C::SEME//D000000000000003\r\n\
+:23G:NEWM\r\n\
+:16R:LINK\r\n\
+:20C::RELA//B1\r\n\
+:16S:LINK\r\n\
+:16S:GENL\r\n\
+:16R:TRADDET\r\n\
+:98A::ESET//20240229\r\n\
+:35B:ISIN DE0007164600\r\n\
+:16S:TRADDET\r\n\
+:16R:FIAC\r\n\
+:36B::ESTT//UNIT/400,\r\n\
+:97A::SAFE//B-1\r\n\
+:16S:FIAC\r\n\
+:16R:SETDET\r\n\
+:22F::SETR//TRAD\r\n\
+:16R:SETPRTY\r\n\
+:95P::DEAG//ALPHDEFF\r\n\
+:16S:SETPRTY\r\n\
+:16R:SETPRTY\r\n\
+:95P::PSET//DESKDEFF\r\n\
+:16S:SETPRTY\r\n\
+:16R:AMT\r\n\
+:19A::ESTT//EUR1000,5\r\n\
+:16S:AMT\r\n\
+:16S:SETDET\r\n\
+-}";
+
 /// Changes of the delivery against payment: what is changed, to what, and what is answered (`read`: the same
 /// fields). `~` stands for a line feed.
 pub const CHANGED_DELIVERIES: &str = "\
@@ -226,6 +290,7 @@ REAG//BETADEFFXXX|REAG//BETADE|refused 7 REAG\n\
 :19A::SETT//EUR1000,50~||refused 5 19A\n\
 :19A::SETT//EUR1000,50~|:19A::SETT//EUR1000,50~:19A::SETT//EUR1000,50~|refused 6 19A\n\
 EUR1000,50|JPY1000,50|refused 7 19A\n\
+EUR1000,50|KWD1,0005|refused 7 19A\n\
 EUR1000,50|XXX1,|refused 7 19A\n\
 EUR1000,50|NEUR1000,50|refused 7 19A\n\
 EUR1000,50|EUR1,005|refused 7 19A\n\
@@ -256,4 +321,24 @@ pub const OTHER_TEXTS: &str = "\
 {4:~:16R:GENL~:23G:CANC~:20C::SEME//X1~:16S:GENL~-}~|refused 5 PREV\n\
 {4:~:16R:GENL~:23G:CANC~:20C::SEME//X1~:16R:LINK~:20C::PREV//A1~:20C::PREV//A1~:16S:LINK~:16S:GENL~-}~|refused 6 PREV\n\
 {4:~:16R:GENL~:23G:CANC~:20C::SEME//X1~:16R:LINK~:20C::PREV///A1~:16S:LINK~:16S:GENL~-}~|refused 7 PREV\n\
+";
+
+/// Changes of the confirmed delivery: what is changed, to what, and how the confirmation fails. `~` stands for a line's
+/// end.
+pub const CHANGED_CONFIRMATIONS: &str = "\
+:23G:NEWM~||refused 5 23G\n\
+:23G:NEWM|:23G:CANC|refused 8\n\
+:23G:NEWM|:23G:INST|refused 8\n\
+:23G:NEWM|:23G:NEW|refused 7 23G\n\
+:20C::RELA//A1~||refused 5 RELA\n\
+:20C::RELA//A1~|:20C::RELA//A1~:20C::RELA//A1~|refused 6 RELA\n\
+RELA//A1|RELA///A1|refused 7 RELA\n\
+:98A::ESET//20240229|:98C::ESET//20240229101500|refused 5 ESET\n\
+ESET//20240229|ESET//20230229|refused 7 ESET\n\
+DE0007164600|DE0007164601|refused 7 35B\n\
+:36B::ESTT|:36B::SETT|refused 5 36B\n\
+UNIT/400,|UNIT/0,|refused 7 36B\n\
+:97A::SAFE//A-1|:97B::SAFE//A-1|refused 5 SAFE\n\
+:19A::ESTT|:19A::SETT|refused 5 19A\n\
+ESTT//EUR1000,5|ESTT//NEUR1000,5|refused 7 19A\n\
 ";

@@ -1,9 +1,3 @@
-pub mod Content
+pub mod Changes
 pub mod Looked
-pub mod Lists
-pub mod ListView
 pub mod View
-pub mod Decision
-pub mod Tables
-pub mod Pass
-pub mod Applied

@@ -1,25 +1,25 @@
 -- What the look-ups of a register find in its content.
-use Rattle.std.specs.Prelude.{◌≡◌, ℕ, zero, suc, ◌<◌, ◌≤◌, ◌⊎◌, true, List, Option, Some, None, option_map, slice_get, sum_by, is_some}
+use Rattle.std.specs.Prelude.{◌≡◌, ℕ, zero, suc, ◌<◌, ◌≤◌, true, false, List, Option, Some, None, option_map, slice_get, sum_by, is_some}
 use Rattle.std.specs.List.{filter_map}
 use Rattle.std.specs.Ordering.{nat_cmp}
 use Rattle.std.specs.Cmp.Lexicographic.{slice_cmp}
 use Rattle.std.specs.declared.cmp.Ordering.TheVariants.{Less}
 use Rattle.desk_codes.specs.Number.{number_of}
 use Rattle.desk_rules.specs.declared.entry.Entry.{Entry}
-use Rattle.desk_rules.specs.declared.entry.Entry.TheVariants.{Participant, Account, Security, Issue, Redeem, PayIn, PayOut, Instruct, Cancel, Run}
+use Rattle.desk_rules.specs.declared.entry.Entry.TheVariants.{Security}
 use Rattle.desk_rules.specs.declared.reply.Reply.{Reply}
 use Rattle.desk_register.specs.declared.found.Found.{Found}
 use Rattle.desk_rules.specs.declared.pair.Place.{Place}
-use Rattle.desk_rules.specs.declared.reply.State.TheVariants.{Unmatched, Matched}
+use Rattle.desk_rules.specs.declared.standing.State.TheVariants.{Unmatched, Matched}
 use Rattle.desk_msg.specs.declared.status.Reason.{Reason}
-use Rattle.desk_register.specs.declared.standing.Standing.{Standing}
+use Rattle.desk_rules.specs.declared.standing.Standing.{Standing}
 use Rattle.desk_rules.specs.declared.entry.Instructed.{Instructed}
 use Rattle.desk_rules.specs.History.{instruction_at}
 use Rattle.desk_rules.specs.Opposite.{AreOpposite}
-use Rattle.desk_rules.specs.Laws.{account_by}
-use Rattle.desk_rules.specs.Verdict.{kind_of}
+use Rattle.desk_rules.specs.Settlement.{is_before, is_past}
+use Rattle.desk_rules.specs.Facts.{account_by, kind_of}
 use Rattle.desk_rules.specs.declared.reply.Kept.{Kept}
-use Rattle.desk_register.specs.Content.{Content, history_of}
+use Rattle.desk_rules.specs.Content.{Content, history_of}
 
 -- an entry by its number, as a look-up gives it
 pub record Finding : Type 0 where
@@ -51,15 +51,6 @@ abbrev pub IsFirstOpposite : Content → Instructed → Option ℕ → Type 0
 IsFirstOpposite content i None = (n : ℕ) → IsOppositeAt content i n → ⊥
 IsFirstOpposite content i (Some n) = IsOppositeAt content i n × ((k : ℕ) → k < n → IsOppositeAt content i k → ⊥)
 
--- one place is before another: an earlier day, or a lower number on the day
-abbrev pub IsBefore : Place → Place → Type 0
-IsBefore p q = (p.day < q.day) ⊎ ((p.day ≡ q.day) × (p.number < q.number))
-
--- a place is above another one, or above none
-abbrev pub IsAbove : Option Place → Place → Type 0
-IsAbove None q = Unit {0}
-IsAbove (Some p) q = IsBefore p q
-
 -- a matched pair of this place: its later instruction has the number, and the day
 pub record IsMatchedPair (content : Content) (p : Place) : Type 0 where
   pub later : Instructed
@@ -75,12 +66,12 @@ pub record IsMatchedPair (content : Content) (p : Place) : Type 0 where
 pub record IsDue (content : Content) (day : ℕ) (place : Option Place) (p : Place) : Type 0 where
   pub pair : IsMatchedPair content p
   pub by : p.day ≤ day
-  pub above : IsAbove place p
+  pub above : is_past place p ≡ true
 
 -- the first such pair, or there is none
 abbrev pub IsDuePairAfter : Content → ℕ → Option Place → Option Place → Type 0
 IsDuePairAfter content day place None = (p : Place) → IsDue content day place p → ⊥
-IsDuePairAfter content day place (Some p) = IsDue content day place p × ((q : Place) → IsDue content day place q → IsBefore q p → ⊥)
+IsDuePairAfter content day place (Some p) = IsDue content day place p × ((q : Place) → IsDue content day place q → is_before q p ≡ false)
 
 -- one text is before another in the order of bytes
 abbrev pub IsLess : List ℕ → List ℕ → Type 0
@@ -99,41 +90,11 @@ abbrev pub IsSecurityAfter : List Entry → Option (List ℕ) → Option (List �
 IsSecurityAfter history above None = (isin : List ℕ) → IsRegisteredAbove history above isin → ⊥
 IsSecurityAfter history above (Some isin) = IsRegisteredAbove history above isin × ((other : List ℕ) → IsRegisteredAbove history above other → IsLess other isin → ⊥)
 
--- what the account that an entry registers holds, if it registers one
-abbrev pub held_by : (List ℕ → ℕ) → Option (List ℕ) → ℕ
-held_by holds None = 0
-held_by holds (Some account) = holds account
-
 -- what all registered accounts hold of a security
 abbrev pub held_of : Content → List ℕ → ℕ
 held_of content isin = sum_by (λ account. content.position account isin) (filter_map account_by (history_of content))
 
--- the sooner of two places, where there are two
-abbrev pub IsSooner : Option Place → Option Place → Option Place → Type 0
-IsSooner None candidate sooner = sooner ≡ candidate
-IsSooner (Some best) None sooner = sooner ≡ Some best
-IsSooner (Some best) (Some candidate) sooner = (IsBefore candidate best × (sooner ≡ Some candidate)) ⊎ ((IsBefore candidate best → ⊥) × (sooner ≡ Some best))
-
 -- the security that an entry registers
 abbrev pub security_by : Entry → Option (List ℕ)
-security_by (Participant reference bic) = None
-security_by (Account reference bic account) = None
 security_by (Security reference isin kind) = Some isin
-security_by (Issue movement) = None
-security_by (Redeem movement) = None
-security_by (PayIn payment) = None
-security_by (PayOut payment) = None
-security_by (Instruct sender instruction) = None
-security_by (Cancel sender order) = None
-security_by (Run reference day) = None
-
--- the security that an entry registers, where it is above one
-abbrev pub IsSecurityOf : Entry → Option (List ℕ) → Option (List ℕ) → Type 0
-IsSecurityOf entry above None = (isin : List ℕ) → security_by entry ≡ Some isin → IsAboveText above isin → ⊥
-IsSecurityOf entry above (Some isin) = (security_by entry ≡ Some isin) × IsAboveText above isin
-
--- the lesser of two, where there are two
-abbrev pub IsLesser : Option (List ℕ) → Option (List ℕ) → Option (List ℕ) → Type 0
-IsLesser None candidate lesser = lesser ≡ candidate
-IsLesser (Some best) None lesser = lesser ≡ Some best
-IsLesser (Some best) (Some candidate) lesser = (IsLess candidate best × (lesser ≡ Some candidate)) ⊎ ((IsLess candidate best → ⊥) × (lesser ≡ Some best))
+security_by entry = None

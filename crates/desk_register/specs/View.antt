@@ -4,7 +4,7 @@ use Rattle.desk_register.specs.declared.register.Fault.{Fault}
 use Rattle.desk_register.specs.declared.register.Fault.TheVariants.{Storage}
 use Rattle.desk_register.specs.declared.register.Stage.{Stage}
 use Rattle.desk_register.specs.declared.register.Stage.TheVariants.{Idle, Begun, Failed}
-use Rattle.desk_register.specs.Content.{Content}
+use Rattle.desk_rules.specs.Content.{Content}
 
 pub record View : Type 1 where
   -- what it holds now

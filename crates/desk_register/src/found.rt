@@ -1,7 +1,6 @@
 //! What a register finds.
 
-use crate::standing::Standing;
-use desk_rules::{Entry, Lack, Reply};
+use desk_rules::{Entry, Lack, Reply, Standing};
 
 /// An entry with its number, its reply and where it stands.
 #[derive(Debug, Drop)]

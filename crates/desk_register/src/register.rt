@@ -2,16 +2,17 @@
 ghost use Rattle.std.specs.Prelude.{◌≡◌, ◌≢◌, ℕ, true, Bool, ◌+◌, ◌<◌, ◌≤◌, ◌^◌, length, option_map, option_and_then, IfOk, IfErr, IsOk, OnOk, OnErr};
 ghost use Rattle.desk_codes.specs.Number.{number_of};
 ghost use Rattle.desk_register.specs.View.{View, IfTrusted, IsLater, Begins, Commits, GoesBack, Falls, Blames, IsRead, IsChange};
-ghost use Rattle.desk_register.specs.Content.{history_of, appended, paired, CanAppend, CanPair, CanSettle, Settles};
+ghost use Rattle.desk_rules.specs.Content.{history_of};
+ghost use Rattle.desk_register.specs.Changes.{appended, paired, CanAppend, CanPair, CanSettle, TriesPair};
 ghost use Rattle.desk_register.specs.Looked.{view_of, found_at, held_of, IsFirstOpposite, IsDuePairAfter, IsSecurityAfter};
 ghost use Rattle.desk_rules.specs.History.{number_of_key};
-ghost use Rattle.desk_rules.specs.Verdict.{is_participant, owner_of, kind_of, last_run};
+ghost use Rattle.desk_rules.specs.Facts.{is_participant, owner_of, kind_of, last_run};
 ghost use Rattle.desk_rules.specs.Balances.{issued, redeemed};
 
 use crate::found::{Found, Outcome};
 use desk_codes::{AccountId, Bic, Day, Isin, Reference};
 use desk_msg::{Instruction, Kind};
-use desk_rules::{Entry, Place, Reply, Sender};
+use desk_rules::{Entry, MOST_ENTRIES, Place, Reply, Sender};
 use std::alloc::Global;
 
 /// Whether a `begin` is open, and whether a call within it has failed.
@@ -76,10 +77,10 @@ pub trait Register {
         ensures blame { Blames result (view self.old) (view self.new) }
         ensures plain { plain ≡ true → IsOk result };
 
-    /// The greatest number of entries, 999,999,999 at most.
+    /// The greatest number of entries, `MOST_ENTRIES` at most.
     fn limit(&self) -> u64
         ensures limit { result ≡ (view self.now).room }
-        ensures most { result ≤ 999_999_999 };
+        ensures most { result ≤ MOST_ENTRIES };
 
     /// How many entries there are.
     fn count(&mut self, alloc: Global) -> Result<u64, Fault>
@@ -193,6 +194,6 @@ pub trait Register {
     fn settle_pair(&mut self, alloc: Global, number: u64) -> Result<Outcome, Fault>
         requires stage { (view self.old).stage ≡ Stage.Begun }
         requires fits { IfTrusted (view self.old) (view self.old) (CanSettle (view self.old).content number) }
-        ensures settled { IfTrusted (view self.old) (view self.new) (IfOk result (λ outcome. Settles (view self.old).content number outcome (view self.new).content)) }
+        ensures settled { IfTrusted (view self.old) (view self.new) (IfOk result (λ outcome. TriesPair (view self.old).content number outcome (view self.new).content)) }
         ensures change { IsChange result (view self.old) (view self.new) };
 }

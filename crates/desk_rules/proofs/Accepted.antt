@@ -6,7 +6,8 @@ use Rattle.desk_rules.specs.declared.pair.Pair.{Pair}
 use Rattle.desk_rules.specs.declared.pair.Settled.{Settled}
 use Rattle.desk_rules.specs.declared.verdict.Verdict.TheVariants.{Accept, Refuse}
 use Rattle.desk_rules.specs.History.{sender_of, reference_of, number_of_key}
-use Rattle.desk_rules.specs.Verdict.{Books, Check, checks_of, first_failing, is_from_stranger, IsVerdictAt, IsVerdict, WasAccepted}
+use Rattle.desk_rules.specs.Books.{Books}
+use Rattle.desk_rules.specs.Verdict.{Check, checks_of, first_failing, is_from_stranger, IsVerdictAt, IsVerdict, WasAccepted}
 use Rattle.desk_rules.proofs.Decided.{In}
 use Rattle.desk_rules.proofs.HistoryLemmas.{entry_at-known, entry_at-front, entry_at-end, before-front, before-all}
 use Rattle.desk_rules.proofs.Existence.{HasBooks}

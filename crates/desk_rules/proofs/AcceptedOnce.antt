@@ -3,15 +3,17 @@ use Rattle.std.proofs.Common.{◌≡◌, suc, ℕ, ◌+◌, Bool, true, false, L
 use Rattle.std.proofs.lemmas.Bool.{cases_Bool}
 use Rattle.std.proofs.lemmas.List.Folds.{list_any-append}
 use Rattle.std.proofs.lemmas.Slice.Eq.{bytes_eq-Decides}
-use Rattle.std.specs.Prelude.{MatchBool, Option, Some, None, not, bytes_eq, slice_get}
+use Rattle.std.specs.Prelude.{MatchBool, Option, Some, None, not, bytes_eq, slice_get, option_map}
 use Rattle.std.specs.List.{list_any}
 use Rattle.desk_rules.specs.declared.entry.Entry.{Entry}
 use Rattle.desk_rules.specs.declared.entry.Sender.{Sender}
 use Rattle.desk_rules.specs.declared.entry.Sender.TheVariants.{Operator, Participant as FromParticipant}
 use Rattle.desk_rules.specs.declared.verdict.Verdict.TheVariants.{Accept, Repeat, Refuse}
 use Rattle.desk_rules.specs.declared.verdict.Refusal.TheVariants.{SenderUnknown}
-use Rattle.desk_rules.specs.History.{entry_at, has_key, number_from, number_of_key, reference_of, same_sender, sender_of}
-use Rattle.desk_rules.specs.Verdict.{Books, IsVerdict, IsVerdictAt, adds_participant, is_from_stranger}
+use Rattle.desk_rules.specs.History.{as_asked, entry_at, has_key, number_from, number_of_key, reference_of, same_sender, sender_of}
+use Rattle.desk_rules.specs.Books.{Books}
+use Rattle.desk_rules.specs.Verdict.{AsksTheSame, IsVerdict, IsVerdictAt, is_from_stranger}
+use Rattle.desk_rules.specs.Facts.{adds_participant}
 
 -- an entry behind those that do not have its key is the first that has it
 
@@ -83,7 +85,7 @@ is_new limit books entry is =
     let both = new_by limit books entry (is_from_stranger books.history (sender_of entry)) (number_of_key books.history (sender_of entry) (reference_of entry)) is in
     record { known = both.0; key = both.1 }
 
-repeat_by : (limit : ℕ) (books : Books) (entry : Entry) (stranger : Bool) (number : Option ℕ) (n : ℕ) → stranger ≡ false → number ≡ Some n → entry_at books.history n ≡ Some entry
+repeat_by : (limit : ℕ) (books : Books) (entry : Entry) (stranger : Bool) (number : Option ℕ) (n : ℕ) → stranger ≡ false → number ≡ Some n → AsksTheSame books.history n entry
     → MatchBool stranger (Repeat n ≡ Refuse SenderUnknown) (IsVerdictAt limit books entry number (Repeat n))
 repeat_by limit books entry stranger number n known same at =
     let P : Bool → Type 0 = λ b. MatchBool b (Repeat n ≡ Refuse SenderUnknown) (IsVerdictAt limit books entry number (Repeat n)) in
@@ -99,5 +101,5 @@ accepted_once limit books after entry rest accepted grown =
     let number = number_behind 1 (sender_of entry) (reference_of entry) books.history entry rest new.key (own_key entry) in
     let e : 1 + length books.history ≡ suc (length books.history) = omega arith in
     let key = ap (λ h. number_of_key h (sender_of entry) (reference_of entry)) grown ∙ number ∙ ap Some e in
-    let at = ap (λ h. entry_at h n) grown ∙ get_behind books.history entry rest in
+    let at = ap (λ h. option_map as_asked (entry_at h n)) grown ∙ ap (λ o. option_map as_asked o) (get_behind books.history entry rest) in
     repeat_by limit after entry (is_from_stranger after.history (sender_of entry)) (number_of_key after.history (sender_of entry) (reference_of entry)) n known key at

@@ -7,7 +7,8 @@ use Rattle.std.proofs.lemmas.List.Elements.{filter-append}
 use Rattle.desk_rules.specs.declared.entry.Entry.{Entry}
 use Rattle.desk_rules.specs.declared.reply.Sent.{Sent}
 use Rattle.desk_rules.specs.Sent.{sent_of}
-use Rattle.desk_rules.specs.Verdict.{Books, AreBooks, adds_participant, is_participant}
+use Rattle.desk_rules.specs.Books.{Books, AreBooks}
+use Rattle.desk_rules.specs.Facts.{adds_participant, is_participant}
 use Rattle.desk_rules.specs.Questions.{refused_question, shown, confirms_it, confirmation_of, sent_to, sent_at, sent_reply}
 use Rattle.desk_rules.proofs.HistoryLemmas.{slice_get-known, slice_get-front}
 use Rattle.desk_rules.proofs.SentFronts.{sent_front}

@@ -12,38 +12,33 @@ use Rattle.desk_msg.specs.declared.fault.MsgFault.{MsgFault}
 use Rattle.desk_msg.specs.declared.instruction.Cash.{Cash}
 use Rattle.desk_msg.specs.MessageType.{is_delivery, number_of_type}
 use Rattle.desk_msg.specs.ConfirmationText.{confirming_type}
-use Rattle.desk_msg.specs.Confirms.{Confirmed, Confirms, paid_by}
+use Rattle.desk_msg.specs.declared.confirmed.Confirmed.{Confirmed}
+use Rattle.desk_msg.specs.Confirms.{Confirms, paid_by}
 use Rattle.desk_msg.proofs.OneConfirmation.{one_confirmation}
 use Rattle.desk_rules.specs.declared.entry.Entry.{Entry}
-use Rattle.desk_rules.specs.declared.entry.Entry.TheVariants.{Participant, Account, Security, Issue, Redeem, PayIn, PayOut, Instruct, Cancel, Run}
+use Rattle.desk_rules.specs.declared.entry.Entry.TheVariants.{Run}
 use Rattle.desk_rules.specs.declared.pair.Settled.{Settled}
 use Rattle.desk_rules.specs.declared.reply.Sent.{Sent}
 use Rattle.desk_rules.specs.History.{Instructed, entry_at, run_day}
 use Rattle.desk_rules.specs.Balances.{delivery_of, receipt_of, quantity_if, quantity_on, cash_in, amount_of}
 use Rattle.desk_rules.specs.Settlement.{is_by, day_of}
 use Rattle.desk_rules.specs.Sent.{Notice, told_of_pair, told_of_settled, told_by, notices_of, date_in, sent_of}
-use Rattle.desk_rules.specs.Verdict.{Books, AreBooks}
-use Rattle.desk_rules.specs.Confirmations.{Confirmation, SaysConfirmation, SayConfirmations, is_confirmation, quantity_said, amount_in, amount_said, AccountFor, WasRead}
+use Rattle.desk_rules.specs.Books.{Books, AreBooks}
+use Rattle.desk_rules.specs.Confirmations.{Confirmation, SaysConfirmation, SayConfirmations, confirmation_by, is_confirmation, quantity_said, amount_in, amount_said, AccountFor}
+use Rattle.desk_rules.specs.WellFormed.{AreWellFormed}
+use Rattle.desk_rules.proofs.WellFormedLemmas.{day_at}
 use Rattle.desk_rules.proofs.Decided.{In, Contains-from_In}
 use Rattle.desk_rules.proofs.BalanceLemmas.{sum_same}
 use Rattle.desk_rules.proofs.HistoryLemmas.{entry_at-known}
 use Rattle.desk_rules.proofs.SettlementLemmas.{due_facts, by_some}
-use Rattle.desk_rules.proofs.SaidConfirmations.{confirmation_by, confirmations_of, HaveDays, say_all}
+use Rattle.desk_rules.proofs.SaidConfirmations.{confirmations_of, HaveDays, say_all}
 use Rattle.desk_rules.proofs.ConfirmedSums.{HasLegs, legs_of, of_leg, legs_value, all_said}
 
 -- The days of runs.
 
-day_of_run : (h : List Entry) (run day : ℕ) (e : Entry) → WasRead h → entry_at h run ≡ Some e → is_by (run_day e) day ≡ true → IsDay (date_in (entry_at h run))
-day_of_run h run day (Participant reference bic) read is by = absurd (cc)
-day_of_run h run day (Account reference bic account) read is by = absurd (cc)
-day_of_run h run day (Security reference isin kind) read is by = absurd (cc)
-day_of_run h run day (Issue movement) read is by = absurd (cc)
-day_of_run h run day (Redeem movement) read is by = absurd (cc)
-day_of_run h run day (PayIn payment) read is by = absurd (cc)
-day_of_run h run day (PayOut payment) read is by = absurd (cc)
-day_of_run h run day (Instruct sender instruction) read is by = absurd (cc)
-day_of_run h run day (Cancel sender order) read is by = absurd (cc)
-day_of_run h run day (Run reference date) read is by = subst (λ o. IsDay (date_in o)) (sym is) (read.days run reference date is)
+day_of_run : (h : List Entry) (run day : ℕ) (e : Entry) → AreWellFormed h → entry_at h run ≡ Some e → is_by (run_day e) day ≡ true → IsDay (date_in (entry_at h run))
+day_of_run h run day (Run reference date rule) formed is by = subst (λ o. IsDay (date_in o)) (sym is) (day_at h run reference date rule formed is)
+day_of_run h run day e formed is by = absurd (cc)
 
 -- What a confirmation says is what its instruction moves.
 
@@ -68,15 +63,15 @@ kept test n e = rw e refl
 left_out : (test : Bool) (n : ℕ) → test ≡ false → quantity_if test n ≡ 0
 left_out test n e = rw e refl
 
-module _ (books : Books) (are : AreBooks books) (read : WasRead books.history) where
+module _ (books : Books) (are : AreBooks books) (read : AreWellFormed books.history) where
   -- each settled pair has a delivery and a receipt, and its run a number and a day
-  record IsKnown (s : Settled) : Type 0 where
-    legs : HasLegs books.history s.pair
-    from : 1 ≤ s.run
-    below : s.run < 1 + length books.history
-    day : IsDay (date_in (entry_at books.history s.run))
+  pub record IsKnown (s : Settled) : Type 0 where
+    pub legs : HasLegs books.history s.pair
+    pub from : 1 ≤ s.run
+    pub below : s.run < 1 + length books.history
+    pub day : IsDay (date_in (entry_at books.history s.run))
 
-  known : (s : Settled) → In books.settled s → IsKnown s
+  pub known : (s : Settled) → In books.settled s → IsKnown s
   known s i =
       let settles = (are.settlement.exact s).0 (Contains-from_In books.settled s i) in
       let mate = (are.pairing.exact s.pair).0 settles.paired in

@@ -10,15 +10,16 @@ use Rattle.desk_rules.specs.declared.entry.Entry.{Entry}
 use Rattle.desk_rules.specs.declared.pair.Pair.{Pair}
 use Rattle.desk_rules.specs.declared.pair.Settled.{Settled}
 use Rattle.desk_rules.specs.History.{Instructed, entry_at, instruction_at}
-use Rattle.desk_rules.specs.Opposite.{AreOppositeAt}
+use Rattle.desk_rules.specs.Opposite.{AreOpposite, AreOppositeAt}
 use Rattle.desk_rules.specs.Balances.{is_delivered_by, deliverer_of, receiver_of, delivery_of, receipt_of, quantity_if}
 use Rattle.desk_rules.specs.Sent.{Notice, told_of_pair, told_of_settled, told_by, notices_of, date_in}
-use Rattle.desk_rules.specs.Verdict.{Books}
-use Rattle.desk_rules.specs.Confirmations.{Confirmation}
+use Rattle.desk_rules.specs.Books.{Books}
+use Rattle.desk_rules.specs.Confirmations.{Confirmation, confirmation_by}
 use Rattle.desk_rules.proofs.Decided.{In}
+use Rattle.desk_rules.proofs.PairingLaws.{opposite_back}
 use Rattle.desk_rules.proofs.BalanceLemmas.{sum_same}
 use Rattle.desk_rules.proofs.Conservation.{sum_zero, sum_swap, if_true, if_false}
-use Rattle.desk_rules.proofs.SaidConfirmations.{confirmation_by, confirmations_to, confirmations_of}
+use Rattle.desk_rules.proofs.SaidConfirmations.{confirmations_to, confirmations_of}
 
 sum_flat : {X Y : Type 0} (g : Y → ℕ) (f : X → List Y) (xs : List X) → sum_by g (flat_map f xs) ≡ sum_by (λ x. sum_by g (f x)) xs
 sum_flat g f [] = refl
@@ -65,6 +66,7 @@ pub record HasLegs (h : List Entry) (p : Pair) : Type 0 where
   pub received : receipt_of h p ≡ Some receipt
   pub delivers : is_delivery delivery.instruction.mt ≡ true
   pub receives : is_delivery receipt.instruction.mt ≡ false
+  pub opposite : AreOpposite delivery receipt
 
 other_leg : (a b : Bool) → a ≢ b → a ≡ true → b ≡ false
 other_leg a true apart e = absurd (apart e)
@@ -85,6 +87,7 @@ legs_of h p o =
         received = ap (λ b. instruction_at h (cond b p.later p.earlier)) (test ∙ e) ∙ o.is_second;
         delivers = e;
         receives = other_leg (is_delivery o.first.instruction.mt) (is_delivery o.second.instruction.mt) o.opposite.sides e;
+        opposite = o.opposite;
       }
       | inr e ↦ record {
         delivery = o.second;
@@ -93,8 +96,60 @@ legs_of h p o =
         received = ap (λ b. instruction_at h (cond b p.later p.earlier)) (test ∙ e) ∙ o.is_first;
         delivers = this_leg (is_delivery o.first.instruction.mt) (is_delivery o.second.instruction.mt) o.opposite.sides e;
         receives = e;
+        opposite = opposite_back o.first o.second o.opposite;
       }
     ]
+
+-- A measure of notices that says nothing of pairing is, over all notices, its sum over the settlements.
+module _ (books : Books) (value : Notice → ℕ) (silent : (about : ℕ) → value (record { about = about; run = None }) ≡ 0) where
+  -- its value at the two notices of a settlement
+  abbrev pub value_of_settled : Settled → ℕ
+  value_of_settled s =
+      value (record { about = deliverer_of books.history s.pair; run = Some s.run }) + value (record { about = receiver_of books.history s.pair; run = Some s.run })
+
+  pair_value : (n : ℕ) (p : Pair) → sum_by value (told_of_pair n p) ≡ 0
+  pair_value n p =
+      let told : Notice = record { about = p.earlier; run = None } in
+      let none : value told ≡ 0 = silent p.earlier in
+      let one = sum_by-cons value told [] in
+      sum_if value (p.later == n) (told ∷ []) ∙ nothing (p.later == n) (sum_by value (told ∷ [])) (one ∙ omega (arith, none))
+    where
+      nothing : (test : Bool) (m : ℕ) → m ≡ 0 → quantity_if test m ≡ 0
+      nothing true m e = e
+      nothing false m e = refl
+
+  abbrev notices_at : Settled → ℕ → List Notice
+  notices_at s run = record { about = deliverer_of books.history s.pair; run = Some run } ∷ record { about = receiver_of books.history s.pair; run = Some run } ∷ []
+
+  value_at : (s : Settled) → sum_by value (notices_at s s.run) ≡ value_of_settled s
+  value_at s =
+      let gone : Notice = record { about = deliverer_of books.history s.pair; run = Some s.run } in
+      let come : Notice = record { about = receiver_of books.history s.pair; run = Some s.run } in
+      let first = sum_by-cons value gone (come ∷ []) in
+      let second = sum_by-cons value come [] in
+      omega (arith, first, second)
+
+  settled_value : (n : ℕ) (s : Settled) → sum_by value (told_of_settled books.history n s) ≡ quantity_if (s.run == n) (value_of_settled s)
+  settled_value n s = sum_if value (s.run == n) (notices_at s n) ∙ at_run (s.run == n) (eqb-true s.run n)
+    where
+      at_run : (test : Bool) → (test ≡ true → s.run ≡ n) → quantity_if test (sum_by value (notices_at s n)) ≡ quantity_if test (value_of_settled s)
+      at_run true same = ap (λ run. sum_by value (notices_at s run)) (sym (same refl)) ∙ value_at s
+      at_run false same = refl
+
+  told_value : (n : ℕ) → sum_by value (told_by books n) ≡ sum_by (λ s. quantity_if (s.run == n) (value_of_settled s)) books.settled
+  told_value n =
+      let parts = sum_by-append value (flat_map (told_of_pair n) books.pairs) (flat_map (told_of_settled books.history n) books.settled) in
+      let pairs = sum_flat value (told_of_pair n) books.pairs ∙ sum_zero (λ p. sum_by value (told_of_pair n p)) books.pairs (λ p i. pair_value n p) in
+      let settled = sum_flat value (told_of_settled books.history n) books.settled ∙ sum_same (λ s. sum_by value (told_of_settled books.history n s)) (λ s. quantity_if (s.run == n) (value_of_settled s)) books.settled (λ s i. settled_value n s) in
+      parts ∙ omega (arith, pairs, settled)
+
+  pub all_told : ((s : Settled) → In books.settled s → (1 ≤ s.run) × (s.run < 1 + length books.history)) → sum_by value (notices_of books) ≡ sum_by value_of_settled books.settled
+  all_told ranged =
+      let range = range_with_len 1 (length books.history) in
+      sum_flat value (told_by books) range
+      ∙ sum_same (λ n. sum_by value (told_by books n)) (λ n. sum_by (λ s. quantity_if (s.run == n) (value_of_settled s)) books.settled) range (λ n i. told_value n)
+      ∙ sum_swap (λ n s. quantity_if (s.run == n) (value_of_settled s)) range books.settled
+      ∙ sum_same (λ s. sum_by (λ n. quantity_if (s.run == n) (value_of_settled s)) range) value_of_settled books.settled (λ s i. let r = ranged s i in found_at s.run (value_of_settled s) 1 (length books.history) r.0 r.1)
 
 -- A measure of confirmations that does not look at the day, and what it is of an instruction.
 module _ (books : Books) (f : Confirmation → ℕ) (g : Instructed → ℕ) (same : (i : Instructed) (day : List ℕ) → f (confirmation_by i day) ≡ g i) where
@@ -102,7 +157,7 @@ module _ (books : Books) (f : Confirmation → ℕ) (g : Instructed → ℕ) (sa
   of_leg None = 0
   of_leg (Some i) = g i
 
-  abbrev pub value : Notice → ℕ
+  abbrev value : Notice → ℕ
   value n = sum_by f (confirmations_to books.history n.run (instruction_at books.history n.about))
 
   sum_confirmations : (ns : List Notice) → sum_by f (confirmations_of books.history ns) ≡ sum_by value ns
@@ -123,41 +178,12 @@ module _ (books : Books) (f : Confirmation → ℕ) (g : Instructed → ℕ) (sa
   abbrev pub legs_value : Settled → ℕ
   legs_value s = of_leg (delivery_of books.history s.pair) + of_leg (receipt_of books.history s.pair)
 
-  pair_value : (n : ℕ) (p : Pair) → sum_by value (told_of_pair n p) ≡ 0
-  pair_value n p =
-      let told : Notice = record { about = p.earlier; run = None } in
-      let none : value told ≡ 0 = refl in
-      let one = sum_by-cons value told [] in
-      sum_if value (p.later == n) (told ∷ []) ∙ nothing (p.later == n) (sum_by value (told ∷ [])) (one ∙ omega (arith, none))
-    where
-      nothing : (test : Bool) (m : ℕ) → m ≡ 0 → quantity_if test m ≡ 0
-      nothing true m e = e
-      nothing false m e = refl
-
-  settled_value : (n : ℕ) (s : Settled) → sum_by value (told_of_settled books.history n s) ≡ quantity_if (s.run == n) (legs_value s)
-  settled_value n s =
-      let gone : Notice = record { about = deliverer_of books.history s.pair; run = Some n } in
-      let come : Notice = record { about = receiver_of books.history s.pair; run = Some n } in
-      let first = sum_by-cons value gone (come ∷ []) in
-      let second = sum_by-cons value come [] in
-      let delivered = leg_value n (delivery_of books.history s.pair) in
-      let received = leg_value n (receipt_of books.history s.pair) in
-      let both : sum_by value (gone ∷ come ∷ []) ≡ legs_value s = omega (arith, first, second, delivered, received) in
-      sum_if value (s.run == n) (gone ∷ come ∷ []) ∙ ap (quantity_if (s.run == n)) both
-
-  told_value : (n : ℕ) → sum_by value (told_by books n) ≡ sum_by (λ s. quantity_if (s.run == n) (legs_value s)) books.settled
-  told_value n =
-      let parts = sum_by-append value (flat_map (told_of_pair n) books.pairs) (flat_map (told_of_settled books.history n) books.settled) in
-      let pairs = sum_flat value (told_of_pair n) books.pairs ∙ sum_zero (λ p. sum_by value (told_of_pair n p)) books.pairs (λ p i. pair_value n p) in
-      let settled = sum_flat value (told_of_settled books.history n) books.settled ∙ sum_same (λ s. sum_by value (told_of_settled books.history n s)) (λ s. quantity_if (s.run == n) (legs_value s)) books.settled (λ s i. settled_value n s) in
-      parts ∙ omega (arith, pairs, settled)
-
   -- all that is said is what the settlements moved
   pub all_said : ((s : Settled) → In books.settled s → (1 ≤ s.run) × (s.run < 1 + length books.history)) → sum_by f (confirmations_of books.history (notices_of books)) ≡ sum_by legs_value books.settled
   all_said ranged =
-      let range = range_with_len 1 (length books.history) in
       sum_confirmations (notices_of books)
-      ∙ sum_flat value (told_by books) range
-      ∙ sum_same (λ n. sum_by value (told_by books n)) (λ n. sum_by (λ s. quantity_if (s.run == n) (legs_value s)) books.settled) range (λ n i. told_value n)
-      ∙ sum_swap (λ n s. quantity_if (s.run == n) (legs_value s)) range books.settled
-      ∙ sum_same (λ s. sum_by (λ n. quantity_if (s.run == n) (legs_value s)) range) legs_value books.settled (λ s i. let r = ranged s i in found_at s.run (legs_value s) 1 (length books.history) r.0 r.1)
+      ∙ all_told books value (λ about. refl) ranged
+      ∙ sum_same (value_of_settled books value (λ about. refl)) legs_value books.settled (λ s i.
+      let delivered = leg_value s.run (delivery_of books.history s.pair) in
+      let received = leg_value s.run (receipt_of books.history s.pair) in
+      omega (arith, delivered, received))

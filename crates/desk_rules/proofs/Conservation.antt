@@ -18,8 +18,9 @@ use Rattle.desk_rules.specs.Opposite.{AreOpposite, AreOppositeAt}
 use Rattle.desk_rules.specs.Pairing.{IsPairing}
 use Rattle.desk_rules.specs.Balances.{is_delivered_by, delivery_of, receipt_of, quantity_if, movement_of, movement_on, issued_by, redeemed_by, issued, redeemed, quantity_on, credits, debits, payment_in, payment_of, paid_in_by, paid_out_by, paid_in, paid_out, cash_in, amount_of, cash_credits, cash_debits}
 use Rattle.desk_rules.specs.Settlement.{IsSettlement}
-use Rattle.desk_rules.specs.Verdict.{Books, is_participant, is_owner, or_else, owner_of, WasAccepted}
-use Rattle.desk_rules.specs.Laws.{account_by, participant_by, accounts_of, participants_of}
+use Rattle.desk_rules.specs.Books.{Books}
+use Rattle.desk_rules.specs.Facts.{is_participant, is_owner, or_else, owner_of, account_by, participant_by, accounts_of, participants_of}
+use Rattle.desk_rules.specs.Verdict.{WasAccepted}
 use Rattle.desk_rules.proofs.Decided.{In, In-left, In-push_cases}
 use Rattle.desk_rules.proofs.HistoryLemmas.{some_before}
 use Rattle.desk_rules.proofs.PairingLaws.{opposite_back}
@@ -149,7 +150,7 @@ ownerless (PayIn payment ∷ h) a none y i = ownerless h a none y i
 ownerless (PayOut payment ∷ h) a none y i = ownerless h a none y i
 ownerless (Instruct sender instruction ∷ h) a none y i = ownerless h a none y i
 ownerless (Cancel sender order ∷ h) a none y i = ownerless h a none y i
-ownerless (Run reference day ∷ h) a none y i = ownerless h a none y i
+ownerless (Run reference day rule ∷ h) a none y i = ownerless h a none y i
 
 -- an account with an owner is one of the registered ones
 pub owned : (h : List Entry) (a owner : List ℕ) → owner_of h a ≡ Some owner → In (accounts_of h) a
@@ -166,7 +167,7 @@ owned (PayIn payment ∷ h) a owner e = owned h a owner e
 owned (PayOut payment ∷ h) a owner e = owned h a owner e
 owned (Instruct sender instruction ∷ h) a owner e = owned h a owner e
 owned (Cancel sender order ∷ h) a owner e = owned h a owner e
-owned (Run reference day ∷ h) a owner e = owned h a owner e
+owned (Run reference day rule ∷ h) a owner e = owned h a owner e
 
 stranger : (h : List Entry) (b : List ℕ) → is_participant h b ≡ false → NotIn b (participants_of h)
 stranger [] b none y i = absurd i
@@ -184,7 +185,7 @@ stranger (PayIn payment ∷ h) b none y i = stranger h b none y i
 stranger (PayOut payment ∷ h) b none y i = stranger h b none y i
 stranger (Instruct sender instruction ∷ h) b none y i = stranger h b none y i
 stranger (Cancel sender order ∷ h) b none y i = stranger h b none y i
-stranger (Run reference day ∷ h) b none y i = stranger h b none y i
+stranger (Run reference day rule ∷ h) b none y i = stranger h b none y i
 
 takes_part : (h : List Entry) (b : List ℕ) → is_participant h b ≡ true → In (participants_of h) b
 takes_part [] b e = absurd (cc)
@@ -200,7 +201,7 @@ takes_part (PayIn payment ∷ h) b e = takes_part h b e
 takes_part (PayOut payment ∷ h) b e = takes_part h b e
 takes_part (Instruct sender instruction ∷ h) b e = takes_part h b e
 takes_part (Cancel sender order ∷ h) b e = takes_part h b e
-takes_part (Run reference day ∷ h) b e = takes_part h b e
+takes_part (Run reference day rule ∷ h) b e = takes_part h b e
 
 -- Of an accepted history.
 
@@ -249,7 +250,7 @@ accounts_apart limit h (PayIn payment) was apart = accounts_stay h (PayIn paymen
 accounts_apart limit h (PayOut payment) was apart = accounts_stay h (PayOut payment) refl apart
 accounts_apart limit h (Instruct sender instruction) was apart = accounts_stay h (Instruct sender instruction) refl apart
 accounts_apart limit h (Cancel sender order) was apart = accounts_stay h (Cancel sender order) refl apart
-accounts_apart limit h (Run reference day) was apart = accounts_stay h (Run reference day) refl apart
+accounts_apart limit h (Run reference day rule) was apart = accounts_stay h (Run reference day rule) refl apart
 
 participants_push : (h : List Entry) (e : Entry) → participants_of (h ++ e ∷ []) ≡ participants_of h ++ participants_of (e ∷ [])
 participants_push h e = filter_map-append participant_by h (e ∷ [])
@@ -274,7 +275,7 @@ participants_apart limit h (PayIn payment) was apart = participants_stay h (PayI
 participants_apart limit h (PayOut payment) was apart = participants_stay h (PayOut payment) refl apart
 participants_apart limit h (Instruct sender instruction) was apart = participants_stay h (Instruct sender instruction) refl apart
 participants_apart limit h (Cancel sender order) was apart = participants_stay h (Cancel sender order) refl apart
-participants_apart limit h (Run reference day) was apart = participants_stay h (Run reference day) refl apart
+participants_apart limit h (Run reference day rule) was apart = participants_stay h (Run reference day rule) refl apart
 
 -- what an entry names is registered
 
@@ -288,7 +289,7 @@ IsRegistered h (PayIn payment) = In (participants_of h) payment.bic
 IsRegistered h (PayOut payment) = In (participants_of h) payment.bic
 IsRegistered h (Instruct sender instruction) = In (accounts_of h) instruction.account × In (participants_of h) sender
 IsRegistered h (Cancel sender order) = Unit {0}
-IsRegistered h (Run reference day) = Unit {0}
+IsRegistered h (Run reference day rule) = Unit {0}
 
 owner_some : (sender : List ℕ) (o : Option (List ℕ)) → not (is_owner sender o) ≡ false → (owner : List ℕ) × (o ≡ Some owner)
 owner_some sender None e = absurd (cc)
@@ -306,7 +307,7 @@ registered_before b (Instruct sender i) p =
     let o = owner_some sender (owner_of b.history i.account) (p.checks _ (inr (inr (inr (inl refl))))) in
     (owned b.history i.account o.0 o.1, takes_part b.history sender (not-false (is_participant b.history sender) p.known))
 registered_before b (Cancel sender order) p = tt
-registered_before b (Run reference day) p = tt
+registered_before b (Run reference day rule) p = tt
 
 accounts_more : (h g : List Entry) (x : List ℕ) → In (accounts_of h) x → In (accounts_of (h ++ g)) x
 accounts_more h g x i = let P : List (List ℕ) → Type 0 = λ z. In z x in subst P (sym (filter_map-append account_by h g)) (In-left (accounts_of h) (accounts_of g) x i)
@@ -324,7 +325,7 @@ still_registered h g (PayIn x) r = participants_more h g x.bic r
 still_registered h g (PayOut x) r = participants_more h g x.bic r
 still_registered h g (Instruct sender i) r = (accounts_more h g i.account r.0, participants_more h g sender r.1)
 still_registered h g (Cancel sender order) r = tt
-still_registered h g (Run reference day) r = tt
+still_registered h g (Run reference day rule) r = tt
 
 registered : (limit : ℕ) (h : List Entry) → WasAccepted limit h → (n : ℕ) (e : Entry) → entry_at h n ≡ Some e → IsRegistered h e
 registered limit h was n e at =
@@ -362,7 +363,7 @@ module _ (limit : ℕ) (h : List Entry) (was : WasAccepted limit h) where
   issued_once isin (PayOut x) r = sum_zero (λ a. 0) (accounts_of h) (λ a i. refl)
   issued_once isin (Instruct sender instruction) r = sum_zero (λ a. 0) (accounts_of h) (λ a i. refl)
   issued_once isin (Cancel sender order) r = sum_zero (λ a. 0) (accounts_of h) (λ a i. refl)
-  issued_once isin (Run reference day) r = sum_zero (λ a. 0) (accounts_of h) (λ a i. refl)
+  issued_once isin (Run reference day rule) r = sum_zero (λ a. 0) (accounts_of h) (λ a i. refl)
 
   redeemed_once : (isin : List ℕ) (e : Entry) → IsRegistered h e → sum_by (λ a. redeemed_by (movement_on a isin) e) (accounts_of h) ≡ redeemed_by (movement_of isin) e
   redeemed_once isin (Participant reference bic) r = sum_zero (λ a. 0) (accounts_of h) (λ a i. refl)
@@ -374,7 +375,7 @@ module _ (limit : ℕ) (h : List Entry) (was : WasAccepted limit h) where
   redeemed_once isin (PayOut x) r = sum_zero (λ a. 0) (accounts_of h) (λ a i. refl)
   redeemed_once isin (Instruct sender instruction) r = sum_zero (λ a. 0) (accounts_of h) (λ a i. refl)
   redeemed_once isin (Cancel sender order) r = sum_zero (λ a. 0) (accounts_of h) (λ a i. refl)
-  redeemed_once isin (Run reference day) r = sum_zero (λ a. 0) (accounts_of h) (λ a i. refl)
+  redeemed_once isin (Run reference day rule) r = sum_zero (λ a. 0) (accounts_of h) (λ a i. refl)
 
   paid_in_once : (ccy : Ccy) (e : Entry) → IsRegistered h e → sum_by (λ b. paid_in_by (payment_of b ccy) e) (participants_of h) ≡ paid_in_by (payment_in ccy) e
   paid_in_once ccy (Participant reference bic) r = sum_zero (λ a. 0) (participants_of h) (λ a i. refl)
@@ -386,7 +387,7 @@ module _ (limit : ℕ) (h : List Entry) (was : WasAccepted limit h) where
   paid_in_once ccy (PayOut x) r = sum_zero (λ a. 0) (participants_of h) (λ a i. refl)
   paid_in_once ccy (Instruct sender instruction) r = sum_zero (λ a. 0) (participants_of h) (λ a i. refl)
   paid_in_once ccy (Cancel sender order) r = sum_zero (λ a. 0) (participants_of h) (λ a i. refl)
-  paid_in_once ccy (Run reference day) r = sum_zero (λ a. 0) (participants_of h) (λ a i. refl)
+  paid_in_once ccy (Run reference day rule) r = sum_zero (λ a. 0) (participants_of h) (λ a i. refl)
 
   paid_out_once : (ccy : Ccy) (e : Entry) → IsRegistered h e → sum_by (λ b. paid_out_by (payment_of b ccy) e) (participants_of h) ≡ paid_out_by (payment_in ccy) e
   paid_out_once ccy (Participant reference bic) r = sum_zero (λ a. 0) (participants_of h) (λ a i. refl)
@@ -398,7 +399,7 @@ module _ (limit : ℕ) (h : List Entry) (was : WasAccepted limit h) where
   paid_out_once ccy (PayOut x) r = sum_once x.bic (payment_in ccy x) (participants_of h) (participants_once x.bic r)
   paid_out_once ccy (Instruct sender instruction) r = sum_zero (λ a. 0) (participants_of h) (λ a i. refl)
   paid_out_once ccy (Cancel sender order) r = sum_zero (λ a. 0) (participants_of h) (λ a i. refl)
-  paid_out_once ccy (Run reference day) r = sum_zero (λ a. 0) (participants_of h) (λ a i. refl)
+  paid_out_once ccy (Run reference day rule) r = sum_zero (λ a. 0) (participants_of h) (λ a i. refl)
 
   member_registered : (e : Entry) → In h e → IsRegistered h e
   member_registered e i = let n = number_of_member h e i in registered limit h was n.0 e n.1
@@ -431,7 +432,7 @@ module _ (limit : ℕ) (h : List Entry) (was : WasAccepted limit h) where
   instruct_registered (PayOut x) i is r = absurd (cc)
   instruct_registered (Instruct sender instruction) i is r = let P : Option Instructed → Type 0 = SidesOf in subst P is r
   instruct_registered (Cancel sender order) i is r = absurd (cc)
-  instruct_registered (Run reference day) i is r = absurd (cc)
+  instruct_registered (Run reference day rule) i is r = absurd (cc)
 
   side_registered : (n : ℕ) (i : Instructed) → instruction_at h n ≡ Some i → SidesOf (Some i)
   side_registered n i is = let found = some_before instructed (entry_at h n) i is in instruct_registered found.0 i found.2 (registered limit h was n found.0 found.1)

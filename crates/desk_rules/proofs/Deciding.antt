@@ -3,7 +3,7 @@ use Rattle.std.proofs.Common.{◌≡◌, ◌≢◌, ℕ, zero, suc, ◌<◌, ◌
 use Rattle.std.proofs.lemmas.Bool.{cases_Bool, cases_lt, cases_eq, both_ways, false≢true}
 use Rattle.std.proofs.lemmas.Slice.Eq.{bytes_eq-Decides}
 use Rattle.desk_codes.specs.declared.currency.Ccy.{Ccy}
-use Rattle.desk_codes.specs.declared.currency.Ccy.TheVariants.{Chf, Eur, Gbp, Jpy, Usd}
+use Rattle.desk_codes.specs.declared.currency.Ccy.TheVariants.{Chf, Eur, Gbp, Jpy, Kwd, Usd}
 use Rattle.desk_codes.specs.Currency.{letters_of}
 use Rattle.desk_msg.specs.declared.instruction.Kind.{Kind}
 use Rattle.desk_msg.specs.declared.instruction.Kind.TheVariants.{Unit as Units, FaceAmount}
@@ -13,7 +13,7 @@ use Rattle.desk_rules.specs.declared.pair.Pair.{Pair}
 use Rattle.desk_rules.specs.History.{Instructed, before, instruction_at}
 use Rattle.desk_rules.specs.Opposite.{AreOpposite, AreOppositeAt}
 use Rattle.desk_rules.specs.Balances.{same_ccy}
-use Rattle.desk_rules.specs.Cancelled.{is_cancelled}
+use Rattle.desk_rules.specs.Cancelled.{is_cancel_requested}
 use Rattle.desk_rules.specs.Pairing.{IsFree, IsCandidate, IsMate}
 use Rattle.desk_rules.proofs.Decided.{In, In-from_Contains, Contains-from_In}
 use Rattle.desk_rules.proofs.SameContent.{cash_same}
@@ -55,26 +55,37 @@ same_ccy-true Chf Chf e = refl
 same_ccy-true Chf Eur e = absurd (false≢true e)
 same_ccy-true Chf Gbp e = absurd (false≢true e)
 same_ccy-true Chf Jpy e = absurd (false≢true e)
+same_ccy-true Chf Kwd e = absurd (false≢true e)
 same_ccy-true Chf Usd e = absurd (false≢true e)
 same_ccy-true Eur Chf e = absurd (false≢true e)
 same_ccy-true Eur Eur e = refl
 same_ccy-true Eur Gbp e = absurd (false≢true e)
 same_ccy-true Eur Jpy e = absurd (false≢true e)
+same_ccy-true Eur Kwd e = absurd (false≢true e)
 same_ccy-true Eur Usd e = absurd (false≢true e)
 same_ccy-true Gbp Chf e = absurd (false≢true e)
 same_ccy-true Gbp Eur e = absurd (false≢true e)
 same_ccy-true Gbp Gbp e = refl
 same_ccy-true Gbp Jpy e = absurd (false≢true e)
+same_ccy-true Gbp Kwd e = absurd (false≢true e)
 same_ccy-true Gbp Usd e = absurd (false≢true e)
 same_ccy-true Jpy Chf e = absurd (false≢true e)
 same_ccy-true Jpy Eur e = absurd (false≢true e)
 same_ccy-true Jpy Gbp e = absurd (false≢true e)
 same_ccy-true Jpy Jpy e = refl
+same_ccy-true Jpy Kwd e = absurd (false≢true e)
 same_ccy-true Jpy Usd e = absurd (false≢true e)
+same_ccy-true Kwd Chf e = absurd (false≢true e)
+same_ccy-true Kwd Eur e = absurd (false≢true e)
+same_ccy-true Kwd Gbp e = absurd (false≢true e)
+same_ccy-true Kwd Jpy e = absurd (false≢true e)
+same_ccy-true Kwd Kwd e = refl
+same_ccy-true Kwd Usd e = absurd (false≢true e)
 same_ccy-true Usd Chf e = absurd (false≢true e)
 same_ccy-true Usd Eur e = absurd (false≢true e)
 same_ccy-true Usd Gbp e = absurd (false≢true e)
 same_ccy-true Usd Jpy e = absurd (false≢true e)
+same_ccy-true Usd Kwd e = absurd (false≢true e)
 same_ccy-true Usd Usd e = refl
 
 pub same_ccy-refl : (a : Ccy) → same_ccy a a ≡ true
@@ -148,7 +159,7 @@ pub either_candidate : (h : List Entry) (ps : List Pair) (n k : ℕ) → Either 
 either_candidate h ps n k = either_like
     (λ x. record { earlier = x.0; opposite = x.1.0; free = x.1.1.0; stands = x.1.1.1 })
     (λ c. (c.earlier, (c.opposite, (c.free, c.stands))))
-    (both (either_less k n) (both (either_opposite_at h k n) (both (either_free ps k) (either_Bool (is_cancelled (before n h) k) false))))
+    (both (either_less k n) (both (either_opposite_at h k n) (both (either_free ps k) (either_Bool (is_cancel_requested (before n h) k) false))))
   where
     either_less : (a b : ℕ) → Either (a < b)
     either_less a b = elim (cases_lt a b) [ inl lt ↦ inl lt | inr ge ↦ inr (λ lt. omega arith) ]

@@ -1,7 +1,8 @@
 -- Each history has a pairing and a settlement, and those of a front of it are their fronts.
 use Rattle.std.proofs.Common.{◌≡◌, ◌≢◌, ℕ, zero, suc, ◌+◌, ◌<◌, ◌≤◌, ◌↔◌, ◌⊎◌, inl, inr, Bool, true, false, List, [], ◌∷◌, ◌++◌, Contains, filter, length, Option, Some, None, refl, sym, ap, subst, arith, append_assoc, append-nil, length-append}
-use Rattle.std.specs.Prelude.{option_and_then}
-use Rattle.std.proofs.lemmas.Bool.{cases_Bool, cases_lt, cases_eq, both_ways, false_from_ne_true}
+use Rattle.std.specs.Prelude.{option_and_then, not, ◌==◌}
+use Rattle.std.specs.List.{list_any}
+use Rattle.std.proofs.lemmas.Bool.{cases_Bool, cases_eq, both_ways, false_from_ne_true, eqb-true, eq-eqb}
 use Rattle.desk_rules.specs.declared.entry.Entry.{Entry}
 use Rattle.desk_rules.specs.declared.entry.Entry.TheVariants.{Participant, Account, Security, Issue, Redeem, PayIn, PayOut, Instruct, Cancel, Run}
 use Rattle.desk_rules.specs.declared.pair.Pair.{Pair}
@@ -10,48 +11,46 @@ use Rattle.desk_rules.specs.declared.pair.Place.{Place}
 use Rattle.desk_rules.specs.History.{Instructed, instructed, before, instruction_at, run_day}
 use Rattle.desk_rules.specs.Pairing.{IsCandidate, IsPairing}
 use Rattle.desk_rules.specs.Covered.{is_covered}
-use Rattle.desk_rules.specs.Settlement.{is_sooner, is_due, IsUnsettled, IsSettlement, place_of, is_above, IsOpen, IsNext}
-use Rattle.desk_rules.proofs.Decided.{In, In-from_Contains, Contains-from_In, Ordered, filter_yes, filter_no}
+use Rattle.desk_rules.specs.Settlement.{is_sooner, precedes, settled_before, is_due, IsUnsettled, begins, Settles, IsSettlement, place_of, is_above, IsOpen, IsNext}
+use Rattle.desk_rules.proofs.Decided.{In, In-from_Contains, Contains-from_In, In-left, filter-In, Ordered, filter_yes, filter_no}
 use Rattle.desk_rules.proofs.HistoryLemmas.{entry_at-end}
 use Rattle.desk_rules.proofs.PairingLemmas.{pair_same, lower, pairing_alone, pairing_mated, one_pairing}
-use Rattle.desk_rules.proofs.SettlementLemmas.{sooner_through, sooner_strict_never, ordered_pairs, one_settlement}
-use Rattle.desk_rules.proofs.SettlementGrowth.{same_pairs_push, settlement_alone, IsSettledTo, IsPlaceOf, run_begins, run_settles, run_leaves, run_ends, below_above, own_place, sooner_place}
+use Rattle.desk_rules.proofs.SettlementLemmas.{sooner_through, sooner_strict_never, begins_true, begins_first, begins_wider, one_number, ordered_pairs, one_settlement}
+use Rattle.desk_rules.proofs.SideLemmas.{any-In, In-any}
+use Rattle.desk_rules.proofs.SettlementGrowth.{same_pairs_push, settlement_alone, IsSettledTo, IsPlaceOf, run_begins, run_settles, run_leaves, pass_ends, run_ends, before_above, below_above, own_place, sooner_place}
 use Rattle.desk_rules.proofs.Deciding.{Either, either_like, both, either_Bool, mate_or_none}
 
 -- The next pair of a run, or none.
 
--- a settlement is of another pair, or of a run that isn't earlier
-either_other : (t : Settled) (run : ℕ) (p : Pair) → Either (t.run < run → t.pair ≢ p)
-either_other t run p = elim (cases_lt t.run run) [
-  | inr ge ↦ inl (λ lt e. omega arith)
-  | inl lt ↦ elim (cases_eq t.pair.earlier p.earlier) [
-    | inr differs ↦ inl (λ _ e. differs (ap (λ x. x.earlier) e))
-    | inl earlier ↦ elim (cases_eq t.pair.later p.later) [
-      | inr differs ↦ inl (λ _ e. differs (ap (λ x. x.later) e))
-      | inl later ↦ inr (λ f. f lt (pair_same t.pair p earlier later))
-    ]
+-- a settlement is of another pair, or of this one
+either_other : (t : Settled) (p : Pair) → Either (t.pair ≢ p)
+either_other t p = elim (cases_eq t.pair.earlier p.earlier) [
+  | inr differs ↦ inl (λ e. differs (ap (λ x. x.earlier) e))
+  | inl earlier ↦ elim (cases_eq t.pair.later p.later) [
+    | inr differs ↦ inl (λ e. differs (ap (λ x. x.later) e))
+    | inl later ↦ inr (λ f. f (pair_same t.pair p earlier later))
   ]
 ]
 
-pub either_unsettled : (settled : List Settled) (run : ℕ) (p : Pair) → Either (IsUnsettled settled run p)
-either_unsettled settled run p = either_like
+pub either_unsettled : (settled : List Settled) (p : Pair) → Either (IsUnsettled settled p)
+either_unsettled settled p = either_like
     (λ f s c. f s (In-from_Contains settled s c))
     (λ f s i. f s (Contains-from_In settled s i))
     (each settled)
   where
-    each : (ss : List Settled) → Either ((s : Settled) → In ss s → s.run < run → s.pair ≢ p)
+    each : (ss : List Settled) → Either ((s : Settled) → In ss s → s.pair ≢ p)
     each [] = inl (λ s i. absurd i)
     each (t ∷ ss) = either_like
-        (λ x s i. elim i [ inl e ↦ (let P : Settled → Type 0 = λ z. z.run < run → z.pair ≢ p in subst P e x.0) | inr j ↦ x.1 s j ])
+        (λ x s i. elim i [ inl e ↦ (let P : Settled → Type 0 = λ z. z.pair ≢ p in subst P e x.0) | inr j ↦ x.1 s j ])
         (λ f. (f t (inl refl), λ s i. f s (inr i)))
-        (both (either_other t run p) (each ss))
+        (both (either_other t p) (each ss))
 
 -- a pair of the list is open or not
 either_open : (h : List Entry) (ps : List Pair) (settled : List Settled) (n : ℕ) (place : Option Place) (p : Pair) → In ps p → Either (IsOpen h ps settled n place p)
 either_open h ps settled n place p i = either_like
     (λ x. record { paired = Contains-from_In ps p i; due = x.0; unsettled = x.1.0; above = x.1.1 })
     (λ o. (o.due, (o.unsettled, o.above)))
-    (both (either_Bool (is_due h n p) true) (both (either_unsettled settled n p) (either_Bool (is_above h place p) true)))
+    (both (either_Bool (is_due h n p) true) (both (either_unsettled settled p) (either_Bool (is_above h place p) true)))
 
 -- of some pairs of the list the least that is open, or none is
 least_open : (h : List Entry) (ps : List Pair) (settled : List Settled) (n : ℕ) (place : Option Place) (qs : List Pair) → ((p : Pair) → In qs p → In ps p)
@@ -107,7 +106,7 @@ place_of-is h q = record { day = refl; number = refl }
 
 -- With each pair that a run takes, fewer are above the place.
 
-filter_most : {X : Type 0} (f g : X → Bool) (xs : List X) → ((x : X) → g x ≡ true → f x ≡ true) → length (filter g xs) ≤ length (filter f xs)
+pub filter_most : {X : Type 0} (f g : X → Bool) (xs : List X) → ((x : X) → g x ≡ true → f x ≡ true) → length (filter g xs) ≤ length (filter f xs)
 filter_most f g [] sub = omega arith
 filter_most {X} f g (x ∷ xs) sub =
     let rest = filter_most f g xs sub in
@@ -144,27 +143,93 @@ pub fewer_above : (h : List Entry) (ps : List Pair) (place : Option Place) (next
 fewer_above h ps place next q inside at high =
     filter_fewer (is_above h place) (is_above h (Some next)) ps q (λ p above. above_further h place next p q at high above) (In-from_Contains ps q inside) high (own_place h next q at)
 
--- A run from a place on.
-run_exists : (h : List Entry) (ps : List Pair) → Ordered lower ps → (fuel : ℕ) (settled : List Settled) (place : Option Place)
-    → length (filter (is_above h place) ps) < fuel → IsSettledTo h ps (length h) place settled
-    → (more : List Settled) × IsSettlement h ps (settled ++ more)
-run_exists h ps o zero settled place room d = absurd (omega arith)
-run_exists h ps o (suc fuel) settled place room d =
-    let P : List Settled → Type 0 = IsSettlement h ps in
-    elim (next_or_none h ps settled (length h) place) [
-      | inr none ↦ ([], subst P (sym (append-nil settled)) (run_ends h ps settled (length h) place refl d none))
+-- What a pass settles from a place on.
+pub record PassFrom (h : List Entry) (ps : List Pair) (settled : List Settled) (n k : ℕ) : Type 0 where
+  pub more : List Settled
+  pub is : IsSettledTo h ps n (k + 1) None (settled ++ more)
+
+pass_exists : (h : List Entry) (ps : List Pair) → Ordered lower ps → (fuel n k : ℕ) (settled : List Settled) (place : Option Place)
+    → length (filter (is_above h place) ps) < fuel → IsSettledTo h ps n k place settled → begins h settled n k ≡ true
+    → PassFrom h ps settled n k
+pass_exists h ps o zero n k settled place room d begun = absurd (omega arith)
+pass_exists h ps o (suc fuel) n k settled place room d begun =
+    let P : List Settled → Type 0 = IsSettledTo h ps n (k + 1) None in
+    elim (next_or_none h ps settled n place) [
+      | inr none ↦ record { more = []; is = subst P (sym (append-nil settled)) (pass_ends h ps settled n k place d none) }
       | inl found ↦
           let q = found.0 in
           let next = place_of h q in
-          let new : Settled = record { run = length h; pair = q } in
+          let new : Settled = record { run = n; pass = k; pair = q } in
           let open_ = found.1.is_open in
           let fewer = fewer_above h ps place next q open_.paired (place_of-is h q) open_.above in
-          elim (cases_Bool (is_covered (before (length h) h) settled q)) [
+          elim (cases_Bool (is_covered (before n h) settled q)) [
             | inl covered ↦
-                let rest = run_exists h ps o fuel (settled ++ new ∷ []) (Some next) (omega arith) (run_settles h ps settled (length h) place q next o d found.1 (place_of-is h q) covered) in
-                (new ∷ rest.0, subst P (append_assoc settled (new ∷ []) rest.0) rest.1)
-            | inr short ↦ run_exists h ps o fuel settled (Some next) (omega arith) (run_leaves h ps settled (length h) place q next o d found.1 (place_of-is h q) short)
+                let rest = pass_exists h ps o fuel n k (settled ++ new ∷ []) (Some next) (omega arith) (run_settles h ps settled n k place q next o d begun found.1 (place_of-is h q) covered)
+                (begins_wider h settled (settled ++ new ∷ []) n k (λ s i. In-left settled (new ∷ []) s i) begun) in
+                record { more = new ∷ rest.more; is = subst P (append_assoc settled (new ∷ []) rest.more) rest.is }
+            | inr short ↦ pass_exists h ps o fuel n k settled (Some next) (omega arith) (run_leaves h ps settled n k place q next o d found.1 (place_of-is h q) short) begun
           ]
+    ]
+
+-- With each pass that settles some pair, fewer are left.
+
+abbrev pub is_left : List Settled → Pair → Bool
+is_left settled p = not (list_any (λ t. t.pair.later == p.later) settled)
+
+left_yes : (settled : List Settled) (p : Pair) → ((t : Settled) → In settled t → t.pair.later ≡ p.later → ⊥) → is_left settled p ≡ true
+left_yes settled p none = elim (cases_Bool (list_any (λ t. t.pair.later == p.later) settled)) [
+  | inr e ↦ ap not e
+  | inl e ↦ let found = In-any (λ t. t.pair.later == p.later) settled e in absurd (none found.0 found.1 (eqb-true found.0.pair.later p.later found.2))
+]
+
+left_no : (settled : List Settled) (t : Settled) → In settled t → is_left settled t.pair ≡ false
+left_no settled t i = ap not (any-In (λ u. u.pair.later == t.pair.later) settled t i (eq-eqb t.pair.later t.pair.later refl))
+
+pub left_narrower : (settled more : List Settled) (p : Pair) → is_left (settled ++ more) p ≡ true → is_left settled p ≡ true
+left_narrower settled more p e = left_yes settled p (λ t i same.
+    let P : Bool → Type 0 = λ b. b ≡ true in
+    let no : is_left (settled ++ more) p ≡ false = ap not (any-In (λ u. u.pair.later == p.later) (settled ++ more) t (In-left settled more t i) (eq-eqb t.pair.later p.later same)) in
+    both_ways _ no e)
+
+-- where a further pass begins, the pass before it leaves fewer
+pub fewer_left : (h : List Entry) (ps : List Pair) → Ordered lower ps → (settled more : List Settled) (n k : ℕ) → 0 < k
+    → IsSettledTo h ps n k None settled → IsSettledTo h ps n (k + 1) None (settled ++ more) → begins h (settled ++ more) n (k + 1) ≡ true
+    → length (filter (is_left (settled ++ more)) ps) < length (filter (is_left settled) ps)
+fewer_left h ps o settled more n k some d e begun = elim (begins_true h (settled ++ more) n (k + 1) begun) [
+  | inl first ↦ absurd (omega arith)
+  | inr f ↦
+      let t = f.member in
+      let run : t.run ≡ n = f.run_is in
+      let pass : t.pass + 1 ≡ k + 1 = f.pass_is in
+      let c : Settles h ps (settled_before h t (settled ++ more)) t = (e.exact t (e.within t f.inside)).0 f.inside in
+      let inside = In-from_Contains ps t.pair c.paired in
+      filter_fewer (is_left settled) (is_left (settled ++ more)) ps t.pair (λ p left. left_narrower settled more p left) inside
+      (left_yes settled t.pair (λ u i same.
+      let r = d.within u i in
+      let cu = (d.exact u r).0 i in
+      let pair : u.pair ≡ t.pair = one_number ps o u.pair t.pair (In-from_Contains ps u.pair cu.paired) inside same in
+      let first = before_above h n k None u t r run (omega arith) refl in
+      let there = filter-In (λ x. precedes h x t) (settled ++ more) u (In-left settled more u i) first in
+      c.unsettled u (Contains-from_In (settled_before h t (settled ++ more)) u there) pair))
+      (left_no (settled ++ more) t f.inside)
+]
+
+joined : (h : List Entry) (ps : List Pair) (settled more rest : List Settled) → IsSettlement h ps (settled ++ more ++ rest) → IsSettlement h ps (settled ++ (more ++ rest))
+joined h ps settled more rest is = let P : List Settled → Type 0 = IsSettlement h ps in subst P (append_assoc settled more rest) is
+
+-- A run from the begin of a pass on.
+run_exists : (h : List Entry) (ps : List Pair) → Ordered lower ps → (fuel k : ℕ) (settled : List Settled)
+    → length (filter (is_left settled) ps) < fuel → 0 < k → IsSettledTo h ps (length h) k None settled → begins h settled (length h) k ≡ true
+    → (more : List Settled) × IsSettlement h ps (settled ++ more)
+run_exists h ps o zero k settled room some d begun = absurd (omega arith)
+run_exists h ps o (suc fuel) k settled room some d begun =
+    let this = pass_exists h ps o (length (filter (is_above h None) ps) + 1) (length h) k settled None (omega arith) d begun in
+    elim (cases_Bool (begins h (settled ++ this.more) (length h) (k + 1))) [
+      | inr over ↦ (this.more, run_ends h ps (settled ++ this.more) (length h) (k + 1) refl (omega arith) this.is over)
+      | inl again ↦
+          let fewer = fewer_left h ps o settled this.more (length h) k some d this.is again in
+          let rest = run_exists h ps o fuel (k + 1) (settled ++ this.more) (omega arith) (omega arith) this.is again in
+          (this.more ++ rest.0, joined h ps settled this.more rest.0 rest.1)
     ]
 
 -- A history with its pairing and its settlement.
@@ -188,7 +253,7 @@ run_instructs (PayIn payment) day i r s = cc
 run_instructs (PayOut payment) day i r s = cc
 run_instructs (Instruct sender instruction) day i r s = cc
 run_instructs (Cancel sender order) day i r s = cc
-run_instructs (Run reference date) day i r s = cc
+run_instructs (Run reference date rule) day i r s = cc
 
 cases_day : (o : Option ℕ) → (o ≡ None) ⊎ ((day : ℕ) × (o ≡ Some day))
 cases_day None = inl refl
@@ -230,8 +295,8 @@ entry_books h e ps settled is =
       | inr run ↦
           let pairing : IsPairing g ps = pairing_alone h e ps is.pairing (λ k c. run_unpaired h e ps run.0 k run.1 c) in
           let last : length h + 1 ≡ length g = sym (length-append h (e ∷ [])) in
-          let T : ℕ → Type 0 = λ n. IsSettledTo g ps n None settled in
-          let rest = run_exists g ps (ordered_pairs g ps pairing) (length (filter (is_above g None) ps) + 1) settled None (omega arith) (subst T last (run_begins h e ps settled is.settlement)) in
+          let T : ℕ → Type 0 = λ n. IsSettledTo g ps n 1 None settled in
+          let rest = run_exists g ps (ordered_pairs g ps pairing) (length (filter (is_left settled) ps) + 1) 1 settled (omega arith) (omega arith) (subst T last (run_begins h e ps settled is.settlement)) (begins_first g settled (length g) 1 refl) in
           let U : List Pair → Type 0 = λ z. IsSettlement g z (settled ++ rest.0) in
           record {
             more_pairs = [];

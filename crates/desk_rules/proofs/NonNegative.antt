@@ -15,7 +15,8 @@ use Rattle.desk_rules.specs.Pairing.{IsMate, IsPairing}
 use Rattle.desk_rules.specs.Balances.{same_ccy, movement_on, redeemed_by, credits, debits, payment_of, paid_out_by, cash_credits, cash_debits}
 use Rattle.desk_rules.specs.Covered.{is_covered}
 use Rattle.desk_rules.specs.Settlement.{is_by, day_of, precedes, settled_before, Settles, IsSettlement}
-use Rattle.desk_rules.specs.Verdict.{Books, WasAccepted}
+use Rattle.desk_rules.specs.Books.{Books}
+use Rattle.desk_rules.specs.Verdict.{WasAccepted}
 use Rattle.desk_rules.specs.Laws.{AreNonNegative}
 use Rattle.desk_rules.proofs.Decided.{In, In-from_Contains, Contains-from_In, In-left, In-right, In-cases, filter-front, filter-same, filter-none, Ordered-across, Ordered-right, not_back, front_of}
 use Rattle.desk_rules.proofs.HistoryLemmas.{entry_at-end, before-front, before-all}
@@ -45,7 +46,7 @@ entry_securities b (PayIn payment) p is account isin = let below = is.positions 
 entry_securities b (PayOut payment) p is account isin = let below = is.positions account isin in omega arith
 entry_securities b (Instruct sender instruction) p is account isin = let below = is.positions account isin in omega arith
 entry_securities b (Cancel sender order) p is account isin = let below = is.positions account isin in omega arith
-entry_securities b (Run reference day) p is account isin = let below = is.positions account isin in omega arith
+entry_securities b (Run reference day rule) p is account isin = let below = is.positions account isin in omega arith
 
 pub entry_cash : (b : Books) (e : Entry) → Passes b e → AreNonNegative b.history b.settled → (bic : List ℕ) (ccy : Ccy)
     → cash_debits b.history b.settled bic ccy + paid_out_by (payment_of bic ccy) e ≤ cash_credits b.history b.settled bic ccy
@@ -60,7 +61,7 @@ entry_cash b (PayOut payment) p is bic ccy =
     share_fits same_ccy same_ccy-true (cash_debits b.history b.settled) (cash_credits b.history b.settled) payment.bic payment.ccy payment.amount enough is.cash bic ccy
 entry_cash b (Instruct sender instruction) p is bic ccy = let below = is.cash bic ccy in omega arith
 entry_cash b (Cancel sender order) p is bic ccy = let below = is.cash bic ccy in omega arith
-entry_cash b (Run reference day) p is bic ccy = let below = is.cash bic ccy in omega arith
+entry_cash b (Run reference day rule) p is bic ccy = let below = is.cash bic ccy in omega arith
 
 -- a run takes nothing itself
 run_takes : (e : Entry) (day : ℕ) → run_day e ≡ Some day → ((account isin : List ℕ) → redeemed_by (movement_on account isin) e ≡ 0) × ((bic : List ℕ) (ccy : Ccy) → paid_out_by (payment_of bic ccy) e ≡ 0)
@@ -73,7 +74,7 @@ run_takes (PayIn payment) day is = absurd (cc)
 run_takes (PayOut payment) day is = absurd (cc)
 run_takes (Instruct sender instruction) day is = absurd (cc)
 run_takes (Cancel sender order) day is = absurd (cc)
-run_takes (Run reference date) day is = (λ account isin. refl, λ bic ccy. refl)
+run_takes (Run reference date rule) day is = (λ account isin. refl, λ bic ccy. refl)
 
 -- an entry that takes no more than is there
 grown_non_negative : (h : List Entry) (e : Entry) (settled : List Settled) → ((s : Settled) → In settled s → IsIn h s.pair)
@@ -167,7 +168,7 @@ module _ (h : List Entry) (e : Entry) (ps qs : List Pair) (settled more : List S
   members_non_negative start (suc k) le =
       let g = h ++ e ∷ [] in
       let before_this = members_non_negative start k (omega arith) in
-      let d : Settled = record { run = 0; pair = record { earlier = 0; later = 0 } } in
+      let d : Settled = record { run = 0; pass = 0; pair = record { earlier = 0; later = 0 } } in
       let x = get_or more k d in
       let more_here : take (k + 1) more ≡ take k more ++ x ∷ [] = take_more more k d (omega arith) in
       let taken : settled ++ take (suc k) more ≡ settled ++ take k more ++ x ∷ [] = ap (λ z. settled ++ z) (ap (λ n. take n more) (sym (add-one k)) ∙ more_here) ∙ sym (append_assoc settled (take k more) (x ∷ [])) in

@@ -6,11 +6,13 @@ use Rattle.desk_rules.specs.Balances.{credits, debits, cash_credits, cash_debits
 use Rattle.desk_rules.specs.declared.reply.Reply.{Reply}
 use Rattle.desk_rules.specs.History.{entry_at}
 use Rattle.desk_rules.specs.Reply.{IsFirstReply}
-use Rattle.desk_rules.specs.Content.{Content, AreTables, IsSameContent, history_of, mate_of, state_of}
+use Rattle.desk_rules.specs.Content.{Content, IsSameContent, history_of}
+use Rattle.desk_rules.specs.Tables.{AreTables}
 use Rattle.desk_rules.specs.Pairing.{IsPairing}
+use Rattle.desk_rules.specs.Standing.{standing_of}
 use Rattle.desk_rules.specs.Settlement.{IsSettlement}
 use Rattle.desk_rules.specs.Sent.{sent_of}
-use Rattle.desk_rules.specs.Verdict.{Books, AreBooks}
+use Rattle.desk_rules.specs.Books.{Books, AreBooks}
 use Rattle.desk_rules.proofs.PairingLemmas.{one_pairing}
 use Rattle.desk_rules.proofs.PairingLaws.{settlement_unique}
 use Rattle.desk_rules.proofs.Existence.{books_exist}
@@ -65,33 +67,32 @@ one_reply h n e r q at a b =
     let are : AreBooks books = record { pairing = all.2.pairing; settlement = all.2.settlement } in
     a.is books e refl are at ∙ sym (b.is books e refl are at)
 
-same_register : (a b : Content) → AreTables a → AreTables b → history_of a ≡ history_of b → a.register ≡ b.register
-same_register a b x y e = same_kept a.register b.register e (λ n k l i j.
+same_register : (x y : Books) (a b : Content) → AreTables x a → AreTables y b → history_of a ≡ history_of b → a.register ≡ b.register
+same_register x y a b s t e = same_kept a.register b.register e (λ n k l i j.
     let after : n + 1 ≡ suc n = omega arith in
     let here : slice_get (history_of a) n ≡ Some k.entry = entry_kept a.register n k i in
     let at : entry_at (history_of a) (n + 1) ≡ Some k.entry = ap (entry_at (history_of a)) after ∙ here in
-    let first = subst (λ h. IsFirstReply h (n + 1) k.reply) x.history (x.replies n k i) in
-    let second = subst (λ h. IsFirstReply h (n + 1) l.reply) (y.history ∙ sym e) (y.replies n l j) in
+    let first = subst (λ h. IsFirstReply h (n + 1) k.reply) (sym s.but_sent.history) (s.but_sent.replies.each n k i) in
+    let second = subst (λ h. IsFirstReply h (n + 1) l.reply) (sym t.but_sent.history ∙ sym e) (t.but_sent.replies.each n l j) in
     one_reply (history_of a) n k.entry k.reply l.reply at first second)
 
-pub one_content : (a b : Content) → AreTables a → AreTables b → history_of a ≡ history_of b → IsSameContent a b
-one_content a b x y e =
-    let history : x.books.history ≡ y.books.history = x.history ∙ e ∙ sym y.history in
-    let books = one_books x.books y.books x.are y.are history in record {
-      same_register = same_register a b x y e;
-      same_mate = λ n. x.mates n ∙ ap (λ (bs : Books). mate_of bs.pairs n) books ∙ sym (y.mates n);
-      same_state = λ n. x.states n ∙ ap (λ (bs : Books). state_of bs n) books ∙ sym (y.states n);
+pub one_content : (x y : Books) (a b : Content) → AreTables x a → AreTables y b → history_of a ≡ history_of b → IsSameContent a b
+one_content x y a b s t e =
+    let history : x.history ≡ y.history = sym s.but_sent.history ∙ e ∙ t.but_sent.history in
+    let books = one_books x y s.but_sent.are t.but_sent.are history in record {
+      same_register = same_register x y a b s t e;
+      same_standing = λ n. s.but_sent.standings.each n ∙ ap (λ (bs : Books). standing_of bs n) books ∙ sym (t.but_sent.standings.each n);
       same_position = λ account isin.
           let gone = ap (λ (bs : Books). debits bs.history bs.settled account isin) books in
           let come = ap (λ (bs : Books). credits bs.history bs.settled account isin) books in
-          let first = x.positions account isin in
-          let second = y.positions account isin in
+          let first = s.but_sent.positions.each account isin in
+          let second = t.but_sent.positions.each account isin in
           omega (arith, gone, come, first, second);
       same_cash = λ bic ccy.
           let gone = ap (λ (bs : Books). cash_debits bs.history bs.settled bic ccy) books in
           let come = ap (λ (bs : Books). cash_credits bs.history bs.settled bic ccy) books in
-          let first = x.cash_held bic ccy in
-          let second = y.cash_held bic ccy in
+          let first = s.but_sent.cash.each bic ccy in
+          let second = t.but_sent.cash.each bic ccy in
           omega (arith, gone, come, first, second);
-      same_sent = x.messages ∙ ap sent_of books ∙ sym y.messages;
+      same_sent = s.sent ∙ ap sent_of books ∙ sym t.sent;
     }

@@ -6,7 +6,8 @@ use Rattle.desk_rules.specs.declared.verdict.Verdict.{Verdict}
 use Rattle.desk_rules.specs.declared.verdict.Verdict.TheVariants.{Accept, Repeat, Refuse}
 use Rattle.desk_rules.specs.declared.verdict.Refusal.TheVariants.{SenderUnknown}
 use Rattle.desk_rules.specs.History.{number_of_key, reference_of, sender_of}
-use Rattle.desk_rules.specs.Verdict.{Books, IsVerdict, IsVerdictAt, is_from_stranger}
+use Rattle.desk_rules.specs.Books.{Books}
+use Rattle.desk_rules.specs.Verdict.{IsVerdict, IsVerdictAt, is_from_stranger}
 
 one_at : (limit : ℕ) (books : Books) (entry : Entry) (number : Option ℕ) (a b : Verdict) → IsVerdictAt limit books entry number a → IsVerdictAt limit books entry number b → a ≡ b
 one_at limit books entry None a b x y = x ∙ sym y

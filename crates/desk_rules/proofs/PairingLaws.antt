@@ -1,5 +1,5 @@
 -- Laws of pairing and settlement.
-use Rattle.std.proofs.Common.{◌≡◌, ℕ, ◌<◌, inl, inr, List, ◌++◌, Contains, refl, sym, ◌∙◌, subst, arith}
+use Rattle.std.proofs.Common.{◌≡◌, ℕ, true, ◌<◌, inl, inr, List, ◌++◌, Contains, refl, sym, ◌∙◌, subst, arith}
 use Rattle.std.proofs.lemmas.Bool.{cases_order, lt-ltb}
 use Rattle.desk_rules.specs.declared.entry.Entry.{Entry}
 use Rattle.desk_rules.specs.declared.pair.Pair.{Pair}
@@ -10,7 +10,7 @@ use Rattle.desk_rules.specs.Pairing.{pairs_below, IsPairing, IsSide}
 use Rattle.desk_rules.specs.Settlement.{IsSettlement, settled_before, precedes}
 use Rattle.desk_rules.proofs.Decided.{In-from_Contains, Contains-from_In, filter-In}
 use Rattle.desk_rules.proofs.PairingLemmas.{lower, one_pairing as one_pairing_of}
-use Rattle.desk_rules.proofs.SettlementLemmas.{ordered_pairs, one_number, one_settlement as one_settlement_of, settled_same, precedes_run}
+use Rattle.desk_rules.proofs.SettlementLemmas.{ordered_pairs, one_number, one_settlement as one_settlement_of, settled_same, precedes_run, precedes_pass}
 use Rattle.desk_rules.proofs.Existence.{books_exist, books_front}
 
 pub opposite_back : (a b : Instructed) → AreOpposite a b → AreOpposite b a
@@ -75,18 +75,24 @@ settled_front front rest ps qs ss ts is longer s t =
     let all = books_front front rest ps qs ss ts (record { pairing = is; settlement = s }) (record { pairing = longer; settlement = t }) in
     (all.1, all.3)
 
--- a pair of an earlier run isn't settled again
-not_again : (h : List Entry) (ps : List Pair) (settled : List Settled) (s t : Settled) → IsSettlement h ps settled → Contains settled s → Contains settled t → s.run < t.run → s.pair ≡ t.pair → ⊥
-not_again h ps settled s t is a b lt same =
+-- a pair that is settled isn't settled later
+not_again : (h : List Entry) (ps : List Pair) (settled : List Settled) (s t : Settled) → IsSettlement h ps settled → Contains settled s → Contains settled t → precedes h s t ≡ true → s.pair ≡ t.pair → ⊥
+not_again h ps settled s t is a b first same =
     let later = (is.exact t).0 b in
-    let there = Contains-from_In (settled_before h t settled) s (filter-In (λ x. precedes h x t) settled s (In-from_Contains settled s a) (precedes_run h s t lt)) in
-    later.unsettled s there lt same
+    let there = Contains-from_In (settled_before h t settled) s (filter-In (λ x. precedes h x t) settled s (In-from_Contains settled s a) first) in
+    later.unsettled s there same
 
 pub settled_once : (h : List Entry) (ps : List Pair) (settled : List Settled) (s t : Settled) → IsSettlement h ps settled → Contains settled s → Contains settled t → s.pair ≡ t.pair → s ≡ t
 settled_once h ps settled s t is a b same = elim (cases_order s.run t.run) [
-  | inl run ↦ settled_same s t run same
+  | inl run ↦ elim (cases_order s.pass t.pass) [
+    | inl pass ↦ settled_same s t run pass same
+    | inr o ↦ elim o [
+      | inl less ↦ absurd (not_again h ps settled s t is a b (precedes_pass h s t run less) same)
+      | inr more ↦ absurd (not_again h ps settled t s is b a (precedes_pass h t s (sym run) more) (sym same))
+    ]
+  ]
   | inr o ↦ elim o [
-    | inl less ↦ absurd (not_again h ps settled s t is a b less same)
-    | inr more ↦ absurd (not_again h ps settled t s is b a more (sym same))
+    | inl less ↦ absurd (not_again h ps settled s t is a b (precedes_run h s t less) same)
+    | inr more ↦ absurd (not_again h ps settled t s is b a (precedes_run h t s more) (sym same))
   ]
 ]

@@ -8,14 +8,15 @@ use Rattle.desk_msg.specs.declared.mt.Mt.TheVariants.{Mt540, Mt541, Mt542, Mt543
 use Rattle.desk_msg.specs.declared.instruction.Message.TheVariants.{New}
 use Rattle.desk_msg.specs.MessageType.{number_of_type}
 use Rattle.desk_msg.specs.ConfirmationText.{confirming_type}
-use Rattle.desk_msg.specs.Confirms.{confirmed_of}
 use Rattle.desk_msg.specs.Reads.{Reads}
 use Rattle.desk_msg.proofs.ConfirmationLaws.{confirms}
 use Rattle.desk_rules.specs.declared.entry.Entry.{Entry}
 use Rattle.desk_rules.specs.declared.reply.Sent.{Sent}
 use Rattle.desk_rules.specs.History.{Instructed, entry_at, instruction_at}
 use Rattle.desk_rules.specs.Sent.{Notice, date_in, told, told_to, sent_from}
-use Rattle.desk_rules.specs.Confirmations.{Confirmation, SaysConfirmation, SayConfirmations, is_confirmation, WasRead}
+use Rattle.desk_rules.specs.Confirmations.{Confirmation, SaysConfirmation, SayConfirmations, confirmation_by, is_confirmation}
+use Rattle.desk_rules.specs.WellFormed.{AreWellFormed}
+use Rattle.desk_rules.proofs.WellFormedLemmas.{readable_at}
 
 -- a message that is no confirmation says no confirmation
 skipped : (message : Sent) (messages : List Sent) (confirmations : List Confirmation) → is_confirmation message ≡ false → SayConfirmations messages confirmations → SayConfirmations (message ∷ messages) confirmations
@@ -38,9 +39,6 @@ confirming Mt544 = refl
 confirming Mt545 = refl
 confirming Mt546 = refl
 confirming Mt547 = refl
-
-abbrev pub confirmation_by : Instructed → List ℕ → Confirmation
-confirmation_by i day = record { mt = confirming_type i.instruction.mt; bic = i.sender; confirmed = confirmed_of i.instruction day }
 
 module _ (h : List Entry) where
   -- what a notice of an instruction says: a run that settled it, a confirmation
@@ -79,7 +77,7 @@ module _ (h : List Entry) where
       nothing (Some run) = says
   notice_says k n (Some i) read day messages confirmations says = let r = read i refl in told_says k n.about n.run i r.0 r.1 day messages confirmations says
 
-  pub say_all : WasRead h → (k : ℕ) (ns : List Notice) → HaveDays ns → SayConfirmations (sent_from h k ns) (confirmations_of ns)
-  say_all read k [] days = tt
-  say_all read k (n ∷ ns) days =
-      notice_says k n (instruction_at h n.about) (read.instructions n.about) days.0 (sent_from h (k + 1) ns) (confirmations_of ns) (say_all read (k + 1) ns days.1)
+  pub say_all : AreWellFormed h → (k : ℕ) (ns : List Notice) → HaveDays ns → SayConfirmations (sent_from h k ns) (confirmations_of ns)
+  say_all formed k [] days = tt
+  say_all formed k (n ∷ ns) days =
+      notice_says k n (instruction_at h n.about) (λ i at. readable_at h n.about i formed at) days.0 (sent_from h (k + 1) ns) (confirmations_of ns) (say_all formed (k + 1) ns days.1)

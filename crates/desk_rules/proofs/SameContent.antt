@@ -12,6 +12,7 @@ use Rattle.desk_msg.specs.declared.instruction.Cash.{Cash}
 use Rattle.desk_msg.specs.declared.instruction.Instruction.{Instruction}
 use Rattle.desk_msg.specs.declared.instruction.CancelOrder.{CancelOrder}
 use Rattle.desk_msg.specs.MessageType.{is_instruction, is_against_payment}
+use Rattle.desk_rules.specs.declared.limits.TheConstants.{MOST_PAID, MOST_QUANTITY}
 use Rattle.desk_rules.specs.declared.entry.Movement.{Movement}
 use Rattle.desk_rules.specs.declared.entry.Payment.{Payment}
 
@@ -65,7 +66,7 @@ order_same a b e0 e1 e2 =
 
 pub movement_same : (a b : Movement) → a.reference ≡ b.reference → a.account ≡ b.account → a.isin ≡ b.isin → a.quantity ≡ b.quantity → a ≡ b
 movement_same a b e0 e1 e2 e3 =
-    let kept : List ℕ × List ℕ × List ℕ × ℕ → Type 0 = λ x. (0 < x.3) × (x.3 ≤ 99_999_999_999_999) in
+    let kept : List ℕ × List ℕ × List ℕ × ℕ → Type 0 = λ x. (0 < x.3) × (x.3 ≤ MOST_QUANTITY) in
     let whole : ((x : List ℕ × List ℕ × List ℕ × ℕ) × kept x) → Movement = λ s. record { reference = s.0.0; account = s.0.1; isin = s.0.2; quantity = s.0.3; some = s.1.0; within = s.1.1 } in
     let base : ◌≡◌ {A = List ℕ × List ℕ × List ℕ × ℕ} (a.reference, a.account, a.isin, a.quantity) (b.reference, b.account, b.isin, b.quantity) = cc in
     let both : ◌≡◌ {A = (x : List ℕ × List ℕ × List ℕ × ℕ) × kept x} ((a.reference, a.account, a.isin, a.quantity), (a.some, a.within)) ((b.reference, b.account, b.isin, b.quantity), (b.some, b.within)) = Σ_prop_path (λ x. hlevel props) base in
@@ -73,7 +74,7 @@ movement_same a b e0 e1 e2 e3 =
 
 pub payment_same : (a b : Payment) → a.reference ≡ b.reference → a.bic ≡ b.bic → a.ccy ≡ b.ccy → a.amount ≡ b.amount → a ≡ b
 payment_same a b e0 e1 e2 e3 =
-    let kept : List ℕ × List ℕ × Ccy × ℕ → Type 0 = λ x. (0 < x.3) × (x.3 ≤ 999_999_999_999_999_999) in
+    let kept : List ℕ × List ℕ × Ccy × ℕ → Type 0 = λ x. (0 < x.3) × (x.3 ≤ MOST_PAID) in
     let whole : ((x : List ℕ × List ℕ × Ccy × ℕ) × kept x) → Payment = λ s. record { reference = s.0.0; bic = s.0.1; ccy = s.0.2; amount = s.0.3; some = s.1.0; within = s.1.1 } in
     let base : ◌≡◌ {A = List ℕ × List ℕ × Ccy × ℕ} (a.reference, a.bic, a.ccy, a.amount) (b.reference, b.bic, b.ccy, b.amount) = cc in
     let both : ◌≡◌ {A = (x : List ℕ × List ℕ × Ccy × ℕ) × kept x} ((a.reference, a.bic, a.ccy, a.amount), (a.some, a.within)) ((b.reference, b.bic, b.ccy, b.amount), (b.some, b.within)) = Σ_prop_path (λ x. hlevel props) base in

@@ -15,7 +15,7 @@ use Rattle.desk_rules.specs.Balances.{is_delivered_by}
 use Rattle.desk_rules.specs.Sent.{Notice, told_of_pair, told_of_settled, told_by, notices_of, date_in, told, told_to, sent_from, sent_of}
 use Rattle.desk_rules.specs.Pairing.{IsPairing}
 use Rattle.desk_rules.specs.Settlement.{IsSettlement}
-use Rattle.desk_rules.specs.Verdict.{Books, AreBooks}
+use Rattle.desk_rules.specs.Books.{Books, AreBooks}
 use Rattle.desk_rules.proofs.Decided.{In, Contains-from_In}
 use Rattle.desk_rules.proofs.HistoryLemmas.{entry_at-front, instruction_at-front}
 use Rattle.desk_rules.proofs.PairingLaws.{pairs_front, settled_front}

@@ -12,7 +12,7 @@ use Rattle.desk_rules.specs.Balances.{is_delivered_by, deliverer_of, receiver_of
 use Rattle.desk_rules.specs.Pairing.{IsSide}
 use Rattle.desk_rules.specs.Settlement.{day_of}
 use Rattle.desk_rules.specs.Sent.{Notice, told_of_pair, told_of_settled, told_by, notices_of, told, told_to, sent_from}
-use Rattle.desk_rules.specs.Verdict.{Books, AreBooks}
+use Rattle.desk_rules.specs.Books.{Books, AreBooks}
 use Rattle.desk_rules.specs.Questions.{confirms_it, confirmation_of}
 use Rattle.desk_rules.proofs.Decided.{In, In-left, In-right, In-cases, In-from_Contains, Contains-from_In}
 use Rattle.desk_rules.proofs.PairingLaws.{one_pair_of, settled_once}
@@ -34,7 +34,7 @@ from_flat f (z ∷ xs) y i = elim (In-cases (f z) (flat_map f xs) y (subst (λ y
   | inr there ↦ let rest = from_flat f xs y there in (rest.0, inr rest.1, rest.2)
 ]
 
-in_range : (a n k : ℕ) → a ≤ k → k < a + n → In (range_with_len a n) k
+pub in_range : (a n k : ℕ) → a ≤ k → k < a + n → In (range_with_len a n) k
 in_range a zero k from below = absurd (omega arith)
 in_range a (suc n) k from below = elim (cases_Bool (a == k)) [
   | inl e ↦ inl (eqb-true a k e)

@@ -1,87 +1,125 @@
 -- A history has one settlement. It grows by runs alone, and a run takes the due pairs in order.
-use Rattle.std.proofs.Common.{◌≡◌, ℕ, ◌<◌, ◌≤◌, ◌⊎◌, inl, inr, true, ◌&&◌, ◌==◌, nat_lt, List, [], ◌∷◌, length, Option, Some, None, refl, sym, ◌∙◌, ap, arith}
+use Rattle.std.proofs.Common.{◌≡◌, ℕ, ◌+◌, Bool, ◌<◌, ◌≤◌, ◌⊎◌, inl, inr, true, ◌&&◌, ◌==◌, nat_lt, List, [], ◌∷◌, length, Option, Some, None, refl, sym, ◌∙◌, ap, arith}
 use Rattle.std.specs.Prelude.{option_and_then}
-use Rattle.std.proofs.lemmas.Bool.{cases_order, ltb-true, lt-ltb, eqb-true, eq-eqb, and_parts, and_from, or_cases, or_left, or_right}
+use Rattle.std.specs.List.{list_any}
+use Rattle.std.proofs.lemmas.Bool.{both_ways, cases_order, ltb-true, lt-ltb, eqb-true, eq-eqb, and_parts, and_from, or_cases, or_left, or_right}
 use Rattle.desk_rules.specs.declared.entry.Entry.{Entry}
 use Rattle.desk_rules.specs.declared.pair.Pair.{Pair}
 use Rattle.desk_rules.specs.declared.pair.Settled.{Settled}
 use Rattle.desk_rules.specs.declared.pair.Place.{Place}
 use Rattle.desk_rules.specs.History.{entry_at, before, run_day}
 use Rattle.desk_rules.specs.Pairing.{IsPairing}
-use Rattle.desk_rules.specs.Settlement.{day_of, is_sooner, precedes, settled_before, is_by, stands, is_due, Settles, IsSettlement, is_above}
+use Rattle.desk_rules.specs.Settlement.{day_of, place_of, is_sooner, is_passed_sooner, precedes, settled_before, is_by, stands, is_due, is_in_passes, begins, Settles, IsSettlement, is_above}
 use Rattle.desk_rules.proofs.Decided.{In, In-from_Contains, Contains-from_In, Ordered, Ordered-from_AllPairs, AllPairs-from_Ordered, IsStrict, IsTotalOn, Decided, one_list}
 use Rattle.desk_rules.proofs.HistoryLemmas.{entry_at-known}
 use Rattle.desk_rules.proofs.PairingLemmas.{lower}
+use Rattle.desk_rules.proofs.PlaceLemmas.{before_true, before_day, before_number, before_never, before_through}
+use Rattle.desk_rules.proofs.SideLemmas.{any-In, In-any}
 
 -- The order, in words of numbers.
 
 pub sooner_true : (h : List Entry) (p q : Pair) → is_sooner h p q ≡ true → (day_of h p < day_of h q) ⊎ ((day_of h p ≡ day_of h q) × (p.later < q.later))
-sooner_true h p q e = elim (or_cases (nat_lt (day_of h p) (day_of h q)) (day_of h p == day_of h q && nat_lt p.later q.later) e) [
-  | inl lt ↦ inl (ltb-true (day_of h p) (day_of h q) lt)
-  | inr both ↦ let parts = and_parts (day_of h p == day_of h q) (nat_lt p.later q.later) both in inr (eqb-true (day_of h p) (day_of h q) parts.0, ltb-true p.later q.later parts.1)
-]
+sooner_true h p q e = before_true (place_of h p) (place_of h q) e
 
 pub sooner_day : (h : List Entry) (p q : Pair) → day_of h p < day_of h q → is_sooner h p q ≡ true
-sooner_day h p q lt = or_left (nat_lt (day_of h p) (day_of h q)) _ (lt-ltb (day_of h p) (day_of h q) lt)
+sooner_day h p q lt = before_day (place_of h p) (place_of h q) lt
 
 pub sooner_number : (h : List Entry) (p q : Pair) → day_of h p ≡ day_of h q → p.later < q.later → is_sooner h p q ≡ true
-sooner_number h p q same lt = or_right (nat_lt (day_of h p) (day_of h q)) _ (and_from _ _ (eq-eqb (day_of h p) (day_of h q) same) (lt-ltb p.later q.later lt))
+sooner_number h p q same lt = before_number (place_of h p) (place_of h q) same lt
 
-pub precedes_true : (h : List Entry) (s t : Settled) → precedes h s t ≡ true → (s.run < t.run) ⊎ ((s.run ≡ t.run) × (is_sooner h s.pair t.pair ≡ true))
-precedes_true h s t e = elim (or_cases (nat_lt s.run t.run) (s.run == t.run && is_sooner h s.pair t.pair) e) [
+pub precedes_true : (h : List Entry) (s t : Settled) → precedes h s t ≡ true → (s.run < t.run) ⊎ ((s.run ≡ t.run) × ((s.pass < t.pass) ⊎ ((s.pass ≡ t.pass) × (is_sooner h s.pair t.pair ≡ true))))
+precedes_true h s t e = elim (or_cases (nat_lt s.run t.run) (s.run == t.run && is_passed_sooner h s t) e) [
   | inl lt ↦ inl (ltb-true s.run t.run lt)
-  | inr both ↦ let parts = and_parts (s.run == t.run) (is_sooner h s.pair t.pair) both in inr (eqb-true s.run t.run parts.0, parts.1)
+  | inr both ↦
+      let parts = and_parts (s.run == t.run) (is_passed_sooner h s t) both in
+      inr (
+        eqb-true s.run t.run parts.0,
+        elim (or_cases (nat_lt s.pass t.pass) (s.pass == t.pass && is_sooner h s.pair t.pair) parts.1) [
+          | inl lt ↦ inl (ltb-true s.pass t.pass lt)
+          | inr inner ↦ let these = and_parts (s.pass == t.pass) (is_sooner h s.pair t.pair) inner in inr (eqb-true s.pass t.pass these.0, these.1)
+        ],
+      )
 ]
 
 pub precedes_run : (h : List Entry) (s t : Settled) → s.run < t.run → precedes h s t ≡ true
 precedes_run h s t lt = or_left (nat_lt s.run t.run) _ (lt-ltb s.run t.run lt)
 
-pub precedes_pair : (h : List Entry) (s t : Settled) → s.run ≡ t.run → is_sooner h s.pair t.pair ≡ true → precedes h s t ≡ true
-precedes_pair h s t same e = or_right (nat_lt s.run t.run) _ (and_from _ _ (eq-eqb s.run t.run same) e)
+pub precedes_pass : (h : List Entry) (s t : Settled) → s.run ≡ t.run → s.pass < t.pass → precedes h s t ≡ true
+precedes_pass h s t same lt = or_right (nat_lt s.run t.run) _ (and_from _ _ (eq-eqb s.run t.run same) (or_left (nat_lt s.pass t.pass) _ (lt-ltb s.pass t.pass lt)))
+
+pub precedes_pair : (h : List Entry) (s t : Settled) → s.run ≡ t.run → s.pass ≡ t.pass → is_sooner h s.pair t.pair ≡ true → precedes h s t ≡ true
+precedes_pair h s t same pass e = or_right (nat_lt s.run t.run) _ (and_from _ _ (eq-eqb s.run t.run same) (or_right (nat_lt s.pass t.pass) _ (and_from _ _ (eq-eqb s.pass t.pass pass) e)))
 
 pub above_true : (h : List Entry) (place : Place) (p : Pair) → is_above h (Some place) p ≡ true → (place.day < day_of h p) ⊎ ((place.day ≡ day_of h p) × (place.number < p.later))
-above_true h place p e = elim (or_cases (nat_lt (place.day) (day_of h p)) (place.day == day_of h p && nat_lt place.number p.later) e) [
-  | inl lt ↦ inl (ltb-true _ _ lt)
-  | inr both ↦ let parts = and_parts (place.day == day_of h p) (nat_lt place.number p.later) both in inr (eqb-true _ _ parts.0, ltb-true _ _ parts.1)
-]
+above_true h place p e = before_true place (place_of h p) e
 
 pub above_day : (h : List Entry) (place : Place) (p : Pair) → place.day < day_of h p → is_above h (Some place) p ≡ true
-above_day h place p lt = or_left (nat_lt (place.day) (day_of h p)) _ (lt-ltb _ _ lt)
+above_day h place p lt = before_day place (place_of h p) lt
 
 pub above_number : (h : List Entry) (place : Place) (p : Pair) → place.day ≡ day_of h p → place.number < p.later → is_above h (Some place) p ≡ true
-above_number h place p same lt = or_right (nat_lt (place.day) (day_of h p)) _ (and_from _ _ (eq-eqb _ _ same) (lt-ltb _ _ lt))
+above_number h place p same lt = before_number place (place_of h p) same lt
 
 pub sooner_strict_never : (h : List Entry) (p : Pair) → is_sooner h p p ≡ true → ⊥
-sooner_strict_never h p e = elim (sooner_true h p p e) [ inl lt ↦ omega arith | inr both ↦ (let l : p.later < p.later = both.1 in omega arith) ]
+sooner_strict_never h p e = both_ways _ (before_never (place_of h p) (place_of h p) refl refl) e
 
 pub sooner_through : (h : List Entry) (p q r : Pair) → is_sooner h p q ≡ true → is_sooner h q r ≡ true → is_sooner h p r ≡ true
-sooner_through h p q r e f = elim (sooner_true h p q e) [
-  | inl a ↦ elim (sooner_true h q r f) [ inl b ↦ sooner_day h p r (omega arith) | inr b ↦ sooner_day h p r (let same : day_of h q ≡ day_of h r = b.0 in omega arith) ]
-  | inr a ↦
-      let same : day_of h p ≡ day_of h q = a.0 in
-      let less : p.later < q.later = a.1 in
-      elim (sooner_true h q r f) [
-        | inl b ↦ sooner_day h p r (omega arith)
-        | inr b ↦ (let as_well : day_of h q ≡ day_of h r = b.0 in let more : q.later < r.later = b.1 in sooner_number h p r (omega arith) (omega arith))
-      ]
-]
+sooner_through h p q r e f = before_through (place_of h p) (place_of h q) (place_of h r) e f
 
 pub precedes_strict : (h : List Entry) → IsStrict (precedes h)
 precedes_strict h = record {
-  never = λ s e. elim (precedes_true h s s e) [ inl lt ↦ omega arith | inr both ↦ sooner_strict_never h s.pair both.1 ];
+  never = λ s e. elim (precedes_true h s s e) [ inl lt ↦ omega arith | inr both ↦ elim both.1 [ inl lt ↦ omega arith | inr inner ↦ sooner_strict_never h s.pair inner.1 ] ];
   through = λ s t u e f. elim (precedes_true h s t e) [
     | inl a ↦ elim (precedes_true h t u f) [ inl b ↦ precedes_run h s u (omega arith) | inr b ↦ precedes_run h s u (let same : t.run ≡ u.run = b.0 in omega arith) ]
     | inr a ↦
         let same : s.run ≡ t.run = a.0 in
         elim (precedes_true h t u f) [
           | inl b ↦ precedes_run h s u (omega arith)
-          | inr b ↦ precedes_pair h s u (same ∙ b.0) (sooner_through h s.pair t.pair u.pair a.1 b.1)
+          | inr b ↦ elim a.1 [
+            | inl p ↦ elim b.1 [ inl q ↦ precedes_pass h s u (same ∙ b.0) (omega arith) | inr q ↦ precedes_pass h s u (same ∙ b.0) (let pass : t.pass ≡ u.pass = q.0 in omega arith) ]
+            | inr p ↦
+                let pass : s.pass ≡ t.pass = p.0 in
+                elim b.1 [ inl q ↦ precedes_pass h s u (same ∙ b.0) (omega arith) | inr q ↦ precedes_pair h s u (same ∙ b.0) (pass ∙ q.0) (sooner_through h s.pair t.pair u.pair p.1 q.1) ]
+          ]
         ]
   ];
 }
 
-pub settled_same : (s t : Settled) → s.run ≡ t.run → s.pair ≡ t.pair → s ≡ t
-settled_same s t a b = let f : ℕ → Pair → Settled = λ n p. record { run = n; pair = p } in ap (λ n. f n s.pair) a ∙ ap (λ p. f t.run p) b
+pub settled_same : (s t : Settled) → s.run ≡ t.run → s.pass ≡ t.pass → s.pair ≡ t.pair → s ≡ t
+settled_same s t a b c = let f : ℕ → ℕ → Pair → Settled = λ n k p. record { run = n; pass = k; pair = p } in ap (λ n. f n s.pass s.pair) a ∙ ap (λ k. f t.run k s.pair) b ∙ ap (λ p. f t.run t.pass p) c
+
+-- A pass that begins.
+
+-- what makes a further pass begin
+pub record Follows (h : List Entry) (settled : List Settled) (run pass : ℕ) : Type 0 where
+  pub allowed : is_in_passes h run ≡ true
+  pub member : Settled
+  pub inside : In settled member
+  pub run_is : member.run ≡ run
+  pub pass_is : member.pass + 1 ≡ pass
+
+pub begins_true : (h : List Entry) (settled : List Settled) (run pass : ℕ) → begins h settled run pass ≡ true → (pass ≡ 1) ⊎ Follows h settled run pass
+begins_true h settled run pass e = elim (or_cases (pass == 1) (is_in_passes h run && list_any (λ t. t.run == run && t.pass + 1 == pass) settled) e) [
+  | inl first ↦ inl (eqb-true pass 1 first)
+  | inr further ↦
+      let parts = and_parts (is_in_passes h run) (list_any (λ t. t.run == run && t.pass + 1 == pass) settled) further in
+      let found = In-any (λ t. t.run == run && t.pass + 1 == pass) settled parts.1 in
+      let t = found.0 in
+      let these = and_parts (t.run == run) (t.pass + 1 == pass) found.2 in
+      inr (record { allowed = parts.0; member = t; inside = found.1; run_is = eqb-true t.run run these.0; pass_is = eqb-true (t.pass + 1) pass these.1 })
+]
+
+pub begins_first : (h : List Entry) (settled : List Settled) (run pass : ℕ) → pass ≡ 1 → begins h settled run pass ≡ true
+begins_first h settled run pass first = or_left (pass == 1) _ (eq-eqb pass 1 first)
+
+pub begins_further : (h : List Entry) (settled : List Settled) (run pass : ℕ) → Follows h settled run pass → begins h settled run pass ≡ true
+begins_further h settled run pass f = or_right (pass == 1) _ (and_from _ _ f.allowed (any-In (λ t. t.run == run && t.pass + 1 == pass) settled f.member f.inside (and_from _ _ (eq-eqb f.member.run run f.run_is) (eq-eqb (f.member.pass + 1) pass f.pass_is))))
+
+-- a pass that begins after some settlements begins after others that have all of those
+pub begins_wider : (h : List Entry) (settled wider : List Settled) (run pass : ℕ) → ((s : Settled) → In settled s → In wider s) → begins h settled run pass ≡ true → begins h wider run pass ≡ true
+begins_wider h settled wider run pass sub e = elim (begins_true h settled run pass e) [
+  | inl first ↦ begins_first h wider run pass first
+  | inr f ↦ begins_further h wider run pass (record { allowed = f.allowed; member = f.member; inside = sub f.member f.inside; run_is = f.run_is; pass_is = f.pass_is })
+]
 
 -- What is due.
 
@@ -155,9 +193,12 @@ sooner_total h ps o p q i j = elim (cases_order (day_of h p) (day_of h q)) [
 
 settles_total : (h : List Entry) (ps : List Pair) → Ordered lower ps → IsTotalOn (precedes h) (Settles h ps)
 settles_total h ps o front s t a b = elim (cases_order s.run t.run) [
-  | inl same ↦ elim (sooner_total h ps o s.pair t.pair (In-from_Contains ps s.pair a.paired) (In-from_Contains ps t.pair b.paired)) [
-    | inl less ↦ inl (precedes_pair h s t same less)
-    | inr n ↦ elim n [ inl e ↦ inr (inl (settled_same s t same e)) | inr more ↦ inr (inr (precedes_pair h t s (sym same) more)) ]
+  | inl same ↦ elim (cases_order s.pass t.pass) [
+    | inl pass ↦ elim (sooner_total h ps o s.pair t.pair (In-from_Contains ps s.pair a.paired) (In-from_Contains ps t.pair b.paired)) [
+      | inl less ↦ inl (precedes_pair h s t same pass less)
+      | inr n ↦ elim n [ inl e ↦ inr (inl (settled_same s t same pass e)) | inr more ↦ inr (inr (precedes_pair h t s (sym same) (sym pass) more)) ]
+    ]
+    | inr d ↦ elim d [ inl less ↦ inl (precedes_pass h s t same less) | inr more ↦ inr (inr (precedes_pass h t s (sym same) more)) ]
   ]
   | inr d ↦ elim d [ inl less ↦ inl (precedes_run h s t less) | inr more ↦ inr (inr (precedes_run h t s more)) ]
 ]

@@ -4,7 +4,7 @@ use Rattle.std.specs.Fmt.{decimal}
 use Rattle.std.proofs.lemmas.Fmt.{decimal_by_steps}
 use Rattle.std.proofs.Math.Nat.{pow-succ', pow-le-pow_right}
 use Rattle.desk_codes.specs.declared.currency.Ccy.{Ccy}
-use Rattle.desk_codes.specs.declared.currency.Ccy.TheVariants.{Chf, Eur, Gbp, Jpy, Usd}
+use Rattle.desk_codes.specs.declared.currency.Ccy.TheVariants.{Chf, Eur, Gbp, Jpy, Kwd, Usd}
 use Rattle.desk_codes.specs.Currency.{decimals_of}
 use Rattle.desk_codes.specs.Number.{plain, fraction}
 
@@ -32,6 +32,11 @@ short_cents v small short =
     let lt : v / 10 ^ 2 < 10 ^ 14 = whole_bound (v / 10 ^ 2) 14 (omega arith) (whole_digits v 2 short) in
     omega arith
 
+short_thousandths : (v : ℕ) → v < 2 ^ 64 → length (plain v 3) ≤ 15 → v ≤ 10 ^ 18
+short_thousandths v small short =
+    let lt : v / 10 ^ 3 < 10 ^ 14 = whole_bound (v / 10 ^ 3) 14 (omega arith) (whole_digits v 3 short) in
+    omega arith
+
 pub short_quantity : (v : ℕ) → v < 2 ^ 64 → length (plain v 0) ≤ 15 → v ≤ 10 ^ 18
 short_quantity = short_whole
 
@@ -40,4 +45,5 @@ short_amount Chf v small short = short_cents v small short
 short_amount Eur v small short = short_cents v small short
 short_amount Gbp v small short = short_cents v small short
 short_amount Jpy v small short = short_whole v small short
+short_amount Kwd v small short = short_thousandths v small short
 short_amount Usd v small short = short_cents v small short

@@ -1,46 +1,50 @@
--- Right after an instruction was accepted it stands as its acceptance told.
+-- Right after a message was accepted it stands as its acceptance told.
 use Rattle.std.proofs.Common.{◌≡◌, zero, suc, ℕ, ◌+◌, ◌<◌, ◌≤◌, Bool, true, false, ◌||◌, List, [], ◌∷◌, ◌++◌, length, length-append, drop, inl, inr, ◌⊎◌, refl, sym, ◌∙◌, ap, subst, arith, if◌then◌else◌}
 use Rattle.std.proofs.lemmas.Bool.{cases_Bool, eqb-true}
 use Rattle.std.proofs.lemmas.List.{drop_all}
-use Rattle.std.specs.Prelude.{Some, None, ◌==◌, option_and_then}
+use Rattle.std.specs.Prelude.{Option, Some, None, ◌==◌, ◌&&◌, not, option_and_then}
 use Rattle.std.specs.List.{list_any}
+use Rattle.desk_msg.specs.declared.instruction.CancelOrder.{CancelOrder}
 use Rattle.desk_msg.specs.declared.instruction.Instruction.{Instruction}
 use Rattle.desk_msg.specs.declared.status.Reason.TheVariants.{Future}
 use Rattle.desk_rules.specs.declared.entry.Entry.{Entry}
-use Rattle.desk_rules.specs.declared.entry.Entry.TheVariants.{Instruct}
+use Rattle.desk_rules.specs.declared.entry.Entry.TheVariants.{Instruct, Cancel}
 use Rattle.desk_rules.specs.declared.entry.Sender.TheVariants.{Participant as FromParticipant}
 use Rattle.desk_rules.specs.declared.pair.Pair.{Pair}
 use Rattle.desk_rules.specs.declared.pair.Settled.{Settled}
-use Rattle.desk_rules.specs.declared.reply.State.TheVariants as states
+use Rattle.desk_rules.specs.declared.standing.State.{State}
+use Rattle.desk_rules.specs.declared.standing.State.TheVariants as states
 use Rattle.desk_rules.specs.declared.verdict.Verdict.TheVariants.{Accept}
-use Rattle.desk_rules.specs.History.{Instructed, entry_at, instructed, instruction_at, number_of_key}
-use Rattle.desk_rules.specs.Cancelled.{is_cancelled, is_cancelled_by}
-use Rattle.desk_rules.specs.Pairing.{has_side}
+use Rattle.desk_rules.specs.History.{Instructed, entry_at, instructed, instruction_at, number_of_key, sender_of, reference_of}
+use Rattle.desk_rules.specs.Cancelled.{is_cancel_requested, is_cancel_requested_by, is_cancelled_pair}
+use Rattle.desk_rules.specs.Pairing.{has_side, pair_of}
 use Rattle.desk_rules.specs.Settlement.{is_due}
-use Rattle.desk_rules.specs.Verdict.{Books, AreBooks, IsVerdict, is_participant, is_from_stranger, is_paired, is_settled}
+use Rattle.desk_rules.specs.Books.{Books, AreBooks, is_paired, is_settled}
+use Rattle.desk_rules.specs.Verdict.{IsVerdict, is_from_stranger}
+use Rattle.desk_rules.specs.Facts.{is_participant}
 use Rattle.desk_rules.specs.Reply.{reply_to}
-use Rattle.desk_rules.specs.Content.{pair_of, reason_below, matched_state, instruction_state, state_of}
-use Rattle.desk_rules.specs.Questions.{status_reply, named_reply, entry_reply, instruction_reply, refused_question}
+use Rattle.desk_rules.specs.Standing.{is_called_off, reason_below, open_state, instruction_state, state_of}
+use Rattle.desk_rules.specs.Questions.{status_reply, named_reply, entry_reply, message_reply, instruction_reply, refused_question}
 use Rattle.desk_rules.proofs.Decided.{In, Contains-from_In}
 use Rattle.desk_rules.proofs.PairingLemmas.{decided_pairing}
 use Rattle.desk_rules.proofs.SettlementLemmas.{due_facts, due_known, decided_settlement}
 use Rattle.desk_rules.proofs.AcceptedOnce.{is_new, number_behind, own_key, get_behind, no_stranger, never}
 
-none_any : {X : Type 0} (p : X → Bool) (xs : List X) → ((x : X) → In xs x → p x ≡ false) → list_any p xs ≡ false
+pub none_any : {X : Type 0} (p : X → Bool) (xs : List X) → ((x : X) → In xs x → p x ≡ false) → list_any p xs ≡ false
 none_any p [] none = refl
 none_any p (x ∷ xs) none = ap (λ b. b || list_any p xs) (none x (inl refl)) ∙ none_any p xs (λ y i. none y (inr i))
 
 -- the pair of a number, or that it is in none
-record HasPair (ps : List Pair) (n : ℕ) : Type 0 where
-  pair : Pair
-  member : In ps pair
-  is : pair_of ps n ≡ Some pair
-  paired : list_any (has_side n) ps ≡ true
-  side : (pair.earlier ≡ n) ⊎ (pair.later ≡ n)
+pub record HasPair (ps : List Pair) (n : ℕ) : Type 0 where
+  pub pair : Pair
+  pub member : In ps pair
+  pub is : pair_of ps n ≡ Some pair
+  pub paired : list_any (has_side n) ps ≡ true
+  pub side : (pair.earlier ≡ n) ⊎ (pair.later ≡ n)
 
-record HasNone (ps : List Pair) (n : ℕ) : Type 0 where
-  is : pair_of ps n ≡ None
-  alone : list_any (has_side n) ps ≡ false
+pub record HasNone (ps : List Pair) (n : ℕ) : Type 0 where
+  pub is : pair_of ps n ≡ None
+  pub alone : list_any (has_side n) ps ≡ false
 
 later_pair : (p : Pair) (ps : List Pair) (n : ℕ) → (p.earlier == n) ≡ false → (p.later == n) ≡ false → HasNone ps n ⊎ HasPair ps n → HasNone (p ∷ ps) n ⊎ HasPair (p ∷ ps) n
 later_pair p ps n e f (inl none) = inl (record {
@@ -55,7 +59,7 @@ later_pair p ps n e f (inr has) = inr (record {
   side = has.side;
 })
 
-pair_or_none : (ps : List Pair) (n : ℕ) → HasNone ps n ⊎ HasPair ps n
+pub pair_or_none : (ps : List Pair) (n : ℕ) → HasNone ps n ⊎ HasPair ps n
 pair_or_none [] n = inl (record { is = refl; alone = refl })
 pair_or_none (p ∷ ps) n = elim (cases_Bool (p.earlier == n)) [
   | inl e ↦ inr (record {
@@ -114,47 +118,81 @@ module _ (books : Books) (are : AreBooks books) (n : ℕ) (last : n ≡ length b
   reason_is_future p i side (suc m) = rw (untried p i side m) (reason_is_future p i side m)
 
   -- what is told of its state is the first case
-  case_told : (i : Instruction) → instruction_reply books n i (matched_state books (pair_of books.pairs n)) ≡ instruction_reply books n i (if is_paired books n then states.Matched Future else states.Unmatched)
+  case_told : (i : Instruction) → instruction_reply books n i (open_state books (pair_of books.pairs n)) ≡ instruction_reply books n i (if is_paired books n then states.Matched Future else states.Unmatched)
   case_told i = elim (pair_or_none books.pairs n) [
     | inl none ↦
-        ap (λ o. instruction_reply books n i (matched_state books o)) none.is
+        ap (λ o. instruction_reply books n i (open_state books o)) none.is
         ∙ sym (ap (λ b. instruction_reply books n i (if b then states.Matched Future else states.Unmatched)) none.alone)
     | inr has ↦
-        ap (λ o. instruction_reply books n i (matched_state books o)) has.is
+        ap (λ o. instruction_reply books n i (open_state books o)) has.is
         ∙ ap (λ reason. instruction_reply books n i (states.Matched reason)) (reason_is_future has.pair has.member has.side (length books.history + 1))
         ∙ sym (ap (λ b. instruction_reply books n i (if b then states.Matched Future else states.Unmatched)) has.paired)
   ]
 
-  state_told : (i : Instructed) → instruction_at books.history n ≡ Some i → state_of books n ≡ matched_state books (pair_of books.pairs n)
-  state_told i at =
+  uncancelled : (i : Instructed) → instruction_at books.history n ≡ Some i → is_cancel_requested books.history n ≡ false
+  uncancelled i at =
       let behind : drop n books.history ≡ [] = drop_all n books.history (omega (arith, last)) in
-      let stands : is_cancelled books.history n ≡ false = ap (λ entries. is_cancelled_by entries (instruction_at books.history n)) behind ∙ ap (is_cancelled_by []) at in
+      ap (λ entries. is_cancel_requested_by entries (instruction_at books.history n)) behind ∙ ap (is_cancel_requested_by []) at
+
+  stays : (i : Instructed) → instruction_at books.history n ≡ Some i → (p : Pair) → (p.earlier ≡ n) ⊎ (p.later ≡ n) → is_cancelled_pair books.history p ≡ false
+  stays i at p (inl e) = ap (λ b. b && is_cancel_requested books.history p.later) (ap (is_cancel_requested books.history) e ∙ uncancelled i at)
+  stays i at p (inr e) =
+      let later : is_cancel_requested books.history p.later ≡ false = ap (is_cancel_requested books.history) e ∙ uncancelled i at in
+      elim (cases_Bool (is_cancel_requested books.history p.earlier)) [
+        | inl t ↦ ap (λ b. b && is_cancel_requested books.history p.later) t ∙ later
+        | inr f ↦ ap (λ b. b && is_cancel_requested books.history p.later) f
+      ]
+
+  not_called_off : (i : Instructed) → instruction_at books.history n ≡ Some i → is_called_off books.history n (pair_of books.pairs n) ≡ false
+  not_called_off i at = elim (pair_or_none books.pairs n) [
+    | inl none ↦ ap (is_called_off books.history n) none.is ∙ uncancelled i at
+    | inr has ↦ ap (is_called_off books.history n) has.is ∙ stays i at has.pair has.side
+  ]
+
+  state_told : (i : Instructed) → instruction_at books.history n ≡ Some i → state_of books n ≡ open_state books (pair_of books.pairs n)
+  state_told i at =
       ap (instruction_state books n) at
-      ∙ ap (λ b. if b then states.Cancelled else (if is_settled books n then states.Settled else matched_state books (pair_of books.pairs n))) stands
-      ∙ ap (λ b. if b then states.Settled else matched_state books (pair_of books.pairs n)) unsettled
+      ∙ ap (λ b. if b then states.Settled else (if is_called_off books.history n (pair_of books.pairs n) then states.Cancelled else open_state books (pair_of books.pairs n))) unsettled
+      ∙ ap (λ b. if b then states.Cancelled else open_state books (pair_of books.pairs n)) (not_called_off i at)
 
 first_told : (books : Books) (sender : List ℕ) (i : Instruction) (b : Bool) (n : ℕ) → n ≡ length books.history → is_paired books n ≡ b
     → instruction_reply books n i (if b then states.Matched Future else states.Unmatched) ≡ reply_to books (Instruct sender i)
 first_told books sender i true n last paired = let is : is_paired books (length books.history) ≡ true = subst (λ m. is_paired books m ≡ true) last paired in rw is refl
 first_told books sender i false n last paired = let is : is_paired books (length books.history) ≡ false = subst (λ m. is_paired books m ≡ false) last paired in rw is refl
 
-pub stands_as_accepted : (limit : ℕ) (before books : Books) (sender : List ℕ) (i : Instruction) → AreBooks before → AreBooks books → IsVerdict limit before (Instruct sender i) Accept
-    → books.history ≡ before.history ++ Instruct sender i ∷ [] → status_reply books sender i.reference ≡ reply_to books (Instruct sender i)
-stands_as_accepted limit before books sender i earlier are accepted grown =
-    let entry : Entry = Instruct sender i in
+-- what is answered of a message right after it was accepted, by the entry that it is
+message_told : (limit : ℕ) (before books : Books) (sender : List ℕ) (entry : Entry) → sender_of entry ≡ FromParticipant sender → IsVerdict limit before entry Accept
+    → books.history ≡ before.history ++ entry ∷ []
+    → (n : ℕ) × (n ≡ length books.history) × (entry_at books.history n ≡ Some entry) × (status_reply books sender (reference_of entry) ≡ message_reply books n entry)
+message_told limit before books sender entry from accepted grown =
     let n = suc (length before.history) in
     let new = is_new limit before entry accepted in
     let last : n ≡ length books.history = omega (arith, length-append before.history (entry ∷ []), ap length grown) in
-    let stranger : is_from_stranger books.history (FromParticipant sender) ≡ false = ap (λ h. is_from_stranger h (FromParticipant sender)) grown ∙ no_stranger (FromParticipant sender) before.history (entry ∷ []) new.known in
+    let known_then : is_from_stranger before.history (FromParticipant sender) ≡ false = ap (is_from_stranger before.history) (sym from) ∙ new.known in
+    let stranger : is_from_stranger books.history (FromParticipant sender) ≡ false = ap (λ h. is_from_stranger h (FromParticipant sender)) grown ∙ no_stranger (FromParticipant sender) before.history (entry ∷ []) known_then in
     let known : is_participant books.history sender ≡ true = never (is_participant books.history sender) stranger in
-    let number = number_behind 1 (FromParticipant sender) i.reference before.history entry [] new.key (own_key entry) in
+    let number = number_behind 1 (sender_of entry) (reference_of entry) before.history entry [] new.key (own_key entry) in
     let e : 1 + length before.history ≡ suc (length before.history) = omega arith in
-    let key : number_of_key books.history (FromParticipant sender) i.reference ≡ Some n = ap (λ h. number_of_key h (FromParticipant sender) i.reference) grown ∙ number ∙ ap Some e in
-    let at : entry_at books.history n ≡ Some entry = ap (λ h. entry_at h n) grown ∙ get_behind before.history entry [] in
-    let told : instruction_at books.history n ≡ Some (record { sender = sender; instruction = i }) = ap (option_and_then instructed) at in
-    ap (λ b. if b then named_reply books (number_of_key books.history (FromParticipant sender) i.reference) else refused_question 10) known
-    ∙ ap (named_reply books) key
-    ∙ ap (entry_reply books n) at
-    ∙ ap (instruction_reply books n i) (state_told books are n last (record { sender = sender; instruction = i }) told)
-    ∙ case_told books are n last i
-    ∙ first_told books sender i (is_paired books n) n last refl
+    let key : number_of_key books.history (FromParticipant sender) (reference_of entry) ≡ Some n = ap (λ h. number_of_key h (FromParticipant sender) (reference_of entry)) grown ∙ ap (λ s. number_of_key (before.history ++ entry ∷ []) s (reference_of entry)) (sym from) ∙ number ∙ ap Some e in
+    let at : entry_at books.history n ≡ Some entry = ap (λ h. entry_at h n) grown ∙ get_behind before.history entry [] in (
+      n,
+      last,
+      at,
+      ap (λ b. if b then named_reply books (number_of_key books.history (FromParticipant sender) (reference_of entry)) else refused_question 10) known
+          ∙ ap (named_reply books) key
+          ∙ ap (entry_reply books n) at,
+    )
+
+pub instruction_stands : (limit : ℕ) (before books : Books) (sender : List ℕ) (i : Instruction) → AreBooks books → IsVerdict limit before (Instruct sender i) Accept
+    → books.history ≡ before.history ++ Instruct sender i ∷ [] → status_reply books sender i.reference ≡ reply_to books (Instruct sender i)
+instruction_stands limit before books sender i are accepted grown =
+    let m = message_told limit before books sender (Instruct sender i) refl accepted grown in
+    let told : instruction_at books.history m.0 ≡ Some (record { sender = sender; instruction = i }) = ap (option_and_then instructed) m.2 in
+    m.3
+    ∙ ap (instruction_reply books m.0 i) (state_told books are m.0 m.1 (record { sender = sender; instruction = i }) told)
+    ∙ case_told books are m.0 m.1 i
+    ∙ first_told books sender i (is_paired books m.0) m.0 m.1 refl
+
+pub cancellation_stands : (limit : ℕ) (before books : Books) (sender : List ℕ) (order : CancelOrder) → IsVerdict limit before (Cancel sender order) Accept
+    → books.history ≡ before.history ++ Cancel sender order ∷ [] → status_reply books sender order.reference ≡ reply_to books (Cancel sender order)
+cancellation_stands limit before books sender order accepted grown = let m = message_told limit before books sender (Cancel sender order) refl accepted grown in m.3

@@ -8,7 +8,7 @@ use Rattle.desk_msg.specs.MessageType.{is_delivery}
 use Rattle.desk_rules.specs.declared.entry.Movement.{Movement}
 use Rattle.desk_rules.specs.declared.entry.Payment.{Payment}
 use Rattle.desk_rules.specs.declared.entry.Entry.{Entry}
-use Rattle.desk_rules.specs.declared.entry.Entry.TheVariants.{Participant, Account, Security, Issue, Redeem, PayIn, PayOut, Instruct, Cancel, Run}
+use Rattle.desk_rules.specs.declared.entry.Entry.TheVariants.{Issue, Redeem, PayIn, PayOut}
 use Rattle.desk_rules.specs.declared.pair.Pair.{Pair}
 use Rattle.desk_rules.specs.declared.pair.Settled.{Settled}
 use Rattle.desk_rules.specs.History.{Instructed, instruction_at}
@@ -49,28 +49,12 @@ movement_on account isin m = quantity_if (bytes_eq m.account account) (movement_
 
 -- what an entry issues of a security, and redeems
 abbrev pub issued_by : (Movement → ℕ) → Entry → ℕ
-issued_by share (Participant reference bic) = 0
-issued_by share (Account reference bic account) = 0
-issued_by share (Security reference isin kind) = 0
 issued_by share (Issue movement) = share movement
-issued_by share (Redeem movement) = 0
-issued_by share (PayIn payment) = 0
-issued_by share (PayOut payment) = 0
-issued_by share (Instruct sender instruction) = 0
-issued_by share (Cancel sender order) = 0
-issued_by share (Run reference day) = 0
+issued_by share entry = 0
 
 abbrev pub redeemed_by : (Movement → ℕ) → Entry → ℕ
-redeemed_by share (Participant reference bic) = 0
-redeemed_by share (Account reference bic account) = 0
-redeemed_by share (Security reference isin kind) = 0
-redeemed_by share (Issue movement) = 0
 redeemed_by share (Redeem movement) = share movement
-redeemed_by share (PayIn payment) = 0
-redeemed_by share (PayOut payment) = 0
-redeemed_by share (Instruct sender instruction) = 0
-redeemed_by share (Cancel sender order) = 0
-redeemed_by share (Run reference day) = 0
+redeemed_by share entry = 0
 
 -- what was issued of a security, and redeemed
 abbrev pub issued : List Entry → List ℕ → ℕ
@@ -103,28 +87,12 @@ abbrev pub payment_of : List ℕ → Ccy → Payment → ℕ
 payment_of bic ccy p = quantity_if (bytes_eq p.bic bic) (payment_in ccy p)
 
 abbrev pub paid_in_by : (Payment → ℕ) → Entry → ℕ
-paid_in_by share (Participant reference bic) = 0
-paid_in_by share (Account reference bic account) = 0
-paid_in_by share (Security reference isin kind) = 0
-paid_in_by share (Issue movement) = 0
-paid_in_by share (Redeem movement) = 0
 paid_in_by share (PayIn payment) = share payment
-paid_in_by share (PayOut payment) = 0
-paid_in_by share (Instruct sender instruction) = 0
-paid_in_by share (Cancel sender order) = 0
-paid_in_by share (Run reference day) = 0
+paid_in_by share entry = 0
 
 abbrev pub paid_out_by : (Payment → ℕ) → Entry → ℕ
-paid_out_by share (Participant reference bic) = 0
-paid_out_by share (Account reference bic account) = 0
-paid_out_by share (Security reference isin kind) = 0
-paid_out_by share (Issue movement) = 0
-paid_out_by share (Redeem movement) = 0
-paid_out_by share (PayIn payment) = 0
 paid_out_by share (PayOut payment) = share payment
-paid_out_by share (Instruct sender instruction) = 0
-paid_out_by share (Cancel sender order) = 0
-paid_out_by share (Run reference day) = 0
+paid_out_by share entry = 0
 
 -- what was paid in in a currency, and paid out
 abbrev pub paid_in : List Entry → Ccy → ℕ

@@ -1,21 +1,17 @@
 -- What the confirmations among sent messages say of accounts and cash. `SayConfirmations` and the sums know the
--- messages' texts, types and addressees, and nothing of how they came about; `AccountFor` and `WasRead`, at the end,
--- speak of books.
+-- messages' texts, types and addressees, and nothing of how they came about; `AccountFor`, at the end, speaks of books.
 use Rattle.std.specs.Prelude.{◌≡◌, ℕ, ◌+◌, nat_le, Bool, false, not, ◌&&◌, MatchBool, List, [], ◌∷◌, bytes_eq, sum_by, Option, Some, None, Ok}
 use Rattle.desk_codes.specs.declared.currency.Ccy.{Ccy}
-use Rattle.desk_codes.specs.Day.{IsDay}
 use Rattle.desk_text.specs.Fields.{Found, IsBlock}
 use Rattle.desk_msg.specs.declared.mt.Mt.{Mt}
 use Rattle.desk_msg.specs.MessageType.{number_of_type, is_delivery}
-use Rattle.desk_msg.specs.declared.instruction.Message.TheVariants.{New}
-use Rattle.desk_msg.specs.Reads.{Reads}
-use Rattle.desk_msg.specs.Confirms.{Confirmed, Confirms}
-use Rattle.desk_rules.specs.declared.entry.Entry.{Entry}
-use Rattle.desk_rules.specs.declared.entry.Entry.TheVariants.{Run}
+use Rattle.desk_msg.specs.ConfirmationText.{confirming_type}
+use Rattle.desk_msg.specs.declared.confirmed.Confirmed.{Confirmed}
+use Rattle.desk_msg.specs.Confirms.{Confirms, confirmed_of}
 use Rattle.desk_rules.specs.declared.reply.Sent.{Sent}
-use Rattle.desk_rules.specs.History.{Instructed, entry_at, instruction_at}
+use Rattle.desk_rules.specs.History.{Instructed}
 use Rattle.desk_rules.specs.Balances.{same_ccy, quantity_if, movement_on, issued_by, redeemed_by, credits, debits, payment_of, paid_in_by, paid_out_by, cash_credits, cash_debits}
-use Rattle.desk_rules.specs.Verdict.{Books}
+use Rattle.desk_rules.specs.Books.{Books}
 
 -- a message is of one of the types 544 to 547
 abbrev pub is_confirmation : Sent → Bool
@@ -26,6 +22,10 @@ pub record Confirmation : Type 0 where
   pub mt : Mt
   pub bic : List ℕ
   pub confirmed : Confirmed
+
+-- what confirms that an instruction was settled on that day: to its sender, under its type
+abbrev pub confirmation_by : Instructed → List ℕ → Confirmation
+confirmation_by i day = record { mt = confirming_type i.instruction.mt; bic = i.sender; confirmed = confirmed_of i.instruction day }
 
 -- a message says this: its text is a block whose fields confirm it
 pub record SaysConfirmation (message : Sent) (confirmation : Confirmation) : Type 0 where
@@ -75,8 +75,3 @@ pub record AccountFor (books : Books) (confirmations : List Confirmation) : Type
   pub debited : (account isin : List ℕ) → debits books.history books.settled account isin ≡ sum_by (redeemed_by (movement_on account isin)) books.history + taken confirmations account isin
   pub paid : (bic : List ℕ) (ccy : Ccy) → cash_credits books.history books.settled bic ccy ≡ sum_by (paid_in_by (payment_of bic ccy)) books.history + cash_brought confirmations bic ccy
   pub paying : (bic : List ℕ) (ccy : Ccy) → cash_debits books.history books.settled bic ccy ≡ sum_by (paid_out_by (payment_of bic ccy)) books.history + cash_taken confirmations bic ccy
-
--- each instruction of a history was read from a message, and each run is of a day
-pub record WasRead (history : List Entry) : Type 0 where
-  pub instructions : (n : ℕ) (i : Instructed) → instruction_at history n ≡ Some i → (fields : List Found) × Reads i.instruction.mt fields (Ok (New i.instruction))
-  pub days : (n : ℕ) (reference day : List ℕ) → entry_at history n ≡ Some (Run reference day) → IsDay day

@@ -4,6 +4,8 @@ use Rattle.desk_codes.specs.Number.{number_of}
 use Rattle.desk_rules.specs.declared.entry.Sender.{Sender}
 use Rattle.desk_rules.specs.declared.entry.Sender.TheVariants.{Operator, Participant as FromParticipant}
 pub use Rattle.desk_rules.specs.declared.entry.Instructed.{Instructed}
+use Rattle.desk_rules.specs.declared.entry.RunRule.{RunRule}
+use Rattle.desk_rules.specs.declared.entry.RunRule.TheVariants.{OnePass}
 use Rattle.desk_rules.specs.declared.entry.Entry.{Entry}
 use Rattle.desk_rules.specs.declared.entry.Entry.TheVariants.{Participant, Account, Security, Issue, Redeem, PayIn, PayOut, Instruct, Cancel, Run}
 
@@ -18,16 +20,8 @@ before n history = take (n - 1) history
 
 -- what an entry instructs
 abbrev pub instructed : Entry → Option Instructed
-instructed (Participant reference bic) = None
-instructed (Account reference bic account) = None
-instructed (Security reference isin kind) = None
-instructed (Issue movement) = None
-instructed (Redeem movement) = None
-instructed (PayIn payment) = None
-instructed (PayOut payment) = None
 instructed (Instruct sender instruction) = Some (record { sender = sender; instruction = instruction })
-instructed (Cancel sender order) = None
-instructed (Run reference day) = None
+instructed entry = None
 
 -- the instruction of a number
 abbrev pub instruction_at : List Entry → ℕ → Option Instructed
@@ -35,29 +29,24 @@ instruction_at history n = option_and_then instructed (entry_at history n)
 
 -- the day of a run, as the number YYYYMMDD
 abbrev pub run_day : Entry → Option ℕ
-run_day (Participant reference bic) = None
-run_day (Account reference bic account) = None
-run_day (Security reference isin kind) = None
-run_day (Issue movement) = None
-run_day (Redeem movement) = None
-run_day (PayIn payment) = None
-run_day (PayOut payment) = None
-run_day (Instruct sender instruction) = None
-run_day (Cancel sender order) = None
-run_day (Run reference day) = Some (number_of day)
+run_day (Run reference day rule) = Some (number_of day)
+run_day entry = None
+
+-- the rule of a run
+abbrev pub run_rule : Entry → Option RunRule
+run_rule (Run reference day rule) = Some rule
+run_rule entry = None
+
+-- An entry as it was asked for: the rule of a run is no part of the command, and here is always the same.
+abbrev pub as_asked : Entry → Entry
+as_asked (Run reference day rule) = Run reference day OnePass
+as_asked entry = entry
 
 -- who sent an entry, and its reference
 abbrev pub sender_of : Entry → Sender
-sender_of (Participant reference bic) = Operator
-sender_of (Account reference bic account) = Operator
-sender_of (Security reference isin kind) = Operator
-sender_of (Issue movement) = Operator
-sender_of (Redeem movement) = Operator
-sender_of (PayIn payment) = Operator
-sender_of (PayOut payment) = Operator
 sender_of (Instruct sender instruction) = FromParticipant sender
 sender_of (Cancel sender order) = FromParticipant sender
-sender_of (Run reference day) = Operator
+sender_of entry = Operator
 
 abbrev pub reference_of : Entry → List ℕ
 reference_of (Participant reference bic) = reference
@@ -69,13 +58,12 @@ reference_of (PayIn payment) = payment.reference
 reference_of (PayOut payment) = payment.reference
 reference_of (Instruct sender instruction) = instruction.reference
 reference_of (Cancel sender order) = order.reference
-reference_of (Run reference day) = reference
+reference_of (Run reference day rule) = reference
 
 abbrev pub same_sender : Sender → Sender → Bool
 same_sender Operator Operator = true
-same_sender Operator (FromParticipant b) = false
-same_sender (FromParticipant a) Operator = false
 same_sender (FromParticipant a) (FromParticipant b) = bytes_eq a b
+same_sender a b = false
 
 -- an entry of this sender and reference
 abbrev pub has_key : Sender → List ℕ → Entry → Bool

@@ -3,23 +3,26 @@
 use Rattle.std.specs.Prelude.{ℕ, zero, suc, ◌==◌, Bool, ◌&&◌, if◌then◌else◌, List, ◌++◌, length, codes, decimal, bytes_eq, filter, slice_get, Option, Some, None}
 use Rattle.std.specs.List.{find}
 use Rattle.desk_msg.specs.declared.instruction.Instruction.{Instruction}
+use Rattle.desk_msg.specs.declared.mt.Mt.{Mt}
 use Rattle.desk_msg.specs.declared.status.Own.TheVariants.{Answer}
 use Rattle.desk_msg.specs.declared.status.Case.{Case}
 use Rattle.desk_msg.specs.declared.status.Case.TheVariants as cases
 use Rattle.desk_msg.specs.StatusText.{advice}
 use Rattle.desk_rules.specs.declared.entry.Entry.{Entry}
-use Rattle.desk_rules.specs.declared.entry.Entry.TheVariants.{Participant, Account, Security, Issue, Redeem, PayIn, PayOut, Instruct, Cancel, Run}
+use Rattle.desk_rules.specs.declared.entry.Entry.TheVariants.{Instruct, Cancel}
 use Rattle.desk_rules.specs.declared.entry.Sender.TheVariants.{Participant as FromParticipant}
 use Rattle.desk_rules.specs.declared.reply.Reply.{Reply}
 use Rattle.desk_rules.specs.declared.reply.Sent.{Sent}
-use Rattle.desk_rules.specs.declared.reply.State.{State}
-use Rattle.desk_rules.specs.declared.reply.State.TheVariants.{Plain, Unmatched, Matched, Cancelled, Settled}
+use Rattle.desk_rules.specs.declared.standing.State.{State}
+use Rattle.desk_rules.specs.declared.standing.State.TheVariants.{Plain, Unmatched, Matched, Cancelled, Settled}
 use Rattle.desk_rules.specs.History.{entry_at, number_of_key}
-use Rattle.desk_rules.specs.Verdict.{Books, is_participant}
-use Rattle.desk_rules.specs.Reply.{plain_reply, advice_reply}
+use Rattle.desk_rules.specs.Facts.{is_participant}
+use Rattle.desk_rules.specs.Books.{Books}
+use Rattle.desk_rules.specs.Standing.{state_of}
+use Rattle.desk_rules.specs.Verdict.{named_by}
+use Rattle.desk_rules.specs.Reply.{plain_reply, advice_reply, cancellation_case}
 use Rattle.desk_rules.specs.Sent.{sent_of}
 use Rattle.desk_rules.specs.Confirmations.{is_confirmation}
-use Rattle.desk_rules.specs.Content.{state_of}
 
 abbrev pub refused_question : ℕ → Reply
 refused_question number = plain_reply 422 (codes "refused " ++ decimal number)
@@ -36,30 +39,23 @@ confirms_it n message = is_confirmation message && message.about == n
 abbrev pub confirmation_of : Books → ℕ → Option Sent
 confirmation_of books n = find (confirms_it n) (sent_of books)
 
--- an advice of now
-abbrev pub standing_reply : Books → Instruction → Case → Reply
-standing_reply books i about = advice_reply 200 (advice (Answer (length books.history)) i.mt i.reference about)
+-- an advice of now, about the message of this type and reference
+abbrev pub standing_reply : Books → Mt → List ℕ → Case → Reply
+standing_reply books mt reference about = advice_reply 200 (advice (Answer (length books.history)) mt reference about)
 
 -- an instruction: how it stands now or, once it is settled, its confirmation exactly as it was sent
 abbrev pub instruction_reply : Books → ℕ → Instruction → State → Reply
 instruction_reply books n i Plain = refused_question 17
-instruction_reply books n i Unmatched = standing_reply books i cases.Unmatched
-instruction_reply books n i (Matched reason) = standing_reply books i (cases.Matched reason)
-instruction_reply books n i Cancelled = standing_reply books i cases.Cancelled
+instruction_reply books n i Unmatched = standing_reply books i.mt i.reference cases.Unmatched
+instruction_reply books n i (Matched reason) = standing_reply books i.mt i.reference (cases.Matched reason)
+instruction_reply books n i Cancelled = standing_reply books i.mt i.reference cases.Cancelled
 instruction_reply books n i Settled = shown (confirmation_of books n)
 
 -- a message of this number; no participant sends an entry of the operator
 abbrev pub message_reply : Books → ℕ → Entry → Reply
-message_reply books n (Participant reference bic) = refused_question 17
-message_reply books n (Account reference bic account) = refused_question 17
-message_reply books n (Security reference isin kind) = refused_question 17
-message_reply books n (Issue movement) = refused_question 17
-message_reply books n (Redeem movement) = refused_question 17
-message_reply books n (PayIn payment) = refused_question 17
-message_reply books n (PayOut payment) = refused_question 17
 message_reply books n (Instruct sender i) = instruction_reply books n i (state_of books n)
-message_reply books n (Cancel sender order) = advice_reply 200 (advice (Answer (length books.history)) order.mt order.reference cases.CancelDone)
-message_reply books n (Run reference day) = refused_question 17
+message_reply books n (Cancel sender order) = standing_reply books order.mt order.reference (cancellation_case books (named_by books.history sender order))
+message_reply books n entry = refused_question 17
 
 abbrev pub entry_reply : Books → ℕ → Option Entry → Reply
 entry_reply books n None = refused_question 17

@@ -8,13 +8,13 @@ use Rattle.desk_msg.specs.MessageType.{number_of_type}
 use Rattle.desk_msg.specs.StatusText.{advice}
 use Rattle.desk_msg.specs.ConfirmationText.{confirming_type, confirmation}
 use Rattle.desk_rules.specs.declared.entry.Entry.{Entry}
-use Rattle.desk_rules.specs.declared.entry.Entry.TheVariants.{Participant, Account, Security, Issue, Redeem, PayIn, PayOut, Instruct, Cancel, Run}
+use Rattle.desk_rules.specs.declared.entry.Entry.TheVariants.{Run}
 use Rattle.desk_rules.specs.declared.pair.Pair.{Pair}
 use Rattle.desk_rules.specs.declared.pair.Settled.{Settled}
 use Rattle.desk_rules.specs.declared.reply.Sent.{Sent}
 use Rattle.desk_rules.specs.History.{Instructed, entry_at, instruction_at}
 use Rattle.desk_rules.specs.Balances.{deliverer_of, receiver_of}
-use Rattle.desk_rules.specs.Verdict.{Books}
+use Rattle.desk_rules.specs.Books.{Books}
 
 -- Something to be told of an instruction: that it was paired, or that a run settled it.
 pub record Notice : Type 0 where
@@ -40,16 +40,8 @@ notices_of books = flat_map (told_by books) (range_with_len 1 (length books.hist
 
 -- the eight digits of a run's day
 abbrev pub date_by : Entry → List ℕ
-date_by (Participant reference bic) = []
-date_by (Account reference bic account) = []
-date_by (Security reference isin kind) = []
-date_by (Issue movement) = []
-date_by (Redeem movement) = []
-date_by (PayIn payment) = []
-date_by (PayOut payment) = []
-date_by (Instruct sender instruction) = []
-date_by (Cancel sender order) = []
-date_by (Run reference day) = day
+date_by (Run reference day rule) = day
+date_by entry = []
 
 abbrev pub date_in : Option Entry → List ℕ
 date_in None = []

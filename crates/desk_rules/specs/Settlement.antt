@@ -1,13 +1,16 @@
--- Which pairs the runs of a history settle. A run makes one pass over the due pairs. (Where a run is to make
--- further passes, the order of the list gets the pass after the run, and nothing else changes.)
-use Rattle.std.specs.Prelude.{◌≡◌, ◌≢◌, ℕ, ◌<◌, ◌↔◌, nat_lt, nat_le, ◌==◌, Bool, true, false, not, ◌&&◌, ◌||◌, List, Contains, AllPairs, filter, Option, Some, None, option_and_then}
+-- Which pairs the runs of a history settle. A run goes over the due pairs in passes: once under the rule of one
+-- pass, else again as long as a pass settles some pair.
+use Rattle.std.specs.Prelude.{◌≡◌, ◌≢◌, ℕ, ◌↔◌, ◌+◌, nat_lt, nat_le, ◌==◌, Bool, true, false, not, ◌&&◌, ◌||◌, if◌then◌else◌, List, [], ◌∷◌, count_by, Contains, AllPairs, filter, Option, Some, None, option_and_then}
+use Rattle.std.specs.List.{list_any}
 use Rattle.desk_codes.specs.Number.{number_of}
 use Rattle.desk_rules.specs.declared.entry.Entry.{Entry}
+use Rattle.desk_rules.specs.declared.entry.RunRule.{RunRule}
+use Rattle.desk_rules.specs.declared.entry.RunRule.TheVariants.{OnePass, Passes}
 use Rattle.desk_rules.specs.declared.pair.Pair.{Pair}
 use Rattle.desk_rules.specs.declared.pair.Settled.{Settled}
 use Rattle.desk_rules.specs.declared.pair.Place.{Place}
-use Rattle.desk_rules.specs.History.{Instructed, before, entry_at, instruction_at, run_day}
-use Rattle.desk_rules.specs.Cancelled.{is_cancelled}
+use Rattle.desk_rules.specs.History.{Instructed, before, entry_at, instruction_at, run_day, run_rule}
+use Rattle.desk_rules.specs.Cancelled.{is_cancelled_pair}
 use Rattle.desk_rules.specs.Covered.{is_covered}
 
 abbrev pub instructed_day : Option Instructed → ℕ
@@ -18,13 +21,23 @@ instructed_day (Some i) = number_of i.instruction.day
 abbrev pub day_of : List Entry → Pair → ℕ
 day_of history p = instructed_day (instruction_at history p.later)
 
--- the order in which a run takes pairs: by settlement day, then by number
-abbrev pub is_sooner : List Entry → Pair → Pair → Bool
-is_sooner history p q = nat_lt (day_of history p) (day_of history q) || (day_of history p == day_of history q && nat_lt p.later q.later)
+-- the place of a pair
+abbrev pub place_of : List Entry → Pair → Place
+place_of history p = record { day = day_of history p; number = p.later }
 
--- the order of settlement: by run, then in the order of the run
+-- the order in which a pass takes pairs: by settlement day, then by number
+abbrev pub is_before : Place → Place → Bool
+is_before a b = nat_lt a.day b.day || (a.day == b.day && nat_lt a.number b.number)
+
+abbrev pub is_sooner : List Entry → Pair → Pair → Bool
+is_sooner history p q = is_before (place_of history p) (place_of history q)
+
+-- the order of settlement: by run, then by pass, then in the order of the pass
+abbrev pub is_passed_sooner : List Entry → Settled → Settled → Bool
+is_passed_sooner history s t = nat_lt s.pass t.pass || (s.pass == t.pass && is_sooner history s.pair t.pair)
+
 abbrev pub precedes : List Entry → Settled → Settled → Bool
-precedes history s t = nat_lt s.run t.run || (s.run == t.run && is_sooner history s.pair t.pair)
+precedes history s t = nat_lt s.run t.run || (s.run == t.run && is_passed_sooner history s t)
 
 -- what is settled before s
 abbrev pub settled_before : List Entry → Settled → List Settled → List Settled
@@ -34,51 +47,78 @@ abbrev pub is_by : Option ℕ → ℕ → Bool
 is_by None day = false
 is_by (Some run) day = nat_le day run
 
--- neither side of a pair was cancelled
+-- a pair is not cancelled
 abbrev pub stands : List Entry → Pair → Bool
-stands history p = not (is_cancelled history p.earlier) && not (is_cancelled history p.later)
+stands history p = not (is_cancelled_pair history p)
 
--- a pair is due in a run: it is numbered below the run and due by its day, and neither side was cancelled
+-- a pair is due in a run: it is numbered below the run and due by its day, and was not cancelled before the run
 abbrev pub is_due : List Entry → ℕ → Pair → Bool
 is_due history run p =
     is_by (option_and_then run_day (entry_at history run)) (day_of history p) && nat_lt p.later run && stands (before run history) p
 
--- a pair is in none of these settlements, of runs below this one
-abbrev pub IsUnsettled : List Settled → ℕ → Pair → Type 0
-IsUnsettled settled run p = (s : Settled) → Contains settled s → s.run < run → s.pair ≢ p
+-- a pair is in none of these settlements
+abbrev pub IsUnsettled : List Settled → Pair → Type 0
+IsUnsettled settled p = (s : Settled) → Contains settled s → s.pair ≢ p
 
--- After these settlements a run settles a pair: it is due, in no earlier run, and covered by the entries before
--- the run and by what is settled before it.
+-- a run has the rule that lets it make further passes
+abbrev pub allows_more : Option RunRule → Bool
+allows_more None = false
+allows_more (Some OnePass) = false
+allows_more (Some Passes) = true
+
+abbrev pub is_in_passes : List Entry → ℕ → Bool
+is_in_passes history run = allows_more (option_and_then run_rule (entry_at history run))
+
+-- After these settlements a pass of a run begins: it is the first, or the run's rule lets it make further passes
+-- and the pass before it settled some pair.
+abbrev pub begins : List Entry → List Settled → ℕ → ℕ → Bool
+begins history settled run pass = pass == 1 || (is_in_passes history run && list_any (λ t. t.run == run && t.pass + 1 == pass) settled)
+
+-- After these settlements a pass of a run settles a pair: the pass begins, and the pair is due, not yet settled, and
+-- covered by the entries before the run and by what is settled before it.
 pub record Settles (history : List Entry) (pairs : List Pair) (settled : List Settled) (s : Settled) : Type 0 where
   pub paired : Contains pairs s.pair
   pub due : is_due history s.run s.pair ≡ true
-  pub unsettled : IsUnsettled settled s.run s.pair
+  pub begun : begins history settled s.run s.pass ≡ true
+  pub unsettled : IsUnsettled settled s.pair
   pub covered : is_covered (before s.run history) settled s.pair ≡ true
 
 -- The one list of settlements, in their order, in which one stands exactly when what stands before it lets the
--- run settle the pair.
+-- pass of the run settle the pair.
 pub record IsSettlement (history : List Entry) (pairs : List Pair) (settled : List Settled) : Type 0 where
   pub exact : (s : Settled) → Contains settled s ↔ Settles history pairs (settled_before history s settled) s
   pub in_order : AllPairs (λ s t. precedes history s t ≡ true) settled
 
--- the place of a pair
-abbrev pub place_of : List Entry → Pair → Place
-place_of history p = record { day = day_of history p; number = p.later }
+-- a place is past another one, or past none
+abbrev pub is_past : Option Place → Place → Bool
+is_past None place = true
+is_past (Some last) place = is_before last place
 
--- a pair is above a place in the order of a run; with no place every pair is
+-- a pair is past a place, in the order of a pass
 abbrev pub is_above : List Entry → Option Place → Pair → Bool
-is_above history None p = true
-is_above history (Some place) p =
-    nat_lt (place.day) (day_of history p) || (place.day == day_of history p && nat_lt place.number p.later)
+is_above history last p = is_past last (place_of history p)
 
--- a pair that the run may yet settle: above the place, due, and in no earlier run
+-- a pair that the pass may yet settle: above the place, due, and not yet settled
 pub record IsOpen (history : List Entry) (pairs : List Pair) (settled : List Settled) (run : ℕ) (place : Option Place) (p : Pair) : Type 0 where
   pub paired : Contains pairs p
   pub due : is_due history run p ≡ true
-  pub unsettled : IsUnsettled settled run p
+  pub unsettled : IsUnsettled settled p
   pub above : is_above history place p ≡ true
 
--- the next pair that the run takes: the least of the open ones
+-- the next pair that the pass takes: the least of the open ones
 pub record IsNext (history : List Entry) (pairs : List Pair) (settled : List Settled) (run : ℕ) (place : Option Place) (p : Pair) : Type 0 where
   pub is_open : IsOpen history pairs settled run place p
   pub least : (q : Pair) → IsOpen history pairs settled run place q → is_sooner history q p ≡ false
+
+-- the number of a run's last pass that settled some pair; 0 where none did
+abbrev pub last_pass : List Settled → ℕ → ℕ
+last_pass [] run = 0
+last_pass (s ∷ settled) run = if s.run == run && nat_lt (last_pass settled run) s.pass then s.pass else last_pass settled run
+
+-- how many passes a run made: those that settled some pair, and under the rule of passes the one after them
+abbrev pub passes_of : List Entry → List Settled → ℕ → ℕ
+passes_of history settled run = if is_in_passes history run then last_pass settled run + 1 else 1
+
+-- how many pairs a run settled
+abbrev pub settled_count : List Settled → ℕ → ℕ
+settled_count settled run = count_by (λ s. s.run == run) settled

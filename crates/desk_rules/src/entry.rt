@@ -1,11 +1,9 @@
 //! What the desk's history is made of.
 ghost use Rattle.std.specs.Prelude.{◌<◌, ◌≤◌};
+ghost use Rattle.desk_rules.specs.declared.limits.TheConstants.{MOST_PAID, MOST_QUANTITY};
 
 use desk_codes::{AccountId, Bic, Ccy, Day, Isin, Reference};
 use desk_msg::{CancelOrder, Cash, Instruction, Kind, Mt};
-
-/// The most of a security that one command puts on an account or takes off it, in units or by face amount.
-pub const MOST_QUANTITY: u64 = 99_999_999_999_999;
 
 /// Who a command is from. All commands of the operator share one sender.
 #[derive(Clone, Copy, Debug, PartialEq, Eq)]
@@ -31,7 +29,7 @@ pub struct Movement {
     /// 1 to `MOST_QUANTITY`
     pub quantity: u64,
     ghost some: { 0 < quantity },
-    ghost within: { quantity ≤ 99_999_999_999_999 },
+    ghost within: { quantity ≤ MOST_QUANTITY },
 }
 
 /// So much cash paid in by a participant, or paid out to it.
@@ -40,10 +38,19 @@ pub struct Payment {
     pub reference: Reference,
     pub bic: Bic,
     pub ccy: Ccy,
-    /// 1 to 999,999,999,999,999,999, in minor units
+    /// 1 to `MOST_PAID`, in minor units
     pub amount: u64,
     ghost some: { 0 < amount },
-    ghost within: { amount ≤ 999_999_999_999_999_999 },
+    ghost within: { amount ≤ MOST_PAID },
+}
+
+/// How often a run goes over the due pairs.
+#[derive(Clone, Copy, Debug, PartialEq, Eq)]
+pub enum RunRule {
+    /// Once
+    OnePass,
+    /// Again and again, until a pass settles nothing
+    Passes,
 }
 
 /// A command, to be decided on or accepted: of the operator, or a message of a participant.
@@ -84,9 +91,10 @@ pub enum Entry {
         sender: Bic,
         order: CancelOrder,
     },
-    /// A settlement run for the pairs due by a day
+    /// A settlement run for the pairs due by a day. Its rule is no part of the command: the desk gives it.
     Run {
         reference: Reference,
         day: Day,
+        rule: RunRule,
     },
 }

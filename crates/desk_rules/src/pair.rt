@@ -12,6 +12,8 @@ pub struct Pair {
 pub struct Settled {
     /// The run's entry number
     pub run: u64,
+    /// The run's pass that settled it: 1, 2, ..
+    pub pass: u64,
     pub pair: Pair,
 }
 

@@ -1,9 +1,10 @@
 //! What the desk answers, and what it sends.
-ghost use Rattle.std.specs.Prelude.{◌≡◌};
+ghost use Rattle.std.specs.Prelude.{◌≡◌, IfOk};
 
 use crate::entry::Entry;
 use desk_codes::Bic;
 use desk_msg::Reason;
+use std::alloc::{AllocError, Global};
 use std::marker::Model;
 
 /// A text of the desk's own.
@@ -54,6 +55,20 @@ pub struct Reply {
     pub text: Text,
 }
 
+impl Reply {
+    /// The reply once more.
+    pub fn try_clone(&self, alloc: Global) -> Result<Reply, AllocError>
+        ensures { IfOk result (λ copy. copy ≡ self.now) }
+    {
+        let bytes = Vec::from_slice(alloc, self.text.as_bytes())?;
+        Ok(Reply {
+            status: self.status,
+            mt: self.mt,
+            text: Text::new(bytes),
+        })
+    }
+}
+
 /// An accepted entry, and the reply that it got.
 #[derive(Debug, Drop)]
 pub struct Kept {
@@ -71,16 +86,4 @@ pub struct Sent {
     /// The number of the instruction that it is about
     pub about: u64,
     pub text: Text,
-}
-
-/// Where an entry stands.
-#[derive(Clone, Copy, Debug, PartialEq, Eq)]
-pub enum State {
-    /// It is no instruction.
-    Plain,
-    Unmatched,
-    /// Paired and not settled, for this reason
-    Matched(Reason),
-    Cancelled,
-    Settled,
 }

@@ -1,6 +1,7 @@
 //! Whether two values have the same content. Written out for its contract, by which such values are one: where a type
 //! keeps conditions, that rests on a condition having one proof (proofs/SameContent.antt).
 ghost use Rattle.std.specs.Prelude.{◌≡◌, ◌↔◌, IsTrue};
+ghost use Rattle.desk_rules.specs.History.{as_asked};
 
 use crate::entry::{Entry, Movement, Payment};
 use desk_msg::{CancelOrder, Cash, Instruction};
@@ -100,9 +101,9 @@ fn same_instruction(a: Instruction, b: Instruction) -> bool
     same_cash(a.cash, b.cash)
 }
 
-/// Whether two entries are the same command with the same content.
+/// Whether two entries are the same command with the same content. The rule of a run is no part of the command.
 pub fn same_entry(a: &Entry, b: &Entry) -> bool
-    ensures { IsTrue result ↔ (a.now ≡ b.now) }
+    ensures { IsTrue result ↔ (as_asked a.now ≡ as_asked b.now) }
 {
     match (a, b) {
         (
@@ -158,10 +159,11 @@ pub fn same_entry(a: &Entry, b: &Entry) -> bool
             },
         ) => sender == s && same_order(*order, *o),
         (
-            Entry::Run { reference, day },
+            Entry::Run { reference, day, .. },
             Entry::Run {
                 reference: r,
                 day: d,
+                ..
             },
         ) => reference == r && day == d,
         _ => false,

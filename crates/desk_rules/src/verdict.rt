@@ -1,6 +1,6 @@
 //! What the desk decides on an entry.
 ghost use Rattle.std.specs.Prelude.{◌≡◌, ◌≤◌};
-ghost use Rattle.desk_rules.specs.Verdict.{number_of_refusal};
+ghost use Rattle.desk_rules.specs.Refusals.{number_of_refusal};
 
 /// Why an entry is refused.
 #[derive(Clone, Copy, Debug, PartialEq, Eq)]
@@ -25,10 +25,10 @@ pub enum Refusal {
     AlreadyCancelled,
     /// The instruction's pair was settled.
     AlreadySettled,
-    /// The instruction is paired.
-    AlreadyMatched,
     /// The desk holds all the entries that it may.
     Full,
+    /// A cancellation of the instruction waits for one of its counterparty.
+    CancellationWaits,
     /// The operator used the reference for another command.
     CommandReused,
     /// The participant, account or security is there.
@@ -48,7 +48,7 @@ pub enum Refusal {
 }
 
 impl Refusal {
-    /// Its number: 10 to 21 of messages, 31 to 38 and 21 of commands.
+    /// Its number: 10 to 22 of messages, 31 to 38 and 21 of commands.
     pub fn number(self) -> u8
         ensures number { result ≡ number_of_refusal self }
         ensures two_digits { result ≤ 99 }
@@ -64,8 +64,8 @@ impl Refusal {
             Refusal::NoSuchInstruction => 17,
             Refusal::AlreadyCancelled => 18,
             Refusal::AlreadySettled => 19,
-            Refusal::AlreadyMatched => 20,
             Refusal::Full => 21,
+            Refusal::CancellationWaits => 22,
             Refusal::CommandReused => 31,
             Refusal::Exists => 32,
             Refusal::ParticipantUnknown => 33,

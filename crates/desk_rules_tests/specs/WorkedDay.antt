@@ -10,12 +10,13 @@ use Rattle.desk_msg.specs.declared.instruction.Cash.{Cash}
 use Rattle.desk_msg.specs.declared.instruction.Kind.TheVariants.{Unit as Units}
 use Rattle.desk_msg.specs.declared.instruction.Instruction.{Instruction}
 use Rattle.desk_msg.specs.declared.instruction.CancelOrder.{CancelOrder}
+use Rattle.desk_rules.specs.declared.entry.RunRule.TheVariants.{Passes}
 use Rattle.desk_rules.specs.declared.entry.Movement.{Movement}
 use Rattle.desk_rules.specs.declared.entry.Payment.{Payment}
 use Rattle.desk_rules.specs.declared.entry.Entry.{Entry}
 use Rattle.desk_rules.specs.declared.entry.Entry.TheVariants.{Participant, Account, Security, Issue, PayIn, Instruct, Cancel, Run}
 use Rattle.desk_rules.specs.declared.pair.Pair.{Pair}
-use Rattle.desk_rules.specs.Verdict.{Books}
+use Rattle.desk_rules.specs.Books.{Books}
 use Rattle.desk_rules.specs.Confirmations.{Confirmation}
 
 abbrev pub alpha : List ℕ
@@ -99,7 +100,7 @@ history =
     ∷ PayIn (payment (codes "M1") beta 100_050 (lit< tt) (lit≤ tt))
     ∷ Instruct alpha delivery
     ∷ Instruct beta receipt
-    ∷ Run (codes "R1") leap_day
+    ∷ Run (codes "R1") leap_day Passes
     ∷ []
 
 abbrev pub pair : Pair
@@ -113,12 +114,12 @@ abbrev pub at_receipt : Books
 at_receipt = record { history = take 9 history; pairs = pair ∷ []; settled = [] }
 
 abbrev pub at_run : Books
-at_run = record { history = history; pairs = pair ∷ []; settled = record { run = 10; pair = pair } ∷ [] }
+at_run = record { history = history; pairs = pair ∷ []; settled = record { run = 10; pass = 1; pair = pair } ∷ [] }
 
 -- the same day with a cent less: the run finds too little cash
 abbrev pub at_short_run : Books
 at_short_run = record {
-  history = take 6 history ++ PayIn (payment (codes "M1") beta 100_049 (lit< tt) (lit≤ tt)) ∷ Instruct alpha delivery ∷ Instruct beta receipt ∷ Run (codes "R1") leap_day ∷ [];
+  history = take 6 history ++ PayIn (payment (codes "M1") beta 100_049 (lit< tt) (lit≤ tt)) ∷ Instruct alpha delivery ∷ Instruct beta receipt ∷ Run (codes "R1") leap_day Passes ∷ [];
   pairs = pair ∷ [];
   settled = [];
 }
@@ -132,6 +133,36 @@ cancel_as_free reference previous = record { mt = Mt542; reference = reference; 
 
 abbrev pub at_cancel : Books
 at_cancel = record { history = take 8 history ++ Cancel alpha (cancel (codes "X1") (codes "A1")) ∷ []; pairs = []; settled = [] }
+
+-- a cancellation of the receipt by BETADEFF
+abbrev pub cancel_receipt : List ℕ → CancelOrder
+cancel_receipt reference = record { mt = Mt541; reference = reference; previous = codes "B1"; instructs = refl }
+
+-- the pair, with a cancellation that names its delivery, and with one more that names its receipt
+abbrev pub at_asked : Books
+at_asked = record { history = take 9 history ++ Cancel alpha (cancel (codes "X1") (codes "A1")) ∷ []; pairs = pair ∷ []; settled = [] }
+
+abbrev pub at_both_asked : Books
+at_both_asked = record {
+  history = take 9 history ++ Cancel alpha (cancel (codes "X1") (codes "A1")) ∷ Cancel beta (cancel_receipt (codes "X2")) ∷ [];
+  pairs = pair ∷ [];
+  settled = [];
+}
+
+-- runs after these: one side's request leaves the pair to settle, both sides' cancel it
+abbrev pub at_asked_run : Books
+at_asked_run = record {
+  history = take 9 history ++ Cancel alpha (cancel (codes "X1") (codes "A1")) ∷ Run (codes "R1") leap_day Passes ∷ [];
+  pairs = pair ∷ [];
+  settled = record { run = 11; pass = 1; pair = pair } ∷ [];
+}
+
+abbrev pub at_cancelled_run : Books
+at_cancelled_run = record {
+  history = take 9 history ++ Cancel alpha (cancel (codes "X1") (codes "A1")) ∷ Cancel beta (cancel_receipt (codes "X2")) ∷ Run (codes "R1") leap_day Passes ∷ [];
+  pairs = pair ∷ [];
+  settled = [];
+}
 
 -- what the confirmations of the day say
 abbrev pub confirmations : List Confirmation

@@ -8,18 +8,20 @@
 //! laws above them are in `laws`. specs/Seen.antt says how contracts see what was read.
 #![tactic(auto)]
 
-pub mod faults;
-pub mod fields;
-pub mod laws;
-pub mod lines;
-pub mod parts;
-pub mod reading;
-pub mod spelling;
-pub mod writing;
+mod faults;
+mod fields;
+mod laws;
+mod lines;
+mod parts;
+mod reading;
+mod spelling;
+mod writing;
 
 pub use faults::TextFault;
 pub use fields::{Block, Field};
+pub use laws::{line_ends, one_fault, one_line, one_tree, parts_add_up, reads_back, right_lines};
+pub use lines::{Line, read_line};
 pub use parts::{BlockPart, write_block};
-pub use reading::read_block;
-pub use spelling::{is_name, is_tag, is_value};
+pub use reading::{DEEPEST, LONGEST_TEXT, read_block};
+pub use spelling::{LONGEST_NAME, is_name, is_tag, is_value};
 pub use writing::BlockWriter;

@@ -1,8 +1,8 @@
 //! Reading a block.
-ghost use Rattle.std.specs.Prelude.{◌≡◌, ◌+◌, ◌≤◌, ◌<◌, ◌^◌, [], ◌∷◌, OnOk, false, length, map};
+ghost use Rattle.std.specs.Prelude.{◌≡◌, ◌+◌, ◌≤◌, ◌<◌, ◌^◌, [], ◌∷◌, OnOk, IsErrOf, false, length, map};
 ghost use Rattle.desk_text.specs.Lines.{lines_of};
 ghost use Rattle.desk_text.specs.Reading.{sign_of, read_from, read_text, extend_last};
-ghost use Rattle.desk_text.specs.Seen.{Reads, found_of, sign_seen};
+ghost use Rattle.desk_text.specs.Seen.{Reads, MayBeBlock, found_of, sign_seen};
 ghost use Rattle.desk_text.specs.Steps.{Takes, After, Gives};
 
 use crate::faults::TextFault;
@@ -134,7 +134,8 @@ fn read_items<'a>(alloc: Global, text: &'a [u8]) -> Result<Block<'a>, TextFault>
 
 /// Reads line by line.
 fn scan<'a>(alloc: Global, text: &'a [u8]) -> Result<Block<'a>, TextFault>
-    ensures { Gives result (read_text text.now) }
+    ensures gives { Gives result (read_text text.now) }
+    ensures memory { IsErrOf result TextFault.Memory → MayBeBlock text.now }
 {
     if text.len() > LONGEST_TEXT {
         return Err(TextFault::TooLong);
@@ -150,7 +151,8 @@ fn scan<'a>(alloc: Global, text: &'a [u8]) -> Result<Block<'a>, TextFault>
 /// Lines are counted from 1. NotBlock: the first line isn't `{4:`, or the text ends before its `-}`, with no wrong
 /// line. BadLine: a byte outside 0x20 to 0x7E, a CR not before LF, or a line that is right under no open sequences, as
 /// anything after `-}`. BadNesting: a closing that doesn't fit, a seventeenth open sequence, `-}` with a sequence open.
-/// TooLong: more than 65,536 bytes; this goes before all others. Memory: a growth was refused.
+/// TooLong: more than 65,536 bytes; this goes before all others. Memory: a growth was refused; a text that is too long, or
+/// whose first line isn't `{4:`, is told without one.
 pub fn read_block<'a>(alloc: Global, text: &'a [u8]) -> Result<Block<'a>, TextFault>
     ensures { Reads text.now result }
 {

@@ -3,9 +3,9 @@ use crate::vectors::{
     CONFIRMATION_DELIVERED, CONFIRMATION_RECEIVED, DELIVER_AGAINST_PAYMENT, SENT_MATCHED,
     STATEMENT, STATUS_CANCELLED, STATUS_MATCHED, STATUS_REFUSED, STATUS_UNMATCHED,
 };
-use desk_text::lines::{Line, read_line};
 use desk_text::{
-    BlockPart, BlockWriter, Field, TextFault, is_name, is_tag, is_value, read_block, write_block,
+    BlockPart, BlockWriter, Field, Line, TextFault, is_name, is_tag, is_value, read_block,
+    read_line, write_block,
 };
 use std::alloc::{AllocError, Global};
 use std::test::Fail;

@@ -2,7 +2,7 @@
 use desk_book::*;
 use desk_msg::Kind;
 use desk_rules::Entry;
-use desk_worked::entries::{SHARE, issue, new_account, participant, run, security};
+use desk_samples::entries::{SHARE, issue, new_account, participant, run, security};
 use std::alloc::{AllocError, Global};
 use std::test::Fail;
 

@@ -1,14 +1,16 @@
 //! A desk over plain lists: what is asked of it one by one, and several at once.
 use crate::tests::day::{ACCEPTED, DELIVERER, RECEIVER, ask, day, is_reply, is_wanted};
+use crate::tests::over_lists::new_desk;
 use desk_book::*;
 use desk_codes::{AccountId, Bic, Isin};
-use desk_register::{ListRegister, MOST_ENTRIES, Register};
+use desk_register::Register;
+use desk_rules::MOST_ENTRIES;
 use std::test::Fail;
 
 #[test]
 fn a_day_is_answered(rt: HostRuntime) -> Result<(), Fail> {
     let alloc = rt.alloc();
-    let mut desk = Desk::new(ListRegister::new(alloc, MOST_ENTRIES));
+    let mut desk = new_desk(alloc, MOST_ENTRIES);
     let day = day(Bic::parse(DELIVERER)?, Bic::parse(RECEIVER)?);
     for (index, asked) in day.iter().enumerate() {
         let answer = ask(alloc, &mut desk, asked);
@@ -27,7 +29,7 @@ fn a_day_is_answered(rt: HostRuntime) -> Result<(), Fail> {
 #[test]
 fn several_requests_at_once(rt: HostRuntime) -> Result<(), Fail> {
     let alloc = rt.alloc();
-    let mut desk = Desk::new(ListRegister::new(alloc, MOST_ENTRIES));
+    let mut desk = new_desk(alloc, MOST_ENTRIES);
     let participant = br#"{"op":"participant","ref":"P1","bic":"ALPHDEFF"}"#.as_slice();
     let foreign = br#"{"op":"account","ref":"C1","bic":"BETADEFF","account":"B-1"}"#.as_slice();
     let account = br#"{"op":"account","ref":"C1","bic":"ALPHDEFF","account":"A-1"}"#.as_slice();
@@ -67,7 +69,7 @@ fn several_requests_at_once(rt: HostRuntime) -> Result<(), Fail> {
 #[test]
 fn a_desk_of_one_entry(rt: HostRuntime) -> Result<(), Fail> {
     let alloc = rt.alloc();
-    let mut desk = Desk::new(ListRegister::new(alloc, 1));
+    let mut desk = new_desk(alloc, 1);
     let first = Request::Operator(
         br#"{"op":"participant","ref":"P1","bic":"ALPHDEFF"}"#.as_slice(),
     );

@@ -1,10 +1,12 @@
 //! A script played on a desk over a store of which calls fail, each in turn: what is written for its requests.
 use crate::tests::failing::Plan;
 use crate::tests::faults::{SOUND, failing_desk, request_of};
+use crate::tests::over_lists::new_desk;
 use crate::tests::plays::ANSWERS;
 use crate::tests::scripts::FREE_PAIR;
 use desk_book::*;
-use desk_register::{ListRegister, MOST_ENTRIES, Register};
+use desk_register::Register;
+use desk_rules::MOST_ENTRIES;
 use std::alloc::{AllocError, Global};
 use std::process::Abort;
 use std::test::Fail;
@@ -94,7 +96,7 @@ fn one_failed_call_is_told(rt: HostRuntime) -> Result<(), Fail> {
     let (calls, all) = counted_calls(&rt, alloc)?;
     for first in 1..all.saturating_add(1) {
         let hit = request_of(&calls, first);
-        let mut plain = Desk::new(ListRegister::new(alloc, MOST_ENTRIES));
+        let mut plain = new_desk(alloc, MOST_ENTRIES);
         let others = played(alloc, &mut plain, &without(alloc, FREE_PAIR, hit)?)?;
         let (before, behind) = split_answers(&others, hit);
         let mut want = Vec::new(alloc);

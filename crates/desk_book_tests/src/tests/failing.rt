@@ -1,14 +1,15 @@
 //! A register in plain lists of which chosen calls fail, as those of a device may.
-ghost use Rattle.std.specs.Prelude.{◌≡◌, ◌+◌, ◌<◌, ◌^◌, true, false};
-ghost use Rattle.desk_register.specs.Applied.{Keeps, no_books};
-ghost use Rattle.desk_register.specs.Lists.{content_in, listed};
+ghost use Rattle.std.specs.Prelude.{◌≡◌, ◌≢◌, ◌+◌, ◌<◌, ◌^◌, true, false, if◌then◌else◌};
+ghost use Rattle.desk_engine.specs.Applied.{Keeps, no_books};
+ghost use Rattle.desk_lists.specs.ListView.{view_of_lists};
+ghost use Rattle.desk_register.specs.declared.register.Stage.TheVariants.{Idle, Begun};
 ghost use Rattle.desk_register.specs.View.{fallen};
-ghost use Rattle.desk_book_tests.specs.Failing.{Fell};
 
 use desk_codes::{AccountId, Bic, Day, Isin, Reference};
+use desk_lists::ListRegister;
 use desk_msg::{Instruction, Kind};
-use desk_register::{Fault, Found, ListRegister, MOST_ENTRIES, Outcome, Register, Stage};
-use desk_rules::{Entry, Place, Reply, Sender};
+use desk_register::{Fault, Found, Outcome, Register, Stage};
+use desk_rules::{Entry, MOST_ENTRIES, Place, Reply, Sender};
 use std::alloc::Global;
 
 /// Which calls of a store fail.
@@ -80,27 +81,38 @@ impl Calls {
     }
 }
 
-/// A register in plain lists of which some calls fail. Such a call changes no list, unless it is a late one.
+/// A register in plain lists of which some calls fail. Such a call does not come to the lists, unless it is a late
+/// one; so they do not know that it failed, and the stage is kept here.
 #[derive(Drop)]
 pub struct FailingRegister {
-    pub inner: ListRegister,
+    inner: ListRegister,
+    stage: Stage,
     calls: Calls,
     /// The stage in which a call failed last
     failed_in: Stage,
+    ghost idle: { stage ≡ Idle → (view_of_lists inner).stage ≡ Idle },
+    ghost begun: { stage ≡ Begun → (view_of_lists inner).stage ≡ Begun },
+    ghost is_open: { stage ≢ Idle → (view_of_lists inner).stage ≢ Idle },
 }
 
 impl FailingRegister {
     /// An empty one.
     pub fn new(alloc: Global, plan: Plan) -> FailingRegister
-        ensures empty { Keeps 999_999_999 no_books (content_in (listed result.inner.lists)) }
-        ensures limit { result.inner.limit ≡ 999_999_999 }
-        ensures stage { result.inner.stage ≡ Stage.Idle }
+        ensures empty { Keeps MOST_ENTRIES no_books (view_of_lists result.inner).content }
+        ensures limit { (view_of_lists result.inner).room ≡ MOST_ENTRIES }
+        ensures stage { result.stage ≡ Stage.Idle }
     {
         FailingRegister {
             inner: ListRegister::new(alloc, MOST_ENTRIES),
+            stage: Stage::Idle,
             calls: Calls::new(plan),
             failed_in: Stage::Idle,
         }
+    }
+
+    /// The lists, as they are.
+    pub fn into_lists(self) -> ListRegister {
+        self.inner
     }
 
     /// How many calls there were.
@@ -120,20 +132,22 @@ impl FailingRegister {
 
     /// Lets a call fail.
     fn fail(&mut self) -> Fault
-        ensures inner { Fell self.old.inner self.new.inner }
+        ensures inner { self.new.inner ≡ self.old.inner }
+        ensures stage { self.new.stage ≡ fallen self.old.stage }
         ensures failures { self.new.calls.failed ≡ self.old.calls.failed }
     {
-        self.failed_in = self.inner.stage;
-        self.inner.stage = fallen(self.inner.stage);
+        self.failed_in = self.stage;
+        self.stage = fallen(self.stage);
         Fault::Storage
     }
 }
 
 impl Register for FailingRegister {
     ghost use Rattle.std.specs.Prelude.{false};
+    ghost use Rattle.desk_lists.specs.ListView.{view_of_lists};
     ghost use Rattle.desk_book_tests.specs.Failing.{failing};
 
-    ghost view = { λ r. failing r.inner r.calls.failed };
+    ghost view = { λ r. failing (view_of_lists r.inner) r.stage r.calls.failed };
 
     ghost plain = { false };
 
@@ -141,21 +155,27 @@ impl Register for FailingRegister {
         if self.calls.fails() {
             return Err(self.fail());
         }
-        self.inner.begin(alloc)
+        self.inner.begin(alloc)?;
+        self.stage = Stage::Begun;
+        Ok(())
     }
 
     fn commit(&mut self, alloc: Global) -> Result<(), Fault> {
         if self.calls.fails() {
             return Err(self.fail());
         }
-        self.inner.commit(alloc)
+        self.inner.commit(alloc)?;
+        self.stage = Stage::Idle;
+        Ok(())
     }
 
     fn back(&mut self, alloc: Global) -> Result<(), Fault> {
         if self.calls.fails() {
             return Err(self.fail());
         }
-        self.inner.back(alloc)
+        self.inner.back(alloc)?;
+        self.stage = Stage::Idle;
+        Ok(())
     }
 
     fn limit(&self) -> u64 {
@@ -213,14 +233,18 @@ impl Register for FailingRegister {
         if self.calls.fails() {
             return Err(self.fail());
         }
-        self.inner.by_reference(alloc, sender, reference)
+        let answer = self.inner.by_reference(alloc, sender, reference);
+        self.stage = stage_after(self.stage, answer.is_ok());
+        answer
     }
 
     fn by_number(&mut self, alloc: Global, number: u64) -> Result<Option<Found>, Fault> {
         if self.calls.fails() {
             return Err(self.fail());
         }
-        self.inner.by_number(alloc, number)
+        let answer = self.inner.by_number(alloc, number);
+        self.stage = stage_after(self.stage, answer.is_ok());
+        answer
     }
 
     fn first_opposite(
@@ -269,33 +293,42 @@ impl Register for FailingRegister {
     }
 
     fn append(&mut self, alloc: Global, entry: Entry, reply: Reply) -> Result<(), Fault> {
-        if self.calls.fails() {
-            if self.calls.plan.is_late {
-                self.inner.append(alloc, entry, reply)?;
-            }
+        let fails = self.calls.fails();
+        if fails && !self.calls.plan.is_late {
             return Err(self.fail());
         }
-        self.inner.append(alloc, entry, reply)
+        let answer = self.inner.append(alloc, entry, reply);
+        self.stage = stage_after(self.stage, answer.is_ok());
+        if fails {
+            return Err(self.fail());
+        }
+        answer
     }
 
     fn pair(&mut self, alloc: Global, earlier: u64, later: u64) -> Result<(), Fault> {
-        if self.calls.fails() {
-            if self.calls.plan.is_late {
-                self.inner.pair(alloc, earlier, later)?;
-            }
+        let fails = self.calls.fails();
+        if fails && !self.calls.plan.is_late {
             return Err(self.fail());
         }
-        self.inner.pair(alloc, earlier, later)
+        let answer = self.inner.pair(alloc, earlier, later);
+        self.stage = stage_after(self.stage, answer.is_ok());
+        if fails {
+            return Err(self.fail());
+        }
+        answer
     }
 
     fn settle_pair(&mut self, alloc: Global, number: u64) -> Result<Outcome, Fault> {
-        if self.calls.fails() {
-            if self.calls.plan.is_late {
-                let _outcome = self.inner.settle_pair(alloc, number)?;
-            }
+        let fails = self.calls.fails();
+        if fails && !self.calls.plan.is_late {
             return Err(self.fail());
         }
-        self.inner.settle_pair(alloc, number)
+        let answer = self.inner.settle_pair(alloc, number);
+        self.stage = stage_after(self.stage, answer.is_ok());
+        if fails {
+            return Err(self.fail());
+        }
+        answer
     }
 }
 
@@ -307,4 +340,11 @@ fn fallen(stage: Stage) -> Stage
         Stage::Idle => Stage::Idle,
         Stage::Begun | Stage::Failed => Stage::Failed,
     }
+}
+
+/// The stage after a call that came to the lists.
+fn stage_after(stage: Stage, is_ok: bool) -> Stage
+    ensures { result ≡ (if is_ok then stage else fallen stage) }
+{
+    if is_ok { stage } else { fallen(stage) }
 }

@@ -1,10 +1,12 @@
 //! A desk over a store of which calls fail, each in turn: what it answers then and afterwards, and what it keeps.
 use crate::tests::day::{Asked, DELIVERER, NO_COMMAND, RECEIVER, ask, day, is_wanted};
 use crate::tests::failing::{FailingRegister, Plan};
+use crate::tests::over_lists::new_desk;
 use desk_book::*;
-use desk_codes::Bic;
-use desk_register::{ListRegister, MOST_ENTRIES, Register, Stage};
-use desk_rules::Reply;
+use desk_codes::{AccountId, Bic, Isin};
+use desk_lists::ListRegister;
+use desk_register::{Found, Register, Stage};
+use desk_rules::{MOST_ENTRIES, Reply};
 use std::alloc::{AllocError, Global};
 use std::process::Abort;
 use std::test::Fail;
@@ -65,7 +67,7 @@ fn calls_of_each_request(rt: HostRuntime) -> Result<(), Fail> {
 
 /// What plain lists hold after the first requests of a day.
 fn held_after(alloc: Global, day: &[Asked<'_>], count: usize) -> ListRegister {
-    let mut desk = Desk::new(ListRegister::new(alloc, MOST_ENTRIES));
+    let mut desk = new_desk(alloc, MOST_ENTRIES);
     for asked in day.iter().take(count) {
         let _answer = ask(alloc, &mut desk, asked);
     }
@@ -76,31 +78,45 @@ fn same_reply(a: &Reply, b: &Reply) -> bool {
     a.status == b.status && a.mt == b.mt && a.text.as_bytes() == b.text.as_bytes()
 }
 
-/// Whether two registers hold the same entries, with the same replies.
-fn same_entries(a: &ListRegister, b: &ListRegister) -> bool {
-    if a.lists.kept.len() != b.lists.kept.len() {
-        return false;
-    }
-    for (one, other) in a.lists.kept.iter().zip(b.lists.kept.iter()) {
-        if one.entry != other.entry || !same_reply(&one.reply, &other.reply) {
-            return false;
-        }
-    }
-    true
+/// Whether two entries are the same, with the same replies, and stand as the other.
+fn same_found(a: &Found, b: &Found) -> bool {
+    a.entry == b.entry && a.standing == b.standing && same_reply(&a.reply, &b.reply)
 }
 
-/// Whether a register holds what another one does, with no `begin` open and nothing that could be taken back.
-fn holds_same(register: &ListRegister, other: &ListRegister) -> bool {
-    let lists = &register.lists;
-    let others = &other.lists;
-    register.stage == Stage::Idle
-        && register.changes.is_empty()
-        && same_entries(register, other)
-        && lists.standings.as_slice() == others.standings.as_slice()
-        && lists.keys.as_slice() == others.keys.as_slice()
-        && lists.quantities.as_slice() == others.quantities.as_slice()
-        && lists.securities.as_slice() == others.securities.as_slice()
-        && lists.outstanding.as_slice() == others.outstanding.as_slice()
+/// Whether two registers hold the same entries, with the same replies, that stand as the others.
+fn same_entries(alloc: Global, a: &mut ListRegister, b: &mut ListRegister) -> Result<bool, Fail> {
+    let count = a.count(alloc)?;
+    if count != b.count(alloc)? {
+        return Ok(false);
+    }
+    for number in 1..count.saturating_add(1) {
+        let one = a.by_number(alloc, number)?.ok_or("an entry")?;
+        let other = b.by_number(alloc, number)?.ok_or("an entry")?;
+        if !same_found(&one, &other) {
+            return Ok(false);
+        }
+    }
+    Ok(true)
+}
+
+/// Whether a register holds of the day's share what another one does, on each account and in all.
+fn same_balances(alloc: Global, a: &mut ListRegister, b: &mut ListRegister) -> Result<bool, Fail> {
+    let share = Isin::parse(b"DE0007164600")?;
+    for name in [b"A-1", b"B-1"] {
+        let account = AccountId::read(name).ok_or("account")?;
+        if a.position(alloc, account, share)? != b.position(alloc, account, share)? {
+            return Ok(false);
+        }
+    }
+    Ok(a.outstanding(alloc, share)? == b.outstanding(alloc, share)?)
+}
+
+/// Whether a register holds what another one does after some of the day's requests, with no `begin` open.
+fn holds_same(alloc: Global, a: &mut ListRegister, b: &mut ListRegister) -> Result<bool, Fail> {
+    if a.stage() != Stage::Idle {
+        return Ok(false);
+    }
+    Ok(same_entries(alloc, a, b)? && same_balances(alloc, a, b)?)
 }
 
 /// Asks a day's requests, each again at once where it was answered `fault 61`, as the one at `hit` alone must be.
@@ -134,7 +150,7 @@ fn each_call_fails_once(rt: HostRuntime) -> Result<(), Fail> {
     let alloc = rt.alloc();
     let day = day(Bic::parse(DELIVERER)?, Bic::parse(RECEIVER)?);
     let (calls, all) = counted_calls(alloc, &day)?;
-    let sound = held_after(alloc, &day, day.len());
+    let mut sound = held_after(alloc, &day, day.len());
     for is_late in [false, true] {
         for first in 1..all.saturating_add(2) {
             let plan = Plan {
@@ -145,7 +161,8 @@ fn each_call_fails_once(rt: HostRuntime) -> Result<(), Fail> {
             let register = ask_with_one_fault(&rt, alloc, &day, plan, hit);
             let failures = if first <= all { 1 } else { 0 };
             assert_eq!(rt; register.failures(), failures);
-            assert!(rt; holds_same(&register.inner, &sound), "at {first}");
+            let mut lists = register.into_lists();
+            assert!(rt; holds_same(alloc, &mut lists, &mut sound)?, "at {first}");
         }
     }
     Ok(())
@@ -165,13 +182,14 @@ fn two_failed_calls_close_the_desk(rt: HostRuntime) -> Result<(), Fail> {
                 is_late,
                 ..Plan::failing(first, 2)
             };
-            let mut register = ask_till_closed(&rt, alloc, &day, plan, hit);
+            let register = ask_till_closed(&rt, alloc, &day, plan, hit);
             assert_eq!(rt; register.calls(), first.saturating_add(1));
-            if register.inner.stage != Stage::Idle {
-                register.inner.back(alloc)?;
+            let mut lists = register.into_lists();
+            if lists.stage() != Stage::Idle {
+                lists.back(alloc)?;
             }
-            let before = held_after(alloc, &day, hit);
-            assert!(rt; holds_same(&register.inner, &before), "at {first}");
+            let mut before = held_after(alloc, &day, hit);
+            assert!(rt; holds_same(alloc, &mut lists, &mut before)?, "at {first}");
         }
     }
     Ok(())

@@ -1,7 +1,9 @@
 //! Scripts played on a desk in memory, over readers and writers that are slow or fail.
+use crate::tests::over_lists::new_desk;
 use crate::tests::scripts::FREE_PAIR;
 use desk_book::*;
-use desk_register::{ListRegister, MOST_ENTRIES, Register};
+use desk_register::Register;
+use desk_rules::MOST_ENTRIES;
 use std::io;
 use std::io::{ErrorKind, Read, Write};
 use std::test::Fail;
@@ -154,7 +156,7 @@ fn reads_in_pieces(piece: usize) -> usize {
 fn a_script_read_in_pieces(rt: HostRuntime) -> Result<(), Fail> {
     let alloc = rt.alloc();
     for piece in [1, 7, 4095] {
-        let mut desk = Desk::new(ListRegister::new(alloc, MOST_ENTRIES));
+        let mut desk = new_desk(alloc, MOST_ENTRIES);
         let mut reader = Pieces {
             rest: FREE_PAIR,
             piece,
@@ -174,7 +176,7 @@ fn each_failed_read(rt: HostRuntime) -> Result<(), Fail> {
     let alloc = rt.alloc();
     let reads = FREE_PAIR.len().div_ceil(16) + 1;
     for fails_at in 1..=reads {
-        let mut desk = Desk::new(ListRegister::new(alloc, MOST_ENTRIES));
+        let mut desk = new_desk(alloc, MOST_ENTRIES);
         let mut reader = Pieces {
             rest: FREE_PAIR,
             piece: 16,
@@ -204,7 +206,7 @@ fn each_failed_write(rt: HostRuntime) -> Result<(), Fail> {
         (usize::MAX, false),
         (usize::MAX, true),
     ] {
-        let mut desk = Desk::new(ListRegister::new(alloc, MOST_ENTRIES));
+        let mut desk = new_desk(alloc, MOST_ENTRIES);
         let mut reader = FREE_PAIR;
         let mut writer = Taking {
             taken: Vec::new(alloc),
@@ -216,7 +218,7 @@ fn each_failed_write(rt: HostRuntime) -> Result<(), Fail> {
         desk.play(alloc, &mut reader, &mut writer)?;
         assert_eq!(rt; writer.taken.as_slice(), ANSWERS);
         for fails_at in 1..writer.writes.saturating_add(1) {
-            let mut desk = Desk::new(ListRegister::new(alloc, MOST_ENTRIES));
+            let mut desk = new_desk(alloc, MOST_ENTRIES);
             let mut reader = FREE_PAIR;
             let mut failing = Taking {
                 taken: Vec::new(alloc),

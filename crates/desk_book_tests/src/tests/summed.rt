@@ -2,8 +2,8 @@
 use desk_book::{SecurityTotal, security_totals, totals_text};
 use desk_msg::Kind;
 use desk_register::Fault;
-use desk_worked::entries::{BOND, SHARE, issue, new_account, participant, security};
-use desk_worked::ledger::Ledger;
+use desk_samples::entries::{BOND, SHARE, issue, new_account, participant, security};
+use desk_samples::ledger::Ledger;
 use std::alloc::Global;
 use std::test::Fail;
 

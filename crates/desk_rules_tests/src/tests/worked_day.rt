@@ -12,23 +12,28 @@ ghost use Rattle.desk_msg.specs.StatusText.{advice};
 ghost use Rattle.desk_msg.specs.ConfirmationText.{confirmation};
 ghost use Rattle.desk_text.specs.Lines.{lines_of};
 ghost use Rattle.desk_rules.specs.declared.entry.Entry.TheVariants as entries;
+ghost use Rattle.desk_rules.specs.declared.entry.RunRule.TheVariants.{OnePass, Passes};
 ghost use Rattle.desk_rules.specs.declared.verdict.Verdict.TheVariants.{Accept, Repeat, Refuse};
 ghost use Rattle.desk_rules.specs.declared.verdict.Refusal.TheVariants as refusals;
 ghost use Rattle.desk_rules.specs.Verdict.{IsVerdict};
 ghost use Rattle.desk_rules.specs.Reply.{advice_reply, plain_reply, refused_reply, reply_to};
 ghost use Rattle.desk_rules.specs.Sent.{sent_of};
 ghost use Rattle.desk_rules.specs.Confirmations.{brought, cash_brought, cash_taken, taken};
-ghost use Rattle.desk_rules.specs.Content.{mate_of};
+ghost use Rattle.desk_rules.specs.Pairing.{mate_of};
 ghost use Rattle.desk_rules.specs.Questions.{sent_reply, status_reply};
-ghost use Rattle.desk_rules_tests.specs.WorkedDay.{a_1, alpha, at_cancel, at_delivery, at_receipt, at_run, at_short_run, b_1, beta, cancel, cancel_as_free, confirmations, delivery, gamma, movement, larger, leap_day, payment, receipt, share};
+ghost use Rattle.desk_rules_tests.specs.WorkedDay.{a_1, alpha, at_asked, at_asked_run, at_both_asked, at_cancel, at_cancelled_run, at_delivery, at_receipt, at_run, at_short_run, b_1, beta, cancel, cancel_as_free, cancel_receipt, confirmations, delivery, gamma, movement, larger, leap_day, payment, receipt, share};
 
 /// The replies to what was accepted, and two of refusals.
 fn replies()
     ensures delivery { reply_to at_delivery (entries.Instruct alpha delivery) ≡ advice_reply 200 (advice (owns.Answer 8) Mt543 (codes "A1") cases.Unmatched) }
     ensures receipt { reply_to at_receipt (entries.Instruct beta receipt) ≡ advice_reply 200 (advice (owns.Answer 9) Mt541 (codes "B1") (cases.Matched reasons.Future)) }
-    ensures run { reply_to at_run (entries.Run (codes "R1") leap_day) ≡ plain_reply 200 (codes "accepted 10 settled 1 waiting 0") }
-    ensures short_run { reply_to at_short_run (entries.Run (codes "R1") leap_day) ≡ plain_reply 200 (codes "accepted 10 settled 0 waiting 1") }
+    ensures run { reply_to at_run (entries.Run (codes "R1") leap_day Passes) ≡ plain_reply 200 (codes "accepted 10 settled 1 waiting 0") }
+    ensures short_run { reply_to at_short_run (entries.Run (codes "R1") leap_day Passes) ≡ plain_reply 200 (codes "accepted 10 settled 0 waiting 1") }
     ensures cancel { reply_to at_cancel (entries.Cancel alpha (cancel (codes "X1") (codes "A1"))) ≡ advice_reply 200 (advice (owns.Answer 9) Mt543 (codes "X1") cases.CancelDone) }
+    ensures asked { reply_to at_asked (entries.Cancel alpha (cancel (codes "X1") (codes "A1"))) ≡ advice_reply 200 (advice (owns.Answer 10) Mt543 (codes "X1") cases.CancelWaits) }
+    ensures both_asked { reply_to at_both_asked (entries.Cancel beta (cancel_receipt (codes "X2"))) ≡ advice_reply 200 (advice (owns.Answer 11) Mt541 (codes "X2") cases.CancelDone) }
+    ensures asked_run { reply_to at_asked_run (entries.Run (codes "R1") leap_day Passes) ≡ plain_reply 200 (codes "accepted 11 settled 1 waiting 0") }
+    ensures cancelled_run { reply_to at_cancelled_run (entries.Run (codes "R1") leap_day Passes) ≡ plain_reply 200 (codes "accepted 12 settled 0 waiting 0") }
     ensures reused { refused_reply at_run (entries.Instruct alpha larger) 11 ≡ advice_reply 422 (advice (owns.Answer 10) Mt543 (codes "A1") (cases.NewRefused 11)) }
     ensures full { refused_reply at_run (entries.Participant (codes "P3") gamma) 21 ≡ plain_reply 422 (codes "refused 21") }
 {}
@@ -45,6 +50,13 @@ fn messages()
     ensures unmatched { status_reply at_delivery alpha (codes "A1") ≡ advice_reply 200 (advice (owns.Answer 8) Mt543 (codes "A1") cases.Unmatched) }
     ensures cancelled { status_reply at_cancel alpha (codes "A1") ≡ advice_reply 200 (advice (owns.Answer 9) Mt543 (codes "A1") cases.Cancelled) }
     ensures cancel { status_reply at_cancel alpha (codes "X1") ≡ advice_reply 200 (advice (owns.Answer 9) Mt543 (codes "X1") cases.CancelDone) }
+    ensures waits { status_reply at_asked alpha (codes "X1") ≡ advice_reply 200 (advice (owns.Answer 10) Mt543 (codes "X1") cases.CancelWaits) }
+    ensures waits_alone { status_reply at_asked alpha (codes "A1") ≡ advice_reply 200 (advice (owns.Answer 10) Mt543 (codes "A1") (cases.Matched reasons.Future)) }
+    ensures both_cancelled { status_reply at_both_asked alpha (codes "A1") ≡ advice_reply 200 (advice (owns.Answer 11) Mt543 (codes "A1") cases.Cancelled) }
+    ensures other_cancelled { status_reply at_both_asked beta (codes "B1") ≡ advice_reply 200 (advice (owns.Answer 11) Mt541 (codes "B1") cases.Cancelled) }
+    ensures first_done { status_reply at_both_asked alpha (codes "X1") ≡ advice_reply 200 (advice (owns.Answer 11) Mt543 (codes "X1") cases.CancelDone) }
+    ensures too_late { status_reply at_asked_run alpha (codes "X1") ≡ advice_reply 200 (advice (owns.Answer 11) Mt543 (codes "X1") (cases.CancelRefused 19)) }
+    ensures cancels_send_nothing { sent_of at_cancelled_run ≡ sent_of at_receipt }
     ensures none_such { status_reply at_run alpha (codes "B1") ≡ plain_reply 422 (codes "refused 17") }
     ensures stranger { status_reply at_run gamma (codes "A1") ≡ plain_reply 422 (codes "refused 10") }
     ensures second { sent_reply at_run alpha 2 ≡ record { status = 200; mt = Some 547; text = confirmation 2 delivery leap_day } }
@@ -114,7 +126,12 @@ fn verdicts_on_messages()
     ensures cancel { IsVerdict 999 at_delivery (entries.Cancel alpha (cancel (codes "X1") (codes "A1"))) Accept }
     ensures cancelled { IsVerdict 999 at_cancel (entries.Cancel alpha (cancel (codes "X2") (codes "A1"))) (Refuse refusals.AlreadyCancelled) }
     ensures settled { IsVerdict 999 at_run (entries.Cancel alpha (cancel (codes "X1") (codes "A1"))) (Refuse refusals.AlreadySettled) }
-    ensures matched { IsVerdict 999 at_receipt (entries.Cancel alpha (cancel (codes "X1") (codes "A1"))) (Refuse refusals.AlreadyMatched) }
+    ensures matched { IsVerdict 999 at_receipt (entries.Cancel alpha (cancel (codes "X1") (codes "A1"))) Accept }
+    ensures waits { IsVerdict 999 at_asked (entries.Cancel alpha (cancel (codes "X3") (codes "A1"))) (Refuse refusals.CancellationWaits) }
+    ensures other_side { IsVerdict 999 at_asked (entries.Cancel beta (cancel_receipt (codes "X2"))) Accept }
+    ensures both_asked { IsVerdict 999 at_both_asked (entries.Cancel alpha (cancel (codes "X3") (codes "A1"))) (Refuse refusals.AlreadyCancelled) }
+    ensures after_all { IsVerdict 999 at_asked_run (entries.Cancel beta (cancel_receipt (codes "X2"))) (Refuse refusals.AlreadySettled) }
+    ensures waiting_repeat { IsVerdict 999 at_asked_run (entries.Cancel alpha (cancel (codes "X1") (codes "A1"))) (Repeat 10) }
     ensures none_such { IsVerdict 999 at_cancel (entries.Cancel alpha (cancel (codes "X3") (codes "ZZ"))) (Refuse refusals.NoSuchInstruction) }
     ensures another_type { IsVerdict 999 at_cancel (entries.Cancel alpha (cancel_as_free (codes "X4") (codes "A1"))) (Refuse refusals.NoSuchInstruction) }
     ensures of_a_cancel { IsVerdict 999 at_cancel (entries.Cancel alpha (cancel (codes "X5") (codes "X1"))) (Refuse refusals.NoSuchInstruction) }
@@ -131,10 +148,11 @@ fn verdicts_on_registrations()
     ensures account { IsVerdict 999 at_run (entries.Account (codes "C3") gamma a_1) (Refuse refusals.Exists) }
     ensures owner { IsVerdict 999 at_run (entries.Account (codes "C3") gamma alpha) (Refuse refusals.ParticipantUnknown) }
     ensures security { IsVerdict 999 at_run (entries.Security (codes "S2") share FaceAmount) (Refuse refusals.Exists) }
-    ensures day_before { IsVerdict 999 at_run (entries.Run (codes "R2") (codes "20240228")) (Refuse refusals.DayGoesBack) }
-    ensures same_day { IsVerdict 999 at_run (entries.Run (codes "R2") leap_day) Accept }
-    ensures same_run { IsVerdict 999 at_run (entries.Run (codes "R1") leap_day) (Repeat 10) }
-    ensures another_run { IsVerdict 999 at_run (entries.Run (codes "R1") (codes "20240301")) (Refuse refusals.CommandReused) }
+    ensures day_before { IsVerdict 999 at_run (entries.Run (codes "R2") (codes "20240228") Passes) (Refuse refusals.DayGoesBack) }
+    ensures same_day { IsVerdict 999 at_run (entries.Run (codes "R2") leap_day Passes) Accept }
+    ensures same_run { IsVerdict 999 at_run (entries.Run (codes "R1") leap_day Passes) (Repeat 10) }
+    ensures other_rule { IsVerdict 999 at_run (entries.Run (codes "R1") leap_day OnePass) (Repeat 10) }
+    ensures another_run { IsVerdict 999 at_run (entries.Run (codes "R1") (codes "20240301") Passes) (Refuse refusals.CommandReused) }
 {}
 
 /// The verdicts on issues and redemptions, pay ins and pay outs at the end of the day: up to the limit, and past it.

@@ -6,11 +6,11 @@ pub returns-in-Ok-Accept-clause-decides : goal.returns-in-Ok-Accept-clause-decid
 returns-in-Ok-Accept-clause-decides g c = λ books honest keeps.
     let v0 = g.R.Register.view c.args.register.now in
     let d = c.in-Ok-Accept.ensures in
-    let a = c.accept.ensures in
+    let a = c.take_in.ensures in
     let honest1 = a.ends.later.honest honest in
     let honest0 = d.read.later.honest honest1 in
     let sure = c.requires.ready.sure refl honest0 in
-    decides_put_at v0 (g.R.Register.view c.decide.new.register) (g.R.Register.view c.accept.new.register) books c.args.entry c.accept.result
+    decides_put_at v0 (g.R.Register.view c.decide.new.register) (g.R.Register.view c.take_in.new.register) books c.args.entry c.take_in.result
     (d.read.same honest1 sure) d.read.later.room keeps
     (rw c.in-Ok-Accept.field-0-is at (d.verdict books honest1 sure (not_failed v0.stage (c.requires.ready.stage refl)) keeps.tables.history)) (a.put books honest)
 

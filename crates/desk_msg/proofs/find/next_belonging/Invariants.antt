@@ -3,4 +3,4 @@ use Rattle.desk_msg.specs.Finding.{found_among}
 use Rattle.desk_msg.proofs.find.next_belonging.Given as goal
 
 abbrev pub invariant-loop-index : goal.invariant-loop-index
-invariant-loop-index l = found_among l.path l.tags l.begins l.fields ≡ found_among l.path l.tags l.begins (drop l.index l.fields)
+invariant-loop-index l = found_among l.row l.fields ≡ found_among l.row (drop l.index l.fields)

@@ -1,4 +1,5 @@
 use Rattle.std.proofs.Common.{◌<◌, ◌^◌, arith}
+use Rattle.desk_msg.specs.Profile.{amount_row}
 use Rattle.desk_msg.specs.Finding.{found_all}
 use Rattle.desk_msg.proofs.MessageLemmas.{paid_exactly, quantity_some, quantity_short}
 use Rattle.desk_msg.proofs.reading.read_instruction.Goals as goal
@@ -10,5 +11,5 @@ invariant_of-result c =
       instructs = c.requires;
       some = quantity_some (found_all c.args.fields.now) c.in_ok-kind.kind c.in_ok-kind.quantity c.in_ok-kind.ensures;
       short = quantity_short (found_all c.args.fields.now) c.in_ok-kind.kind c.in_ok-kind.quantity small c.in_ok-kind.ensures;
-      paid = paid_exactly c.args.mt (found_all c.args.fields.now) c.in_ok-cash.cash c.in_ok-cash.ensures;
+      paid = paid_exactly c.args.mt (found_all c.args.fields.now) amount_row c.in_ok-cash.cash c.in_ok-cash.ensures;
     }

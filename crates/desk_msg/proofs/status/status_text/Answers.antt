@@ -1,9 +1,8 @@
-use Rattle.std.proofs.Common.{◌≡◌, ◌∙◌, subst, sym, List, ℕ, codes, IfOk, IsTrue}
+use Rattle.std.proofs.Common.{◌≡◌, ◌∙◌, ap, subst, sym, List, ℕ, codes, ◌++◌, IfOk, IsTrue}
 use Rattle.desk_text.specs.Fields.{IsBlock}
 use Rattle.desk_text.specs.Written.{Part, block_text, fields_written, is_value}
-use Rattle.desk_msg.specs.MessageType.{digits_of_type}
 use Rattle.desk_msg.specs.StatusText.{advice}
-use Rattle.desk_msg.proofs.AdviceLemmas.{own_right, related_right, advice_values, value_is}
+use Rattle.desk_msg.proofs.AdviceLemmas.{own_right, related_right, advice_values}
 use Rattle.desk_msg.proofs.status.status_text.Goals as goal
 
 pub write_advice-requires-clause-own : goal.write_advice-requires-clause-own
@@ -12,7 +11,7 @@ write_advice-requires-clause-own c = rw c.own_value-sender.ensures (own_right c.
 pub write_advice-requires-clause-related : goal.write_advice-requires-clause-related
 write_advice-requires-clause-related c =
     let P : List ℕ → Type 0 = λ value. IsTrue (is_value value) in
-    let value = value_is c.deref-2.result.now c.in_ok-related.related.items (codes ":RELA//") c.as_bytes-2.result.now c.args.reference.now c.deref-2.ensures.value c.in_ok-related.ensures c.as_bytes-2.ensures.bytes in
+    let value = c.deref-2.ensures.value ∙ c.in_ok-related.ensures ∙ ap (λ text. codes ":RELA//" ++ text) c.as_bytes-2.ensures.bytes in
     subst P (sym value) (related_right c.args.reference.now c.as_bytes-2.ensures.reference)
 
 pub returns-clause-text : goal.returns-clause-text
@@ -20,8 +19,8 @@ unfolding advice
 returns-clause-text c =
     let parts = advice_values c.args.own c.args.mt c.args.reference.now c.args.about c.own_value-sender.result c.deref.result.now c.deref-2.result.now
     c.own_value-sender.ensures
-    (value_is c.deref.result.now c.in_ok-link.link.items (codes ":LINK//") c.as_bytes.result.now (digits_of_type c.args.mt) c.deref.ensures.value c.in_ok-link.ensures (c.as_bytes.ensures.value ∙ c.as_str.ensures))
-    (value_is c.deref-2.result.now c.in_ok-related.related.items (codes ":RELA//") c.as_bytes-2.result.now c.args.reference.now c.deref-2.ensures.value c.in_ok-related.ensures c.as_bytes-2.ensures.bytes) in
+    (c.deref.ensures.value ∙ c.in_ok-link.ensures ∙ ap (λ text. codes ":LINK//" ++ text) (c.as_bytes.ensures.value ∙ c.as_str.ensures))
+    (c.deref-2.ensures.value ∙ c.in_ok-related.ensures ∙ ap (λ text. codes ":RELA//" ++ text) c.as_bytes-2.ensures.bytes) in
     let P : List Part → Type 0 = λ ps. IfOk c.write_advice.result (λ text. text.items ≡ block_text ps) in
     subst P parts c.write_advice.ensures.text
 
@@ -29,7 +28,7 @@ pub returns-clause-block : goal.returns-clause-block
 returns-clause-block c =
     let parts = advice_values c.args.own c.args.mt c.args.reference.now c.args.about c.own_value-sender.result c.deref.result.now c.deref-2.result.now
     c.own_value-sender.ensures
-    (value_is c.deref.result.now c.in_ok-link.link.items (codes ":LINK//") c.as_bytes.result.now (digits_of_type c.args.mt) c.deref.ensures.value c.in_ok-link.ensures (c.as_bytes.ensures.value ∙ c.as_str.ensures))
-    (value_is c.deref-2.result.now c.in_ok-related.related.items (codes ":RELA//") c.as_bytes-2.result.now c.args.reference.now c.deref-2.ensures.value c.in_ok-related.ensures c.as_bytes-2.ensures.bytes) in
+    (c.deref.ensures.value ∙ c.in_ok-link.ensures ∙ ap (λ text. codes ":LINK//" ++ text) (c.as_bytes.ensures.value ∙ c.as_str.ensures))
+    (c.deref-2.ensures.value ∙ c.in_ok-related.ensures ∙ ap (λ text. codes ":RELA//" ++ text) c.as_bytes-2.ensures.bytes) in
     let P : List Part → Type 0 = λ ps. IfOk c.write_advice.result (λ text. IsBlock text.items (fields_written ps)) in
     subst P parts c.write_advice.ensures.block

@@ -1,5 +1,5 @@
 use Rattle.std.proofs.Common.{◌≡◌, true, false, length}
-use Rattle.desk_rules.specs.Verdict.{Books}
+use Rattle.desk_rules.specs.Books.{Books}
 use Rattle.desk_register.specs.View.{IsLater}
 use Rattle.desk_book.specs.Held.{Holds}
 use Rattle.desk_book.proofs.PlayLemmas.{SoFar}

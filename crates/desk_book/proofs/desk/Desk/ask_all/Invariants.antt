@@ -1,6 +1,6 @@
 use Rattle.std.proofs.Common.{◌≡◌, ◌+◌, ◌≤◌, true, false, All, count_by, map, take, length}
 use Rattle.std.specs.Prelude.{vec_len, vec_capacity}
-use Rattle.desk_rules.specs.Verdict.{Books}
+use Rattle.desk_rules.specs.Books.{Books}
 use Rattle.desk_register.specs.View.{IsLater}
 use Rattle.desk_book.specs.Answered.{Run, says_closed, says_storage}
 use Rattle.desk_book.specs.Asked.{asked_by}

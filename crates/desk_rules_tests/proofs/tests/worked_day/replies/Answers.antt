@@ -13,3 +13,11 @@ returns-clause-short_run c = refl
 pub returns-clause-full : goal.returns-clause-full
 unfolding digits
 returns-clause-full c = refl
+
+pub returns-clause-asked_run : goal.returns-clause-asked_run
+unfolding digits
+returns-clause-asked_run c = refl
+
+pub returns-clause-cancelled_run : goal.returns-clause-cancelled_run
+unfolding digits
+returns-clause-cancelled_run c = refl

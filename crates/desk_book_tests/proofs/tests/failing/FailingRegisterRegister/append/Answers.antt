@@ -1,26 +1,17 @@
-use Rattle.std.proofs.Common.{◌≡◌, Err, rules}
-use Rattle.desk_book_tests.proofs.FailingLemmas.{change_fallen, change_late, change_through}
-use Rattle.desk_book_tests.proofs.tests.failing.FailingRegisterRegister.append.Goals.{then-self+in_ok-append, else-self}
+use Rattle.std.proofs.Common.{rules}
+use Rattle.desk_book_tests.proofs.FailingLemmas.{change_late, change_through}
 use Rattle.desk_book_tests.proofs.tests.failing.FailingRegisterRegister.append.Goals as goal
 
-pub returns-in_err-append-clause-change : goal.returns-in_err-append-clause-change
-returns-in_err-append-clause-change c =
-    let is : c.from_residual.result ≡ Err c.in_err-append.field-0.0 = search rules in
-    rw is (change_through c.args.self.now.inner c.append.new.self c.args.self.now.calls.failed c.fails.new.self.failed (search rules) (Err c.in_err-append.field-0.0) c.in_err-append.ensures.change)
-
-pub returns-then-fails-clause-change : goal.returns-then-fails-clause-change
-returns-then-fails-clause-change c =
-    elim c.if-self.branch [
-      | then-self+in_ok-append w ↦
-          (let told = w.in_ok-append.ensures.change in
-          let fell = rw w.self-is at c.fail.ensures.inner in
-          let failed = rw w.self-is at c.fail.ensures.failures in
-          change_late c.args.self.now.inner w.append.new.self c.fail.new.self.inner c.args.self.now.calls.failed c.fail.new.self.calls.failed c.requires.stage told.ok told.later fell (search rules) c.fail.result)
-      | else-self w ↦
-          (let fell = rw w.self-is at c.fail.ensures.inner in
-          let failed = rw w.self-is at c.fail.ensures.failures in
-          change_fallen c.args.self.now.inner c.fail.new.self.inner c.args.self.now.calls.failed c.fail.new.self.calls.failed fell (search rules) c.fail.result)
-    ]
+pub returns-then-fails-2-clause-change : goal.returns-then-fails-2-clause-change
+returns-then-fails-2-clause-change c =
+    let old = c.args.self.now in
+    let new = c.fail-then-fails-2.new.self in
+    let fail = c.fail-then-fails-2.ensures in
+    change_late old.inner c.append-answer.new.self new.inner old.stage c.stage_after-self.result new.stage old.calls.failed new.calls.failed c.requires.stage fail.inner (search rules) c.append-answer.result
+    c.fail-then-fails-2.result (rw c.is_ok.ensures.value at c.stage_after-self.ensures) fail.stage c.append-answer.ensures.change
 
 pub returns-clause-change : goal.returns-clause-change
-returns-clause-change c = change_through c.args.self.now.inner c.append-2.new.self c.args.self.now.calls.failed c.fails.new.self.failed (search rules) c.append-2.result c.append-2.ensures.change
+returns-clause-change c =
+    let old = c.args.self.now in
+    change_through old.inner c.append-answer.new.self old.stage c.stage_after-self.result old.calls.failed c.fails-fails.new.self.failed old.idle (search rules) c.append-answer.result
+    (rw c.is_ok.ensures.value at c.stage_after-self.ensures) c.append-answer.ensures.change

@@ -3,7 +3,13 @@ use Rattle.desk_book_tests.proofs.FailingLemmas.{read_fallen, read_through}
 use Rattle.desk_book_tests.proofs.tests.failing.FailingRegisterRegister.by_number.Goals as goal
 
 pub returns-then-fails-clause-read : goal.returns-then-fails-clause-read
-returns-then-fails-clause-read c = read_fallen c.args.self.now.inner c.fail.new.self.inner c.args.self.now.calls.failed c.fail.new.self.calls.failed c.fail.ensures.inner (search rules) c.fail.result
+returns-then-fails-clause-read c =
+    let old = c.args.self.now in
+    let new = c.fail.new.self in
+    read_fallen old.inner new.inner old.stage new.stage old.calls.failed new.calls.failed c.fail.ensures.inner c.fail.ensures.stage (search rules) c.fail.result
 
 pub returns-clause-read : goal.returns-clause-read
-returns-clause-read c = read_through c.args.self.now.inner c.by_number.new.self c.args.self.now.calls.failed c.fails.new.self.failed (search rules) c.by_number.result c.by_number.ensures.read
+returns-clause-read c =
+    let old = c.args.self.now in
+    read_through old.inner c.by_number-answer.new.self old.stage c.stage_after-self.result old.calls.failed c.fails.new.self.failed old.idle (search rules) c.by_number-answer.result
+    (rw c.is_ok.ensures.value at c.stage_after-self.ensures) c.by_number-answer.ensures.read

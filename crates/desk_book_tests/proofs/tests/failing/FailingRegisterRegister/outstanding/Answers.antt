@@ -1,9 +1,14 @@
-use Rattle.std.proofs.Common.{rules}
-use Rattle.desk_book_tests.proofs.FailingLemmas.{read_fallen, read_through}
+use Rattle.std.proofs.Common.{refl, rules}
+use Rattle.desk_book_tests.proofs.FailingLemmas.{read_fallen, read_well}
 use Rattle.desk_book_tests.proofs.tests.failing.FailingRegisterRegister.outstanding.Goals as goal
 
 pub returns-then-fails-clause-read : goal.returns-then-fails-clause-read
-returns-then-fails-clause-read c = read_fallen c.args.self.now.inner c.fail.new.self.inner c.args.self.now.calls.failed c.fail.new.self.calls.failed c.fail.ensures.inner (search rules) c.fail.result
+returns-then-fails-clause-read c =
+    let old = c.args.self.now in
+    let new = c.fail.new.self in
+    read_fallen old.inner new.inner old.stage new.stage old.calls.failed new.calls.failed c.fail.ensures.inner c.fail.ensures.stage (search rules) c.fail.result
 
 pub returns-clause-read : goal.returns-clause-read
-returns-clause-read c = read_through c.args.self.now.inner c.outstanding.new.self c.args.self.now.calls.failed c.fails.new.self.failed (search rules) c.outstanding.result c.outstanding.ensures.read
+returns-clause-read c =
+    let old = c.args.self.now in
+    read_well old.inner c.outstanding.new.self old.stage old.calls.failed c.fails.new.self.failed old.idle (search rules) c.outstanding.result (c.outstanding.ensures.plain refl) c.outstanding.ensures.read

@@ -1,26 +1,17 @@
-use Rattle.std.proofs.Common.{◌≡◌, Err, rules}
-use Rattle.desk_book_tests.proofs.FailingLemmas.{change_fallen, change_late, change_through}
-use Rattle.desk_book_tests.proofs.tests.failing.FailingRegisterRegister.pair.Goals.{then-self+in_ok-pair, else-self}
+use Rattle.std.proofs.Common.{rules}
+use Rattle.desk_book_tests.proofs.FailingLemmas.{change_late, change_through}
 use Rattle.desk_book_tests.proofs.tests.failing.FailingRegisterRegister.pair.Goals as goal
 
-pub returns-in_err-pair-clause-change : goal.returns-in_err-pair-clause-change
-returns-in_err-pair-clause-change c =
-    let is : c.from_residual.result ≡ Err c.in_err-pair.field-0.0 = search rules in
-    rw is (change_through c.args.self.now.inner c.pair.new.self c.args.self.now.calls.failed c.fails.new.self.failed (search rules) (Err c.in_err-pair.field-0.0) c.in_err-pair.ensures.change)
-
-pub returns-then-fails-clause-change : goal.returns-then-fails-clause-change
-returns-then-fails-clause-change c =
-    elim c.if-self.branch [
-      | then-self+in_ok-pair w ↦
-          (let told = w.in_ok-pair.ensures.change in
-          let fell = rw w.self-is at c.fail.ensures.inner in
-          let failed = rw w.self-is at c.fail.ensures.failures in
-          change_late c.args.self.now.inner w.pair.new.self c.fail.new.self.inner c.args.self.now.calls.failed c.fail.new.self.calls.failed c.requires.stage told.ok told.later fell (search rules) c.fail.result)
-      | else-self w ↦
-          (let fell = rw w.self-is at c.fail.ensures.inner in
-          let failed = rw w.self-is at c.fail.ensures.failures in
-          change_fallen c.args.self.now.inner c.fail.new.self.inner c.args.self.now.calls.failed c.fail.new.self.calls.failed fell (search rules) c.fail.result)
-    ]
+pub returns-then-fails-2-clause-change : goal.returns-then-fails-2-clause-change
+returns-then-fails-2-clause-change c =
+    let old = c.args.self.now in
+    let new = c.fail-then-fails-2.new.self in
+    let fail = c.fail-then-fails-2.ensures in
+    change_late old.inner c.pair-answer.new.self new.inner old.stage c.stage_after-self.result new.stage old.calls.failed new.calls.failed c.requires.stage fail.inner (search rules) c.pair-answer.result
+    c.fail-then-fails-2.result (rw c.is_ok.ensures.value at c.stage_after-self.ensures) fail.stage c.pair-answer.ensures.change
 
 pub returns-clause-change : goal.returns-clause-change
-returns-clause-change c = change_through c.args.self.now.inner c.pair-2.new.self c.args.self.now.calls.failed c.fails.new.self.failed (search rules) c.pair-2.result c.pair-2.ensures.change
+returns-clause-change c =
+    let old = c.args.self.now in
+    change_through old.inner c.pair-answer.new.self old.stage c.stage_after-self.result old.calls.failed c.fails-fails.new.self.failed old.idle (search rules) c.pair-answer.result
+    (rw c.is_ok.ensures.value at c.stage_after-self.ensures) c.pair-answer.ensures.change

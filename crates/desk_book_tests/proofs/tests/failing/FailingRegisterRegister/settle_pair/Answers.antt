@@ -1,26 +1,17 @@
-use Rattle.std.proofs.Common.{◌≡◌, Err, rules}
-use Rattle.desk_book_tests.proofs.FailingLemmas.{change_fallen, change_late, change_through}
-use Rattle.desk_book_tests.proofs.tests.failing.FailingRegisterRegister.settle_pair.Goals.{then-self+in_ok-_outcome, else-self}
+use Rattle.std.proofs.Common.{rules}
+use Rattle.desk_book_tests.proofs.FailingLemmas.{change_late, change_through}
 use Rattle.desk_book_tests.proofs.tests.failing.FailingRegisterRegister.settle_pair.Goals as goal
 
-pub returns-in_err-_outcome-clause-change : goal.returns-in_err-_outcome-clause-change
-returns-in_err-_outcome-clause-change c =
-    let is : c.from_residual.result ≡ Err c.in_err-_outcome.field-0.0 = search rules in
-    rw is (change_through c.args.self.now.inner c.settle_pair.new.self c.args.self.now.calls.failed c.fails.new.self.failed (search rules) (Err c.in_err-_outcome.field-0.0) c.in_err-_outcome.ensures.change)
-
-pub returns-then-fails-clause-change : goal.returns-then-fails-clause-change
-returns-then-fails-clause-change c =
-    elim c.if-self.branch [
-      | then-self+in_ok-_outcome w ↦
-          (let told = w.in_ok-_outcome.ensures.change in
-          let fell = rw w.self-is at c.fail.ensures.inner in
-          let failed = rw w.self-is at c.fail.ensures.failures in
-          change_late c.args.self.now.inner w.settle_pair.new.self c.fail.new.self.inner c.args.self.now.calls.failed c.fail.new.self.calls.failed c.requires.stage told.ok told.later fell (search rules) c.fail.result)
-      | else-self w ↦
-          (let fell = rw w.self-is at c.fail.ensures.inner in
-          let failed = rw w.self-is at c.fail.ensures.failures in
-          change_fallen c.args.self.now.inner c.fail.new.self.inner c.args.self.now.calls.failed c.fail.new.self.calls.failed fell (search rules) c.fail.result)
-    ]
+pub returns-then-fails-2-clause-change : goal.returns-then-fails-2-clause-change
+returns-then-fails-2-clause-change c =
+    let old = c.args.self.now in
+    let new = c.fail-then-fails-2.new.self in
+    let fail = c.fail-then-fails-2.ensures in
+    change_late old.inner c.settle_pair-answer.new.self new.inner old.stage c.stage_after-self.result new.stage old.calls.failed new.calls.failed c.requires.stage fail.inner (search rules) c.settle_pair-answer.result
+    c.fail-then-fails-2.result (rw c.is_ok.ensures.value at c.stage_after-self.ensures) fail.stage c.settle_pair-answer.ensures.change
 
 pub returns-clause-change : goal.returns-clause-change
-returns-clause-change c = change_through c.args.self.now.inner c.settle_pair-2.new.self c.args.self.now.calls.failed c.fails.new.self.failed (search rules) c.settle_pair-2.result c.settle_pair-2.ensures.change
+returns-clause-change c =
+    let old = c.args.self.now in
+    change_through old.inner c.settle_pair-answer.new.self old.stage c.stage_after-self.result old.calls.failed c.fails-fails.new.self.failed old.idle (search rules) c.settle_pair-answer.result
+    (rw c.is_ok.ensures.value at c.stage_after-self.ensures) c.settle_pair-answer.ensures.change

@@ -1,0 +1,435 @@
+-- A run's pass, from its first pair to its last.
+use Rattle.std.proofs.Common.{◌≡◌, ◌⊎◌, inl, inr, ℕ, ◌+◌, ◌<◌, ◌≤◌, ◌^◌, ◌==◌, true, false, not, List, [], ◌∷◌, ◌++◌, length, Contains, bytes_eq, Option, Some, None, refl, ap, sym, ◌∙◌, subst, arith, length-append, append_assoc, append-nil, lit<}
+use Rattle.std.specs.Prelude.{nat_lt, is_some}
+use Rattle.std.proofs.lemmas.Bool.{cases_Bool, cases_eq, ne_eqb, ltb-false}
+use Rattle.std.proofs.lemmas.Bool.Decides.{nat_tests}
+use Rattle.std.proofs.lemmas.List.Sums.{sum_by_push}
+use Rattle.std.proofs.lemmas.Slice.Eq.{bytes_eq-Decides}
+use Rattle.desk_codes.specs.Number.{number_of}
+use Rattle.desk_msg.specs.declared.instruction.Cash.{Cash}
+use Rattle.desk_msg.specs.MessageType.{is_against_payment, is_delivery}
+use Rattle.desk_rules.specs.Opposite.{AreOpposite}
+use Rattle.desk_rules.specs.declared.entry.Entry.{Entry}
+use Rattle.desk_rules.specs.declared.entry.RunRule.{RunRule}
+use Rattle.desk_rules.specs.declared.entry.Entry.TheVariants.{Participant, Account, Security, Issue, Redeem, PayIn, PayOut, Instruct, Cancel, Run}
+use Rattle.desk_register.specs.declared.found.Outcome.{Outcome}
+use Rattle.desk_register.specs.declared.found.Outcome.TheVariants as outcomes
+use Rattle.desk_register.specs.declared.found.Outcome.TheVariants.{Lacks}
+use Rattle.desk_rules.specs.declared.pair.Pair.{Pair}
+use Rattle.desk_rules.specs.declared.pair.Place.{Place}
+use Rattle.desk_rules.specs.declared.pair.Settled.{Settled}
+use Rattle.desk_rules.specs.declared.pair.Lack.TheVariants.{Securities, Money as LacksMoney}
+use Rattle.desk_rules.specs.declared.standing.State.{State}
+use Rattle.desk_rules.specs.declared.standing.State.TheVariants as states
+use Rattle.desk_rules.specs.declared.standing.State.TheVariants.{Plain, Unmatched, Matched, Cancelled}
+use Rattle.desk_msg.specs.declared.status.Reason.TheVariants as reasons
+use Rattle.desk_rules.specs.declared.standing.Standing.{Standing}
+use Rattle.desk_rules.specs.declared.verdict.Refusal.TheVariants.{OverLimit}
+use Rattle.desk_rules.specs.declared.entry.Instructed.{Instructed}
+use Rattle.desk_rules.specs.History.{entry_at, instruction_at, instructed}
+use Rattle.desk_codes.specs.declared.currency.Ccy.{Ccy}
+use Rattle.desk_rules.specs.Cancelled.{is_cancel_requested}
+use Rattle.desk_rules.specs.Balances.{credits, debits, cash_credits, cash_debits, issued, redeemed, issued_by, redeemed_by, movement_of}
+use Rattle.desk_rules.specs.Covered.{is_covered}
+use Rattle.desk_rules.specs.Facts.{accounts_of}
+use Rattle.desk_rules.specs.Pairing.{IsSide, mate_in}
+use Rattle.desk_rules.specs.Settlement.{IsNext}
+use Rattle.desk_rules.specs.Books.{Books, AreBooks}
+use Rattle.desk_rules.specs.Verdict.{WasAccepted, check}
+use Rattle.desk_rules.specs.declared.limits.TheConstants.{MOST_QUANTITY}
+use Rattle.desk_engine.specs.Decision.{is_supported}
+use Rattle.desk_rules.specs.Content.{Content, history_of}
+use Rattle.desk_register.specs.Changes.{standing_both, CanSettle, TriesPair, TriesSides, delivery_of as deliverer, receipt_of as receiver}
+use Rattle.desk_register.specs.Looked.{IsDue, IsDuePairAfter}
+use Rattle.desk_engine.specs.Pass.{settled_of, AreSupported, PassesAt, InstructionPasses, IsUnderway, is_below}
+use Rattle.desk_rules.proofs.Accepted.{accepted_last}
+use Rattle.desk_rules.proofs.Conservation.{accepted_all, account_registered, paired_add_up}
+use Rattle.desk_rules.proofs.Decided.{In, In-from_Contains, Contains-from_In, In-left, In-push_cases}
+use Rattle.desk_rules.proofs.Existence.{books_exist}
+use Rattle.desk_rules.proofs.HistoryLemmas.{some_before, before-all}
+use Rattle.desk_rules.proofs.SettlementLemmas.{ordered_pairs, begins_wider}
+use Rattle.desk_rules.proofs.SettlementGrowth.{IsSettledTo, run_settles, run_leaves}
+use Rattle.desk_engine.proofs.TablesLemmas.{sum_member}
+use Rattle.desk_rules.proofs.WellFormedLemmas.{entry_In}
+use Rattle.desk_engine.proofs.PassLemmas.{FoundPair, found_pair, is_next}
+use Rattle.desk_engine.proofs.PassSteps.{left_so, settled_so, side_settled, side_left}
+use Rattle.desk_engine.proofs.WaitingLemmas.{left_count, left_settled, left_lacks, unsettled_fewer}
+use Rattle.desk_engine.proofs.StepLemmas.{HasSides, covered_if, uncovered_if, lack_if, settled_position, settled_cash}
+
+-- Nothing is against payment.
+
+unpaid : (i : Instructed) → not (is_against_payment i.instruction.mt) ≡ true → i.instruction.cash ≡ None
+unpaid i supported = by_cash i.instruction.cash i.instruction.paid
+  where
+    by_cash : (cash : Option Cash) → is_some cash ≡ is_against_payment i.instruction.mt → cash ≡ None
+    by_cash None paid = refl
+    by_cash (Some cash) paid =
+        let test : is_against_payment i.instruction.mt ≡ true = sym paid in
+        let clash : false ≡ true = sym (ap not test) ∙ supported in
+        absurd (cc)
+
+pub free_instruction : (h : List Entry) (k : ℕ) (i : Instructed) → AreSupported h → instruction_at h k ≡ Some i → i.instruction.cash ≡ None
+free_instruction h k i supported at =
+    let found = some_before instructed (entry_at h k) i at in
+    by_entry found.0 found.2 (supported.each found.0 (Contains-from_In h found.0 (entry_In h k found.0 found.1)))
+  where
+    by_entry : (e : Entry) → instructed e ≡ Some i → is_supported e ≡ true → i.instruction.cash ≡ None
+    by_entry (Participant reference bic) is good = absurd (cc)
+    by_entry (Account reference bic account) is good = absurd (cc)
+    by_entry (Security reference isin kind) is good = absurd (cc)
+    by_entry (Issue movement) is good = absurd (cc)
+    by_entry (Redeem movement) is good = absurd (cc)
+    by_entry (PayIn payment) is good = absurd (cc)
+    by_entry (PayOut payment) is good = absurd (cc)
+    by_entry (Instruct sender instruction) is good =
+        let it : Instructed = record { sender = sender; instruction = instruction } in
+        let same : it ≡ i = (let e : Some it ≡ Some i = is in cc) in
+        let P : Instructed → Type 0 = λ x. x.instruction.cash ≡ None in
+        subst P same (unpaid it good)
+    by_entry (Cancel sender order) is good = absurd (cc)
+    by_entry (Run reference day rule) is good = absurd (cc)
+
+-- What is outstanding is within its limit.
+
+same_text : (a b : List ℕ) → bytes_eq a b ≡ true → a ≡ b
+same_text a b e = let d = bytes_eq-Decides a b in d.0 e
+
+outstanding_step : (h : List Entry) (e : Entry) (limit : ℕ) → WasAccepted limit (h ++ e ∷ []) → ((isin : List ℕ) → issued h isin ≤ redeemed h isin + MOST_QUANTITY)
+    → (isin : List ℕ) → issued h isin + issued_by (movement_of isin) e ≤ redeemed h isin + redeemed_by (movement_of isin) e + MOST_QUANTITY
+outstanding_step h (Participant reference bic) limit was all isin = let here = all isin in omega arith
+outstanding_step h (Account reference bic account) limit was all isin = let here = all isin in omega arith
+outstanding_step h (Security reference i kind) limit was all isin = let here = all isin in omega arith
+outstanding_step h (Issue movement) limit was all isin =
+    let here = all isin in
+    elim (cases_Bool (bytes_eq movement.isin isin)) [
+      | inr other ↦ rw other (omega arith)
+      | inl of ↦
+          let b = books_exist h in
+          let p = accepted_last limit h (Issue movement) b.0 b.1 was b.2 in
+          let third : nat_lt (redeemed h movement.isin + MOST_QUANTITY) (issued h movement.isin + movement.quantity) ≡ false =
+          p.checks (check (nat_lt (redeemed h movement.isin + MOST_QUANTITY) (issued h movement.isin + movement.quantity)) OverLimit) (inr (inr (inl refl))) in
+          let within : issued h movement.isin + movement.quantity ≤ redeemed h movement.isin + MOST_QUANTITY = ltb-false _ _ third in
+          let same : movement.isin ≡ isin = same_text movement.isin isin of in
+          let P : List ℕ → Type 0 = λ z. issued h z + movement.quantity ≤ redeemed h z + MOST_QUANTITY in
+          let moved : issued h isin + movement.quantity ≤ redeemed h isin + MOST_QUANTITY = subst P same within in
+          rw of (omega arith)
+    ]
+outstanding_step h (Redeem movement) limit was all isin = let here = all isin in omega arith
+outstanding_step h (PayIn payment) limit was all isin = let here = all isin in omega arith
+outstanding_step h (PayOut payment) limit was all isin = let here = all isin in omega arith
+outstanding_step h (Instruct sender instruction) limit was all isin = let here = all isin in omega arith
+outstanding_step h (Cancel sender order) limit was all isin = let here = all isin in omega arith
+outstanding_step h (Run reference day rule) limit was all isin = let here = all isin in omega arith
+
+pub record WithinLimit (h : List Entry) : Type 0 where
+  pub each : (isin : List ℕ) → issued h isin ≤ redeemed h isin + MOST_QUANTITY
+
+pub outstanding_within : (limit : ℕ) (h : List Entry) → WasAccepted limit h → WithinLimit h
+outstanding_within limit h was =
+    accepted_all limit WithinLimit (record { each = λ isin. omega arith })
+    (λ front e was' within. record {
+      each = λ isin.
+          let more = sum_by_push (issued_by (movement_of isin)) front e in
+          let less = sum_by_push (redeemed_by (movement_of isin)) front e in
+          let step = outstanding_step front e limit was' within.each isin in
+          omega arith;
+    }) h was
+
+-- what an account of an instruction holds is within the limit
+pub instructed_position_within : (limit : ℕ) (books : Books) (settled : List Settled) (pos : List ℕ → List ℕ → ℕ) (k : ℕ) (i : Instructed) (isin : List ℕ) → AreBooks books → WasAccepted limit books.history
+    → ((s : Settled) → In settled s → Contains books.pairs s.pair) → ((a x : List ℕ) → pos a x + debits books.history settled a x ≡ credits books.history settled a x) → instruction_at books.history k ≡ Some i
+    → pos i.instruction.account isin ≤ MOST_QUANTITY
+instructed_position_within limit books settled pos k i isin are was inside all at =
+    let h = books.history in
+    let sums = paired_add_up limit h was books.pairs settled isin are.pairing inside in
+    let member = account_registered limit h was k i at in
+    let one = sum_member (λ a. credits h settled a isin) (λ a. debits h settled a isin) (accounts_of h) i.instruction.account (λ a. let e : pos a isin + debits h settled a isin ≡ credits h settled a isin = all a isin in omega arith) member in
+    let here : pos i.instruction.account isin + debits h settled i.instruction.account isin ≡ credits h settled i.instruction.account isin = all i.instruction.account isin in
+    let within = outstanding_within limit h was in
+    let most = within.each isin in
+    omega arith
+
+mate_of_earlier : (q : Pair) → mate_in q q.earlier ≡ q.later
+mate_of_earlier q = let test : q.earlier == q.earlier ≡ true = grind (arith, nat_tests) in rw test refl
+
+mate_of_last : (q : Pair) → q.earlier < q.later → mate_in q q.later ≡ q.earlier
+mate_of_last q lt = let test : q.earlier == q.later ≡ false = ne_eqb q.earlier q.later (λ (x : q.earlier ≡ q.later). absurd (omega arith)) in rw test refl
+
+-- where two numbers stand, and the rest
+both_stand : (P : ℕ → Standing → Type 0) (standing : ℕ → Standing) (m n : ℕ) (state : State) → P n (record (standing n) { mate = Some m; state = state }) → P m (record (standing m) { mate = Some n; state = state })
+    → ((k : ℕ) → (k ≡ n → ⊥) → (k ≡ m → ⊥) → P k (standing k)) → (k : ℕ) → P k (standing_both standing m n state k)
+both_stand P standing m n state last first rest k = elim (cases_eq k n) [
+  | inl is ↦
+      let test : k == n ≡ true = grind (arith, nat_tests) in
+      let Q : ℕ → Type 0 = λ z. P z (record (standing n) { mate = Some m; state = state }) in
+      rw test (subst Q (sym is) last)
+  | inr not_last ↦ elim (cases_eq k m) [
+    | inl is ↦
+        let test : k == n ≡ false = ne_eqb k n not_last in
+        let this : k == m ≡ true = grind (arith, nat_tests) in
+        let Q : ℕ → Type 0 = λ z. P z (record (standing m) { mate = Some n; state = state }) in
+        rw (test, this) (subst Q (sym is) first)
+    | inr not_first ↦
+        let test : k == n ≡ false = ne_eqb k n not_last in
+        let other : k == m ≡ false = ne_eqb k m not_first in
+        rw (test, other) (rest k not_last not_first)
+  ]
+]
+
+-- what the pass has come to after one pair more
+pub record PassedOn (books : Books) (reference day : List ℕ) (rule : RunRule) (pass : ℕ) (place : Option Place) (next : Place) (settled : List Settled) (outcome : Outcome) (content : Content) : Type 0 where
+  pub added : List Settled
+  pub underway : IsUnderway books (Run reference day rule) pass (Some next) (settled ++ added) content
+  pub of_pass : (s : Settled) → In added s → (s.run ≡ length books.history + 1) × (s.pass ≡ pass)
+  pub count : length added ≡ settled_of outcome
+  pub left : left_count (books.history ++ Run reference day rule ∷ []) (length books.history + 1) (Some next) (settled ++ added) books.pairs + settled_of outcome
+      ≡ left_count (books.history ++ Run reference day rule ∷ []) (length books.history + 1) place settled books.pairs + 1
+
+module _ (limit : ℕ) (books : Books) (reference day : List ℕ) (rule : RunRule) (pass : ℕ) (place : Option Place) (settled : List Settled) (old : Content)
+    (are : AreBooks books) (was : WasAccepted limit books.history) (supported : AreSupported books.history) (u : IsUnderway books (Run reference day rule) pass place settled old) where
+  settled_in_pairs : (s : Settled) → In settled s → Contains books.pairs s.pair
+  settled_in_pairs s i = let m = (u.reached.exact s (u.reached.within s i)).0 i in m.paired
+
+  -- the two instructions of the next pair
+  pub record NextSides (next : Place) (due : IsDue old (number_of day) place next) : Type 0 where
+    pub found : FoundPair books reference day rule pass place settled old are u next due.pair
+    pub earlier : Instructed
+    pub sides : HasSides books.history found.waiting.pair earlier due.pair.later
+    pub is_earlier : instruction_at (history_of old) due.pair.mate ≡ Some earlier
+
+  pub next_sides : (next : Place) (due : IsDue old (number_of day) place next) → NextSides next due
+  next_sides next due =
+      let found = found_pair books reference day rule pass place settled old are u next due.pair in
+      let q = found.waiting.pair in
+      let mate = (are.pairing.exact q).0 found.waiting.in_pair.paired in
+      let o = mate.candidate.opposite in
+      let later : instruction_at books.history q.later ≡ Some due.pair.later = ap (λ k. instruction_at books.history k) found.later ∙ ap (λ z. instruction_at z next.number) (sym u.passing.history) ∙ due.pair.is_later in
+      let both : Some o.second ≡ Some due.pair.later = sym o.is_second ∙ later in
+      let same : o.second ≡ due.pair.later = cc in
+      let P : Instructed → Type 0 = λ x. AreOpposite o.first x in
+      record {
+        found = found;
+        earlier = o.first;
+        sides = record {
+          first = o.is_first;
+          second = later;
+          opposite = subst P same o.opposite;
+          unpaid = free_instruction books.history q.earlier o.first supported o.is_first;
+        };
+        is_earlier = ap (λ z. instruction_at z due.pair.mate) u.passing.history ∙ ap (λ k. instruction_at books.history k) (sym found.earlier) ∙ o.is_first;
+      }
+
+  side_within : (next : Place) (due : IsDue old (number_of day) place next) (n : NextSides next due) (i : Instructed) → (i ≡ n.earlier) ⊎ (i ≡ due.pair.later) → (isin : List ℕ)
+      → old.position i.instruction.account isin ≤ MOST_QUANTITY
+  side_within next due n i which isin = elim which [
+    | inl first ↦ instructed_position_within limit books settled old.position n.found.waiting.pair.earlier i isin are was settled_in_pairs u.passing.position (n.sides.first ∙ ap Some (sym first))
+    | inr second ↦ instructed_position_within limit books settled old.position n.found.waiting.pair.later i isin are was settled_in_pairs u.passing.position (n.sides.second ∙ ap Some (sym second))
+  ]
+
+  which_receives : (a b : Instructed) → (receiver a b ≡ a) ⊎ (receiver a b ≡ b)
+  which_receives a b = elim (cases_Bool (is_delivery a.instruction.mt)) [
+    | inl delivers ↦ inr (rw delivers refl)
+    | inr other ↦ inl (rw other refl)
+  ]
+
+  which_delivers : (a b : Instructed) → (deliverer a b ≡ a) ⊎ (deliverer a b ≡ b)
+  which_delivers a b = elim (cases_Bool (is_delivery a.instruction.mt)) [
+    | inl delivers ↦ inl (rw delivers refl)
+    | inr other ↦ inr (rw other refl)
+  ]
+
+  pub next_can_settle : (next : Place) → IsDuePairAfter old (number_of day) place (Some next) → CanSettle old next.number
+  next_can_settle next after =
+      let due = after.0 in
+      let n = next_sides next due in
+      let b = due.pair.later in
+      record {
+        mate = due.pair.mate;
+        earlier = n.earlier;
+        later = b;
+        pair = record { is_later = due.pair.is_later; has_mate = due.pair.has_mate; is_earlier = n.is_earlier };
+        two = due.pair.is_earlier;
+        free = n.sides.unpaid;
+        fits = λ there.
+            let from : old.position (deliverer n.earlier b).instruction.account b.instruction.isin ≤ MOST_QUANTITY = side_within next due n (deliverer n.earlier b) (which_delivers n.earlier b) b.instruction.isin in
+            let to : old.position (receiver n.earlier b).instruction.account b.instruction.isin ≤ MOST_QUANTITY = side_within next due n (receiver n.earlier b) (which_receives n.earlier b) b.instruction.isin in
+            let room : MOST_QUANTITY + MOST_QUANTITY < 2 ^ 63 = lit< tt in
+            omega arith;
+      }
+
+  -- the sides that the register settled are those
+  ends_here : (next : Place) (due : IsDue old (number_of day) place next) (n : NextSides next due) (outcome : Outcome) (new : Content) → (s : TriesPair old next.number outcome new)
+      → TriesSides old next.number due.pair.mate n.earlier due.pair.later outcome new
+  ends_here next due n outcome new s =
+      let mates : Some s.mate ≡ Some due.pair.mate = sym s.pair.has_mate ∙ due.pair.has_mate in
+      let mate : s.mate ≡ due.pair.mate = cc in
+      let laters : Some s.later ≡ Some due.pair.later = sym s.pair.is_later ∙ due.pair.is_later in
+      let later : s.later ≡ due.pair.later = cc in
+      let earliers : Some s.earlier ≡ Some n.earlier = sym s.pair.is_earlier ∙ ap (λ k. instruction_at (history_of old) k) mate ∙ n.is_earlier in
+      let earlier : s.earlier ≡ n.earlier = cc in
+      let P : ℕ → Type 0 = λ m. TriesSides old next.number m s.earlier s.later outcome new in
+      let Q : Instructed → Type 0 = λ x. TriesSides old next.number due.pair.mate x s.later outcome new in
+      let R : Instructed → Type 0 = λ x. TriesSides old next.number due.pair.mate n.earlier x outcome new in
+      subst R later (subst Q earlier (subst P mate s.ends))
+
+  pub record NextFacts (next : Place) (due : IsDue old (number_of day) place next) (n : NextSides next due) : Type 0 where
+    pub next_is : IsNext (books.history ++ Run reference day rule ∷ []) books.pairs settled (length books.history + 1) place n.found.waiting.pair
+    pub number_side : IsSide n.found.waiting.pair next.number
+    pub mate_side : IsSide n.found.waiting.pair due.pair.mate
+    pub number_mate : mate_in n.found.waiting.pair next.number ≡ due.pair.mate
+    pub mate_number : mate_in n.found.waiting.pair due.pair.mate ≡ next.number
+    pub at_number : instruction_at books.history next.number ≡ Some due.pair.later
+    pub at_mate : instruction_at books.history due.pair.mate ≡ Some n.earlier
+    pub others : (k : ℕ) → (k ≡ next.number → ⊥) → (k ≡ due.pair.mate → ⊥) → IsSide n.found.waiting.pair k → ⊥
+
+  pub next_facts : (next : Place) (after : IsDuePairAfter old (number_of day) place (Some next)) (n : NextSides next after.0) → NextFacts next after.0 n
+  next_facts next after n =
+      let q = n.found.waiting.pair in
+      let less : q.earlier < q.later = (let mate = (are.pairing.exact q).0 n.found.waiting.in_pair.paired in mate.candidate.earlier) in
+      record {
+        next_is = is_next books reference day rule pass place settled old are u next after.0 after.1 n.found;
+        number_side = inr n.found.later;
+        mate_side = inl n.found.earlier;
+        number_mate = ap (mate_in q) (sym n.found.later) ∙ mate_of_last q less ∙ n.found.earlier;
+        mate_number = ap (mate_in q) (sym n.found.earlier) ∙ mate_of_earlier q ∙ n.found.later;
+        at_number = ap (λ k. instruction_at books.history k) (sym n.found.later) ∙ n.sides.second;
+        at_mate = ap (λ k. instruction_at books.history k) (sym n.found.earlier) ∙ n.sides.first;
+        others = λ k a b side. elim side [ inl e ↦ b (sym e ∙ n.found.earlier) | inr e ↦ a (sym e ∙ n.found.later) ];
+      }
+
+  -- what a step leaves of where an instruction stands
+  rest_settled : (next : Place) (after : IsDuePairAfter old (number_of day) place (Some next)) (n : NextSides next after.0) → NextFacts next after.0 n → (k : ℕ) (o : Option Instructed) (st : Standing)
+      → (IsSide n.found.waiting.pair k → ⊥) → PassesAt books (Run reference day rule) pass (is_below books (Run reference day rule) place) settled k o st
+      → PassesAt books (Run reference day rule) pass (is_below books (Run reference day rule) (Some next)) (settled ++ record { run = length books.history + 1; pass = pass; pair = n.found.waiting.pair } ∷ []) k o st
+  rest_settled next after n f k None st apart is = is
+  rest_settled next after n f k (Some i) st apart is = record {
+    so = settled_so books (Run reference day rule) pass place settled n.found.waiting.pair next are f.next_is n.found.place_is u.reached k st.mate st.state apart is.so;
+    requested = is.requested;
+  }
+
+  rest_left : (next : Place) (after : IsDuePairAfter old (number_of day) place (Some next)) (n : NextSides next after.0) → NextFacts next after.0 n → (k : ℕ) (o : Option Instructed) (st : Standing)
+      → (IsSide n.found.waiting.pair k → ⊥) → PassesAt books (Run reference day rule) pass (is_below books (Run reference day rule) place) settled k o st
+      → PassesAt books (Run reference day rule) pass (is_below books (Run reference day rule) (Some next)) settled k o st
+  rest_left next after n f k None st apart is = is
+  rest_left next after n f k (Some i) st apart is = record {
+    so = left_so books (Run reference day rule) pass place settled n.found.waiting.pair next are f.next_is n.found.place_is u.reached k st.mate st.state apart is.so;
+    requested = is.requested;
+  }
+
+  -- whether its cancellation was requested stands as it did
+  requested_at : (k : ℕ) (i : Instructed) → instruction_at books.history k ≡ Some i → (old.standing k).cancel_requested ≡ is_cancel_requested books.history k
+  requested_at k i at =
+      let P : Option Instructed → Type 0 = λ o. PassesAt books (Run reference day rule) pass (is_below books (Run reference day rule) place) settled k o (old.standing k) in
+      let here : InstructionPasses books (Run reference day rule) pass (is_below books (Run reference day rule) place) settled k (old.standing k) = subst P at (u.passing.standing k) in
+      here.requested
+
+  step_settled : (next : Place) (after : IsDuePairAfter old (number_of day) place (Some next)) (new : Content) → TriesPair old next.number outcomes.Settled new → PassedOn books reference day rule pass place next settled outcomes.Settled new
+  step_settled next after new s =
+      let due = after.0 in
+      let n = next_sides next due in
+      let f = next_facts next after n in
+      let ends = ends_here next due n outcomes.Settled new s in
+      let q = n.found.waiting.pair in
+      let e : Entry = Run reference day rule in
+      let t : Settled = record { run = length books.history + 1; pass = pass; pair = q } in
+      let on : List Settled = settled ++ t ∷ [] in
+      let H : Content → Type 0 = λ c. history_of c ≡ books.history in
+      let S : Content → Type 0 = λ c. (k : ℕ) → PassesAt books e pass (is_below books e (Some next)) on k (instruction_at books.history k) (c.standing k) in
+      let B : Content → Type 0 = λ c. (a i : List ℕ) → c.position a i + debits books.history on a i ≡ credits books.history on a i in
+      let C : Content → Type 0 = λ c. (b : List ℕ) (y : Ccy) → c.cash b y + cash_debits books.history on b y ≡ cash_credits books.history on b y in
+      let P : ℕ → Standing → Type 0 = λ k st. PassesAt books e pass (is_below books e (Some next)) on k (instruction_at books.history k) st in
+      let covered = covered_if books.history settled q n.earlier due.pair.later n.sides old.position u.passing.position ends.0 in
+      let order = ordered_pairs books.history books.pairs are.pairing in
+      let member = In-from_Contains books.pairs q n.found.waiting.in_pair.paired in
+      record {
+        added = t ∷ [];
+        underway = record {
+          passing = record {
+            history = subst H (sym ends.1) u.passing.history;
+            standing = subst S (sym ends.1) (both_stand P old.standing due.pair.mate next.number states.Settled
+                (rw f.at_number (record {
+                  so = side_settled books e pass place settled q next are f.next_is n.found.place_is u.reached next.number due.pair.mate f.number_side f.number_mate;
+                  requested = requested_at next.number due.pair.later f.at_number;
+                }))
+                (rw f.at_mate (record {
+                  so = side_settled books e pass place settled q next are f.next_is n.found.place_is u.reached due.pair.mate next.number f.mate_side f.mate_number;
+                  requested = requested_at due.pair.mate n.earlier f.at_mate;
+                }))
+                (λ k a b. rest_settled next after n f k (instruction_at books.history k) (old.standing k) (f.others k a b) (u.passing.standing k)));
+            position = subst B (sym ends.1) (λ a i. settled_position books.history settled q n.earlier due.pair.later n.sides old.position u.passing.position t refl ends.0 a i);
+            cash = subst C (sym ends.1) (λ b y. settled_cash books.history settled q n.earlier due.pair.later n.sides old.position u.passing.position t refl (old.cash b y) b y (u.passing.cash b y));
+          };
+          reached = run_settles (books.history ++ e ∷ []) books.pairs settled (length books.history + 1) pass place q next order u.reached u.begun f.next_is n.found.place_is
+              (ap (λ z. is_covered z settled q) (before-all books.history (e ∷ []) (length books.history + 1) refl) ∙ covered);
+          begun = begins_wider (books.history ++ e ∷ []) settled on (length books.history + 1) pass (λ x i. In-left settled (t ∷ []) x i) u.begun;
+          further = record {
+            more = u.further.more ++ t ∷ [];
+            is_more = ap (λ z. z ++ t ∷ []) u.further.is_more ∙ append_assoc books.settled u.further.more (t ∷ []);
+            of_run = λ x c. elim (In-push_cases u.further.more t x (In-from_Contains (u.further.more ++ t ∷ []) x c)) [ inl before ↦ u.further.of_run x (Contains-from_In u.further.more x before) | inr is ↦ ap (λ (z : Settled). z.run) (sym is) ];
+            few =
+                let fewer = unsettled_fewer books.pairs settled t order member n.found.waiting.in_pair.unsettled in
+                let few = u.further.few in
+                let size = length-append u.further.more (t ∷ []) in
+                omega arith;
+          };
+        };
+        of_pass = λ x i. elim i [ inl is ↦ (ap (λ (z : Settled). z.run) (sym is), ap (λ (z : Settled). z.pass) (sym is)) | inr none ↦ absurd none ];
+        count = refl;
+        left = (let same = left_settled (books.history ++ e ∷ []) (length books.history + 1) place settled books.pairs q next order f.next_is n.found.place_is n.found.waiting.in_pair.unsettled pass in omega arith);
+      }
+
+  step_lacks : (next : Place) (after : IsDuePairAfter old (number_of day) place (Some next)) (new : Content) → TriesPair old next.number (Lacks Securities) new → PassedOn books reference day rule pass place next settled (Lacks Securities) new
+  step_lacks next after new s =
+      let due = after.0 in
+      let n = next_sides next due in
+      let f = next_facts next after n in
+      let ends = ends_here next due n (Lacks Securities) new s in
+      let q = n.found.waiting.pair in
+      let e : Entry = Run reference day rule in
+      let H : Content → Type 0 = λ c. history_of c ≡ books.history in
+      let S : Content → Type 0 = λ c. (k : ℕ) → PassesAt books e pass (is_below books e (Some next)) settled k (instruction_at books.history k) (c.standing k) in
+      let B : Content → Type 0 = λ c. (a i : List ℕ) → c.position a i + debits books.history settled a i ≡ credits books.history settled a i in
+      let C : Content → Type 0 = λ c. (b : List ℕ) (y : Ccy) → c.cash b y + cash_debits books.history settled b y ≡ cash_credits books.history settled b y in
+      let P : ℕ → Standing → Type 0 = λ k st. PassesAt books e pass (is_below books e (Some next)) settled k (instruction_at books.history k) st in
+      let short = uncovered_if books.history settled q n.earlier due.pair.later n.sides old.position u.passing.position ends.0 in
+      let lack = lack_if books.history settled q n.earlier due.pair.later n.sides old.position u.passing.position ends.0 in
+      let none : settled ++ [] ≡ settled = append-nil settled in
+      let order = ordered_pairs books.history books.pairs are.pairing in
+      let after_it : IsUnderway books e pass (Some next) settled new = record {
+        passing = record {
+          history = subst H (sym ends.1) u.passing.history;
+          standing = subst S (sym ends.1) (both_stand P old.standing due.pair.mate next.number (Matched reasons.Lack)
+              (rw f.at_number (record {
+                so = side_left books e pass place settled q next are f.next_is n.found.place_is u.reached next.number due.pair.mate f.number_side f.number_mate n.found.waiting.in_pair.unsettled lack;
+                requested = requested_at next.number due.pair.later f.at_number;
+              }))
+              (rw f.at_mate (record {
+                so = side_left books e pass place settled q next are f.next_is n.found.place_is u.reached due.pair.mate next.number f.mate_side f.mate_number n.found.waiting.in_pair.unsettled lack;
+                requested = requested_at due.pair.mate n.earlier f.at_mate;
+              }))
+              (λ k a b. rest_left next after n f k (instruction_at books.history k) (old.standing k) (f.others k a b) (u.passing.standing k)));
+          position = subst B (sym ends.1) u.passing.position;
+          cash = subst C (sym ends.1) u.passing.cash;
+        };
+        reached = run_leaves (books.history ++ e ∷ []) books.pairs settled (length books.history + 1) pass place q next order u.reached f.next_is n.found.place_is
+            (ap (λ z. is_covered z settled q) (before-all books.history (e ∷ []) (length books.history + 1) refl) ∙ short);
+        begun = u.begun;
+        further = u.further;
+      } in
+      let U : List Settled → Type 0 = λ z. IsUnderway books e pass (Some next) z new in
+      record {
+        added = [];
+        underway = subst U (sym none) after_it;
+        of_pass = λ x i. absurd i;
+        count = refl;
+        left =
+            let more = left_lacks (books.history ++ e ∷ []) (length books.history + 1) place settled books.pairs q next order f.next_is n.found.place_is n.found.waiting.in_pair.unsettled in
+            let same : left_count (books.history ++ e ∷ []) (length books.history + 1) (Some next) (settled ++ []) books.pairs ≡ left_count (books.history ++ e ∷ []) (length books.history + 1) (Some next) settled books.pairs = ap (λ z. left_count (books.history ++ e ∷ []) (length books.history + 1) (Some next) z books.pairs) none in
+            omega arith;
+      }
+
+  -- one pair more
+  pub step : (next : Place) (after : IsDuePairAfter old (number_of day) place (Some next)) (outcome : Outcome) (new : Content) → TriesPair old next.number outcome new → PassedOn books reference day rule pass place next settled outcome new
+  step next after outcomes.Settled new s = step_settled next after new s
+  step next after (Lacks Securities) new s = step_lacks next after new s
+  step next after (Lacks LacksMoney) new s = absurd s.ends

@@ -1,0 +1,223 @@
+-- The loops of a run, over the views of the register.
+use Rattle.std.specs.Prelude.{nat_lt}
+use Rattle.std.proofs.lemmas.Bool.{ltb-true, ltb-false}
+use Rattle.desk_rules.specs.Settlement.{allows_more}
+use Rattle.std.proofs.Common.{◌≡◌, ◌⊎◌, inl, inr, ℕ, ◌+◌, ◌<◌, ◌≤◌, ◌^◌, true, false, ◌&&◌, refl, List, [], length, Option, Some, None, ap, sym, ◌∙◌, subst, arith}
+use Rattle.desk_codes.specs.Number.{number_of}
+use Rattle.desk_rules.specs.declared.entry.Entry.TheVariants.{Run}
+use Rattle.desk_rules.specs.declared.entry.RunRule.{RunRule}
+use Rattle.desk_rules.specs.declared.entry.RunRule.TheVariants.{OnePass, Passes}
+use Rattle.desk_rules.specs.declared.pair.Place.{Place}
+use Rattle.desk_rules.specs.declared.pair.Settled.{Settled}
+use Rattle.desk_engine.specs.declared.settlement_run.Taken.{Taken}
+use Rattle.desk_register.specs.View.{View, IsLater, Stays}
+use Rattle.desk_rules.specs.Books.{Books}
+use Rattle.desk_rules.specs.Content.{Content}
+use Rattle.desk_register.specs.Changes.{CanSettle, TriesPair}
+use Rattle.desk_register.specs.declared.found.Outcome.{Outcome}
+use Rattle.desk_register.specs.declared.found.Outcome.TheVariants as outcomes
+use Rattle.desk_register.specs.declared.found.Outcome.TheVariants.{Lacks}
+use Rattle.desk_rules.specs.declared.pair.Lack.TheVariants.{Securities, Money as LacksMoney}
+use Rattle.desk_register.specs.Looked.{IsDuePairAfter}
+use Rattle.desk_engine.specs.Tables.{Tables}
+use Rattle.desk_engine.specs.Pass.{AreSupported, CanPass, CanRun, IsAtPass, IsTaken, PassEnds, RanTo, settled_of}
+use Rattle.desk_engine.proofs.TablesLemmas.{length_is}
+use Rattle.desk_register.proofs.ViewLemmas.{later_then, stays_then}
+use Rattle.desk_engine.proofs.FinishLemmas.{pass_begins}
+use Rattle.desk_engine.proofs.UnderwayLemmas.{Underway, starts, can_settle, goes_on, ends_none, ends_all, Ran, goes_again, run_over, enough, settled_few, first_over, again_over}
+
+-- to try a pair changes no entry and no reply
+
+settles_keeps : (old new : Content) (n : ℕ) (outcome : Outcome) → TriesPair old n outcome new → new.register ≡ old.register
+settles_keeps old new n outcomes.Settled s = ap (λ (c : Content). c.register) s.ends.1
+settles_keeps old new n (Lacks Securities) s = ap (λ (c : Content). c.register) s.ends.1
+settles_keeps old new n (Lacks LacksMoney) s = absurd s.ends
+
+pub taken_keeps : (old new : Content) (day : ℕ) (place : Option Place) (taken : Option Taken) → IsTaken old day place taken new → new.register ≡ old.register
+taken_keeps old new day place None t = ap (λ (c : Content). c.register) t.1
+taken_keeps old new day place (Some taken) t = settles_keeps old new taken.place.number taken.outcome t.1
+
+-- One pass.
+
+pub record Running (room count : ℕ) (v0 v : View) (day : List ℕ) (place : Option Place) (tried settled waiting : ℕ) : Type 0 where
+  pub entries : v.is_honest → v0.is_sure → count ≡ length v0.content.register
+  pub stays : Stays v0 v
+  pub later : IsLater v0 v
+  pub counted : settled + waiting ≡ tried
+  pub kept : v.is_honest → v0.is_sure → v.content.register ≡ v0.content.register
+  pub underway : v.is_honest → v0.is_sure → (books : Books) (reference : List ℕ) (rule : RunRule) (pass : ℕ) (start : List Settled) → IsAtPass room books (Run reference day rule) pass start v0.content
+      → Underway books reference day rule pass start place tried settled waiting v.content
+
+pub running_begins : (room count : ℕ) (v0 v : View) (day : List ℕ) → Stays v0 v → IsLater v0 v → (v.is_honest → v0.is_sure → v.content ≡ v0.content) → (v.is_honest → v0.is_sure → count ≡ length v0.content.register) → Running room count v0 v day None 0 0 0
+running_begins room count v0 v day stays later same entries = record {
+  entries = entries;
+  stays = stays;
+  later = later;
+  counted = omega arith;
+  kept = λ honest sure. ap (λ (c : Content). c.register) (same honest sure);
+  underway = λ honest sure books reference rule pass start at.
+      let P : Content → Type 0 = λ c. Underway books reference day rule pass start None 0 0 0 c in
+      subst P (sym (same honest sure)) (starts books reference day rule pass start v0.content at.are_books at.underway);
+}
+
+pub running_goes_on : (room count : ℕ) (v0 v w : View) (day : List ℕ) (place : Option Place) (tried settled waiting new_settled new_waiting : ℕ) (taken : Taken) → Running room count v0 v day place tried settled waiting
+    → Stays v w → IsLater v w → (w.is_honest → v.is_sure → IsTaken v.content (number_of day) place (Some taken) w.content) → new_settled ≡ settled + settled_of taken.outcome
+    → new_settled + new_waiting ≡ settled + waiting + 1 → Running room count v0 w day (Some taken.place) (tried + 1) new_settled new_waiting
+running_goes_on room count v0 v w day place tried settled waiting new_settled new_waiting taken r stays later took settles all = record {
+  entries = λ honest sure. r.entries (later.honest honest) sure;
+  stays = stays_then v0 v w r.stays r.later later stays;
+  later = later_then v0 v w r.stays r.later later;
+  counted = (let c = r.counted in omega arith);
+  kept = λ honest sure. taken_keeps v.content w.content (number_of day) place (Some taken) (took honest (r.stays.sure (later.honest honest) sure)) ∙ r.kept (later.honest honest) sure;
+  underway = λ honest sure books reference rule pass start at.
+      let honest1 = later.honest honest in
+      let P : ℕ → Type 0 = λ k. Underway books reference day rule pass start (Some taken.place) (tried + 1) k new_waiting w.content in
+      subst P (sym settles) (goes_on room books reference day rule pass start place tried settled waiting new_waiting v.content w.content taken at.are_books at.accepted at.supported
+      (r.underway honest1 sure books reference rule pass start at) (took honest (r.stays.sure honest1 sure)) (omega arith));
+}
+
+pub running_can_settle : (room count : ℕ) (v0 v : View) (day : List ℕ) (place : Option Place) (tried settled waiting : ℕ) → Running room count v0 v day place tried settled waiting → (v0.is_honest → v0.is_sure → CanPass room day v0.content)
+    → v.is_honest → v.is_sure → (next : Place) → IsDuePairAfter v.content (number_of day) place (Some next) → CanSettle v.content next.number
+running_can_settle room count v0 v day place tried settled waiting r may honest sure next due =
+    let sure0 = r.later.sure honest sure in
+    let can = may (r.later.honest honest) sure0 in
+    let at = can.at_pass in
+    can_settle room can.books can.reference day can.rule can.pass can.settled place tried settled waiting v.content at.are_books at.accepted at.supported
+    (r.underway honest sure0 can.books can.reference can.rule can.pass can.settled at) next due
+
+pub running_ends_none : (room count : ℕ) (v0 v w : View) (day : List ℕ) (place : Option Place) (tried settled waiting : ℕ) (books : Books) (reference : List ℕ) (rule : RunRule) (pass : ℕ) (start : List Settled) → Running room count v0 v day place tried settled waiting
+    → IsLater v w → (w.is_honest → v.is_sure → IsTaken v.content (number_of day) place None w.content) → w.is_honest → v0.is_sure → IsAtPass room books (Run reference day rule) pass start v0.content
+    → PassEnds books (Run reference day rule) pass start settled waiting w.content
+running_ends_none room count v0 v w day place tried settled waiting books reference rule pass start r later took honest sure at =
+    let honest1 = later.honest honest in
+    ends_none books reference day rule pass start place tried settled waiting v.content w.content at.are_books (r.underway honest1 sure books reference rule pass start at) (took honest (r.stays.sure honest1 sure))
+
+pub running_ends_all : (room count : ℕ) (v0 v : View) (day : List ℕ) (place : Option Place) (tried settled waiting : ℕ) (books : Books) (reference : List ℕ) (rule : RunRule) (pass : ℕ) (start : List Settled) → Running room count v0 v day place tried settled waiting
+    → count ≤ tried → v.is_honest → v0.is_sure → IsAtPass room books (Run reference day rule) pass start v0.content → PassEnds books (Run reference day rule) pass start settled waiting v.content
+running_ends_all room count v0 v day place tried settled waiting books reference rule pass start r all honest sure at =
+    let number = length_is v0.content books.history at.underway.passing.history in
+    let is = r.entries honest sure in
+    ends_all books reference day rule pass start place tried settled waiting v.content at.are_books (r.underway honest sure books reference rule pass start at) (omega arith)
+
+-- Pass by pass.
+
+pub record Passing (room count : ℕ) (v0 v : View) (day : List ℕ) (rule : RunRule) (again settled waiting last : ℕ) : Type 0 where
+  pub entries : v.is_honest → v0.is_sure → count ≡ length v0.content.register
+  pub stays : Stays v0 v
+  pub later : IsLater v0 v
+  pub kept : v.is_honest → v0.is_sure → v.content.register ≡ v0.content.register
+  pub ran : v.is_honest → v0.is_sure → (books : Books) (reference : List ℕ) → Tables room books v0.content → AreSupported books.history → Ran books reference day rule again settled waiting last v.content
+
+-- what the code asks before a further pass
+pub makes_another : (rule : RunRule) (last : ℕ) → (allows_more (Some rule) && nat_lt 0 last) ≡ true → (rule ≡ Passes) × (0 < last)
+makes_another OnePass last is = absurd (cc)
+makes_another Passes last is = (refl, ltb-true 0 last is)
+
+pub makes_no_other : (rule : RunRule) (last : ℕ) → (allows_more (Some rule) && nat_lt 0 last) ≡ false → (rule ≡ OnePass) ⊎ (last ≡ 0)
+makes_no_other OnePass last is = inl refl
+makes_no_other Passes last is = inr (let few : last ≤ 0 = ltb-false 0 last is in omega arith)
+
+-- the first pass may be made of a register with the tables of a history
+at_first : (room : ℕ) (books : Books) (reference day : List ℕ) (rule : RunRule) (content : Content) → Tables room books content → AreSupported books.history → IsAtPass room books (Run reference day rule) 1 books.settled content
+at_first room books reference day rule content tables supported = record {
+  are_books = tables.are_books;
+  accepted = tables.accepted;
+  supported = supported;
+  underway = pass_begins room books reference day rule content tables;
+}
+
+pub can_begin : (room : ℕ) (v0 v : View) (day : List ℕ) (rule : RunRule) → v.room ≡ v0.room → room ≡ v0.room → v.content ≡ v0.content → CanRun room v0.content → CanPass v.room day v.content
+can_begin room v0 v day rule same here content can =
+    let P : Content → Type 0 = λ c. CanPass v.room day c in
+    let Q : ℕ → Type 0 = λ k. CanPass k day v0.content in
+    subst P (sym content) (subst Q (here ∙ sym same) (record {
+      books = can.books;
+      reference = [];
+      rule = rule;
+      pass = 1;
+      settled = can.books.settled;
+      at_pass = at_first room can.books [] day rule v0.content can.tables can.supported;
+    }))
+
+pub passing_begins : (room count : ℕ) (v0 v1 v : View) (day : List ℕ) (rule : RunRule) (settled waiting : ℕ) → room ≡ v0.room → Stays v0 v1 → IsLater v0 v1 → (v1.is_honest → v0.is_sure → v1.content ≡ v0.content) → (v1.is_honest → v0.is_sure → count ≡ length v0.content.register)
+    → Stays v1 v → IsLater v1 v → (v.is_honest → v1.is_sure → v.content.register ≡ v1.content.register)
+    → ((books : Books) (reference : List ℕ) (rule : RunRule) (pass : ℕ) (start : List Settled) → v.is_honest → v1.is_sure → IsAtPass v1.room books (Run reference day rule) pass start v1.content → PassEnds books (Run reference day rule) pass start settled waiting v.content)
+    → Passing room count v0 v day rule 0 settled waiting settled
+passing_begins room count v0 v1 v day rule settled waiting here stays later same entries stays1 later1 kept ends = record {
+  entries = λ honest sure. entries (later1.honest honest) sure;
+  stays = stays_then v0 v1 v stays later later1 stays1;
+  later = later_then v0 v1 v stays later later1;
+  kept = λ honest sure.
+      let honest1 = later1.honest honest in
+      kept honest (stays.sure honest1 sure) ∙ ap (λ (c : Content). c.register) (same honest1 sure);
+  ran = λ honest sure books reference tables supported.
+      let honest1 = later1.honest honest in
+      let P : Content → Type 0 = λ c. IsAtPass room books (Run reference day rule) 1 books.settled c in
+      let Q : ℕ → Type 0 = λ k. IsAtPass k books (Run reference day rule) 1 books.settled v1.content in
+      let at : IsAtPass v1.room books (Run reference day rule) 1 books.settled v1.content = subst Q (here ∙ sym later.room) (subst P (sym (same honest1 sure)) (at_first room books reference day rule v0.content tables supported)) in
+      first_over books reference day rule settled waiting v.content (ends books reference rule 1 books.settled honest (stays.sure honest1 sure) at);
+}
+
+module _ (room count : ℕ) (v0 v : View) (day : List ℕ) (rule : RunRule) (again settled waiting last : ℕ) (here : room ≡ v0.room) (p : Passing room count v0 v day rule again settled waiting last) where
+  -- the register is at a further pass
+  at_again : v.is_honest → v0.is_sure → (books : Books) (reference : List ℕ) (tables : Tables room books v0.content) (supported : AreSupported books.history) → rule ≡ Passes → 0 < last
+      → (let r = p.ran in (pass : ℕ) × (start : List Settled) × IsAtPass v.room books (Run reference day rule) pass start v.content)
+  at_again honest sure books reference tables supported passes some =
+      let ran = p.ran honest sure books reference tables supported in
+      let Q : ℕ → Type 0 = λ k. IsAtPass k books (Run reference day rule) (ran.pass + 1) ran.settled v.content in (
+        ran.pass + 1,
+        ran.settled,
+        subst Q (here ∙ sym p.later.room) (record {
+          are_books = tables.are_books;
+          accepted = tables.accepted;
+          supported = supported;
+          underway = goes_again books reference day rule again settled waiting last v.content tables.are_books ran passes some;
+        }),
+      )
+
+  pub passing_can_go : rule ≡ Passes → 0 < last → (v0.is_honest → v0.is_sure → CanRun room v0.content) → v.is_honest → v.is_sure → CanPass v.room day v.content
+  passing_can_go passes some may honest sure =
+      let sure0 = p.later.sure honest sure in
+      let can = may (p.later.honest honest) sure0 in
+      let at = at_again honest sure0 can.books [] can.tables can.supported passes some in
+      record { books = can.books; reference = []; rule = rule; pass = at.0; settled = at.1; at_pass = at.2 }
+
+  pub passing_goes_on : (w : View) (total count_so left : ℕ) → rule ≡ Passes → 0 < last → Stays v w → IsLater v w → (w.is_honest → v.is_sure → w.content.register ≡ v.content.register)
+      → ((books : Books) (reference : List ℕ) (rule : RunRule) (pass : ℕ) (start : List Settled) → w.is_honest → v.is_sure → IsAtPass v.room books (Run reference day rule) pass start v.content → PassEnds books (Run reference day rule) pass start count_so left w.content)
+      → (settled + count_so < 2 ^ 64 → total ≡ settled + count_so) → count < 2 ^ 64
+      → Passing room count v0 w day rule (again + 1) total left count_so
+  passing_goes_on w total count_so left passes some stays later kept ends sum small = record {
+    entries = λ honest sure. p.entries (later.honest honest) sure;
+    stays = stays_then v0 v w p.stays p.later later stays;
+    later = later_then v0 v w p.stays p.later later;
+    kept = λ honest sure. (let honest1 = later.honest honest in kept honest (p.stays.sure honest1 sure) ∙ p.kept honest1 sure);
+    ran = λ honest sure books reference tables supported.
+        let honest1 = later.honest honest in
+        let ran = p.ran honest1 sure books reference tables supported in
+        let Q : ℕ → Type 0 = λ k. IsAtPass k books (Run reference day rule) (ran.pass + 1) ran.settled v.content in
+        let at : IsAtPass v.room books (Run reference day rule) (ran.pass + 1) ran.settled v.content = subst Q (here ∙ sym p.later.room) (record {
+          are_books = tables.are_books;
+          accepted = tables.accepted;
+          supported = supported;
+          underway = goes_again books reference day rule again settled waiting last v.content tables.are_books ran passes some;
+        }) in
+        let over = ends books reference rule (ran.pass + 1) ran.settled honest (p.stays.sure honest1 sure) at in
+        let exact = again_over books reference day rule again settled waiting last count_so left (settled + count_so) v.content w.content tables.are_books ran some (omega arith) over in
+        let few = settled_few books reference day rule (again + 1) (settled + count_so) left count_so w.content tables.are_books exact in
+        let number = length_is v0.content books.history tables.history in
+        let is = p.entries honest1 sure in
+        let total_is : total ≡ settled + count_so = sum (omega arith) in
+        again_over books reference day rule again settled waiting last count_so left total v.content w.content tables.are_books ran some total_is over;
+  }
+
+  pub passing_ends : (books : Books) (reference : List ℕ) → (rule ≡ OnePass) ⊎ (last ≡ 0) → v.is_honest → v0.is_sure → Tables room books v0.content → AreSupported books.history → RanTo books (Run reference day rule) settled waiting v.content
+  passing_ends books reference why honest sure tables supported =
+      run_over books reference day rule again settled waiting last v.content tables.are_books (p.ran honest sure books reference tables supported) why
+
+  -- no more passes are needed than there are entries
+  pub passing_ends_all : (books : Books) (reference : List ℕ) → count ≤ again → v.is_honest → v0.is_sure → Tables room books v0.content → AreSupported books.history → RanTo books (Run reference day rule) settled waiting v.content
+  passing_ends_all books reference all honest sure tables supported =
+      let ran = p.ran honest sure books reference tables supported in
+      let number = length_is v0.content books.history tables.history in
+      let is = p.entries honest sure in
+      run_over books reference day rule again settled waiting last v.content tables.are_books ran (inr (enough books reference day rule again settled waiting last v.content tables.are_books ran (omega arith)))

@@ -1,0 +1,333 @@
+-- A pass, pair by pair, and a run, pass by pass.
+use Rattle.std.proofs.Common.{◌≡◌, ◌≢◌, ◌⊎◌, inl, inr, ℕ, ◌+◌, ◌<◌, ◌≤◌, ◌==◌, Bool, true, false, ◌||◌, ◌&&◌, List, [], ◌∷◌, ◌++◌, length, filter, Contains, Option, Some, None, refl, ap, sym, ◌∙◌, subst, arith, length-append, append_assoc, append-nil}
+use Rattle.std.specs.Prelude.{not, count_by, option_and_then}
+use Rattle.std.specs.List.{list_any}
+use Rattle.std.proofs.lemmas.Bool.{cases_Bool, cases_lt, both_ways, ltb-true, ne_eqb, false_from_ne_true}
+use Rattle.desk_codes.specs.Number.{number_of}
+use Rattle.desk_rules.specs.declared.entry.Entry.TheVariants.{Run}
+use Rattle.desk_rules.specs.declared.entry.RunRule.{RunRule}
+use Rattle.desk_rules.specs.declared.entry.RunRule.TheVariants.{OnePass, Passes}
+use Rattle.desk_rules.specs.declared.entry.Instructed.{Instructed}
+use Rattle.desk_rules.specs.declared.pair.Pair.{Pair}
+use Rattle.desk_rules.specs.declared.pair.Place.{Place}
+use Rattle.desk_rules.specs.declared.pair.Settled.{Settled}
+use Rattle.desk_rules.specs.declared.standing.State.{State}
+use Rattle.desk_rules.specs.declared.standing.State.TheVariants as states
+use Rattle.desk_rules.specs.declared.standing.State.TheVariants.{Plain, Unmatched, Matched, Cancelled}
+use Rattle.desk_rules.specs.declared.standing.Standing.{Standing}
+use Rattle.desk_engine.specs.declared.settlement_run.Taken.{Taken}
+use Rattle.desk_rules.specs.History.{instruction_at, run_rule}
+use Rattle.desk_rules.specs.Settlement.{IsOpen, is_above, settled_count, begins, is_in_passes, allows_more}
+use Rattle.desk_rules.specs.Books.{Books, AreBooks}
+use Rattle.desk_rules.specs.Verdict.{WasAccepted}
+use Rattle.desk_rules.specs.Reply.{is_settled_pair}
+use Rattle.desk_rules.specs.Content.{Content}
+use Rattle.desk_register.specs.Changes.{CanSettle}
+use Rattle.desk_register.specs.Looked.{IsDuePairAfter}
+use Rattle.desk_engine.specs.Tables.{Tables}
+use Rattle.desk_engine.specs.Pass.{AreSupported, IsTaken, RanTo, settled_of, PassesAt, PassesSo, IsUnderway, IsOver, IsAtPass, PassEnds, is_below}
+use Rattle.desk_rules.proofs.Decided.{In, In-from_Contains, Contains-from_In, In-left, In-right, In-cases, Ordered, filter-In}
+use Rattle.desk_rules.proofs.HistoryLemmas.{entry_at-end}
+use Rattle.desk_rules.proofs.PairingLemmas.{lower, decided_pairing}
+use Rattle.desk_rules.proofs.SettlementLemmas.{ordered_pairs, begins_true, begins_further}
+use Rattle.desk_rules.proofs.SettlementGrowth.{pass_ends}
+use Rattle.desk_rules.proofs.Existence.{fewer_above}
+use Rattle.desk_rules.proofs.NothingLeft.{begins_counted}
+use Rattle.desk_engine.proofs.TablesLemmas.{settled_known}
+use Rattle.desk_engine.proofs.PassLemmas.{none_open}
+use Rattle.desk_engine.proofs.PassSteps.{not_of}
+use Rattle.desk_engine.proofs.WaitingLemmas.{count_of_run, left_count, none_left, all_left}
+use Rattle.desk_engine.proofs.PassWhole.{step, next_can_settle, next_sides, next_facts}
+use Rattle.desk_engine.proofs.FinishLemmas.{has_passed, next_begins, pass_begins}
+
+-- pairs that rise by number are no more than the numbers
+rising_length : (low high : ℕ) (ps : List Pair) → Ordered lower ps → ((p : Pair) → In ps p → low < p.later) → ((p : Pair) → In ps p → p.later ≤ high) → low ≤ high → low + length ps ≤ high
+rising_length low high [] order above within le = omega arith
+rising_length low high (p ∷ ps) order above within le =
+    let here : low < p.later = above p (inl refl) in
+    let top : p.later ≤ high = within p (inl refl) in
+    let rest = rising_length p.later high ps order.1 (λ q i. ltb-true p.later q.later (order.0 q i)) (λ q i. within q (inr i)) top in
+    omega arith
+
+-- no more pairs than entries
+pub pairs_few : (books : Books) → AreBooks books → length books.pairs ≤ length books.history
+pairs_few books are =
+    let d = decided_pairing books.history books.pairs are.pairing in
+    let few = rising_length 0 (length books.history) books.pairs (ordered_pairs books.history books.pairs are.pairing)
+    (λ p i. let mate = (are.pairing.exact p).0 (Contains-from_In books.pairs p i) in let lt : p.earlier < p.later = mate.candidate.earlier in omega arith)
+    (λ p i. d.within p i) (omega arith) in
+    omega arith
+
+-- what is left above a place
+abbrev pub left_above : Books → List ℕ → List ℕ → RunRule → Option Place → ℕ
+left_above books reference day rule place = length (filter (is_above (books.history ++ Run reference day rule ∷ []) place) books.pairs)
+
+-- so many pairs were tried in a pass, so many settled, and so many are left
+pub record Underway (books : Books) (reference day : List ℕ) (rule : RunRule) (pass : ℕ) (start : List Settled) (place : Option Place) (tried count waiting : ℕ) (content : Content) : Type 0 where
+  pub here : List Settled
+  pub underway : IsUnderway books (Run reference day rule) pass place (start ++ here) content
+  pub of_pass : (s : Settled) → In here s → (s.run ≡ length books.history + 1) × (s.pass ≡ pass)
+  pub earlier : (s : Settled) → Contains start s → s.run ≡ length books.history + 1 → s.pass < pass
+  pub count_is : length here ≡ count
+  pub waits : left_count (books.history ++ Run reference day rule ∷ []) (length books.history + 1) place (start ++ here) books.pairs ≡ waiting
+  pub left : tried + left_above books reference day rule place ≤ length books.history
+
+filter_most : {X : Type 0} (p : X → Bool) (xs : List X) → length (filter p xs) ≤ length xs
+filter_most p [] = omega arith
+filter_most p (x ∷ xs) =
+    let rest = filter_most p xs in
+    elim (cases_Bool (p x)) [ inl in_it ↦ rw in_it (omega arith) | inr out ↦ rw out (omega arith) ]
+
+pub starts : (books : Books) (reference day : List ℕ) (rule : RunRule) (pass : ℕ) (start : List Settled) (content : Content) → AreBooks books
+    → IsUnderway books (Run reference day rule) pass None start content → Underway books reference day rule pass start None 0 0 0 content
+starts books reference day rule pass start content are u =
+    let g = books.history ++ Run reference day rule ∷ [] in
+    let none : start ++ [] ≡ start = append-nil start in
+    let U : List Settled → Type 0 = λ z. IsUnderway books (Run reference day rule) pass None z content in
+    record {
+      here = [];
+      underway = subst U (sym none) u;
+      of_pass = λ s i. absurd i;
+      earlier = λ s c run.
+          let r = u.reached.within s (In-from_Contains start s c) in
+          elim r.reached [
+            | inl lt ↦ absurd (omega arith)
+            | inr both ↦ elim both.1 [ inl lt ↦ lt | inr inner ↦ (let never : true ≡ false = inner.1 in absurd (cc)) ]
+          ];
+      count_is = refl;
+      waits = none_left g (length books.history + 1) (start ++ []) books.pairs;
+      left = (let few = pairs_few books are in let most = filter_most (is_above g None) books.pairs in omega arith);
+    }
+
+pub can_settle : (limit : ℕ) (books : Books) (reference day : List ℕ) (rule : RunRule) (pass : ℕ) (start : List Settled) (place : Option Place) (tried count waiting : ℕ) (content : Content) → AreBooks books → WasAccepted limit books.history → AreSupported books.history
+    → Underway books reference day rule pass start place tried count waiting content → (next : Place) → IsDuePairAfter content (number_of day) place (Some next) → CanSettle content next.number
+can_settle limit books reference day rule pass start place tried count waiting content are was supported u next due =
+    next_can_settle limit books reference day rule pass place (start ++ u.here) content are was supported u.underway next due
+
+pub goes_on : (limit : ℕ) (books : Books) (reference day : List ℕ) (rule : RunRule) (pass : ℕ) (start : List Settled) (place : Option Place) (tried count waiting new_waiting : ℕ) (old new : Content) (taken : Taken) → AreBooks books → WasAccepted limit books.history → AreSupported books.history
+    → Underway books reference day rule pass start place tried count waiting old → IsTaken old (number_of day) place (Some taken) new → new_waiting + settled_of taken.outcome ≡ waiting + 1
+    → Underway books reference day rule pass start (Some taken.place) (tried + 1) (count + settled_of taken.outcome) new_waiting new
+goes_on limit books reference day rule pass start place tried count waiting new_waiting old new taken are was supported u t waits =
+    let g = books.history ++ Run reference day rule ∷ [] in
+    let on = step limit books reference day rule pass place (start ++ u.here) old are was supported u.underway taken.place t.0 taken.outcome new t.1 in
+    let n = next_sides limit books reference day rule pass place (start ++ u.here) old are was supported u.underway taken.place t.0.0 in
+    let f = next_facts limit books reference day rule pass place (start ++ u.here) old are was supported u.underway taken.place t.0 n in
+    let fewer = fewer_above g books.pairs place taken.place n.found.waiting.pair f.next_is.is_open.paired n.found.place_is f.next_is.is_open.above in
+    let joined : (start ++ u.here) ++ on.added ≡ start ++ (u.here ++ on.added) = append_assoc start u.here on.added in
+    let U : List Settled → Type 0 = λ z. IsUnderway books (Run reference day rule) pass (Some taken.place) z new in
+    let same : left_count g (length books.history + 1) (Some taken.place) ((start ++ u.here) ++ on.added) books.pairs ≡ left_count g (length books.history + 1) (Some taken.place) (start ++ (u.here ++ on.added)) books.pairs = ap (λ z. left_count g (length books.history + 1) (Some taken.place) z books.pairs) joined in
+    let left = u.left in
+    let was_count = u.count_is in
+    let now = on.count in
+    let waited = u.waits in
+    let tried_so = on.left in
+    let size = length-append u.here on.added in
+    record {
+      here = u.here ++ on.added;
+      underway = subst U joined on.underway;
+      of_pass = λ s i. elim (In-cases u.here on.added s i) [ inl before ↦ u.of_pass s before | inr added ↦ on.of_pass s added ];
+      earlier = u.earlier;
+      count_is = omega arith;
+      waits = omega arith;
+      left = omega arith;
+    }
+
+-- no open pair is left: the pass is over
+over : (books : Books) (reference day : List ℕ) (rule : RunRule) (pass : ℕ) (start : List Settled) (place : Option Place) (tried count waiting : ℕ) (content : Content)
+    → (u : Underway books reference day rule pass start place tried count waiting content)
+    → ((p : Pair) → IsOpen (books.history ++ Run reference day rule ∷ []) books.pairs (start ++ u.here) (length books.history + 1) place p → ⊥) → PassEnds books (Run reference day rule) pass start count waiting content
+over books reference day rule pass start place tried count waiting content u none = record {
+  settled = start ++ u.here;
+  over = record {
+    passing = record {
+      history = u.underway.passing.history;
+      standing = λ k. tried_at k (instruction_at books.history k) (content.standing k) (u.underway.passing.standing k);
+      position = u.underway.passing.position;
+      cash = u.underway.passing.cash;
+    };
+    reached = pass_ends (books.history ++ Run reference day rule ∷ []) books.pairs (start ++ u.here) (length books.history + 1) pass place u.underway.reached none;
+    begun = u.underway.begun;
+    further = u.underway.further;
+    here = u.here;
+    is_here = refl;
+    earlier = u.earlier;
+    of_pass = λ s c. u.of_pass s (In-from_Contains u.here s c);
+    counted = u.count_is;
+    waits = sym (all_left (books.history ++ Run reference day rule ∷ []) (length books.history + 1) place (start ++ u.here) books.pairs none) ∙ u.waits;
+  };
+}
+  where
+    tried_so : (k : ℕ) (mate : Option ℕ) (state : State) → PassesSo books (Run reference day rule) pass (is_below books (Run reference day rule) place) (start ++ u.here) k mate state
+        → PassesSo books (Run reference day rule) pass (λ p. true) (start ++ u.here) k mate state
+    tried_so k mate Plain x = x
+    tried_so k mate Unmatched x = x
+    tried_so k mate Cancelled x = x
+    tried_so k mate (Matched reason) x = record {
+      pair = x.pair;
+      in_pair = x.in_pair;
+      not_due = x.not_due;
+      tried = λ due all. elim (cases_Bool (is_above (books.history ++ Run reference day rule ∷ []) place x.pair)) [
+        | inr low ↦ x.tried due (not_of (is_above (books.history ++ Run reference day rule ∷ []) place x.pair) low)
+        | inl above ↦ absurd (none x.pair (record { paired = x.in_pair.paired; due = due; unsettled = x.in_pair.unsettled; above = above }))
+      ];
+    }
+    tried_so k mate states.Settled x = x
+
+    tried_at : (k : ℕ) (o : Option Instructed) (st : Standing) → PassesAt books (Run reference day rule) pass (is_below books (Run reference day rule) place) (start ++ u.here) k o st
+        → PassesAt books (Run reference day rule) pass (λ p. true) (start ++ u.here) k o st
+    tried_at k None st x = x
+    tried_at k (Some i) st x = record { so = tried_so k st.mate st.state x.so; requested = x.requested }
+
+pub ends_none : (books : Books) (reference day : List ℕ) (rule : RunRule) (pass : ℕ) (start : List Settled) (place : Option Place) (tried count waiting : ℕ) (old new : Content) → AreBooks books
+    → Underway books reference day rule pass start place tried count waiting old → IsTaken old (number_of day) place None new → PassEnds books (Run reference day rule) pass start count waiting new
+ends_none books reference day rule pass start place tried count waiting old new are u t =
+    let P : Content → Type 0 = λ c. PassEnds books (Run reference day rule) pass start count waiting c in
+    subst P (sym t.1) (over books reference day rule pass start place tried count waiting old u
+    (none_open books reference day rule pass place (start ++ u.here) old are u.underway t.0))
+
+member_some : {X : Type 0} (xs : List X) (x : X) → In xs x → 0 < length xs
+member_some [] x i = absurd i
+member_some (y ∷ ys) x i = omega arith
+
+pub ends_all : (books : Books) (reference day : List ℕ) (rule : RunRule) (pass : ℕ) (start : List Settled) (place : Option Place) (tried count waiting : ℕ) (content : Content) → AreBooks books
+    → Underway books reference day rule pass start place tried count waiting content → length books.history ≤ tried → PassEnds books (Run reference day rule) pass start count waiting content
+ends_all books reference day rule pass start place tried count waiting content are u all =
+    over books reference day rule pass start place tried count waiting content u (λ p free.
+    let i = filter-In (is_above (books.history ++ Run reference day rule ∷ []) place) books.pairs p (In-from_Contains books.pairs p free.paired) free.above in
+    let some = member_some (filter (is_above (books.history ++ Run reference day rule ∷ []) place) books.pairs) p i in
+    let left = u.left in
+    absurd (omega arith))
+
+-- A run, pass by pass.
+
+-- The run has made its passes up to one that is over: it was made again so often, so many settled in all of them, and so
+-- many in the last.
+pub record Ran (books : Books) (reference day : List ℕ) (rule : RunRule) (again settled_so waiting_so last : ℕ) (content : Content) : Type 0 where
+  pub pass : ℕ
+  pub start : List Settled
+  pub settled : List Settled
+  pub over : IsOver books (Run reference day rule) pass start settled last waiting_so content
+  pub total : length over.further.more ≡ settled_so
+  pub many : again ≤ settled_so
+  pub many_last : 0 < last → again < settled_so
+
+-- the run's rule lets it make further passes
+pub in_passes_by : (books : Books) (reference day : List ℕ) (rule : RunRule) → is_in_passes (books.history ++ Run reference day rule ∷ []) (length books.history + 1) ≡ allows_more (Some rule)
+in_passes_by books reference day rule = ap (λ o. allows_more (option_and_then run_rule o)) (entry_at-end books.history (Run reference day rule) (length books.history + 1) refl)
+
+some_member : (ss : List Settled) → 0 < length ss → (s : Settled) × In ss s
+some_member [] lt = absurd (omega arith)
+some_member (s ∷ ss) lt = (s, inl refl)
+
+module _ (books : Books) (reference day : List ℕ) (rule : RunRule) (again settled_so waiting_so last : ℕ) (content : Content) (are : AreBooks books) (ran : Ran books reference day rule again settled_so waiting_so last content) where
+  -- a further pass, where the rule allows it and the last one settled something
+  pub goes_again : rule ≡ Passes → 0 < last → IsUnderway books (Run reference day rule) (ran.pass + 1) None ran.settled content
+  goes_again passes some =
+      let g = books.history ++ Run reference day rule ∷ [] in
+      let n = length books.history + 1 in
+      let o = ran.over in
+      let found = some_member o.here (let c = o.counted in omega arith) in
+      let at = o.of_pass found.0 (Contains-from_In o.here found.0 found.1) in
+      let inside : In ran.settled found.0 = subst (λ z. In z found.0) (sym o.is_here) (In-right ran.start o.here found.0 found.1) in
+      let allowed : is_in_passes g n ≡ true = in_passes_by books reference day rule ∙ ap (λ r. allows_more (Some r)) passes in
+      next_begins books reference day rule ran.pass ran.start ran.settled last waiting_so content are o
+      (begins_further g ran.settled n (ran.pass + 1) (record { allowed = allowed; member = found.0; inside = inside; run_is = at.0; pass_is = ap (λ k. k + 1) at.1 }))
+
+  -- no further pass begins, by the rule, or where the last settled nothing
+  not_again : (rule ≡ OnePass) ⊎ (last ≡ 0) → begins (books.history ++ Run reference day rule ∷ []) ran.settled (length books.history + 1) (ran.pass + 1) ≡ false
+  not_again why =
+      let g = books.history ++ Run reference day rule ∷ [] in
+      let n = length books.history + 1 in
+      let o = ran.over in
+      false_from_ne_true (begins g ran.settled n (ran.pass + 1)) (λ e. elim (begins_true g ran.settled n (ran.pass + 1) e) [
+        | inl first ↦ elim (begins_true g ran.settled n ran.pass o.begun) [
+          | inl one ↦ omega arith
+          | inr f ↦ (let is : f.member.pass + 1 ≡ ran.pass = f.pass_is in omega arith)
+        ]
+        | inr f ↦ elim why [
+          | inl one ↦ both_ways _ (in_passes_by books reference day rule ∙ ap (λ r. allows_more (Some r)) one) f.allowed
+          | inr none ↦
+              let is : f.member.pass + 1 ≡ ran.pass + 1 = f.pass_is in
+              let inside : In (ran.start ++ o.here) f.member = subst (λ z. In z f.member) o.is_here f.inside in
+              elim (In-cases ran.start o.here f.member inside) [
+                | inl before ↦ (let lt = o.earlier f.member (Contains-from_In ran.start f.member before) f.run_is in omega arith)
+                | inr here ↦ (let some = member_some o.here f.member here in let c = o.counted in omega arith)
+              ]
+        ]
+      ])
+
+  pub run_over : (rule ≡ OnePass) ⊎ (last ≡ 0) → RanTo books (Run reference day rule) settled_so waiting_so content
+  run_over why =
+      let n = length books.history + 1 in
+      let o = ran.over in
+      let P : List Settled → Type 0 = λ z. settled_count z n ≡ length o.further.more in
+      let counts : settled_count ran.settled n ≡ length o.further.more = subst P (sym o.further.is_more) (count_of_run n books.settled o.further.more
+      (λ s i. let r = settled_known books.history books.pairs books.settled are.settlement s i in let known : s.run ≤ length books.history = r.run in omega arith)
+      (λ s i. o.further.of_run s (Contains-from_In o.further.more s i))) in
+      record {
+        settled = ran.settled;
+        passed = has_passed books reference day rule ran.pass ran.start ran.settled last waiting_so content are o (not_again why);
+        settles = counts ∙ ran.total;
+        waits = o.waits;
+      }
+
+  -- the run cannot go on for ever: each pass but the last settles a pair
+  pub enough : length books.history ≤ again → last ≡ 0
+  enough all = elim (cases_lt 0 last) [
+    | inr none ↦ omega arith
+    | inl some ↦
+        let few = ran.over.further.few in
+        let pairs = pairs_few books are in
+        let total = ran.total in
+        let more = ran.many_last some in
+        absurd (omega arith)
+  ]
+
+  pub settled_few : settled_so ≤ length books.history
+  settled_few = let few = ran.over.further.few in let pairs = pairs_few books are in let total = ran.total in omega arith
+
+-- the first pass is over
+pub first_over : (books : Books) (reference day : List ℕ) (rule : RunRule) (count waiting : ℕ) (content : Content) → PassEnds books (Run reference day rule) 1 books.settled count waiting content
+    → Ran books reference day rule 0 count waiting count content
+first_over books reference day rule count waiting content ends =
+    let o = ends.over in
+    let a = length-append books.settled o.further.more in
+    let b = length-append books.settled o.here in
+    let c = ap length o.further.is_more in
+    let d = ap length o.is_here in
+    let e = o.counted in
+    record {
+      pass = 1;
+      start = books.settled;
+      settled = ends.settled;
+      over = o;
+      total = omega arith;
+      many = omega arith;
+      many_last = λ some. some;
+    }
+
+-- and a further one
+pub again_over : (books : Books) (reference day : List ℕ) (rule : RunRule) (again settled_so waiting_so last count waiting total : ℕ) (old new : Content) → AreBooks books
+    → (ran : Ran books reference day rule again settled_so waiting_so last old) → 0 < last → total ≡ settled_so + count
+    → PassEnds books (Run reference day rule) (ran.pass + 1) ran.settled count waiting new → Ran books reference day rule (again + 1) total waiting count new
+again_over books reference day rule again settled_so waiting_so last count waiting total old new are ran some sum ends =
+    let o = ends.over in
+    let p = ran.over in
+    let a = length-append books.settled o.further.more in
+    let b = length-append ran.settled o.here in
+    let c = ap length o.further.is_more in
+    let d = ap length o.is_here in
+    let e = o.counted in
+    let f = length-append books.settled p.further.more in
+    let g = ap length p.further.is_more in
+    let h = ran.total in
+    let m = ran.many_last some in
+    record {
+      pass = ran.pass + 1;
+      start = ran.settled;
+      settled = ends.settled;
+      over = o;
+      total = omega arith;
+      many = omega arith;
+      many_last = λ now. omega arith;
+    }

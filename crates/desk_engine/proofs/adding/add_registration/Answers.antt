@@ -1,0 +1,12 @@
+use Rattle.desk_engine.proofs.TablesLemmas.{can_register, registered_ok}
+use Rattle.desk_engine.proofs.adding.add_registration.Goals as goal
+
+pub append-requires-clause-fits : goal.append-requires-clause-fits
+append-requires-clause-fits g c = λ honest sure.
+    can_register (g.R.Register.view c.args.register.now).room (g.R.Register.view c.args.register.now).content c.args.entry c.requires.kind (c.requires.accepted honest sure)
+
+pub returns-clause-tables : goal.returns-clause-tables
+returns-clause-tables g c = λ books honest sure tables.
+    let later = c.append.ensures.change.later.honest honest in
+    registered_ok (g.R.Register.view c.args.register.now).room books (g.R.Register.view c.args.register.now).content (g.R.Register.view c.append.new.self).content c.args.entry c.args.reply
+    c.append.result c.requires.kind tables (c.requires.accepted later sure) (c.append.ensures.added honest sure)

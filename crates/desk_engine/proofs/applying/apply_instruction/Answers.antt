@@ -1,0 +1,49 @@
+use Rattle.std.proofs.Common.{◌≡◌, refl, ◌∙◌, rules}
+use Rattle.std.specs.Prelude.{Err}
+use Rattle.desk_engine.proofs.AcceptingLemmas.{accepted_still, want_step, instructed_step, number_after, room_of}
+use Rattle.desk_engine.proofs.applying.apply_instruction.Goals as goal
+
+pub add_instruction-requires-clause-number : goal.add_instruction-requires-clause-number
+add_instruction-requires-clause-number g c = λ honest sure.
+    let r = c.in_ok-number.ensures in
+    let f = c.in_ok-mate.ensures.read in
+    let honest1 = f.later.honest honest in
+    let honest0 = r.read.later.honest honest1 in
+    let sure1 = f.later.sure honest sure in
+    let sure0 = r.read.later.sure honest1 sure1 in
+    let v0 = g.R.Register.view c.args.register.now in
+    number_after v0 (g.R.Register.view c.next_number.new.register) (g.R.Register.view c.first_opposite.new.self) _ c.in_ok-number.number
+    (c.requires.accepted honest0 sure0) (r.read.same honest1 sure0) (f.same honest sure1) (r.value honest1 sure0)
+
+pub returns-clause-applied : goal.returns-clause-applied
+returns-clause-applied g c = λ books honest sure keeps.
+    let r = c.in_ok-number.ensures in
+    let f = c.in_ok-mate.ensures in
+    let add = c.in_ok-add_instruction.ensures in
+    let honest2 = add.change.later.honest honest in
+    let honest1 = f.read.later.honest honest2 in
+    let honest0 = r.read.later.honest honest1 in
+    let sure1 = r.read.ok.sure honest1 sure in
+    let sure2 = f.read.ok.sure honest2 sure1 in
+    let v0 = g.R.Register.view c.args.register.now in
+    let can = c.requires.accepted honest0 sure in
+    instructed_step v0 (g.R.Register.view c.first_opposite.new.self) (g.R.Register.view c.add_instruction.new.register) books c.args.sender c.args.instruction c.in_ok-reply.reply c.in_ok-number.number c.in_ok-mate.mate _
+    (f.read.same honest2 sure1 ∙ r.read.same honest1 sure) (f.read.later.room ∙ r.read.later.room) c.requires.supported (add.tables books honest sure2) (rw c.in_ok-kept.ensures.reply at (add.added honest sure2)) (r.value honest1 sure (room_of v0.room _ v0.content can))
+    refl refl refl refl c.in_ok-reply.ensures.reply keeps
+
+pub add_instruction-requires-clause-accepted : goal.add_instruction-requires-clause-accepted
+add_instruction-requires-clause-accepted g c = λ honest sure.
+    let r = c.in_ok-number.ensures in
+    let f = c.in_ok-mate.ensures.read in
+    let honest1 = f.later.honest honest in
+    let honest0 = r.read.later.honest honest1 in
+    let sure1 = f.later.sure honest sure in
+    let sure0 = r.read.later.sure honest1 sure1 in
+    accepted_still (g.R.Register.view c.args.register.now) (g.R.Register.view c.first_opposite.new.self) _ (c.requires.accepted honest0 sure0) (f.same honest sure1 ∙ r.read.same honest1 sure0) (f.later.room ∙ r.read.later.room)
+
+pub returns-in_err-reply-clause-step : goal.returns-in_err-reply-clause-step
+returns-in_err-reply-clause-step g c =
+    let r = c.in_ok-number.ensures.read in
+    let f = c.in_ok-mate.ensures.read in
+    let is : c.from_residual-in_err-reply.result ≡ Err c.in_err-reply.field-0.0 = search rules in
+    rw is (want_step c.in_err-reply.field-0.0 (g.R.Register.view c.args.register.now) (g.R.Register.view c.next_number.new.register) (g.R.Register.view c.first_opposite.new.self) c.requires.stage r.ok r.later f.ok f.later c.in_err-reply.ensures.memory)

@@ -1,0 +1,13 @@
+use Rattle.desk_engine.proofs.checks.refuse.Goals as goal
+
+pub returns-in-Participant-clause-value : goal.returns-in-Participant-clause-value
+returns-in-Participant-clause-value g c = λ honest sure well. rw c.in-Participant.is (c.refuse_participant.ensures.value honest sure well)
+
+pub returns-in-Account-clause-value : goal.returns-in-Account-clause-value
+returns-in-Account-clause-value g c = λ honest sure well. rw c.in-Account.is (c.refuse_account.ensures.value honest sure well)
+
+pub returns-in-Security-clause-value : goal.returns-in-Security-clause-value
+returns-in-Security-clause-value g c = λ honest sure well. rw c.in-Security.is (c.refuse_security.ensures.value honest sure well)
+
+pub returns-in-Instruct-clause-value : goal.returns-in-Instruct-clause-value
+returns-in-Instruct-clause-value g c = λ honest sure well. rw c.in-Instruct.is (c.refuse_instruction.ensures.value honest sure well)

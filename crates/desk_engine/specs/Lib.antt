@@ -1,0 +1,5 @@
+pub mod Accepting
+pub mod Applied
+pub mod Decision
+pub mod Pass
+pub mod Tables

@@ -1,0 +1,181 @@
+-- What a run over supported commands comes to, pass by pass, before the run itself is added. But for `AreSupported`, only
+-- proofs and private contracts speak of it.
+use Rattle.std.specs.Prelude.{◌≡◌, ℕ, ◌+◌, ◌<◌, ◌≤◌, ◌&&◌, Bool, true, false, not, List, [], ◌∷◌, ◌++◌, length, count_by, Contains, ◌⊎◌, Option, Some, None}
+use Rattle.desk_codes.specs.declared.currency.Ccy.{Ccy}
+use Rattle.desk_msg.specs.declared.status.Reason.{Reason}
+use Rattle.desk_rules.specs.declared.entry.Entry.{Entry}
+use Rattle.desk_rules.specs.declared.entry.Entry.TheVariants.{Run}
+use Rattle.desk_rules.specs.declared.entry.Instructed.{Instructed}
+use Rattle.desk_rules.specs.declared.entry.RunRule.{RunRule}
+use Rattle.desk_rules.specs.declared.pair.Pair.{Pair}
+use Rattle.desk_rules.specs.declared.pair.Place.{Place}
+use Rattle.desk_rules.specs.declared.pair.Settled.{Settled}
+use Rattle.desk_rules.specs.declared.standing.State.{State}
+use Rattle.desk_rules.specs.declared.standing.State.TheVariants as states
+use Rattle.desk_rules.specs.declared.standing.State.TheVariants.{Plain, Unmatched, Matched, Cancelled}
+use Rattle.desk_rules.specs.declared.standing.Standing.{Standing}
+use Rattle.desk_rules.specs.declared.verdict.Verdict.TheVariants.{Accept}
+use Rattle.desk_rules.specs.History.{instruction_at}
+use Rattle.desk_rules.specs.Cancelled.{is_cancel_requested}
+use Rattle.desk_rules.specs.Balances.{credits, debits, cash_credits, cash_debits}
+use Rattle.desk_rules.specs.Covered.{lack_of}
+use Rattle.desk_rules.specs.Settlement.{is_due, is_above, settled_before, begins, settled_count, IsSettlement}
+use Rattle.desk_rules.specs.Books.{Books, AreBooks}
+use Rattle.desk_rules.specs.Standing.{plain_standing, reason_of_lack}
+use Rattle.desk_rules.specs.Verdict.{IsVerdict, WasAccepted}
+use Rattle.desk_rules.specs.Reply.{is_settled_pair, waiting_count}
+use Rattle.desk_rules.specs.Content.{Content, history_of}
+use Rattle.desk_rules.specs.Stands.{IsReason, IsAlone, IsInPair, IsCancelledSide, IsSettledSide, StandsAt}
+use Rattle.desk_rules.proofs.SettlementGrowth.{IsSettledTo}
+use Rattle.desk_register.specs.Changes.{TriesPair}
+use Rattle.desk_register.specs.Looked.{IsDuePairAfter}
+use Rattle.desk_register.specs.declared.found.Outcome.{Outcome}
+use Rattle.desk_register.specs.declared.found.Outcome.TheVariants as outcomes
+use Rattle.desk_register.specs.declared.found.Outcome.TheVariants.{Lacks}
+use Rattle.desk_engine.specs.declared.settlement_run.Taken.{Taken}
+use Rattle.desk_engine.specs.Decision.{is_supported}
+use Rattle.desk_engine.specs.Tables.{Tables}
+
+-- a history of nothing but the commands that the desk takes
+pub record AreSupported (history : List Entry) : Type 0 where
+  pub each : (entry : Entry) → Contains history entry → is_supported entry ≡ true
+
+-- the books with the run, where this is settled
+abbrev pub books_after : Books → Entry → List Settled → Books
+books_after books run settled = record { history = books.history ++ run ∷ []; pairs = books.pairs; settled = settled }
+
+-- A run has made its passes, and this is settled: what the register holds before the run itself is added.
+pub record HasPassed (books : Books) (run : Entry) (settled : List Settled) (content : Content) : Type 0 where
+  pub history : history_of content ≡ books.history
+  pub settlement : IsSettlement (books.history ++ run ∷ []) books.pairs settled
+  pub standing : (k : ℕ) → StandsAt (books_after books run settled) k (instruction_at books.history k) (content.standing k)
+  pub position : (account isin : List ℕ) → content.position account isin + debits books.history settled account isin ≡ credits books.history settled account isin
+  pub cash : (bic : List ℕ) (ccy : Ccy) → content.cash bic ccy + cash_debits books.history settled bic ccy ≡ cash_credits books.history settled bic ccy
+
+-- The desk accepts a run, and it has made its passes.
+pub record IsPassed (limit : ℕ) (run : Entry) (content : Content) : Type 0 where
+  pub books : Books
+  pub are_books : AreBooks books
+  pub accepted : WasAccepted limit books.history
+  pub verdict : IsVerdict limit books run Accept
+  pub settled : List Settled
+  pub passed : HasPassed books run settled content
+
+-- the next due pair past a place, tried; or there is none
+abbrev pub IsTaken : Content → ℕ → Option Place → Option Taken → Content → Type 0
+IsTaken old day place None new = IsDuePairAfter old day place None × (new ≡ old)
+IsTaken old day place (Some taken) new = IsDuePairAfter old day place (Some taken.place) × TriesPair old taken.place.number taken.outcome new
+
+-- how many pairs settled in one try
+abbrev pub settled_of : Outcome → ℕ
+settled_of outcomes.Settled = 1
+settled_of (Lacks lack) = 0
+
+-- Within a pass.
+
+module _ (books : Books) (run : Entry) where
+  -- the history with the run, and the run's number
+  abbrev pub with_run : List Entry
+  with_run = books.history ++ run ∷ []
+
+  abbrev pub run_number : ℕ
+  run_number = length books.history + 1
+
+  -- what a pass of the run finds of a pair that is not settled
+  abbrev pub found_in : ℕ → List Settled → Pair → Reason
+  found_in pass settled p = reason_of_lack (lack_of books.history (settled_before with_run (record { run = run_number; pass = pass; pair = p }) settled) p)
+
+  module _ (pass : ℕ) (is_tried : Pair → Bool) (settled : List Settled) where
+    -- An instruction in a pair that is not settled so far: where the pair is not due in the run, it stands as before
+    -- the run; where the pass has tried it, it stands as the pass found. (Between, anything may stand there.)
+    pub record IsWaiting (k : ℕ) (mate : Option ℕ) (reason : Reason) : Type 0 where
+      pub pair : Pair
+      pub in_pair : IsInPair (record books { settled = settled }) k mate pair false
+      pub not_due : is_due with_run run_number pair ≡ false → IsReason books pair reason
+      pub tried : is_due with_run run_number pair ≡ true → is_tried pair ≡ true → reason ≡ found_in pass settled pair
+
+    abbrev pub PassesSo : ℕ → Option ℕ → State → Type 0
+    PassesSo k mate Plain = ⊥
+    PassesSo k mate Unmatched = IsAlone books k mate false
+    PassesSo k mate Cancelled = IsAlone books k mate true ⊎ IsCancelledSide (record books { settled = settled }) k mate
+    PassesSo k mate (Matched reason) = IsWaiting k mate reason
+    PassesSo k mate states.Settled = IsSettledSide (record books { settled = settled }) k mate
+
+    pub record InstructionPasses (k : ℕ) (standing : Standing) : Type 0 where
+      pub so : PassesSo k standing.mate standing.state
+      pub requested : standing.cancel_requested ≡ is_cancel_requested books.history k
+
+    abbrev pub PassesAt : ℕ → Option Instructed → Standing → Type 0
+    PassesAt k None standing = standing ≡ plain_standing
+    PassesAt k (Some i) standing = InstructionPasses k standing
+
+    -- the content, within the pass
+    pub record IsPassing (content : Content) : Type 0 where
+      pub history : history_of content ≡ books.history
+      pub standing : (k : ℕ) → PassesAt k (instruction_at books.history k) (content.standing k)
+      pub position : (account isin : List ℕ) → content.position account isin + debits books.history settled account isin ≡ credits books.history settled account isin
+      pub cash : (bic : List ℕ) (ccy : Ccy) → content.cash bic ccy + cash_debits books.history settled bic ccy ≡ cash_credits books.history settled bic ccy
+
+  -- what the run has settled so far, behind what earlier runs did; no more pairs than there are
+  pub record IsFurther (settled : List Settled) : Type 0 where
+    pub more : List Settled
+    pub is_more : settled ≡ books.settled ++ more
+    pub of_run : (s : Settled) → Contains more s → s.run ≡ run_number
+    pub few : length more + count_by (λ p. not (is_settled_pair settled p)) books.pairs ≤ length books.pairs
+
+  -- a pass tries pairs in order: those not above the place it has tried
+  abbrev pub is_below : Option Place → Pair → Bool
+  is_below place p = not (is_above with_run place p)
+
+  -- A pass has come to a place.
+  pub record IsUnderway (pass : ℕ) (place : Option Place) (settled : List Settled) (content : Content) : Type 0 where
+    pub passing : IsPassing pass (is_below place) settled content
+    pub reached : IsSettledTo with_run books.pairs run_number pass place settled
+    pub begun : begins with_run settled run_number pass ≡ true
+    pub further : IsFurther settled
+
+  -- A pass is over: it has tried all due pairs, so many settled in it, and so many that are due are not settled.
+  pub record IsOver (pass : ℕ) (before settled : List Settled) (settled_so waiting_so : ℕ) (content : Content) : Type 0 where
+    pub passing : IsPassing pass (λ p. true) settled content
+    pub reached : IsSettledTo with_run books.pairs run_number (pass + 1) None settled
+    pub begun : begins with_run settled run_number pass ≡ true
+    pub further : IsFurther settled
+    pub here : List Settled
+    pub is_here : settled ≡ before ++ here
+    pub earlier : (s : Settled) → Contains before s → s.run ≡ run_number → s.pass < pass
+    pub of_pass : (s : Settled) → Contains here s → (s.run ≡ run_number) × (s.pass ≡ pass)
+    pub counted : length here ≡ settled_so
+    pub waits : count_by (λ p. is_due with_run run_number p && not (is_settled_pair settled p)) books.pairs ≡ waiting_so
+
+-- A register at the beginning of a pass of a run, in books of supported commands, each of which was accepted.
+pub record IsAtPass (limit : ℕ) (books : Books) (run : Entry) (pass : ℕ) (settled : List Settled) (content : Content) : Type 0 where
+  pub are_books : AreBooks books
+  pub accepted : WasAccepted limit books.history
+  pub supported : AreSupported books.history
+  pub underway : IsUnderway books run pass None settled content
+
+pub record CanPass (limit : ℕ) (day : List ℕ) (content : Content) : Type 0 where
+  pub books : Books
+  pub reference : List ℕ
+  pub rule : RunRule
+  pub pass : ℕ
+  pub settled : List Settled
+  pub at_pass : IsAtPass limit books (Run reference day rule) pass settled content
+
+-- the pass is over, with so much settled in it, and so much that is due left
+pub record PassEnds (books : Books) (run : Entry) (pass : ℕ) (before : List Settled) (settled_so waiting_so : ℕ) (content : Content) : Type 0 where
+  pub settled : List Settled
+  pub over : IsOver books run pass before settled settled_so waiting_so content
+
+-- a register with the tables of a history of supported commands
+pub record CanRun (limit : ℕ) (content : Content) : Type 0 where
+  pub books : Books
+  pub tables : Tables limit books content
+  pub supported : AreSupported books.history
+
+-- what a run came to: its passes are made, so many settled in the run, and so many were due in it and are not settled
+pub record RanTo (books : Books) (run : Entry) (settled_so waiting_so : ℕ) (content : Content) : Type 0 where
+  pub settled : List Settled
+  pub passed : HasPassed books run settled content
+  pub settles : settled_count settled (length books.history + 1) ≡ settled_so
+  pub waits : waiting_count (books_after books run settled) (length books.history + 1) ≡ waiting_so

@@ -1,0 +1,50 @@
+-- The tables of books in the relations of `Stands` in desk_rules, in which the steps of the rules are proved. Only proofs
+-- and private contracts speak of them: what a register keeps is `Keeps` in Applied.antt, and both say the same.
+use Rattle.std.specs.Prelude.{◌≡◌, ℕ, ◌+◌, Bool, true, false, List, [], ◌∷◌, ◌++◌, Option, Some, None}
+use Rattle.desk_codes.specs.declared.currency.Ccy.{Ccy}
+use Rattle.desk_rules.specs.declared.entry.Entry.{Entry}
+use Rattle.desk_rules.specs.declared.entry.Entry.TheVariants.{Participant, Account, Security, Issue}
+use Rattle.desk_rules.specs.declared.pair.Pair.{Pair}
+use Rattle.desk_rules.specs.declared.pair.Settled.{Settled}
+use Rattle.desk_rules.specs.declared.verdict.Verdict.TheVariants.{Accept}
+use Rattle.desk_rules.specs.History.{instruction_at}
+use Rattle.desk_rules.specs.Balances.{credits, debits, cash_credits, cash_debits}
+use Rattle.desk_rules.specs.Books.{Books, AreBooks}
+use Rattle.desk_rules.specs.Verdict.{IsVerdict, WasAccepted}
+use Rattle.desk_rules.specs.Content.{Content, history_of}
+use Rattle.desk_rules.specs.Stands.{StandsAt}
+use Rattle.desk_register.specs.Changes.{paired}
+
+-- A content is that of books, each entry of which was accepted in its turn by a desk that may hold `limit` entries.
+pub record Tables (limit : ℕ) (books : Books) (content : Content) : Type 0 where
+  pub history : history_of content ≡ books.history
+  pub are_books : AreBooks books
+  pub accepted : WasAccepted limit books.history
+  pub standing : (k : ℕ) → StandsAt books k (instruction_at books.history k) (content.standing k)
+  pub position : (account isin : List ℕ) → content.position account isin + debits books.history books.settled account isin ≡ credits books.history books.settled account isin
+  pub cash : (bic : List ℕ) (ccy : Ccy) → content.cash bic ccy + cash_debits books.history books.settled bic ccy ≡ cash_credits books.history books.settled bic ccy
+
+-- books of which a content is the tables, after one entry more
+pub record Grown (limit : ℕ) (books : Books) (entry : Entry) (content : Content) : Type 0 where
+  pub pairs : List Pair
+  pub settled : List Settled
+  pub tables : Tables limit (record { history = books.history ++ entry ∷ []; pairs = pairs; settled = settled }) content
+
+-- a desk with this content, that may hold `limit` entries, accepts the entry
+pub record IsAccepted (limit : ℕ) (entry : Entry) (content : Content) : Type 0 where
+  pub books : Books
+  pub tables : Tables limit books content
+  pub verdict : IsVerdict limit books entry Accept
+
+-- what the operator registers: a participant, an account, a security, or an issue; these pair and settle nothing
+abbrev pub is_registration : Entry → Bool
+is_registration (Participant reference bic) = true
+is_registration (Account reference bic account) = true
+is_registration (Security reference isin kind) = true
+is_registration (Issue movement) = true
+is_registration entry = false
+
+-- the content with an instruction of this number paired with its mate, if it has one
+abbrev pub mated : ℕ → Option ℕ → Content → Content
+mated n None content = content
+mated n (Some m) content = paired m n content

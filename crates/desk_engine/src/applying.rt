@@ -1,0 +1,141 @@
+//! An accepted entry, taken into the tables with all that follows from it.
+ghost use Rattle.std.specs.Prelude.{◌≡◌, ◌+◌, ◌<◌, length, IfOk, OnOk, IsTrue};
+ghost use Rattle.desk_register.specs.View.{IfTrusted, IsStep};
+ghost use Rattle.desk_engine.specs.Applied.{CanApply, HasApplied, Keeps};
+ghost use Rattle.desk_engine.specs.Decision.{is_supported};
+ghost use Rattle.desk_engine.specs.Tables.{is_registration};
+ghost use Rattle.desk_rules.specs.Books.{Books};
+
+use crate::adding::{add_instruction, add_registration, next_number};
+use crate::applied::{Accepted, Applied};
+use crate::replies::{accepted_reply, once_more};
+use crate::settlement_run::{add_run, run_passes};
+use desk_codes::{Bic, Day, Reference};
+use desk_msg::Instruction;
+use desk_register::{Fault, Register, Stage};
+use desk_rules::{Entry, RunRule, State};
+use std::alloc::Global;
+
+/// Takes an entry that `decide` accepts into the tables, with all that follows from it: an instruction is paired
+/// with its mate, and a run settles what is covered. Answers how it fared, and its reply, of which a copy is kept with
+/// it. After a fault the tables are not known until `back`.
+pub fn apply<R: Register>(alloc: Global, register: &mut R, entry: Entry) -> Result<Accepted, Fault>
+    requires stage { (R.view register.old).stage ≡ Stage.Begun }
+    requires supported { IsTrue (is_supported entry) }
+    requires accepted { IfTrusted (R.view register.old) (R.view register.old) (CanApply (R.view register.old).room entry (R.view register.old).content) }
+    ensures applied { (books : Books) → IfTrusted (R.view register.old) (R.view register.new) (Keeps (R.view register.old).room books (R.view register.old).content
+        → IfOk result (λ accepted. HasApplied (R.view register.old).room books entry accepted (R.view register.new).content)) }
+    ensures step { IsStep result (R.view register.old) (R.view register.new) }
+{
+    match entry {
+        Entry::Instruct {
+            sender,
+            instruction,
+        } => apply_instruction(alloc, register, sender, instruction),
+        Entry::Run {
+            reference,
+            day,
+            rule,
+        } => apply_run(alloc, register, reference, day, rule),
+        Entry::Participant { .. }
+        | Entry::Account { .. }
+        | Entry::Security { .. }
+        | Entry::Issue(_) => apply_registration(alloc, register, entry),
+        Entry::Redeem(_) | Entry::PayIn(_) | Entry::PayOut(_) | Entry::Cancel { .. } =>
+            unreachable!(),
+    }
+}
+
+/// A participant, account, security or issue.
+fn apply_registration<R: Register>(
+    alloc: Global,
+    register: &mut R,
+    entry: Entry,
+) -> Result<Accepted, Fault>
+    requires stage { (R.view register.old).stage ≡ Stage.Begun }
+    requires kind { IsTrue (is_registration entry) }
+    requires accepted { IfTrusted (R.view register.old) (R.view register.old) (CanApply (R.view register.old).room entry (R.view register.old).content) }
+    ensures applied { (books : Books) → IfTrusted (R.view register.old) (R.view register.new) (Keeps (R.view register.old).room books (R.view register.old).content
+        → IfOk result (λ accepted. HasApplied (R.view register.old).room books entry accepted (R.view register.new).content)) }
+    ensures step { IsStep result (R.view register.old) (R.view register.new) }
+{
+    let number = next_number(alloc, register)?;
+    let applied = Applied {
+        number,
+        mate: None,
+        settled: 0,
+        waiting: 0,
+        named: State::Plain,
+    };
+    let reply = accepted_reply(alloc, &entry, &applied)?;
+    let kept = once_more(alloc, &reply)?;
+    add_registration(alloc, register, entry, kept)?;
+    Ok(Accepted { applied, reply })
+}
+
+/// An instruction without payment.
+fn apply_instruction<R: Register>(
+    alloc: Global,
+    register: &mut R,
+    sender: Bic,
+    instruction: Instruction,
+) -> Result<Accepted, Fault>
+    requires stage { (R.view register.old).stage ≡ Stage.Begun }
+    requires supported { IsTrue (is_supported (Entry.Instruct sender instruction)) }
+    requires accepted { IfTrusted (R.view register.old) (R.view register.old) (CanApply (R.view register.old).room (Entry.Instruct sender instruction) (R.view register.old).content) }
+    ensures applied { (books : Books) → IfTrusted (R.view register.old) (R.view register.new) (Keeps (R.view register.old).room books (R.view register.old).content
+        → IfOk result (λ accepted. HasApplied (R.view register.old).room books (Entry.Instruct sender instruction) accepted (R.view register.new).content)) }
+    ensures step { IsStep result (R.view register.old) (R.view register.new) }
+{
+    let number = next_number(alloc, register)?;
+    let mate = register.first_opposite(alloc, sender, &instruction)?;
+    let applied = Applied {
+        number,
+        mate,
+        settled: 0,
+        waiting: 0,
+        named: State::Plain,
+    };
+    let entry = Entry::Instruct {
+        sender,
+        instruction,
+    };
+    let reply = accepted_reply(alloc, &entry, &applied)?;
+    let kept = once_more(alloc, &reply)?;
+    add_instruction(alloc, register, sender, instruction, number, mate, kept)?;
+    Ok(Accepted { applied, reply })
+}
+
+/// A run.
+fn apply_run<R: Register>(
+    alloc: Global,
+    register: &mut R,
+    reference: Reference,
+    day: Day,
+    rule: RunRule,
+) -> Result<Accepted, Fault>
+    requires stage { (R.view register.old).stage ≡ Stage.Begun }
+    requires accepted { IfTrusted (R.view register.old) (R.view register.old) (CanApply (R.view register.old).room (Entry.Run reference day rule) (R.view register.old).content) }
+    ensures applied { (books : Books) → IfTrusted (R.view register.old) (R.view register.new) (Keeps (R.view register.old).room books (R.view register.old).content
+        → IfOk result (λ accepted. HasApplied (R.view register.old).room books (Entry.Run reference day rule) accepted (R.view register.new).content)) }
+    ensures step { IsStep result (R.view register.old) (R.view register.new) }
+{
+    let passed = run_passes(alloc, register, day, rule)?;
+    let number = next_number(alloc, register)?;
+    let applied = Applied {
+        number,
+        mate: None,
+        settled: passed.settled,
+        waiting: passed.waiting,
+        named: State::Plain,
+    };
+    let entry = Entry::Run {
+        reference,
+        day,
+        rule,
+    };
+    let reply = accepted_reply(alloc, &entry, &applied)?;
+    let kept = once_more(alloc, &reply)?;
+    add_run(alloc, register, reference, day, rule, kept)?;
+    Ok(Accepted { applied, reply })
+}

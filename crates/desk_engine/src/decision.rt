@@ -1,0 +1,99 @@
+//! What the desk decides on an entry, whatever register it keeps.
+ghost use Rattle.std.specs.Prelude.{◌≡◌, nat_le, length, IfOk, IsTrue};
+ghost use Rattle.desk_register.specs.View.{IsRead};
+ghost use Rattle.desk_rules.specs.History.{sender_of};
+ghost use Rattle.desk_engine.specs.Decision.{is_supported, IsVerdictIfKnown, Reading, with_history};
+ghost use Rattle.desk_rules.specs.Books.{Books};
+ghost use Rattle.desk_rules.specs.Verdict.{checks_of, first_failing, is_from_stranger, IsVerdict, reused_by};
+
+use crate::checks::refuse;
+use desk_register::{Fault, Register};
+use desk_rules::{Entry, Refusal, Sender, Verdict, same_entry};
+use std::alloc::Global;
+
+/// Whether an entry is a message of a sender that is no participant.
+fn is_from_stranger<R: Register>(
+    alloc: Global,
+    register: &mut R,
+    entry: &Entry,
+) -> Result<bool, Fault>
+    ensures value { Reading (R.view register.old) (R.view register.new) (λ h. IfOk result (λ r. r ≡ is_from_stranger h (sender_of entry.now))) }
+    ensures read { IsRead result (R.view register.old) (R.view register.new) }
+{
+    match entry.sender() {
+        Sender::Operator => Ok(false),
+        Sender::Participant(bic) => {
+            let is_participant = register.participant(alloc, bic)?;
+            Ok(!is_participant)
+        }
+    }
+}
+
+/// The refusal of a reference that its sender used for something else.
+fn reused_by(entry: &Entry) -> Refusal
+    ensures { result ≡ reused_by (sender_of entry.now) }
+{
+    match entry.sender() {
+        Sender::Operator => Refusal::CommandReused,
+        Sender::Participant(_) => Refusal::ReferenceReused,
+    }
+}
+
+/// The verdict on an entry whose key is known: a repeat, or its reference was used for something else.
+fn verdict_on_key<R: Register>(
+    alloc: Global,
+    register: &mut R,
+    entry: &Entry,
+) -> Result<Option<Verdict>, Fault>
+    ensures value { Reading (R.view register.old) (R.view register.new) (λ h. IfOk result (λ r. IsVerdictIfKnown h entry.now r)) }
+    ensures read { IsRead result (R.view register.old) (R.view register.new) }
+{
+    let sender = entry.sender();
+    let reference = entry.reference();
+    match register.by_reference(alloc, sender, reference)? {
+        None => Ok(None),
+        Some(found) => {
+            if same_entry(&found.entry, entry) {
+                Ok(Some(Verdict::Repeat(found.number)))
+            } else {
+                Ok(Some(Verdict::Refuse(reused_by(entry))))
+            }
+        }
+    }
+}
+
+/// The verdict on an entry whose key is new.
+fn verdict_on_new<R: Register>(
+    alloc: Global,
+    register: &mut R,
+    limit: u64,
+    entry: &Entry,
+) -> Result<Verdict, Fault>
+    requires { IsTrue (is_supported entry.now) }
+    ensures value { Reading (R.view register.old) (R.view register.new) (λ h. IfOk result (λ r. r ≡ first_failing (checks_of (with_history h) entry.now) (nat_le limit (length h)))) }
+    ensures read { IsRead result (R.view register.old) (R.view register.new) }
+{
+    if let Some(refusal) = refuse(alloc, register, entry)? {
+        return Ok(Verdict::Refuse(refusal));
+    }
+    if limit <= register.count(alloc)? {
+        return Ok(Verdict::Refuse(Refusal::Full));
+    }
+    Ok(Verdict::Accept)
+}
+
+/// What the desk decides on an entry. Nothing changes, and no `begin` is needed.
+pub fn decide<R: Register>(alloc: Global, register: &mut R, entry: &Entry) -> Result<Verdict, Fault>
+    requires { IsTrue (is_supported entry.now) }
+    ensures verdict { (books : Books) → Reading (R.view register.old) (R.view register.new) (λ h. h ≡ books.history → IfOk result (λ verdict. IsVerdict (R.view register.old).room books entry.now verdict)) }
+    ensures read { IsRead result (R.view register.old) (R.view register.new) }
+{
+    let limit = register.limit();
+    if is_from_stranger(alloc, register, entry)? {
+        return Ok(Verdict::Refuse(Refusal::SenderUnknown));
+    }
+    if let Some(verdict) = verdict_on_key(alloc, register, entry)? {
+        return Ok(verdict);
+    }
+    verdict_on_new(alloc, register, limit, entry)
+}

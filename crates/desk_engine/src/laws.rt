@@ -1,0 +1,23 @@
+//! Laws of a register that keeps its tables, each the contract of a function with an empty body.
+ghost use Rattle.std.specs.Prelude.{◌≡◌, ℕ, ◌+◌, ◌≤◌, List};
+ghost use Rattle.desk_rules.specs.Balances.{issued, redeemed};
+ghost use Rattle.desk_rules.specs.Books.{Books};
+ghost use Rattle.desk_rules.specs.declared.limits.TheConstants.{MOST_QUANTITY};
+ghost use Rattle.desk_rules.specs.Content.{Content};
+ghost use Rattle.desk_register.specs.Changes.{empty_content};
+ghost use Rattle.desk_engine.specs.Applied.{Keeps, no_books};
+ghost use Rattle.desk_register.specs.Looked.{held_of};
+
+/// The positions of all accounts in a security add up to what was issued less what was redeemed. (No position
+/// is below 0: it is a natural number that makes up for the account's debits.)
+pub fn positions_add_up()
+    ensures all { (limit : ℕ) (books : Books) (content : Content) (isin : List ℕ) → Keeps limit books content
+        → redeemed books.history isin + held_of content isin ≡ issued books.history isin }
+    ensures within { (limit : ℕ) (books : Books) (content : Content) (isin : List ℕ) → Keeps limit books content
+        → held_of content isin ≤ MOST_QUANTITY }
+{}
+
+/// A register that holds nothing keeps the tables of the history that has no entry.
+pub fn empty_keeps()
+    ensures { (limit : ℕ) → Keeps limit no_books empty_content }
+{}

@@ -1,0 +1,26 @@
+//! The desk's rules over any register: what it decides on an entry, what an accepted one does, and its reply.
+//!
+//! `decision.rt` rules on an entry, by the checks of `checks.rt`. `accepting.rt` is the one step by which an accepted
+//! one is taken in: begun, taken into the tables by `applying.rt`, and committed or taken back. `adding.rt` adds it and
+//! pairs it, `settlement_run.rt` settles in a run, and `replies.rt` writes the replies. specs/Tables.antt says when a
+//! register holds the tables of a history, and specs/Applied.antt what an entry leaves behind. Begin with these two,
+//! then `decision.rt` and `accepting.rt`.
+#![tactic(auto)]
+
+mod accepting;
+mod adding;
+mod applied;
+mod applying;
+mod checks;
+mod decision;
+mod laws;
+mod replies;
+mod settlement_run;
+mod supported;
+
+pub use accepting::{Failure, accept, recover};
+pub use applied::{Accepted, Applied};
+pub use decision::decide;
+pub use laws::{empty_keeps, positions_add_up};
+pub use replies::refused_reply;
+pub use supported::is_supported;

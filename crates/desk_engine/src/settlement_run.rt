@@ -1,0 +1,182 @@
+//! A settlement run over the register.
+ghost use Rattle.std.specs.Prelude.{◌≡◌, ◌+◌, ◌<◌, ◌^◌, ◌&&◌, nat_lt, length, IfOk, OnOk, List, Some, ℕ};
+ghost use Rattle.desk_codes.specs.Number.{number_of};
+ghost use Rattle.desk_register.specs.View.{IfTrusted, IsChange};
+ghost use Rattle.desk_rules.specs.Content.{history_of};
+ghost use Rattle.desk_register.specs.Changes.{CanSettle, appended};
+ghost use Rattle.desk_register.specs.Looked.{IsDuePairAfter};
+ghost use Rattle.desk_engine.specs.Tables.{Grown, Tables};
+ghost use Rattle.desk_engine.specs.Pass.{AreSupported, CanPass, CanRun, IsAtPass, IsPassed, IsTaken, PassEnds, RanTo, settled_of};
+ghost use Rattle.desk_rules.specs.declared.pair.Settled.{Settled};
+ghost use Rattle.desk_rules.specs.Settlement.{allows_more};
+ghost use Rattle.desk_rules.specs.Books.{Books};
+
+use desk_codes::{Day, Reference};
+use desk_register::{Fault, Outcome, Register, Stage};
+use desk_rules::{Entry, Place, Reply, RunRule};
+use std::alloc::Global;
+
+/// A due pair that a run tried, and how it fared.
+#[derive(Clone, Copy, Debug, PartialEq, Eq)]
+pub struct Taken {
+    pub place: Place,
+    pub outcome: Outcome,
+}
+
+/// Tries the first due pair above a place; None where there is none.
+fn take_next<R: Register>(
+    alloc: Global,
+    register: &mut R,
+    day: Day,
+    place: Option<Place>,
+) -> Result<Option<Taken>, Fault>
+    requires stage { (R.view register.old).stage ≡ Stage.Begun }
+    requires fits { IfTrusted (R.view register.old) (R.view register.old) ((next : Place) → IsDuePairAfter (R.view register.old).content (number_of day) place (Some next)
+        → CanSettle (R.view register.old).content next.number) }
+    ensures taken { IfTrusted (R.view register.old) (R.view register.new) (IfOk result (λ taken. IsTaken (R.view register.old).content (number_of day) place taken (R.view register.new).content)) }
+    ensures change { IsChange result (R.view register.old) (R.view register.new) }
+{
+    match register.due_pair_after(alloc, day, place)? {
+        None => Ok(None),
+        Some(next) => {
+            let outcome = register.settle_pair(alloc, next.number)?;
+            Ok(Some(Taken {
+                place: next,
+                outcome,
+            }))
+        }
+    }
+}
+
+/// What a pass over the due pairs came to, or the passes of a run so far.
+#[derive(Clone, Copy, Debug, PartialEq, Eq)]
+pub struct Passed {
+    /// How many pairs settled
+    pub settled: u64,
+    /// How many pairs that are due were found to lack something, in the last pass
+    pub waiting: u64,
+}
+
+impl Passed {
+    /// With one pair more.
+    fn counted(self, outcome: Outcome) -> Passed
+        requires { self.settled + self.waiting < u64.MAX }
+        ensures settled { result.settled ≡ self.settled + settled_of outcome }
+        ensures all { result.settled + result.waiting ≡ self.settled + self.waiting + 1 }
+    {
+        match outcome {
+            Outcome::Settled => Passed {
+                settled: self.settled + 1,
+                waiting: self.waiting,
+            },
+            Outcome::Lacks(_) => Passed {
+                settled: self.settled,
+                waiting: self.waiting + 1,
+            },
+        }
+    }
+
+    /// With what a further pass came to.
+    fn with(self, further: Passed) -> Passed
+        ensures settled { self.settled + further.settled < 2 ^ 64 → result.settled ≡ self.settled + further.settled }
+        ensures waiting { result.waiting ≡ further.waiting }
+    {
+        Passed {
+            settled: self.settled.saturating_add(further.settled),
+            waiting: further.waiting,
+        }
+    }
+}
+
+/// Tries each due pair once, in order of settlement day and number, and settles those that are covered.
+fn run_pass<R: Register>(alloc: Global, register: &mut R, day: Day) -> Result<Passed, Fault>
+    requires stage { (R.view register.old).stage ≡ Stage.Begun }
+    requires fits { IfTrusted (R.view register.old) (R.view register.old) (CanPass (R.view register.old).room day (R.view register.old).content) }
+    ensures kept { IfTrusted (R.view register.old) (R.view register.new) (OnOk result ((R.view register.new).content.register ≡ (R.view register.old).content.register)) }
+    ensures ran { (books : Books) (reference : List ℕ) (rule : RunRule) (pass : ℕ) (start : List Settled) → IfTrusted (R.view register.old) (R.view register.new)
+        (IsAtPass (R.view register.old).room books (Entry.Run reference day rule) pass start (R.view register.old).content
+        → IfOk result (λ passed. PassEnds books (Entry.Run reference day rule) pass start passed.settled passed.waiting (R.view register.new).content)) }
+    ensures change { IsChange result (R.view register.old) (R.view register.new) }
+{
+    let count = register.count(alloc)?;
+    let mut passed = Passed {
+        settled: 0,
+        waiting: 0,
+    };
+    let mut place = None;
+    'pairs: for _tried in 0..count {
+        match take_next(alloc, register, day, place)? {
+            None => return Ok(passed),
+            Some(taken) => {
+                passed = passed.counted(taken.outcome);
+                place = Some(taken.place);
+            }
+        }
+    }
+    Ok(passed)
+}
+
+/// Whether a run goes over the due pairs again after a pass that settled so many.
+fn makes_another(rule: RunRule, settled: u64) -> bool
+    ensures { result ≡ (allows_more (Some rule) && nat_lt 0 settled) }
+{
+    match rule {
+        RunRule::OnePass => false,
+        RunRule::Passes => 0 < settled,
+    }
+}
+
+/// Makes the passes of a run: one, or where the rule allows it passes until one settles nothing.
+pub fn run_passes<R: Register>(
+    alloc: Global,
+    register: &mut R,
+    day: Day,
+    rule: RunRule,
+) -> Result<Passed, Fault>
+    requires stage { (R.view register.old).stage ≡ Stage.Begun }
+    requires tables { IfTrusted (R.view register.old) (R.view register.old) (CanRun (R.view register.old).room (R.view register.old).content) }
+    ensures kept { IfTrusted (R.view register.old) (R.view register.new) (OnOk result ((R.view register.new).content.register ≡ (R.view register.old).content.register)) }
+    ensures ran { (books : Books) (reference : List ℕ) → IfTrusted (R.view register.old) (R.view register.new) (Tables (R.view register.old).room books (R.view register.old).content → AreSupported books.history
+        → IfOk result (λ passed. RanTo books (Entry.Run reference day rule) passed.settled passed.waiting (R.view register.new).content)) }
+    ensures change { IsChange result (R.view register.old) (R.view register.new) }
+{
+    let count = register.count(alloc)?;
+    let mut passed = run_pass(alloc, register, day)?;
+    let mut last = passed.settled;
+    'passes: for _again in 0..count {
+        if !makes_another(rule, last) {
+            return Ok(passed);
+        }
+        let further = run_pass(alloc, register, day)?;
+        last = further.settled;
+        passed = passed.with(further);
+    }
+    Ok(passed)
+}
+
+/// Adds an accepted run with its reply, after its passes over the due pairs.
+pub fn add_run<R: Register>(
+    alloc: Global,
+    register: &mut R,
+    reference: Reference,
+    day: Day,
+    rule: RunRule,
+    reply: Reply,
+) -> Result<(), Fault>
+    requires stage { (R.view register.old).stage ≡ Stage.Begun }
+    requires passed { IfTrusted (R.view register.old) (R.view register.old) (IsPassed (R.view register.old).room (Entry.Run reference day rule) (R.view register.old).content) }
+    ensures added { IfTrusted (R.view register.old) (R.view register.new) (OnOk result ((R.view register.new).content ≡ appended (Entry.Run reference day rule) reply (R.view register.old).content)) }
+    ensures tables { IfTrusted (R.view register.old) (R.view register.new)
+        (OnOk result ((books : Books) × (books.history ≡ history_of (R.view register.old).content) × Grown (R.view register.old).room books (Entry.Run reference day rule) (R.view register.new).content)) }
+    ensures change { IsChange result (R.view register.old) (R.view register.new) }
+{
+    register.append(
+        alloc,
+        Entry::Run {
+            reference,
+            day,
+            rule,
+        },
+        reply,
+    )
+}

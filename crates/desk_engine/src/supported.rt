@@ -1,0 +1,21 @@
+//! The commands that the desk takes.
+ghost use Rattle.std.specs.Prelude.{◌≡◌};
+ghost use Rattle.desk_engine.specs.Decision.{is_supported};
+
+use desk_rules::Entry;
+
+/// Whether the desk takes a command: a participant, an account, a security, an issue, a run, or an instruction to
+/// receive or deliver free.
+pub fn is_supported(entry: &Entry) -> bool
+    ensures { result ≡ is_supported entry.now }
+{
+    match entry {
+        Entry::Participant { .. }
+        | Entry::Account { .. }
+        | Entry::Security { .. }
+        | Entry::Issue(_)
+        | Entry::Run { .. } => true,
+        Entry::Instruct { instruction, .. } => !instruction.mt.is_against_payment(),
+        Entry::Redeem(_) | Entry::PayIn(_) | Entry::PayOut(_) | Entry::Cancel { .. } => false,
+    }
+}

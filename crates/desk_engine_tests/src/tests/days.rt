@@ -1,0 +1,379 @@
+//! Worked days at a register, checked by hand and against the plain program of the definitions.
+
+use desk_codes::{AccountId, Isin};
+use desk_lists::ListRegister;
+use desk_msg::Kind;
+use desk_plain::{Books, credits, debits, pairing_of, settlement_of, standing_of};
+use desk_register::Register;
+use desk_rules::{Entry, Pair, Refusal, Settled, Standing};
+use desk_samples::entries::{
+    EntryFault, InstructionTexts, SHARE, account, delivery, instruct, isin, issue, new_account,
+    participant, receipt, run, security,
+};
+use desk_samples::ledger::{Entered, Ledger};
+use std::alloc::{AllocError, Global};
+use std::process::Abort;
+use std::test::Fail;
+
+/// What the plain program makes of entries.
+#[derive(Drop)]
+struct Plain {
+    entries: Vec<Entry>,
+    pairs: Vec<Pair>,
+    settled: Vec<Settled>,
+}
+
+fn plain_of(alloc: Global, entries: Vec<Entry>) -> Result<Plain, AllocError> {
+    let pairs = pairing_of(alloc, &entries)?;
+    let settled = settlement_of(alloc, &entries, &pairs)?;
+    Ok(Plain {
+        entries,
+        pairs,
+        settled,
+    })
+}
+
+impl Plain {
+    /// Where the entry of a number stands.
+    fn standing_of(&self, alloc: Global, number: u64) -> Result<Standing, AllocError> {
+        let books = Books {
+            history: &self.entries,
+            pairs: &self.pairs,
+            settled: &self.settled,
+        };
+        standing_of(alloc, books, number)
+    }
+
+    /// Whether an account holds so much.
+    fn holds(&self, account: &AccountId, isin: &Isin, quantity: u64) -> bool {
+        let out = debits(&self.entries, &self.settled, account, isin);
+        credits(&self.entries, &self.settled, account, isin) == out + u128::from(quantity)
+    }
+}
+
+/// The entries of a register, in their order.
+fn entries_of(alloc: Global, register: &mut ListRegister) -> Result<Vec<Entry>, Fail> {
+    let mut entries = Vec::new(alloc);
+    let count = register.count(alloc)?;
+    for index in 0..count {
+        let found = register.by_number(alloc, index + 1)?.ok_or("entry")?;
+        entries.push(found.entry)?;
+    }
+    Ok(entries)
+}
+
+/// The standing that a register gives a number.
+fn standing_at(alloc: Global, register: &mut ListRegister, number: u64) -> Result<Standing, Fail> {
+    let found = register.by_number(alloc, number)?.ok_or("entry")?;
+    Ok(found.standing)
+}
+
+fn same_standings(
+    rt: &impl Abort,
+    alloc: Global,
+    register: &mut ListRegister,
+    plain: &Plain,
+) -> Result<(), Fail> {
+    for index in 0..plain.entries.len() {
+        let number = index as u64 + 1;
+        let standing = standing_at(alloc, register, number)?;
+        assert_eq!(rt; standing, plain.standing_of(alloc, number)?, "at {number}");
+    }
+    Ok(())
+}
+
+/// The accounts of the days.
+const ACCOUNTS: [&str; 4] = ["A-1", "A-2", "B-1", "C-1"];
+
+/// What the accounts hold of the share, in their order.
+fn held_by_all(
+    rt: &impl Abort,
+    alloc: Global,
+    register: &mut ListRegister,
+    plain: &Plain,
+) -> Result<[u64; 4], Fail> {
+    let isin = isin(SHARE)?;
+    let mut held = [0; 4];
+    for index in 0..4 {
+        let account = account(ACCOUNTS[index])?;
+        let quantity = register.position(alloc, account, isin)?;
+        assert!(rt; plain.holds(&account, &isin, quantity), "on {index}");
+        held[index] = quantity;
+    }
+    Ok(held)
+}
+
+/// The plain program gives the same mates, states and positions; and what the accounts hold of the share.
+fn compared(rt: &impl Abort, alloc: Global, ledger: Ledger) -> Result<[u64; 4], Fail> {
+    let mut register = ledger.into_register();
+    let entries = entries_of(alloc, &mut register)?;
+    let plain = plain_of(alloc, entries)?;
+    same_standings(rt, alloc, &mut register, &plain)?;
+    held_by_all(rt, alloc, &mut register, &plain)
+}
+
+/// Enters what is accepted, with so many pairs settled and waiting in it.
+fn enters(
+    rt: &impl Abort,
+    alloc: Global,
+    ledger: &mut Ledger,
+    entry: Entry,
+    pairs: (u64, u64),
+) -> Result<(), Fail> {
+    let applied = ledger
+        .enter(alloc, entry)?
+        .accepted()
+        .ok_or("not accepted")?;
+    assert_eq!(rt; (applied.settled, applied.waiting), pairs);
+    Ok(())
+}
+
+/// Three participants, two accounts of ALPHDEFF and one of each other, a share, and 1000 of it on A-1.
+fn base(alloc: Global) -> Result<Ledger, Fail> {
+    let entries = [
+        participant("P1", "ALPHDEFF")?,
+        participant("P2", "BETADEFF")?,
+        participant("P3", "GAMMDEFF")?,
+        new_account("C1", "ALPHDEFF", "A-1")?,
+        new_account("C2", "ALPHDEFF", "A-2")?,
+        new_account("C3", "BETADEFF", "B-1")?,
+        new_account("C4", "GAMMDEFF", "C-1")?,
+        security("S1", SHARE, Kind::Unit)?,
+        issue("I1", "A-1", SHARE, 1000)?,
+    ];
+    let mut ledger = Ledger::new(alloc, 1000);
+    for entry in entries {
+        let _applied = ledger
+            .enter(alloc, entry)?
+            .accepted()
+            .ok_or("not accepted")?;
+    }
+    Ok(ledger)
+}
+
+/// Enters two instructions.
+fn both(
+    rt: &impl Abort,
+    alloc: Global,
+    ledger: &mut Ledger,
+    given: InstructionTexts,
+    taken: InstructionTexts,
+) -> Result<(), Fail> {
+    enters(rt, alloc, ledger, instruct(alloc, given)?, (0, 0))?;
+    enters(rt, alloc, ledger, instruct(alloc, taken)?, (0, 0))
+}
+
+#[test]
+fn free_pair(rt: HostRuntime) -> Result<(), Fail> {
+    let alloc = rt.alloc();
+    let first = run("R1", b"20240229")?;
+    let second = run("R2", b"20240229")?;
+    let mut ledger = base(alloc)?;
+    both(&rt, alloc, &mut ledger, delivery("A1"), receipt("B1"))?;
+    enters(&rt, alloc, &mut ledger, first, (1, 0))?;
+    // the second run doesn't settle it again
+    enters(&rt, alloc, &mut ledger, second, (0, 0))?;
+    assert_eq!(rt; compared(&rt, alloc, ledger)?, [600, 0, 400, 0]);
+    Ok(())
+}
+
+/// The same 400 delivered on by BETADEFF to GAMMDEFF, and the receipt of it.
+fn onward() -> (InstructionTexts<'static>, InstructionTexts<'static>) {
+    let given = InstructionTexts {
+        sender: "BETADEFF",
+        account: "B-1",
+        other: "GAMMDEFF",
+        ..delivery("B2")
+    };
+    let taken = InstructionTexts {
+        sender: "GAMMDEFF",
+        account: "C-1",
+        other: "BETADEFF",
+        ..receipt("G1")
+    };
+    (given, taken)
+}
+
+/// What a run brings to an account counts for the pairs after it.
+#[test]
+fn chain_in_order(rt: HostRuntime) -> Result<(), Fail> {
+    let alloc = rt.alloc();
+    let (given, taken) = onward();
+    let run = run("R1", b"20240229")?;
+    let mut ledger = base(alloc)?;
+    both(&rt, alloc, &mut ledger, delivery("A1"), receipt("B1"))?;
+    both(&rt, alloc, &mut ledger, given, taken)?;
+    enters(&rt, alloc, &mut ledger, run, (2, 0))?;
+    assert_eq!(rt; compared(&rt, alloc, ledger)?, [600, 0, 0, 400]);
+    Ok(())
+}
+
+/// And for those before it in the run's second pass.
+#[test]
+fn chain_backwards(rt: HostRuntime) -> Result<(), Fail> {
+    let alloc = rt.alloc();
+    let (given, taken) = onward();
+    let run = run("R1", b"20240229")?;
+    let mut ledger = base(alloc)?;
+    both(&rt, alloc, &mut ledger, given, taken)?;
+    both(&rt, alloc, &mut ledger, delivery("A1"), receipt("B1"))?;
+    enters(&rt, alloc, &mut ledger, run, (2, 0))?;
+    assert_eq!(rt; compared(&rt, alloc, ledger)?, [600, 0, 0, 400]);
+    Ok(())
+}
+
+/// The texts for another quantity and day.
+fn of_day<'a>(
+    texts: InstructionTexts<'a>,
+    quantity: &'a str,
+    day: &'a str,
+) -> InstructionTexts<'a> {
+    InstructionTexts {
+        quantity,
+        day,
+        ..texts
+    }
+}
+
+/// Of two pairs that are not both covered, the one of the earlier settlement day settles, and not the lower number.
+#[test]
+fn two_days(rt: HostRuntime) -> Result<(), Fail> {
+    let alloc = rt.alloc();
+    let later = of_day(delivery("A1"), "700", "20240302");
+    let later_receipt = of_day(receipt("B1"), "700", "20240302");
+    let sooner = of_day(delivery("A2"), "600", "20240229");
+    let sooner_receipt = of_day(receipt("B2"), "600", "20240229");
+    let eve = run("R1", b"20240228")?;
+    let run = run("R2", b"20240302")?;
+    let mut ledger = base(alloc)?;
+    both(&rt, alloc, &mut ledger, later, later_receipt)?;
+    both(&rt, alloc, &mut ledger, sooner, sooner_receipt)?;
+    enters(&rt, alloc, &mut ledger, eve, (0, 0))?;
+    enters(&rt, alloc, &mut ledger, run, (1, 1))?;
+    assert_eq!(rt; compared(&rt, alloc, ledger)?, [400, 0, 600, 0]);
+    Ok(())
+}
+
+/// A receipt of ALPHDEFF from itself, on this account.
+fn own_receipt<'a>(name: &'a str, quantity: &'a str) -> InstructionTexts<'a> {
+    InstructionTexts {
+        sender: "ALPHDEFF",
+        account: name,
+        other: "ALPHDEFF",
+        quantity,
+        ..receipt("A4")
+    }
+}
+
+/// A delivery of ALPHDEFF to itself.
+fn own_delivery(quantity: &str) -> InstructionTexts<'_> {
+    InstructionTexts {
+        other: "ALPHDEFF",
+        quantity,
+        ..delivery("A3")
+    }
+}
+
+/// A day with one transfer of ALPHDEFF to itself, and what its run came to.
+fn own_day(
+    rt: &impl Abort,
+    alloc: Global,
+    taken: InstructionTexts,
+    pairs: (u64, u64),
+) -> Result<[u64; 4], Fail> {
+    let given = own_delivery(taken.quantity);
+    let run = run("R1", b"20240229")?;
+    let mut ledger = base(alloc)?;
+    both(rt, alloc, &mut ledger, given, taken)?;
+    enters(rt, alloc, &mut ledger, run, pairs)?;
+    compared(rt, alloc, ledger)
+}
+
+/// Cover is asked for also within one account, where the position stays.
+#[test]
+fn own_transfers(rt: HostRuntime) -> Result<(), Fail> {
+    let alloc = rt.alloc();
+    let within = own_receipt("A-1", "1000");
+    assert_eq!(rt; own_day(&rt, alloc, within, (1, 0))?, [1000, 0, 0, 0]);
+    let short = own_receipt("A-1", "1001");
+    assert_eq!(rt; own_day(&rt, alloc, short, (0, 1))?, [1000, 0, 0, 0]);
+    let across = own_receipt("A-2", "10");
+    assert_eq!(rt; own_day(&rt, alloc, across, (1, 0))?, [990, 10, 0, 0]);
+    let short = own_receipt("A-2", "1001");
+    assert_eq!(rt; own_day(&rt, alloc, short, (0, 1))?, [1000, 0, 0, 0]);
+    Ok(())
+}
+
+/// A pair short of one waits, and nothing of it moves; a run after one more was issued settles it.
+#[test]
+fn waits_for_securities(rt: HostRuntime) -> Result<(), Fail> {
+    let alloc = rt.alloc();
+    let given = of_day(delivery("A1"), "1001", "20240229");
+    let taken = of_day(receipt("B1"), "1001", "20240229");
+    let first = run("R1", b"20240229")?;
+    let more = issue("I2", "A-1", SHARE, 1)?;
+    let second = run("R2", b"20240229")?;
+    let mut ledger = base(alloc)?;
+    both(&rt, alloc, &mut ledger, given, taken)?;
+    enters(&rt, alloc, &mut ledger, first, (0, 1))?;
+    let mut other = base(alloc)?;
+    both(&rt, alloc, &mut other, given, taken)?;
+    enters(&rt, alloc, &mut other, first, (0, 1))?;
+    assert_eq!(rt; compared(&rt, alloc, other)?, [1000, 0, 0, 0]);
+    enters(&rt, alloc, &mut ledger, more, (0, 0))?;
+    enters(&rt, alloc, &mut ledger, second, (1, 0))?;
+    assert_eq!(rt; compared(&rt, alloc, ledger)?, [0, 0, 1001, 0]);
+    Ok(())
+}
+
+/// One of sixteen entries.
+fn drawn(alloc: Global, number: u64) -> Result<Entry, EntryFault> {
+    let (given, taken) = onward();
+    match number {
+        0 => instruct(alloc, delivery("A1")),
+        1 => instruct(alloc, receipt("B1")),
+        2 => instruct(alloc, delivery("A2")),
+        3 => instruct(alloc, receipt("B3")),
+        4 => instruct(alloc, given),
+        5 => instruct(alloc, taken),
+        6 => instruct(alloc, of_day(delivery("A5"), "900", "20240301")),
+        7 => instruct(alloc, of_day(receipt("B5"), "900", "20240301")),
+        8 => instruct(alloc, own_delivery("300")),
+        9 => instruct(alloc, own_receipt("A-2", "300")),
+        10 => issue("I2", "B-1", SHARE, 200),
+        11 => issue("I3", "A-1", SHARE, 500),
+        12 => run("R1", b"20240229"),
+        13 => run("R2", b"20240301"),
+        14 => run("R3", b"20240301"),
+        _ => run("R4", b"20240302"),
+    }
+}
+
+/// A history of two dozen draws from a seed. What is drawn again is a repeat, and a run may be refused, since its day
+/// goes back; all else is accepted.
+fn drawn_day(rt: &impl Abort, alloc: Global, seed: u64) -> Result<[u64; 4], Fail> {
+    let mut ledger = base(alloc)?;
+    let mut state = seed;
+    for _draw in 0..24 {
+        state = state
+            .wrapping_mul(6_364_136_223_846_793_005)
+            .wrapping_add(1_442_695_040_888_963_407);
+        let entry = drawn(alloc, (state >> 32) % 16)?;
+        let is_run = matches!(entry, Entry::Run { .. });
+        match ledger.enter(alloc, entry)? {
+            Entered::Accepted(_) | Entered::Repeated(_) => {}
+            Entered::Refused(refusal) => assert!(rt; is_run && refusal == Refusal::DayGoesBack),
+            Entered::NotTaken => assert!(rt; false, "not taken"),
+        }
+    }
+    compared(rt, alloc, ledger)
+}
+
+#[test]
+fn drawn_days(rt: HostRuntime) -> Result<(), Fail> {
+    let alloc = rt.alloc();
+    for seed in 0..40 {
+        let _ = drawn_day(&rt, alloc, seed)?;
+    }
+    Ok(())
+}

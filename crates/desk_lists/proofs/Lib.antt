@@ -1,0 +1,7 @@
+mod AppendLemmas
+mod ListingLemmas
+mod ListsLemmas
+mod LookingLemmas
+mod QuantityLemmas
+mod SearchLemmas
+mod SettleLemmas

@@ -1,0 +1,24 @@
+-- Look-ups in the list of accepted entries.
+use Rattle.std.proofs.Common.{◌≡◌, ℕ, zero, suc, ◌-◌, ◌<◌, ◌≤◌, List, [], ◌∷◌, length, drop, map, get_or, Some, None, refl, arith}
+use Rattle.desk_rules.specs.declared.reply.Kept.{Kept}
+use Rattle.std.specs.Prelude.{slice_get}
+use Rattle.desk_rules.specs.History.{run_day, instructed, instruction_at}
+use Rattle.desk_rules.specs.Facts.{last_run}
+
+-- a run behind which there is none is the last
+pub last_run_at : (kept : List Kept) (i : ℕ) (d : Kept) (day : ℕ) → i < length kept → last_run (map (λ k. k.entry) (drop (suc i) kept)) ≡ None
+    → run_day (get_or kept i d).entry ≡ Some day → last_run (map (λ k. k.entry) kept) ≡ Some day
+last_run_at [] i d day lt none is = absurd (omega arith)
+last_run_at (one ∷ kept) zero d day lt none is = rw none is
+last_run_at (one ∷ kept) (suc i) d day lt none is = rw (last_run_at kept i d day (omega arith) none is) refl
+
+-- the entry at an index
+pub entry_in : (kept : List Kept) (i : ℕ) (d : Kept) → i < length kept → slice_get (map (λ k. k.entry) kept) i ≡ Some (get_or kept i d).entry
+entry_in [] i d lt = absurd (omega arith)
+entry_in (one ∷ kept) zero d lt = refl
+entry_in (one ∷ kept) (suc i) d lt = entry_in kept i d (omega arith)
+
+-- the instruction of a number
+pub instruction_in : (kept : List Kept) (n : ℕ) (d : Kept) → 0 < n → n ≤ length kept → instruction_at (map (λ k. k.entry) kept) n ≡ instructed (get_or kept (n - 1) d).entry
+instruction_in kept zero d some within = absurd (omega arith)
+instruction_in kept (suc n) d some within = let i : suc n - 1 ≡ n = omega arith in rw (i, entry_in kept n d (omega arith)) refl

@@ -1,0 +1,209 @@
+//! The calls of a register in plain lists.
+ghost use Rattle.std.specs.Prelude.{◌≡◌, ◌≤◌, ◌<◌, []};
+ghost use Rattle.desk_lists.specs.ListView.{view_of_lists};
+ghost use Rattle.desk_register.specs.Changes.{empty_content};
+ghost use Rattle.desk_register.specs.View.{fallen};
+
+use crate::appending::append_entry;
+use crate::by_number::find;
+use crate::changes::undo_all;
+use crate::due_pairs::due_pair_after;
+use crate::history;
+use crate::holdings::held;
+use crate::list_register::ListRegister;
+use crate::lists::Lists;
+use crate::opposites::first_opposite;
+use crate::positions::{outstanding_of, quantity_of};
+use crate::securities::security_after;
+use crate::settling::try_settle;
+use crate::standings::pair_entries;
+use desk_codes::{AccountId, Bic, Day, Isin, Reference};
+use desk_msg::{Instruction, Kind};
+use desk_register::{Fault, Found, Outcome, Register, Stage};
+use desk_rules::{Entry, Instructed, MOST_ENTRIES, Place, Reply, Sender};
+use std::alloc::Global;
+
+impl ListRegister {
+    /// An empty register for at most `limit` entries, which are `MOST_ENTRIES` at most.
+    pub fn new(alloc: Global, limit: u64) -> ListRegister
+        requires { limit ≤ MOST_ENTRIES }
+        ensures empty { (view_of_lists result).content ≡ empty_content }
+        ensures limit { (view_of_lists result).room ≡ limit }
+        ensures stage { (view_of_lists result).stage ≡ Stage.Idle }
+    {
+        ListRegister {
+            limit,
+            lists: Lists {
+                kept: Vec::new(alloc),
+                standings: Vec::new(alloc),
+                keys: Vec::new(alloc),
+                quantities: Vec::new(alloc),
+                securities: Vec::new(alloc),
+                outstanding: Vec::new(alloc),
+            },
+            changes: Vec::new(alloc),
+            stage: Stage::Idle,
+        }
+    }
+
+    /// Whether a `begin` is open, and whether a call within it has failed.
+    pub fn stage(&self) -> Stage
+        ensures { result ≡ (view_of_lists self.now).stage }
+    {
+        self.stage
+    }
+}
+
+impl Register for ListRegister {
+    ghost use Rattle.std.specs.Prelude.{true};
+    ghost use Rattle.desk_lists.specs.ListView.{view_of_lists};
+
+    ghost view = { view_of_lists };
+
+    ghost plain = { true };
+
+    fn begin(&mut self, _alloc: Global) -> Result<(), Fault> {
+        self.stage = Stage::Begun;
+        Ok(())
+    }
+
+    fn commit(&mut self, _alloc: Global) -> Result<(), Fault> {
+        self.changes.truncate(0);
+        self.stage = Stage::Idle;
+        Ok(())
+    }
+
+    fn back(&mut self, _alloc: Global) -> Result<(), Fault> {
+        undo_all(&mut self.lists, &mut self.changes);
+        self.stage = Stage::Idle;
+        Ok(())
+    }
+
+    fn limit(&self) -> u64 {
+        self.limit
+    }
+
+    fn count(&mut self, _alloc: Global) -> Result<u64, Fault> {
+        Ok(self.lists.kept.len() as u64)
+    }
+
+    fn participant(&mut self, _alloc: Global, bic: Bic) -> Result<bool, Fault> {
+        Ok(history::is_participant(&self.lists.kept, &bic))
+    }
+
+    fn owner(&mut self, _alloc: Global, account: AccountId) -> Result<Option<Bic>, Fault> {
+        Ok(history::owner(&self.lists.kept, &account))
+    }
+
+    fn security(&mut self, _alloc: Global, isin: Isin) -> Result<Option<Kind>, Fault> {
+        Ok(history::kind(&self.lists.kept, &isin))
+    }
+
+    fn outstanding(&mut self, _alloc: Global, isin: Isin) -> Result<u64, Fault> {
+        Ok(outstanding_of(&self.lists, &isin))
+    }
+
+    fn last_run(&mut self, _alloc: Global) -> Result<Option<Day>, Fault> {
+        Ok(history::last_run(&self.lists.kept))
+    }
+
+    fn position(&mut self, _alloc: Global, account: AccountId, isin: Isin) -> Result<u64, Fault> {
+        Ok(quantity_of(&self.lists, &account, &isin))
+    }
+
+    fn by_reference(
+        &mut self,
+        alloc: Global,
+        sender: Sender,
+        reference: Reference,
+    ) -> Result<Option<Found>, Fault> {
+        match history::number_of_key(&self.lists.kept, &sender, &reference) {
+            Some(number) => self.by_number(alloc, number),
+            None => Ok(None),
+        }
+    }
+
+    fn by_number(&mut self, alloc: Global, number: u64) -> Result<Option<Found>, Fault> {
+        match find(&self.lists, alloc, number) {
+            Ok(found) => Ok(found),
+            Err(_) => {
+                self.stage = fallen(self.stage);
+                Err(Fault::Memory)
+            }
+        }
+    }
+
+    fn first_opposite(
+        &mut self,
+        _alloc: Global,
+        sender: Bic,
+        instruction: &Instruction,
+    ) -> Result<Option<u64>, Fault> {
+        let wanted = Instructed {
+            sender,
+            instruction: *instruction,
+        };
+        Ok(first_opposite(&self.lists, &wanted))
+    }
+
+    fn due_pair_after(
+        &mut self,
+        _alloc: Global,
+        day: Day,
+        place: Option<Place>,
+    ) -> Result<Option<Place>, Fault> {
+        Ok(due_pair_after(&self.lists, day.yyyymmdd(), &place))
+    }
+
+    fn security_after(
+        &mut self,
+        _alloc: Global,
+        isin: Option<Isin>,
+    ) -> Result<Option<Isin>, Fault> {
+        Ok(security_after(&self.lists, &isin))
+    }
+
+    fn held(&mut self, _alloc: Global, isin: Isin) -> Result<u64, Fault> {
+        Ok(held(&self.lists, &isin))
+    }
+
+    fn append(&mut self, _alloc: Global, entry: Entry, reply: Reply) -> Result<(), Fault> {
+        match append_entry(&mut self.lists, &mut self.changes, entry, reply) {
+            Ok(()) => Ok(()),
+            Err(_) => {
+                self.stage = Stage::Failed;
+                Err(Fault::Memory)
+            }
+        }
+    }
+
+    fn pair(&mut self, _alloc: Global, earlier: u64, later: u64) -> Result<(), Fault> {
+        match pair_entries(&mut self.lists, &mut self.changes, earlier, later) {
+            Ok(()) => Ok(()),
+            Err(_) => {
+                self.stage = Stage::Failed;
+                Err(Fault::Memory)
+            }
+        }
+    }
+
+    fn settle_pair(&mut self, _alloc: Global, number: u64) -> Result<Outcome, Fault> {
+        match try_settle(&mut self.lists, &mut self.changes, number) {
+            Ok(outcome) => Ok(outcome),
+            Err(_) => {
+                self.stage = Stage::Failed;
+                Err(Fault::Memory)
+            }
+        }
+    }
+}
+
+/// The stage after a call that failed.
+fn fallen(stage: Stage) -> Stage
+    ensures { result ≡ fallen stage }
+{
+    match stage {
+        Stage::Idle => Stage::Idle,
+        Stage::Begun | Stage::Failed => Stage::Failed,
+    }
+}

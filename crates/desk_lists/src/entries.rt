@@ -1,0 +1,102 @@
+//! What one entry says of participants, accounts, securities and runs.
+ghost use Rattle.std.specs.Prelude.{◌≡◌, option_map};
+ghost use Rattle.desk_codes.specs.Number.{number_of};
+ghost use Rattle.desk_rules.specs.History.{has_key, run_day, same_sender};
+ghost use Rattle.desk_register.specs.Changes.{first_standing};
+ghost use Rattle.desk_rules.specs.Facts.{account_by, adds_participant, kind_by, owner_by};
+
+use desk_codes::{AccountId, Bic, Day, Isin, Reference};
+use desk_msg::Kind;
+use desk_rules::{Entry, Sender, Standing, State};
+
+/// Whether an entry registers a participant of this BIC.
+pub fn adds_participant(entry: &Entry, bic: &Bic) -> bool
+    ensures { result ≡ adds_participant bic.now entry.now }
+{
+    match entry {
+        Entry::Participant { bic: added, .. } => added == bic,
+        _ => false,
+    }
+}
+
+/// The owner that an entry gives an account.
+pub fn owner_by(entry: &Entry, account: &AccountId) -> Option<Bic>
+    ensures { result ≡ owner_by account.now entry.now }
+{
+    match entry {
+        Entry::Account {
+            bic,
+            account: added,
+            ..
+        } if added == account => Some(*bic),
+        _ => None,
+    }
+}
+
+/// How an entry lets a security be counted.
+pub fn kind_by(entry: &Entry, isin: &Isin) -> Option<Kind>
+    ensures { result ≡ kind_by isin.now entry.now }
+{
+    match entry {
+        Entry::Security {
+            isin: added,
+            kind,
+            ..
+        } if added == isin => Some(*kind),
+        _ => None,
+    }
+}
+
+/// The day of a run.
+pub fn run_day(entry: &Entry) -> Option<Day>
+    ensures { option_map number_of result ≡ run_day entry.now }
+{
+    match entry {
+        Entry::Run { day, .. } => Some(*day),
+        _ => None,
+    }
+}
+
+/// The account that an entry registers.
+pub fn account_by(entry: &Entry) -> Option<AccountId>
+    ensures { result ≡ account_by entry.now }
+{
+    match entry {
+        Entry::Account { account, .. } => Some(*account),
+        _ => None,
+    }
+}
+
+/// Whether two senders are one.
+pub fn same_sender(a: &Sender, b: &Sender) -> bool
+    ensures { result ≡ same_sender a.now b.now }
+{
+    match (a, b) {
+        (Sender::Operator, Sender::Operator) => true,
+        (Sender::Participant(a), Sender::Participant(b)) => a == b,
+        (Sender::Operator, Sender::Participant(_)) | (Sender::Participant(_), Sender::Operator) =>
+            false,
+    }
+}
+
+/// Whether an entry has this sender and reference.
+pub fn has_key(entry: &Entry, sender: &Sender, reference: &Reference) -> bool
+    ensures { result ≡ has_key sender.now reference.now entry.now }
+{
+    same_sender(&entry.sender(), sender) && entry.reference() == *reference
+}
+
+/// Where an entry stands as it is accepted.
+pub fn first_standing(entry: &Entry) -> Standing
+    ensures { result ≡ first_standing entry.now }
+{
+    let state = match entry {
+        Entry::Instruct { .. } => State::Unmatched,
+        _ => State::Plain,
+    };
+    Standing {
+        mate: None,
+        state,
+        cancel_requested: false,
+    }
+}

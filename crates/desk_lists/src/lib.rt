@@ -1,0 +1,27 @@
+//! The register in plain lists: the model of a store, in memory.
+//!
+//! `ListRegister`, in `list_register.rt`, meets the law of `desk_register`; contracts see it by `view_of_lists` of
+//! specs/ListView.antt. `calls.rt` has its calls. `lists.rt` has the lists, with the changes that `back` undoes;
+//! `changes.rt` makes each and undoes it. All that changes goes through it: `appending`, `standings`, `positions` and
+//! `settling`. The rest only reads: `by_number` and `history` the entries, `entries` what one entry says, `balances`
+//! and `holdings` the quantities, and `opposites`, `due_pairs` and `securities` search in order. Begin with `calls.rt`.
+#![tactic(auto)]
+
+mod appending;
+mod balances;
+mod by_number;
+mod calls;
+mod changes;
+mod due_pairs;
+mod entries;
+mod history;
+mod holdings;
+mod list_register;
+mod lists;
+mod opposites;
+mod positions;
+mod securities;
+mod settling;
+mod standings;
+
+pub use list_register::ListRegister;

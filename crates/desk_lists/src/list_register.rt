@@ -1,0 +1,23 @@
+//! A register that keeps plain lists.
+ghost use Rattle.std.specs.Prelude.{◌≡◌, ◌≢◌, ◌≤◌, []};
+ghost use Rattle.desk_lists.specs.Lists.{listed, undone, OutstandingIsKept};
+ghost use Rattle.desk_register.specs.declared.register.Stage.TheVariants.{Idle, Failed};
+ghost use Rattle.desk_rules.specs.declared.limits.TheConstants.{MOST_ENTRIES};
+
+use crate::lists::{Change, Lists};
+use desk_register::Stage;
+
+/// A register in plain lists. What is changed since `begin` is noted, so that `back` undoes it without a copy of the
+/// whole. Contracts see it by `view_of_lists`.
+#[derive(Drop)]
+pub struct ListRegister {
+    /// At most `MOST_ENTRIES`
+    pub(crate) limit: u64,
+    pub(crate) lists: Lists,
+    pub(crate) changes: Vec<Change>,
+    pub(crate) stage: Stage,
+    ghost limited: { limit ≤ MOST_ENTRIES },
+    ghost idle: { stage ≡ Idle → changes.items ≡ [] },
+    ghost outstanding: { stage ≢ Failed → OutstandingIsKept (listed lists) },
+    ghost outstanding_marked: { OutstandingIsKept (undone changes.items (listed lists)) },
+}

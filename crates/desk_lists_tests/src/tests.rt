@@ -1,0 +1,2 @@
+//! The calls of a register in plain lists, each with ample memory.
+mod calls;

@@ -1,0 +1,3 @@
+mod PlainLemmas
+mod StandingLemmas
+mod VerdictLemmas

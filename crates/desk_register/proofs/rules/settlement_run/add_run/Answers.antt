@@ -1,8 +1,0 @@
-use Rattle.desk_register.proofs.FinishLemmas.{run_added}
-use Rattle.desk_register.proofs.rules.settlement_run.add_run.Goals as goal
-
-pub returns-clause-tables : goal.returns-clause-tables
-returns-clause-tables g c = λ honest sure.
-    let later = c.append.ensures.change.later.honest honest in
-    run_added (g.R.Register.view c.args.register.now).room c.args.reference c.args.day (g.R.Register.view c.args.register.now).content (g.R.Register.view c.append.new.self).content c.args.reply
-    c.append.result (c.requires.passed later sure) (c.append.ensures.added honest sure)
