@@ -4,6 +4,7 @@ use Rattle.std.proofs.lemmas.List.Elements.{All-cons, All-head, All-nil, All-tai
 use Rattle.std.proofs.lemmas.List.Sums.{sum_by-cons}
 use Rattle.std.specs.Prelude.{Result, Ok, Err, IfOk}
 use Rattle.std.specs.Io.KnownBytes.{Appends}
+use Rattle.desk_book.specs.declared.limits.TheConstants.{LONGEST_SCRIPT}
 use Rattle.desk_rules.specs.declared.reply.Reply.{Reply}
 use Rattle.desk_rules.specs.Books.{Books}
 use Rattle.desk_lists.specs.declared.list_register.ListRegister.{ListRegister}
@@ -46,7 +47,7 @@ only_memory (answer ∷ answers) not_closed sound =
     (only_memory answers (All-tail (λ a. says_closed a ≡ false) answer answers not_closed) later)
 
 pub told : (r : Option (List ℕ)) (before after : Option (List ℕ)) (was is : Bool) (v0 v1 : View) → v0.room ≡ MOST_ENTRIES → was ≡ false → is ≡ false → v1.failures ≡ v0.failures → v1.is_honest → Holds was v0 no_books
-    → ((books : Books) → v1.is_honest → Holds was v0 books → (script : List ℕ) × IfSome r (λ input. input ≡ script) × (length script ≤ 16_777_216) × PlaysScript was books script before after is v0 v1)
+    → ((books : Books) → v1.is_honest → Holds was v0 books → (script : List ℕ) × IfSome r (λ input. input ≡ script) × (length script ≤ LONGEST_SCRIPT) × PlaysScript was books script before after is v0 v1)
     → (input : List ℕ) × IfSome r (λ known. known ≡ input) × IsPlayAnswer input exit.Done before after
 told r before after was is v0 v1 most not_closed stays sound honest holds played =
     let p = played no_books honest holds in

@@ -1,6 +1,7 @@
 -- A text that is too long, told.
 use Rattle.std.proofs.Common.{ℕ, ◌<◌, List, length, Option, Some, None, Result, Ok, Err}
 use Rattle.std.specs.Prelude.{IfOk, IfSome}
+use Rattle.desk_text.specs.declared.limits.TheConstants.{LONGEST_TEXT}
 use Rattle.desk_msg.specs.declared.mt.Mt.{Mt}
 use Rattle.desk_msg.specs.declared.refusal.TextRefusal.TheVariants.{TooLong}
 use Rattle.desk_msg.specs.declared.refusal.ReadFault.TheVariants.{Refused}
@@ -10,7 +11,7 @@ use Rattle.desk.specs.declared.status.Status.{Status}
 
 -- more bytes than a message may have
 abbrev pub IsLonger : List ℕ → Type 0
-IsLonger input = 65536 < length input
+IsLonger input = LONGEST_TEXT < length input
 
 each_input : (o : Option (List ℕ)) (mt : Mt) (status : Status) (P : List ℕ → Type 0) → IfSome o IsLonger
     → ((mt : Mt) (input : List ℕ) → ReadsText mt input (Err (Refused TooLong)) → IsReadAnswer mt input status P) → IfSome o (λ input. IsReadAnswer mt input status P)

@@ -1,5 +1,5 @@
 -- What is answered to what is asked for.
-use Rattle.std.specs.Prelude.{◌≡◌, ℕ, List, [], ◌∷◌, ◌++◌, Option, IfSome}
+use Rattle.std.specs.Prelude.{◌≡◌, ℕ, List, ◌++◌, Option, IfSome, codes}
 use Rattle.std.specs.Io.KnownBytes.{Appends}
 use Rattle.desk.specs.IsinAnswer.{IsIsinAnswer}
 use Rattle.desk.specs.PlayAnswer.{IsPlayAnswer}
@@ -18,4 +18,4 @@ IsAnswer play given status before after = (input : List ℕ) × IfSome given (λ
 
 -- want of memory was told alone, as a fault
 abbrev pub IsMemoryTold : Status → Option (List ℕ) → Option (List ℕ) → Type 0
-IsMemoryTold status before after = (status ≡ exit.Fault) × Appends before after (failure_line Memory ++ 10 ∷ [])
+IsMemoryTold status before after = (status ≡ exit.Fault) × Appends before after (failure_line Memory ++ codes "\n")

@@ -1,5 +1,6 @@
 -- What `desk isin` answers.
 use Rattle.std.specs.Prelude.{◌≡◌, ℕ, ◌+◌, List, [], ◌∷◌, ◌++◌, codes, Result, Ok, Err}
+use Rattle.std.specs.Str.{byte}
 use Rattle.desk_codes.specs.Isin.{ReadsIsin}
 use Rattle.desk_codes.specs.declared.fault.CodeFault.{CodeFault}
 use Rattle.desk_codes.specs.declared.fault.CodeFault.TheVariants.{Length, Prefix, Body, Check, Shape}
@@ -12,7 +13,7 @@ line_of (Ok isin) = codes "valid"
 line_of (Err Length) = codes "length"
 line_of (Err Prefix) = codes "prefix"
 line_of (Err Body) = codes "body"
-line_of (Err (Check digit)) = codes "check " ++ (48 + digit) ∷ []
+line_of (Err (Check digit)) = codes "check " ++ (byte "0" + digit) ∷ []
 line_of (Err Shape) = codes "shape"
 
 -- the exit status of what reading a code gives
@@ -25,4 +26,4 @@ pub record IsIsinAnswer (code : List ℕ) (status : Status) (IsPrinted : List �
   pub verdict : Result (List ℕ) CodeFault
   pub reads : ReadsIsin code verdict
   pub status_is : status ≡ status_of verdict
-  pub printed : IsPrinted (line_of verdict ++ 10 ∷ [])
+  pub printed : IsPrinted (line_of verdict ++ codes "\n")

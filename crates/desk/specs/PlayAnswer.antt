@@ -1,6 +1,7 @@
 -- What `desk play` answers.
-use Rattle.std.specs.Prelude.{◌≡◌, ◌≤◌, ℕ, false, List, [], ◌∷◌, ◌++◌, length, All, Option, Result, Ok, Err}
+use Rattle.std.specs.Prelude.{◌≡◌, ◌≤◌, ℕ, false, List, ◌++◌, length, All, Option, Result, Ok, Err, codes}
 use Rattle.std.specs.Io.KnownBytes.{Appends}
+use Rattle.desk_book.specs.declared.limits.TheConstants.{LONGEST_SCRIPT}
 use Rattle.desk_rules.specs.declared.reply.Reply.{Reply}
 use Rattle.desk_rules.specs.Books.{Books}
 use Rattle.desk_rules.specs.declared.limits.TheConstants.{MOST_ENTRIES}
@@ -23,7 +24,7 @@ IsReplyOrMemory (Err fault) = fault ≡ desk_fault.Memory
 -- The whole script, of at most 16,777,216 bytes, was played on a desk of no history and its answers were written, with
 -- the status done; or a failure is told alone, as a fault. A desk in memory is never closed.
 pub data IsPlayAnswer (input : List ℕ) (status : Status) (before after : Option (List ℕ)) : Type 0 where
-  told_answers : (items : List Item) (answers : List (Result Reply Fault)) (last : Books) → length input ≤ 16_777_216 → Script input items
+  told_answers : (items : List Item) (answers : List (Result Reply Fault)) (last : Books) → length input ≤ LONGEST_SCRIPT → Script input items
       → Run MOST_ENTRIES false no_books (asked_in items) answers false last → All IsReplyOrMemory answers → Appends before after (answers_text items answers) → status ≡ exit.Done → IsPlayAnswer input status before after
-  told_memory : status ≡ exit.Fault → Appends before after (failure_line Memory ++ 10 ∷ []) → IsPlayAnswer input status before after
-  told_input : status ≡ exit.Fault → Appends before after (failure_line Input ++ 10 ∷ []) → IsPlayAnswer input status before after
+  told_memory : status ≡ exit.Fault → Appends before after (failure_line Memory ++ codes "\n") → IsPlayAnswer input status before after
+  told_input : status ≡ exit.Fault → Appends before after (failure_line Input ++ codes "\n") → IsPlayAnswer input status before after

@@ -1,5 +1,6 @@
 -- Which words ask for what.
 use Rattle.std.specs.Prelude.{◌≡◌, ◌≢◌, ℕ, List, [], ◌∷◌, Option, Some, pos, true, codes, slice_index, IsSomeAnd, MatchOption}
+use Rattle.std.specs.Str.{byte}
 use Rattle.std.specs.Str.Parse.{IsNumeral, digits_value, without_leading_plus}
 use Rattle.clap.specs.Words.{App, Row, Rule, first_of, new_app, new_rule, fault_of, one_of, subcommand_of, with_rule, with_subcommand}
 use Rattle.clap.specs.declared.builder.value_parser.ValueParser.TheVariants.{Signed}
@@ -33,7 +34,7 @@ words_for play = codes "play" ∷ []
 
 -- the code does not begin as an option, by a hyphen, and the type is one of an instruction
 abbrev pub IsAskable : CallValue → Type 0
-IsAskable (isin code) = slice_index code 0 ≢ 45
+IsAskable (isin code) = slice_index code 0 ≢ byte "-"
 IsAskable (read mt) = is_instruction mt ≡ true
 IsAskable play = Unit {0}
 

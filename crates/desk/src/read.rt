@@ -1,5 +1,5 @@
 //! `desk read MT`.
-ghost use Rattle.std.specs.Prelude.{◌≡◌, ℕ, List, [], ◌∷◌, ◌++◌, true, Err, IfOk, IfSome, OnOk};
+ghost use Rattle.std.specs.Prelude.{◌≡◌, ℕ, List, [], ◌∷◌, ◌++◌, codes, true, Err, IfOk, IfSome, OnOk};
 ghost use Rattle.std.specs.Io.KnownBytes.{Appends};
 ghost use Rattle.desk_msg.specs.MessageType.{is_instruction};
 ghost use Rattle.desk_msg.specs.Refused.{ReadsText};
@@ -9,11 +9,9 @@ ghost use Rattle.desk.specs.ReadAnswer.{IsReadAnswer};
 use crate::status::{Failure, Status, tell_failure};
 use desk_book::{InputFault, read_whole};
 use desk_msg::{Mt, ReadFault, TextRefusal, fields_text, read_instruction_text, refusal_text};
+use desk_text::LONGEST_TEXT;
 use std::alloc::Global;
 use std::io::{self, Read, Write};
-
-/// A message has so many bytes at most.
-const LONGEST_TEXT: usize = 65_536;
 
 /// Reads a message of a type, block 4 of it, and prints what its fields say or why it is refused; `fault io` tells
 /// that the reader failed, and `fault 60` that memory is wanting.
@@ -68,7 +66,7 @@ fn tell_refusal<W: Write>(alloc: Global, refusal: TextRefusal, writer: &mut W) -
 
 /// Writes a line and its line feed.
 fn write_line<W: Write>(line: &[u8], writer: &mut W) -> io::Result<()>
-    ensures { OnOk result (Appends (W.contents writer.old) (W.contents writer.new) (line.now ++ 10 ∷ [])) }
+    ensures { OnOk result (Appends (W.contents writer.old) (W.contents writer.new) (line.now ++ codes "\n")) }
 {
     writer.write_all(line)?;
     writer.write_all(b"\n")

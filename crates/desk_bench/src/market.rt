@@ -1,6 +1,7 @@
 //! Two participants and a security, and entries of theirs, made with no text of a message.
 ghost use Rattle.std.specs.Prelude.{◌≡◌, ◌<◌, ◌≤◌, true, false};
 ghost use Rattle.desk_msg.specs.MessageType.{is_instruction, is_against_payment};
+ghost use Rattle.desk_rules.specs.declared.limits.TheConstants.{MOST_QUANTITY};
 
 use crate::codes::digits;
 use crate::failure::Failure;
@@ -101,7 +102,7 @@ impl Market {
     /// So many units issued to the account of a side.
     pub fn issue(&self, reference: Reference, side: Side, quantity: u64) -> Entry
         requires some { 0 < quantity }
-        requires within { quantity ≤ 99_999_999_999_999 }
+        requires within { quantity ≤ MOST_QUANTITY }
     {
         Entry::Issue(Movement {
             reference,

@@ -2,6 +2,7 @@
 use Rattle.std.proofs.Common.{◌≡◌, inl, inr, ℕ, zero, suc, ◌+◌, ◌<◌, ◌≤◌, ◌^◌, Bool, true, List, [], ◌∷◌, length, Option, Some, None, option_map, refl, ap, sym, ◌∙◌, subst, arith, lit<}
 use Rattle.std.specs.Prelude.{slice_get, is_some, nat_le, Result, Ok, Err, IfOk, OnOk}
 use Rattle.std.proofs.lemmas.Bool.{cases_Bool}
+use Rattle.desk_rules.specs.declared.limits.TheConstants.{MOST_QUANTITY}
 use Rattle.desk_rules.specs.declared.entry.Entry.{Entry}
 use Rattle.desk_rules.specs.declared.reply.Kept.{Kept}
 use Rattle.desk_rules.specs.declared.reply.Reply.{Reply}
@@ -9,7 +10,7 @@ use Rattle.desk_rules.specs.declared.verdict.Verdict.TheVariants.{Accept, Repeat
 use Rattle.desk_rules.specs.declared.verdict.Refusal.TheVariants.{Full}
 use Rattle.desk_rules.specs.History.{as_asked, entry_at, sender_of, reference_of, number_of_key}
 use Rattle.desk_rules.specs.Balances.{issued, redeemed}
-use Rattle.desk_rules.specs.Reply.{IsFirstReply, plain_reply}
+use Rattle.desk_rules.specs.Reply.{IsFirstReply, untyped_reply}
 use Rattle.desk_rules.specs.Books.{Books}
 use Rattle.desk_rules.specs.Verdict.{AsksTheSame, Check, IsVerdict, IsVerdictAt, checks_of, first_failing, is_from_stranger}
 use Rattle.desk_rules.specs.Facts.{kind_of}
@@ -146,7 +147,7 @@ decides_repeat limit books e old new n (Err fault) verdict first same keeps = fi
 pub held_small : (limit : ℕ) (books : Books) (content : Content) (isin : List ℕ) → Keeps limit books content → held_of content isin < 2 ^ 64
 held_small limit books content isin keeps =
     let within = held_within limit books content isin keeps in
-    let small : 99_999_999_999_999 < 2 ^ 64 = lit< tt in
+    let small : MOST_QUANTITY < 2 ^ 64 = lit< tt in
     omega arith
 
 total_told : (limit : ℕ) (books : Books) (content : Content) (total : SecurityTotal) → Keeps limit books content → IsTotal content total → IsSum books total
@@ -162,7 +163,7 @@ total_told limit books content total keeps is =
     }
 
 pub sums_told : (limit : ℕ) (books : Books) (content : Content) (totals : List SecurityTotal) (reply : Reply) → Keeps limit books content → AreTotals content totals
-    → reply ≡ plain_reply 200 (sums_text [] totals) → IsToldSums books reply books
+    → reply ≡ untyped_reply 200 (sums_text [] totals) → IsToldSums books reply books
 sums_told limit books content totals reply keeps are is = record {
   totals = totals;
   are = record {

@@ -13,6 +13,7 @@ pub mod OneTask
 mod FormedLemmas
 mod OnceLemmas
 mod ConfirmedRuns
+mod KnownReplies
 mod OneStep
 pub mod ListedLemmas
 pub mod SummingLemmas

@@ -9,31 +9,9 @@ use Rattle.desk_msg.specs.declared.instruction.Kind.{Kind}
 use Rattle.desk_msg.specs.declared.instruction.Kind.TheVariants.{Unit as Units, FaceAmount}
 use Rattle.desk_rules.specs.declared.entry.Entry.{Entry}
 use Rattle.desk_rules.specs.declared.entry.Entry.TheVariants.{Participant, Account, Security, Issue, Redeem, PayIn, PayOut, Instruct, Cancel, Run}
-use Rattle.std.specs.Prelude.{◌<◌, ◌≤◌}
-use Rattle.std.proofs.Props.{props}
-use mathlib.Core.HLevel.{Σ_prop_path}
-use Rattle.desk_rules.specs.declared.entry.Movement.{Movement}
-use Rattle.desk_rules.specs.declared.entry.Payment.{Payment}
 use Rattle.desk_msg.specs.Profile.{code_of_kind}
+use Rattle.desk_rules.proofs.SameContent.{movement_same, payment_same}
 use Rattle.desk_book.specs.Command.{IsCommand, Spells, text_at, number_at}
-
--- a condition that a type keeps has one proof
-
-movement_same : (a b : Movement) → a.reference ≡ b.reference → a.account ≡ b.account → a.isin ≡ b.isin → a.quantity ≡ b.quantity → a ≡ b
-movement_same a b e0 e1 e2 e3 =
-    let kept : List ℕ × List ℕ × List ℕ × ℕ → Type 0 = λ x. (0 < x.3) × (x.3 ≤ 99_999_999_999_999) in
-    let whole : ((x : List ℕ × List ℕ × List ℕ × ℕ) × kept x) → Movement = λ s. record { reference = s.0.0; account = s.0.1; isin = s.0.2; quantity = s.0.3; some = s.1.0; within = s.1.1 } in
-    let base : ◌≡◌ {A = List ℕ × List ℕ × List ℕ × ℕ} (a.reference, a.account, a.isin, a.quantity) (b.reference, b.account, b.isin, b.quantity) = cc in
-    let both : ◌≡◌ {A = (x : List ℕ × List ℕ × List ℕ × ℕ) × kept x} ((a.reference, a.account, a.isin, a.quantity), (a.some, a.within)) ((b.reference, b.account, b.isin, b.quantity), (b.some, b.within)) = Σ_prop_path (λ x. hlevel props) base in
-    ap whole both
-
-payment_same : (a b : Payment) → a.reference ≡ b.reference → a.bic ≡ b.bic → a.ccy ≡ b.ccy → a.amount ≡ b.amount → a ≡ b
-payment_same a b e0 e1 e2 e3 =
-    let kept : List ℕ × List ℕ × Ccy × ℕ → Type 0 = λ x. (0 < x.3) × (x.3 ≤ 999_999_999_999_999_999) in
-    let whole : ((x : List ℕ × List ℕ × Ccy × ℕ) × kept x) → Payment = λ s. record { reference = s.0.0; bic = s.0.1; ccy = s.0.2; amount = s.0.3; some = s.1.0; within = s.1.1 } in
-    let base : ◌≡◌ {A = List ℕ × List ℕ × Ccy × ℕ} (a.reference, a.bic, a.ccy, a.amount) (b.reference, b.bic, b.ccy, b.amount) = cc in
-    let both : ◌≡◌ {A = (x : List ℕ × List ℕ × Ccy × ℕ) × kept x} ((a.reference, a.bic, a.ccy, a.amount), (a.some, a.within)) ((b.reference, b.bic, b.ccy, b.amount), (b.some, b.within)) = Σ_prop_path (λ x. hlevel props) base in
-    ap whole both
 
 kind_of : List ℕ → Kind
 kind_of word = cond (eqb (get_or word 0 0) 85) Units FaceAmount

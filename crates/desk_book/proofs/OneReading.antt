@@ -10,7 +10,7 @@ use Rattle.desk_book.specs.Asked.{Asked, message, operator, status, sent, holdin
 use Rattle.desk_msg.specs.MessageType.{digits_of_type}
 use Rattle.desk_book.specs.Forms.{IsLineOf, Asks}
 use Rattle.desk_book.specs.Lines.{lines_of, content, is_skipped, has_body, is_stop}
-use Rattle.desk_book.specs.Script.{Item, ask, bad_line, Asking, ended, skipped, plain, posted, cut, Means, Script, IsOpen, posted_text, BeginsWith, SpellsOnly}
+use Rattle.desk_book.specs.Script.{Item, ask, bad_line, Asking, ended, skipped, bodiless, posted, cut, Means, Script, IsOpen, posted_text, BeginsWith, SpellsOnly}
 use Rattle.desk_book.proofs.FormLemmas.{bic_no_space, same_split}
 
 -- One request for a line.
@@ -115,26 +115,26 @@ no_word (c ∷ said) h k =
 pub one_list : {ls ks : List (List ℕ)} {xs ys : List Item} → Asking ls xs → Asking ks ys → ls ≡ ks → ys ≡ xs
 one_list ended ended e = refl
 one_list ended (skipped s h) e = cc
-one_list ended (plain s b m h) e = cc
+one_list ended (bodiless s b m h) e = cc
 one_list ended (posted body stop b o s m h) e = cc
 one_list ended (cut b o) e = cc
 one_list (skipped {line = l} s h) ended e = cc
 one_list (skipped {line = l} s h) (skipped {line = k} t g) e = one_list h g cc
-one_list (skipped {line = l} s h) (plain {line = k} t b m g) e = let same : l ≡ k = cc in absurd (false≢true (sym t ∙ ap (λ x. is_skipped (content x)) (sym same) ∙ s))
+one_list (skipped {line = l} s h) (bodiless {line = k} t b m g) e = let same : l ≡ k = cc in absurd (false≢true (sym t ∙ ap (λ x. is_skipped (content x)) (sym same) ∙ s))
 one_list (skipped {line = l} s h) (posted {line = k} body stop b o t m g) e = let same : l ≡ k = cc in absurd (no_word (content l) s (ap (λ x. has_body (content x)) same ∙ b))
 one_list (skipped {line = l} s h) (cut {line = k} b o) e = let same : l ≡ k = cc in absurd (no_word (content l) s (ap (λ x. has_body (content x)) same ∙ b))
-one_list (plain {line = l} s b m h) ended e = cc
-one_list (plain {line = l} s b m h) (skipped {line = k} t g) e = let same : l ≡ k = cc in absurd (false≢true (sym s ∙ ap (λ x. is_skipped (content x)) same ∙ t))
-one_list (plain {line = l} {item = x} s b m h) (plain {line = k} {item = y} t c n g) e =
+one_list (bodiless {line = l} s b m h) ended e = cc
+one_list (bodiless {line = l} s b m h) (skipped {line = k} t g) e = let same : l ≡ k = cc in absurd (false≢true (sym s ∙ ap (λ x. is_skipped (content x)) same ∙ t))
+one_list (bodiless {line = l} {item = x} s b m h) (bodiless {line = k} {item = y} t c n g) e =
     let same : l ≡ k = cc in
     let rest = one_list h g cc in
     let item : y ≡ x = one_item (content l) None y x (subst (λ z. Means (content z) None y) (sym same) n) m in
     cc
-one_list (plain {line = l} s b m h) (posted {line = k} body stop c o t n g) e = let same : l ≡ k = cc in absurd (false≢true (sym b ∙ ap (λ x. has_body (content x)) same ∙ c))
-one_list (plain {line = l} s b m h) (cut {line = k} c o) e = let same : l ≡ k = cc in absurd (false≢true (sym b ∙ ap (λ x. has_body (content x)) same ∙ c))
+one_list (bodiless {line = l} s b m h) (posted {line = k} body stop c o t n g) e = let same : l ≡ k = cc in absurd (false≢true (sym b ∙ ap (λ x. has_body (content x)) same ∙ c))
+one_list (bodiless {line = l} s b m h) (cut {line = k} c o) e = let same : l ≡ k = cc in absurd (false≢true (sym b ∙ ap (λ x. has_body (content x)) same ∙ c))
 one_list (posted {line = l} body stop b o s m h) ended e = cc
 one_list (posted {line = l} body stop b o s m h) (skipped {line = k} t g) e = let same : l ≡ k = cc in absurd (no_word (content k) t (ap (λ x. has_body (content x)) (sym same) ∙ b))
-one_list (posted {line = l} body stop b o s m h) (plain {line = k} t c n g) e = let same : l ≡ k = cc in absurd (false≢true (sym c ∙ ap (λ x. has_body (content x)) (sym same) ∙ b))
+one_list (posted {line = l} body stop b o s m h) (bodiless {line = k} t c n g) e = let same : l ≡ k = cc in absurd (false≢true (sym c ∙ ap (λ x. has_body (content x)) (sym same) ∙ b))
 one_list (posted {line = l} body stop {lines = us} {item = x} b o s m h) (posted {line = k} other end {lines = vs} {item = y} c p t n g) e =
     let same : l ≡ k = cc in
     let parts = same_body body other stop end us vs o p s t cc in
@@ -146,7 +146,7 @@ one_list (posted {line = l} body stop {lines = us} {item = x} b o s m h) (posted
 one_list (posted {line = l} body stop {lines = us} b o s m h) (cut {line = k} {body = other} c p) e = absurd (no_stop other body stop us p s cc)
 one_list (cut {line = l} b o) ended e = cc
 one_list (cut {line = l} b o) (skipped {line = k} t g) e = let same : l ≡ k = cc in absurd (no_word (content k) t (ap (λ x. has_body (content x)) (sym same) ∙ b))
-one_list (cut {line = l} b o) (plain {line = k} t c n g) e = let same : l ≡ k = cc in absurd (false≢true (sym c ∙ ap (λ x. has_body (content x)) (sym same) ∙ b))
+one_list (cut {line = l} b o) (bodiless {line = k} t c n g) e = let same : l ≡ k = cc in absurd (false≢true (sym c ∙ ap (λ x. has_body (content x)) (sym same) ∙ b))
 one_list (cut {line = l} {body = body} b o) (posted {line = k} other end {lines = vs} c p t n g) e = absurd (no_stop body other end vs o t cc)
 one_list (cut {line = l} b o) (cut {line = k} c p) e = refl
 

@@ -18,7 +18,7 @@ use Rattle.desk_rules.specs.Balances.{issued, redeemed, credits, debits}
 use Rattle.desk_rules.specs.History.{entry_at}
 use Rattle.desk_rules.specs.Facts.{accounts_of}
 use Rattle.desk_rules.specs.Pairing.{IsPairing}
-use Rattle.desk_rules.specs.Reply.{IsFirstReply, IsReply, plain_reply, reply_to}
+use Rattle.desk_rules.specs.Reply.{IsFirstReply, IsReply, untyped_reply, reply_to}
 use Rattle.desk_rules.specs.Settlement.{IsSettlement}
 use Rattle.desk_rules.specs.Books.{AreBooks, Books}
 use Rattle.desk_register.specs.Looked.{IsLess}
@@ -165,7 +165,7 @@ one_list_of_sums books xs ys x y = one_order_of xs ys (in_order xs x.in_order) (
 one_telling : (books : Books) (r s : Reply) (n m : Books) → IsToldSums books r n → IsToldSums books s m → (r ≡ s) × (n ≡ m)
 one_telling books r s n m x y =
     let same = one_list_of_sums books x.totals y.totals x.are y.are in
-    (x.replied ∙ ap (λ totals. plain_reply 200 (sums_text [] totals)) same ∙ sym y.replied, x.stays ∙ sym y.stays)
+    (x.replied ∙ ap (λ totals. untyped_reply 200 (sums_text [] totals)) same ∙ sym y.replied, x.stays ∙ sym y.stays)
 
 -- Answers.
 

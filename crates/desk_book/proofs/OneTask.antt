@@ -8,7 +8,7 @@ use Rattle.desk_msg.specs.Refused.{refusal_line}
 use Rattle.desk_rules.specs.declared.entry.Entry.{Entry}
 use Rattle.desk_rules.specs.declared.entry.Entry.TheVariants.{Instruct}
 use Rattle.desk_rules.specs.declared.reply.Reply.{Reply}
-use Rattle.desk_rules.specs.Reply.{plain_reply}
+use Rattle.desk_rules.specs.Reply.{untyped_reply}
 use Rattle.desk_book.specs.Asked.{Asked, message, operator, status, sent, holdings, sums}
 use Rattle.desk_book.specs.Task.{IsMessageTask, IsCommandTask, IsTask, is_supported_type, unknown_form}
 use Rattle.desk_book.specs.declared.task.Task.{Task}
@@ -35,7 +35,7 @@ one_answer mt sender text a b x y = elim x [
   ]
   | inr r ↦ elim y [
     | inl d ↦ absurd (message_not_refusal mt text (CancelMessage d.0) r.0 d.1 r.1)
-    | inr s ↦ r.2 ∙ ap (λ refusal. plain_reply 400 (refusal_line refusal)) (one_refusal mt text r.0 s.0 r.1 s.1) ∙ sym s.2
+    | inr s ↦ r.2 ∙ ap (λ refusal. untyped_reply 400 (refusal_line refusal)) (one_refusal mt text r.0 s.0 r.1 s.1) ∙ sym s.2
   ]
 ]
 

@@ -1,35 +1,36 @@
 -- How a script goes on behind its first line.
-use Rattle.std.proofs.Common.{◌≡◌, ℕ, ◌<◌, ◌≤◌, true, false, List, [], ◌∷◌, ◌++◌, length, Some, None, arith, refl, sym, ◌∙◌, ap, subst, min, append_assoc, append-nil}
+use Rattle.std.proofs.Common.{◌+◌, ◌≡◌, ℕ, ◌<◌, ◌≤◌, true, false, List, [], ◌∷◌, ◌++◌, length, Some, None, arith, refl, sym, ◌∙◌, ap, subst, min, append_assoc, append-nil}
 use Rattle.std.specs.Prelude.{take}
 use Rattle.std.specs.List.{concat}
 use Rattle.std.proofs.lemmas.List.{take_min}
 use Rattle.std.proofs.lemmas.List.Folds.{concat-append}
 use Rattle.std.proofs.lemmas.List.Elements.{All-push}
 use Rattle.std.proofs.Math.Nat.{min_comm}
+use Rattle.desk_text.specs.declared.limits.TheConstants.{LONGEST_TEXT}
 use Rattle.desk_book.specs.Lines.{lines_of, content, is_skipped, has_body, is_stop}
-use Rattle.desk_book.specs.Script.{Item, bad_line, Asking, ended, skipped, plain, posted, cut, Means, Script, IsOpen, BeginsWith, BeginsWithBody, posted_text}
+use Rattle.desk_book.specs.Script.{Item, bad_line, Asking, ended, skipped, bodiless, posted, cut, Means, Script, IsOpen, BeginsWith, BeginsWithBody, posted_text}
 
 none_left : {lines : List (List ℕ)} {items : List Item} → Asking lines items → lines ≡ [] → items ≡ []
 none_left ended e = refl
 none_left (skipped s h) e = cc
-none_left (plain s b m h) e = cc
+none_left (bodiless s b m h) e = cc
 none_left (posted body stop b o s m h) e = cc
 none_left (cut b o) e = cc
 
-pub plain_begins : (line after said : List ℕ) (item : Item) → said ≡ content line → is_skipped (content line) ≡ false → has_body said ≡ false → Means said None item
+pub bodiless_begins : (line after said : List ℕ) (item : Item) → said ≡ content line → is_skipped (content line) ≡ false → has_body said ≡ false → Means said None item
     → BeginsWith (line ∷ lines_of after) item after
-plain_begins line after said item is some no_body means = record {
-  then = λ items h. plain some (ap has_body (sym is) ∙ no_body) (subst (λ x. Means x None item) is means) h;
+bodiless_begins line after said item is some no_body means = record {
+  then = λ items h. bodiless some (ap has_body (sym is) ∙ no_body) (subst (λ x. Means x None item) is means) h;
 }
 
 first_bytes : (n : ℕ) (text : List ℕ) → take (min (length text) n) text ≡ take n text
 first_bytes n text = rw (min_comm (length text) n) (take_min n text)
 
 pub posted_begins : (line after said text rest : List ℕ) (item : Item) → said ≡ content line → has_body said ≡ true → BeginsWithBody (lines_of after) text rest
-    → Means said (Some (take (min (length text) 65537) text)) item → BeginsWith (line ∷ lines_of after) item rest
+    → Means said (Some (take (min (length text) (LONGEST_TEXT + 1)) text)) item → BeginsWith (line ∷ lines_of after) item rest
 posted_begins line after said text rest item is body begins means = record {
   then = λ items h.
-      let counted : take (min (length text) 65537) text ≡ posted_text begins.body = first_bytes 65537 text ∙ ap (take 65537) begins.is in
+      let counted : take (min (length text) (LONGEST_TEXT + 1)) text ≡ posted_text begins.body = first_bytes (LONGEST_TEXT + 1) text ∙ ap (take (LONGEST_TEXT + 1)) begins.is in
       let same : has_body (content line) ≡ true = ap has_body (sym is) ∙ body in
       let asked : Means (content line) (Some (posted_text begins.body)) item = subst (λ x. Means x (Some (posted_text begins.body)) item) is (subst (λ x. Means said (Some x) item) counted means) in
       rw begins.split (posted {line = line} begins.body begins.stop same begins.inside begins.stops asked h);

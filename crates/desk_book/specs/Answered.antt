@@ -6,7 +6,7 @@ use Rattle.desk_rules.specs.declared.verdict.Verdict.{Verdict}
 use Rattle.desk_rules.specs.declared.verdict.Verdict.TheVariants.{Accept, Repeat, Refuse}
 use Rattle.desk_rules.specs.Balances.{issued, redeemed, credits, debits}
 use Rattle.desk_rules.specs.Facts.{accounts_of, kind_of}
-use Rattle.desk_rules.specs.Reply.{plain_reply, AreNext, IsFirstReply, IsReply}
+use Rattle.desk_rules.specs.Reply.{untyped_reply, AreNext, IsFirstReply, IsReply}
 use Rattle.desk_rules.specs.Books.{Books}
 use Rattle.desk_rules.specs.Verdict.{IsVerdict}
 use Rattle.desk_register.specs.Looked.{IsLess}
@@ -50,7 +50,7 @@ pub record AreSums (books : Books) (totals : List SecurityTotal) : Type 0 where
 pub record IsToldSums (books : Books) (reply : Reply) (after : Books) : Type 0 where
   pub totals : List SecurityTotal
   pub are : AreSums books totals
-  pub replied : reply ≡ plain_reply 200 (sums_text [] totals)
+  pub replied : reply ≡ untyped_reply 200 (sums_text [] totals)
   pub stays : after ≡ books
 
 -- the answer to what a request is read as, and the books after it

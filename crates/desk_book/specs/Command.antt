@@ -1,5 +1,6 @@
 -- Which bytes are an operator's command.
 use Rattle.std.specs.Prelude.{◌≡◌, ℕ, ◌≤◌, true, List, length, Option, Some, codes, IsUtf8, option_and_then}
+use Rattle.desk_text.specs.declared.limits.TheConstants.{LONGEST_TEXT}
 use Rattle.serde_json.specs.Data.{Data, object, Members, no_members, member, string, number, unsigned}
 use Rattle.serde_json.specs.Find.{get, as_str, as_number, as_u64}
 use Rattle.serde_json.specs.Read.{read}
@@ -72,7 +73,7 @@ pub record IsSupportedCommand (d : Data) (entry : Entry) : Type 0 where
 
 -- the bytes are a command's: JSON whose value spells it
 pub record Spells (bytes : List ℕ) (entry : Entry) : Type 0 where
-  pub short : length bytes ≤ 65536
+  pub short : length bytes ≤ LONGEST_TEXT
   pub utf8 : IsUtf8 bytes
   pub value : Data
   pub reads : read bytes ≡ Some value

@@ -1,5 +1,7 @@
 -- The lines that ask something.
 use Rattle.std.specs.Prelude.{◌≡◌, ℕ, ◌≤◌, Bool, true, false, List, ◌∷◌, ◌++◌, length, All, codes, Option, Some, None, Ok, not}
+use Rattle.std.specs.Str.{byte}
+use Rattle.desk_book.specs.declared.limits.TheConstants.{LONGEST_LINE}
 use Rattle.desk_codes.specs.Bic.{ReadsBic}
 use Rattle.desk_codes.specs.Characters.{IsDigit}
 use Rattle.desk_codes.specs.Number.{number_of}
@@ -20,11 +22,11 @@ pub record IsCount (digits : List ℕ) (number : ℕ) : Type 0 where
 -- The line that asks a request, one equation a form. Single spaces part the words. No line asks for a status, a sent
 -- message or holdings yet: `Asks` leaves these out.
 abbrev pub IsLineOf : Asked → List ℕ → Type 0
-IsLineOf (message sender mt text) line = (bic : List ℕ) × SpellsBic bic sender × (is_instruction mt ≡ true) × (line ≡ codes "in " ++ (bic ++ 32 ∷ digits_of_type mt))
+IsLineOf (message sender mt text) line = (bic : List ℕ) × SpellsBic bic sender × (is_instruction mt ≡ true) × (line ≡ codes "in " ++ (bic ++ byte " " ∷ digits_of_type mt))
 IsLineOf (operator text) line = line ≡ codes "op"
-IsLineOf (status sender reference) line = (bic : List ℕ) × SpellsBic bic sender × (line ≡ codes "status " ++ (bic ++ 32 ∷ reference))
-IsLineOf (sent receiver number) line = (bic digits : List ℕ) × SpellsBic bic receiver × IsCount digits number × (line ≡ codes "sent " ++ (bic ++ 32 ∷ digits))
-IsLineOf (holdings owner account) line = (bic : List ℕ) × SpellsBic bic owner × (line ≡ codes "holdings " ++ (bic ++ 32 ∷ account))
+IsLineOf (status sender reference) line = (bic : List ℕ) × SpellsBic bic sender × (line ≡ codes "status " ++ (bic ++ byte " " ∷ reference))
+IsLineOf (sent receiver number) line = (bic digits : List ℕ) × SpellsBic bic receiver × IsCount digits number × (line ≡ codes "sent " ++ (bic ++ byte " " ∷ digits))
+IsLineOf (holdings owner account) line = (bic : List ℕ) × SpellsBic bic owner × (line ≡ codes "holdings " ++ (bic ++ byte " " ∷ account))
 IsLineOf sums line = line ≡ codes "sums"
 
 -- the body of a request, of those that have one
@@ -45,9 +47,10 @@ is_supported_request (sent receiver number) = false
 is_supported_request (holdings owner account) = false
 is_supported_request sums = true
 
--- a line that says this, with this body behind it or none, asks the request
+-- A line that says this, with this body behind it or none, asks the request. (The forms of today are all shorter than the
+-- longest line.)
 pub record Asks (said : List ℕ) (body : Option (List ℕ)) (a : Asked) : Type 0 where
-  pub short : length said ≤ 1024
+  pub short : length said ≤ LONGEST_LINE
   pub form : IsLineOf a said
   pub behind : body_of a ≡ body
   pub supported : is_supported_request a ≡ true

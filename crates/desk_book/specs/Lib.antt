@@ -9,6 +9,7 @@ pub mod Sums
 pub mod Task
 pub mod Totals
 pub mod Answered
+pub mod Known
 pub mod Held
 pub mod DeskValue
 pub mod Played

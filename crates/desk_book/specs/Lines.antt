@@ -1,12 +1,12 @@
 -- The lines of a script.
 use Rattle.std.specs.Prelude.{ℕ, ◌-◌, ◌==◌, ◌||◌, Bool, true, if◌then◌else◌, List, [], ◌∷◌, length, take, drop, codes}
 use Rattle.std.specs.List.{before_first, onto_first}
-use Rattle.std.specs.Str.{bytes_eq}
+use Rattle.std.specs.Str.{byte, bytes_eq}
 
 -- each line with its line feed; the last may have none
 abbrev pub lines_of : List ℕ → List (List ℕ)
 lines_of [] = []
-lines_of (c ∷ text) = if c == 10 then (c ∷ []) ∷ lines_of text else onto_first c (lines_of text)
+lines_of (c ∷ text) = if c == byte "\n" then (c ∷ []) ∷ lines_of text else onto_first c (lines_of text)
 
 -- the line ends so
 abbrev pub has_end : List ℕ → List ℕ → Bool
@@ -15,16 +15,16 @@ has_end end line = bytes_eq (drop (length line - length end) line) end
 -- what a line says: without its line feed, and without a carriage return right before that
 abbrev pub content : List ℕ → List ℕ
 content line =
-    if has_end (13 ∷ 10 ∷ []) line then take (length line - 2) line else (if has_end (10 ∷ []) line then take (length line - 1) line else line)
+    if has_end (codes "\r\n") line then take (length line - 2) line else (if has_end (codes "\n") line then take (length line - 1) line else line)
 
 -- what stands before the first space, or all of it
 abbrev pub first_word : List ℕ → List ℕ
-first_word said = before_first (λ c. c == 32) said
+first_word said = before_first (λ c. c == byte " ") said
 
 -- a line that says this asks nothing: an empty one, or a comment
 abbrev pub is_skipped : List ℕ → Bool
 is_skipped [] = true
-is_skipped (c ∷ said) = c == 35
+is_skipped (c ∷ said) = c == byte "#"
 
 -- a body follows a line that says this
 abbrev pub has_body : List ℕ → Bool

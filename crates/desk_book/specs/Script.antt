@@ -1,6 +1,7 @@
 -- What a script asks.
-use Rattle.std.specs.Prelude.{◌≡◌, ℕ, true, false, List, [], ◌∷◌, ◌++◌, length, take, All, Option, Some, None}
+use Rattle.std.specs.Prelude.{◌≡◌, ℕ, ◌+◌, true, false, List, [], ◌∷◌, ◌++◌, length, take, All, Option, Some, None}
 use Rattle.std.specs.List.{concat}
+use Rattle.desk_text.specs.declared.limits.TheConstants.{LONGEST_TEXT}
 use Rattle.desk_book.specs.Asked.{Asked, asked_by}
 use Rattle.desk_book.specs.Lines.{lines_of, content, is_skipped, has_body, is_stop}
 use Rattle.desk_book.specs.Forms.{Asks}
@@ -17,9 +18,9 @@ abbrev pub Means : List ℕ → Option (List ℕ) → Item → Type 0
 Means said body (ask a) = Asks said body a
 Means said body bad_line = (a : Asked) → ¬ Asks said body a
 
--- what counts of a body's lines: the first 65,537 bytes
+-- what counts of a body's lines: one byte more than a text may have
 abbrev pub posted_text : List (List ℕ) → List ℕ
-posted_text body = take 65537 (concat body)
+posted_text body = take (LONGEST_TEXT + 1) (concat body)
 
 -- none of the lines ends a body
 abbrev pub IsOpen : List (List ℕ) → Type 0
@@ -32,7 +33,7 @@ pub data Asking : List (List ℕ) → List Item → Type 0 where
   ended : Asking [] []
   skipped : {line : List ℕ} {lines : List (List ℕ)} {items : List Item} → is_skipped (content line) ≡ true
       → Asking lines items → Asking (line ∷ lines) items
-  plain : {line : List ℕ} {lines : List (List ℕ)} {item : Item} {items : List Item} → is_skipped (content line) ≡ false → has_body (content line) ≡ false
+  bodiless : {line : List ℕ} {lines : List (List ℕ)} {item : Item} {items : List Item} → is_skipped (content line) ≡ false → has_body (content line) ≡ false
       → Means (content line) None item → Asking lines items → Asking (line ∷ lines) (item ∷ items)
   posted : {line : List ℕ} (body : List (List ℕ)) (stop : List ℕ) {lines : List (List ℕ)} {item : Item} {items : List Item} → has_body (content line) ≡ true
       → IsOpen body → is_stop stop ≡ true → Means (content line) (Some (posted_text body)) item → Asking lines items → Asking (line ∷ (body ++ stop ∷ lines)) (item ∷ items)

@@ -1,17 +1,18 @@
 -- How the desk's answers are written.
-use Rattle.std.specs.Prelude.{ℕ, List, [], ◌∷◌, ◌++◌, codes, Option, Some, None}
+use Rattle.std.specs.Prelude.{ℕ, List, ◌∷◌, ◌++◌, codes, Option, Some, None}
+use Rattle.std.specs.Str.{byte}
 use Rattle.std.specs.Fmt.{decimal}
 use Rattle.desk_book.specs.declared.fault.Fault.{Fault}
 use Rattle.desk_book.specs.declared.fault.Fault.TheVariants.{Memory, Storage, Closed}
 
 -- the status, and where the text is a message its type
 abbrev pub head_line : ℕ → Option ℕ → List ℕ
-head_line status None = decimal status ++ 10 ∷ []
-head_line status (Some mt) = decimal status ++ 32 ∷ (decimal mt ++ 10 ∷ [])
+head_line status None = decimal status ++ codes "\n"
+head_line status (Some mt) = decimal status ++ byte " " ∷ (decimal mt ++ codes "\n")
 
 -- an answer: the status line, the text, and a line `.`
 abbrev pub shown : ℕ → Option ℕ → List ℕ → List ℕ
-shown status mt text = head_line status mt ++ (text ++ 10 ∷ codes "." ++ 10 ∷ [])
+shown status mt text = head_line status mt ++ (text ++ codes "\n.\n")
 
 -- what stands in place of an answer that could not be had
 abbrev pub status_of_fault : Fault → ℕ
@@ -28,5 +29,8 @@ abbrev pub shown_fault : Fault → List ℕ
 shown_fault fault = shown (status_of_fault fault) None (text_of_fault fault)
 
 -- the answer to what is no request
+abbrev pub bad_line_text : List ℕ
+bad_line_text = codes "refused 41"
+
 abbrev pub shown_bad_line : List ℕ
-shown_bad_line = shown 400 None (codes "refused 41")
+shown_bad_line = shown 400 None bad_line_text

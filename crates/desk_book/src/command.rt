@@ -11,20 +11,18 @@ ghost use Rattle.desk_book.specs.Members.{IsOrderedObject};
 use crate::member::{member_count, text};
 use crate::operation::{account, issue, participant, run, security};
 use desk_rules::Entry;
+use desk_text::LONGEST_TEXT;
 use serde_json::Value;
 use std::alloc::{AllocError, Global};
-
-/// The longest command, in bytes.
-const LONGEST_COMMAND: usize = 65_536;
 
 /// The command that the bytes spell; None where they spell none.
 pub fn read_command(alloc: Global, bytes: &[u8]) -> Result<Option<Entry>, AllocError>
     ensures read { IfOk result (λ found. IfSome found (λ entry. Spells bytes.now entry)) }
     ensures refused { IfOk result (λ found. IfNone found ((entry : EntryValue)
         → ¬ Spells bytes.now entry)) }
-    ensures memory { OnErr result (0 < length bytes.now) }
+    ensures memory { OnErr result ((0 < length bytes.now) × (length bytes.now ≤ LONGEST_TEXT)) }
 {
-    if bytes.len() > LONGEST_COMMAND {
+    if bytes.len() > LONGEST_TEXT {
         return Ok(None);
     }
     match Value::from_slice(alloc, bytes) {

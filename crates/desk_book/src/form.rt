@@ -6,14 +6,12 @@ ghost use Rattle.desk_book.specs.Asked.{message};
 ghost use Rattle.desk_book.specs.Forms.{IsLineOf};
 ghost use Rattle.desk_book.specs.Script.{Means, item_of};
 
+use crate::limits::LONGEST_LINE;
 use crate::line::COMMAND;
 use crate::request::Request;
 use crate::script::Item;
 use desk_codes::{Bic, split_at};
 use desk_msg::Mt;
-
-/// The longest line outside bodies, in bytes.
-const LONGEST_LINE: usize = 1024;
 
 /// The line that asks for the desk's totals.
 const SUMS: &[u8] = b"sums";
@@ -35,7 +33,7 @@ pub fn posted<'a>(said: &'a [u8], text: &'a [u8]) -> Item<'a>
 }
 
 /// What a line asks that no body follows.
-pub fn plain(said: &[u8]) -> Item<'_>
+pub fn bodiless(said: &[u8]) -> Item<'_>
     ensures { Means said.now None (item_of result) }
 {
     if said == SUMS {

@@ -1,19 +1,22 @@
 //! Laws of the definitions, each the contract of a function with an empty body.
-ghost use Rattle.std.specs.Prelude.{◌≡◌, ℕ, Bool, false, List, All, Result, Ok};
+ghost use Rattle.std.specs.Prelude.{◌≡◌, ℕ, Bool, false, List, [], All, Result, Ok};
 ghost use Rattle.desk_rules.specs.declared.reply.Reply.{Reply};
 ghost use Rattle.desk_rules.specs.declared.verdict.Verdict.TheVariants.{Accept};
-ghost use Rattle.desk_rules.specs.Reply.{AreNext};
+ghost use Rattle.desk_rules.specs.Reply.{AreNext, untyped_reply};
 ghost use Rattle.desk_rules.specs.Confirmations.{AccountFor, Confirmation, SayConfirmations};
 ghost use Rattle.desk_rules.specs.Sent.{sent_of};
 ghost use Rattle.desk_rules.specs.Books.{Books};
 ghost use Rattle.desk_rules.specs.Verdict.{IsVerdict};
-ghost use Rattle.desk_rules.specs.WellFormed.{IsWellFormed};
+ghost use Rattle.desk_rules.specs.WellFormed.{AreAccepted, IsWellFormed};
 ghost use Rattle.desk_engine.specs.Applied.{no_books};
 ghost use Rattle.desk_book.specs.declared.fault.Fault.{Fault};
 ghost use Rattle.desk_book.specs.declared.task.Task.{Task};
 ghost use Rattle.desk_book.specs.declared.task.Task.TheVariants.{Decide};
-ghost use Rattle.desk_book.specs.Answered.{ActsOnce, IsRepeat, Run, Step, says_closed};
-ghost use Rattle.desk_book.specs.Asked.{Asked};
+ghost use Rattle.desk_book.specs.Answered.{ActsOnce, AreSums, IsRepeat, Run, Step, says_closed};
+ghost use Rattle.desk_book.specs.Known.{Agree, IsKnown};
+ghost use Rattle.desk_book.specs.Sums.{sums_text};
+ghost use Rattle.desk_book.specs.declared.total.SecurityTotal.{SecurityTotal};
+ghost use Rattle.desk_book.specs.Asked.{Asked, sums};
 ghost use Rattle.desk_book.specs.Task.{IsTask};
 ghost use Rattle.desk_rules.specs.declared.entry.Entry.{Entry};
 ghost use Rattle.desk_book.specs.Command.{Spells};
@@ -64,10 +67,33 @@ pub fn one_reply()
     ensures { (limit : ℕ) (books n m : Books) (asked : Asked) (r s : Reply) → Step limit books asked (Ok r) n → Step limit books asked (Ok s) m → (r ≡ s) × (n ≡ m) }
 {}
 
-/// Each change is confirmed: after any list of requests to a desk that began empty, whatever was answered, the texts of
-/// the messages sent by then say confirmations, and these account for every balance. (What was accepted was read from
-/// messages and commands, so nothing is left to assume of it.)
+/// Each reply that is no fault has the status 200; or 422, and refuses an entry with a number of the catalogue; or 400,
+/// and says that what was asked could not be read.
+pub fn known_replies()
+    ensures { (limit : ℕ) (books after : Books) (asked : Asked) (reply : Reply) → Step limit books asked (Ok reply) after → IsKnown books asked reply }
+{}
+
+/// What a desk begins with stays: where its entries were accepted each in its turn, and are well formed, so are those
+/// after any list of requests. A desk that begins empty has such entries.
+pub fn accepted_stays()
+    ensures none { (limit : ℕ) → AreAccepted limit no_books }
+    ensures stays { (limit : ℕ) (was is : Bool) (books last : Books) (requests : List Asked) (answers : List (Result Reply Fault))
+        → AreAccepted limit books → Run limit was books requests answers is last → AreAccepted limit last }
+{}
+
+/// Where the totals are asked for, after any list of requests to a desk whose entries were accepted in their turn and are
+/// well formed, they agree: of each security the accounts hold just what is outstanding. (The desk takes no cash yet, so
+/// it tells no totals of currencies.)
+pub fn sums_agree()
+    ensures { (limit : ℕ) (was is : Bool) (books last next : Books) (requests : List Asked) (answers : List (Result Reply Fault)) (reply : Reply)
+        → AreAccepted limit books → Run limit was books requests answers is last → Step limit last sums (Ok reply) next
+        → (totals : List SecurityTotal) × AreSums last totals × Agree totals × (reply ≡ untyped_reply 200 (sums_text [] totals)) }
+{}
+
+/// Each change is confirmed: after any list of requests to a desk whose entries were accepted in their turn and are well
+/// formed, whatever was answered, the texts of the messages sent by then say confirmations, and these account for every
+/// balance. (What is accepted is read from messages and commands, so nothing is left to assume of it.)
 pub fn changes_are_confirmed()
-    ensures { (limit : ℕ) (was is : Bool) (requests : List Asked) (answers : List (Result Reply Fault)) (last : Books)
-        → Run limit was no_books requests answers is last → (confirmations : List Confirmation) × SayConfirmations (sent_of last) confirmations × AccountFor last confirmations }
+    ensures { (limit : ℕ) (was is : Bool) (books last : Books) (requests : List Asked) (answers : List (Result Reply Fault))
+        → AreAccepted limit books → Run limit was books requests answers is last → (confirmations : List Confirmation) × SayConfirmations (sent_of last) confirmations × AccountFor last confirmations }
 {}

@@ -12,6 +12,7 @@ mod desk;
 mod fault;
 mod form;
 mod laws;
+mod limits;
 mod line;
 mod member;
 mod operation;
@@ -28,10 +29,11 @@ pub use command::read_command;
 pub use desk::Desk;
 pub use fault::{Fault, InputFault, PlayFault};
 pub use laws::{
-    accepted_again, changes_are_confirmed, closed_for_good, one_command, one_reply, one_script,
-    one_task, reads_well_formed, repeats_act_once,
+    accepted_again, accepted_stays, changes_are_confirmed, closed_for_good, known_replies,
+    one_command, one_reply, one_script, one_task, reads_well_formed, repeats_act_once, sums_agree,
 };
-pub use reading::{LONGEST_SCRIPT, read_whole};
+pub use limits::{LONGEST_LINE, LONGEST_SCRIPT};
+pub use reading::read_whole;
 pub use request::Request;
 pub use script::{Item, first_item, item_count};
 pub use summing::{security_totals, totals_text};

@@ -11,7 +11,8 @@ ghost use Rattle.desk_book.specs.Script.{item_of};
 
 use crate::desk::Desk;
 use crate::fault::PlayFault;
-use crate::reading::{LONGEST_SCRIPT, read_whole};
+use crate::limits::LONGEST_SCRIPT;
+use crate::reading::read_whole;
 use crate::script::{Item, first_item};
 use crate::writing::{write_answer, write_bad_line, write_fault};
 use desk_register::Register;

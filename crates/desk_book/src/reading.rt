@@ -3,12 +3,10 @@ ghost use Rattle.std.specs.Prelude.{◌≡◌, ℕ, ◌<◌, ◌≤◌, ◌+◌,
 ghost use Rattle.std.specs.Io.KnownBytes.{Consumes, Keeps, IsAtEnd};
 
 use crate::fault::InputFault;
+use crate::limits::LONGEST_SCRIPT;
 use std::alloc::Global;
 use std::io;
 use std::io::Read;
-
-/// A script has so many bytes at most.
-pub const LONGEST_SCRIPT: usize = 16_777_216;
 
 /// So many bytes are asked for in one read.
 const CHUNK: usize = 4096;

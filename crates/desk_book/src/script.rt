@@ -3,12 +3,13 @@ ghost use Rattle.std.specs.Prelude.{◌≡◌, ℕ, ◌<◌, ◌≤◌, [], ◌�
 ghost use Rattle.desk_book.specs.Lines.{lines_of, content as content_of, is_skipped as skips, has_body as posts, is_stop as stops};
 ghost use Rattle.desk_book.specs.Script.{Asking, Means, BeginsWith, BeginsWithBody, IsOpen, SpellsOnly, item_of};
 
-use crate::form::{plain, posted};
+use crate::form::{bodiless, posted};
 use crate::line::{content, first_line, has_body, is_skipped, is_stop};
 use crate::request::Request;
+use desk_text::LONGEST_TEXT;
 
 /// So many bytes of a body count: one more than a message or a command may have.
-const LONGEST_BODY: usize = 65_537;
+const COUNTED: usize = LONGEST_TEXT + 1;
 
 /// An item of a script.
 #[derive(Clone, Copy, Debug, PartialEq, Eq)]
@@ -57,10 +58,10 @@ fn item_at<'a>(line: &'a [u8], after: &'a [u8]) -> (Item<'a>, &'a [u8])
 {
     let said = content(line);
     if !has_body(said) {
-        return (plain(said), after);
+        return (bodiless(said), after);
     }
     match split_body(after) {
-        Some((body, rest)) => (posted(said, &body[..body.len().min(LONGEST_BODY)]), rest),
+        Some((body, rest)) => (posted(said, &body[..body.len().min(COUNTED)]), rest),
         None => (Item::BadLine, &[]),
     }
 }

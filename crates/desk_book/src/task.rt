@@ -1,6 +1,6 @@
 //! What a request is read as.
 ghost use Rattle.std.specs.Prelude.{◌≡◌, true, IfOk};
-ghost use Rattle.desk_rules.specs.Reply.{plain_reply};
+ghost use Rattle.desk_rules.specs.Reply.{untyped_reply};
 ghost use Rattle.desk_book.specs.Asked.{asked_by};
 ghost use Rattle.desk_book.specs.Task.{IsTask, IsMessageTask, IsCommandTask, IsFormed, IsSupported, is_supported_type, unknown_form};
 
@@ -100,7 +100,7 @@ fn unknown(alloc: Global) -> Result<Reply, AllocError>
 
 /// The answer to what was refused as it was read: its line.
 fn bad_request(line: Vec<u8>) -> Reply
-    ensures { result ≡ plain_reply 400 line.items }
+    ensures { result ≡ untyped_reply 400 line.items }
 {
     Reply {
         status: 400,

@@ -2,7 +2,7 @@ pub mod Summing
 pub mod StoredLemmas
 pub mod NumberLemmas
 pub mod PlainLemmas
-pub mod PlainSpells
+pub mod WrittenSpells
 pub mod CharacterLemmas
 pub mod BicLemmas
 pub mod IsinLemmas

@@ -10,7 +10,7 @@ use Rattle.std.proofs.Math.Nat.{pow-succ', one-le-pow, mul-le-mul_left, mul_comm
 use Rattle.std.proofs.Math.Dec.{eqb-suc-zero}
 use Rattle.std.proofs.Math.Seq.{take-nil}
 use Rattle.desk_codes.specs.Characters.{IsDigit}
-use Rattle.desk_codes.specs.Number.{IsShaped, Spells, number_of, padded_part, fraction, plain}
+use Rattle.desk_codes.specs.Number.{IsShaped, SpellsNumber, number_of, padded_part, fraction, written_number}
 use Rattle.desk_codes.proofs.NumberLemmas.{same_split, digits_no_comma, number_below}
 
 -- one more digit, or none at all
@@ -28,7 +28,7 @@ same_shape : (text w p v q : List ℕ) → IsShaped text w p → IsShaped text v
 same_shape text w p v q a b =
     same_split w v p q (digits_no_comma w a.whole_digits) (digits_no_comma v b.whole_digits) (sym a.split ∙ b.split)
 
-pub one_value_each : (text : List ℕ) (a b d : ℕ) → Spells text a d → Spells text b d → a ≡ b
+pub one_value_each : (text : List ℕ) (a b d : ℕ) → SpellsNumber text a d → SpellsNumber text b d → a ≡ b
 one_value_each text a b d s t =
     let same = same_shape text s.whole s.part t.whole t.part s.shaped t.shaped in
     s.is ∙ (rw (same.0, same.1) (sym t.is))
@@ -68,8 +68,8 @@ fraction_len (suc d) m (c ∷ part) le digits =
     let ih = fraction_len d m part (omega arith) (All-tail IsDigit c part digits) in
     fraction_more_len d (number_of (c ∷ xs)) (length part) (rw rest ih)
 
-pub plain_shortest : (text : List ℕ) (value d : ℕ) → value < 2 ^ 64 → d ≤ 3 → Spells text value d → length (plain value d) ≤ length text
-plain_shortest text value d fits few s =
+pub written_shortest : (text : List ℕ) (value d : ℕ) → value < 2 ^ 64 → d ≤ 3 → SpellsNumber text value d → length (written_number value d) ≤ length text
+written_shortest text value d fits few s =
     let part = padded_part d s.part in
     let zeros : All IsDigit (replicate d 48) = All-replicate IsDigit d 48 (lit≤ tt, lit≤ tt) in
     let all : All IsDigit (padded_part d s.part) = All-take IsDigit d _ (All-append IsDigit s.part _ s.shaped.part_digits zeros) in

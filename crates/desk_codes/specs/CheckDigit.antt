@@ -1,11 +1,12 @@
 -- The check digit of an ISIN (ISO 6166, annex on the modulus 10 "double-add-double" digit).
-use Rattle.std.specs.Prelude.{◌≡◌, ℕ, ◌+◌, ◌-◌, ◌*◌, ◌/◌, ◌%◌, ◌==◌, Bool, List, [], ◌∷◌, length, nat_lt, if◌then◌else◌, All, take, slice_index}
+use Rattle.std.specs.Prelude.{◌≡◌, ℕ, ◌+◌, ◌-◌, ◌*◌, ◌/◌, ◌%◌, ◌==◌, Bool, List, [], ◌∷◌, length, nat_le, if◌then◌else◌, All, take, slice_index}
 use Rattle.std.specs.List.{flat_map}
+use Rattle.std.specs.Str.{byte}
 use Rattle.desk_codes.specs.Characters.{IsCapital, IsCodeChar}
 
 -- A digit stands for itself, and A to Z for 10 to 35, written as two digits.
 abbrev pub digits_of_char : ℕ → List ℕ
-digits_of_char c = if nat_lt c 58 then (c - 48) ∷ [] else ((c - 55) / 10) ∷ ((c - 55) % 10) ∷ []
+digits_of_char c = if nat_le c (byte "9") then (c - byte "0") ∷ [] else ((c - 55) / 10) ∷ ((c - 55) % 10) ∷ []
 
 -- the digits of a whole text
 abbrev pub expanded : List ℕ → List ℕ
@@ -33,4 +34,4 @@ pub record IsIsin (text : List ℕ) : Type 0 where
   pub len : length text ≡ 12
   pub prefix : All IsCapital (take 2 text)
   pub body : All IsCodeChar (take 11 text)
-  pub check : slice_index text 11 ≡ 48 + check_of (take 11 text)
+  pub check : slice_index text 11 ≡ byte "0" + check_of (take 11 text)

@@ -1,5 +1,6 @@
 -- Reading an ISIN (ISO 6166).
 use Rattle.std.specs.Prelude.{◌≡◌, ◌≢◌, ℕ, ◌+◌, List, length, All, take, slice_index, Result, Ok, Err}
+use Rattle.std.specs.Str.{byte}
 use Rattle.desk_codes.specs.Characters.{IsCapital, IsCodeChar}
 use Rattle.desk_codes.specs.CheckDigit.{IsIsin, check_of}
 use Rattle.desk_codes.specs.declared.fault.CodeFault.{CodeFault}
@@ -13,5 +14,5 @@ ReadsIsin text (Err Prefix) = (length text ≡ 12) × ¬ All IsCapital (take 2 t
 ReadsIsin text (Err Body) = (length text ≡ 12) × All IsCapital (take 2 text) × ¬ All IsCodeChar (take 11 text)
 ReadsIsin text (Err (Check digit)) =
     (length text ≡ 12) × All IsCapital (take 2 text) × All IsCodeChar (take 11 text)
-    × (digit ≡ check_of (take 11 text)) × (slice_index text 11 ≢ 48 + digit)
+    × (digit ≡ check_of (take 11 text)) × (slice_index text 11 ≢ byte "0" + digit)
 ReadsIsin text (Err Shape) = ⊥

@@ -1,5 +1,6 @@
 //! Reading decimal numbers with a comma (ISO 15022, format 15d).
 ghost use Rattle.std.specs.Prelude.{◌≡◌, ◌↔◌, ◌≤◌, ◌<◌, ◌+◌, ◌^◌, ◌++◌, [], ℕ, All, IsTrue, length, drop};
+ghost use Rattle.std.specs.Str.{byte};
 ghost use Rattle.desk_codes.specs.Characters.{IsDigit};
 ghost use Rattle.desk_codes.specs.Number.{ReadsNumber, padded_part, number_of};
 
@@ -52,7 +53,7 @@ pub fn read_number(text: &[u8], decimals: usize) -> Result<u64, NumberFault>
 }
 
 fn are_zeros(text: &[u8]) -> bool
-    ensures { IsTrue result ↔ All (λ c. c ≡ 48) text.now }
+    ensures { IsTrue result ↔ All (λ c. c ≡ byte "0") text.now }
 {
     text.iter().all(|c| *c == b'0')
 }

@@ -1,6 +1,6 @@
 //! Writing decimal numbers.
 ghost use Rattle.std.specs.Prelude.{◌≡◌, ◌≤◌, ◌<◌, ◌^◌, IfOk};
-ghost use Rattle.desk_codes.specs.Number.{plain};
+ghost use Rattle.desk_codes.specs.Number.{written_number};
 
 use std::alloc::{AllocError, Global};
 
@@ -9,7 +9,7 @@ use std::alloc::{AllocError, Global};
 /// of memory.
 pub fn write_number(alloc: Global, value: u64, decimals: usize) -> Result<Vec<u8>, AllocError>
     requires { decimals ≤ 3 }
-    ensures { IfOk result (λ text. text.items ≡ plain value decimals) }
+    ensures { IfOk result (λ text. text.items ≡ written_number value decimals) }
 {
     let one = power_of_ten(decimals);
     let whole = (value / one).to_string(alloc)?;

@@ -43,8 +43,8 @@ use Rattle.desk_engine.specs.Pass.{CanRun, RanTo, IsPassed}
 use Rattle.std.specs.Prelude.{Err}
 use Rattle.desk_register.specs.declared.register.Fault.{Fault}
 use Rattle.desk_register.specs.declared.register.Fault.TheVariants.{Memory, Storage}
-use Rattle.desk_register.specs.declared.register.Stage.TheVariants.{Idle, Begun}
-use Rattle.desk_register.specs.View.{View, IsLater, IsStep, Stays}
+use Rattle.desk_register.specs.declared.register.Stage.TheVariants.{Idle, Begun, Failed}
+use Rattle.desk_register.specs.View.{View, IsLater, IsRead, IsStep, Stays, fallen}
 use Rattle.desk_register.proofs.ViewLemmas.{later_then, stays_then}
 use Rattle.desk_engine.specs.Applied.{Keeps, IsMateOf, IsNamed, IsApplied, CanApply, HasApplied}
 use Rattle.desk_engine.proofs.TablesLemmas.{one_books, length_is, pairs_known, accepted_in}
@@ -457,6 +457,18 @@ entries_within limit h was = elim (cases_lt 0 (length h)) [
       let shorter : length (before n h) + 1 ≡ n = length-before h n some (omega arith) in
       omega arith
 ]
+
+-- a reading call failed within an open `begin`
+pub read_fails : {X Y : Type 0} (fault : Fault) (v0 v1 : View) → v0.stage ≡ Begun → IsRead {X = Y} (Err fault) v0 v1 → IsStep {X = X} (Err fault) v0 v1
+read_fails fault v0 v1 begun r = record {
+  ok = tt;
+  err = record {
+    stage = λ idle. (let is : v1.stage ≡ fallen Begun = r.err.stage ∙ ap fallen begun in let clash : Failed ≡ Idle = sym is ∙ idle in absurd (cc));
+    mark = r.err.mark;
+  };
+  later = r.later;
+  blame = r.blame;
+}
 
 -- want of memory, after calls that went well, which touches nothing
 pub want_step : {X : Type 0} (fault : Fault) (v0 v1 v2 : View) → v0.stage ≡ Begun → Stays v0 v1 → IsLater v0 v1 → Stays v1 v2 → IsLater v1 v2 → fault ≡ Memory → IsStep {X = X} (Err fault) v0 v2

@@ -18,7 +18,7 @@ use Rattle.desk_rules.specs.declared.entry.Instructed.{Instructed}
 use Rattle.desk_rules.specs.History.{before, instruction_at, entry_at, run_day}
 use Rattle.desk_rules.specs.Cancelled.{is_cancelled_pair}
 use Rattle.desk_rules.specs.Pairing.{IsSide, mate_in}
-use Rattle.desk_rules.specs.Settlement.{is_due, is_before, is_past, is_above, is_sooner, is_by, stands, day_of, place_of, instructed_day, IsOpen, IsNext}
+use Rattle.desk_rules.specs.Settlement.{is_due, is_before, is_past, is_above, is_sooner, is_by, is_not_cancelled, day_of, place_of, instructed_day, IsOpen, IsNext}
 use Rattle.desk_rules.specs.Books.{Books, AreBooks}
 use Rattle.desk_rules.specs.Content.{Content}
 use Rattle.desk_register.specs.Looked.{IsDue, IsDuePairAfter, IsMatchedPair}
@@ -46,8 +46,8 @@ due_in_run h reference day rule p stays le by =
     let first : is_by (option_and_then run_day (entry_at g n)) (day_of g p) ≡ true =
     ap (λ o. is_by (option_and_then run_day o) (day_of g p)) entry ∙ ap (λ d. nat_le d (number_of day)) days ∙ le-leb (day_of h p) (number_of day) by in
     let second : nat_lt p.later n ≡ true = lt-ltb p.later n (omega arith) in
-    let third : stands (before n g) p ≡ true = ap (λ z. stands z p) (before-all h (e ∷ []) n refl) ∙ not_of (is_cancelled_pair h p) stays in
-    and_true (is_by (option_and_then run_day (entry_at g n)) (day_of g p) && nat_lt p.later n) (stands (before n g) p) (and_true _ _ first second) third
+    let third : is_not_cancelled (before n g) p ≡ true = ap (λ z. is_not_cancelled z p) (before-all h (e ∷ []) n refl) ∙ not_of (is_cancelled_pair h p) stays in
+    and_true (is_by (option_and_then run_day (entry_at g n)) (day_of g p) && nat_lt p.later n) (is_not_cancelled (before n g) p) (and_true _ _ first second) third
 
 pub run_due_by : (h : List Entry) (reference day : List ℕ) (rule : RunRule) (p : Pair) → p.later ≤ length h → is_due (h ++ Run reference day rule ∷ []) (length h + 1) p ≡ true → day_of h p ≤ number_of day
 run_due_by h reference day rule p le due =
@@ -126,7 +126,7 @@ module _ (books : Books) (reference day : List ℕ) (rule : RunRule) (pass : ℕ
   open_stands : (p : Pair) → IsOpen (books.history ++ Run reference day rule ∷ []) books.pairs settled (length books.history + 1) place p → is_cancelled_pair books.history p ≡ false
   open_stands p free =
       let f = due_facts (books.history ++ Run reference day rule ∷ []) (length books.history + 1) p free.due in
-      let here : stands books.history p ≡ true = ap (λ h. stands h p) (sym (before-all books.history (Run reference day rule ∷ []) (length books.history + 1) refl)) ∙ f.stands in
+      let here : is_not_cancelled books.history p ≡ true = ap (λ h. is_not_cancelled h p) (sym (before-all books.history (Run reference day rule ∷ []) (length books.history + 1) refl)) ∙ f.stands in
       not_true_is (is_cancelled_pair books.history p) here
 
   open_state : (p : Pair) (mate : Option ℕ) (state : State) → PassesSo books (Run reference day rule) pass (is_below books (Run reference day rule) place) settled p.later mate state

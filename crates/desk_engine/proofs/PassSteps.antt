@@ -14,7 +14,7 @@ use Rattle.desk_msg.specs.declared.status.Reason.TheVariants as reasons
 use Rattle.desk_rules.specs.Cancelled.{is_cancelled_pair}
 use Rattle.desk_rules.specs.Pairing.{IsSide, mate_in}
 use Rattle.desk_rules.specs.Covered.{lack_of}
-use Rattle.desk_rules.specs.Settlement.{is_above, is_due, is_sooner, precedes, settled_before, stands, IsNext}
+use Rattle.desk_rules.specs.Settlement.{is_above, is_due, is_sooner, precedes, settled_before, is_not_cancelled, IsNext}
 use Rattle.desk_rules.specs.Books.{Books, AreBooks}
 use Rattle.desk_rules.specs.Standing.{reason_of_lack}
 use Rattle.desk_rules.specs.Stands.{IsInPair}
@@ -38,7 +38,7 @@ module _ (books : Books) (e : Entry) (pass : ℕ) (place : Option Place) (settle
   pub next_stands : is_cancelled_pair books.history q ≡ false
   next_stands =
       let f = due_facts (books.history ++ e ∷ []) (length books.history + 1) q is.is_open.due in
-      let here : stands books.history q ≡ true = ap (λ h. stands h q) (sym (before-all books.history (e ∷ []) (length books.history + 1) refl)) ∙ f.stands in
+      let here : is_not_cancelled books.history q ≡ true = ap (λ h. is_not_cancelled h q) (sym (before-all books.history (e ∷ []) (length books.history + 1) refl)) ∙ f.stands in
       not_true_is (is_cancelled_pair books.history q) here
 
   -- of another pair, not settled: what the pass has tried behind the next pair, it had tried before

@@ -39,7 +39,7 @@ use Rattle.desk_rules.specs.Verdict.{WasAccepted, check}
 use Rattle.desk_rules.specs.declared.limits.TheConstants.{MOST_QUANTITY}
 use Rattle.desk_engine.specs.Decision.{is_supported}
 use Rattle.desk_rules.specs.Content.{Content, history_of}
-use Rattle.desk_register.specs.Changes.{standing_both, CanSettle, TriesPair, TriesSides, delivery_of as deliverer, receipt_of as receiver}
+use Rattle.desk_register.specs.Changes.{standing_both, CanSettle, TriesPair, TriesSides, delivering_side as deliverer, receiving_side as receiver}
 use Rattle.desk_register.specs.Looked.{IsDue, IsDuePairAfter}
 use Rattle.desk_engine.specs.Pass.{settled_of, AreSupported, PassesAt, InstructionPasses, IsUnderway, is_below}
 use Rattle.desk_rules.proofs.Accepted.{accepted_last}

@@ -16,7 +16,7 @@ use Rattle.desk_codes.specs.declared.currency.Ccy.{Ccy}
 use Rattle.desk_rules.specs.Balances.{credits, debits, cash_credits, cash_debits, quantity_if, quantity_on, cash_in, amount_of, delivery_of, receipt_of, is_delivered_by}
 use Rattle.desk_rules.specs.Covered.{can_deliver, can_pay, can_pay_cash, has_securities, has_cash, is_covered, lack_of}
 use Rattle.desk_rules.specs.Content.{Positions}
-use Rattle.desk_register.specs.Changes.{moved_to, delivered, delivery_of as deliverer, receipt_of as receiver}
+use Rattle.desk_register.specs.Changes.{moved_to, delivered, delivering_side as deliverer, receiving_side as receiver}
 use Rattle.desk_rules.proofs.BalanceLemmas.{credits-push, debits-push, cash_credits-push, cash_debits-push}
 
 same_bytes : (a b : List ℕ) → bytes_eq a b ≡ true → a ≡ b

@@ -8,16 +8,10 @@ ghost use Rattle.desk_rules.specs.Verdict.{check, checks_of};
 ghost use Rattle.desk_rules.specs.Facts.{is_after, is_of_kind, is_owner, is_participant, kind_of, last_run, owner_of};
 
 use desk_codes::{AccountId, Bic, Day, Isin};
-use desk_msg::{Instruction, Kind};
+use desk_msg::{DESK_BIC, Instruction, Kind};
 use desk_register::{Fault, Register};
-use desk_rules::{Entry, Movement, Refusal};
+use desk_rules::{Entry, MOST_QUANTITY, Movement, Refusal};
 use std::alloc::Global;
-
-/// The depository's own BIC.
-const DESK_BIC: &[u8] = b"DESKDEFF";
-
-/// The most that may be outstanding of a security.
-const MOST_OUTSTANDING: u64 = 99_999_999_999_999;
 
 fn is_of_kind(kind: Kind, found: Option<Kind>) -> bool
     ensures { result ≡ is_of_kind kind found }
@@ -121,7 +115,7 @@ fn refuse_issue<R: Register>(
     if register.security(alloc, movement.isin)?.is_none() {
         return Ok(Some(Refusal::SecurityUnknown));
     }
-    if register.outstanding(alloc, movement.isin)? > MOST_OUTSTANDING - movement.quantity {
+    if register.outstanding(alloc, movement.isin)? > MOST_QUANTITY - movement.quantity {
         return Ok(Some(Refusal::OverLimit));
     }
     Ok(None)

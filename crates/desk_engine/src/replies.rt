@@ -20,7 +20,7 @@ const DONE: u16 = 200;
 /// The status of what was refused.
 const REFUSED: u16 = 422;
 
-fn plain_reply(status: u16, text: String) -> Reply
+fn untyped_reply(status: u16, text: String) -> Reply
     ensures { result ≡ record { status = status; mt = None; text = string_bytes text } }
 {
     Reply {
@@ -85,7 +85,7 @@ fn reply_of(alloc: Global, entry: &Entry, applied: &Applied) -> Result<Reply, Al
     ensures { (books : Books) → IsApplied books entry.now applied.now → IfOk result (λ reply. reply ≡ reply_to books entry.now) }
 {
     match entry {
-        Entry::Run { .. } => Ok(plain_reply(DONE, run_line(alloc, applied)?)),
+        Entry::Run { .. } => Ok(untyped_reply(DONE, run_line(alloc, applied)?)),
         Entry::Instruct { instruction, .. } => {
             let text = status_text(
                 alloc,
@@ -108,7 +108,7 @@ fn reply_of(alloc: Global, entry: &Entry, applied: &Applied) -> Result<Reply, Al
         | Entry::Issue(_)
         | Entry::Redeem(_)
         | Entry::PayIn(_)
-        | Entry::PayOut(_) => Ok(plain_reply(DONE, accepted_line(alloc, applied)?)),
+        | Entry::PayOut(_) => Ok(untyped_reply(DONE, accepted_line(alloc, applied)?)),
     }
 }
 
@@ -143,7 +143,7 @@ fn refusal_of(
         | Entry::Redeem(_)
         | Entry::PayIn(_)
         | Entry::PayOut(_)
-        | Entry::Run { .. } => Ok(plain_reply(REFUSED, format!(in alloc; "refused {number}")?)),
+        | Entry::Run { .. } => Ok(untyped_reply(REFUSED, format!(in alloc; "refused {number}")?)),
     }
 }
 

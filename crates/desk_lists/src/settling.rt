@@ -1,6 +1,6 @@
 //! A pair, settled in the lists.
 ghost use Rattle.std.specs.Prelude.{◌≡◌, ◌<◌, ◌≤◌, ◌+◌, ◌^◌, Some, None, length, IfOk, OnOk};
-ghost use Rattle.desk_register.specs.Changes.{delivered, CanSettle, TriesPair, TriesSides, delivery_of, receipt_of};
+ghost use Rattle.desk_register.specs.Changes.{delivered, CanSettle, TriesPair, TriesSides, delivering_side, receiving_side};
 ghost use Rattle.desk_lists.specs.Lists.{content_in, listed, quantity_in, undone, SameButQuantities, SameOutstanding};
 
 use crate::by_number::{instruction, standing};
@@ -36,7 +36,7 @@ fn deliver(
 
 /// The instruction of two that delivers.
 fn delivery<'a>(earlier: &'a Instructed, later: &'a Instructed) -> &'a Instructed
-    ensures { result.now ≡ delivery_of earlier.now later.now }
+    ensures { result.now ≡ delivering_side earlier.now later.now }
 {
     if earlier.instruction.mt.is_delivery() {
         return earlier;
@@ -46,7 +46,7 @@ fn delivery<'a>(earlier: &'a Instructed, later: &'a Instructed) -> &'a Instructe
 
 /// The instruction of two that receives.
 fn receipt<'a>(earlier: &'a Instructed, later: &'a Instructed) -> &'a Instructed
-    ensures { result.now ≡ receipt_of earlier.now later.now }
+    ensures { result.now ≡ receiving_side earlier.now later.now }
 {
     if earlier.instruction.mt.is_delivery() {
         return later;
@@ -66,8 +66,8 @@ fn settle_sides(
     requires some { 0 < mate }
     requires two { mate < number }
     requires known { number ≤ length lists.old.kept.items }
-    requires fits { later.now.instruction.quantity ≤ quantity_in (listed lists.old) (delivery_of earlier.now later.now).instruction.account later.now.instruction.isin
-        → quantity_in (listed lists.old) (receipt_of earlier.now later.now).instruction.account later.now.instruction.isin + later.now.instruction.quantity < 2 ^ 63 }
+    requires fits { later.now.instruction.quantity ≤ quantity_in (listed lists.old) (delivering_side earlier.now later.now).instruction.account later.now.instruction.isin
+        → quantity_in (listed lists.old) (receiving_side earlier.now later.now).instruction.account later.now.instruction.isin + later.now.instruction.quantity < 2 ^ 63 }
     ensures settled { IfOk result (λ outcome. TriesSides (content_in (listed lists.old)) number mate earlier.now later.now outcome (content_in (listed lists.new))) }
     ensures rest { OnOk result (SameOutstanding (listed lists.old) (listed lists.new)) }
     ensures before { undone changes.new.items (listed lists.new) ≡ undone changes.old.items (listed lists.old) }

@@ -2,7 +2,7 @@
 use Rattle.std.proofs.Common.{◌≡◌, ℕ, Bool, true, false, if◌then◌else◌, List, [], ◌∷◌, ◌++◌, codes, refl, sym, ◌∙◌, ap, Option, Some, None, Ok, subst, is_some, arith, All, length, ◌<◌, ◌≤◌, ◌^◌}
 use Rattle.std.specs.List.{list_all}
 use Rattle.std.specs.Option.{ForSome}
-use Rattle.desk_codes.specs.Number.{plain, ReadsNumber}
+use Rattle.desk_codes.specs.Number.{written_number, ReadsNumber}
 use Rattle.desk_codes.specs.Currency.{decimals_of}
 use Rattle.desk_codes.specs.Day.{IsDay}
 use Rattle.desk_codes.specs.Characters.{IsCodeChar}
@@ -11,7 +11,7 @@ use Rattle.desk_codes.specs.Account.{IsAccount}
 use Rattle.desk_codes.specs.CheckDigit.{IsIsin}
 use Rattle.desk_codes.specs.Bic.{IsBic}
 use Rattle.desk_codes.proofs.BicLemmas.{shape_codes}
-use Rattle.desk_codes.proofs.PlainSpells.{plain_spells}
+use Rattle.desk_codes.proofs.WrittenSpells.{written_spells}
 use Rattle.desk_text.specs.BlockGrammar.{is_printable}
 use Rattle.desk_text.specs.Fields.{Found, IsBlock}
 use Rattle.desk_text.specs.Lines.{value_lines}
@@ -40,7 +40,7 @@ use Rattle.desk_msg.proofs.ConfirmedFields.{said_fields, written_are, same_with,
 -- the amount is read back from its written form
 abbrev pub IsReadCash : Option Cash → Type 0
 IsReadCash None = Unit {0}
-IsReadCash (Some cash) = ReadsNumber (plain cash.amount (decimals_of cash.ccy)) (decimals_of cash.ccy) (Ok cash.amount)
+IsReadCash (Some cash) = ReadsNumber (written_number cash.amount (decimals_of cash.ccy)) (decimals_of cash.ccy) (Ok cash.amount)
 
 read_cash : (fields : List Found) (against : Bool) (cash : Option Cash) (part : Word → Said) → is_some cash ≡ against → part Field19A ≡ cash_said cash → GiveAll fields (if against then amount_row ∷ [] else []) part → IsReadCash cash
 read_cash fields against None part e is all = tt
@@ -52,7 +52,7 @@ read_cash fields true (Some cash) part e is all =
 
 printed_cash : (cash : Option Cash) → IsReadCash cash → IsPrintedCash cash
 printed_cash None read = tt
-printed_cash (Some cash) read = amount_printable cash.ccy (plain cash.amount (decimals_of cash.ccy)) (number_text cash.amount (decimals_of cash.ccy) read)
+printed_cash (Some cash) read = amount_printable cash.ccy (written_number cash.amount (decimals_of cash.ccy)) (number_text cash.amount (decimals_of cash.ccy) read)
 
 party_given : (delivers : Bool) (fields : List Found) (i : Instruction) → Gives fields (if delivers then reag_row else deag_row) (instructed i (if delivers then reag_row else deag_row).word) → list_all is_printable i.counterparty ≡ true
 party_given true fields i given = party_text given.says.0 i.counterparty given.says.2
@@ -71,7 +71,7 @@ fields_are n i day p paid =
     (value-line (codes ":RELA//" ++ i.reference) p.reference)
     (value-line (codes ":ESET//" ++ day) p.day_text)
     (value-line (codes "ISIN " ++ i.isin) p.isin)
-    (value-line (codes ":ESTT//" ++ code_of_kind i.kind ++ 47 ∷ plain i.quantity 0) (quantity_first i.kind (plain i.quantity 0) p.quantity))
+    (value-line (codes ":ESTT//" ++ code_of_kind i.kind ++ 47 ∷ written_number i.quantity 0) (quantity_first i.kind (written_number i.quantity 0) p.quantity))
     (value-line (codes ":SAFE//" ++ i.account) p.account)
     (value-line (codes ":SETR//" ++ i.settlement) p.settlement)
     (value-line (party_value i) (party_first (is_delivery i.mt) i.counterparty p.counterparty))
@@ -101,7 +101,7 @@ pub record AreReadBack (i : Instruction) (day : List ℕ) : Type 0 where
   pub reference : IsReference i.reference
   pub is_day : IsDay day
   pub isin : IsIsin i.isin
-  pub quantity : ReadsNumber (plain i.quantity 0) 0 (Ok i.quantity)
+  pub quantity : ReadsNumber (written_number i.quantity 0) 0 (Ok i.quantity)
   pub account : IsAccount i.account
   pub settlement : All IsCodeChar i.settlement
   pub counterparty : list_all is_printable i.counterparty ≡ true
@@ -168,8 +168,8 @@ confirms n i day fields reads is_day =
     }
 
 -- a number with a short written form is read back
-pub short_number : (value d : ℕ) → value < 2 ^ 64 → d ≤ 3 → 0 < value → length (plain value d) ≤ 15 → ReadsNumber (plain value d) d (Ok value)
-short_number value d small few some short = (plain_spells value d small few, short, some)
+pub short_number : (value d : ℕ) → value < 2 ^ 64 → d ≤ 3 → 0 < value → length (written_number value d) ≤ 15 → ReadsNumber (written_number value d) d (Ok value)
+short_number value d small few some short = (written_spells value d small few, short, some)
 
 -- an amount of its type is read back
 pub cash_back : (cash : Option Cash) → ForSome cash (λ c. c.amount < 2 ^ 64) → IsReadCash cash

@@ -1,7 +1,7 @@
 -- The parts of a confirmation are right, and its fields say what was settled.
 use Rattle.std.proofs.Common.{◌≡◌, ℕ, Bool, true, false, if◌then◌else◌, List, [], ◌∷◌, ◌++◌, codes, refl, lit<, Option, Some, None}
 use Rattle.std.specs.List.{list_all}
-use Rattle.desk_codes.specs.Number.{plain}
+use Rattle.desk_codes.specs.Number.{written_number}
 use Rattle.desk_codes.specs.Currency.{letters_of, decimals_of}
 use Rattle.desk_text.specs.BlockGrammar.{is_printable}
 use Rattle.desk_text.specs.Written.{close_part, AreParts}
@@ -21,14 +21,14 @@ pub record ArePrintable (i : Instruction) (day : List ℕ) : Type 0 where
   pub reference : list_all is_printable i.reference ≡ true
   pub day_text : list_all is_printable day ≡ true
   pub isin : list_all is_printable i.isin ≡ true
-  pub quantity : list_all is_printable (plain i.quantity 0) ≡ true
+  pub quantity : list_all is_printable (written_number i.quantity 0) ≡ true
   pub account : list_all is_printable i.account ≡ true
   pub settlement : list_all is_printable i.settlement ≡ true
   pub counterparty : list_all is_printable i.counterparty ≡ true
 
 -- the amount's text
 abbrev pub amount_text : Cash → List ℕ
-amount_text cash = letters_of cash.ccy ++ plain cash.amount (decimals_of cash.ccy)
+amount_text cash = letters_of cash.ccy ++ written_number cash.amount (decimals_of cash.ccy)
 
 abbrev pub IsPrintedCash : Option Cash → Type 0
 IsPrintedCash None = Unit {0}
@@ -85,7 +85,7 @@ confirmation_right n i day p paid = (
                         lit< tt,
                         (
                           refl,
-                          value-right (codes ":ESTT//" ++ code_of_kind i.kind ++ 47 ∷ plain i.quantity 0) (quantity_first i.kind (plain i.quantity 0) p.quantity),
+                          value-right (codes ":ESTT//" ++ code_of_kind i.kind ++ 47 ∷ written_number i.quantity 0) (quantity_first i.kind (written_number i.quantity 0) p.quantity),
                           (
                             refl,
                             value-right (codes ":SAFE//" ++ i.account) p.account,

@@ -2,7 +2,7 @@
 use Rattle.std.proofs.Common.{◌≡◌, ℕ, ◌+◌, if◌then◌else◌, List, [], ◌∷◌, ◌++◌, length, codes, refl, inl, inr, lit≤, Option, Some, None, Ok}
 use Rattle.std.proofs.lemmas.List.Elements.{All-cons, All-nil}
 use Rattle.desk_codes.specs.Characters.{IsCodeChar}
-use Rattle.desk_codes.specs.Number.{plain, ReadsNumber}
+use Rattle.desk_codes.specs.Number.{written_number, ReadsNumber}
 use Rattle.desk_codes.specs.Currency.{letters_of, decimals_of}
 use Rattle.desk_codes.specs.Reference.{IsReference}
 use Rattle.desk_codes.specs.Account.{IsAccount}
@@ -71,7 +71,7 @@ one_paid amount line = at amounts (codes "19A") amount (line + 1) ∷ []
 
 -- the amount's text
 abbrev pub amount_text : Cash → List ℕ
-amount_text cash = codes ":ESTT//" ++ letters_of cash.ccy ++ plain cash.amount (decimals_of cash.ccy)
+amount_text cash = codes ":ESTT//" ++ letters_of cash.ccy ++ written_number cash.amount (decimals_of cash.ccy)
 
 abbrev pub paid_in : (Cash → List (List ℕ)) → Option Cash → ℕ → List Found
 paid_in lines None = none_paid
@@ -84,14 +84,14 @@ party_value i = 58 ∷ ((if is_delivery i.mt then codes "REAG" else codes "DEAG"
 abbrev pub written_fields : ℕ → Instruction → List ℕ → Option Cash → List Found
 written_fields n i day cash = fields_with
     (value_lines (codes ":SEME//" ++ own_reference (Sent n))) (value_lines (codes ":RELA//" ++ i.reference)) (value_lines (codes ":ESET//" ++ day))
-    (value_lines (codes "ISIN " ++ i.isin)) (value_lines (codes ":ESTT//" ++ code_of_kind i.kind ++ 47 ∷ plain i.quantity 0)) (value_lines (codes ":SAFE//" ++ i.account))
+    (value_lines (codes "ISIN " ++ i.isin)) (value_lines (codes ":ESTT//" ++ code_of_kind i.kind ++ 47 ∷ written_number i.quantity 0)) (value_lines (codes ":SAFE//" ++ i.account))
     (value_lines (codes ":SETR//" ++ i.settlement)) (value_lines (party_value i)) (paid_in (λ c. value_lines (amount_text c)) cash)
 
 -- the fields, each value with its one line
 abbrev pub said_fields : ℕ → Instruction → List ℕ → Option Cash → List Found
 said_fields n i day cash = fields_with
     ((codes ":SEME//" ++ own_reference (Sent n)) ∷ []) ((codes ":RELA//" ++ i.reference) ∷ []) ((codes ":ESET//" ++ day) ∷ [])
-    ((codes "ISIN " ++ i.isin) ∷ []) ((codes ":ESTT//" ++ code_of_kind i.kind ++ 47 ∷ plain i.quantity 0) ∷ []) ((codes ":SAFE//" ++ i.account) ∷ [])
+    ((codes "ISIN " ++ i.isin) ∷ []) ((codes ":ESTT//" ++ code_of_kind i.kind ++ 47 ∷ written_number i.quantity 0) ∷ []) ((codes ":SAFE//" ++ i.account) ∷ [])
     ((codes ":SETR//" ++ i.settlement) ∷ []) (party_value i ∷ []) (paid_in (λ c. amount_text c ∷ []) cash)
 
 pub written_are : (n : ℕ) (i : Instruction) (day : List ℕ) (cash : Option Cash) → i.cash ≡ cash → fields_written (confirmation_parts n i day) ≡ written_fields n i day cash
@@ -125,20 +125,20 @@ unfolding fields_with
 security_given n i day None is = record { field = at traded (codes "35B") ((codes "ISIN " ++ i.isin) ∷ []) 11; only = refl; says = (codes "ISIN " ++ i.isin, [], refl, (is, refl)) }
 security_given n i day (Some cash) is = record { field = at traded (codes "35B") ((codes "ISIN " ++ i.isin) ∷ []) 11; only = refl; says = (codes "ISIN " ++ i.isin, [], refl, (is, refl)) }
 
-pub settled_given : (n : ℕ) (i : Instruction) (day : List ℕ) (cash : Option Cash) → ReadsNumber (plain i.quantity 0) 0 (Ok i.quantity) → Gives (said_fields n i day cash) settled_row (quantity_said i.kind i.quantity)
+pub settled_given : (n : ℕ) (i : Instruction) (day : List ℕ) (cash : Option Cash) → ReadsNumber (written_number i.quantity 0) 0 (Ok i.quantity) → Gives (said_fields n i day cash) settled_row (quantity_said i.kind i.quantity)
 unfolding fields_with
-settled_given n i day None is = record { field = at booked (codes "36B") ((codes ":ESTT//" ++ code_of_kind i.kind ++ 47 ∷ plain i.quantity 0) ∷ []) 14; only = refl; says = (refl, (code_of_kind i.kind ++ 47 ∷ plain i.quantity 0, refl, (plain i.quantity 0, refl, is))) }
-settled_given n i day (Some cash) is = record { field = at booked (codes "36B") ((codes ":ESTT//" ++ code_of_kind i.kind ++ 47 ∷ plain i.quantity 0) ∷ []) 14; only = refl; says = (refl, (code_of_kind i.kind ++ 47 ∷ plain i.quantity 0, refl, (plain i.quantity 0, refl, is))) }
+settled_given n i day None is = record { field = at booked (codes "36B") ((codes ":ESTT//" ++ code_of_kind i.kind ++ 47 ∷ written_number i.quantity 0) ∷ []) 14; only = refl; says = (refl, (code_of_kind i.kind ++ 47 ∷ written_number i.quantity 0, refl, (written_number i.quantity 0, refl, is))) }
+settled_given n i day (Some cash) is = record { field = at booked (codes "36B") ((codes ":ESTT//" ++ code_of_kind i.kind ++ 47 ∷ written_number i.quantity 0) ∷ []) 14; only = refl; says = (refl, (code_of_kind i.kind ++ 47 ∷ written_number i.quantity 0, refl, (written_number i.quantity 0, refl, is))) }
 
 pub safe_given : (n : ℕ) (i : Instruction) (day : List ℕ) (cash : Option Cash) → IsAccount i.account → Gives (said_fields n i day cash) safe_row (text_said i.account)
 unfolding fields_with
 safe_given n i day None is = record { field = at booked (codes "97A") ((codes ":SAFE//" ++ i.account) ∷ []) 15; only = refl; says = (i.account, refl, (is, refl)) }
 safe_given n i day (Some cash) is = record { field = at booked (codes "97A") ((codes ":SAFE//" ++ i.account) ∷ []) 15; only = refl; says = (i.account, refl, (is, refl)) }
 
-pub paid_given : (n : ℕ) (i : Instruction) (day : List ℕ) (cash : Cash) → ReadsNumber (plain cash.amount (decimals_of cash.ccy)) (decimals_of cash.ccy) (Ok cash.amount) → Gives (said_fields n i day (Some cash)) paid_row (amount_said cash.ccy cash.amount)
+pub paid_given : (n : ℕ) (i : Instruction) (day : List ℕ) (cash : Cash) → ReadsNumber (written_number cash.amount (decimals_of cash.ccy)) (decimals_of cash.ccy) (Ok cash.amount) → Gives (said_fields n i day (Some cash)) paid_row (amount_said cash.ccy cash.amount)
 unfolding fields_with
 paid_given n i day cash is = record {
   field = at amounts (codes "19A") (amount_text cash ∷ []) 26;
   only = refl;
-  says = (refl, (letters_of cash.ccy ++ plain cash.amount (decimals_of cash.ccy), refl, (plain cash.amount (decimals_of cash.ccy), refl, is)));
+  says = (refl, (letters_of cash.ccy ++ written_number cash.amount (decimals_of cash.ccy), refl, (written_number cash.amount (decimals_of cash.ccy), refl, is)));
 }

@@ -6,7 +6,7 @@ use Rattle.std.proofs.lemmas.List.{drop_all}
 use Rattle.std.proofs.lemmas.Nat.{mod_below}
 use Rattle.std.proofs.Math.Seq.{drop-cons}
 use Rattle.desk_codes.specs.Characters.{IsPrintable, IsCodeChar, IsDigit}
-use Rattle.desk_codes.specs.Number.{plain, ReadsNumber}
+use Rattle.desk_codes.specs.Number.{written_number, ReadsNumber}
 use Rattle.desk_codes.specs.Currency.{letters_of, decimals_of}
 use Rattle.desk_codes.specs.declared.currency.Ccy.{Ccy}
 use Rattle.desk_codes.specs.declared.currency.Ccy.TheVariants.{Chf, Eur, Gbp, Jpy, Kwd, Usd}
@@ -16,8 +16,8 @@ use Rattle.desk_codes.specs.Bic.{ReadsBic, party_of}
 use Rattle.desk_codes.proofs.CharacterLemmas.{All-split}
 use Rattle.desk_codes.proofs.BicLemmas.{shape_codes}
 use Rattle.desk_codes.proofs.NumberLemmas.{more_digits}
-use Rattle.desk_codes.proofs.PlainSpells.{plain_spells}
-use Rattle.desk_codes.proofs.SpellingLaws.{plain_shortest}
+use Rattle.desk_codes.proofs.WrittenSpells.{written_spells}
+use Rattle.desk_codes.proofs.SpellingLaws.{written_shortest}
 use Rattle.desk_text.specs.BlockGrammar.{is_printable}
 use Rattle.desk_msg.proofs.PrintableLemmas.{printable_text}
 
@@ -61,17 +61,17 @@ number_small text value d few reads =
     omega (arith, below, s.is)
 
 -- a number that was read is read back from its written form
-pub number_back : (text : List ℕ) (value d : ℕ) → d ≤ 3 → ReadsNumber text d (Ok value) → ReadsNumber (plain value d) d (Ok value)
+pub number_back : (text : List ℕ) (value d : ℕ) → d ≤ 3 → ReadsNumber text d (Ok value) → ReadsNumber (written_number value d) d (Ok value)
 number_back text value d few reads =
     let small = number_small text value d few reads in
-    (plain_spells value d small few, omega (arith, plain_shortest text value d small few reads.0, reads.1), reads.2)
+    (written_spells value d small few, omega (arith, written_shortest text value d small few reads.0, reads.1), reads.2)
 
-pub number_text : (value d : ℕ) → ReadsNumber (plain value d) d (Ok value) → list_all is_printable (plain value d) ≡ true
+pub number_text : (value d : ℕ) → ReadsNumber (written_number value d) d (Ok value) → list_all is_printable (written_number value d) ≡ true
 number_text value d reads =
     let s = reads.0 in
     let front : All IsPrintable s.whole = digits_printable s.whole s.shaped.whole_digits in
     let back : All IsPrintable (44 ∷ s.part) = All-cons IsPrintable 44 s.part (lit≤ tt, lit≤ tt) (digits_printable s.part s.shaped.part_digits) in
-    printable_text (plain value d) (subst (All IsPrintable) (sym s.shaped.split) (All-append IsPrintable s.whole (44 ∷ s.part) front back))
+    printable_text (written_number value d) (subst (All IsPrintable) (sym s.shaped.split) (All-append IsPrintable s.whole (44 ∷ s.part) front back))
 
 pub few_decimals : (ccy : Ccy) → decimals_of ccy ≤ 3
 few_decimals Chf = lit≤ tt

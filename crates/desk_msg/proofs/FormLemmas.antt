@@ -2,14 +2,14 @@
 use Rattle.std.proofs.Common.{◌≡◌, ℕ, ◌<◌, ◌≤◌, ◌^◌, ◌==◌, if◌then◌else◌, List, [], ◌∷◌, ◌++◌, length, take, drop, get_or, sym, ◌∙◌, ap, subst, refl, inl, inr, arith, length-append, Option, Some, None, Ok, Err}
 use Rattle.std.proofs.lemmas.Grind.{common_steps}
 use Rattle.std.proofs.Math.Seq.{take-append_seam, drop-append_seam}
-use Rattle.desk_codes.specs.Number.{IsExact, ReadsNumber, plain}
+use Rattle.desk_codes.specs.Number.{IsExact, ReadsNumber, written_number}
 use Rattle.desk_codes.specs.declared.number.NumberFault.{NumberFault}
 use Rattle.desk_codes.specs.declared.number.NumberFault.TheVariants.{Shape, TooLong, Decimals, Zero}
 use Rattle.desk_codes.specs.Currency.{letters_of, decimals_of}
 use Rattle.desk_codes.specs.declared.currency.Ccy.{Ccy}
 use Rattle.desk_codes.specs.declared.currency.Ccy.TheVariants.{Chf, Eur, Gbp, Jpy, Kwd, Usd}
 use Rattle.desk_codes.proofs.NumberLemmas.{one_shape, digits_no_comma}
-use Rattle.desk_codes.proofs.SpellingLaws.{one_value_each, plain_shortest}
+use Rattle.desk_codes.proofs.SpellingLaws.{one_value_each, written_shortest}
 use Rattle.desk_codes.specs.Day.{IsDay}
 use Rattle.desk_msg.specs.declared.instruction.Kind.{Kind}
 use Rattle.desk_msg.specs.declared.instruction.Kind.TheVariants.{Unit as Units, FaceAmount}
@@ -40,9 +40,9 @@ number_excludes text d value Zero zero read =
     let same : 0 ≡ value = one_value_each text 0 value d zero.0 read.0 in omega (arith, same, read.2)
 
 -- what was read is written in at most 15 characters
-pub plain_fits : (text : List ℕ) (d value : ℕ) → value < 2 ^ 64 → d ≤ 3 → ReadsNumber text d (Ok value) → length (plain value d) ≤ 15
-plain_fits text d value small few read =
-    let shorter : length (plain value d) ≤ length text = plain_shortest text value d small few read.0 in omega (arith, shorter, read.1)
+pub written_fits : (text : List ℕ) (d value : ℕ) → value < 2 ^ 64 → d ≤ 3 → ReadsNumber text d (Ok value) → length (written_number value d) ≤ 15
+written_fits text d value small few read =
+    let shorter : length (written_number value d) ≤ length text = written_shortest text value d small few read.0 in omega (arith, shorter, read.1)
 
 -- a currency is known by its first letter
 ccy_of : ℕ → Ccy

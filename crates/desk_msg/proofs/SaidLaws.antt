@@ -3,7 +3,7 @@ use Rattle.std.proofs.Common.{◌≡◌, ℕ, List, ◌∷◌, ◌++◌, length,
 use Rattle.std.proofs.lemmas.Grind.{common_steps}
 use Rattle.std.proofs.lemmas.List.{append_cancel_left}
 use Rattle.std.proofs.Math.Seq.{take-append_seam}
-use Rattle.desk_codes.specs.Number.{Spells}
+use Rattle.desk_codes.specs.Number.{SpellsNumber}
 use Rattle.desk_codes.specs.Bic.{ReadsBic}
 use Rattle.desk_codes.specs.Currency.{decimals_of}
 use Rattle.desk_codes.specs.declared.currency.Ccy.{Ccy}
@@ -59,14 +59,14 @@ one_text_said amount_form begins field x y a b = absurd a
 one_quantity : (text : List ℕ) (x y : Kind × ℕ) → IsQuantityText text x.0 x.1 → IsQuantityText text y.0 y.1 → (x.0 ≡ y.0) × (x.1 ≡ y.1)
 one_quantity text x y a b =
     let split = one_quantity_text x.0 y.0 a.0 b.0 (sym a.1 ∙ b.1) in
-    let P : List ℕ → Type 0 = λ t. Spells t y.1 0 in
+    let P : List ℕ → Type 0 = λ t. SpellsNumber t y.1 0 in
     (split.0, one_value_each a.0 x.1 y.1 0 a.2.0 (subst P (sym split.1) b.2.0))
 
 one_amount : (text : List ℕ) (x y : Ccy × ℕ) → IsAmountText text x.0 x.1 → IsAmountText text y.0 y.1 → (x.0 ≡ y.0) × (x.1 ≡ y.1)
 one_amount text x y a b =
     let split = one_amount_text x.0 y.0 a.0 b.0 (sym a.1 ∙ b.1) in
-    let P : List ℕ → Type 0 = λ t. Spells t y.1 (decimals_of y.0) in
-    let Q : Ccy → Type 0 = λ c. Spells a.0 y.1 (decimals_of c) in
+    let P : List ℕ → Type 0 = λ t. SpellsNumber t y.1 (decimals_of y.0) in
+    let Q : Ccy → Type 0 = λ c. SpellsNumber a.0 y.1 (decimals_of c) in
     (split.0, one_value_each a.0 x.1 y.1 (decimals_of x.0) a.2.0 (subst Q (sym split.0) (subst P (sym split.1) b.2.0)))
 
 -- the value of a field says one thing

@@ -1,7 +1,7 @@
 -- Messages with the same parts are the same.
 use Rattle.std.proofs.Common.{◌≡◌, ◌<◌, ◌≤◌, ℕ, true, List, length, ◌∙◌, ap, subst, Option, is_some}
 use Rattle.std.proofs.Props.{props}
-use Rattle.desk_codes.specs.Number.{plain}
+use Rattle.desk_codes.specs.Number.{written_number}
 use Rattle.desk_codes.specs.Currency.{decimals_of}
 use Rattle.desk_codes.specs.declared.currency.Ccy.{Ccy}
 use Rattle.desk_msg.specs.declared.mt.Mt.{Mt}
@@ -26,7 +26,7 @@ as_cash v = v
 
 pub record CashFacts (v : ShownCash) : Type 0 where
   pub some : 0 < v.amount
-  pub short : length (plain v.amount (decimals_of v.ccy)) ≤ 15
+  pub short : length (written_number v.amount (decimals_of v.ccy)) ≤ 15
 
 cash_of : (v : ShownCash) → CashFacts v → Cash
 cash_of v f = record { ccy = v.ccy; amount = v.amount; some = f.some; short = f.short }
@@ -86,7 +86,7 @@ as_shown v = v
 pub record Facts (v : Shown) : Type 0 where
   pub instructs : is_instruction v.mt ≡ true
   pub some : 0 < v.quantity
-  pub short : length (plain v.quantity 0) ≤ 15
+  pub short : length (written_number v.quantity 0) ≤ 15
   pub paid : is_some v.cash ≡ is_against_payment v.mt
 
 instruction_of : (v : Shown) → Facts v → Instruction

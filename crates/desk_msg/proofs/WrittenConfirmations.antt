@@ -1,7 +1,7 @@
 -- A confirmation is written with the values of its definition.
 use Rattle.std.proofs.Common.{◌≡◌, ℕ, if◌then◌else◌, List, [], ◌∷◌, ◌++◌, codes, sym, ◌∙◌, ap, subst, arith, Bool, Result, Ok, Err, IfOk}
 use Rattle.std.proofs.lemmas.Grind.{common_steps}
-use Rattle.desk_codes.specs.Number.{plain}
+use Rattle.desk_codes.specs.Number.{written_number}
 use Rattle.desk_text.specs.Written.{Part, AreParts}
 use Rattle.desk_msg.specs.declared.status.Own.TheVariants.{Sent}
 use Rattle.desk_msg.specs.declared.instruction.Instruction.{Instruction}
@@ -18,7 +18,7 @@ pub record AreValues (n : ℕ) (i : Instruction) (today own related day security
   pub related_is : related ≡ codes ":RELA//" ++ i.reference
   pub day_is : day ≡ codes ":ESET//" ++ today
   pub security_is : security ≡ codes "ISIN " ++ i.isin
-  pub quantity_is : quantity ≡ codes ":ESTT//" ++ code_of_kind i.kind ++ 47 ∷ plain i.quantity 0
+  pub quantity_is : quantity ≡ codes ":ESTT//" ++ code_of_kind i.kind ++ 47 ∷ written_number i.quantity 0
   pub account_is : account ≡ codes ":SAFE//" ++ i.account
   pub settlement_is : settlement ≡ codes ":SETR//" ++ i.settlement
   pub counterparty_is : counterparty ≡ 58 ∷ ((if is_delivery i.mt then codes "REAG" else codes "DEAG") ++ 47 ∷ 47 ∷ i.counterparty)

@@ -1,4 +1,4 @@
--- The parts of an advice by their values.
+-- The parts of an advice by their values: what StatusText.antt defines, as the private contracts of the writer speak of it.
 use Rattle.std.specs.Prelude.{ℕ, List, [], ◌∷◌, ◌++◌, map, codes}
 use Rattle.desk_text.specs.declared.parts.BlockPart.{BlockPart}
 use Rattle.desk_text.specs.Written.{Part, open_part, field_part, close_part}

@@ -1,7 +1,9 @@
--- The parts of a confirmation by their values.
+-- The parts of a confirmation by their values: what ConfirmationText.antt defines, as the private contracts of the writer
+-- speak of it.
 use Rattle.std.specs.Prelude.{ℕ, List, [], ◌∷◌, ◌++◌, codes}
 use Rattle.desk_text.specs.Written.{Part, open_part, field_part, close_part}
 use Rattle.desk_msg.specs.declared.confirmation.Values.{Values}
+use Rattle.desk_msg.specs.Depository.{desk_bic}
 
 -- The parts of a confirmation with these values, in the order of its fields: own and related reference, day, security, quantity,
 -- account, settlement and counterparty; and with the parts of the amount.
@@ -28,7 +30,7 @@ parts_listed own related day security quantity account settlement counterparty p
     ∷ field_part (codes "95P") counterparty
     ∷ close_part (codes "SETPRTY")
     ∷ open_part (codes "SETPRTY")
-    ∷ field_part (codes "95P") (codes ":PSET//DESKDEFF")
+    ∷ field_part (codes "95P") (codes ":PSET//" ++ desk_bic)
     ∷ close_part (codes "SETPRTY")
     ∷ (paid ++ close_part (codes "SETDET") ∷ [])
 

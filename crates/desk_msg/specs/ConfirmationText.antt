@@ -1,6 +1,7 @@
 -- The confirmation of a settlement (ISO 15022, MT544 to MT547) as the parts that it is written in.
 use Rattle.std.specs.Prelude.{ℕ, List, [], ◌∷◌, ◌++◌, codes, if◌then◌else◌, Option, Some, None}
-use Rattle.desk_codes.specs.Number.{plain}
+use Rattle.std.specs.Str.{byte}
+use Rattle.desk_codes.specs.Number.{written_number}
 use Rattle.desk_codes.specs.Currency.{letters_of, decimals_of}
 use Rattle.desk_text.specs.Written.{Part, field_part, block_text}
 use Rattle.desk_msg.specs.declared.mt.Mt.{Mt}
@@ -30,7 +31,7 @@ party_parts qualifier party = sequence_parts (codes "SETPRTY") (generic_part (co
 
 -- an amount: its currency, and the number
 abbrev pub amount_text : Cash → List ℕ
-amount_text cash = letters_of cash.ccy ++ plain cash.amount (decimals_of cash.ccy)
+amount_text cash = letters_of cash.ccy ++ written_number cash.amount (decimals_of cash.ccy)
 
 -- the amount that was paid, against payment
 abbrev pub paid_parts : Option Cash → List Part
@@ -49,7 +50,7 @@ confirmation_parts n i day =
     ∷ field_part (codes "35B") (codes "ISIN " ++ i.isin)
     ∷ [])
     ++ sequence_parts (codes "FIAC") (
-    generic_part (codes "36B") (codes "ESTT") (code_of_kind i.kind ++ 47 ∷ plain i.quantity 0)
+    generic_part (codes "36B") (codes "ESTT") (code_of_kind i.kind ++ byte "/" ∷ written_number i.quantity 0)
     ∷ generic_part (codes "97A") (codes "SAFE") i.account
     ∷ [])
     ++ sequence_parts (codes "SETDET") (

@@ -1,7 +1,8 @@
 -- What a message says, line by line.
 use Rattle.std.specs.Prelude.{ℕ, List, [], ◌∷◌, ◌++◌, codes, Option, Some, None}
+use Rattle.std.specs.Str.{byte}
 use Rattle.std.specs.List.{join_with_byte, flat_map}
-use Rattle.desk_codes.specs.Number.{plain}
+use Rattle.desk_codes.specs.Number.{written_number}
 use Rattle.desk_codes.specs.Currency.{letters_of, decimals_of}
 use Rattle.desk_msg.specs.declared.instruction.Cash.{Cash}
 use Rattle.desk_msg.specs.declared.instruction.Instruction.{Instruction}
@@ -12,12 +13,12 @@ use Rattle.desk_msg.specs.Profile.{code_of_kind}
 
 -- a name, a space and a value
 abbrev pub named : List ℕ → List ℕ → List ℕ
-named name value = name ++ 32 ∷ value
+named name value = name ++ byte " " ∷ value
 
 -- the amount, against payment
 abbrev pub cash_lines : Option Cash → List (List ℕ)
 cash_lines None = []
-cash_lines (Some cash) = named (codes "amount") (named (letters_of cash.ccy) (plain cash.amount (decimals_of cash.ccy))) ∷ []
+cash_lines (Some cash) = named (codes "amount") (named (letters_of cash.ccy) (written_number cash.amount (decimals_of cash.ccy))) ∷ []
 
 -- what is traded, and when
 abbrev pub trade_lines : Instruction → List (List ℕ)
@@ -25,7 +26,7 @@ trade_lines i =
     named (codes "reference") i.reference
     ∷ named (codes "date") i.day
     ∷ named (codes "isin") i.isin
-    ∷ named (codes "quantity") (named (code_of_kind i.kind) (plain i.quantity 0))
+    ∷ named (codes "quantity") (named (code_of_kind i.kind) (written_number i.quantity 0))
     ∷ []
 
 -- how it is settled, and with whom
@@ -49,9 +50,9 @@ lines_of_cancellation c =
 
 -- lines, each behind a line feed
 abbrev pub fed : List (List ℕ) → List ℕ
-fed lines = flat_map (λ line. 10 ∷ line) lines
+fed lines = flat_map (λ line. codes "\n" ++ line) lines
 
 -- the lines of a message, with a line feed between them and none at the end
 unfoldable pub message_text : Message → List ℕ
-message_text (New i) = join_with_byte 10 (lines_of_instruction i)
-message_text (Cancel c) = join_with_byte 10 (lines_of_cancellation c)
+message_text (New i) = join_with_byte (byte "\n") (lines_of_instruction i)
+message_text (Cancel c) = join_with_byte (byte "\n") (lines_of_cancellation c)

@@ -1,5 +1,6 @@
 -- The profile of the settlement instructions MT540 to MT543 (ISO 15022): the used fields as a table, and what their values say.
 use Rattle.std.specs.Prelude.{◌≡◌, ◌⊎◌, ℕ, ◌≤◌, if◌then◌else◌, List, [], ◌∷◌, ◌++◌, length, All, codes, Ok}
+use Rattle.std.specs.Str.{byte}
 use Rattle.desk_codes.specs.Characters.{IsCodeChar, IsDigit}
 use Rattle.desk_codes.specs.Reference.{IsReference}
 use Rattle.desk_codes.specs.Account.{IsAccount}
@@ -120,7 +121,7 @@ IsCode n text = (length text ≡ n) × All IsCodeChar text
 -- four characters, or these, a slash and four more
 abbrev pub IsFunctionText : List ℕ → List ℕ → Type 0
 IsFunctionText text function =
-    IsCode 4 function × ((text ≡ function) ⊎ ((further : List ℕ) × IsCode 4 further × (text ≡ function ++ 47 ∷ further)))
+    IsCode 4 function × ((text ≡ function) ⊎ ((further : List ℕ) × IsCode 4 further × (text ≡ function ++ byte "/" ∷ further)))
 
 abbrev pub IsReferenceText : List ℕ → List ℕ → Type 0
 IsReferenceText text reference = IsReference reference × (text ≡ reference)
@@ -144,7 +145,7 @@ code_of_kind FaceAmount = codes "FAMT"
 
 -- how the security is counted, a slash and the number
 abbrev pub IsQuantityText : List ℕ → Kind → ℕ → Type 0
-IsQuantityText text kind quantity = (number : List ℕ) × (text ≡ code_of_kind kind ++ 47 ∷ number) × ReadsNumber number 0 (Ok quantity)
+IsQuantityText text kind quantity = (number : List ℕ) × (text ≡ code_of_kind kind ++ byte "/" ∷ number) × ReadsNumber number 0 (Ok quantity)
 
 abbrev pub IsAccountText : List ℕ → List ℕ → Type 0
 IsAccountText text account = IsAccount account × (text ≡ account)
@@ -152,7 +153,7 @@ IsAccountText text account = IsAccount account × (text ≡ account)
 -- an issuer code of at most eight characters or none, a slash and four characters
 abbrev pub IsSettlementText : List ℕ → List ℕ → Type 0
 IsSettlementText text settlement =
-    IsCode 4 settlement × ((issuer : List ℕ) × (length issuer ≤ 8) × All IsCodeChar issuer × (text ≡ issuer ++ 47 ∷ settlement))
+    IsCode 4 settlement × ((issuer : List ℕ) × (length issuer ≤ 8) × All IsCodeChar issuer × (text ≡ issuer ++ byte "/" ∷ settlement))
 
 abbrev pub IsPartyText : List ℕ → List ℕ → Type 0
 IsPartyText text party = ReadsBic text (Ok party)
@@ -163,7 +164,7 @@ IsAmountText text ccy amount = (number : List ℕ) × (text ≡ letters_of ccy +
 
 -- `:QUAL//`, where the value begins `:QUAL/`
 abbrev pub slashed : List ℕ → List ℕ
-slashed begins = begins ++ 47 ∷ []
+slashed begins = begins ++ codes "/"
 
 -- What text the value of a field says, by the form of the row and what the value begins with. The lines of a security after the first are free.
 abbrev pub SaysText : Form → List ℕ → Found → List ℕ → Type 0

@@ -1,6 +1,7 @@
 -- From the bytes of a text to its message, or to the refusal.
 use Rattle.std.specs.Prelude.{ℕ, ◌≤◌, List, ◌++◌, length, codes, Result, Ok, Err}
 use Rattle.std.specs.Fmt.{decimal}
+use Rattle.desk_text.specs.declared.limits.TheConstants.{LONGEST_TEXT}
 use Rattle.desk_text.specs.declared.faults.TextFault.{TextFault}
 use Rattle.desk_text.specs.declared.faults.TextFault.TheVariants as texts
 use Rattle.desk_text.specs.Fields.{Found, IsBlock}
@@ -17,9 +18,9 @@ use Rattle.desk_msg.specs.declared.refusal.ReadFault.TheVariants.{Refused, Memor
 use Rattle.desk_msg.specs.Words.{letters_of_word}
 use Rattle.desk_msg.specs.Reads.{Reads}
 
--- the text is a block of at most 65,536 bytes, and its fields read so
+-- the text is a block that is not too long, and its fields read so
 pub record ReadsBlock (mt : Mt) (text : List ℕ) (read : Result Message MsgFault) : Type 0 where
-  pub short : length text ≤ 65536
+  pub short : length text ≤ LONGEST_TEXT
   pub fields : List Found
   pub block : IsBlock text fields
   pub reads : Reads mt fields read

@@ -1,7 +1,8 @@
 //! The confirmation of a settlement, MT544 to MT547, as it is written.
 ghost use Rattle.std.specs.Prelude.{◌≡◌, ◌<◌, ◌≤◌, ◌^◌, ◌++◌, ◌∷◌, [], List, ℕ, IfOk, codes, length, if◌then◌else◌, Ok};
+ghost use Rattle.std.specs.Str.{byte};
 ghost use Rattle.std.specs.Option.{ForSome};
-ghost use Rattle.desk_codes.specs.Number.{plain};
+ghost use Rattle.desk_codes.specs.Number.{written_number};
 ghost use Rattle.desk_text.specs.Fields.{Found, IsBlock};
 ghost use Rattle.desk_text.specs.Written.{AreParts, block_text, fields_written};
 ghost use Rattle.desk_msg.specs.MessageType.{is_delivery};
@@ -77,7 +78,7 @@ fn write_confirmation(
 
 /// The value of the quantity.
 fn quantity_value(alloc: Global, kind: Kind, quantity: u64) -> Result<Vec<u8>, AllocError>
-    ensures value { IfOk result (λ value. value.items ≡ codes ":ESTT//" ++ code_of_kind kind ++ 47 ∷ plain quantity 0) }
+    ensures value { IfOk result (λ value. value.items ≡ codes ":ESTT//" ++ code_of_kind kind ++ byte "/" ∷ written_number quantity 0) }
     ensures fits { quantity < 2 ^ 64 }
 {
     let begins: &[u8] = match kind {
@@ -101,7 +102,7 @@ fn amount_value(alloc: Global, cash: Cash) -> Result<Vec<u8>, AllocError>
 
 /// What the value of the counterparty begins with: the receiving agent of a delivery, the delivering one of a receipt.
 fn counterparty_begins(delivers: bool) -> &'static [u8]
-    ensures { result.now ≡ 58 ∷ ((if delivers then codes "REAG" else codes "DEAG") ++ 47 ∷ 47 ∷ []) }
+    ensures { result.now ≡ codes ":" ++ ((if delivers then codes "REAG" else codes "DEAG") ++ codes "//") }
 {
     if delivers { b":REAG//" } else { b":DEAG//" }
 }

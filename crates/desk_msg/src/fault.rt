@@ -74,7 +74,7 @@ pub enum MsgFault {
     /// Its value doesn't fit (refusal 7).
     #[error("{} has a bad value", .0.as_str())]
     BadValue(Word),
-    /// The function is neither NEWM nor CANC (refusal 8).
+    /// The function is another than the message may have (refusal 8).
     #[error("another function")]
     Function,
 }

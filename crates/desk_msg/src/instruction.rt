@@ -1,7 +1,7 @@
 //! What a participant instructs.
 ghost use Rattle.std.specs.Prelude.{◌≡◌, ◌<◌, ◌≤◌, true, length, is_some};
 ghost use Rattle.std.specs.Option.{ForSome};
-ghost use Rattle.desk_codes.specs.Number.{plain};
+ghost use Rattle.desk_codes.specs.Number.{written_number};
 ghost use Rattle.desk_codes.specs.Currency.{decimals_of};
 ghost use Rattle.desk_msg.specs.MessageType.{is_instruction, is_against_payment};
 
@@ -107,7 +107,7 @@ pub struct Cash {
     pub ccy: Ccy,
     pub amount: u64,
     ghost some: { 0 < amount },
-    ghost short: { length (plain amount (decimals_of ccy)) ≤ 15 },
+    ghost short: { length (written_number amount (decimals_of ccy)) ≤ 15 },
 }
 
 /// An instruction to receive or deliver securities, free or against payment: a new MT540, MT541, MT542 or
@@ -139,7 +139,7 @@ pub struct Instruction {
     pub cash: Option<Cash>,
     ghost instructs: { is_instruction mt ≡ true },
     ghost some: { 0 < quantity },
-    ghost short: { length (plain quantity 0) ≤ 15 },
+    ghost short: { length (written_number quantity 0) ≤ 15 },
     ghost paid: { is_some cash ≡ is_against_payment mt },
 }
 

@@ -15,6 +15,7 @@
 
 mod confirmation;
 mod confirmed;
+mod depository;
 mod digits;
 mod fault;
 mod find;
@@ -33,6 +34,7 @@ mod value;
 
 pub use confirmation::confirmation_text;
 pub use confirmed::{Confirmed, read_confirmation};
+pub use depository::DESK_BIC;
 pub use fault::{MsgFault, Word};
 pub use instruction::{CancelOrder, Cash, Instruction, Kind, Message, SettlementType, UnknownKind};
 pub use laws::{confirmation_says, one_answer, one_confirmation, one_reading};

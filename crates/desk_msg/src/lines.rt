@@ -1,6 +1,7 @@
 //! What a message says, as text for people.
 ghost use Rattle.std.specs.Prelude.{◌≡◌, ◌∷◌, ◌++◌, ◌≤◌, IfOk, OnOk};
-ghost use Rattle.desk_codes.specs.Number.{plain};
+ghost use Rattle.std.specs.Str.{byte};
+ghost use Rattle.desk_codes.specs.Number.{written_number};
 ghost use Rattle.desk_msg.specs.FieldsText.{message_text, named, fed, trade_lines, settlement_lines, cash_lines};
 
 use crate::instruction::{CancelOrder, Cash, Instruction, Message};
@@ -9,7 +10,7 @@ use std::alloc::{AllocError, Global};
 
 /// Adds a name, a space and a value, behind a line feed.
 fn add_line(text: &mut Vec<u8>, name: &[u8], value: &[u8]) -> Result<(), AllocError>
-    ensures { OnOk result (text.new.items ≡ text.old.items ++ 10 ∷ named name.now value.now) }
+    ensures { OnOk result (text.new.items ≡ text.old.items ++ byte "\n" ∷ named name.now value.now) }
 {
     text.push(b'\n')?;
     text.extend_from_slice(name)?;
@@ -25,7 +26,7 @@ fn named_number(
     decimals: usize,
 ) -> Result<Vec<u8>, AllocError>
     requires { decimals ≤ 3 }
-    ensures { IfOk result (λ text. text.items ≡ named name.now (plain value decimals)) }
+    ensures { IfOk result (λ text. text.items ≡ named name.now (written_number value decimals)) }
 {
     let number = write_number(alloc, value, decimals)?;
     let mut text = Vec::from_slice(alloc, name)?;

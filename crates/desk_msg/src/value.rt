@@ -1,6 +1,7 @@
 //! What the value of a field says, by its form. Each function finds its answer exactly where the text has
 //! that form.
 ghost use Rattle.std.specs.Prelude.{◌≡◌, ◌↔◌, ◌++◌, ◌∷◌, [], List, ℕ, IsTrue, codes};
+ghost use Rattle.std.specs.Str.{byte};
 ghost use Rattle.desk_codes.specs.Day.{IsDay};
 ghost use Rattle.desk_text.specs.Seen.{found_of};
 ghost use Rattle.desk_msg.specs.Profile.{Bears, IsCode, IsFunctionText, IsReferenceText, IsDayText, IsTimed, IsQuantityText, IsAccountText, IsSettlementText, IsPartyText, IsSecurityText, IsAmountText, slashed, SaysText, function_form, reference_form, day_form, security_form, quantity_form, account_form, settlement_form, party_form, amount_form, text_said, quantity_said, amount_said, code_of_kind};
@@ -140,7 +141,7 @@ fn day_under(tag: &[u8], text: &[u8]) -> Option<Day>
 
 /// How a security is counted, and the number behind the slash.
 fn kind_and_number(text: &[u8]) -> Option<(Kind, &[u8])>
-    ensures { IsFound kinded (λ found. text.entry.now ≡ code_of_kind found.0 ++ 47 ∷ found.1) result }
+    ensures { IsFound kinded (λ found. text.entry.now ≡ code_of_kind found.0 ++ byte "/" ∷ found.1) result }
 {
     if text.len() < 4 {
         return None;

@@ -2,7 +2,7 @@
 ghost use Rattle.std.specs.Prelude.{◌≡◌, drop};
 ghost use Rattle.desk_rules.specs.History.{entry_at, before, instructed, instruction_at, run_day, run_rule};
 ghost use Rattle.desk_rules.specs.Cancelled.{requests_cancel, is_cancel_requested_by, is_cancel_requested, is_cancelled_pair};
-ghost use Rattle.desk_rules.specs.Settlement.{stands};
+ghost use Rattle.desk_rules.specs.Settlement.{is_not_cancelled};
 
 use desk_rules::{Entry, Instructed, Pair, RunRule};
 
@@ -109,8 +109,8 @@ pub fn is_cancelled_pair(entries: &[Entry], pair: Pair) -> bool
 }
 
 /// Whether a pair is not cancelled.
-pub fn stands(entries: &[Entry], pair: Pair) -> bool
-    ensures { result ≡ stands entries.now pair }
+pub fn is_not_cancelled(entries: &[Entry], pair: Pair) -> bool
+    ensures { result ≡ is_not_cancelled entries.now pair }
 {
     !is_cancelled_pair(entries, pair)
 }

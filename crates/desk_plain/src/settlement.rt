@@ -10,7 +10,7 @@ ghost use Rattle.desk_rules.specs.declared.pair.Pair.{Pair};
 
 use crate::books::Books;
 use crate::cover::is_covered;
-use crate::history::{before, entry_at, instruction_at, run_day, run_rule, stands};
+use crate::history::{before, entry_at, instruction_at, is_not_cancelled, run_day, run_rule};
 use desk_rules::{Entry, Pair, Place, RunRule, Settled};
 use std::alloc::{AllocError, Global};
 
@@ -78,7 +78,7 @@ pub fn is_due(entries: &[Entry], run: u64, pair: Pair) -> bool
 {
     is_by(day_of_run(entries, run), day_of(entries, pair))
         && pair.later < run
-        && stands(before(run, entries), pair)
+        && is_not_cancelled(before(run, entries), pair)
 }
 
 fn are_others(settled: &[Settled], pair: Pair) -> bool

@@ -16,14 +16,11 @@ use crate::history::{entry_at, instruction_at, is_cancel_requested};
 use crate::standing::{is_cancelled, is_settled};
 use crate::totals::{issued, paid_in, paid_out, redeemed};
 use desk_codes::{AccountId, Bic, Isin};
-use desk_msg::{CancelOrder, Instruction, Kind, Mt};
+use desk_msg::{CancelOrder, DESK_BIC, Instruction, Kind, Mt};
 use desk_rules::{
     Entry, Instructed, MOST_PAID, MOST_QUANTITY, Movement, Payment, Refusal, Sender, Verdict,
     same_entry,
 };
-
-/// The depository's own BIC.
-const DESK_BIC: &[u8] = b"DESKDEFF";
 
 fn if_of_type(mt: Mt, number: u64, found: Option<Instructed>) -> Option<u64>
     ensures { result ≡ if_of_type (number_of_type mt) number found }

@@ -12,7 +12,7 @@ use Rattle.desk_rules.specs.declared.standing.State.{State}
 use Rattle.desk_rules.specs.declared.standing.State.TheVariants.{Unmatched, Matched, Settled}
 use Rattle.desk_rules.specs.declared.standing.Standing.{Standing}
 use Rattle.desk_rules.specs.History.{instruction_at}
-use Rattle.desk_rules.specs.Balances.{issued, redeemed}
+use Rattle.desk_rules.specs.Balances.{delivering, issued, receiving, redeemed}
 use Rattle.desk_rules.specs.Content.{Content, Positions, history_of}
 use Rattle.desk_rules.specs.Standing.{plain_standing}
 use Rattle.desk_register.specs.declared.found.Outcome.{Outcome}
@@ -80,12 +80,12 @@ pub record CanPair (content : Content) (m n : ℕ) : Type 0 where
   pub known : n ≤ length content.register
   pub some : 0 < m
 
--- the deliverer's instruction of two, and the receiver's
-abbrev pub delivery_of : Instructed → Instructed → Instructed
-delivery_of a b = if is_delivery a.instruction.mt then a else b
+-- the deliverer's instruction of a pair's two, and the receiver's
+abbrev pub delivering_side : Instructed → Instructed → Instructed
+delivering_side earlier later = delivering (is_delivery earlier.instruction.mt) earlier later
 
-abbrev pub receipt_of : Instructed → Instructed → Instructed
-receipt_of a b = if is_delivery a.instruction.mt then b else a
+abbrev pub receiving_side : Instructed → Instructed → Instructed
+receiving_side earlier later = receiving (is_delivery earlier.instruction.mt) earlier later
 
 -- so much is taken off one account and put on another, or on the same
 abbrev pub delivered : Positions → List ℕ → List ℕ → List ℕ → ℕ → Positions
@@ -108,20 +108,20 @@ pub record CanSettle (content : Content) (n : ℕ) : Type 0 where
   pub pair : IsPairAt content n mate earlier later
   pub two : mate < n
   pub free : earlier.instruction.cash ≡ None
-  pub fits : later.instruction.quantity ≤ content.position (delivery_of earlier later).instruction.account later.instruction.isin
-      → content.position (receipt_of earlier later).instruction.account later.instruction.isin + later.instruction.quantity < 2 ^ 63
+  pub fits : later.instruction.quantity ≤ content.position (delivering_side earlier later).instruction.account later.instruction.isin
+      → content.position (receiving_side earlier later).instruction.account later.instruction.isin + later.instruction.quantity < 2 ^ 63
 
 -- what trying the pair of a number does: it settles and moves its quantity where the deliverer holds it, else
 -- only the reason changes
 abbrev pub TriesSides : Content → ℕ → ℕ → Instructed → Instructed → Outcome → Content → Type 0
 TriesSides old n m earlier later outcomes.Settled new =
-    let from = (delivery_of earlier later).instruction.account in
-    let to = (receipt_of earlier later).instruction.account in
+    let from = (delivering_side earlier later).instruction.account in
+    let to = (receiving_side earlier later).instruction.account in
     let isin = later.instruction.isin in
     (later.instruction.quantity ≤ old.position from isin)
     × (new ≡ record old { standing = standing_both old.standing m n Settled; position = delivered old.position from to isin later.instruction.quantity })
 TriesSides old n m earlier later (Lacks Securities) new =
-    (old.position (delivery_of earlier later).instruction.account later.instruction.isin < later.instruction.quantity)
+    (old.position (delivering_side earlier later).instruction.account later.instruction.isin < later.instruction.quantity)
     × (new ≡ record old { standing = standing_both old.standing m n (Matched Lack) })
 TriesSides old n m earlier later (Lacks LacksMoney) new = ⊥
 

@@ -22,7 +22,7 @@ pub enum Stage {
     Idle,
     /// One is open, and every call since went well.
     Begun,
-    /// One is open, and a call since has failed: `back` is all that is left.
+    /// One is open, and a call since has failed: what is held is not known until `back`, and nothing else changes.
     Failed,
 }
 
@@ -68,8 +68,7 @@ pub trait Register {
         ensures plain { plain ≡ true → IsOk result };
 
     /// Takes back all that was changed since `begin`: after a call that failed, or where the caller gives the group
-    /// up. Where it goes well, a store that a fault had shut is open again. After a fault of its own nothing is
-    /// known of what is held, and the register should not be used further.
+    /// up. After a fault of its own nothing is known of what is held, and the register should not be used further.
     fn back(&mut self, alloc: Global) -> Result<(), Fault>
         requires { (view self.old).stage ≢ Stage.Idle }
         ensures ok { OnOk result (GoesBack (view self.old) (view self.new)) }

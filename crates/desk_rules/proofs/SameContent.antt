@@ -4,7 +4,7 @@ use Rattle.std.specs.Prelude.{is_some}
 use Rattle.std.proofs.Props.{props}
 use mathlib.Core.HLevel.{Σ_prop_path}
 use Rattle.desk_codes.specs.declared.currency.Ccy.{Ccy}
-use Rattle.desk_codes.specs.Number.{plain}
+use Rattle.desk_codes.specs.Number.{written_number}
 use Rattle.desk_codes.specs.Currency.{decimals_of}
 use Rattle.desk_msg.specs.declared.mt.Mt.{Mt}
 use Rattle.desk_msg.specs.declared.instruction.Kind.{Kind}
@@ -18,7 +18,7 @@ use Rattle.desk_rules.specs.declared.entry.Payment.{Payment}
 
 pub cash_same : (a b : Cash) → a.ccy ≡ b.ccy → a.amount ≡ b.amount → a ≡ b
 cash_same a b p q =
-    let kept : Ccy × ℕ → Type 0 = λ x. (0 < x.1) × (length (plain x.1 (decimals_of x.0)) ≤ 15) in
+    let kept : Ccy × ℕ → Type 0 = λ x. (0 < x.1) × (length (written_number x.1 (decimals_of x.0)) ≤ 15) in
     let whole : ((x : Ccy × ℕ) × kept x) → Cash = λ s. record { ccy = s.0.0; amount = s.0.1; some = s.1.0; short = s.1.1 } in
     let base : ◌≡◌ {A = Ccy × ℕ} (a.ccy, a.amount) (b.ccy, b.amount) = cc in
     let both : ◌≡◌ {A = (x : Ccy × ℕ) × kept x} ((a.ccy, a.amount), (a.some, a.short)) ((b.ccy, b.amount), (b.some, b.short)) = Σ_prop_path (λ x. hlevel props) base in
@@ -28,7 +28,7 @@ abbrev Parts : Type 0
 Parts = Mt × List ℕ × List ℕ × List ℕ × Kind × ℕ × List ℕ × List ℕ × List ℕ × List ℕ × Option Cash
 
 abbrev Keeps : Parts → Type 0
-Keeps x = (is_instruction x.0 ≡ true) × (0 < x.5) × (length (plain x.5 0) ≤ 15) × (is_some x.10 ≡ is_against_payment x.0)
+Keeps x = (is_instruction x.0 ≡ true) × (0 < x.5) × (length (written_number x.5 0) ≤ 15) × (is_some x.10 ≡ is_against_payment x.0)
 
 abbrev parts_of : Instruction → Parts
 parts_of i = (i.mt, i.reference, i.day, i.isin, i.kind, i.quantity, i.account, i.settlement, i.counterparty, i.place, i.cash)

@@ -9,7 +9,7 @@ use Rattle.desk_rules.specs.declared.pair.Settled.{Settled}
 use Rattle.desk_rules.specs.declared.pair.Place.{Place}
 use Rattle.desk_rules.specs.History.{entry_at, before, run_day}
 use Rattle.desk_rules.specs.Pairing.{IsPairing}
-use Rattle.desk_rules.specs.Settlement.{day_of, place_of, is_sooner, is_passed_sooner, precedes, settled_before, is_by, stands, is_due, is_in_passes, begins, Settles, IsSettlement, is_above}
+use Rattle.desk_rules.specs.Settlement.{day_of, place_of, is_sooner, is_passed_sooner, precedes, settled_before, is_by, is_not_cancelled, is_due, is_in_passes, begins, Settles, IsSettlement, is_above}
 use Rattle.desk_rules.proofs.Decided.{In, In-from_Contains, Contains-from_In, Ordered, Ordered-from_AllPairs, AllPairs-from_Ordered, IsStrict, IsTotalOn, Decided, one_list}
 use Rattle.desk_rules.proofs.HistoryLemmas.{entry_at-known}
 use Rattle.desk_rules.proofs.PairingLemmas.{lower}
@@ -126,12 +126,12 @@ begins_wider h settled wider run pass sub e = elim (begins_true h settled run pa
 pub record DueFacts (h : List Entry) (run : ℕ) (p : Pair) : Type 0 where
   pub by : is_by (option_and_then run_day (entry_at h run)) (day_of h p) ≡ true
   pub numbered : p.later < run
-  pub stands : stands (before run h) p ≡ true
+  pub stands : is_not_cancelled (before run h) p ≡ true
 
 pub due_facts : (h : List Entry) (run : ℕ) (p : Pair) → is_due h run p ≡ true → DueFacts h run p
 due_facts h run p e =
     let day = is_by (option_and_then run_day (entry_at h run)) (day_of h p) in
-    let outer = and_parts (day && nat_lt p.later run) (stands (before run h) p) e in
+    let outer = and_parts (day && nat_lt p.later run) (is_not_cancelled (before run h) p) e in
     let inner = and_parts day (nat_lt p.later run) outer.0 in
     record { by = inner.0; numbered = ltb-true p.later run inner.1; stands = outer.1 }
 

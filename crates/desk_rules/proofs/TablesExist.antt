@@ -9,7 +9,7 @@ use Rattle.desk_rules.specs.Balances.{credits, debits, cash_credits, cash_debits
 use Rattle.desk_rules.specs.Books.{Books, AreBooks}
 use Rattle.desk_rules.specs.Standing.{standing_of}
 use Rattle.desk_rules.specs.Verdict.{WasAccepted}
-use Rattle.desk_rules.specs.Reply.{plain_reply, reply_to, IsFirstReply}
+use Rattle.desk_rules.specs.Reply.{untyped_reply, reply_to, IsFirstReply}
 use Rattle.desk_rules.specs.Sent.{sent_of}
 use Rattle.desk_rules.specs.Content.{Content, history_of}
 use Rattle.desk_rules.specs.Tables.{AreTables}
@@ -30,7 +30,7 @@ unfolding books_to
 books_to-are h n = let all = books_exist (take n h) in record { pairing = all.2.pairing; settlement = all.2.settlement }
 
 abbrev reply_of : Books → Option Entry → Reply
-reply_of books None = plain_reply 200 []
+reply_of books None = untyped_reply 200 []
 reply_of books (Some entry) = reply_to books entry
 
 -- the first reply of the entry of a number

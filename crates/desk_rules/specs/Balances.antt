@@ -22,12 +22,19 @@ abbrev pub is_delivered_by : Option Instructed → Bool
 is_delivered_by None = false
 is_delivered_by (Some i) = is_delivery i.instruction.mt
 
+-- of what is the earlier side's and what is the later's: the deliverer's, and the receiver's
+abbrev pub delivering : {A : Type 0} → Bool → A → A → A
+delivering earlier_delivers earlier later = if earlier_delivers then earlier else later
+
+abbrev pub receiving : {A : Type 0} → Bool → A → A → A
+receiving earlier_delivers earlier later = if earlier_delivers then later else earlier
+
 -- the number of the instruction that delivers, and of the one that receives
 abbrev pub deliverer_of : List Entry → Pair → ℕ
-deliverer_of history p = if is_delivered_by (instruction_at history p.earlier) then p.earlier else p.later
+deliverer_of history p = delivering (is_delivered_by (instruction_at history p.earlier)) p.earlier p.later
 
 abbrev pub receiver_of : List Entry → Pair → ℕ
-receiver_of history p = if is_delivered_by (instruction_at history p.earlier) then p.later else p.earlier
+receiver_of history p = receiving (is_delivered_by (instruction_at history p.earlier)) p.earlier p.later
 
 abbrev pub delivery_of : List Entry → Pair → Option Instructed
 delivery_of history p = instruction_at history (deliverer_of history p)

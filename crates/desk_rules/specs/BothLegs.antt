@@ -1,5 +1,5 @@
--- The two legs of a settlement: the two messages that confirm them, and what they move. `ComeInTwos` knows the
--- messages' texts, types and addressees, and nothing of how they came about; what stands behind it speaks of books.
+-- The two legs of a settlement: two messages that confirm legs which fit each other, and what they move. `ComeInTwos`
+-- knows the messages' texts, types and addressees, and nothing of how they came about; what stands behind it speaks of books.
 use Rattle.std.specs.Prelude.{◌≡◌, ◌⊎◌, ℕ, ◌+◌, false, MatchBool, List, [], ◌∷◌, ◌++◌, true, length, Contains, Some, None, is_some}
 use Rattle.desk_codes.specs.declared.currency.Ccy.{Ccy}
 use Rattle.desk_msg.specs.MessageType.{is_delivery, is_against_payment}
@@ -13,7 +13,7 @@ use Rattle.desk_rules.specs.Books.{Books}
 use Rattle.desk_rules.specs.Sent.{date_in}
 use Rattle.desk_rules.specs.Confirmations.{Confirmation, SaysConfirmation, confirmation_by, is_confirmation}
 
--- Two messages confirm the two legs of one settlement: the first a delivery (546, against payment 547), the second its
+-- Two messages confirm two legs that fit each other: the first a delivery (546, against payment 547), the second its
 -- receipt (544, against payment 545), on one day, of one quantity of one security, for one amount of one currency or
 -- for none.
 pub record ConfirmBothLegs (first second : Sent) : Type 0 where

@@ -23,9 +23,13 @@ use Rattle.desk_rules.specs.Refusals.{number_of_refusal, IsKnownRefusal}
 use Rattle.desk_rules.specs.Standing.{state_of}
 use Rattle.desk_rules.specs.Verdict.{AsksTheSame, named_by}
 
--- an answer in plain words, and one that is a status advice
-abbrev pub plain_reply : ℕ → List ℕ → Reply
-plain_reply status text = record { status = status; mt = None; text = text }
+-- an answer that is no message, and one that is a status advice
+abbrev pub untyped_reply : ℕ → List ℕ → Reply
+untyped_reply status text = record { status = status; mt = None; text = text }
+
+-- a refusal that is no message
+abbrev pub refused_text : ℕ → List ℕ
+refused_text number = codes "refused " ++ decimal number
 
 abbrev pub advice_reply : ℕ → List ℕ → Reply
 advice_reply status text = record { status = status; mt = Some 548; text = text }
@@ -68,16 +72,17 @@ reply_to books (Instruct sender i) =
     let n = length books.history in advice_reply 200 (advice (Answer n) i.mt i.reference (first_case books n))
 reply_to books (Cancel sender order) =
     advice_reply 200 (advice (Answer (length books.history)) order.mt order.reference (cancellation_case books (named_by books.history sender order)))
-reply_to books (Run reference day rule) = plain_reply 200 (run_text books (length books.history))
-reply_to books entry = plain_reply 200 (accepted_text (length books.history))
+reply_to books (Run reference day rule) = untyped_reply 200 (run_text books (length books.history))
+reply_to books entry = untyped_reply 200 (accepted_text (length books.history))
 
 -- The reply to an entry that is refused, by a desk of these books.
 abbrev pub refused_reply : Books → Entry → ℕ → Reply
 refused_reply books (Instruct sender i) number = advice_reply 422 (advice (Answer (length books.history)) i.mt i.reference (NewRefused number))
 refused_reply books (Cancel sender order) number = advice_reply 422 (advice (Answer (length books.history)) order.mt order.reference (CancelRefused number))
-refused_reply books entry number = plain_reply 422 (codes "refused " ++ decimal number)
+refused_reply books entry number = untyped_reply 422 (refused_text number)
 
--- The first reply of the entry n: a function of the history up to it, and of nothing later.
+-- The first reply of the entry n, where there is one of this number: a function of the history up to it, and of nothing
+-- later.
 pub record IsFirstReply (history : List Entry) (n : ℕ) (reply : Reply) : Type 0 where
   pub is : (books : Books) (entry : Entry) → books.history ≡ take n history → AreBooks books → entry_at history n ≡ Some entry → reply ≡ reply_to books entry
 

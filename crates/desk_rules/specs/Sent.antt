@@ -63,6 +63,6 @@ abbrev pub sent_from : List Entry → ℕ → List Notice → List Sent
 sent_from history k [] = []
 sent_from history k (notice ∷ notices) = told_to history k notice (instruction_at history notice.about) ++ sent_from history (k + 1) notices
 
--- all that was sent; the n-th of these has the number n
+-- All that was sent. (Each notice of books is about an instruction, so the n-th of these has the number n.)
 abbrev pub sent_of : Books → List Sent
 sent_of books = sent_from books.history 1 (notices_of books)

@@ -47,14 +47,13 @@ abbrev pub is_by : Option ℕ → ℕ → Bool
 is_by None day = false
 is_by (Some run) day = nat_le day run
 
--- a pair is not cancelled
-abbrev pub stands : List Entry → Pair → Bool
-stands history p = not (is_cancelled_pair history p)
+abbrev pub is_not_cancelled : List Entry → Pair → Bool
+is_not_cancelled history p = not (is_cancelled_pair history p)
 
 -- a pair is due in a run: it is numbered below the run and due by its day, and was not cancelled before the run
 abbrev pub is_due : List Entry → ℕ → Pair → Bool
 is_due history run p =
-    is_by (option_and_then run_day (entry_at history run)) (day_of history p) && nat_lt p.later run && stands (before run history) p
+    is_by (option_and_then run_day (entry_at history run)) (day_of history p) && nat_lt p.later run && is_not_cancelled (before run history) p
 
 -- a pair is in none of these settlements
 abbrev pub IsUnsettled : List Settled → Pair → Type 0
@@ -115,7 +114,8 @@ abbrev pub last_pass : List Settled → ℕ → ℕ
 last_pass [] run = 0
 last_pass (s ∷ settled) run = if s.run == run && nat_lt (last_pass settled run) s.pass then s.pass else last_pass settled run
 
--- how many passes a run made: those that settled some pair, and under the rule of passes the one after them
+-- how many passes a run made: one under the rule of one pass, else those that settled some pair and the one after them
+-- (of an entry that is no run nothing is meant)
 abbrev pub passes_of : List Entry → List Settled → ℕ → ℕ
 passes_of history settled run = if is_in_passes history run then last_pass settled run + 1 else 1
 

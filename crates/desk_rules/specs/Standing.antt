@@ -31,7 +31,7 @@ reason_of_lack (Some Securities) = LackReason
 reason_of_lack (Some Money) = MoneyReason
 
 -- Why a pair is not settled, by the last run below a number that tried it: what it lacked in that run's last pass.
--- Before any run tried it, its day has not come.
+-- Where no run has tried it yet its day is told as to come.
 abbrev pub reason_below : Books → Pair → ℕ → Reason
 reason_below books p zero = Future
 reason_below books p (suc n) =

@@ -17,6 +17,8 @@ use Rattle.desk_rules.specs.declared.entry.Payment.{Payment}
 use Rattle.desk_rules.specs.declared.entry.Entry.{Entry}
 use Rattle.desk_rules.specs.declared.entry.Entry.TheVariants.{Participant, Account, Security, Issue, Redeem, PayIn, PayOut, Instruct, Cancel, Run}
 use Rattle.desk_rules.specs.declared.limits.TheConstants.{MOST_PAID, MOST_QUANTITY}
+use Rattle.desk_rules.specs.Books.{AreBooks, Books}
+use Rattle.desk_rules.specs.Verdict.{WasAccepted}
 
 -- the fields of some message of this type read as it
 abbrev pub IsReadable : Mt → Message → Type 0
@@ -52,3 +54,9 @@ IsWellFormed (Run reference day rule) = IsReference reference × IsDay day
 -- each entry of a history is
 pub record AreWellFormed (history : List Entry) : Type 0 where
   pub each : (entry : Entry) → Contains history entry → IsWellFormed entry
+
+-- the books of a history of which each entry was accepted in its turn, and is well formed
+pub record AreAccepted (limit : ℕ) (books : Books) : Type 0 where
+  pub are : AreBooks books
+  pub accepted : WasAccepted limit books.history
+  pub formed : AreWellFormed books.history

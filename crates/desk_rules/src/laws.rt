@@ -223,12 +223,14 @@ pub fn cancelled_once()
         → is_cancelled_pair books.history s.pair ≡ false }
 {}
 
-/// A pair of which one side asks settles as if nobody had asked: of two histories that are the same but for their
-/// cancellations, and ask for the same but for one side of a pair, where the first asks for that side and never for
-/// both, and the second never asks for it, the pairs and the settlements are the same. For pairing and settlement
-/// depend on cancellations by what they call off alone, before each entry: of an instruction in no pair by a request for
-/// it, of a pair by requests for both sides.
-pub fn asked_alone()
+/// A pair of which one side requests its cancellation settles as if nobody had: of two lists of entries that are the same
+/// but for their cancellations, and request the same but for one side of a pair, where the first requests that side and
+/// never both, and the second never requests it, the pairs and the settlements are the same. (In place of that request the
+/// second has a cancellation that names nothing, which no desk accepts: it stands for the day on which nobody requested.)
+/// For pairing and settlement depend on cancellations by what they call off alone, before each entry: an instruction in no
+/// pair by a request for it, a pair by requests for both sides. So of two accepted histories that call off the same, in
+/// `called_off`.
+pub fn requested_alone()
     ensures one_side { (x y : Books) (p : Pair) (k : ℕ) → AreBooks x → AreBooks y → AreSameButCancellations x.history y.history
         → Contains x.pairs p → IsSide p k → is_cancelled_pair x.history p ≡ false → is_cancel_requested y.history k ≡ false
         → ((n j : ℕ) → j ≢ k → is_cancel_requested (before n x.history) j ≡ is_cancel_requested (before n y.history) j)

@@ -2,8 +2,9 @@
 //!
 //! The only state is the history, a list of accepted entries (`Entry`). The definitions of specs/ say what follows
 //! from it, a module each for pairing, balances, settlement, verdicts, replies and sent messages; the laws in
-//! `laws.rt` say what every history keeps: one pairing, one settlement, each pair settled once, nothing made or lost,
-//! nothing below 0, each change confirmed, and what was sent stays. Begin with `entry.rt`, then
+//! `laws.rt` say what every history keeps (one pairing, one settlement, each pair settled once, what was sent stays), what
+//! one keeps in which each entry was accepted in its turn (nothing made or lost, nothing below 0), and one of well formed
+//! entries (each change confirmed, both legs or neither). Begin with `entry.rt`, then
 //! specs/History.antt.
 #![tactic(auto)]
 
@@ -21,10 +22,10 @@ mod verdict;
 
 pub use entry::{Entry, Instructed, Movement, Payment, RunRule, Sender};
 pub use laws::{
-    accepted_fronts, accepted_once, adds_up, asked_alone, both_legs, cancelled_for_good,
-    cancelled_once, confirmed_changes, fronts, known_numbers, never_negative, nothing_else_changes,
-    nothing_left, one_content, one_pair_each, one_pairing, one_settlement, one_verdict, opposites,
-    sent_for_good, settled_is_confirmed, settles_once, stands_as_accepted,
+    accepted_fronts, accepted_once, adds_up, both_legs, cancelled_for_good, cancelled_once,
+    confirmed_changes, fronts, known_numbers, never_negative, nothing_else_changes, nothing_left,
+    one_content, one_pair_each, one_pairing, one_settlement, one_verdict, opposites,
+    requested_alone, sent_for_good, settled_is_confirmed, settles_once, stands_as_accepted,
 };
 pub use limits::{MOST_ENTRIES, MOST_PAID, MOST_QUANTITY, MOST_SENT};
 pub use opposite::are_opposite;

@@ -9,5 +9,5 @@ pub const MOST_PAID: u64 = 999_999_999_999_999_999;
 /// The most entries that a desk holds.
 pub const MOST_ENTRIES: u64 = 999_999_999;
 
-/// The most messages that a desk sends: three a pair, an advice and two confirmations.
+/// The most messages that a desk sends: more than the three of each pair (an advice and two confirmations) come to.
 pub const MOST_SENT: u64 = 3_000_000_000;

@@ -47,8 +47,8 @@ impl Text {
 /// An answer to a request.
 #[derive(Debug, Drop)]
 pub struct Reply {
-    /// 200 where it was accepted, or answered again, and for the totals; 400 where it could not be read; 422 where it
-    /// was refused
+    /// 200 where it was accepted, or answered again, for the totals, and where a question is answered; 400 where it
+    /// could not be read; 422 where it was refused
     pub status: u16,
     /// The message type of the text, where it is a message
     pub mt: Option<u16>,

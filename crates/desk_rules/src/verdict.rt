@@ -19,7 +19,7 @@ pub enum Refusal {
     AccountNotSenders,
     /// The counterparty is no participant.
     CounterpartyUnknown,
-    /// The sender has no accepted instruction of that reference and type.
+    /// The sender has no accepted instruction of that reference and type; of a question: it used no such reference.
     NoSuchInstruction,
     /// The instruction was cancelled before.
     AlreadyCancelled,

@@ -3,7 +3,7 @@
 use Rattle.std.specs.Prelude.{ℕ, ◌<◌, ◌≤◌, List, [], ◌∷◌, ◌++◌, length, take, codes, Some, refl}
 use Rattle.std.specs.Fmt.{digits}
 use Rattle.std.proofs.Common.{lit<, lit≤}
-use Rattle.desk_codes.specs.Number.{plain}
+use Rattle.desk_codes.specs.Number.{written_number}
 use Rattle.desk_codes.specs.declared.currency.Ccy.TheVariants.{Eur}
 use Rattle.desk_msg.specs.declared.mt.Mt.TheVariants.{Mt541, Mt542, Mt543, Mt545, Mt547}
 use Rattle.desk_msg.specs.declared.instruction.Cash.{Cash}
@@ -41,15 +41,15 @@ abbrev pub leap_day : List ℕ
 leap_day = codes "20240229"
 
 -- the written forms of the day's numbers are short
-pub short_price : length (plain 100_050 2) ≤ 15
+pub short_price : length (written_number 100_050 2) ≤ 15
 unfolding digits
 short_price = lit≤ tt
 
-pub short_quantity : length (plain 400 0) ≤ 15
+pub short_quantity : length (written_number 400 0) ≤ 15
 unfolding digits
 short_quantity = lit≤ tt
 
-pub short_larger : length (plain 401 0) ≤ 15
+pub short_larger : length (written_number 401 0) ≤ 15
 unfolding digits
 short_larger = lit≤ tt
 

@@ -1,5 +1,6 @@
 -- The texts that an instruction is made of, the message that they make, and what the desk reads from it.
 use Rattle.std.specs.Prelude.{◌≡◌, ℕ, ◌⊎◌, true, false, List, [], ◌∷◌, ◌++◌, codes, if◌then◌else◌, Result, Ok, Err}
+use Rattle.std.specs.Str.{byte}
 use Rattle.desk_codes.specs.Bic.{party_of}
 use Rattle.desk_text.specs.BlockGrammar.{opening, closing, field_line}
 use Rattle.desk_msg.specs.declared.mt.Mt.{Mt}
@@ -74,7 +75,7 @@ free_receipt key = record (free_delivery key) {
 -- lines, a line feed behind each, and then a text
 abbrev pub fed : List (List ℕ) → List ℕ → List ℕ
 fed [] text = text
-fed (line ∷ lines) text = line ++ 10 ∷ fed lines text
+fed (line ∷ lines) text = line ++ byte "\n" ∷ fed lines text
 
 -- the same against EUR 1000.50
 abbrev pub paid : TextsSeen → TextsSeen
@@ -85,7 +86,7 @@ paid texts = record texts {
 
 -- a field with a qualifier, `:tag::QUAL//value`
 abbrev pub generic_line : List ℕ → List ℕ → List ℕ → List ℕ
-generic_line tag qualifier value = field_line tag (58 ∷ (qualifier ++ 47 ∷ 47 ∷ value))
+generic_line tag qualifier value = field_line tag (codes ":" ++ (qualifier ++ (codes "//" ++ value)))
 
 -- lines as a sequence of that name
 abbrev pub sequence_lines : List ℕ → List (List ℕ) → List (List ℕ)
@@ -106,7 +107,7 @@ front_lines texts =
     ∷ (sequence_lines (codes "GENL") (generic_line (codes "20C") (codes "SEME") texts.key ∷ field_line (codes "23G") (codes "NEWM") ∷ [])
     ++ sequence_lines (codes "TRADDET") (generic_line (codes "98A") (codes "SETT") texts.day ∷ field_line (codes "35B") (codes "ISIN " ++ texts.isin) ∷ [])
     ++ sequence_lines (codes "FIAC") (
-    generic_line (codes "36B") (codes "SETT") (texts.kind ++ 47 ∷ (texts.quantity ++ 44 ∷ []))
+    generic_line (codes "36B") (codes "SETT") (texts.kind ++ byte "/" ∷ (texts.quantity ++ codes ","))
     ∷ generic_line (codes "97A") (codes "SAFE") texts.account
     ∷ [])
     ++ opening (codes "SETDET")

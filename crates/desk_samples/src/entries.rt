@@ -4,6 +4,7 @@ ghost use Rattle.desk_codes.specs.Bic.{party_of};
 ghost use Rattle.desk_rules.specs.declared.entry.RunRule.TheVariants.{Passes};
 ghost use Rattle.desk_samples.specs.Entries.{Issues, Moves, Redeems, Spells, account_text, bic_text, day_text, isin_text, reference_text};
 ghost use Rattle.desk_samples.specs.Instructed.{Instructs, IsInstructed, agent_of, free_delivery, free_receipt, message_text, paid, texts_seen};
+ghost use Rattle.desk_rules.specs.declared.limits.TheConstants.{MOST_QUANTITY};
 
 use desk_codes::{AccountId, Bic, CodeFault, Day, Isin, Reference};
 use desk_msg::{Instruction, Kind, Message, Mt, ReadFault, TextRefusal, read_instruction_text};
@@ -156,7 +157,7 @@ pub fn security(key: &str, code: &str, kind: Kind) -> Result<Entry, EntryFault>
 /// So much of a security, put on an account or taken off it.
 fn movement(key: &str, name: &str, code: &str, quantity: u64) -> Result<Movement, EntryFault>
     requires some { 0 < quantity }
-    requires within { quantity ≤ 99_999_999_999_999 }
+    requires within { quantity ≤ MOST_QUANTITY }
     ensures { Spells (reference_text key.now ∷ account_text name.now ∷ isin_text code.now ∷ [])
         (Moves key.now name.now code.now quantity) result }
 {
@@ -171,7 +172,7 @@ fn movement(key: &str, name: &str, code: &str, quantity: u64) -> Result<Movement
 /// So much of a security issued to an account.
 pub fn issue(key: &str, name: &str, code: &str, quantity: u64) -> Result<Entry, EntryFault>
     requires some { 0 < quantity }
-    requires within { quantity ≤ 99_999_999_999_999 }
+    requires within { quantity ≤ MOST_QUANTITY }
     ensures { Spells (reference_text key.now ∷ account_text name.now ∷ isin_text code.now ∷ [])
         (Issues (Moves key.now name.now code.now quantity)) result }
 {
@@ -181,7 +182,7 @@ pub fn issue(key: &str, name: &str, code: &str, quantity: u64) -> Result<Entry, 
 /// So much of a security redeemed from an account.
 pub fn redeem(key: &str, name: &str, code: &str, quantity: u64) -> Result<Entry, EntryFault>
     requires some { 0 < quantity }
-    requires within { quantity ≤ 99_999_999_999_999 }
+    requires within { quantity ≤ MOST_QUANTITY }
     ensures { Spells (reference_text key.now ∷ account_text name.now ∷ isin_text code.now ∷ [])
         (Redeems (Moves key.now name.now code.now quantity)) result }
 {

@@ -7,6 +7,7 @@ use Rattle.std.proofs.lemmas.Option.{same_Some}
 use Rattle.std.specs.Prelude.{slice_get, Contains}
 use Rattle.std.specs.List.{AllByRecursion}
 use Rattle.std.specs.Str.{bytes_eq}
+use Rattle.desk_text.specs.declared.limits.TheConstants.{LONGEST_TEXT}
 use Rattle.desk_text.specs.declared.faults.TextFault.{TextFault}
 use Rattle.desk_text.specs.declared.faults.TextFault.TheVariants.{NotBlock, BadLine, BadNesting, TooLong, Memory}
 use Rattle.desk_text.specs.Lines.{lines_of}
@@ -216,7 +217,7 @@ FaultOfLines lines (BadNesting k) = (1 < k) × IsFirstBad lines k × IsMisnested
 FaultOfLines lines TooLong = ⊥
 FaultOfLines lines Memory = ⊥
 
-from_lines : (text : List ℕ) (fault : TextFault) → length text ≤ 65536 → FaultOfLines (lines_of text) fault → IsFault text fault
+from_lines : (text : List ℕ) (fault : TextFault) → length text ≤ LONGEST_TEXT → FaultOfLines (lines_of text) fault → IsFault text fault
 from_lines text NotBlock short f = (short, f)
 from_lines text (BadLine k) short f = (short, f.0, f.1, f.2)
 from_lines text (BadNesting k) short f = (short, f.0, f.1, f.2)
@@ -253,16 +254,16 @@ lines_fault (first ∷ lines) fault e = elim (chosen (bytes_eq first (codes "{4:
 ]
 
 abbrev pub IsExact : List ℕ → Result Rest TextFault → Type 0
-IsExact text (Ok rest) = (length text ≤ 65536) × IsBlock text rest.fields
+IsExact text (Ok rest) = (length text ≤ LONGEST_TEXT) × IsBlock text rest.fields
 IsExact text (Err fault) = IsFault text fault
 
-short_exact : (text : List ℕ) → length text ≤ 65536 → (r : Result Rest TextFault) → read_lines (lines_of text) ≡ r → IsExact text r
+short_exact : (text : List ℕ) → length text ≤ LONGEST_TEXT → (r : Result Rest TextFault) → read_lines (lines_of text) ≡ r → IsExact text r
 short_exact text short (Ok rest) e =
     let b = block-read (lines_of text) rest e in (short, record { items = b.items; tree = b.tree; fields = b.fields })
 short_exact text short (Err fault) e = from_lines text fault short (lines_fault (lines_of text) fault e)
 
 pub reads_exactly : (text : List ℕ) (r : Result Rest TextFault) → read_text text ≡ r → IsExact text r
-reads_exactly text r e = elim (chosen (nat_lt 65536 (length text)) (Err TooLong) (read_lines (lines_of text)) r e) [
-  | inl (long, same) ↦ subst (λ (z : Result Rest TextFault). IsExact text z) same (let lt : 65536 < length text = grind (arith, nat_tests, long) in lt)
-  | inr (short, same) ↦ short_exact text (let le : length text ≤ 65536 = grind (arith, nat_tests, short) in le) r same
+reads_exactly text r e = elim (chosen (nat_lt LONGEST_TEXT (length text)) (Err TooLong) (read_lines (lines_of text)) r e) [
+  | inl (long, same) ↦ subst (λ (z : Result Rest TextFault). IsExact text z) same (let lt : LONGEST_TEXT < length text = grind (arith, nat_tests, long) in lt)
+  | inr (short, same) ↦ short_exact text (let le : length text ≤ LONGEST_TEXT = grind (arith, nat_tests, short) in le) r same
 ]

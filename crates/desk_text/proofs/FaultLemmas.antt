@@ -2,6 +2,7 @@
 use Rattle.std.proofs.Common.{◌≡◌, ◌≢◌, ℕ, ◌+◌, nat_lt, Bool, true, false, cond, List, [], ◌∷◌, ◌++◌, length, map, reverse, codes, Result, Ok, Err, refl, sym, ap, ◌∙◌, subst, arith, ◌⊎◌, inl, inr}
 use Rattle.std.specs.Prelude.{IsTrue}
 use Rattle.std.specs.Str.{bytes_eq}
+use Rattle.desk_text.specs.declared.limits.TheConstants.{DEEPEST}
 use Rattle.desk_text.specs.declared.faults.TextFault.{TextFault}
 use Rattle.desk_text.specs.declared.faults.TextFault.TheVariants.{NotBlock, BadLine, BadNesting, TooLong, Memory}
 use Rattle.desk_text.specs.BlockGrammar.{is_name, closing}
@@ -121,7 +122,7 @@ step-located sign within goes_on k within' goes_on' s signs Memory l = l
 
 -- Each kind of sign that goes on.
 
-pub open_step : (name : List ℕ) (within : List (List ℕ)) (goes_on : Bool) (k : ℕ) → nat_lt (length within) 16 ≡ true → IsStep (opens name) within goes_on k (name ∷ within) false
+pub open_step : (name : List ℕ) (within : List (List ℕ)) (goes_on : Bool) (k : ℕ) → nat_lt (length within) DEEPEST ≡ true → IsStep (opens name) within goes_on k (name ∷ within) false
 open_step name within goes_on k fits = record {
   wrap = λ r. r;
   ok = λ rest. (rest, refl);
@@ -248,7 +249,7 @@ after_at signs goes_on k fault a =
 
 pub located : (signs : List Sign) (within : List (List ℕ)) (goes_on : Bool) (k : ℕ) (fault : TextFault) → AreRight signs → AreNames within → read_from signs within goes_on k ≡ Err fault → IsLocated signs within goes_on k fault
 located [] within goes_on k fault right names e = seen (λ f. IsLocated [] within goes_on k f) NotBlock fault e (always_ends within names goes_on k)
-located (opens name ∷ signs) within goes_on k fault right names e = elim (chosen (nat_lt (length within) 16) (read_from signs (name ∷ within) false (k + 1)) (Err (BadNesting k)) (Err fault) e) [
+located (opens name ∷ signs) within goes_on k fault right names e = elim (chosen (nat_lt (length within) DEEPEST) (read_from signs (name ∷ within) false (k + 1)) (Err (BadNesting k)) (Err fault) e) [
   | inl (fits, r) ↦ step-located (opens name) within goes_on k (name ∷ within) false (open_step name within goes_on k fits) signs fault (located signs (name ∷ within) false (k + 1) fault right.1 (right.0, names) r)
   | inr (full, r) ↦ seen (λ f. IsLocated (opens name ∷ signs) within goes_on k f) (BadNesting k) fault r
       (here (opens name) signs within goes_on k (BadNesting k) names (λ more. ap (λ b. cond b (read_from more (name ∷ within) false (k + 1)) (Err (BadNesting k))) full) (tt, nest_open))

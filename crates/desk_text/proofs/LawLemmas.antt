@@ -4,6 +4,7 @@ use Rattle.std.proofs.lemmas.Bool.{cases_lt}
 use Rattle.std.proofs.lemmas.List.{map-append, take-append-drop}
 use Rattle.std.proofs.lemmas.List.Elements.{All-head, All-tail}
 use Rattle.std.specs.Prelude.{IsTrue}
+use Rattle.desk_text.specs.declared.limits.TheConstants.{LONGEST_TEXT}
 use Rattle.desk_text.specs.declared.faults.TextFault.{TextFault}
 use Rattle.desk_text.specs.declared.faults.TextFault.TheVariants.{NotBlock, BadLine, BadNesting, TooLong, Memory}
 use Rattle.desk_text.specs.Lines.{lines_of, value_lines}
@@ -143,7 +144,7 @@ one-fault text (BadNesting k) Memory x y = absurd y
 block-begins : (text : List ℕ) (found : List Found) → IsBlock text found → Begins (lines_of text)
 block-begins text found b = begins-from_tree (lines_of text) [] b.items (subst (λ (z : List (List ℕ)). IsTree z b.items) (sym (append-nil (lines_of text))) b.tree)
 
-pub block-no_fault : (text : List ℕ) (found : List Found) (fault : TextFault) → length text ≤ 65536 → IsBlock text found → IsFault text fault → ⊥
+pub block-no_fault : (text : List ℕ) (found : List Found) (fault : TextFault) → length text ≤ LONGEST_TEXT → IsBlock text found → IsFault text fault → ⊥
 block-no_fault text found TooLong short b f = omega (arith, short, f)
 block-no_fault text found NotBlock short b (le, inl one) = begins-all (lines_of text) 1 (block-begins text found b) one
 block-no_fault text found NotBlock short b (le, inr (begun, n)) = n b.items b.tree

@@ -5,6 +5,7 @@ use Rattle.std.proofs.lemmas.List.{map-append}
 use Rattle.std.proofs.lemmas.List.Elements.{Contains-append_right}
 use Rattle.std.specs.Prelude.{IsTrue, Contains}
 use Rattle.std.specs.Str.{bytes_eq}
+use Rattle.desk_text.specs.declared.limits.TheConstants.{DEEPEST}
 use Rattle.desk_text.specs.declared.faults.TextFault.{TextFault}
 use Rattle.desk_text.specs.declared.faults.TextFault.TheVariants.{NotBlock, BadNesting}
 use Rattle.desk_text.specs.BlockGrammar.{is_name, is_further, closing}
@@ -68,7 +69,7 @@ tail_end sign front more (inr h) = inr h
 
 run : (front more : List Sign) (within : List (List ℕ)) (goes_on : Bool) (k : ℕ) (rest : Rest) → (NoEnd front ⊎ HasEnd more) → AreRight front → AreNames within → read_from (front ++ more) within goes_on k ≡ Ok rest → IsRun front within goes_on k
 run [] more within goes_on k rest end right names e = no_run within goes_on k names
-run (opens name ∷ front) more within goes_on k rest end right names e = elim (chosen (nat_lt (length within) 16) (read_from (front ++ more) (name ∷ within) false (k + 1)) (Err (BadNesting k)) (Ok rest) e) [
+run (opens name ∷ front) more within goes_on k rest end right names e = elim (chosen (nat_lt (length within) DEEPEST) (read_from (front ++ more) (name ∷ within) false (k + 1)) (Err (BadNesting k)) (Ok rest) e) [
   | inl (fits, r) ↦ more_run (opens name) front within goes_on k (name ∷ within) false (open_step name within goes_on k fits)
       (run front more (name ∷ within) false (k + 1) rest (tail_end (opens name) front more end) right.1 (right.0, names) r)
   | inr (_, r) ↦ absurd (let h = r in cc)
@@ -215,7 +216,7 @@ one-open lines x y a b = let n = open-begun lines x a in open-names lines x n a 
 
 can-follow : (names : List (List ℕ)) (goes_on : Bool) (k : ℕ) (line : List ℕ) → AreNames names → IsRight names line → CanEnd names goes_on k (sign_of line ∷ [])
 can-follow names goes_on k line right (is_opening name is n room) =
-    let fits : nat_lt (length names) 16 ≡ true = grind (arith, nat_tests, room) in
+    let fits : nat_lt (length names) DEEPEST ≡ true = grind (arith, nat_tests, room) in
     let c = step-can (opens name) names goes_on k (name ∷ names) false (open_step name names goes_on k fits) [] (always_ends (name ∷ names) (n, right) false (k + 1)) in
     subst (λ (z : Sign). CanEnd names goes_on k (z ∷ [])) (sym (ap sign_of is ∙ opening-sign name n)) c
 can-follow names goes_on k line right (is_closing name outer is n top) =
@@ -240,7 +241,7 @@ right-goes_on lines names line o right =
     (ap read_lines (append_assoc lines (line ∷ []) c.more) ∙ begun-reads lines (line ∷ c.more) b ∙ ap b.run.wrap c.reads ∙ r.1)
 
 follows : (names : List (List ℕ)) (goes_on : Bool) (k : ℕ) (line : List ℕ) (sign : Sign) (more : List Sign) (rest : Rest) → IsSigned line sign → read_from (sign ∷ more) names goes_on k ≡ Ok rest → IsRight names line ⊎ IsTrue (is_further line)
-follows names goes_on k line (opens name) more rest s e = elim (chosen (nat_lt (length names) 16) (read_from more (name ∷ names) false (k + 1)) (Err (BadNesting k)) (Ok rest) e) [
+follows names goes_on k line (opens name) more rest s e = elim (chosen (nat_lt (length names) DEEPEST) (read_from more (name ∷ names) false (k + 1)) (Err (BadNesting k)) (Ok rest) e) [
   | inl (fits, r) ↦ inl (is_opening name (s.is (λ h. let g = h in cc)) s.right (grind (arith, nat_tests, fits)))
   | inr (_, r) ↦ absurd (let h = r in cc)
 ]

@@ -5,6 +5,7 @@ use Rattle.std.proofs.lemmas.List.{map-append}
 use Rattle.std.proofs.lemmas.List.Elements.{All-nil, All-cons, All-append}
 use Rattle.std.specs.Prelude.{IsTrue, nat_le}
 use Rattle.std.specs.List.{list_all, flat_map}
+use Rattle.desk_text.specs.declared.limits.TheConstants.{DEEPEST, LONGEST_NAME}
 use Rattle.desk_text.specs.declared.faults.TextFault.TheVariants.{BadNesting}
 use Rattle.desk_text.specs.Lines.{lines_of, value_lines, ended, written}
 use Rattle.desk_text.specs.BlockGrammar.{is_printable, is_digit, is_capital, is_any_tag, is_name, is_tag, is_first, is_further, opening, closing, field_line}
@@ -45,7 +46,7 @@ name_char c e = either_true (is_capital c) (is_digit c) (c ≢ 10) e (capital_li
 
 name_line : (name : List ℕ) → IsTrue (is_name name) → IsLine name
 name_line name e =
-    from_test (λ c. is_capital c || is_digit c) name_char name (both (nat_lt 0 (length name) && nat_le (length name) 16) (list_all (λ c. is_capital c || is_digit c) name) e).1
+    from_test (λ c. is_capital c || is_digit c) name_char name (both (nat_lt 0 (length name) && nat_le (length name) LONGEST_NAME) (list_all (λ c. is_capital c || is_digit c) name) e).1
 
 pub first_is_line : (line : List ℕ) → IsTrue (is_first line) → IsLine line
 first_is_line line e = from_test is_printable printable_line line e
@@ -144,7 +145,7 @@ parts-read [] [] goes_on k names right = refl
 parts-read [] (name ∷ within) goes_on k names right = absurd (let h = right in cc)
 parts-read (open_part name ∷ parts) within goes_on k names right =
     let rest = map sign_of (flat_map lines_of_part parts ++ codes "-}" ∷ []) in
-    let fits : nat_lt (length within) 16 ≡ true = let room = right.1 in grind (arith, nat_tests) in
+    let fits : nat_lt (length within) DEEPEST ≡ true = let room = right.1 in grind (arith, nat_tests) in
     ap (λ s. read_from (s ∷ rest) within goes_on k) (opening-sign name right.0)
     ∙ ap (λ b. cond b (read_from rest (name ∷ within) false (k + 1)) (Err (BadNesting k))) fits
     ∙ parts-read parts (name ∷ within) false (k + 1) (right.0, names) right.2

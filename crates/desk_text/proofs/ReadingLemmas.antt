@@ -6,6 +6,7 @@ use Rattle.std.proofs.lemmas.List.{map-append}
 use Rattle.std.specs.Prelude.{IsTrue}
 use Rattle.std.specs.List.{list_all}
 use Rattle.std.specs.Str.{bytes_eq}
+use Rattle.desk_text.specs.declared.limits.TheConstants.{DEEPEST}
 use Rattle.desk_text.specs.declared.faults.TextFault.{TextFault}
 use Rattle.desk_text.specs.declared.faults.TextFault.TheVariants.{NotBlock, BadNesting}
 use Rattle.desk_text.specs.BlockGrammar.{Items, none, field, sequence, lines_of_items, AreItems, IsTree, is_name, is_tag, is_first, is_further, opening, closing, field_line}
@@ -67,7 +68,7 @@ Tail-field (name ∷ within) k tag first more signs found t f m (items, rest, ot
 Tail-close : (within : List (List ℕ)) (k : ℕ) (name : List ℕ) (signs : List Sign) (found : List Found) → Tail within (k + 1) signs found → Tail (name ∷ within) k (closes name ∷ signs) found
 Tail-close within k name signs found tail = (none, signs, found, k + 1, refl, tt, refl, omega arith, tail)
 
-Tail-open : (within : List (List ℕ)) (k : ℕ) (name : List ℕ) (signs : List Sign) (found : List Found) → length within < 16 → IsTrue (is_name name) → Tail (name ∷ within) (k + 1) signs found → Tail within k (opens name ∷ signs) found
+Tail-open : (within : List (List ℕ)) (k : ℕ) (name : List ℕ) (signs : List Sign) (found : List Found) → length within < DEEPEST → IsTrue (is_name name) → Tail (name ∷ within) (k + 1) signs found → Tail within k (opens name ∷ signs) found
 Tail-open [] k name signs found room n (inner, rest, more, j, es, right, ef, ej, (items, m, es', right', ef')) = (
   sequence name inner items,
   m,
@@ -160,7 +161,7 @@ with_field-ok x (Err fault) rest e = absurd (let h = e in cc)
 
 pub reading-ok : (signs : List Sign) (within : List (List ℕ)) (goes_on : Bool) (k : ℕ) (rest : Rest) → AreRight signs → read_from signs within goes_on k ≡ Ok rest → IsReading within goes_on k signs rest.values rest.fields
 reading-ok [] within goes_on k rest right e = absurd (let h = e in cc)
-reading-ok (opens name ∷ signs) within goes_on k rest right e = elim (chosen (nat_lt (length within) 16) (read_from signs (name ∷ within) false (k + 1)) (Err (BadNesting k)) (Ok rest) e) [
+reading-ok (opens name ∷ signs) within goes_on k rest right e = elim (chosen (nat_lt (length within) DEEPEST) (read_from signs (name ∷ within) false (k + 1)) (Err (BadNesting k)) (Ok rest) e) [
   | inl (fits, r) ↦ let b = reading-ok signs (name ∷ within) false (k + 1) rest right.1 r in
       with_none within goes_on k (opens name ∷ signs) rest.values rest.fields (b.fresh refl)
       (Tail-open within k name signs rest.fields (grind (arith, nat_tests, fits)) right.0 (fresh_tail (name ∷ within) (k + 1) signs rest.values rest.fields b))
@@ -274,7 +275,7 @@ read-items (field tag first more items) within goes_on k j rest right stop e =
     ∙ ap (with_field x) (read-further more (signs_of items ++ rest) within (k + 1) (k + 1 + length more) refl ∙ ap (with_values more) later)
     ∙ field_found (reverse within) tag first k more (fields_from within (k + 1 + length more) items) (read_from rest within false j)
 read-items (sequence name inner items) within goes_on k j rest right stop e =
-    let fits : nat_lt (length within) 16 ≡ true = let room = right.0 in grind (arith, nat_tests) in
+    let fits : nat_lt (length within) DEEPEST ≡ true = let room = right.0 in grind (arith, nat_tests) in
     let m = k + 1 + length (lines_of_items inner) in
     let inside = read-items inner (name ∷ within) false (k + 1) m (closes name ∷ (signs_of items ++ rest)) right.2 at_close refl in
     let at : m + 1 ≡ k + 2 + length (lines_of_items inner) = omega arith in

@@ -2,6 +2,7 @@
 use Rattle.std.proofs.Common.{◌≡◌, ℕ, ◌+◌, Bool, true, false, cond, ◌&&◌, eqb, codes, nat_lt, List, [], ◌∷◌, ◌++◌, length, map, reverse, Option, Some, None, Result, Ok, Err, refl, sym, ap, ◌∙◌, append_assoc, append-nil}
 use Rattle.std.proofs.lemmas.List.{map_push}
 use Rattle.std.specs.Str.{bytes_eq}
+use Rattle.desk_text.specs.declared.limits.TheConstants.{DEEPEST}
 use Rattle.desk_text.specs.declared.fields.Field.{Field}
 use Rattle.desk_text.specs.declared.faults.TextFault.{TextFault}
 use Rattle.desk_text.specs.declared.faults.TextFault.TheVariants.{BadLine, BadNesting}
@@ -77,7 +78,7 @@ with_field-values x (Err fault) = refl
 pub read_from-values : (signs : List Sign) (within : List (List ℕ)) (k : ℕ) → read_from signs within false k ≡ after_found [] (read_from signs within false k)
 read_from-values [] within k = refl
 read_from-values (opens name ∷ signs) within k =
-    either (λ r. r ≡ after_found [] r) (nat_lt (length within) 16) (read_from signs (name ∷ within) false (k + 1)) (Err (BadNesting k)) (read_from-values signs (name ∷ within) (k + 1)) refl
+    either (λ r. r ≡ after_found [] r) (nat_lt (length within) DEEPEST) (read_from signs (name ∷ within) false (k + 1)) (Err (BadNesting k)) (read_from-values signs (name ∷ within) (k + 1)) refl
 read_from-values (closes name ∷ signs) [] k = refl
 read_from-values (closes name ∷ signs) (top ∷ within) k =
     either (λ r. r ≡ after_found [] r) (bytes_eq top name) (read_from signs within false (k + 1)) (Err (BadNesting k)) (read_from-values signs within (k + 1)) refl

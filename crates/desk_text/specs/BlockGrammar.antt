@@ -1,21 +1,22 @@
 -- The block grammar of ISO 15022: a block as a tree, and the lines that it is written in.
 use Rattle.std.specs.Prelude.{◌≡◌, ℕ, ◌<◌, suc, nat_lt, nat_le, Bool, true, false, not, ◌&&◌, ◌||◌, ◌==◌, List, [], ◌∷◌, ◌++◌, length, replicate, codes, IsTrue}
 use Rattle.std.specs.List.{list_all}
-use Rattle.std.specs.Str.{bytes_eq}
+use Rattle.std.specs.Str.{byte, bytes_eq}
+use Rattle.desk_text.specs.declared.limits.TheConstants.{DEEPEST, LONGEST_NAME}
 
 -- the characters of a block's lines
 abbrev pub is_printable : ℕ → Bool
-is_printable c = nat_le 32 c && nat_le c 126
+is_printable c = nat_le (byte " ") c && nat_le c (byte "~")
 
 abbrev pub is_digit : ℕ → Bool
-is_digit c = nat_le 48 c && nat_le c 57
+is_digit c = nat_le (byte "0") c && nat_le c (byte "9")
 
 abbrev pub is_capital : ℕ → Bool
-is_capital c = nat_le 65 c && nat_le c 90
+is_capital c = nat_le (byte "A") c && nat_le c (byte "Z")
 
--- a sequence's name: 1 to 16 characters A to Z or 0 to 9
+-- a sequence's name: 1 to so many characters A to Z or 0 to 9
 abbrev pub is_name : List ℕ → Bool
-is_name name = nat_lt 0 (length name) && nat_le (length name) 16 && list_all (λ c. is_capital c || is_digit c) name
+is_name name = nat_lt 0 (length name) && nat_le (length name) LONGEST_NAME && list_all (λ c. is_capital c || is_digit c) name
 
 -- two digits, and at most one letter A to Z
 abbrev pub is_any_tag : List ℕ → Bool
@@ -36,7 +37,7 @@ is_first line = list_all is_printable line
 -- a further line of a value: it may be empty, and begins with neither `:` nor `-`
 abbrev pub is_further : List ℕ → Bool
 is_further [] = true
-is_further (c ∷ line) = not (c == 58) && not (c == 45) && list_all is_printable (c ∷ line)
+is_further (c ∷ line) = not (c == byte ":") && not (c == byte "-") && list_all is_printable (c ∷ line)
 
 abbrev pub opening : List ℕ → List ℕ
 opening name = codes ":16R:" ++ name
@@ -46,7 +47,7 @@ closing name = codes ":16S:" ++ name
 
 -- a field's line, `:tag:value`
 abbrev pub field_line : List ℕ → List ℕ → List ℕ
-field_line tag first = 58 ∷ (tag ++ 58 ∷ first)
+field_line tag first = codes ":" ++ (tag ++ byte ":" ∷ first)
 
 -- Items, one after another: none; or a field, the lines of its value, and what comes after it; or a sequence, the items in it, and what comes after it.
 pub data Items : Type 0 where
@@ -60,11 +61,11 @@ lines_of_items none = []
 lines_of_items (field tag first further rest) = field_line tag first ∷ (further ++ lines_of_items rest)
 lines_of_items (sequence name inner rest) = opening name ∷ (lines_of_items inner ++ closing name ∷ lines_of_items rest)
 
--- Within so many open sequences tags, values and names are right, and never are more than 16 open.
+-- Within so many open sequences tags, values and names are right, and never are more open than may be.
 abbrev pub AreItems : ℕ → Items → Type 0
 AreItems depth none = Unit {0}
 AreItems depth (field tag first further rest) = IsTrue (is_tag tag) × IsTrue (is_first first) × IsTrue (list_all is_further further) × AreItems depth rest
-AreItems depth (sequence name inner rest) = (depth < 16) × IsTrue (is_name name) × AreItems (suc depth) inner × AreItems depth rest
+AreItems depth (sequence name inner rest) = (depth < DEEPEST) × IsTrue (is_name name) × AreItems (suc depth) inner × AreItems depth rest
 
 -- The lines are a block of these items: `{4:`, the items, `-}`, and then only line ends.
 pub record IsTree (lines : List (List ℕ)) (items : Items) : Type 0 where

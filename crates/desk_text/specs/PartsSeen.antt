@@ -1,5 +1,6 @@
 -- Parts, without where they lie in memory.
 use Rattle.std.specs.Prelude.{◌≡◌, ℕ, ◌<◌, List, ◌∷◌, length, IsTrue}
+use Rattle.desk_text.specs.declared.limits.TheConstants.{DEEPEST}
 use Rattle.desk_text.specs.declared.parts.BlockPart.{BlockPart}
 use Rattle.desk_text.specs.declared.parts.BlockPart.TheVariants.{Open, Field, Close}
 use Rattle.desk_text.specs.BlockGrammar.{is_name, is_tag}
@@ -12,6 +13,6 @@ part_seen (Close name) = close_part name.now
 
 -- the part may be written where these names are open, the innermost first
 abbrev pub CanFollow : Part → List (List ℕ) → Type 0
-CanFollow (open_part name) names = IsTrue (is_name name) × (length names < 16)
+CanFollow (open_part name) names = IsTrue (is_name name) × (length names < DEEPEST)
 CanFollow (field_part tag value) names = IsTrue (is_tag tag) × IsTrue (is_value value)
 CanFollow (close_part name) names = (outer : List (List ℕ)) × (names ≡ name ∷ outer)

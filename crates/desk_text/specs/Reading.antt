@@ -1,6 +1,7 @@
 -- Reading a block line by line, with a stack of open names.
 use Rattle.std.specs.Prelude.{ℕ, ◌+◌, nat_lt, Bool, true, false, ◌&&◌, ◌==◌, List, [], ◌∷◌, ◌++◌, length, map, reverse, codes, Option, Some, None, Result, Ok, Err, if◌then◌else◌}
-use Rattle.std.specs.Str.{bytes_eq}
+use Rattle.std.specs.Str.{byte, bytes_eq}
+use Rattle.desk_text.specs.declared.limits.TheConstants.{DEEPEST, LONGEST_TEXT}
 use Rattle.desk_text.specs.declared.faults.TextFault.{TextFault}
 use Rattle.desk_text.specs.declared.faults.TextFault.TheVariants.{NotBlock, BadLine, BadNesting, TooLong}
 use Rattle.desk_text.specs.Lines.{lines_of}
@@ -10,7 +11,7 @@ use Rattle.desk_text.specs.Fields.{Found}
 -- a line without the CR at its end, if it has one
 abbrev pub strip_return : List ℕ → List ℕ
 strip_return [] = []
-strip_return (c ∷ []) = if c == 13 then [] else c ∷ []
+strip_return (c ∷ []) = if c == byte "\r" then [] else c ∷ []
 strip_return (c ∷ d ∷ line) = c ∷ strip_return (d ∷ line)
 
 -- what a line after the first can be, by itself
@@ -32,8 +33,8 @@ sign_of_tag tag value =
 
 -- the tag and the value behind the first colon of a line, where a tag of two or three characters stands there
 abbrev pub split_tag : List ℕ → Option (List ℕ × List ℕ)
-split_tag (a ∷ b ∷ c ∷ d ∷ rest) = if c == 58 then Some (a ∷ b ∷ [], d ∷ rest) else if d == 58 then Some (a ∷ b ∷ c ∷ [], rest) else None
-split_tag (a ∷ b ∷ c ∷ []) = if c == 58 then Some (a ∷ b ∷ [], []) else None
+split_tag (a ∷ b ∷ c ∷ d ∷ rest) = if c == byte ":" then Some (a ∷ b ∷ [], d ∷ rest) else if d == byte ":" then Some (a ∷ b ∷ c ∷ [], rest) else None
+split_tag (a ∷ b ∷ c ∷ []) = if c == byte ":" then Some (a ∷ b ∷ [], []) else None
 split_tag (a ∷ b ∷ []) = None
 split_tag (a ∷ []) = None
 split_tag [] = None
@@ -45,7 +46,7 @@ sign_of_split (Some (tag, value)) = sign_of_tag tag value
 abbrev pub sign_of : List ℕ → Sign
 sign_of [] = further []
 sign_of (c ∷ line) =
-    if c == 58 then sign_of_split (split_tag line)
+    if c == byte ":" then sign_of_split (split_tag line)
     else if bytes_eq (c ∷ line) (codes "-}") then ends
     else if is_further (c ∷ line) then further (c ∷ line)
     else strange
@@ -81,7 +82,7 @@ read_after (strange ∷ signs) k = Err (BadLine k)
 -- Before `-}`, from line k on, within open names, the innermost first; a value may go on or not.
 abbrev pub read_from : List Sign → List (List ℕ) → Bool → ℕ → Result Rest TextFault
 read_from [] within goes_on k = Err NotBlock
-read_from (opens name ∷ signs) within goes_on k = if nat_lt (length within) 16 then read_from signs (name ∷ within) false (k + 1) else Err (BadNesting k)
+read_from (opens name ∷ signs) within goes_on k = if nat_lt (length within) DEEPEST then read_from signs (name ∷ within) false (k + 1) else Err (BadNesting k)
 read_from (closes name ∷ signs) [] goes_on k = Err (BadNesting k)
 read_from (closes name ∷ signs) (top ∷ within) goes_on k = if bytes_eq top name then read_from signs within false (k + 1) else Err (BadNesting k)
 read_from (begins tag first ∷ signs) within goes_on k =
@@ -98,7 +99,7 @@ read_lines [] = Err NotBlock
 read_lines (first ∷ lines) = if bytes_eq first (codes "{4:") then read_from (map sign_of lines) [] false 2 else Err NotBlock
 
 abbrev pub read_text : List ℕ → Result Rest TextFault
-read_text text = if nat_lt 65536 (length text) then Err TooLong else read_lines (lines_of text)
+read_text text = if nat_lt LONGEST_TEXT (length text) then Err TooLong else read_lines (lines_of text)
 
 -- values go on that of the last field
 abbrev pub extend_last : List Found → List (List ℕ) → List Found

@@ -1,6 +1,7 @@
 -- What the code holds, without where it lies in memory.
 use Rattle.std.specs.Prelude.{◌≡◌, ◌≤◌, ◌∷◌, ℕ, List, length, map, codes, Result, Ok, Err}
 use Rattle.std.specs.Borrow.{Bor}
+use Rattle.desk_text.specs.declared.limits.TheConstants.{LONGEST_TEXT}
 use Rattle.desk_text.specs.declared.lines.Line.{Line}
 use Rattle.desk_text.specs.declared.lines.Line.TheVariants.{Opening, Closing, Start, Further, End, Strange}
 use Rattle.desk_text.specs.declared.fields.Field.{Field}
@@ -31,15 +32,15 @@ found_of f = record { path = texts f.path.items; tag = f.tag.now; values = texts
 abbrev pub found_in : Block → List Found
 found_in block = map found_of block.fields.items
 
--- a text of at most 65,536 bytes whose first line is `{4:`: that a text is none of these is told without taking memory
+-- a text, not too long, whose first line is `{4:`: that a text is none of these is told without taking memory
 pub record MayBeBlock (text : List ℕ) : Type 0 where
-  pub short : length text ≤ 65536
+  pub short : length text ≤ LONGEST_TEXT
   pub further : List (List ℕ)
   pub lines : lines_of text ≡ codes "{4:" ∷ further
 
--- What reading a text gives: the fields of a block of at most 65,536 bytes, or the one fault. Memory is wanted only of a text that may be one.
+-- What reading a text gives: the fields of a block that is not too long, or the one fault. Memory is wanted only of a text that may be one.
 abbrev pub Reads : List ℕ → Result Block TextFault → Type 0
-Reads text (Ok block) = (length text ≤ 65536) × IsBlock text (found_in block)
+Reads text (Ok block) = (length text ≤ LONGEST_TEXT) × IsBlock text (found_in block)
 Reads text (Err NotBlock) = IsFault text NotBlock
 Reads text (Err (BadLine k)) = IsFault text (BadLine k)
 Reads text (Err (BadNesting k)) = IsFault text (BadNesting k)

@@ -1,6 +1,7 @@
 -- What a writer writes, part by part.
 use Rattle.std.specs.Prelude.{◌≡◌, ℕ, ◌+◌, ◌<◌, Bool, false, ◌&&◌, List, [], ◌∷◌, ◌++◌, length, reverse, take, drop, codes, IsTrue}
 use Rattle.std.specs.List.{flat_map, list_all}
+use Rattle.desk_text.specs.declared.limits.TheConstants.{DEEPEST}
 use Rattle.desk_text.specs.Lines.{value_lines, written}
 use Rattle.desk_text.specs.BlockGrammar.{is_name, is_tag, is_first, is_further, opening, closing, field_line}
 use Rattle.desk_text.specs.Fields.{Found}
@@ -44,7 +45,7 @@ is_value value = are_lines (value_lines value)
 -- Within open names, the innermost first, these parts are right, and close all that is open.
 abbrev pub AreParts : List (List ℕ) → List Part → Type 0
 AreParts within [] = within ≡ []
-AreParts within (open_part name ∷ parts) = IsTrue (is_name name) × (length within < 16) × AreParts (name ∷ within) parts
+AreParts within (open_part name ∷ parts) = IsTrue (is_name name) × (length within < DEEPEST) × AreParts (name ∷ within) parts
 AreParts within (field_part tag value ∷ parts) = IsTrue (is_tag tag) × IsTrue (is_value value) × AreParts within parts
 AreParts [] (close_part name ∷ parts) = ⊥
 AreParts (top ∷ within) (close_part name ∷ parts) = (name ≡ top) × AreParts within parts

@@ -17,7 +17,7 @@ pub enum TextFault {
     /// A closing that doesn't fit, a seventeenth opening, or `-}` with a sequence open.
     #[error("line {0} is nested wrongly")]
     BadNesting(usize),
-    /// More than 65,536 bytes.
+    /// More than `LONGEST_TEXT` bytes.
     #[error("too long")]
     TooLong,
     /// A growth was refused.

@@ -1,6 +1,8 @@
 //! Laws above the definitions. Each function has an empty body: its contract is the law.
 ghost use Rattle.std.specs.Prelude.{◌≡◌, ◌≢◌, ◌≤◌, ◌++◌, ◌∷◌, [], List, ℕ, All, IsTrue, Contains, codes, ◌⊎◌, length};
 ghost use Rattle.std.specs.List.{flat_map};
+ghost use Rattle.std.specs.Str.{byte};
+ghost use Rattle.desk_text.specs.declared.limits.TheConstants.{LONGEST_TEXT};
 ghost use Rattle.desk_text.specs.declared.faults.TextFault.{TextFault};
 ghost use Rattle.desk_text.specs.Lines.{lines_of, value_lines, written};
 ghost use Rattle.desk_text.specs.BlockGrammar.{Items, IsTree, is_first, is_further};
@@ -10,9 +12,9 @@ ghost use Rattle.desk_text.specs.Written.{Part, Draft, AreParts, after, lines_of
 
 /// A line may end with LF or with CR LF, and the last with nothing.
 pub fn line_ends()
-    ensures feed { (line rest : List ℕ) → All (λ c. c ≢ 10) line → All (λ c. c ≢ 13) line → lines_of (line ++ 10 ∷ rest) ≡ line ∷ lines_of rest }
-    ensures returns { (line rest : List ℕ) → All (λ c. c ≢ 10) line → lines_of (line ++ 13 ∷ 10 ∷ rest) ≡ line ∷ lines_of rest }
-    ensures last { (line : List ℕ) → line ≢ [] → All (λ c. c ≢ 10) line → lines_of line ≡ line ∷ [] }
+    ensures feed { (line rest : List ℕ) → All (λ c. c ≢ byte "\n") line → All (λ c. c ≢ byte "\r") line → lines_of (line ++ byte "\n" ∷ rest) ≡ line ∷ lines_of rest }
+    ensures returns { (line rest : List ℕ) → All (λ c. c ≢ byte "\n") line → lines_of (line ++ (codes "\r\n" ++ rest)) ≡ line ∷ lines_of rest }
+    ensures last { (line : List ℕ) → line ≢ [] → All (λ c. c ≢ byte "\n") line → lines_of line ≡ line ∷ [] }
 {}
 
 /// A block has one tree, and so one list of fields.
@@ -31,11 +33,11 @@ pub fn right_lines()
     ensures only { (lines names : List (List ℕ)) (line : List ℕ) → AreOpen lines names → Begins (lines ++ line ∷ []) → IsRight names line ⊎ IsTrue (is_further line) }
 {}
 
-/// A text that is no block has exactly one fault, and a block of at most 65,536 bytes has none.
+/// A text that is no block has exactly one fault, and a block of at most `LONGEST_TEXT` bytes has none.
 pub fn one_fault()
     ensures some { (text : List ℕ) → ((found : List Found) → IsBlock text found → ⊥) → (fault : TextFault) × IsFault text fault }
     ensures only { (text : List ℕ) (a b : TextFault) → IsFault text a → IsFault text b → a ≡ b }
-    ensures none { (text : List ℕ) (found : List Found) (fault : TextFault) → length text ≤ 65536 → IsBlock text found → IsFault text fault → ⊥ }
+    ensures none { (text : List ℕ) (found : List Found) (fault : TextFault) → length text ≤ LONGEST_TEXT → IsBlock text found → IsFault text fault → ⊥ }
 {}
 
 /// A writer that holds the lines of parts holds, after one part more, the lines of these parts with it.

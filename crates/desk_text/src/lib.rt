@@ -1,6 +1,6 @@
 //! Block 4 of ISO 15022 texts: bytes from strangers become fields or the first fault, and fields become bytes.
 //!
-//! `read_block` gives the fields of a text exactly where it is a block of at most 65,536 bytes, and else the one
+//! `read_block` gives the fields of a text exactly where it is a block of at most `LONGEST_TEXT` bytes, and else the one
 //! fault that the text has, with its line. `BlockWriter` writes the one canonical text of the parts it is given, as
 //! `write_block` does of a list of them, and `reads_back` says that this text is a block of just these fields.
 //!
@@ -11,6 +11,7 @@
 mod faults;
 mod fields;
 mod laws;
+mod limits;
 mod lines;
 mod parts;
 mod reading;
@@ -20,8 +21,9 @@ mod writing;
 pub use faults::TextFault;
 pub use fields::{Block, Field};
 pub use laws::{line_ends, one_fault, one_line, one_tree, parts_add_up, reads_back, right_lines};
+pub use limits::{DEEPEST, LONGEST_NAME, LONGEST_TEXT};
 pub use lines::{Line, read_line};
 pub use parts::{BlockPart, write_block};
-pub use reading::{DEEPEST, LONGEST_TEXT, read_block};
-pub use spelling::{LONGEST_NAME, is_name, is_tag, is_value};
+pub use reading::read_block;
+pub use spelling::{is_name, is_tag, is_value};
 pub use writing::BlockWriter;

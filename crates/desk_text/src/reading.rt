@@ -7,14 +7,9 @@ ghost use Rattle.desk_text.specs.Steps.{Takes, After, Gives};
 
 use crate::faults::TextFault;
 use crate::fields::{Block, Field};
+use crate::limits::{DEEPEST, LONGEST_TEXT};
 use crate::lines::{Line, next_line, read_line};
 use std::alloc::{AllocError, Global};
-
-/// The most bytes of a block that is read.
-pub const LONGEST_TEXT: usize = 65_536;
-
-/// The most sequences that may be open.
-pub const DEEPEST: usize = 16;
 
 /// What was read so far, before `-}`.
 #[derive(Drop)]
@@ -108,7 +103,7 @@ fn only_line_ends(text: &[u8], number: usize) -> Result<(), TextFault>
 
 /// Reads the lines after the first.
 fn read_items<'a>(alloc: Global, text: &'a [u8]) -> Result<Block<'a>, TextFault>
-    requires { length text.now ≤ 65536 }
+    requires { length text.now ≤ LONGEST_TEXT }
     ensures { Gives result (read_from (map sign_of (lines_of text.now)) [] false 2) }
 {
     let mut reader = Reader {
@@ -151,7 +146,7 @@ fn scan<'a>(alloc: Global, text: &'a [u8]) -> Result<Block<'a>, TextFault>
 /// Lines are counted from 1. NotBlock: the first line isn't `{4:`, or the text ends before its `-}`, with no wrong
 /// line. BadLine: a byte outside 0x20 to 0x7E, a CR not before LF, or a line that is right under no open sequences, as
 /// anything after `-}`. BadNesting: a closing that doesn't fit, a seventeenth open sequence, `-}` with a sequence open.
-/// TooLong: more than 65,536 bytes; this goes before all others. Memory: a growth was refused; a text that is too long, or
+/// TooLong: more than `LONGEST_TEXT` bytes; this goes before all others. Memory: a growth was refused; a text that is too long, or
 /// whose first line isn't `{4:`, is told without one.
 pub fn read_block<'a>(alloc: Global, text: &'a [u8]) -> Result<Block<'a>, TextFault>
     ensures { Reads text.now result }

@@ -1,12 +1,12 @@
 //! What names, tags and values are made of.
 ghost use Rattle.std.specs.Prelude.{◌≡◌, ◌≢◌, ◌∷◌, ◌++◌, ◌||◌, All, IfSome, IfNone};
 ghost use Rattle.std.specs.List.{list_all};
+ghost use Rattle.std.specs.Str.{byte};
 ghost use Rattle.desk_text.specs.Lines.{value_lines};
 ghost use Rattle.desk_text.specs.BlockGrammar.{is_capital, is_digit, is_name as spells_name, is_any_tag, is_tag as spells_tag, is_first, is_further};
 ghost use Rattle.desk_text.specs.Written.{is_value as spells_value};
 
-/// The longest name of a sequence.
-pub const LONGEST_NAME: usize = 16;
+use crate::limits::LONGEST_NAME;
 
 fn are_name_characters(name: &[u8]) -> bool
     ensures { result ≡ list_all (λ c. is_capital c || is_digit c) name.now }
@@ -15,7 +15,7 @@ fn are_name_characters(name: &[u8]) -> bool
         .all(|c| c.is_ascii_uppercase() || c.is_ascii_digit())
 }
 
-/// Whether a sequence may have this name: 1 to 16 characters A to Z or 0 to 9.
+/// Whether a sequence may have this name: 1 to `LONGEST_NAME` characters A to Z or 0 to 9.
 pub fn is_name(name: &[u8]) -> bool
     ensures { result ≡ spells_name name.now }
 {
@@ -66,8 +66,8 @@ pub fn is_further_line(line: &[u8]) -> bool
 
 /// What stands before the first line feed, and after it.
 pub fn split_feed(text: &[u8]) -> Option<(&[u8], &[u8])>
-    ensures found { IfSome result (λ parts. (text.now ≡ parts.0.now ++ 10 ∷ parts.1.now) × All (λ c. c ≢ 10) parts.0.now) }
-    ensures none { IfNone result (All (λ c. c ≢ 10) text.now) }
+    ensures found { IfSome result (λ parts. (text.now ≡ parts.0.now ++ byte "\n" ∷ parts.1.now) × All (λ c. c ≢ byte "\n") parts.0.now) }
+    ensures none { IfNone result (All (λ c. c ≢ byte "\n") text.now) }
 {
     for (index, c) in text.iter().enumerate() {
         if *c == b'\n' {

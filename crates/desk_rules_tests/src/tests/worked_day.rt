@@ -16,7 +16,7 @@ ghost use Rattle.desk_rules.specs.declared.entry.RunRule.TheVariants.{OnePass, P
 ghost use Rattle.desk_rules.specs.declared.verdict.Verdict.TheVariants.{Accept, Repeat, Refuse};
 ghost use Rattle.desk_rules.specs.declared.verdict.Refusal.TheVariants as refusals;
 ghost use Rattle.desk_rules.specs.Verdict.{IsVerdict};
-ghost use Rattle.desk_rules.specs.Reply.{advice_reply, plain_reply, refused_reply, reply_to};
+ghost use Rattle.desk_rules.specs.Reply.{advice_reply, untyped_reply, refused_reply, reply_to};
 ghost use Rattle.desk_rules.specs.Sent.{sent_of};
 ghost use Rattle.desk_rules.specs.Confirmations.{brought, cash_brought, cash_taken, taken};
 ghost use Rattle.desk_rules.specs.Pairing.{mate_of};
@@ -27,15 +27,15 @@ ghost use Rattle.desk_rules_tests.specs.WorkedDay.{a_1, alpha, at_asked, at_aske
 fn replies()
     ensures delivery { reply_to at_delivery (entries.Instruct alpha delivery) ≡ advice_reply 200 (advice (owns.Answer 8) Mt543 (codes "A1") cases.Unmatched) }
     ensures receipt { reply_to at_receipt (entries.Instruct beta receipt) ≡ advice_reply 200 (advice (owns.Answer 9) Mt541 (codes "B1") (cases.Matched reasons.Future)) }
-    ensures run { reply_to at_run (entries.Run (codes "R1") leap_day Passes) ≡ plain_reply 200 (codes "accepted 10 settled 1 waiting 0") }
-    ensures short_run { reply_to at_short_run (entries.Run (codes "R1") leap_day Passes) ≡ plain_reply 200 (codes "accepted 10 settled 0 waiting 1") }
+    ensures run { reply_to at_run (entries.Run (codes "R1") leap_day Passes) ≡ untyped_reply 200 (codes "accepted 10 settled 1 waiting 0") }
+    ensures short_run { reply_to at_short_run (entries.Run (codes "R1") leap_day Passes) ≡ untyped_reply 200 (codes "accepted 10 settled 0 waiting 1") }
     ensures cancel { reply_to at_cancel (entries.Cancel alpha (cancel (codes "X1") (codes "A1"))) ≡ advice_reply 200 (advice (owns.Answer 9) Mt543 (codes "X1") cases.CancelDone) }
     ensures asked { reply_to at_asked (entries.Cancel alpha (cancel (codes "X1") (codes "A1"))) ≡ advice_reply 200 (advice (owns.Answer 10) Mt543 (codes "X1") cases.CancelWaits) }
     ensures both_asked { reply_to at_both_asked (entries.Cancel beta (cancel_receipt (codes "X2"))) ≡ advice_reply 200 (advice (owns.Answer 11) Mt541 (codes "X2") cases.CancelDone) }
-    ensures asked_run { reply_to at_asked_run (entries.Run (codes "R1") leap_day Passes) ≡ plain_reply 200 (codes "accepted 11 settled 1 waiting 0") }
-    ensures cancelled_run { reply_to at_cancelled_run (entries.Run (codes "R1") leap_day Passes) ≡ plain_reply 200 (codes "accepted 12 settled 0 waiting 0") }
+    ensures asked_run { reply_to at_asked_run (entries.Run (codes "R1") leap_day Passes) ≡ untyped_reply 200 (codes "accepted 11 settled 1 waiting 0") }
+    ensures cancelled_run { reply_to at_cancelled_run (entries.Run (codes "R1") leap_day Passes) ≡ untyped_reply 200 (codes "accepted 12 settled 0 waiting 0") }
     ensures reused { refused_reply at_run (entries.Instruct alpha larger) 11 ≡ advice_reply 422 (advice (owns.Answer 10) Mt543 (codes "A1") (cases.NewRefused 11)) }
-    ensures full { refused_reply at_run (entries.Participant (codes "P3") gamma) 21 ≡ plain_reply 422 (codes "refused 21") }
+    ensures full { refused_reply at_run (entries.Participant (codes "P3") gamma) 21 ≡ untyped_reply 422 (codes "refused 21") }
 {}
 
 /// What was sent by the end of the day, and how the questions about it are answered.
@@ -57,12 +57,12 @@ fn messages()
     ensures first_done { status_reply at_both_asked alpha (codes "X1") ≡ advice_reply 200 (advice (owns.Answer 11) Mt543 (codes "X1") cases.CancelDone) }
     ensures too_late { status_reply at_asked_run alpha (codes "X1") ≡ advice_reply 200 (advice (owns.Answer 11) Mt543 (codes "X1") (cases.CancelRefused 19)) }
     ensures cancels_send_nothing { sent_of at_cancelled_run ≡ sent_of at_receipt }
-    ensures none_such { status_reply at_run alpha (codes "B1") ≡ plain_reply 422 (codes "refused 17") }
-    ensures stranger { status_reply at_run gamma (codes "A1") ≡ plain_reply 422 (codes "refused 10") }
+    ensures none_such { status_reply at_run alpha (codes "B1") ≡ untyped_reply 422 (codes "refused 17") }
+    ensures stranger { status_reply at_run gamma (codes "A1") ≡ untyped_reply 422 (codes "refused 10") }
     ensures second { sent_reply at_run alpha 2 ≡ record { status = 200; mt = Some 547; text = confirmation 2 delivery leap_day } }
     ensures first_of_beta { sent_reply at_run beta 1 ≡ record { status = 200; mt = Some 545; text = confirmation 3 receipt leap_day } }
-    ensures past { sent_reply at_run alpha 3 ≡ plain_reply 422 (codes "refused 42") }
-    ensures nought { sent_reply at_run alpha 0 ≡ plain_reply 422 (codes "refused 42") }
+    ensures past { sent_reply at_run alpha 3 ≡ untyped_reply 422 (codes "refused 42") }
+    ensures nought { sent_reply at_run alpha 0 ≡ untyped_reply 422 (codes "refused 42") }
     ensures mates { (mate_of at_run.pairs 8 ≡ Some 9) × (mate_of at_run.pairs 9 ≡ Some 8) × (mate_of at_run.pairs 7 ≡ None) }
 {}
 

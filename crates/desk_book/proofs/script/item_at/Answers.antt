@@ -1,12 +1,12 @@
 -- A line without a body, one with its body, and one whose body is cut off.
 use Rattle.std.proofs.Common.{sym}
 use Rattle.desk_book.specs.Script.{item_of}
-use Rattle.desk_book.proofs.ScriptLemmas.{plain_begins, posted_begins, cut_begins}
+use Rattle.desk_book.proofs.ScriptLemmas.{bodiless_begins, posted_begins, cut_begins}
 use Rattle.desk_book.proofs.script.item_at.Goals as goal
 
 pub returns-then-not-has_body-clause-first : goal.returns-then-not-has_body-clause-first
 returns-then-not-has_body-clause-first c =
-    plain_begins c.args.line.now c.args.after.now c.content-said.result.now (item_of c.plain.result) c.content-said.ensures c.requires (sym c.if-not-has_body.ensures) c.plain.ensures
+    bodiless_begins c.args.line.now c.args.after.now c.content-said.result.now (item_of c.bodiless.result) c.content-said.ensures c.requires (sym c.if-not-has_body.ensures) c.bodiless.ensures
 
 pub returns-in-Some-clause-first : goal.returns-in-Some-clause-first
 returns-in-Some-clause-first c =

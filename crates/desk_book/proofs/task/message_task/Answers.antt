@@ -1,5 +1,5 @@
 use Rattle.std.proofs.Common.{refl, inl, ap, ◌∙◌}
-use Rattle.desk_rules.specs.Reply.{plain_reply}
+use Rattle.desk_rules.specs.Reply.{untyped_reply}
 use Rattle.desk_book.proofs.FormedLemmas.{readable}
 use Rattle.desk_book.proofs.task.message_task.Goals as goal
 
@@ -14,5 +14,5 @@ returns-in_ok-line-in-Ok-Cancel-clause-task c =
     inl (
       c.in-Ok-Cancel.field-0-0,
       rw (c.in-Ok-Cancel.is, c.in-Ok-Cancel.field-0-is) at c.read_instruction_text.ensures,
-      c.bad_request.ensures ∙ ap (λ line. plain_reply 400 line) c.in_ok-line-in-Ok-Cancel.ensures.items,
+      c.bad_request.ensures ∙ ap (λ line. untyped_reply 400 line) c.in_ok-line-in-Ok-Cancel.ensures.items,
     )

@@ -1,6 +1,6 @@
 use Rattle.std.proofs.Common.{◌≡◌, refl, ◌∙◌, rules}
 use Rattle.std.specs.Prelude.{Err}
-use Rattle.desk_engine.proofs.AcceptingLemmas.{accepted_still, want_step, instructed_step, number_after, room_of}
+use Rattle.desk_engine.proofs.AcceptingLemmas.{accepted_still, read_fails, want_step, instructed_step, number_after, room_of}
 use Rattle.desk_engine.proofs.applying.apply_instruction.Goals as goal
 
 pub add_instruction-requires-clause-number : goal.add_instruction-requires-clause-number
@@ -47,3 +47,8 @@ returns-in_err-reply-clause-step g c =
     let f = c.in_ok-mate.ensures.read in
     let is : c.from_residual-in_err-reply.result ≡ Err c.in_err-reply.field-0.0 = search rules in
     rw is (want_step c.in_err-reply.field-0.0 (g.R.Register.view c.args.register.now) (g.R.Register.view c.next_number.new.register) (g.R.Register.view c.first_opposite.new.self) c.requires.stage r.ok r.later f.ok f.later c.in_err-reply.ensures.memory)
+
+pub returns-in_err-number-clause-step : goal.returns-in_err-number-clause-step
+returns-in_err-number-clause-step g c =
+    let is : c.from_residual.result ≡ Err c.in_err-number.field-0.0 = search rules in
+    rw is (read_fails c.in_err-number.field-0.0 (g.R.Register.view c.args.register.now) (g.R.Register.view c.next_number.new.register) c.requires.stage c.in_err-number.ensures.read)

@@ -1,7 +1,7 @@
 use Rattle.std.proofs.Common.{◌++◌, ◌<◌, ◌^◌, ap, sym, ◌∙◌, subst, ℕ, Ok, Err, arith}
 use Rattle.desk_codes.specs.Number.{ReadsNumber}
 use Rattle.desk_codes.specs.Currency.{decimals_of}
-use Rattle.desk_msg.proofs.FormLemmas.{plain_fits, amount_excludes, few_decimals}
+use Rattle.desk_msg.proofs.FormLemmas.{written_fits, amount_excludes, few_decimals}
 use Rattle.desk_msg.proofs.value.amount_of.Goals as goal
 
 pub invariant_of-result : goal.invariant_of-result
@@ -10,7 +10,7 @@ invariant_of-result c =
     let small : c.in-Ok.amount < 2 ^ 64 = omega arith in
     record {
       some = c.in-Ok.ensures.2;
-      short = plain_fits c.split_at.result.1.now (decimals_of c.in_ok-ccy.ccy) c.in-Ok.amount small (few_decimals c.in_ok-ccy.ccy) (subst P c.decimals.ensures.value c.in-Ok.ensures);
+      short = written_fits c.split_at.result.1.now (decimals_of c.in_ok-ccy.ccy) c.in-Ok.amount small (few_decimals c.in_ok-ccy.ccy) (subst P c.decimals.ensures.value c.in-Ok.ensures);
     }
 
 pub returns-in-Err : goal.returns-in-Err

@@ -1,4 +1,5 @@
 use Rattle.std.proofs.Common.{◌≡◌, ◌<◌, ◌^◌, IfOk, arith, lit<, subst}
+use Rattle.desk_rules.specs.declared.limits.TheConstants.{MOST_QUANTITY}
 use Rattle.desk_register.specs.Looked.{held_of}
 use Rattle.desk_lists.specs.declared.list_register.ListRegister.{ListRegister}
 use Rattle.desk_samples.specs.Ledger.{content_of}
@@ -18,7 +19,7 @@ pub held-requires : goal.held-requires
 held-requires c = λ honest sure.
     let kept = c.self.invariant.1 in
     let within = held_within _ kept.0 _ c.args.isin kept.1 in
-    let small : 99_999_999_999_999 < 2 ^ 64 = lit< tt in
+    let small : MOST_QUANTITY < 2 ^ 64 = lit< tt in
     omega arith
 
 pub returns-clause-same : goal.returns-clause-same

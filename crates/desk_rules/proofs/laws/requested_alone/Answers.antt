@@ -1,5 +1,5 @@
 use Rattle.desk_rules.proofs.AskedAlone as laws
-use Rattle.desk_rules.proofs.laws.asked_alone.Goals as goal
+use Rattle.desk_rules.proofs.laws.requested_alone.Goals as goal
 
 pub returns-clause-one_side : goal.returns-clause-one_side
 returns-clause-one_side c = laws.one_side

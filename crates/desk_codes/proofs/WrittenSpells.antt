@@ -8,8 +8,8 @@ use Rattle.std.proofs.lemmas.List.Sums.{fold-append}
 use Rattle.std.proofs.lemmas.Nat.{mod_below, div_below}
 use Rattle.std.proofs.Math.Nat.{pow-succ', one-le-pow, div-add-mod, mul-le-mul_left, mul_comm}
 use Rattle.desk_codes.specs.Characters.{IsDigit}
-use Rattle.desk_codes.specs.Number.{Spells, number_of, padded_part}
-use Rattle.desk_codes.specs.Number.{fraction, plain}
+use Rattle.desk_codes.specs.Number.{SpellsNumber, number_of, padded_part}
+use Rattle.desk_codes.specs.Number.{fraction, written_number}
 use Rattle.desk_codes.proofs.NumberLemmas.{number_push}
 use Rattle.desk_codes.proofs.PlainLemmas.{fraction_none}
 use Rattle.std.proofs.Math.Dec.{eqb-suc-zero}
@@ -64,8 +64,8 @@ fraction_short (suc d) zero = omega arith
 fraction_short (suc d) (suc rest) = rw (eqb-suc-zero rest) (let h = fraction_short d (suc rest % 10 ^ d) in omega arith)
 
 -- The written form of a value spells it.
-pub plain_spells : (value d : ℕ) → value < 2 ^ 64 → d ≤ 3 → Spells (plain value d) value d
-plain_spells value d fits few =
+pub written_spells : (value d : ℕ) → value < 2 ^ 64 → d ≤ 3 → SpellsNumber (written_number value d) value d
+written_spells value d fits few =
     let one = 10 ^ d in
     let some : 0 < 10 ^ d = one-le-pow d 10 (omega arith) in
     let whole = value / 10 ^ d in

@@ -1,0 +1,28 @@
+-- What is known of every reply.
+use Rattle.std.specs.Prelude.{◌≡◌, ◌⊎◌, ℕ, List, Contains}
+use Rattle.desk_msg.specs.declared.refusal.TextRefusal.{TextRefusal}
+use Rattle.desk_msg.specs.Refused.{refusal_line}
+use Rattle.desk_rules.specs.declared.entry.Entry.{Entry}
+use Rattle.desk_rules.specs.declared.reply.Reply.{Reply}
+use Rattle.desk_rules.specs.Books.{Books}
+use Rattle.desk_rules.specs.Reply.{TellsRefusal, untyped_reply}
+use Rattle.desk_book.specs.Asked.{Asked}
+use Rattle.desk_book.specs.Task.{IsTask, no_command, unknown_form}
+use Rattle.desk_book.specs.declared.task.Task.TheVariants.{Decide}
+use Rattle.desk_book.specs.declared.total.SecurityTotal.{SecurityTotal}
+
+-- What was asked could not be read: it has none of the desk's forms, it spells no command, or it is a text that is
+-- refused, by a number of the texts' own.
+abbrev pub TellsUnread : Reply → Type 0
+TellsUnread reply = (reply ≡ unknown_form) ⊎ (reply ≡ no_command) ⊎ ((refusal : TextRefusal) × (reply ≡ untyped_reply 400 (refusal_line refusal)))
+
+-- A reply by its status: 200; or 422, where an entry is refused with a number of the catalogue; or 400, where what was
+-- asked could not be read.
+pub data IsKnown (books : Books) (asked : Asked) (reply : Reply) : Type 0 where
+  done : reply.status ≡ 200 → IsKnown books asked reply
+  refused : (entry : Entry) → IsTask asked (Decide entry) → reply.status ≡ 422 → TellsRefusal books entry reply → IsKnown books asked reply
+  unread : reply.status ≡ 400 → TellsUnread reply → IsKnown books asked reply
+
+-- of each security the accounts hold just what is outstanding
+pub record Agree (totals : List SecurityTotal) : Type 0 where
+  pub each : (total : SecurityTotal) → Contains totals total → total.held ≡ total.outstanding

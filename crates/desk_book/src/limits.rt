@@ -1,0 +1,7 @@
+//! The limits of scripts, each said once. A message's text, and a command's, has `desk_text::LONGEST_TEXT` bytes at most.
+
+/// The most bytes of a script.
+pub const LONGEST_SCRIPT: usize = 16_777_216;
+
+/// The most bytes of a line outside bodies.
+pub const LONGEST_LINE: usize = 1024;
