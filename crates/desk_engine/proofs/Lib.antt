@@ -2,7 +2,7 @@ pub mod AcceptingLemmas
 pub mod HeldLemmas
 pub mod KeptLemmas
 pub mod TablesLemmas
-pub mod UnderwayLemmas
+mod UnderwayLemmas
 mod DecisionLemmas
 mod FinishLemmas
 mod InstructLemmas
@@ -12,6 +12,6 @@ mod PassLemmas
 mod PassSteps
 mod PassWhole
 mod ReplyLemmas
-mod RunningLemmas
+pub mod RunningLemmas
 mod StepLemmas
 mod WaitingLemmas

@@ -19,11 +19,13 @@ use Rattle.desk_register.specs.declared.found.Outcome.TheVariants as outcomes
 use Rattle.desk_register.specs.declared.found.Outcome.TheVariants.{Lacks}
 use Rattle.desk_rules.specs.declared.pair.Lack.TheVariants.{Securities, Money as LacksMoney}
 use Rattle.desk_register.specs.Looked.{IsDuePairAfter}
+use Rattle.desk_engine.specs.Applied.{Keeps}
 use Rattle.desk_engine.specs.Tables.{Tables}
 use Rattle.desk_engine.specs.Pass.{AreSupported, CanPass, CanRun, IsAtPass, IsTaken, PassEnds, RanTo, settled_of}
 use Rattle.desk_engine.proofs.TablesLemmas.{length_is}
 use Rattle.desk_register.proofs.ViewLemmas.{later_then, stays_then}
 use Rattle.desk_engine.proofs.FinishLemmas.{pass_begins}
+use Rattle.desk_engine.proofs.KeepsLemmas.{tables_of}
 use Rattle.desk_engine.proofs.UnderwayLemmas.{Underway, starts, can_settle, goes_on, ends_none, ends_all, Ran, goes_again, run_over, enough, settled_few, first_over, again_over}
 
 -- to try a pair changes no entry and no reply
@@ -125,6 +127,12 @@ at_first room books reference day rule content tables supported = record {
   supported = supported;
   underway = pass_begins room books reference day rule content tables;
 }
+
+-- The first due pair can be tried where the tables of books are kept, whatever run may come.
+pub kept_can_settle : (limit : ℕ) (books : Books) (content : Content) (day : List ℕ) (next : Place) → Keeps limit books content → IsDuePairAfter content (number_of day) None (Some next) → CanSettle content next.number
+kept_can_settle limit books content day next keeps due =
+    let at = at_first limit books [] day OnePass content (tables_of limit books content keeps) keeps.supported in
+    can_settle limit books [] day OnePass 1 books.settled None 0 0 0 content at.are_books at.accepted at.supported (starts books [] day OnePass 1 books.settled content at.are_books at.underway) next due
 
 pub can_begin : (room : ℕ) (v0 v : View) (day : List ℕ) (rule : RunRule) → v.room ≡ v0.room → room ≡ v0.room → v.content ≡ v0.content → CanRun room v0.content → CanPass v.room day v.content
 can_begin room v0 v day rule same here content can =

@@ -1,8 +1,8 @@
-use Rattle.std.proofs.Common.{[], None, sym, subst}
+use Rattle.std.proofs.Common.{sym, subst}
 use Rattle.desk_rules.specs.Content.{Content}
 use Rattle.desk_register.specs.Changes.{CanSettle}
 use Rattle.desk_engine.proofs.KeptLemmas.{kept_in}
-use Rattle.desk_engine.proofs.UnderwayLemmas.{begins, can_settle}
+use Rattle.desk_engine.proofs.RunningLemmas.{kept_can_settle}
 use Rattle.desk_lists_tests.proofs.tests.calls.try_first.Goals as goal
 
 pub settle_pair-requires-clause-fits : goal.settle_pair-requires-clause-fits
@@ -13,4 +13,4 @@ settle_pair-requires-clause-fits c = λ honest sure.
     let keeps = kept_in _ _ kept.0 _ _ b.later.room (b.ok.content tt tt) kept.1 in
     let P : Content → Type 0 = λ content. CanSettle content c.in-Some.place.number in
     subst P (sym (d.read.same tt tt))
-    (can_settle _ kept.0 [] c.args.day None 0 0 0 _ _ keeps.tables keeps.supported (begins _ kept.0 [] c.args.day _ keeps.tables) c.in-Some.place (rw c.in-Some.is at (d.value tt tt)))
+    (kept_can_settle _ kept.0 _ c.args.day c.in-Some.place keeps (rw c.in-Some.is at (d.value tt tt)))
