@@ -23,16 +23,19 @@ fn show_entries(alloc: Global, ledger: &mut Ledger, text: &mut String) -> Result
     let count = ledger.count(alloc)?;
     writeln!(text, "entries {count}")?;
     for index in 0..count {
-        let Some(found) = ledger.by_number(alloc, index + 1)? else {
+        let number = index + 1;
+        let Some(entry) = ledger.entry(alloc, number)? else {
             writeln!(text, "no entry")?;
             continue;
         };
-        let number = found.number;
-        let entry = found.entry;
-        let standing = found.standing;
-        let status = found.reply.status;
-        let mt = found.reply.mt;
-        let reply = str::from_utf8(found.reply.text.as_bytes()).unwrap_or("no text");
+        let standing = ledger.standing(alloc, number)?;
+        let Some(kept) = ledger.reply(alloc, number)? else {
+            writeln!(text, "no reply")?;
+            continue;
+        };
+        let status = kept.status;
+        let mt = kept.mt;
+        let reply = str::from_utf8(kept.text.as_bytes()).unwrap_or("no text");
         writeln!(text, "{number} {entry:?} {standing:?}")?;
         writeln!(text, "{number} {status} {mt:?} {reply:?}")?;
     }

@@ -15,10 +15,9 @@ use Rattle.desk_rules.specs.Books.{Books}
 use Rattle.desk_rules.specs.Verdict.{AsksTheSame, Check, IsVerdict, IsVerdictAt, checks_of, first_failing, is_from_stranger}
 use Rattle.desk_rules.specs.Facts.{kind_of}
 use Rattle.desk_rules.proofs.HistoryLemmas.{entry_at-known, slice_get-some}
-use Rattle.desk_register.specs.declared.found.Found.{Found}
 use Rattle.desk_engine.specs.Applied.{Keeps}
 use Rattle.desk_rules.specs.Content.{Content}
-use Rattle.desk_register.specs.Looked.{Finding, found_at, held_of, view_of}
+use Rattle.desk_register.specs.Looked.{held_of, reply_at}
 use Rattle.desk_register.specs.declared.register.Stage.{Stage}
 use Rattle.desk_register.specs.declared.register.Stage.TheVariants.{Idle, Failed}
 use Rattle.desk_register.specs.View.{View}
@@ -51,26 +50,20 @@ count_shown v0 books count limit shown keeps is_count is_limit least =
 
 -- The first reply of an entry.
 
-pub found_reply : (limit : ℕ) (books : Books) (content : Content) (n : ℕ) (found : Found) → Keeps limit books content → Some (view_of found) ≡ found_at content n → IsFirstReply books.history n found.reply
-found_reply limit books content zero found keeps is = absurd (cc)
-found_reply limit books content (suc m) found keeps is = at (slice_get content.register m) refl
+pub kept_reply : (limit : ℕ) (books : Books) (content : Content) (n : ℕ) (reply : Reply) → Keeps limit books content → Some reply ≡ reply_at content n → IsFirstReply books.history n reply
+kept_reply limit books content zero reply keeps is = absurd (cc)
+kept_reply limit books content (suc m) reply keeps is = at (slice_get content.register m) refl
   where
-    shown : Kept → Finding
-    shown kept = record { number = suc m; entry = kept.entry; reply = kept.reply; standing = content.standing (suc m) }
-
-    at : (o : Option Kept) → slice_get content.register m ≡ o → IsFirstReply books.history (suc m) found.reply
-    at None none = absurd (let there : found_at content (suc m) ≡ None = rw none refl in let clash : Some (view_of found) ≡ None = is ∙ there in cc)
+    at : (o : Option Kept) → slice_get content.register m ≡ o → IsFirstReply books.history (suc m) reply
+    at None none = absurd (let there : reply_at content (suc m) ≡ None = rw none refl in let clash : Some reply ≡ None = is ∙ there in cc)
     at (Some kept) some =
-        let there : found_at content (suc m) ≡ Some (record { number = suc m; entry = kept.entry; reply = kept.reply; standing = content.standing (suc m) }) = rw some refl in
-        let both : Some (view_of found) ≡ Some (record { number = suc m; entry = kept.entry; reply = kept.reply; standing = content.standing (suc m) }) = is ∙ there in
-        let same : found.reply ≡ kept.reply = reply_of both in
+        let there : reply_at content (suc m) ≡ Some kept.reply = rw some refl in
+        let both : Some reply ≡ Some kept.reply = is ∙ there in
+        let same : reply ≡ kept.reply = cc in
         let P : Reply → Type 0 = λ r. IsFirstReply books.history (suc m) r in
         let first : IsFirstReply books.history (m + 1) kept.reply = keeps.tables.replies.each m kept some in
         let Q : ℕ → Type 0 = λ k. IsFirstReply books.history k kept.reply in
         subst P (sym same) (subst Q (omega arith) first)
-      where
-        reply_of : {a b : Finding} → Some a ≡ Some b → a.reply ≡ b.reply
-        reply_of {a} {b} e = let x : a ≡ b = cc in ap (λ (f : Finding). f.reply) x
 
 none_some : {A : Type 0} (x : A) → None ≡ Some x → ⊥
 none_some x e = cc
@@ -80,18 +73,18 @@ pub asked_there : (o : Option Entry) (e : Entry) → option_map as_asked o ≡ S
 asked_there None e same = absurd (none_some (as_asked e) same)
 asked_there (Some x) e same = (x, refl)
 
-entry_found : (limit : ℕ) (books : Books) (content : Content) (n : ℕ) (e : Entry) → Keeps limit books content → entry_at books.history n ≡ Some e → None ≡ found_at content n → ⊥
-entry_found limit books content zero e keeps at is = absurd (let known = entry_at-known books.history 0 e at in let lt : 0 < 0 = known.0 in omega arith)
-entry_found limit books content (suc m) e keeps at is =
+entry_kept : (limit : ℕ) (books : Books) (content : Content) (n : ℕ) (e : Entry) → Keeps limit books content → entry_at books.history n ≡ Some e → None ≡ reply_at content n → ⊥
+entry_kept limit books content zero e keeps at is = absurd (let known = entry_at-known books.history 0 e at in let lt : 0 < 0 = known.0 in omega arith)
+entry_kept limit books content (suc m) e keeps at is =
     let known = entry_at-known books.history (suc m) e at in
     let le : suc m ≤ length books.history = known.1 in
     let size = length_is content books.history keeps.tables.history in
     let some = slice_get-some content.register m (omega arith) in
-    let there : found_at content (suc m) ≡ Some (record { number = suc m; entry = some.0.entry; reply = some.0.reply; standing = content.standing (suc m) }) = rw some.1 refl in
+    let there : reply_at content (suc m) ≡ Some some.0.reply = rw some.1 refl in
     absurd (none_some _ (is ∙ there))
 
-pub found_known : (limit : ℕ) (books : Books) (content : Content) (n : ℕ) (e : Entry) → Keeps limit books content → AsksTheSame books.history n e → None ≡ found_at content n → ⊥
-found_known limit books content n e keeps same is = let there = asked_there (entry_at books.history n) e same in entry_found limit books content n there.0 keeps there.1 is
+pub reply_known : (limit : ℕ) (books : Books) (content : Content) (n : ℕ) (e : Entry) → Keeps limit books content → AsksTheSame books.history n e → None ≡ reply_at content n → ⊥
+reply_known limit books content n e keeps same is = let there = asked_there (entry_at books.history n) e same in entry_kept limit books content n there.0 keeps there.1 is
 
 -- A repeat asks for the same as the entry that it names.
 

@@ -102,8 +102,8 @@ fn repeat<R: Register>(
     ensures ends { Ends result (R.view register.old) (R.view register.new) }
     ensures plain { R.plain ≡ true → says_closed result ≡ false }
 {
-    match register.by_number(alloc, number) {
-        Ok(Some(found)) => Ok(found.reply),
+    match register.reply(alloc, number) {
+        Ok(Some(reply)) => Ok(reply),
         // only a store that does not hold what was written answers so
         Ok(None) => refuse(alloc, register, entry, Refusal::ReferenceReused),
         Err(fault) => Err(recovered(alloc, register, fault)),

@@ -7,7 +7,6 @@ mod DecisionLemmas
 mod FinishLemmas
 mod InstructLemmas
 mod KeepsLemmas
-mod KeyLemmas
 mod PassLemmas
 mod PassSteps
 mod PassWhole

@@ -14,9 +14,9 @@ use Rattle.desk_register.specs.View.{View, IsLater, Stays}
 use Rattle.desk_rules.specs.Books.{Books}
 use Rattle.desk_rules.specs.Content.{Content}
 use Rattle.desk_register.specs.Changes.{CanSettle, TriesPair}
-use Rattle.desk_register.specs.declared.found.Outcome.{Outcome}
-use Rattle.desk_register.specs.declared.found.Outcome.TheVariants as outcomes
-use Rattle.desk_register.specs.declared.found.Outcome.TheVariants.{Lacks}
+use Rattle.desk_register.specs.declared.outcome.Outcome.{Outcome}
+use Rattle.desk_register.specs.declared.outcome.Outcome.TheVariants as outcomes
+use Rattle.desk_register.specs.declared.outcome.Outcome.TheVariants.{Lacks}
 use Rattle.desk_rules.specs.declared.pair.Lack.TheVariants.{Securities, Money as LacksMoney}
 use Rattle.desk_register.specs.Looked.{IsDuePairAfter}
 use Rattle.desk_engine.specs.Applied.{Keeps}

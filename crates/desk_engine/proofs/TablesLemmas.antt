@@ -3,7 +3,7 @@ use Rattle.std.proofs.Common.{◌≡◌, ◌⊎◌, inl, inr, ℕ, ◌+◌, ◌<
 use Rattle.std.specs.Prelude.{nat_lt, is_none}
 use Rattle.std.specs.List.{list_any}
 use Rattle.std.proofs.lemmas.Bool.{cases_lt, cases_eq}
-use Rattle.std.proofs.lemmas.List.{map-append, drop-append-le}
+use Rattle.std.proofs.lemmas.List.{length-map, map-append, drop-append-le}
 use Rattle.std.proofs.lemmas.List.Folds.{list_any-append}
 use Rattle.desk_rules.specs.declared.entry.Entry.{Entry}
 use Rattle.desk_rules.specs.declared.entry.Entry.TheVariants.{Participant, Account, Security, Issue, Redeem, PayIn, PayOut, Instruct, Cancel, Run}
@@ -41,7 +41,6 @@ use Rattle.desk_register.specs.declared.register.Fault.{Fault}
 use Rattle.desk_rules.specs.declared.entry.Movement.{Movement}
 use Rattle.desk_rules.specs.declared.verdict.Refusal.TheVariants.{AccountUnknown, OverLimit}
 use Rattle.desk_engine.specs.Tables.{IsAccepted}
-use Rattle.desk_engine.proofs.KeyLemmas.{same_length}
 use Rattle.std.proofs.lemmas.Slice.Eq.{bytes_eq-Decides}
 use Rattle.std.proofs.lemmas.List.Sums.{sum_by-cons}
 use Rattle.desk_rules.specs.declared.reply.Kept.{Kept}
@@ -293,7 +292,7 @@ history_more content e reply h is =
     map-append (λ (k : Kept). k.entry) content.register (record { entry = e; reply = reply } ∷ []) ∙ ap (λ z. z ++ e ∷ []) is
 
 pub length_is : (content : Content) (h : List Entry) → history_of content ≡ h → length content.register ≡ length h
-length_is content h is = sym (same_length content.register) ∙ ap length is
+length_is content h is = sym (length-map content.register (λ k. k.entry)) ∙ ap length is
 
 -- what the books have is of numbers that the history has
 pub pairs_known : (h : List Entry) (ps : List Pair) → IsPairing h ps → (p : Pair) → In ps p → IsIn h p

@@ -29,9 +29,9 @@ use Rattle.desk_rules.specs.Stands.{IsReason, IsAlone, IsInPair, IsCancelledSide
 use Rattle.desk_rules.proofs.SettlementGrowth.{IsSettledTo}
 use Rattle.desk_register.specs.Changes.{TriesPair}
 use Rattle.desk_register.specs.Looked.{IsDuePairAfter}
-use Rattle.desk_register.specs.declared.found.Outcome.{Outcome}
-use Rattle.desk_register.specs.declared.found.Outcome.TheVariants as outcomes
-use Rattle.desk_register.specs.declared.found.Outcome.TheVariants.{Lacks}
+use Rattle.desk_register.specs.declared.outcome.Outcome.{Outcome}
+use Rattle.desk_register.specs.declared.outcome.Outcome.TheVariants as outcomes
+use Rattle.desk_register.specs.declared.outcome.Outcome.TheVariants.{Lacks}
 use Rattle.desk_engine.specs.declared.settlement_run.Taken.{Taken}
 use Rattle.desk_engine.specs.Decision.{is_supported}
 use Rattle.desk_engine.specs.Tables.{Tables}

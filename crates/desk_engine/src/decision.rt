@@ -1,7 +1,7 @@
 //! What the desk decides on an entry, whatever register it keeps.
-ghost use Rattle.std.specs.Prelude.{◌≡◌, nat_le, length, IfOk, IsTrue};
+ghost use Rattle.std.specs.Prelude.{◌≡◌, ◌↔◌, nat_le, length, option_map, IfOk, IsTrue, Some};
 ghost use Rattle.desk_register.specs.View.{IsRead};
-ghost use Rattle.desk_rules.specs.History.{sender_of};
+ghost use Rattle.desk_rules.specs.History.{as_asked, sender_of};
 ghost use Rattle.desk_engine.specs.Decision.{is_supported, IsVerdictIfKnown, Reading, with_history};
 ghost use Rattle.desk_rules.specs.Books.{Books};
 ghost use Rattle.desk_rules.specs.Verdict.{checks_of, first_failing, is_from_stranger, IsVerdict, reused_by};
@@ -39,6 +39,16 @@ fn reused_by(entry: &Entry) -> Refusal
     }
 }
 
+/// Whether what was found, if anything, asks for the same as an entry.
+fn asks_the_same(found: &Option<Entry>, entry: &Entry) -> bool
+    ensures { IsTrue result ↔ (option_map as_asked found.now ≡ Some (as_asked entry.now)) }
+{
+    match found {
+        Some(found) => same_entry(found, entry),
+        None => false,
+    }
+}
+
 /// The verdict on an entry whose key is known: a repeat, or its reference was used for something else.
 fn verdict_on_key<R: Register>(
     alloc: Global,
@@ -50,16 +60,14 @@ fn verdict_on_key<R: Register>(
 {
     let sender = entry.sender();
     let reference = entry.reference();
-    match register.by_reference(alloc, sender, reference)? {
-        None => Ok(None),
-        Some(found) => {
-            if same_entry(&found.entry, entry) {
-                Ok(Some(Verdict::Repeat(found.number)))
-            } else {
-                Ok(Some(Verdict::Refuse(reused_by(entry))))
-            }
-        }
+    let Some(number) = register.number_of(alloc, sender, reference)? else {
+        return Ok(None);
+    };
+    let found = register.entry(alloc, number)?;
+    if asks_the_same(&found, entry) {
+        return Ok(Some(Verdict::Repeat(number)));
     }
+    Ok(Some(Verdict::Refuse(reused_by(entry))))
 }
 
 /// The verdict on an entry whose key is new.

@@ -2,7 +2,7 @@
 use Rattle.std.proofs.Common.{◌≡◌, ℕ, zero, suc, ◌-◌, ◌<◌, ◌≤◌, List, [], ◌∷◌, length, drop, map, get_or, Some, None, refl, arith}
 use Rattle.desk_rules.specs.declared.reply.Kept.{Kept}
 use Rattle.std.specs.Prelude.{slice_get}
-use Rattle.desk_rules.specs.History.{run_day, instructed, instruction_at}
+use Rattle.desk_rules.specs.History.{entry_at, run_day}
 use Rattle.desk_rules.specs.Facts.{last_run}
 
 -- a run behind which there is none is the last
@@ -18,7 +18,7 @@ entry_in [] i d lt = absurd (omega arith)
 entry_in (one ∷ kept) zero d lt = refl
 entry_in (one ∷ kept) (suc i) d lt = entry_in kept i d (omega arith)
 
--- the instruction of a number
-pub instruction_in : (kept : List Kept) (n : ℕ) (d : Kept) → 0 < n → n ≤ length kept → instruction_at (map (λ k. k.entry) kept) n ≡ instructed (get_or kept (n - 1) d).entry
-instruction_in kept zero d some within = absurd (omega arith)
-instruction_in kept (suc n) d some within = let i : suc n - 1 ≡ n = omega arith in rw (i, entry_in kept n d (omega arith)) refl
+-- the entry of a number
+pub entry_of : (kept : List Kept) (n : ℕ) (d : Kept) → 0 < n → n ≤ length kept → entry_at (map (λ k. k.entry) kept) n ≡ Some (get_or kept (n - 1) d).entry
+entry_of kept zero d some within = absurd (omega arith)
+entry_of kept (suc n) d some within = let i : suc n - 1 ≡ n = omega arith in rw i (entry_in kept n d (omega arith))

@@ -1,41 +1,40 @@
 //! Entries found in the lists by their number.
-ghost use Rattle.std.specs.Prelude.{◌≡◌, IfOk, option_map};
-ghost use Rattle.desk_rules.specs.History.{instructed, instruction_at};
+ghost use Rattle.std.specs.Prelude.{◌≡◌, IfOk};
+ghost use Rattle.desk_rules.specs.History.{entry_at, instruction_at};
 ghost use Rattle.desk_rules.specs.Content.{history_of};
 ghost use Rattle.desk_lists.specs.Lists.{content_in, listed, standing_in};
-ghost use Rattle.desk_register.specs.Looked.{found_at, view_of};
+ghost use Rattle.desk_register.specs.Looked.{reply_at};
 
 use crate::lists::Lists;
-use desk_register::Found;
-use desk_rules::{Instructed, Standing, State};
+use desk_rules::{Entry, Instructed, Reply, Standing, State};
 use std::alloc::{AllocError, Global};
 
-/// The entry of a number, with its reply and where it stands.
-pub fn find(lists: &Lists, alloc: Global, number: u64) -> Result<Option<Found>, AllocError>
-    ensures { IfOk result (λ r. option_map view_of r ≡ found_at (content_in (listed lists.now)) number) }
+/// The entry of a number.
+pub fn entry(lists: &Lists, number: u64) -> Option<Entry>
+    ensures { result ≡ entry_at (history_of (content_in (listed lists.now))) number }
+{
+    if number == 0 || number > lists.kept.len() as u64 {
+        return None;
+    }
+    Some(lists.kept[(number - 1) as usize].entry)
+}
+
+/// The reply that is kept with the entry of a number.
+pub fn reply(lists: &Lists, alloc: Global, number: u64) -> Result<Option<Reply>, AllocError>
+    ensures { IfOk result (λ r. r ≡ reply_at (content_in (listed lists.now)) number) }
 {
     if number == 0 || number > lists.kept.len() as u64 {
         return Ok(None);
     }
-    let index = (number - 1) as usize;
-    let kept = &lists.kept[index];
-    let reply = kept.reply.try_clone(alloc)?;
-    Ok(Some(Found {
-        number,
-        entry: kept.entry,
-        reply,
-        standing: lists.standings[index],
-    }))
+    let kept = lists.kept[(number - 1) as usize].reply.try_clone(alloc)?;
+    Ok(Some(kept))
 }
 
 /// The instruction of a number.
 pub fn instruction(lists: &Lists, number: u64) -> Option<Instructed>
     ensures { result ≡ instruction_at (history_of (content_in (listed lists.now))) number }
 {
-    if number == 0 || number > lists.kept.len() as u64 {
-        return None;
-    }
-    lists.kept[(number - 1) as usize].entry.instructed()
+    entry(lists, number)?.instructed()
 }
 
 /// Where the entry of a number stands.

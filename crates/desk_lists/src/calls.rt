@@ -5,10 +5,8 @@ ghost use Rattle.desk_register.specs.Changes.{empty_content};
 ghost use Rattle.desk_register.specs.View.{fallen};
 
 use crate::appending::append_entry;
-use crate::by_number::find;
 use crate::changes::undo_all;
 use crate::due_pairs::due_pair_after;
-use crate::history;
 use crate::holdings::held;
 use crate::list_register::ListRegister;
 use crate::lists::Lists;
@@ -17,10 +15,11 @@ use crate::positions::{outstanding_of, quantity_of};
 use crate::securities::security_after;
 use crate::settling::try_settle;
 use crate::standings::pair_entries;
+use crate::{by_number, history};
 use desk_codes::{AccountId, Bic, Day, Isin, Reference};
 use desk_msg::{Instruction, Kind};
-use desk_register::{Fault, Found, Outcome, Register, Stage};
-use desk_rules::{Entry, Instructed, MOST_ENTRIES, Place, Reply, Sender};
+use desk_register::{Fault, Outcome, Register, Stage};
+use desk_rules::{Entry, Instructed, MOST_ENTRIES, Place, Reply, Sender, Standing};
 use std::alloc::Global;
 
 impl ListRegister {
@@ -111,20 +110,25 @@ impl Register for ListRegister {
         Ok(quantity_of(&self.lists, &account, &isin))
     }
 
-    fn by_reference(
+    fn number_of(
         &mut self,
-        alloc: Global,
+        _alloc: Global,
         sender: Sender,
         reference: Reference,
-    ) -> Result<Option<Found>, Fault> {
-        match history::number_of_key(&self.lists.kept, &sender, &reference) {
-            Some(number) => self.by_number(alloc, number),
-            None => Ok(None),
-        }
+    ) -> Result<Option<u64>, Fault> {
+        Ok(history::number_of_key(&self.lists.kept, &sender, &reference))
     }
 
-    fn by_number(&mut self, alloc: Global, number: u64) -> Result<Option<Found>, Fault> {
-        match find(&self.lists, alloc, number) {
+    fn entry(&mut self, _alloc: Global, number: u64) -> Result<Option<Entry>, Fault> {
+        Ok(by_number::entry(&self.lists, number))
+    }
+
+    fn standing(&mut self, _alloc: Global, number: u64) -> Result<Standing, Fault> {
+        Ok(by_number::standing(&self.lists, number))
+    }
+
+    fn reply(&mut self, alloc: Global, number: u64) -> Result<Option<Reply>, Fault> {
+        match by_number::reply(&self.lists, alloc, number) {
             Ok(found) => Ok(found),
             Err(_) => {
                 self.stage = fallen(self.stage);

@@ -11,7 +11,7 @@ use crate::lists::Lists;
 use desk_rules::{Place, State};
 
 /// The place of a number's matched pair, where it is due by a day and above a place.
-fn due_place(lists: &Lists, number: u64, day: u64, above: &Option<Place>) -> Option<Place>
+pub fn due_place(lists: &Lists, number: u64, day: u64, above: &Option<Place>) -> Option<Place>
     ensures found { IfSome result (λ p. (p.number ≡ number) × IsDue (content_in (listed lists.now)) day above.now p) }
     ensures none { IfNone result ((p : Place) → p.number ≡ number → IsDue (content_in (listed lists.now)) day above.now p → ⊥) }
 {

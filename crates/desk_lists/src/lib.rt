@@ -4,7 +4,8 @@
 //! specs/ListView.antt. `calls.rt` has its calls. `lists.rt` has the lists, with the changes that `back` undoes;
 //! `changes.rt` makes each and undoes it. All that changes goes through it: `appending`, `standings`, `positions` and
 //! `settling`. The rest only reads: `by_number` and `history` the entries, `entries` what one entry says, `balances`
-//! and `holdings` the quantities, and `opposites`, `due_pairs` and `securities` search in order. Begin with `calls.rt`.
+//! and `holdings` the quantities, and `opposites`, `due_pairs` and `securities` search in order.
+//! `wrapped` is what a register that keeps look-ups beside the lists asks of them. Begin with `calls.rt`.
 #![tactic(auto)]
 
 mod appending;
@@ -23,5 +24,6 @@ mod positions;
 mod securities;
 mod settling;
 mod standings;
+mod wrapped;
 
 pub use list_register::ListRegister;

@@ -8,7 +8,7 @@ use crate::lists::Lists;
 use desk_rules::{Instructed, State, are_opposite};
 
 /// Whether the instruction of a number is unmatched, and opposite to one.
-fn is_opposite_at(lists: &Lists, number: u64, wanted: &Instructed) -> bool
+pub fn is_opposite_at(lists: &Lists, number: u64, wanted: &Instructed) -> bool
     ensures { IsTrue result ↔ IsOppositeAt (content_in (listed lists.now)) wanted.now number }
 {
     let Some(other) = instruction(lists, number) else {

@@ -15,9 +15,9 @@ use Rattle.desk_rules.specs.History.{instruction_at}
 use Rattle.desk_rules.specs.Balances.{delivering, issued, receiving, redeemed}
 use Rattle.desk_rules.specs.Content.{Content, Positions, history_of}
 use Rattle.desk_rules.specs.Standing.{plain_standing}
-use Rattle.desk_register.specs.declared.found.Outcome.{Outcome}
-use Rattle.desk_register.specs.declared.found.Outcome.TheVariants as outcomes
-use Rattle.desk_register.specs.declared.found.Outcome.TheVariants.{Lacks}
+use Rattle.desk_register.specs.declared.outcome.Outcome.{Outcome}
+use Rattle.desk_register.specs.declared.outcome.Outcome.TheVariants as outcomes
+use Rattle.desk_register.specs.declared.outcome.Outcome.TheVariants.{Lacks}
 
 -- one position is another, and the rest is as before
 abbrev pub moved_to : Positions → List ℕ → List ℕ → ℕ → Positions

@@ -8,11 +8,9 @@ use Rattle.desk_codes.specs.Number.{number_of}
 use Rattle.desk_rules.specs.declared.entry.Entry.{Entry}
 use Rattle.desk_rules.specs.declared.entry.Entry.TheVariants.{Security}
 use Rattle.desk_rules.specs.declared.reply.Reply.{Reply}
-use Rattle.desk_register.specs.declared.found.Found.{Found}
 use Rattle.desk_rules.specs.declared.pair.Place.{Place}
 use Rattle.desk_rules.specs.declared.standing.State.TheVariants.{Unmatched, Matched}
 use Rattle.desk_msg.specs.declared.status.Reason.{Reason}
-use Rattle.desk_rules.specs.declared.standing.Standing.{Standing}
 use Rattle.desk_rules.specs.declared.entry.Instructed.{Instructed}
 use Rattle.desk_rules.specs.History.{instruction_at}
 use Rattle.desk_rules.specs.Opposite.{AreOpposite}
@@ -21,23 +19,14 @@ use Rattle.desk_rules.specs.Facts.{account_by, kind_of}
 use Rattle.desk_rules.specs.declared.reply.Kept.{Kept}
 use Rattle.desk_rules.specs.Content.{Content, history_of}
 
--- an entry by its number, as a look-up gives it
-pub record Finding : Type 0 where
-  pub number : ℕ
-  pub entry : Entry
-  pub reply : Reply
-  pub standing : Standing
-
-abbrev pub view_of : Found → Finding
-view_of f = record { number = f.number; entry = f.entry; reply = f.reply; standing = f.standing }
-
--- the entry of a number
+-- the entry of a number, with its reply
 abbrev pub kept_at : List Kept → ℕ → Option Kept
 kept_at register zero = None
 kept_at register (suc n) = slice_get register n
 
-abbrev pub found_at : Content → ℕ → Option Finding
-found_at content n = option_map (λ kept. record { number = n; entry = kept.entry; reply = kept.reply; standing = content.standing n }) (kept_at content.register n)
+-- the reply that is kept with the entry of a number
+abbrev pub reply_at : Content → ℕ → Option Reply
+reply_at content n = option_map (λ kept. kept.reply) (kept_at content.register n)
 
 -- an unmatched instruction of this number is opposite to this one
 pub record IsOppositeAt (content : Content) (i : Instructed) (n : ℕ) : Type 0 where

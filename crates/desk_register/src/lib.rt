@@ -5,8 +5,8 @@
 //! content is that of specs/Content.antt in `desk_rules`. Begin with `register.rt`, then specs/View.antt.
 #![tactic(auto)]
 
-mod found;
+mod outcome;
 mod register;
 
-pub use found::{Found, Outcome};
+pub use outcome::Outcome;
 pub use register::{Fault, Register, Stage};

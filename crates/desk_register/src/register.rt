@@ -1,18 +1,18 @@
 //! The register: the law by which every store of the desk is judged.
-ghost use Rattle.std.specs.Prelude.{◌≡◌, ◌≢◌, ℕ, true, Bool, ◌+◌, ◌<◌, ◌≤◌, ◌^◌, length, option_map, option_and_then, IfOk, IfErr, IsOk, OnOk, OnErr};
+ghost use Rattle.std.specs.Prelude.{◌≡◌, ◌≢◌, ℕ, true, Bool, ◌+◌, ◌<◌, ◌≤◌, ◌^◌, length, option_map, IfOk, IfErr, IsOk, OnOk, OnErr};
 ghost use Rattle.desk_codes.specs.Number.{number_of};
 ghost use Rattle.desk_register.specs.View.{View, IfTrusted, IsLater, Begins, Commits, GoesBack, Falls, Blames, IsRead, IsChange};
 ghost use Rattle.desk_rules.specs.Content.{history_of};
 ghost use Rattle.desk_register.specs.Changes.{appended, paired, CanAppend, CanPair, CanSettle, TriesPair};
-ghost use Rattle.desk_register.specs.Looked.{view_of, found_at, held_of, IsFirstOpposite, IsDuePairAfter, IsSecurityAfter};
-ghost use Rattle.desk_rules.specs.History.{number_of_key};
+ghost use Rattle.desk_register.specs.Looked.{held_of, reply_at, IsFirstOpposite, IsDuePairAfter, IsSecurityAfter};
+ghost use Rattle.desk_rules.specs.History.{entry_at, number_of_key};
 ghost use Rattle.desk_rules.specs.Facts.{is_participant, owner_of, kind_of, last_run};
 ghost use Rattle.desk_rules.specs.Balances.{issued, redeemed};
 
-use crate::found::{Found, Outcome};
+use crate::outcome::Outcome;
 use desk_codes::{AccountId, Bic, Day, Isin, Reference};
 use desk_msg::{Instruction, Kind};
-use desk_rules::{Entry, MOST_ENTRIES, Place, Reply, Sender};
+use desk_rules::{Entry, MOST_ENTRIES, Place, Reply, Sender, Standing};
 use std::alloc::Global;
 
 /// Whether a `begin` is open, and whether a call within it has failed.
@@ -117,19 +117,32 @@ pub trait Register {
         ensures read { IsRead result (view self.old) (view self.new) }
         ensures plain { plain ≡ true → IsOk result };
 
-    /// The entry with this key, with its reply and where it stands; None where there is none.
-    fn by_reference(
+    /// The number of the first entry with this key; None where there is none.
+    fn number_of(
         &mut self,
         alloc: Global,
         sender: Sender,
         reference: Reference,
-    ) -> Result<Option<Found>, Fault>
-        ensures value { IfTrusted (view self.old) (view self.new) (IfOk result (λ r. option_map view_of r ≡ option_and_then (found_at (view self.old).content) (number_of_key (history_of (view self.old).content) sender reference))) }
-        ensures read { IsRead result (view self.old) (view self.new) };
+    ) -> Result<Option<u64>, Fault>
+        ensures value { IfTrusted (view self.old) (view self.new) (IfOk result (λ r. r ≡ number_of_key (history_of (view self.old).content) sender reference)) }
+        ensures read { IsRead result (view self.old) (view self.new) }
+        ensures plain { plain ≡ true → IsOk result };
 
-    /// The entry of this number, counted from 1, with its reply and where it stands; None where there is none.
-    fn by_number(&mut self, alloc: Global, number: u64) -> Result<Option<Found>, Fault>
-        ensures value { IfTrusted (view self.old) (view self.new) (IfOk result (λ r. option_map view_of r ≡ found_at (view self.old).content number)) }
+    /// The entry of this number, counted from 1; None where there is none.
+    fn entry(&mut self, alloc: Global, number: u64) -> Result<Option<Entry>, Fault>
+        ensures value { IfTrusted (view self.old) (view self.new) (IfOk result (λ r. r ≡ entry_at (history_of (view self.old).content) number)) }
+        ensures read { IsRead result (view self.old) (view self.new) }
+        ensures plain { plain ≡ true → IsOk result };
+
+    /// Where the entry of this number stands; what is no instruction of the register stands plain.
+    fn standing(&mut self, alloc: Global, number: u64) -> Result<Standing, Fault>
+        ensures value { IfTrusted (view self.old) (view self.new) (IfOk result (λ r. r ≡ (view self.old).content.standing number)) }
+        ensures read { IsRead result (view self.old) (view self.new) }
+        ensures plain { plain ≡ true → IsOk result };
+
+    /// The reply that is kept with the entry of this number; None where there is none.
+    fn reply(&mut self, alloc: Global, number: u64) -> Result<Option<Reply>, Fault>
+        ensures value { IfTrusted (view self.old) (view self.new) (IfOk result (λ r. r ≡ reply_at (view self.old).content number)) }
         ensures read { IsRead result (view self.old) (view self.new) };
 
     /// The least number of an unmatched instruction that is opposite to one of this sender; None where there is none.

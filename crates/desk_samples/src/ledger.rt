@@ -4,19 +4,20 @@ ghost use Rattle.desk_codes.specs.Number.{number_of};
 ghost use Rattle.desk_rules.specs.Balances.{issued, redeemed};
 ghost use Rattle.desk_rules.specs.Books.{Books};
 ghost use Rattle.desk_rules.specs.Facts.{last_run};
+ghost use Rattle.desk_rules.specs.History.{entry_at};
 ghost use Rattle.desk_engine.specs.declared.applied.Applied.{Applied as AppliedValue};
 ghost use Rattle.desk_engine.specs.Applied.{CanApply, Keeps, no_books};
 ghost use Rattle.desk_rules.specs.Content.{history_of};
 ghost use Rattle.desk_engine.specs.Decision.{is_supported};
 ghost use Rattle.desk_lists.specs.ListView.{view_of_lists};
-ghost use Rattle.desk_register.specs.Looked.{IsDuePairAfter, found_at, held_of, view_of};
+ghost use Rattle.desk_register.specs.Looked.{IsDuePairAfter, held_of, reply_at};
 ghost use Rattle.desk_samples.specs.Ledger.{HasTaken, IsEntered, IsUnchanged, content_of, is_taken_in, room_of};
 
 use desk_codes::{AccountId, Day, Isin};
 use desk_engine::{Applied, Failure, accept, decide, is_supported};
 use desk_lists::ListRegister;
-use desk_register::{Fault, Found, Register, Stage};
-use desk_rules::{Entry, MOST_ENTRIES, Place, Refusal, Verdict};
+use desk_register::{Fault, Register, Stage};
+use desk_rules::{Entry, MOST_ENTRIES, Place, Refusal, Reply, Standing, Verdict};
 use std::alloc::Global;
 use std::marker::Model;
 
@@ -137,12 +138,30 @@ impl Ledger {
     }
 
     /// The entry of this number, counted from 1; None where there is none.
-    pub fn by_number(&mut self, alloc: Global, number: u64) -> Result<Option<Found>, Fault>
-        ensures value { IfOk result (λ r. option_map view_of r ≡ found_at (content_of self.old) number) }
+    pub fn entry(&mut self, alloc: Global, number: u64) -> Result<Option<Entry>, Fault>
+        ensures value { IfOk result (λ r. r ≡ entry_at (history_of (content_of self.old)) number) }
+        ensures same { IsUnchanged self.old self.new }
+        ensures ok { IsOk result }
+    {
+        self.register.entry(alloc, number)
+    }
+
+    /// Where the entry of this number stands.
+    pub fn standing(&mut self, alloc: Global, number: u64) -> Result<Standing, Fault>
+        ensures value { IfOk result (λ r. r ≡ (content_of self.old).standing number) }
+        ensures same { IsUnchanged self.old self.new }
+        ensures ok { IsOk result }
+    {
+        self.register.standing(alloc, number)
+    }
+
+    /// The reply that is kept with the entry of this number; None where there is none.
+    pub fn reply(&mut self, alloc: Global, number: u64) -> Result<Option<Reply>, Fault>
+        ensures value { IfOk result (λ r. r ≡ reply_at (content_of self.old) number) }
         ensures same { IsUnchanged self.old self.new }
         ensures memory { IfErr result (λ fault. fault ≡ Fault.Memory) }
     {
-        self.register.by_number(alloc, number)
+        self.register.reply(alloc, number)
     }
 
     /// What an account holds of a security.

@@ -8,8 +8,8 @@ ghost use Rattle.desk_register.specs.View.{fallen};
 use desk_codes::{AccountId, Bic, Day, Isin, Reference};
 use desk_lists::ListRegister;
 use desk_msg::{Instruction, Kind};
-use desk_register::{Fault, Found, Outcome, Register, Stage};
-use desk_rules::{Entry, MOST_ENTRIES, Place, Reply, Sender};
+use desk_register::{Fault, Outcome, Register, Stage};
+use desk_rules::{Entry, MOST_ENTRIES, Place, Reply, Sender, Standing};
 use std::alloc::Global;
 
 /// Which calls of a store fail.
@@ -224,25 +224,37 @@ impl Register for FailingRegister {
         self.inner.last_run(alloc)
     }
 
-    fn by_reference(
+    fn number_of(
         &mut self,
         alloc: Global,
         sender: Sender,
         reference: Reference,
-    ) -> Result<Option<Found>, Fault> {
+    ) -> Result<Option<u64>, Fault> {
         if self.calls.fails() {
             return Err(self.fail());
         }
-        let answer = self.inner.by_reference(alloc, sender, reference);
-        self.stage = stage_after(self.stage, answer.is_ok());
-        answer
+        self.inner.number_of(alloc, sender, reference)
     }
 
-    fn by_number(&mut self, alloc: Global, number: u64) -> Result<Option<Found>, Fault> {
+    fn entry(&mut self, alloc: Global, number: u64) -> Result<Option<Entry>, Fault> {
         if self.calls.fails() {
             return Err(self.fail());
         }
-        let answer = self.inner.by_number(alloc, number);
+        self.inner.entry(alloc, number)
+    }
+
+    fn standing(&mut self, alloc: Global, number: u64) -> Result<Standing, Fault> {
+        if self.calls.fails() {
+            return Err(self.fail());
+        }
+        self.inner.standing(alloc, number)
+    }
+
+    fn reply(&mut self, alloc: Global, number: u64) -> Result<Option<Reply>, Fault> {
+        if self.calls.fails() {
+            return Err(self.fail());
+        }
+        let answer = self.inner.reply(alloc, number);
         self.stage = stage_after(self.stage, answer.is_ok());
         answer
     }

@@ -5,7 +5,7 @@ use crate::tests::over_lists::new_desk;
 use desk_book::*;
 use desk_codes::{AccountId, Bic, Isin};
 use desk_lists::ListRegister;
-use desk_register::{Found, Register, Stage};
+use desk_register::{Register, Stage};
 use desk_rules::{MOST_ENTRIES, Reply};
 use std::alloc::{AllocError, Global};
 use std::process::Abort;
@@ -78,11 +78,6 @@ fn same_reply(a: &Reply, b: &Reply) -> bool {
     a.status == b.status && a.mt == b.mt && a.text.as_bytes() == b.text.as_bytes()
 }
 
-/// Whether two entries are the same, with the same replies, and stand as the other.
-fn same_found(a: &Found, b: &Found) -> bool {
-    a.entry == b.entry && a.standing == b.standing && same_reply(&a.reply, &b.reply)
-}
-
 /// Whether two registers hold the same entries, with the same replies, that stand as the others.
 fn same_entries(alloc: Global, a: &mut ListRegister, b: &mut ListRegister) -> Result<bool, Fail> {
     let count = a.count(alloc)?;
@@ -90,9 +85,15 @@ fn same_entries(alloc: Global, a: &mut ListRegister, b: &mut ListRegister) -> Re
         return Ok(false);
     }
     for number in 1..count.saturating_add(1) {
-        let one = a.by_number(alloc, number)?.ok_or("an entry")?;
-        let other = b.by_number(alloc, number)?.ok_or("an entry")?;
-        if !same_found(&one, &other) {
+        if a.entry(alloc, number)? != b.entry(alloc, number)? {
+            return Ok(false);
+        }
+        if a.standing(alloc, number)? != b.standing(alloc, number)? {
+            return Ok(false);
+        }
+        let one = a.reply(alloc, number)?.ok_or("a reply")?;
+        let other = b.reply(alloc, number)?.ok_or("a reply")?;
+        if !same_reply(&one, &other) {
             return Ok(false);
         }
     }

@@ -56,16 +56,10 @@ fn entries_of(alloc: Global, register: &mut ListRegister) -> Result<Vec<Entry>, 
     let mut entries = Vec::new(alloc);
     let count = register.count(alloc)?;
     for index in 0..count {
-        let found = register.by_number(alloc, index + 1)?.ok_or("entry")?;
-        entries.push(found.entry)?;
+        let entry = register.entry(alloc, index + 1)?.ok_or("entry")?;
+        entries.push(entry)?;
     }
     Ok(entries)
-}
-
-/// The standing that a register gives a number.
-fn standing_at(alloc: Global, register: &mut ListRegister, number: u64) -> Result<Standing, Fail> {
-    let found = register.by_number(alloc, number)?.ok_or("entry")?;
-    Ok(found.standing)
 }
 
 fn same_standings(
@@ -76,7 +70,7 @@ fn same_standings(
 ) -> Result<(), Fail> {
     for index in 0..plain.entries.len() {
         let number = index as u64 + 1;
-        let standing = standing_at(alloc, register, number)?;
+        let standing = register.standing(alloc, number)?;
         assert_eq!(rt; standing, plain.standing_of(alloc, number)?, "at {number}");
     }
     Ok(())

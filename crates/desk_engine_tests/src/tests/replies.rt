@@ -31,8 +31,8 @@ fn says(rt: &impl Abort, reply: Reply, status: u16, mt: Option<u16>, text: &str)
 
 /// The reply that is kept with an entry.
 fn kept(alloc: Global, ledger: &mut Ledger, number: u64) -> Result<Reply, Fail> {
-    let found = ledger.by_number(alloc, number)?.ok_or("no entry")?;
-    Ok(found.reply)
+    let reply = ledger.reply(alloc, number)?.ok_or("no entry")?;
+    Ok(reply)
 }
 
 #[test]

@@ -61,23 +61,8 @@ fn at(
 ) -> Result<Option<(u64, Standing)>, Fault>
     ensures { OnOk result ((view_of_lists register.new).stage ≡ (view_of_lists register.old).stage) }
 {
-    match register.by_number(alloc, number)? {
-        Some(found) => Ok(Some((found.number, found.standing))),
-        None => Ok(None),
-    }
-}
-
-/// The number of the entry with a key.
-fn number_of(
-    alloc: Global,
-    register: &mut ListRegister,
-    sender: Sender,
-    reference: Reference,
-) -> Result<Option<u64>, Fault>
-    ensures { OnOk result ((view_of_lists register.new).stage ≡ (view_of_lists register.old).stage) }
-{
-    match register.by_reference(alloc, sender, reference)? {
-        Some(found) => Ok(Some(found.number)),
+    match register.entry(alloc, number)? {
+        Some(_) => Ok(Some((number, register.standing(alloc, number)?))),
         None => Ok(None),
     }
 }
@@ -157,10 +142,7 @@ fn empty(rt: HostRuntime) -> Result<(), Fail> {
     let mut register = ListRegister::new(alloc, 3);
     is_empty(&rt, alloc, &mut register)?;
     assert_eq!(rt; tell(alloc, &mut register, names)?, NOTHING);
-    assert_eq!(rt;
-        number_of(alloc, &mut register, Sender::Operator, key)?,
-        None
-    );
+    assert_eq!(rt; register.number_of(alloc, Sender::Operator, key)?, None);
     assert_eq!(rt; register.first_opposite(alloc, names.bic, &wanted)?, None);
     assert_eq!(rt; register.due_pair_after(alloc, end, None)?, None);
     let mut ledger = Ledger::new(alloc, 3);
@@ -225,17 +207,11 @@ fn entries_by_reference(rt: HostRuntime) -> Result<(), Fail> {
     let alpha = Sender::Participant(bic("ALPHDEFF")?);
     let beta = Sender::Participant(bic("BETADEFF")?);
     let mut register = filled(alloc)?.into_register();
-    assert_eq!(rt;
-        number_of(alloc, &mut register, Sender::Operator, s_1)?,
-        Some(5)
-    );
-    assert_eq!(rt; number_of(alloc, &mut register, alpha, a_1)?, Some(9));
+    assert_eq!(rt; register.number_of(alloc, Sender::Operator, s_1)?, Some(5));
+    assert_eq!(rt; register.number_of(alloc, alpha, a_1)?, Some(9));
     // the reference of another sender
-    assert_eq!(rt; number_of(alloc, &mut register, beta, a_1)?, None);
-    assert_eq!(rt;
-        number_of(alloc, &mut register, Sender::Operator, a_1)?,
-        None
-    );
+    assert_eq!(rt; register.number_of(alloc, beta, a_1)?, None);
+    assert_eq!(rt; register.number_of(alloc, Sender::Operator, a_1)?, None);
     Ok(())
 }
 
@@ -264,11 +240,11 @@ fn replies_by_number(rt: HostRuntime) -> Result<(), Fail> {
     let alloc = rt.alloc();
     let entry = security("S1", SHARE, Kind::Unit)?;
     let mut register = filled(alloc)?.into_register();
-    let found = register.by_number(alloc, 5)?.ok_or("5")?;
-    assert_eq!(rt; found.entry, entry);
-    assert_eq!(rt; found.reply.status, 200);
-    assert_eq!(rt; found.reply.mt, None);
-    assert_eq!(rt; found.reply.text.as_bytes(), b"accepted 5".as_slice());
+    assert_eq!(rt; register.entry(alloc, 5)?, Some(entry));
+    let reply = register.reply(alloc, 5)?.ok_or("5")?;
+    assert_eq!(rt; reply.status, 200);
+    assert_eq!(rt; reply.mt, None);
+    assert_eq!(rt; reply.text.as_bytes(), b"accepted 5".as_slice());
     Ok(())
 }
 
@@ -343,10 +319,7 @@ fn commits(rt: HostRuntime) -> Result<(), Fail> {
     register.back(alloc)?;
     assert_eq!(rt; register.count(alloc)?, 13);
     assert!(rt; register.participant(alloc, gamma)?);
-    assert_eq!(rt;
-        number_of(alloc, &mut register, Sender::Operator, key)?,
-        Some(13)
-    );
+    assert_eq!(rt; register.number_of(alloc, Sender::Operator, key)?, Some(13));
     Ok(())
 }
 
@@ -364,10 +337,7 @@ fn goes_back(rt: HostRuntime) -> Result<(), Fail> {
     assert_eq!(rt; register.stage(), Stage::Idle);
     assert_eq!(rt; register.count(alloc)?, 12);
     assert!(rt; !register.participant(alloc, gamma)?);
-    assert_eq!(rt;
-        number_of(alloc, &mut register, Sender::Operator, key)?,
-        None
-    );
+    assert_eq!(rt; register.number_of(alloc, Sender::Operator, key)?, None);
     assert_eq!(rt; at(alloc, &mut register, 13)?, None);
     Ok(())
 }

@@ -1,0 +1,116 @@
+-- The search for the first due pair by its place.
+use Rattle.std.proofs.Common.{◌≡◌, ℕ, ◌<◌, ◌≤◌, Bool, true, false, List, [], ◌∷◌, Option, Some, None, refl, ap, sym, ◌∙◌, subst, arith, ◌⊎◌, inl, inr}
+use Rattle.std.proofs.lemmas.Bool.{false_from_ne_true}
+use Rattle.std.specs.List.{list_any, filter, AllByRecursion}
+use Rattle.std.specs.Ordering.{is_eq, is_le, nat_cmp, ordering_then}
+use Rattle.std.specs.declared.cmp.Ordering.{Ordering}
+use Rattle.std.specs.declared.cmp.Ordering.TheVariants.{Less, Equal, Greater}
+use Rattle.std.specs.declared.ops.Bound.TheVariants.{Included, Unbounded}
+use Rattle.std.specs.List.Sorted.{IsStrictlySortedBy}
+use Rattle.std.specs.BTreeMap.{is_at}
+use Rattle.std.specs.BTreeMap.Range.{range_contains}
+use Rattle.std.specs.BTreeSet.{BTreeSet, keys_between}
+use Rattle.std.proofs.lemmas.Map.Lookups.{CmpEqualImpliesEq, exact_pairs, exact_unsigned}
+use Rattle.std.proofs.lemmas.Map.Keys.{sorted_head, sorted_tail}
+use Rattle.desk_rules.specs.declared.pair.Place.{Place}
+use Rattle.desk_rules.specs.Content.{Content}
+use Rattle.desk_rules.specs.Settlement.{is_before, is_past}
+use Rattle.desk_rules.proofs.PlaceLemmas.{before_never, before_true}
+use Rattle.desk_register.specs.Looked.{IsDue, IsDuePairAfter}
+use Rattle.desk_index.specs.DuePlaces.{HasDue, IsDueAt, beginning, place_cmp}
+use Rattle.desk_register.proofs.CaseLemmas.{by_bool}
+
+-- whether places have this one
+abbrev pub has : ℕ × ℕ → List (ℕ × ℕ) → Bool
+has q places = list_any (is_at (place_cmp q)) places
+
+exact_place : CmpEqualImpliesEq place_cmp
+exact_place = exact_pairs nat_cmp nat_cmp exact_unsigned exact_unsigned
+
+equal_if : (o : Ordering) → is_eq o ≡ true → o ≡ Equal
+equal_if Less e = cc
+equal_if Equal e = refl
+equal_if Greater e = cc
+
+same_place : (q k : ℕ × ℕ) → is_at (place_cmp q) k ≡ true → q ≡ k
+same_place q k e = exact_place q k (equal_if (place_cmp q k) e)
+
+any_filter : {K : Type 0} (t p : K → Bool) (ks : List K) → ((k : K) → t k ≡ true → p k ≡ true) → list_any t ks ≡ true → list_any t (filter p ks) ≡ true
+any_filter t p [] passes any = any
+any_filter t p (k ∷ ks) passes any = by_bool (t k)
+    (λ here. rw (passes k here, here) refl)
+    (λ other. let behind : list_any t ks ≡ true = rw other at any in by_bool (p k) (λ kept. rw (kept, other) (any_filter t p ks passes behind)) (λ lost. rw lost (any_filter t p ks passes behind)))
+
+-- the order of places, by their days and numbers
+not_less_days : (a b i j : ℕ) → ordering_then (nat_cmp a b) (nat_cmp i j) ≡ Less → a ≤ b
+not_less_days a b i j e = grind arith
+
+not_below : (a b i j : ℕ) → ordering_then (nat_cmp a b) (nat_cmp i j) ≡ Less → (b < a) ⊎ ((b ≡ a) × (j < i)) → ⊥
+not_below a b i j e (inl lt) = grind arith
+not_below a b i j e (inr later) = let same = later.0 in let lt = later.1 in grind arith
+
+below_from_less : (p q : Place) → place_cmp (p.day, p.number) (q.day, q.number) ≡ Less → is_before q p ≡ false
+below_from_less p q e = false_from_ne_true (is_before q p) (λ before. not_below p.day q.day p.number q.number e (before_true q p before))
+
+up_to : (a b i j : ℕ) → (a < b) ⊎ ((a ≡ b) × (i < j)) → is_le (ordering_then (nat_cmp a b) (nat_cmp i j)) ≡ true
+up_to a b i j (inl lt) = grind arith
+up_to a b i j (inr later) = let e = later.0 in let lt = later.1 in grind arith
+
+from_beginning : (above : Option Place) (p : Place) → is_past above p ≡ true → is_le (place_cmp (beginning above) (p.day, p.number)) ≡ true
+from_beginning None p up = grind arith
+from_beginning (Some a) p up = up_to a.day p.day a.number p.number (before_true a p up)
+
+in_range : (a k : ℕ × ℕ) → is_le (place_cmp a k) ≡ true → range_contains place_cmp (Included a) Unbounded k ≡ true
+in_range a k e = rw e refl
+
+-- all due pairs stand from the beginning on
+pub all_from : (places : BTreeSet (ℕ × ℕ)) (content : Content) (day : ℕ) (above : Option Place) (s : List (ℕ × ℕ)) → HasDue places content
+    → s ≡ keys_between place_cmp (Included (beginning above)) Unbounded places → (p : Place) → IsDue content day above p → has (p.day, p.number) s ≡ true
+all_from places content day above s due is p d =
+    let q : ℕ × ℕ = (p.day, p.number) in
+    rw is (any_filter (is_at (place_cmp q)) (range_contains place_cmp (Included (beginning above)) Unbounded) places.keys
+    (λ k e. in_range (beginning above) k (subst (λ z. is_le (place_cmp (beginning above) z) ≡ true) (same_place q k e) (from_beginning above p d.above)))
+    (due.each p d.pair))
+
+-- a place is the first of some, or stands behind it
+pub first_or_behind : {G : Type 0} (q x : ℕ × ℕ) (s t : List (ℕ × ℕ)) → s ≡ x ∷ t → has q s ≡ true → (q ≡ x → G) → (has q t ≡ true → G) → G
+first_or_behind q x s t is there first behind =
+    let both : has q (x ∷ t) ≡ true = rw is at there in
+    by_bool (is_at (place_cmp q) x) (λ here. first (same_place q x here)) (λ other. behind (rw other at both))
+
+less_than : (x q : ℕ × ℕ) (t : List (ℕ × ℕ)) → AllByRecursion (λ y. place_cmp x y ≡ Less) t → has q t ≡ true → place_cmp x q ≡ Less
+less_than x q [] all there = absurd (cc)
+less_than x q (y ∷ t) all there = by_bool (is_at (place_cmp q) y)
+    (λ here. subst (λ z. place_cmp x z ≡ Less) (sym (same_place q y here)) all.0)
+    (λ other. less_than x q t all.1 (rw other at there))
+
+pub behind_first : (x q : ℕ × ℕ) (s t : List (ℕ × ℕ)) → s ≡ x ∷ t → IsStrictlySortedBy place_cmp s → has q t ≡ true → place_cmp x q ≡ Less
+behind_first x q s t is sorted there = less_than x q t (sorted_head place_cmp x t (subst (IsStrictlySortedBy place_cmp) is sorted)) there
+
+pub sorted_behind : (x : ℕ × ℕ) (s t : List (ℕ × ℕ)) → s ≡ x ∷ t → IsStrictlySortedBy place_cmp s → IsStrictlySortedBy place_cmp t
+sorted_behind x s t is sorted = sorted_tail place_cmp x t (subst (IsStrictlySortedBy place_cmp) is sorted)
+
+module _ (content : Content) (day : ℕ) (above : Option Place) (x : ℕ × ℕ) (s t : List (ℕ × ℕ)) (is : s ≡ x ∷ t)
+    (left : (p : Place) → IsDue content day above p → has (p.day, p.number) s ≡ true) (sorted : IsStrictlySortedBy place_cmp s) where
+  -- past the day there is none
+  pub none_past_day : day < x.0 → (p : Place) → IsDue content day above p → ⊥
+  none_past_day past p due = first_or_behind (p.day, p.number) x s t is (left p due)
+      (λ first. let same : p.day ≡ x.0 = ap (λ z. z.0) first in let by = due.by in omega arith)
+      (λ there. let order = not_less_days x.0 p.day x.1 p.number (behind_first x (p.day, p.number) s t is sorted there) in let by = due.by in omega arith)
+
+  -- the first that is due is the first of all
+  pub first_is_due : (d : Place) → IsDueAt content day above x (Some d) → IsDuePairAfter content day above (Some d)
+  first_is_due d found = (
+    found.0,
+    λ q due. first_or_behind (q.day, q.number) x s t is (left q due)
+        (λ first. let same = first ∙ sym found.1 in before_never q d (ap (λ z. z.0) same) (ap (λ z. z.1) same))
+        (λ there. below_from_less d q (subst (λ z. place_cmp z (q.day, q.number) ≡ Less) (sym found.1) (behind_first x (q.day, q.number) s t is sorted there))),
+  )
+
+  -- where the first is not due, all stand behind it
+  pub all_behind : IsDueAt content day above x None → (p : Place) → IsDue content day above p → has (p.day, p.number) t ≡ true
+  all_behind none p due = first_or_behind (p.day, p.number) x s t is (left p due)
+      (λ first. let days : p.day ≡ x.0 = ap (λ z. z.0) first in let numbers : p.number ≡ x.1 = ap (λ z. z.1) first in
+      let same : p ≡ record { day = x.0; number = x.1 } = (λ k. record { day = days k; number = numbers k }) in
+      absurd (none (subst (IsDue content day above) same due)))
+      (λ there. there)

@@ -1,0 +1,443 @@
+-- The look-ups of an indexed register through its calls.
+use Rattle.std.proofs.Common.{rules, ◌≡◌, ◌≢◌, ℕ, zero, suc, ◌+◌, ◌<◌, true, false, List, [], ◌∷◌, ◌++◌, length, map, Some, None, refl, ap, sym, ◌∙◌, subst, arith, inl, inr, append_assoc}
+use Rattle.std.specs.Prelude.{Result, Ok, Err, OnOk, OnErr, IfOk, is_err, slice_get, option_and_then, ◌==◌}
+use Rattle.std.specs.BTreeSet.{BTreeSet, contains}
+use Rattle.std.proofs.lemmas.Bool.{cases_eq}
+use Rattle.std.proofs.lemmas.List.{length-map, length-append, map-append}
+use Rattle.desk_codes.specs.Number.{number_of}
+use Rattle.desk_msg.specs.declared.status.Reason.TheVariants.{Future, Lack}
+use Rattle.desk_rules.specs.declared.entry.Entry.{Entry}
+use Rattle.desk_rules.specs.declared.entry.Entry.TheVariants.{Participant, Account, Security, Issue, Redeem, PayIn, PayOut, Instruct, Cancel, Run}
+use Rattle.desk_rules.specs.declared.entry.Instructed.{Instructed}
+use Rattle.desk_rules.specs.declared.reply.Reply.{Reply}
+use Rattle.desk_rules.specs.declared.standing.State.{State}
+use Rattle.desk_rules.specs.declared.standing.State.TheVariants.{Unmatched, Matched, Settled}
+use Rattle.desk_rules.specs.History.{instructed, instruction_at}
+use Rattle.desk_lists.specs.declared.list_register.ListRegister.{ListRegister}
+use Rattle.desk_register.specs.declared.register.Fault.{Fault}
+use Rattle.desk_rules.specs.declared.standing.Standing.{Standing}
+use Rattle.desk_index.specs.NumbersByKey.{numbered_cmp}
+use Rattle.desk_register.specs.declared.register.Stage.{Stage}
+use Rattle.desk_register.specs.declared.register.Stage.TheVariants.{Idle, Begun, Failed}
+use Rattle.desk_index.specs.declared.keys.Keys.{Keys}
+use Rattle.desk_index.specs.declared.match_key.MatchKey.{MatchKey}
+use Rattle.desk_rules.specs.declared.pair.Lack.TheVariants.{Securities, Money as LacksMoney}
+use Rattle.desk_register.specs.declared.outcome.Outcome.{Outcome}
+use Rattle.desk_register.specs.declared.outcome.Outcome.TheVariants as outcomes
+use Rattle.desk_register.specs.declared.outcome.Outcome.TheVariants.{Lacks}
+use Rattle.desk_register.specs.Changes.{CanSettle, TriesPair, TriesSides, appended, first_standing, paired, standing_at, standing_both}
+use Rattle.desk_rules.specs.Content.{Content, history_of}
+use Rattle.desk_index.specs.DuePlaces.{HasDue, HoldsDue, PlacedAt, place_cmp}
+use Rattle.desk_index.specs.Indexed.{HoldsOn, IsIndexed}
+use Rattle.desk_index.specs.Keys.{AreKeysOf}
+use Rattle.desk_lists.specs.ListView.{view_of_lists}
+use Rattle.desk_index.specs.Open.{HasOpen, HoldsOpen, OpensAt, key_of, match_cmp}
+use Rattle.desk_register.specs.View.{View, Begins, Stays, Falls, IsRead, fallen}
+
+-- with no `begin` open, `back` would go back to what is held
+pub idle_mark : (r : ListRegister) → (view_of_lists r).stage ≡ Idle → (view_of_lists r).mark ≡ (view_of_lists r).content
+idle_mark r idle = let none = r.idle idle in rw none refl
+
+idle_is_not_failed : (s : Stage) → s ≡ Idle → s ≢ Failed
+idle_is_not_failed s e f = let bad = sym e ∙ f in cc
+
+pub begun_is_not_failed : (s : Stage) → s ≡ Begun → s ≢ Failed
+begun_is_not_failed s e f = let bad = sym e ∙ f in cc
+
+begun_is_not_idle : (s : Stage) → s ≡ Begun → s ≢ Idle
+begun_is_not_idle s e f = let bad = sym e ∙ f in cc
+
+-- a stage from which a failed call leads on is none in which a call failed
+not_fallen : (s t : Stage) → t ≡ fallen s → t ≢ Failed → s ≡ Idle
+not_fallen Idle t e apart = refl
+not_fallen Begun t e apart = absurd (apart e)
+not_fallen Failed t e apart = absurd (apart e)
+
+fallen_idle : (s t : Stage) → t ≡ fallen s → t ≡ Idle → s ≡ Idle
+fallen_idle Idle t e idle = refl
+fallen_idle Begun t e idle = let bad = sym e ∙ idle in cc
+fallen_idle Failed t e idle = let bad = sym e ∙ idle in cc
+
+append_nothing : {X : Type 0} (xs : List X) → xs ++ [] ≡ xs
+append_nothing [] = refl
+append_nothing (x ∷ xs) = ap (λ z. x ∷ z) (append_nothing xs)
+
+module _ (keys : Keys) (numbers : BTreeSet (MatchKey × ℕ)) (places : BTreeSet (ℕ × ℕ)) (noted : List Entry) (old new : View) (indexed : IsIndexed old keys numbers places noted) where
+  -- after a call that failed
+  pub fell : new.stage ≡ fallen old.stage → new.mark ≡ old.mark → (old.stage ≡ Idle → new.content ≡ old.content) → IsIndexed new keys numbers places noted
+  fell stage mark content = record {
+    idle = λ idle. indexed.idle (fallen_idle old.stage new.stage stage idle);
+    keyed = subst (λ m. AreKeysOf keys (history_of m ++ noted)) (sym mark) indexed.keyed;
+    grown = λ apart. let was = not_fallen old.stage new.stage stage apart in ap history_of (content was) ∙ indexed.grown (idle_is_not_failed old.stage was) ∙ ap (λ m. history_of m ++ noted) (sym mark);
+    open_marked = subst (HasOpen numbers) (sym mark) indexed.open_marked;
+    open_now = λ apart. let was = not_fallen old.stage new.stage stage apart in subst (HasOpen numbers) (sym (content was)) (indexed.open_now (idle_is_not_failed old.stage was));
+    due_marked = subst (HasDue places) (sym mark) indexed.due_marked;
+    due_now = λ apart. let was = not_fallen old.stage new.stage stage apart in subst (HasDue places) (sym (content was)) (indexed.due_now (idle_is_not_failed old.stage was));
+  }
+
+  -- after a call that changed nothing
+  pub stayed : new.stage ≡ old.stage → new.mark ≡ old.mark → new.content ≡ old.content → IsIndexed new keys numbers places noted
+  stayed stage mark content = record {
+    idle = λ idle. indexed.idle (sym stage ∙ idle);
+    keyed = subst (λ m. AreKeysOf keys (history_of m ++ noted)) (sym mark) indexed.keyed;
+    grown = λ apart. ap history_of content ∙ indexed.grown (λ failed. apart (stage ∙ failed)) ∙ ap (λ m. history_of m ++ noted) (sym mark);
+    open_marked = subst (HasOpen numbers) (sym mark) indexed.open_marked;
+    open_now = λ apart. subst (HasOpen numbers) (sym content) (indexed.open_now (λ failed. apart (stage ∙ failed)));
+    due_marked = subst (HasDue places) (sym mark) indexed.due_marked;
+    due_now = λ apart. subst (HasDue places) (sym content) (indexed.due_now (λ failed. apart (stage ∙ failed)));
+  }
+
+  -- what is held is marked
+  pub begun : old.stage ≡ Idle → new.stage ≡ Begun → new.mark ≡ old.content → new.content ≡ old.content → IsIndexed new keys numbers places noted
+  begun idle stage mark content =
+      let none = indexed.idle idle in
+      let whole = indexed.grown (idle_is_not_failed old.stage idle) in
+      let same : history_of new.mark ++ noted ≡ history_of old.mark ++ noted = ap (λ m. history_of m ++ noted) mark ∙ ap (λ z. history_of old.content ++ z) none ∙ append_nothing (history_of old.content) ∙ whole in
+      record {
+        idle = λ is. absurd (begun_is_not_idle new.stage stage is);
+        keyed = subst (AreKeysOf keys) (sym same) indexed.keyed;
+        grown = λ apart. ap history_of content ∙ whole ∙ sym same;
+        open_marked = subst (HasOpen numbers) (sym mark) (indexed.open_now (idle_is_not_failed old.stage idle));
+        open_now = λ apart. subst (HasOpen numbers) (sym content) (indexed.open_now (idle_is_not_failed old.stage idle));
+        due_marked = subst (HasDue places) (sym mark) (indexed.due_now (idle_is_not_failed old.stage idle));
+        due_now = λ apart. subst (HasDue places) (sym content) (indexed.due_now (idle_is_not_failed old.stage idle));
+      }
+
+  -- what was changed is kept: the keys are those of what is held
+  pub kept_keys : old.stage ≡ Begun → new.content ≡ old.content → AreKeysOf keys (history_of new.content)
+  kept_keys stage content = subst (AreKeysOf keys) (sym (ap history_of content ∙ indexed.grown (begun_is_not_failed old.stage stage))) indexed.keyed
+
+-- with no `begin` open, by what is held alone
+pub idle_indexed : (keys : Keys) (numbers : BTreeSet (MatchKey × ℕ)) (places : BTreeSet (ℕ × ℕ)) (noted : List Entry) (new : View) → new.mark ≡ new.content → noted ≡ []
+    → AreKeysOf keys (history_of new.content) → HasOpen numbers new.content → HasDue places new.content → IsIndexed new keys numbers places noted
+idle_indexed keys numbers places noted new mark none keyed open_ones due_ones =
+    let same : history_of new.mark ++ noted ≡ history_of new.content = ap (λ m. history_of m ++ noted) mark ∙ ap (λ z. history_of new.content ++ z) none ∙ append_nothing (history_of new.content) in
+    record {
+      idle = λ is. none;
+      keyed = subst (AreKeysOf keys) (sym same) keyed;
+      grown = λ apart. sym same;
+      open_marked = subst (HasOpen numbers) (sym mark) open_ones;
+      open_now = λ apart. open_ones;
+      due_marked = subst (HasDue places) (sym mark) due_ones;
+      due_now = λ apart. due_ones;
+    }
+
+-- By a call's result.
+
+module _ (keys : Keys) (numbers : BTreeSet (MatchKey × ℕ)) (places : BTreeSet (ℕ × ℕ)) (noted : List Entry) (old new : View) (honest : new.is_honest) (was_sure : old.is_sure) (sure : new.is_sure) where
+  pub after_begin : {T : Type 0} (r : Result T Fault) → old.stage ≡ Idle → OnOk r (Begins old new) → OnErr r (Falls old new) → IsIndexed old keys numbers places noted → IsIndexed new keys numbers places noted
+  after_begin (Ok x) idle ok err indexed = begun keys numbers places noted old new indexed idle ok.stage (ok.mark honest was_sure) (ok.content honest was_sure)
+  after_begin (Err f) idle ok err indexed = fell keys numbers places noted old new indexed err.stage (err.mark honest sure) (err.content honest sure)
+
+  pub after_fall : Falls old new → IsIndexed old keys numbers places noted → IsIndexed new keys numbers places noted
+  after_fall falls indexed = fell keys numbers places noted old new indexed falls.stage (falls.mark honest sure) (falls.content honest sure)
+
+  pub after_read : {T : Type 0} (r : Result T Fault) → (new.is_honest → old.is_sure → OnOk r (new.content ≡ old.content)) → OnOk r (Stays old new) → OnErr r (Falls old new)
+      → IsIndexed old keys numbers places noted → IsIndexed new keys numbers places noted
+  after_read (Ok x) same ok err indexed = stayed keys numbers places noted old new indexed ok.stage (ok.mark honest was_sure) (same honest was_sure)
+  after_read (Err f) same ok err indexed = after_fall err indexed
+
+-- a reading call keeps the look-ups
+pub read_keeps : {T : Type 0} (r : Result T Fault) (keys : Keys) (numbers : BTreeSet (MatchKey × ℕ)) (places : BTreeSet (ℕ × ℕ)) (noted : List Entry) (old new : ListRegister)
+    → IsRead r (view_of_lists old) (view_of_lists new) → IsIndexed (view_of_lists old) keys numbers places noted → IsIndexed (view_of_lists new) keys numbers places noted
+read_keeps r keys numbers places noted old new read = after_read keys numbers places noted (view_of_lists old) (view_of_lists new) tt tt tt r read.same read.ok read.err
+
+-- One entry more.
+
+found_more : (old new : BTreeSet (MatchKey × ℕ)) (content : Content) → HoldsOpen old new → HasOpen old content → HasOpen new content
+found_more old new content all has = record { each = λ n i is unmatched. all (key_of i, n) (has.each n i is unmatched) }
+
+due_more : (old new : BTreeSet (ℕ × ℕ)) (content : Content) → HoldsDue old new → HasDue old content → HasDue new content
+due_more old new content all has = record { each = λ p pair. all (p.day, p.number) (has.each p pair) }
+
+at_end_of : (h : List Entry) (e : Entry) → slice_get (h ++ e ∷ []) (length h) ≡ Some e
+at_end_of [] e = refl
+at_end_of (x ∷ h) e = at_end_of h e
+
+instruction_end : (h : List Entry) (e : Entry) (n : ℕ) → n ≡ length h + 1 → instruction_at (h ++ e ∷ []) n ≡ instructed e
+instruction_end h e n is = let same : n ≡ suc (length h) = omega arith in rw same (ap (option_and_then instructed) (at_end_of h e))
+
+slice_more : (h : List Entry) (e : Entry) (k : ℕ) → k ≢ length h → slice_get (h ++ e ∷ []) k ≡ slice_get h k
+slice_more [] e zero apart = absurd (apart refl)
+slice_more [] e (suc k) apart = refl
+slice_more (x ∷ h) e zero apart = refl
+slice_more (x ∷ h) e (suc k) apart = slice_more h e k (λ same. apart (ap suc same))
+
+instruction_more : (h : List Entry) (e : Entry) (n k : ℕ) → n ≡ length h + 1 → k ≢ n → instruction_at (h ++ e ∷ []) k ≡ instruction_at h k
+instruction_more h e n zero is apart = refl
+instruction_more h e n (suc k) is apart = ap (option_and_then instructed) (slice_more h e k (λ same. apart (let step : suc k ≡ length h + 1 = omega arith in step ∙ sym is)))
+
+no_mate : (e : Entry) → (first_standing e).mate ≡ None
+no_mate (Participant reference bic) = refl
+no_mate (Account reference bic account) = refl
+no_mate (Security reference isin kind) = refl
+no_mate (Issue movement) = refl
+no_mate (Redeem movement) = refl
+no_mate (PayIn payment) = refl
+no_mate (PayOut payment) = refl
+no_mate (Instruct sender instruction) = refl
+no_mate (Cancel sender order) = refl
+no_mate (Run reference day rule) = refl
+
+history_more : (entry : Entry) (reply : Reply) (content : Content) → history_of (appended entry reply content) ≡ history_of content ++ entry ∷ []
+history_more entry reply content = map-append (λ k. k.entry) content.register (record { entry = entry; reply = reply } ∷ [])
+
+standing_here : (st : ℕ → Standing) (n : ℕ) (s : Standing) → standing_at st n s n ≡ s
+standing_here st n s = let same : (n == n) ≡ true = search rules in rw same refl
+
+standing_other : (st : ℕ → Standing) (n k : ℕ) (s : Standing) → k ≢ n → standing_at st n s k ≡ st k
+standing_other st n k s apart = let other : (k == n) ≡ false = grind (arith, apart) in rw other refl
+
+pub size_of : (content : Content) → length (history_of content) ≡ length content.register
+size_of content = length-map content.register (λ kept. kept.entry)
+
+module _ (entry : Entry) (reply : Reply) (content : Content) (n : ℕ) (is : n ≡ length content.register + 1) where
+  n_is : n ≡ length (history_of content) + 1
+  n_is = is ∙ ap (λ z. z + 1) (sym (size_of content))
+
+  m_is : length content.register + 1 ≡ n
+  m_is = sym is
+
+  open_appended : (numbers : BTreeSet (MatchKey × ℕ)) → HasOpen numbers content → OpensAt numbers (instructed entry) n → HasOpen numbers (appended entry reply content)
+  open_appended numbers has opens = record {
+    each = λ m i at unmatched. elim (cases_eq m n) [
+      | inl here ↦
+          let last : instructed entry ≡ Some i = sym (instruction_end (history_of content) entry n n_is) ∙ ap (λ k. instruction_at (history_of content ++ entry ∷ []) k) (sym here) ∙ ap (λ h. instruction_at h m) (sym (history_more entry reply content)) ∙ at in
+          subst (λ k. contains (numbered_cmp match_cmp) numbers (key_of i, k) ≡ true) (sym here) (subst (λ o. OpensAt numbers o n) last opens)
+      | inr apart ↦
+          let before : instruction_at (history_of content) m ≡ Some i = sym (instruction_more (history_of content) entry n m n_is apart) ∙ ap (λ h. instruction_at h m) (sym (history_more entry reply content)) ∙ at in
+          let stood : content.standing m ≡ (appended entry reply content).standing m = sym (subst (λ k. standing_at content.standing k (first_standing entry) m ≡ content.standing m) is (standing_other content.standing n m (first_standing entry) apart)) in
+          has.each m i before (ap (λ s. s.state) stood ∙ unmatched)
+    ];
+  }
+
+  due_appended : (places : BTreeSet (ℕ × ℕ)) → HasDue places content → HasDue places (appended entry reply content)
+  due_appended places has = record {
+    each = λ p pair. elim (cases_eq p.number n) [
+      | inl here ↦
+          let stood : (appended entry reply content).standing p.number ≡ first_standing entry = ap (appended entry reply content).standing here ∙ subst (λ k. standing_at content.standing k (first_standing entry) n ≡ first_standing entry) is (standing_here content.standing n (first_standing entry)) in
+          let none : None ≡ Some pair.mate = sym (no_mate entry) ∙ ap (λ s. s.mate) (sym stood) ∙ pair.has_mate in
+          absurd (cc)
+      | inr apart ↦
+          let stood : content.standing p.number ≡ (appended entry reply content).standing p.number = sym (subst (λ k. standing_at content.standing k (first_standing entry) p.number ≡ content.standing p.number) is (standing_other content.standing n p.number (first_standing entry) apart)) in
+          has.each p (record {
+            later = pair.later;
+            mate = pair.mate;
+            reason = pair.reason;
+            is_later = sym (instruction_more (history_of content) entry n p.number n_is apart) ∙ ap (λ h. instruction_at h p.number) (sym (history_more entry reply content)) ∙ pair.is_later;
+            has_mate = ap (λ s. s.mate) stood ∙ pair.has_mate;
+            is_earlier = pair.is_earlier;
+            matched = ap (λ s. s.state) stood ∙ pair.matched;
+            day = pair.day;
+          })
+    ];
+  }
+
+-- Two instructions that stand otherwise.
+
+module _ (old new : Content) (m n : ℕ) (s : State) (two : m < n) (apart : s ≢ Unmatched) (same : new.register ≡ old.register) (stand : new.standing ≡ standing_both old.standing m n s) where
+  history_same : history_of new ≡ history_of old
+  history_same = ap (λ r. map (λ k. k.entry) r) same
+
+  abbrev later_side : Standing
+  later_side = record (old.standing n) { mate = Some m; state = s }
+
+  abbrev earlier_side : Standing
+  earlier_side = record (old.standing m) { mate = Some n; state = s }
+
+  at_later : new.standing n ≡ later_side
+  at_later = ap (λ f. f n) stand ∙ standing_here (standing_at old.standing m earlier_side) n later_side
+
+  at_earlier : new.standing m ≡ earlier_side
+  at_earlier = ap (λ f. f m) stand ∙ standing_other (standing_at old.standing m earlier_side) n m later_side (λ e. omega arith) ∙ standing_here old.standing m earlier_side
+
+  at_other : (k : ℕ) → k ≢ n → k ≢ m → new.standing k ≡ old.standing k
+  at_other k not_n not_m = ap (λ f. f k) stand ∙ standing_other (standing_at old.standing m earlier_side) n k later_side not_n ∙ standing_other old.standing m k earlier_side not_m
+
+  pub open_restood : (numbers : BTreeSet (MatchKey × ℕ)) → HasOpen numbers old → HasOpen numbers new
+  open_restood numbers has = record {
+    each = λ k i at unmatched. elim (cases_eq k n) [
+      | inl here ↦ absurd (apart (sym (ap (λ z. z.state) (ap new.standing here ∙ at_later)) ∙ unmatched))
+      | inr not_n ↦ elim (cases_eq k m) [
+        | inl here ↦ absurd (apart (sym (ap (λ z. z.state) (ap new.standing here ∙ at_earlier)) ∙ unmatched))
+        | inr not_m ↦ has.each k i (ap (λ h. instruction_at h k) (sym history_same) ∙ at) (ap (λ z. z.state) (sym (at_other k not_n not_m)) ∙ unmatched)
+      ]
+    ];
+  }
+
+  pub due_restood : (places : BTreeSet (ℕ × ℕ)) → HasDue places old → PlacedAt places (instruction_at (history_of old) n) n → HasDue places new
+  due_restood places has placed = record {
+    each = λ p pair. elim (cases_eq p.number n) [
+      | inl here ↦
+          let at : instruction_at (history_of old) n ≡ Some pair.later = ap (λ h. instruction_at h n) (sym history_same) ∙ ap (instruction_at (history_of new)) (sym here) ∙ pair.is_later in
+          let there : contains place_cmp places (number_of pair.later.instruction.day, n) ≡ true = subst (λ o. PlacedAt places o n) at placed in
+          subst (λ d. contains place_cmp places (d, p.number) ≡ true) pair.day (subst (λ k. contains place_cmp places (number_of pair.later.instruction.day, k) ≡ true) (sym here) there)
+      | inr not_n ↦ elim (cases_eq p.number m) [
+        | inl here ↦
+            let mates : Some n ≡ Some pair.mate = sym (ap (λ z. z.mate) (ap new.standing here ∙ at_earlier)) ∙ pair.has_mate in
+            let mate : n ≡ pair.mate = cc in
+            let earlier = pair.is_earlier in
+            absurd (omega arith)
+        | inr not_m ↦
+            let stood = at_other p.number not_n not_m in
+            has.each p (record {
+              later = pair.later;
+              mate = pair.mate;
+              reason = pair.reason;
+              is_later = ap (λ h. instruction_at h p.number) (sym history_same) ∙ pair.is_later;
+              has_mate = ap (λ z. z.mate) (sym stood) ∙ pair.has_mate;
+              is_earlier = pair.is_earlier;
+              matched = ap (λ z. z.state) (sym stood) ∙ pair.matched;
+              day = pair.day;
+            })
+      ]
+    ];
+  }
+
+-- The calls that change.
+
+pub after_append : {T : Type 0} (r : Result T Fault) (keys keys' : Keys) (numbers numbers' : BTreeSet (MatchKey × ℕ)) (places : BTreeSet (ℕ × ℕ)) (noted noted' : List Entry) (old new : View) (n : ℕ) (entry : Entry) (reply : Reply)
+    → new.is_honest → old.is_sure → new.is_sure → old.stage ≡ Begun → n ≡ length old.content.register + 1 → IsIndexed old keys numbers places noted
+    → HoldsOpen numbers numbers' → OpensAt numbers' (instructed entry) n → noted' ≡ noted ++ entry ∷ []
+    → ((history : List Entry) → AreKeysOf keys history → n ≡ length history + 1 → AreKeysOf keys' (history ++ entry ∷ []))
+    → (new.is_honest → old.is_sure → OnOk r (new.content ≡ appended entry reply old.content)) → OnOk r (Stays old new) → OnErr r (Falls old new) → IsIndexed new keys' numbers' places noted'
+after_append r keys keys' numbers numbers' places noted noted' old new n entry reply honest was_sure sure stage is indexed all opens more keyed added ok err =
+    by_end r added ok err
+  where
+    apart : old.stage ≢ Failed
+    apart = begun_is_not_failed old.stage stage
+
+    whole : history_of old.content ≡ history_of old.mark ++ noted
+    whole = indexed.grown apart
+
+    longer : (mark : Content) → mark ≡ old.mark → history_of mark ++ noted' ≡ (history_of old.mark ++ noted) ++ entry ∷ []
+    longer mark same = ap (λ z. history_of z ++ noted') same ∙ ap (λ z. history_of old.mark ++ z) more ∙ sym (append_assoc (history_of old.mark) noted (entry ∷ []))
+
+    count : n ≡ length (history_of old.mark ++ noted) + 1
+    count = is ∙ ap (λ z. z + 1) (sym (size_of old.content) ∙ ap length whole)
+
+    keys_now : (mark : Content) → mark ≡ old.mark → AreKeysOf keys' (history_of mark ++ noted')
+    keys_now mark same = subst (AreKeysOf keys') (sym (longer mark same)) (keyed (history_of old.mark ++ noted) indexed.keyed count)
+
+    by_end : {T : Type 0} (r : Result T Fault) → (new.is_honest → old.is_sure → OnOk r (new.content ≡ appended entry reply old.content)) → OnOk r (Stays old new) → OnErr r (Falls old new) → IsIndexed new keys' numbers' places noted'
+    by_end (Ok x) added ok err =
+        let mark = ok.mark honest was_sure in
+        let content = added honest was_sure in
+        record {
+          idle = λ idle. absurd (begun_is_not_idle old.stage stage (sym ok.stage ∙ idle));
+          keyed = keys_now new.mark mark;
+          grown = λ up. ap history_of content ∙ history_more entry reply old.content ∙ ap (λ h. h ++ entry ∷ []) whole ∙ sym (longer new.mark mark);
+          open_marked = subst (HasOpen numbers') (sym mark) (found_more numbers numbers' old.mark all indexed.open_marked);
+          open_now = λ up. subst (HasOpen numbers') (sym content) (open_appended entry reply old.content n is numbers' (found_more numbers numbers' old.content all (indexed.open_now apart)) opens);
+          due_marked = subst (HasDue places) (sym mark) indexed.due_marked;
+          due_now = λ up. subst (HasDue places) (sym content) (due_appended entry reply old.content n is places (indexed.due_now apart));
+        }
+    by_end (Err f) added ok err =
+        let mark = err.mark honest sure in
+        let failed : new.stage ≡ Failed = err.stage ∙ ap fallen stage in
+        record {
+          idle = λ idle. let bad = sym failed ∙ idle in cc;
+          keyed = keys_now new.mark mark;
+          grown = λ up. absurd (up failed);
+          open_marked = subst (HasOpen numbers') (sym mark) (found_more numbers numbers' old.mark all indexed.open_marked);
+          open_now = λ up. absurd (up failed);
+          due_marked = subst (HasDue places) (sym mark) indexed.due_marked;
+          due_now = λ up. absurd (up failed);
+        }
+
+-- a failure before the call: what was found is found
+pub after_failure : (keys keys' : Keys) (numbers numbers' : BTreeSet (MatchKey × ℕ)) (places places' : BTreeSet (ℕ × ℕ)) (noted noted' : List Entry) (old new : View) → IsIndexed old keys numbers places noted
+    → new.stage ≡ Failed → new.mark ≡ old.mark → HoldsOpen numbers numbers' → HoldsDue places places' → noted' ≡ noted → ((history : List Entry) → AreKeysOf keys history → AreKeysOf keys' history)
+    → IsIndexed new keys' numbers' places' noted'
+after_failure keys keys' numbers numbers' places places' noted noted' old new indexed failed mark all_open all_due same keyed = record {
+  idle = λ idle. let bad = sym failed ∙ idle in cc;
+  keyed = subst (AreKeysOf keys') (ap (λ z. history_of old.mark ++ z) (sym same) ∙ ap (λ m. history_of m ++ noted') (sym mark)) (keyed (history_of old.mark ++ noted) indexed.keyed);
+  grown = λ up. absurd (up failed);
+  open_marked = subst (HasOpen numbers') (sym mark) (found_more numbers numbers' old.mark all_open indexed.open_marked);
+  open_now = λ up. absurd (up failed);
+  due_marked = subst (HasDue places') (sym mark) (due_more places places' old.mark all_due indexed.due_marked);
+  due_now = λ up. absurd (up failed);
+}
+
+-- two instructions came to stand otherwise
+pub after_standing : (keys : Keys) (numbers : BTreeSet (MatchKey × ℕ)) (places places' : BTreeSet (ℕ × ℕ)) (noted : List Entry) (old new : View) (m n : ℕ) (s : State)
+    → new.is_honest → old.is_sure → old.stage ≡ Begun → IsIndexed old keys numbers places noted → Stays old new → m < n → s ≢ Unmatched
+    → HoldsDue places places' → PlacedAt places' (instruction_at (history_of old.content) n) n → new.content.register ≡ old.content.register → new.content.standing ≡ standing_both old.content.standing m n s
+    → IsIndexed new keys numbers places' noted
+after_standing keys numbers places places' noted old new m n s honest was_sure stage indexed ok two other all placed register standing =
+    let apart = begun_is_not_failed old.stage stage in
+    let mark = ok.mark honest was_sure in
+    record {
+      idle = λ idle. absurd (begun_is_not_idle old.stage stage (sym ok.stage ∙ idle));
+      keyed = subst (λ z. AreKeysOf keys (history_of z ++ noted)) (sym mark) indexed.keyed;
+      grown = λ up. ap (λ r. map (λ k. k.entry) r) register ∙ indexed.grown apart ∙ ap (λ z. history_of z ++ noted) (sym mark);
+      open_marked = subst (HasOpen numbers) (sym mark) indexed.open_marked;
+      open_now = λ up. open_restood old.content new.content m n s two other register standing numbers (indexed.open_now apart);
+      due_marked = subst (HasDue places') (sym mark) (due_more places places' old.mark all indexed.due_marked);
+      due_now = λ up. due_restood old.content new.content m n s two other register standing places' (due_more places places' old.content all (indexed.due_now apart)) placed;
+    }
+
+-- the call failed
+pub after_fault : (keys : Keys) (numbers : BTreeSet (MatchKey × ℕ)) (places places' : BTreeSet (ℕ × ℕ)) (noted : List Entry) (old new : View) → new.is_honest → new.is_sure → old.stage ≡ Begun → IsIndexed old keys numbers places noted
+    → HoldsDue places places' → Falls old new → IsIndexed new keys numbers places' noted
+after_fault keys numbers places places' noted old new honest sure stage indexed all falls =
+    after_failure keys keys numbers numbers places places' noted noted old new indexed (falls.stage ∙ ap fallen stage) (falls.mark honest sure) (λ q there. there) all refl (λ history k. k)
+
+-- The calls of pairs, by their results.
+
+pub where_it_failed : {T E : Type 0} {P : Type 0} (r : Result T E) → true ≡ is_err r → OnErr r P → P
+where_it_failed (Ok x) e p = absurd (cc)
+where_it_failed (Err f) e p = p
+
+pub where_it_went : {T E : Type 0} {P : Type 0} (r : Result T E) → false ≡ is_err r → OnOk r P → P
+where_it_went (Ok x) e p = p
+where_it_went (Err f) e p = absurd (cc)
+
+module _ (keys : Keys) (numbers : BTreeSet (MatchKey × ℕ)) (places places' : BTreeSet (ℕ × ℕ)) (noted : List Entry) (old new : View) (honest : new.is_honest) (was_sure : old.is_sure) (sure : new.is_sure)
+    (stage : old.stage ≡ Begun) (indexed : IsIndexed old keys numbers places noted) (all : HoldsDue places places') where
+  pub after_pair : {T : Type 0} (r : Result T Fault) (m n : ℕ) → m < n → PlacedAt places' (instruction_at (history_of old.content) n) n
+      → (new.is_honest → old.is_sure → OnOk r (new.content ≡ paired m n old.content)) → OnOk r (Stays old new) → OnErr r (Falls old new) → IsIndexed new keys numbers places' noted
+  after_pair (Ok x) m n two placed added ok err =
+      let content = added honest was_sure in
+      after_standing keys numbers places places' noted old new m n (Matched Future) honest was_sure stage indexed ok two (λ e. cc) all placed (ap (λ c. c.register) content) (ap (λ c. c.standing) content)
+  after_pair (Err f) m n two placed added ok err = after_fault keys numbers places places' noted old new honest sure stage indexed all err
+
+  settled_so : (n mate : ℕ) (earlier later : Instructed) (outcome : Outcome) → mate < n → PlacedAt places' (instruction_at (history_of old.content) n) n → Stays old new
+      → TriesSides old.content n mate earlier later outcome new.content → IsIndexed new keys numbers places' noted
+  settled_so n mate earlier later outcomes.Settled two placed ok ends =
+      after_standing keys numbers places places' noted old new mate n Settled honest was_sure stage indexed ok two (λ e. cc) all placed (ap (λ c. c.register) ends.1) (ap (λ c. c.standing) ends.1)
+  settled_so n mate earlier later (Lacks Securities) two placed ok ends =
+      after_standing keys numbers places places' noted old new mate n (Matched Lack) honest was_sure stage indexed ok two (λ e. cc) all placed (ap (λ c. c.register) ends.1) (ap (λ c. c.standing) ends.1)
+  settled_so n mate earlier later (Lacks LacksMoney) two placed ok ends = absurd ends
+
+  pub after_settle : (r : Result Outcome Fault) (n : ℕ) → CanSettle old.content n → PlacedAt places' (instruction_at (history_of old.content) n) n
+      → (new.is_honest → old.is_sure → IfOk r (λ outcome. TriesPair old.content n outcome new.content)) → OnOk r (Stays old new) → OnErr r (Falls old new) → IsIndexed new keys numbers places' noted
+  after_settle (Ok outcome) n can placed settles ok err =
+      let s = settles honest was_sure in
+      let mates : Some s.mate ≡ Some can.mate = sym s.pair.has_mate ∙ can.pair.has_mate in
+      let mate : s.mate ≡ can.mate = cc in
+      let less = can.two in
+      settled_so n s.mate s.earlier s.later outcome (omega arith) placed ok s.ends
+  after_settle (Err f) n can placed settles ok err = after_fault keys numbers places places' noted old new honest sure stage indexed all err
+
+-- what was added since `begin` is tidied
+pub retidied : (keys : Keys) (numbers numbers' : BTreeSet (MatchKey × ℕ)) (places places' : BTreeSet (ℕ × ℕ)) (noted : List Entry) (count : ℕ) (view : View) → view.stage ≢ Failed → count ≡ length noted
+    → HoldsOn (HasOpen numbers) (HasOpen numbers') view.content count → HoldsOn (HasDue places) (HasDue places') view.content count → IsIndexed view keys numbers places noted → IsIndexed view keys numbers' places' noted
+retidied keys numbers numbers' places places' noted count view apart is open_on due_on indexed =
+    let whole = ap length (indexed.grown apart) in
+    let parts = length-append (history_of view.mark) noted in
+    let held = size_of view.content in
+    let marked = size_of view.mark in
+    let fewer : length view.mark.register + count ≡ length view.content.register = omega arith in
+    record {
+      idle = indexed.idle;
+      keyed = indexed.keyed;
+      grown = indexed.grown;
+      open_marked = open_on.marked view.mark fewer indexed.open_marked;
+      open_now = λ up. open_on.now (indexed.open_now up);
+      due_marked = due_on.marked view.mark fewer indexed.due_marked;
+      due_now = λ up. due_on.now (indexed.due_now up);
+    }
+
+pub still_begun : (old new : View) → old.stage ≡ Begun → Stays old new → new.stage ≢ Failed
+still_begun old new stage ok failed = let bad = sym stage ∙ sym ok.stage ∙ failed in cc

@@ -1,0 +1,6 @@
+mod DueLemmas
+mod IndexedLemmas
+mod KeyIndexLemmas
+mod NumbersLemmas
+mod OpenLemmas
+mod TidyLemmas

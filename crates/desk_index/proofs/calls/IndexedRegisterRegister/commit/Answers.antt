@@ -1,0 +1,21 @@
+use Rattle.std.proofs.Common.{sym, subst}
+use Rattle.desk_index.specs.DuePlaces.{HasDue}
+use Rattle.desk_lists.specs.ListView.{view_of_lists}
+use Rattle.desk_index.specs.Open.{HasOpen}
+use Rattle.desk_index.proofs.IndexedLemmas.{begun_is_not_failed, idle_indexed, idle_mark, kept_keys}
+use Rattle.desk_index.proofs.calls.IndexedRegisterRegister.commit.Goals as goal
+
+pub invariant_of-self-2 : goal.invariant_of-self-2
+invariant_of-self-2 c =
+    let r = c.args.self.now in
+    let old = view_of_lists r.held in
+    let new = view_of_lists c.commit.new.self in
+    let commits = c.in_ok-commit.ensures.ok in
+    let same = commits.content tt tt in
+    let apart = begun_is_not_failed old.stage c.requires in
+    record {
+      indexed = idle_indexed r.keys c.tidy_all.new.numbers c.tidy_all.new.places c.truncate.new.self.items new (idle_mark c.commit.new.self commits.stage) c.truncate.ensures.items
+          (kept_keys r.keys r.unmatched r.matched r.noted.items old new r.indexed c.requires same)
+          (c.tidy_all.ensures.unmatched (subst (HasOpen r.unmatched) (sym same) (r.indexed.open_now apart)))
+          (c.tidy_all.ensures.matched (subst (HasDue r.matched) (sym same) (r.indexed.due_now apart)));
+    }

@@ -1,0 +1,39 @@
+use Rattle.std.proofs.Common.{sym, ◌∙◌, refl}
+use Rattle.desk_lists.specs.ListView.{view_of_lists}
+use Rattle.desk_index.proofs.IndexedLemmas.{after_failure, after_pair, retidied, still_begun, where_it_went}
+use Rattle.desk_index.proofs.calls.IndexedRegisterRegister.pair.Goals as goal
+
+pub invariant_of-self : goal.invariant_of-self
+invariant_of-self c =
+    let r = c.args.self.now in
+    let noting = c.note_pair in
+    record {
+      indexed = after_failure r.keys r.keys r.unmatched r.unmatched r.matched noting.new.places r.noted.items r.noted.items (view_of_lists r.held) (view_of_lists c.fail.new.self) r.indexed
+          c.fail.ensures.stage c.fail.ensures.mark (λ q there. there) noting.ensures.all refl (λ history keyed. keyed);
+    }
+
+pub returns-then-is_err-clause-change : goal.returns-then-is_err-clause-change
+returns-then-is_err-clause-change c = record { ok = tt; err = c.fail.ensures.falls; later = c.fail.ensures.later; blame = λ is. let bad = sym c.fail.ensures.fault ∙ is in cc }
+
+pub invariant_of-self-in-Ok : goal.invariant_of-self-in-Ok
+invariant_of-self-in-Ok c =
+    let r = c.args.self.now in
+    let noting = c.note_pair in
+    let change = c.pair.ensures.change in
+    let held = view_of_lists c.pair.new.self in
+    let indexed = after_pair r.keys r.unmatched r.matched noting.new.places r.noted.items (view_of_lists r.held) (view_of_lists c.pair.new.self) tt tt tt c.requires.stage r.indexed noting.ensures.all
+    c.pair.result c.args.earlier c.args.later (c.requires.fits tt tt).two (where_it_went noting.result c.if-is_err.ensures.value noting.ensures.opened) c.pair.ensures.paired change.ok change.err in
+    record {
+      indexed = retidied r.keys r.unmatched c.tidy_new.new.numbers noting.new.places c.tidy_new.new.places r.noted.items c.noted_count-noted.result held
+          (still_begun (view_of_lists r.held) held c.requires.stage c.in-Ok.ensures.change.ok) c.noted_count-noted.ensures c.tidy_new.ensures.unmatched c.tidy_new.ensures.matched indexed;
+    }
+
+pub invariant_of-self-in-Err-1 : goal.invariant_of-self-in-Err-1
+invariant_of-self-in-Err-1 c =
+    let r = c.args.self.now in
+    let noting = c.note_pair in
+    let change = c.pair.ensures.change in
+    record {
+      indexed = after_pair r.keys r.unmatched r.matched noting.new.places r.noted.items (view_of_lists r.held) (view_of_lists c.pair.new.self) tt tt tt c.requires.stage r.indexed noting.ensures.all
+          c.pair.result c.args.earlier c.args.later (c.requires.fits tt tt).two (where_it_went noting.result c.if-is_err.ensures.value noting.ensures.opened) c.pair.ensures.paired change.ok change.err;
+    }

@@ -1,0 +1,19 @@
+use Rattle.std.proofs.Common.{◌∙◌, sym}
+use Rattle.desk_index.proofs.KeyIndexLemmas.{noted_command, noted_message, on_err, on_ok}
+use Rattle.desk_index.proofs.keys.Keys.note.Goals as goal
+
+pub returns-in-Operator-clause-noted : goal.returns-in-Operator-clause-noted
+returns-in-Operator-clause-noted c history keys is =
+    on_ok c.put_first.result (noted_command c.args.self.now c.put_first.new.numbers history c.args.entry.now c.reference-reference.result c.args.number keys is (sym c.sender.ensures ∙ c.in-Operator.is) c.reference-reference.ensures) c.put_first.ensures.put
+
+pub returns-in-Operator-clause-err : goal.returns-in-Operator-clause-err
+returns-in-Operator-clause-err c history keys =
+    on_err c.put_first.result (λ same. record { commands = λ q. same q ∙ keys.commands q; messages = keys.messages }) c.put_first.ensures.err
+
+pub returns-in-Participant-clause-noted : goal.returns-in-Participant-clause-noted
+returns-in-Participant-clause-noted c history keys is =
+    on_ok c.put_first-in-Participant.result (noted_message c.args.self.now c.put_first-in-Participant.new.numbers history c.args.entry.now c.in-Participant.bic c.reference-reference.result c.args.number keys is (sym c.sender.ensures ∙ c.in-Participant.is) c.reference-reference.ensures) c.put_first-in-Participant.ensures.put
+
+pub returns-in-Participant-clause-err : goal.returns-in-Participant-clause-err
+returns-in-Participant-clause-err c history keys =
+    on_err c.put_first-in-Participant.result (λ same. record { commands = keys.commands; messages = λ b q. same (b, q) ∙ keys.messages b q }) c.put_first-in-Participant.ensures.err

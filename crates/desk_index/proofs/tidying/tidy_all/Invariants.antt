@@ -1,0 +1,14 @@
+use Rattle.std.proofs.Common.{vec_len}
+use Rattle.desk_index.specs.DuePlaces.{HasDue}
+use Rattle.desk_lists.specs.ListView.{view_of_lists}
+use Rattle.desk_index.specs.Open.{HasOpen}
+use Rattle.desk_index.proofs.tidying.tidy_all.Given as goal
+
+abbrev pub invariant-loop-number : goal.invariant-loop-number
+invariant-loop-number l = record {
+  open_left : HasOpen l.fn.numbers (view_of_lists l.held).content → HasOpen l.numbers (view_of_lists l.held).content;
+  due_left : HasDue l.fn.places (view_of_lists l.held).content → HasDue l.places (view_of_lists l.held).content;
+}
+
+abbrev pub decreases-loop-number : goal.decreases-loop-number
+decreases-loop-number l = vec_len l.touched

@@ -1,0 +1,22 @@
+-- Where each key stands, kept beside the entries.
+use Rattle.std.specs.Prelude.{◌≡◌, ℕ, List}
+use Rattle.std.specs.BTreeMap.{get}
+use Rattle.std.specs.Cmp.Lexicographic.{slice_cmp}
+use Rattle.std.specs.Ordering.{nat_cmp, ordering_then}
+use Rattle.std.specs.declared.cmp.Ordering.{Ordering}
+use Rattle.desk_rules.specs.declared.entry.Entry.{Entry}
+use Rattle.desk_rules.specs.declared.entry.Sender.TheVariants.{Operator, Participant as FromParticipant}
+use Rattle.desk_rules.specs.History.{number_of_key}
+use Rattle.desk_index.specs.declared.keys.Keys.{Keys}
+
+-- the order of texts, and of a sender's BIC with a reference
+abbrev pub text_cmp : List ℕ → List ℕ → Ordering
+text_cmp = slice_cmp nat_cmp
+
+abbrev pub message_cmp : List ℕ × List ℕ → List ℕ × List ℕ → Ordering
+message_cmp a b = ordering_then (text_cmp a.0 b.0) (text_cmp a.1 b.1)
+
+-- the keys have the number of the first entry with each key
+pub record AreKeysOf (keys : Keys) (history : List Entry) : Type 0 where
+  pub commands : (reference : List ℕ) → get text_cmp keys.commands reference ≡ number_of_key history Operator reference
+  pub messages : (bic reference : List ℕ) → get message_cmp keys.messages (bic, reference) ≡ number_of_key history (FromParticipant bic) reference

@@ -1,0 +1,252 @@
+//! The calls of a register in lists with look-ups beside them.
+ghost use Rattle.std.specs.Prelude.{◌≡◌, ◌≤◌, length};
+ghost use Rattle.desk_rules.specs.declared.limits.TheConstants.{MOST_ENTRIES};
+ghost use Rattle.desk_register.specs.Changes.{empty_content};
+ghost use Rattle.desk_index.specs.IndexView.{view_of_index};
+
+use crate::due_places::first_due;
+use crate::indexed_register::IndexedRegister;
+use crate::keys::Keys;
+use crate::noting::{note_entry, note_pair};
+use crate::opposites::first_open_opposite;
+use crate::tidying::{forget_all, tidy_all, tidy_new};
+use desk_codes::{AccountId, Bic, Day, Isin, Reference};
+use desk_lists::ListRegister;
+use desk_msg::{Instruction, Kind};
+use desk_register::{Fault, Outcome, Register, Stage};
+use desk_rules::{Entry, Instructed, Place, Reply, Sender, Standing};
+use std::alloc::Global;
+use std::collections::BTreeSet;
+
+impl IndexedRegister {
+    /// An empty register for at most `limit` entries, which are `MOST_ENTRIES` at most.
+    pub fn new(alloc: Global, limit: u64) -> IndexedRegister
+        requires { limit ≤ MOST_ENTRIES }
+        ensures empty { (view_of_index result).content ≡ empty_content }
+        ensures limit { (view_of_index result).room ≡ limit }
+        ensures stage { (view_of_index result).stage ≡ Stage.Idle }
+    {
+        IndexedRegister {
+            held: ListRegister::new(alloc, limit),
+            keys: Keys::new(alloc),
+            unmatched: BTreeSet::new(alloc),
+            matched: BTreeSet::new(alloc),
+            noted: Vec::new(alloc),
+            touched: Vec::new(alloc),
+        }
+    }
+
+    /// Whether a `begin` is open, and whether a call within it has failed.
+    pub fn stage(&self) -> Stage
+        ensures { result ≡ (view_of_index self.now).stage }
+    {
+        self.held.stage()
+    }
+}
+
+impl Register for IndexedRegister {
+    ghost use Rattle.std.specs.Prelude.{true};
+    ghost use Rattle.desk_index.specs.IndexView.{view_of_index};
+
+    ghost view = { view_of_index };
+
+    ghost plain = { true };
+
+    fn begin(&mut self, alloc: Global) -> Result<(), Fault> {
+        self.held.begin(alloc)
+    }
+
+    fn commit(&mut self, alloc: Global) -> Result<(), Fault> {
+        self.held.commit(alloc)?;
+        self.noted.truncate(0);
+        tidy_all(
+            &self.held,
+            &mut self.unmatched,
+            &mut self.matched,
+            &mut self.touched,
+        );
+        Ok(())
+    }
+
+    fn back(&mut self, alloc: Global) -> Result<(), Fault> {
+        self.held.back(alloc)?;
+        let count = self.held.entry_count();
+        forget_all(&mut self.keys, &mut self.noted, count);
+        self.touched.truncate(0);
+        Ok(())
+    }
+
+    fn limit(&self) -> u64 {
+        self.held.limit()
+    }
+
+    fn count(&mut self, alloc: Global) -> Result<u64, Fault> {
+        self.held.count(alloc)
+    }
+
+    fn participant(&mut self, alloc: Global, bic: Bic) -> Result<bool, Fault> {
+        self.held.participant(alloc, bic)
+    }
+
+    fn owner(&mut self, alloc: Global, account: AccountId) -> Result<Option<Bic>, Fault> {
+        self.held.owner(alloc, account)
+    }
+
+    fn security(&mut self, alloc: Global, isin: Isin) -> Result<Option<Kind>, Fault> {
+        self.held.security(alloc, isin)
+    }
+
+    fn outstanding(&mut self, alloc: Global, isin: Isin) -> Result<u64, Fault> {
+        self.held.outstanding(alloc, isin)
+    }
+
+    fn last_run(&mut self, alloc: Global) -> Result<Option<Day>, Fault> {
+        self.held.last_run(alloc)
+    }
+
+    fn position(&mut self, alloc: Global, account: AccountId, isin: Isin) -> Result<u64, Fault> {
+        self.held.position(alloc, account, isin)
+    }
+
+    fn number_of(
+        &mut self,
+        alloc: Global,
+        sender: Sender,
+        reference: Reference,
+    ) -> Result<Option<u64>, Fault> {
+        if let Stage::Failed = self.held.stage() {
+            return self.held.number_of(alloc, sender, reference);
+        }
+        Ok(self.keys.number(&sender, &reference))
+    }
+
+    fn entry(&mut self, alloc: Global, number: u64) -> Result<Option<Entry>, Fault> {
+        self.held.entry(alloc, number)
+    }
+
+    fn standing(&mut self, alloc: Global, number: u64) -> Result<Standing, Fault> {
+        self.held.standing(alloc, number)
+    }
+
+    fn reply(&mut self, alloc: Global, number: u64) -> Result<Option<Reply>, Fault> {
+        self.held.reply(alloc, number)
+    }
+
+    fn first_opposite(
+        &mut self,
+        alloc: Global,
+        sender: Bic,
+        instruction: &Instruction,
+    ) -> Result<Option<u64>, Fault> {
+        if let Stage::Failed = self.held.stage() {
+            return self.held.first_opposite(alloc, sender, instruction);
+        }
+        let wanted = Instructed {
+            sender,
+            instruction: *instruction,
+        };
+        Ok(first_open_opposite(&self.held, &self.unmatched, &wanted))
+    }
+
+    fn due_pair_after(
+        &mut self,
+        alloc: Global,
+        day: Day,
+        place: Option<Place>,
+    ) -> Result<Option<Place>, Fault> {
+        if let Stage::Failed = self.held.stage() {
+            return self.held.due_pair_after(alloc, day, place);
+        }
+        Ok(first_due(&self.held, &self.matched, day.yyyymmdd(), &place))
+    }
+
+    fn security_after(&mut self, alloc: Global, isin: Option<Isin>) -> Result<Option<Isin>, Fault> {
+        self.held.security_after(alloc, isin)
+    }
+
+    fn held(&mut self, alloc: Global, isin: Isin) -> Result<u64, Fault> {
+        self.held.held(alloc, isin)
+    }
+
+    fn append(&mut self, alloc: Global, entry: Entry, reply: Reply) -> Result<(), Fault> {
+        let number = self.held.entry_count() + 1;
+        if note_entry(
+            &mut self.keys,
+            &mut self.unmatched,
+            &mut self.noted,
+            &entry,
+            number,
+        )
+        .is_err()
+        {
+            return Err(self.held.fail());
+        }
+        self.held.append(alloc, entry, reply)
+    }
+
+    fn pair(&mut self, alloc: Global, earlier: u64, later: u64) -> Result<(), Fault> {
+        if note_pair(
+            &self.held,
+            &mut self.matched,
+            &mut self.touched,
+            earlier,
+            later,
+        )
+        .is_err()
+        {
+            return Err(self.held.fail());
+        }
+        match self.held.pair(alloc, earlier, later) {
+            Ok(()) => {
+                let noted = noted_count(&self.noted);
+                tidy_new(
+                    &self.held,
+                    &mut self.unmatched,
+                    &mut self.matched,
+                    noted,
+                    earlier,
+                    later,
+                );
+                Ok(())
+            }
+            Err(fault) => Err(fault),
+        }
+    }
+
+    fn settle_pair(&mut self, alloc: Global, number: u64) -> Result<Outcome, Fault> {
+        let mate = self.held.standing_at(number).mate.unwrap_or(number);
+        if note_pair(
+            &self.held,
+            &mut self.matched,
+            &mut self.touched,
+            mate,
+            number,
+        )
+        .is_err()
+        {
+            return Err(self.held.fail());
+        }
+        match self.held.settle_pair(alloc, number) {
+            Ok(outcome) => {
+                let noted = noted_count(&self.noted);
+                tidy_new(
+                    &self.held,
+                    &mut self.unmatched,
+                    &mut self.matched,
+                    noted,
+                    mate,
+                    number,
+                );
+                Ok(outcome)
+            }
+            Err(fault) => Err(fault),
+        }
+    }
+}
+
+/// How many entries were noted.
+fn noted_count(noted: &Vec<Entry>) -> usize
+    ensures { result ≡ length noted.now.items }
+{
+    noted.len()
+}

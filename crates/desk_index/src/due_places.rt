@@ -1,0 +1,51 @@
+//! The matched pairs by their settlement days and numbers.
+ghost use Rattle.std.specs.Prelude.{◌≡◌};
+ghost use Rattle.desk_register.specs.Looked.{IsDuePairAfter};
+ghost use Rattle.desk_lists.specs.ListView.{view_of_lists};
+ghost use Rattle.desk_index.specs.DuePlaces.{HasDue, IsDueAt, beginning};
+
+use desk_lists::ListRegister;
+use desk_rules::Place;
+use std::collections::BTreeSet;
+
+/// The pair that stands at a place, where it is due by a day and above a place.
+fn due_at(held: &ListRegister, at: (u64, u64), day: u64, above: &Option<Place>) -> Option<Place>
+    ensures { IsDueAt (view_of_lists held.now).content day above.now at result }
+{
+    let place = held.due_place(at.1, day, above)?;
+    if place.day != at.0 {
+        return None;
+    }
+    Some(place)
+}
+
+/// Where to begin, to find what is above a place.
+fn beginning(above: &Option<Place>) -> (u64, u64)
+    ensures { result ≡ beginning above.now }
+{
+    match above {
+        Some(place) => (place.day, place.number),
+        None => (0, 0),
+    }
+}
+
+/// The first place of a matched pair that is due by a day, above a place.
+pub fn first_due(
+    held: &ListRegister,
+    places: &BTreeSet<(u64, u64)>,
+    day: u64,
+    above: &Option<Place>,
+) -> Option<Place>
+    requires { HasDue places.now (view_of_lists held.now).content }
+    ensures { IsDuePairAfter (view_of_lists held.now).content day above.now result }
+{
+    for place in places.range(beginning(above)..) {
+        if place.0 > day {
+            return None;
+        }
+        if let Some(due) = due_at(held, *place, day, above) {
+            return Some(due);
+        }
+    }
+    None
+}

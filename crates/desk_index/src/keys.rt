@@ -1,0 +1,67 @@
+//! Where each key stands: the number of the first entry with it.
+ghost use Rattle.std.specs.Prelude.{◌≡◌, ◌+◌, ◌++◌, ◌∷◌, [], ℕ, List, length, OnOk, OnErr};
+ghost use Rattle.desk_rules.specs.declared.entry.Entry.{Entry as EntryValue};
+ghost use Rattle.desk_rules.specs.History.{number_of_key};
+ghost use Rattle.desk_index.specs.Keys.{AreKeysOf};
+
+use crate::first_numbers::{put_first, take_number};
+use desk_codes::{Bic, Reference};
+use desk_rules::{Entry, Sender};
+use std::alloc::{AllocError, Global};
+use std::collections::BTreeMap;
+
+/// The numbers of entries by their keys: the operator's by their references, participants' by sender and reference.
+#[derive(Drop)]
+pub struct Keys {
+    pub commands: BTreeMap<Reference, u64>,
+    pub messages: BTreeMap<(Bic, Reference), u64>,
+}
+
+impl Keys {
+    /// No keys.
+    pub fn new(alloc: Global) -> Keys
+        ensures { AreKeysOf result [] }
+    {
+        Keys {
+            commands: BTreeMap::new(alloc),
+            messages: BTreeMap::new(alloc),
+        }
+    }
+
+    /// The number of the first entry with a key.
+    pub fn number(&self, sender: &Sender, reference: &Reference) -> Option<u64>
+        ensures { (history : List EntryValue) → AreKeysOf self.now history → result ≡ number_of_key history sender.now reference.now }
+    {
+        match sender {
+            Sender::Operator => self.commands.get(reference).copied(),
+            Sender::Participant(bic) => self.messages.get(&(*bic, *reference)).copied(),
+        }
+    }
+
+    /// Notes an entry, which has this number.
+    pub fn note(&mut self, entry: &Entry, number: u64) -> Result<(), AllocError>
+        ensures noted { (history : List EntryValue) → AreKeysOf self.old history → number ≡ length history + 1
+            → OnOk result (AreKeysOf self.new (history ++ entry.now ∷ [])) }
+        ensures err { (history : List EntryValue) → AreKeysOf self.old history → OnErr result (AreKeysOf self.new history) }
+    {
+        let reference = entry.reference();
+        match entry.sender() {
+            Sender::Operator => put_first(&mut self.commands, reference, number),
+            Sender::Participant(bic) => put_first(&mut self.messages, (bic, reference), number),
+        }
+    }
+
+    /// Forgets the last entry, which has this number. No memory is taken.
+    pub fn forget(&mut self, entry: &Entry, number: u64)
+        ensures { (history : List EntryValue) → AreKeysOf self.old (history ++ entry.now ∷ []) → number ≡ length history + 1
+            → AreKeysOf self.new history }
+    {
+        let reference = entry.reference();
+        match entry.sender() {
+            Sender::Operator => take_number(&mut self.commands, reference, number),
+            Sender::Participant(bic) => {
+                take_number(&mut self.messages, (bic, reference), number);
+            }
+        }
+    }
+}

@@ -1,0 +1,108 @@
+//! What an entry, and a pair, add to the look-ups.
+ghost use Rattle.std.specs.Prelude.{◌≡◌, ◌+◌, ◌++◌, ◌∷◌, [], List, length, true, OnOk, OnErr, Some};
+ghost use Rattle.std.specs.BTreeSet.{contains};
+ghost use Rattle.desk_rules.specs.declared.entry.Entry.{Entry as EntryValue};
+ghost use Rattle.desk_rules.specs.History.{instructed, instruction_at};
+ghost use Rattle.desk_rules.specs.Content.{history_of};
+ghost use Rattle.desk_lists.specs.ListView.{view_of_lists};
+ghost use Rattle.desk_index.specs.DuePlaces.{HoldsDue, PlacedAt, place_cmp};
+ghost use Rattle.desk_index.specs.Keys.{AreKeysOf};
+ghost use Rattle.desk_index.specs.Open.{HoldsOpen, OpensAt};
+
+use crate::keys::Keys;
+use crate::match_key::{MatchKey, key_of};
+use crate::ordered::put_key;
+use desk_lists::ListRegister;
+use desk_rules::{Entry, Instructed};
+use std::alloc::AllocError;
+use std::collections::BTreeSet;
+
+/// Opens a number at the key of the instruction that an entry gives, if it gives one.
+fn open_entry(
+    numbers: &mut BTreeSet<(MatchKey, u64)>,
+    entry: &Entry,
+    number: u64,
+) -> Result<(), AllocError>
+    ensures all { HoldsOpen numbers.old numbers.new }
+    ensures opened { OnOk result (OpensAt numbers.new (instructed entry.now) number) }
+{
+    match entry.instructed() {
+        Some(i) => open_instruction(numbers, &i, number),
+        None => Ok(()),
+    }
+}
+
+/// Opens a number at the key of an instruction.
+fn open_instruction(
+    numbers: &mut BTreeSet<(MatchKey, u64)>,
+    i: &Instructed,
+    number: u64,
+) -> Result<(), AllocError>
+    ensures all { HoldsOpen numbers.old numbers.new }
+    ensures opened { OnOk result (OpensAt numbers.new (Some i.now) number) }
+{
+    put_key(numbers, (key_of(i), number))
+}
+
+/// Opens a place.
+fn open_place(places: &mut BTreeSet<(u64, u64)>, day: u64, number: u64) -> Result<(), AllocError>
+    ensures all { HoldsDue places.old places.new }
+    ensures opened { OnOk result (contains place_cmp places.new (day, number) ≡ true) }
+{
+    put_key(places, (day, number))
+}
+
+/// Notes an entry in all look-ups, and the entry itself.
+pub fn note_entry(
+    keys: &mut Keys,
+    numbers: &mut BTreeSet<(MatchKey, u64)>,
+    noted: &mut Vec<Entry>,
+    entry: &Entry,
+    number: u64,
+) -> Result<(), AllocError>
+    ensures all { HoldsOpen numbers.old numbers.new }
+    ensures opened { OnOk result (OpensAt numbers.new (instructed entry.now) number) }
+    ensures keyed { (history : List EntryValue) → AreKeysOf keys.old history → number ≡ length history + 1 → OnOk result (AreKeysOf keys.new (history ++ entry.now ∷ [])) }
+    ensures more { OnOk result (noted.new.items ≡ noted.old.items ++ entry.now ∷ []) }
+    ensures err_keys { (history : List EntryValue) → AreKeysOf keys.old history → OnErr result (AreKeysOf keys.new history) }
+    ensures err { OnErr result (noted.new.items ≡ noted.old.items) }
+{
+    noted.reserve(1)?;
+    open_entry(numbers, entry, number)?;
+    keys.note(entry, number)?;
+    noted.push(*entry).unwrap();
+    Ok(())
+}
+
+/// Notes a pair by its place, and the numbers of its two instructions.
+pub fn note_pair(
+    held: &ListRegister,
+    places: &mut BTreeSet<(u64, u64)>,
+    touched: &mut Vec<u64>,
+    earlier: u64,
+    later: u64,
+) -> Result<(), AllocError>
+    ensures all { HoldsDue places.old places.new }
+    ensures opened { OnOk result (PlacedAt places.new (instruction_at (history_of (view_of_lists held.now).content) later) later) }
+{
+    touched.reserve(2)?;
+    place_instruction(held, places, later)?;
+    touched.push(earlier).unwrap();
+    touched.push(later).unwrap();
+    Ok(())
+}
+
+/// Notes a pair by its place, where its number is an instruction's.
+fn place_instruction(
+    held: &ListRegister,
+    places: &mut BTreeSet<(u64, u64)>,
+    number: u64,
+) -> Result<(), AllocError>
+    ensures all { HoldsDue places.old places.new }
+    ensures opened { OnOk result (PlacedAt places.new (instruction_at (history_of (view_of_lists held.now).content) number) number) }
+{
+    match held.instruction_at(number) {
+        Some(i) => open_place(places, i.instruction.day.yyyymmdd(), number),
+        None => Ok(()),
+    }
+}

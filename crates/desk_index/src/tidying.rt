@@ -1,0 +1,117 @@
+//! What is taken out of the look-ups: keys at `back`, and what was matched or settled. No memory is taken.
+ghost use Rattle.std.specs.Prelude.{◌≡◌, ◌+◌, ◌++◌, [], List, length, true, ◌<◌, ◌^◌};
+ghost use Rattle.desk_rules.specs.declared.entry.Entry.{Entry as EntryValue};
+ghost use Rattle.desk_rules.specs.Content.{Content};
+ghost use Rattle.desk_lists.specs.ListView.{view_of_lists};
+ghost use Rattle.desk_index.specs.DuePlaces.{HasDue};
+ghost use Rattle.desk_index.specs.Indexed.{HoldsOn};
+ghost use Rattle.desk_index.specs.Keys.{AreKeysOf};
+ghost use Rattle.desk_index.specs.Open.{HasOpen};
+
+use crate::keys::Keys;
+use crate::match_key::{MatchKey, key_of};
+use crate::ordered::drop_key;
+use desk_lists::ListRegister;
+use desk_rules::{Entry, State};
+use std::collections::BTreeSet;
+
+/// Forgets the keys of all entries that were noted, behind so many others.
+pub fn forget_all(keys: &mut Keys, noted: &mut Vec<Entry>, count: u64)
+    requires { count < 2 ^ 63 }
+    ensures forgot { (history : List EntryValue) → AreKeysOf keys.old (history ++ noted.old.items) → count ≡ length history → AreKeysOf keys.new history }
+    ensures none { noted.new.items ≡ [] }
+{
+    while let Some(entry) = noted.pop() {
+        keys.forget(&entry, count + noted.len() as u64 + 1);
+    }
+}
+
+/// Takes out an instruction that is matched.
+fn tidy_open(held: &ListRegister, numbers: &mut BTreeSet<(MatchKey, u64)>, number: u64)
+    ensures now { HasOpen numbers.old (view_of_lists held.now).content → HasOpen numbers.new (view_of_lists held.now).content }
+    ensures others { (mark : Content) → length mark.register < number → HasOpen numbers.old mark → HasOpen numbers.new mark }
+{
+    if let State::Unmatched = held.standing_at(number).state {
+        return;
+    }
+    if let Some(i) = held.instruction_at(number) {
+        drop_key(numbers, (key_of(&i), number));
+    }
+}
+
+/// Takes out a pair that is settled.
+fn tidy_due(held: &ListRegister, places: &mut BTreeSet<(u64, u64)>, number: u64)
+    ensures now { HasDue places.old (view_of_lists held.now).content → HasDue places.new (view_of_lists held.now).content }
+    ensures others { (mark : Content) → length mark.register < number → HasDue places.old mark → HasDue places.new mark }
+{
+    if let State::Matched(_) = held.standing_at(number).state {
+        return;
+    }
+    if let Some(i) = held.instruction_at(number) {
+        drop_key(places, (i.instruction.day.yyyymmdd(), number));
+    }
+}
+
+/// Whether a number was added since `begin`, of so many: what `back` goes back to has no such number.
+fn is_new(held: &ListRegister, noted: usize, number: u64) -> bool
+    ensures { result ≡ true → (mark : Content) → length mark.register + noted ≡ length (view_of_lists held.now).content.register → length mark.register < number }
+{
+    let count = held.entry_count();
+    noted as u64 <= count && number > count - noted as u64
+}
+
+/// Takes out an instruction that is matched, where it was added since `begin`.
+fn tidy_new_open(
+    held: &ListRegister,
+    numbers: &mut BTreeSet<(MatchKey, u64)>,
+    noted: usize,
+    number: u64,
+)
+    ensures { HoldsOn (HasOpen numbers.old) (HasOpen numbers.new) (view_of_lists held.now).content noted }
+{
+    if is_new(held, noted, number) {
+        tidy_open(held, numbers, number);
+    }
+}
+
+/// Takes out a pair that is settled, where it was made since `begin`.
+fn tidy_new_due(held: &ListRegister, places: &mut BTreeSet<(u64, u64)>, noted: usize, number: u64)
+    ensures { HoldsOn (HasDue places.old) (HasDue places.new) (view_of_lists held.now).content noted }
+{
+    if is_new(held, noted, number) {
+        tidy_due(held, places, number);
+    }
+}
+
+/// Takes out what is matched and settled of a pair's two instructions, where they were added since `begin`.
+pub fn tidy_new(
+    held: &ListRegister,
+    numbers: &mut BTreeSet<(MatchKey, u64)>,
+    places: &mut BTreeSet<(u64, u64)>,
+    noted: usize,
+    earlier: u64,
+    later: u64,
+)
+    ensures unmatched { HoldsOn (HasOpen numbers.old) (HasOpen numbers.new) (view_of_lists held.now).content noted }
+    ensures matched { HoldsOn (HasDue places.old) (HasDue places.new) (view_of_lists held.now).content noted }
+{
+    tidy_new_open(held, numbers, noted, earlier);
+    tidy_new_open(held, numbers, noted, later);
+    tidy_new_due(held, places, noted, later);
+}
+
+/// Takes out what was matched and settled.
+pub fn tidy_all(
+    held: &ListRegister,
+    numbers: &mut BTreeSet<(MatchKey, u64)>,
+    places: &mut BTreeSet<(u64, u64)>,
+    touched: &mut Vec<u64>,
+)
+    ensures unmatched { HasOpen numbers.old (view_of_lists held.now).content → HasOpen numbers.new (view_of_lists held.now).content }
+    ensures matched { HasDue places.old (view_of_lists held.now).content → HasDue places.new (view_of_lists held.now).content }
+{
+    while let Some(number) = touched.pop() {
+        tidy_open(held, numbers, number);
+        tidy_due(held, places, number);
+    }
+}

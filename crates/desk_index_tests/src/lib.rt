@@ -1,0 +1,6 @@
+//! The tests of `desk_index`: its three look-ups. They stand in a crate of their own, since a crate with tests is
+//! proved twice.
+#![tactic(auto)]
+
+#[cfg(test)]
+mod tests;
