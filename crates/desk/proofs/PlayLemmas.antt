@@ -8,17 +8,17 @@ use Rattle.desk_book.specs.declared.limits.TheConstants.{LONGEST_SCRIPT}
 use Rattle.desk_rules.specs.declared.reply.Reply.{Reply}
 use Rattle.desk_rules.specs.Books.{Books}
 use Rattle.desk_lists.specs.declared.list_register.ListRegister.{ListRegister}
-use Rattle.desk_engine.specs.Applied.{Keeps, no_books}
+use Rattle.desk_engine.specs.Applied.{no_books}
 use Rattle.desk_lists.specs.ListView.{view_of_lists}
 use Rattle.desk_rules.specs.declared.limits.TheConstants.{MOST_ENTRIES}
 use Rattle.desk_register.specs.Changes.{empty_content}
 use Rattle.desk_register.specs.View.{View}
-use Rattle.desk_engine.proofs.KeptLemmas.{empty_kept}
+use Rattle.desk_book.proofs.FormedLemmas.{empty_formed}
 use Rattle.desk_book.proofs.RunLemmas.{open_all_along}
 use Rattle.desk_book.specs.declared.fault.Fault.{Fault}
 use Rattle.desk_book.specs.declared.fault.Fault.TheVariants.{Memory, Storage, Closed}
 use Rattle.desk_book.specs.Answered.{Run, says_closed, says_storage}
-use Rattle.desk_book.specs.Held.{Holds}
+use Rattle.desk_book.specs.Held.{Holds, KeepsFormed}
 use Rattle.desk_book.specs.Played.{PlaysScript, asked_in}
 use Rattle.desk.specs.PlayAnswer.{IsReplyOrMemory, IsPlayAnswer, told_answers, told_memory, told_input}
 use Rattle.desk.specs.Status.{failure_line}
@@ -81,10 +81,10 @@ told_alone (Ok status) known before after told wrote = let i = given known in (i
 told_alone (Err e) known before after told wrote = wrote
 
 -- a new register keeps the tables of no history, and so does what is equal to it
-pub new_keeps : (made held : ListRegister) → held ≡ made → (view_of_lists made).content ≡ empty_content → Keeps (view_of_lists held).room no_books (view_of_lists held).content
+pub new_keeps : (made held : ListRegister) → held ≡ made → (view_of_lists made).content ≡ empty_content → KeepsFormed (view_of_lists held).room no_books (view_of_lists held).content
 new_keeps made held same empty =
-    let P : ListRegister → Type 0 = λ r. Keeps (view_of_lists r).room no_books (view_of_lists r).content in
-    subst P (sym same) (empty_kept _ _ empty)
+    let P : ListRegister → Type 0 = λ r. KeepsFormed (view_of_lists r).room no_books (view_of_lists r).content in
+    subst P (sym same) (empty_formed _ _ empty)
 
 pub limit_is : (made held : ListRegister) → held ≡ made → (view_of_lists made).room ≡ MOST_ENTRIES → (view_of_lists held).room ≡ MOST_ENTRIES
 limit_is made held same limit = let P : ListRegister → Type 0 = λ r. (view_of_lists r).room ≡ MOST_ENTRIES in subst P (sym same) limit

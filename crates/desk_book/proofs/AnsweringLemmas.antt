@@ -1,5 +1,5 @@
 -- What is answered to an entry, from what the register keeps.
-use Rattle.std.proofs.Common.{◌≡◌, inl, inr, ℕ, zero, suc, ◌+◌, ◌<◌, ◌≤◌, ◌^◌, Bool, true, List, [], ◌∷◌, length, Option, Some, None, option_map, refl, ap, sym, ◌∙◌, subst, arith, lit<}
+use Rattle.std.proofs.Common.{◌≡◌, inl, inr, ℕ, zero, suc, ◌+◌, ◌<◌, ◌≤◌, ◌^◌, Bool, true, false, List, [], ◌∷◌, length, Option, Some, None, option_map, refl, ap, sym, ◌∙◌, subst, arith, lit<}
 use Rattle.std.specs.Prelude.{slice_get, is_some, nat_le, Result, Ok, Err, IfOk, OnOk}
 use Rattle.std.proofs.lemmas.Bool.{cases_Bool}
 use Rattle.desk_rules.specs.declared.limits.TheConstants.{MOST_QUANTITY}
@@ -15,7 +15,9 @@ use Rattle.desk_rules.specs.Books.{Books}
 use Rattle.desk_rules.specs.Verdict.{AsksTheSame, Check, IsVerdict, IsVerdictAt, checks_of, first_failing, is_from_stranger}
 use Rattle.desk_rules.specs.Facts.{kind_of}
 use Rattle.desk_rules.proofs.HistoryLemmas.{entry_at-known, slice_get-some}
+use Rattle.desk_rules.specs.WellFormed.{AreWellFormed, IsWellFormed}
 use Rattle.desk_engine.specs.Applied.{Keeps}
+use Rattle.desk_book.proofs.FormedLemmas.{formed_after}
 use Rattle.desk_rules.specs.Content.{Content}
 use Rattle.desk_register.specs.Looked.{held_of, reply_at}
 use Rattle.desk_register.specs.declared.register.Stage.{Stage}
@@ -26,8 +28,9 @@ use Rattle.desk_engine.proofs.HeldLemmas.{held_is, held_within}
 use Rattle.desk_engine.proofs.TablesLemmas.{length_is}
 use Rattle.desk_book.specs.declared.fault.Fault.{Fault}
 use Rattle.desk_book.specs.declared.total.SecurityTotal.{SecurityTotal}
-use Rattle.desk_book.specs.Answered.{IsSum, IsToldSums}
-use Rattle.desk_book.specs.Held.{Answers, Decides, IsPut}
+use Rattle.desk_book.specs.Answered.{IsSum, IsToldSums, says_closed}
+use Rattle.desk_book.specs.Held.{Answers, Decides, Ends, IsPut, IsReady, KeepsFormed}
+use Rattle.desk_book.specs.declared.task.Task.{Task}
 use Rattle.desk_book.specs.declared.task.Task.TheVariants.{Decide}
 use Rattle.desk_book.specs.Sums.{sums_text}
 use Rattle.desk_book.specs.Totals.{AreTotals, IsTotal}
@@ -186,7 +189,29 @@ decides_repeat_at v0 v1 v2 books e n r same room keeps verdict repeats stays =
     let P : Content → Type 0 = λ c. OnOk r (v2.content ≡ c) in
     decides_repeat v0.room books e v0.content v2.content n r verdict (repeats (keeps_at v0 v1 books same room keeps) (repeat_known v0.room books e n verdict)) (subst P same stays) keeps
 
-pub answers_decided : (limit : ℕ) (books : Books) (e : Entry) (content : Content) (r : Result Reply Fault) → IfOk r (λ reply. Decides limit books e reply content)
+pub answers_decided : (limit : ℕ) (books : Books) (e : Entry) (content : Content) (r : Result Reply Fault) → IsWellFormed e → AreWellFormed books.history → IfOk r (λ reply. Decides limit books e reply content)
     → IfOk r (λ reply. Answers limit books (Decide e) reply content)
-answers_decided limit books e content (Ok reply) d = record { after = d.after; answer = d.decided; keeps = d.keeps }
-answers_decided limit books e content (Err fault) d = d
+answers_decided limit books e content (Ok reply) new formed d =
+    record { after = d.after; answer = d.decided; keeps = record { tables = d.keeps; formed = formed_after d.decided.verdict books d.after e new formed d.decided.grows } }
+answers_decided limit books e content (Err fault) new formed d = d
+
+-- An open desk is ready again after an answer, unless that says that it is closed.
+kept_after : (task : Task) (r : Result Reply Fault) (old new : View) → says_closed r ≡ false → new.is_honest → Ends r old new → (books : Books) → KeepsFormed old.room books old.content
+    → IfOk r (λ reply. Answers old.room books task reply new.content) → (after : Books) × KeepsFormed new.room after new.content
+kept_after task (Ok reply) old new is honest ends books keeps a =
+    let Q : ℕ → Type 0 = λ k. KeepsFormed k a.after new.content in
+    (a.after, subst Q (sym ends.later.room) a.keeps)
+kept_after task (Err fault) old new is honest ends books keeps a =
+    let P : Content → Type 0 = λ c. KeepsFormed old.room books c in
+    let Q : ℕ → Type 0 = λ k. KeepsFormed k books new.content in
+    (books, subst Q (sym ends.later.room) (subst P (sym (ends.same is honest)) keeps))
+
+pub ready_after : (task : Task) (r : Result Reply Fault) (old new : View) (is_closed : Bool) → is_closed ≡ says_closed r → Ends r old new → IsReady false old
+    → ((books : Books) → new.is_honest → KeepsFormed old.room books old.content → IfOk r (λ reply. Answers old.room books task reply new.content)) → IsReady is_closed new
+ready_after task r old new is_closed is ends ready answers = record {
+  stage = λ ready_yet. ends.stage (sym is ∙ ready_yet);
+  sure = λ ready_yet honest. ends.sure (sym is ∙ ready_yet) honest;
+  books = λ ready_yet honest.
+      let kept = ready.books refl (ends.later.honest honest) in
+      kept_after task r old new (sym is ∙ ready_yet) honest ends kept.0 kept.1 (answers kept.0 honest kept.1);
+}

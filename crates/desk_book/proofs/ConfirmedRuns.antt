@@ -9,10 +9,10 @@ use Rattle.desk_rules.specs.declared.verdict.Verdict.TheVariants.{Accept, Repeat
 use Rattle.desk_rules.specs.Confirmations.{AccountFor, Confirmation, SayConfirmations}
 use Rattle.desk_rules.specs.Sent.{sent_of}
 use Rattle.desk_rules.specs.Books.{Books}
-use Rattle.desk_rules.specs.WellFormed.{AreAccepted, AreWellFormed, IsWellFormed}
+use Rattle.desk_rules.specs.WellFormed.{AreAccepted, IsWellFormed}
 use Rattle.desk_rules.proofs.ConfirmedChanges.{confirmed}
 use Rattle.desk_rules.proofs.Existence.{no_books}
-use Rattle.desk_rules.proofs.WellFormedLemmas.{formed_none, formed_push}
+use Rattle.desk_rules.proofs.WellFormedLemmas.{formed_none}
 use Rattle.desk_rules.specs.Verdict.{IsVerdict, WasAccepted}
 use Rattle.desk_engine.specs.Applied.{no_books as empty_books}
 use Rattle.desk_engine.proofs.HeldLemmas.{empty_keeps}
@@ -23,14 +23,14 @@ use Rattle.desk_book.specs.declared.task.Task.TheVariants.{Decide, Totals, Answe
 use Rattle.desk_book.specs.Answered.{Grows, IsAnswer, Run, Step, says_closed}
 use Rattle.desk_book.specs.Asked.{Asked}
 use Rattle.desk_book.specs.Task.{IsTask}
-use Rattle.desk_book.proofs.FormedLemmas.{formed_by}
+use Rattle.desk_book.proofs.FormedLemmas.{formed_after, formed_by}
 
 grown : (limit : ℕ) (verdict : Verdict) (books after : Books) (entry : Entry) → IsWellFormed entry → IsVerdict limit books entry verdict → AreAccepted limit books
     → Grows verdict books entry after → AreAccepted limit after
 grown limit Accept books after entry new is was grows = record {
   are = grows.are;
   accepted = subst (WasAccepted limit) (sym grows.history) (accepted_more limit books entry was.are was.accepted is);
-  formed = subst AreWellFormed (sym grows.history) (formed_push books.history entry was.formed new);
+  formed = formed_after Accept books after entry new was.formed grows;
 }
 grown limit (Repeat n) books after entry new is was grows = subst (AreAccepted limit) (sym grows) was
 grown limit (Refuse refusal) books after entry new is was grows = subst (AreAccepted limit) (sym grows) was

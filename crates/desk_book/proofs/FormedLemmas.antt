@@ -1,37 +1,25 @@
 -- Who reads an entry, reads a well formed one.
-use Rattle.std.proofs.Common.{◌≡◌, ℕ, Bool, true, false, List, inl, inr, refl, sym, ◌∙◌, drop, subst}
-use Rattle.std.proofs.lemmas.Bool.{cases_Bool}
-use Rattle.std.specs.Prelude.{MatchBool, codes, nat_eq, Ok}
-use Rattle.std.specs.Cmp.Lexicographic.{pointwise}
+use Rattle.std.proofs.Common.{◌≡◌, ℕ, Bool, true, false, List, sym, subst}
+use Rattle.std.specs.Prelude.{MatchBool}
 use Rattle.serde_json.specs.Data.{Data}
-use Rattle.desk_codes.specs.Bic.{IsBic}
-use Rattle.desk_codes.proofs.BicLemmas.{front_is_bic, head_office, own_branch, same_bytes, whole_is_bic}
-use Rattle.desk_msg.specs.declared.instruction.Instruction.{Instruction}
-use Rattle.desk_msg.specs.declared.instruction.Message.TheVariants.{New}
 use Rattle.desk_msg.specs.declared.mt.Mt.{Mt}
-use Rattle.desk_msg.specs.Reads.{Reads}
-use Rattle.desk_msg.specs.Refused.{ReadsText}
 use Rattle.desk_rules.specs.declared.entry.Entry.{Entry}
 use Rattle.desk_rules.specs.declared.entry.Entry.TheVariants.{Participant, Account, Security, Issue, Redeem, PayIn, PayOut, Instruct, Cancel, Run}
-use Rattle.desk_rules.specs.WellFormed.{IsReadable, IsWellFormed}
+use Rattle.desk_rules.specs.declared.verdict.Verdict.{Verdict}
+use Rattle.desk_rules.specs.declared.verdict.Verdict.TheVariants.{Accept, Repeat, Refuse}
+use Rattle.desk_rules.specs.Books.{Books}
+use Rattle.desk_rules.specs.Content.{Content}
+use Rattle.desk_rules.specs.WellFormed.{AreWellFormed, IsWellFormed}
+use Rattle.desk_rules.proofs.WellFormedLemmas.{formed_none, formed_push, readable, spelled_bic}
+use Rattle.desk_register.specs.Changes.{empty_content}
+use Rattle.desk_engine.specs.Applied.{no_books}
+use Rattle.desk_engine.proofs.KeptLemmas.{empty_kept}
+use Rattle.desk_book.specs.Answered.{Grows}
+use Rattle.desk_book.specs.Held.{KeepsFormed}
 use Rattle.desk_book.specs.Asked.{Asked, message, operator, status, sent, holdings, sums}
-use Rattle.desk_book.specs.Command.{IsCommand, Spells}
-use Rattle.desk_book.specs.Forms.{SpellsBic}
+use Rattle.desk_book.specs.Command.{IsCommand, SpellsCommand}
 use Rattle.desk_book.specs.Task.{IsTask, IsMessageTask, is_supported_type, unknown_form}
 use Rattle.desk_book.specs.declared.task.Task.TheVariants.{Decide, Answer}
-
--- a BIC as it is spelled is one
-spelled_bic : (name bic : List ℕ) → SpellsBic name bic → IsBic bic
-spelled_bic name bic s = elim (cases_Bool (pointwise nat_eq (drop 8 name) (codes "XXX"))) [
-  | inl head ↦ front_is_bic name bic s.1 s.2 (s.0 ∙ head_office name (drop 8 name) refl (sym head)) (same_bytes (drop 8 name) (codes "XXX") head)
-  | inr own ↦ subst IsBic (sym (s.0 ∙ own_branch name (drop 8 name) refl (sym own))) (whole_is_bic name s.1 s.2 own)
-]
-
--- what is read as an instruction is one that fields read as
-pub readable : (mt : Mt) (text : List ℕ) (i : Instruction) → ReadsText mt text (Ok (New i)) → IsReadable i.mt (New i)
-readable mt text i r =
-    let type : i.mt ≡ mt = r.reads.0 in
-    (r.fields, subst (λ (m : Mt). Reads m r.fields (Ok (New i))) (sym type) r.reads)
 
 command_formed : (d : Data) (entry : Entry) → IsCommand d entry → IsWellFormed entry
 command_formed d (Participant reference bic) c = (c.2, spelled_bic c.0 bic c.1)
@@ -45,7 +33,7 @@ command_formed d (Instruct sender instruction) c = absurd c
 command_formed d (Cancel sender order) c = absurd c
 command_formed d (Run reference day rule) c = (c.0, c.1)
 
-pub spelled : (text : List ℕ) (entry : Entry) → Spells text entry → IsWellFormed entry
+pub spelled : (text : List ℕ) (entry : Entry) → SpellsCommand text entry → IsWellFormed entry
 spelled text entry s = command_formed s.value entry s.command.spells
 
 message_formed : (taken : Bool) (sender : List ℕ) (mt : Mt) (text : List ℕ) (entry : Entry) → MatchBool taken (IsMessageTask sender mt text (Decide entry)) (Decide entry ≡ Answer unknown_form) → IsWellFormed entry
@@ -59,3 +47,13 @@ formed_by (status sender reference) entry is = absurd (cc)
 formed_by (sent receiver number) entry is = absurd (cc)
 formed_by (holdings owner account) entry is = absurd (cc)
 formed_by sums entry is = absurd (cc)
+
+-- what a verdict makes of books that are well formed is so, where the entry is
+pub formed_after : (verdict : Verdict) (books after : Books) (entry : Entry) → IsWellFormed entry → AreWellFormed books.history → Grows verdict books entry after → AreWellFormed after.history
+formed_after Accept books after entry new formed grows = subst AreWellFormed (sym grows.history) (formed_push books.history entry formed new)
+formed_after (Repeat n) books after entry new formed grows = let P : Books → Type 0 = λ b. AreWellFormed b.history in subst P (sym grows) formed
+formed_after (Refuse refusal) books after entry new formed grows = let P : Books → Type 0 = λ b. AreWellFormed b.history in subst P (sym grows) formed
+
+-- what holds nothing keeps the tables of the history that has no entry
+pub empty_formed : (limit : ℕ) (content : Content) → content ≡ empty_content → KeepsFormed limit no_books content
+empty_formed limit content empty = record { tables = empty_kept limit content empty; formed = formed_none }

@@ -1,5 +1,6 @@
 pub mod RunLemmas
 mod PlayLemmas
+pub mod FormedLemmas
 mod AnsweringLemmas
 pub mod LineLemmas
 pub mod FormLemmas
@@ -10,7 +11,6 @@ pub mod RowLemmas
 pub mod OneReading
 pub mod OneCommand
 pub mod OneTask
-mod FormedLemmas
 mod OnceLemmas
 mod ConfirmedRuns
 mod KnownReplies

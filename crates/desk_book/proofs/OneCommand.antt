@@ -11,7 +11,7 @@ use Rattle.desk_rules.specs.declared.entry.Entry.{Entry}
 use Rattle.desk_rules.specs.declared.entry.Entry.TheVariants.{Participant, Account, Security, Issue, Redeem, PayIn, PayOut, Instruct, Cancel, Run}
 use Rattle.desk_msg.specs.Profile.{code_of_kind}
 use Rattle.desk_rules.proofs.SameContent.{movement_same, payment_same}
-use Rattle.desk_book.specs.Command.{IsCommand, Spells, text_at, number_at}
+use Rattle.desk_book.specs.Command.{IsCommand, SpellsCommand, text_at, number_at}
 
 kind_of : List ℕ → Kind
 kind_of word = cond (eqb (get_or word 0 0) 85) Units FaceAmount
@@ -95,7 +95,7 @@ one_entry d (Run reference day rule) b h k = let e = other_op d (Run reference d
 one_entry d (Instruct sender instruction) b h k = absurd h
 one_entry d (Cancel sender order) b h k = absurd h
 
-pub one_each : (bytes : List ℕ) (a b : Entry) → Spells bytes a → Spells bytes b → a ≡ b
+pub one_each : (bytes : List ℕ) (a b : Entry) → SpellsCommand bytes a → SpellsCommand bytes b → a ≡ b
 one_each bytes a b h k =
     let same : h.value ≡ k.value = let e = sym h.reads ∙ k.reads in cc in
     one_entry h.value a b h.command.spells (rw same k.command.spells)

@@ -72,7 +72,7 @@ pub record IsSupportedCommand (d : Data) (entry : Entry) : Type 0 where
   pub supported : is_supported entry ≡ true
 
 -- the bytes are a command's: JSON whose value spells it
-pub record Spells (bytes : List ℕ) (entry : Entry) : Type 0 where
+pub record SpellsCommand (bytes : List ℕ) (entry : Entry) : Type 0 where
   pub short : length bytes ≤ LONGEST_TEXT
   pub utf8 : IsUtf8 bytes
   pub value : Data

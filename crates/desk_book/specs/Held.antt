@@ -4,6 +4,7 @@ use Rattle.desk_rules.specs.declared.entry.Entry.{Entry}
 use Rattle.desk_rules.specs.declared.reply.Reply.{Reply}
 use Rattle.desk_rules.specs.Books.{Books}
 use Rattle.desk_rules.specs.Reply.{reply_to}
+use Rattle.desk_rules.specs.WellFormed.{AreWellFormed}
 use Rattle.desk_register.specs.declared.register.Fault.{Fault as RegisterFault}
 use Rattle.desk_register.specs.declared.register.Fault.TheVariants as registers
 use Rattle.desk_register.specs.declared.register.Stage.TheVariants.{Idle}
@@ -18,15 +19,20 @@ use Rattle.desk_book.specs.declared.task.Task.{Task}
 use Rattle.desk_book.specs.declared.fault.Fault.{Fault}
 use Rattle.desk_book.specs.declared.fault.Fault.TheVariants.{Memory, Storage, Closed}
 
+-- what an open desk keeps: the tables of these books, each entry of which is well formed
+pub record KeepsFormed (limit : ℕ) (books : Books) (content : Content) : Type 0 where
+  pub tables : Keeps limit books content
+  pub formed : AreWellFormed books.history
+
 -- An open desk's register has no `begin` open, shows what it holds, and keeps the tables of some books.
 pub record IsReady (is_closed : Bool) (view : View) : Type 0 where
   pub stage : is_closed ≡ false → view.stage ≡ Idle
   pub sure : is_closed ≡ false → view.is_honest → view.is_sure
-  pub books : is_closed ≡ false → view.is_honest → (books : Books) × Keeps view.room books view.content
+  pub books : is_closed ≡ false → view.is_honest → (books : Books) × KeepsFormed view.room books view.content
 
 -- an open desk keeps these books; of a closed one nothing is said
 abbrev pub Holds : Bool → View → Books → Type 0
-Holds is_closed view books = is_closed ≡ false → Keeps view.room books view.content
+Holds is_closed view books = is_closed ≡ false → KeepsFormed view.room books view.content
 
 -- How a request to an open desk ends. Unless it closes the desk, no `begin` is open and the register shows what it
 -- holds; and after a fault that is what it held. A fault of the device is answered only where the device failed.
@@ -80,7 +86,7 @@ pub record IsPut (limit : ℕ) (books : Books) (entry : Entry) (reply : Reply) (
 pub record Answers (limit : ℕ) (books : Books) (task : Task) (reply : Reply) (content : Content) : Type 0 where
   pub after : Books
   pub answer : IsAnswer limit books task reply after
-  pub keeps : Keeps limit after content
+  pub keeps : KeepsFormed limit after content
 
 -- what is answered to what a request is read as, where there was memory to read it
 abbrev pub AnswersTask : {E : Type 0} → ℕ → Books → Result Task E → Result Reply Fault → Books → Type 0

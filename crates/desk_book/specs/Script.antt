@@ -8,7 +8,7 @@ use Rattle.desk_book.specs.Forms.{Asks}
 use Rattle.desk_book.specs.declared.script.Item.{Item as ScriptItem}
 use Rattle.desk_book.specs.declared.script.Item.TheVariants.{Ask, BadLine}
 
--- an item of a script: a request, or what is no request and gets a plain 400 `refused 41`
+-- an item of a script: a request, or what is no request and gets 400 `refused 41`
 pub data Item : Type 0 where
   ask : Asked → Item
   bad_line : Item

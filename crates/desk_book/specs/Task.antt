@@ -18,7 +18,7 @@ use Rattle.desk_rules.specs.Reply.{untyped_reply}
 use Rattle.desk_rules.specs.WellFormed.{IsWellFormed}
 use Rattle.desk_engine.specs.Decision.{is_supported}
 use Rattle.desk_book.specs.Asked.{Asked, message, operator, status, sent, holdings, sums}
-use Rattle.desk_book.specs.Command.{Spells}
+use Rattle.desk_book.specs.Command.{SpellsCommand}
 use Rattle.desk_book.specs.Shown.{bad_line_text}
 use Rattle.desk_book.specs.declared.task.Task.{Task}
 use Rattle.desk_book.specs.declared.task.Task.TheVariants.{Decide, Totals, Answer}
@@ -46,9 +46,9 @@ no_command = untyped_reply 400 (codes "refused 30")
 
 -- An operator's text is a command to decide on, or is refused.
 abbrev pub IsCommandTask : List ℕ → Task → Type 0
-IsCommandTask text (Decide entry) = Spells text entry
+IsCommandTask text (Decide entry) = SpellsCommand text entry
 IsCommandTask text Totals = ⊥
-IsCommandTask text (Answer reply) = ((entry : Entry) → ¬ Spells text entry) × (reply ≡ no_command)
+IsCommandTask text (Answer reply) = ((entry : Entry) → ¬ SpellsCommand text entry) × (reply ≡ no_command)
 
 -- What a request gives the desk to do, one equation a form.
 abbrev pub IsTask : Asked → Task → Type 0

@@ -7,8 +7,8 @@ ghost use Rattle.desk_rules.specs.Verdict.{AsksTheSame};
 ghost use Rattle.desk_engine.specs.Applied.{CanApply, Keeps};
 ghost use Rattle.desk_engine.specs.Decision.{is_supported};
 ghost use Rattle.desk_book.specs.Answered.{IsToldSums, says_closed};
-ghost use Rattle.desk_book.specs.Task.{IsSupported};
-ghost use Rattle.desk_book.specs.Held.{Answers, Decides, Ends, IsPut, IsReady, Recovers, named, told};
+ghost use Rattle.desk_book.specs.Task.{IsFormed, IsSupported};
+ghost use Rattle.desk_book.specs.Held.{Answers, Decides, Ends, IsPut, IsReady, KeepsFormed, Recovers, named, told};
 
 use crate::fault::Fault;
 use crate::summing::{security_totals, totals_text};
@@ -43,7 +43,7 @@ fn told(failure: Failure) -> Fault
 fn recovered<R: Register>(alloc: Global, register: &mut R, fault: RegisterFault) -> Fault
     requires { (R.view register.old).stage ≡ Stage.Idle }
     ensures recovers { Recovers (named fault) result (R.view register.old) (R.view register.old).content (R.view register.new) }
-    ensures plain { R.plain ≡ true → result ≢ Fault.Closed }
+    ensures in_memory { R.in_memory ≡ true → result ≢ Fault.Closed }
 {
     told(recover(alloc, register, fault))
 }
@@ -56,7 +56,7 @@ fn take_in<R: Register>(alloc: Global, register: &mut R, entry: Entry) -> Result
     ensures put { (books : Books) → (R.view register.new).is_honest → Keeps (R.view register.old).room books (R.view register.old).content
         → IfOk result (λ reply. IsPut (R.view register.old).room books entry reply (R.view register.new).content) }
     ensures ends { Ends result (R.view register.old) (R.view register.new) }
-    ensures plain { R.plain ≡ true → says_closed result ≡ false }
+    ensures in_memory { R.in_memory ≡ true → says_closed result ≡ false }
 {
     match accept(alloc, register, entry) {
         Ok(accepted) => Ok(accepted.reply),
@@ -76,7 +76,7 @@ fn refuse<R: Register>(
         → IfOk result (λ reply. reply ≡ refused_reply books entry.now (number_of_refusal refusal)) }
     ensures same { (R.view register.new).is_honest → OnOk result ((R.view register.new).content ≡ (R.view register.old).content) }
     ensures ends { Ends result (R.view register.old) (R.view register.new) }
-    ensures plain { R.plain ≡ true → says_closed result ≡ false }
+    ensures in_memory { R.in_memory ≡ true → says_closed result ≡ false }
 {
     let limit = register.limit();
     match register.count(alloc) {
@@ -100,7 +100,7 @@ fn repeat<R: Register>(
         → AsksTheSame books.history number entry.now → IfOk result (λ reply. IsFirstReply books.history number reply) }
     ensures same { (R.view register.new).is_honest → OnOk result ((R.view register.new).content ≡ (R.view register.old).content) }
     ensures ends { Ends result (R.view register.old) (R.view register.new) }
-    ensures plain { R.plain ≡ true → says_closed result ≡ false }
+    ensures in_memory { R.in_memory ≡ true → says_closed result ≡ false }
 {
     match register.reply(alloc, number) {
         Ok(Some(reply)) => Ok(reply),
@@ -117,7 +117,7 @@ fn rule<R: Register>(alloc: Global, register: &mut R, entry: Entry) -> Result<Re
     ensures decides { (books : Books) → (R.view register.new).is_honest → Keeps (R.view register.old).room books (R.view register.old).content
         → IfOk result (λ reply. Decides (R.view register.old).room books entry reply (R.view register.new).content) }
     ensures ends { Ends result (R.view register.old) (R.view register.new) }
-    ensures plain { R.plain ≡ true → says_closed result ≡ false }
+    ensures in_memory { R.in_memory ≡ true → says_closed result ≡ false }
 {
     match decide(alloc, register, &entry) {
         Ok(Verdict::Accept) => take_in(alloc, register, entry),
@@ -134,7 +134,7 @@ fn tell_totals<R: Register>(alloc: Global, register: &mut R) -> Result<Reply, Fa
         → IfOk result (λ reply. IsToldSums books reply books) }
     ensures same { (R.view register.new).is_honest → OnOk result ((R.view register.new).content ≡ (R.view register.old).content) }
     ensures ends { Ends result (R.view register.old) (R.view register.new) }
-    ensures plain { R.plain ≡ true → says_closed result ≡ false }
+    ensures in_memory { R.in_memory ≡ true → says_closed result ≡ false }
 {
     match security_totals(alloc, register) {
         Ok(totals) => match totals_text(alloc, &totals) {
@@ -153,10 +153,11 @@ fn tell_totals<R: Register>(alloc: Global, register: &mut R) -> Result<Reply, Fa
 pub fn answer<R: Register>(alloc: Global, register: &mut R, task: Task) -> Result<Reply, Fault>
     requires ready { IsReady false (R.view register.old) }
     requires supported { IsSupported task }
-    ensures answered { (books : Books) → (R.view register.new).is_honest → Keeps (R.view register.old).room books (R.view register.old).content
+    requires formed { IsFormed task }
+    ensures answered { (books : Books) → (R.view register.new).is_honest → KeepsFormed (R.view register.old).room books (R.view register.old).content
         → IfOk result (λ reply. Answers (R.view register.old).room books task reply (R.view register.new).content) }
     ensures ends { Ends result (R.view register.old) (R.view register.new) }
-    ensures plain { R.plain ≡ true → says_closed result ≡ false }
+    ensures in_memory { R.in_memory ≡ true → says_closed result ≡ false }
 {
     match task {
         Task::Decide(entry) => rule(alloc, register, entry),

@@ -5,7 +5,7 @@ ghost use Rattle.serde_json.specs.Find.{as_object};
 ghost use Rattle.serde_json.specs.View.{view};
 ghost use Rattle.desk_rules.specs.declared.entry.Entry.{Entry as EntryValue};
 ghost use Rattle.desk_rules.specs.declared.entry.Entry.TheVariants.{Participant as ParticipantValue};
-ghost use Rattle.desk_book.specs.Command.{Spells, IsCommand, IsSupportedCommand, text_at, number_at};
+ghost use Rattle.desk_book.specs.Command.{SpellsCommand, IsCommand, IsSupportedCommand, text_at, number_at};
 ghost use Rattle.desk_book.specs.Members.{IsOrderedObject};
 
 use crate::member::{member_count, text};
@@ -17,9 +17,9 @@ use std::alloc::{AllocError, Global};
 
 /// The command that the bytes spell; None where they spell none.
 pub fn read_command(alloc: Global, bytes: &[u8]) -> Result<Option<Entry>, AllocError>
-    ensures read { IfOk result (λ found. IfSome found (λ entry. Spells bytes.now entry)) }
+    ensures read { IfOk result (λ found. IfSome found (λ entry. SpellsCommand bytes.now entry)) }
     ensures refused { IfOk result (λ found. IfNone found ((entry : EntryValue)
-        → ¬ Spells bytes.now entry)) }
+        → ¬ SpellsCommand bytes.now entry)) }
     ensures memory { OnErr result ((0 < length bytes.now) × (length bytes.now ≤ LONGEST_TEXT)) }
 {
     if bytes.len() > LONGEST_TEXT {

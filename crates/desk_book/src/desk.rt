@@ -5,7 +5,7 @@ ghost use Rattle.desk_register.specs.View.{IsLater};
 ghost use Rattle.desk_book.specs.Answered.{ActsOnce, Run, says_closed, says_storage};
 ghost use Rattle.desk_book.specs.Asked.{asked_by};
 ghost use Rattle.desk_book.specs.Held.{Holds, IsPerformed, IsReady, Steps};
-ghost use Rattle.desk_book.specs.Task.{IsSupported};
+ghost use Rattle.desk_book.specs.Task.{IsFormed, IsSupported};
 
 use crate::answering::answer;
 use crate::fault::Fault;
@@ -67,7 +67,7 @@ impl<R: Register> Desk<R> {
         ensures stays { self.old.is_closed ≡ true → says_closed result ≡ true }
         ensures later { IsLater (R.view self.old.register) (R.view self.new.register) }
         ensures blame { result ≡ Err Fault.Storage → (R.view self.old.register).failures < (R.view self.new.register).failures }
-        ensures plain { R.plain ≡ true → self.old.is_closed ≡ false → says_closed result ≡ false }
+        ensures in_memory { R.in_memory ≡ true → self.old.is_closed ≡ false → says_closed result ≡ false }
     {
         self.perform(alloc, task_of(alloc, request))
     }
@@ -89,7 +89,7 @@ impl<R: Register> Desk<R> {
         ensures stays { self.old.is_closed ≡ true → IfOk result (λ answers. All (λ answer. says_closed answer ≡ true) answers.items) }
         ensures stays_closed { self.old.is_closed ≡ true → self.new.is_closed ≡ true }
         ensures blame { IfOk result (λ answers. count_by says_storage answers.items + (R.view self.old.register).failures ≤ (R.view self.new.register).failures) }
-        ensures plain { R.plain ≡ true → self.old.is_closed ≡ false → self.new.is_closed ≡ false }
+        ensures in_memory { R.in_memory ≡ true → self.old.is_closed ≡ false → self.new.is_closed ≡ false }
     {
         let Ok(mut answers) = Vec::with_capacity(alloc, requests.len()) else {
             return Err(Fault::Memory);
@@ -104,13 +104,14 @@ impl<R: Register> Desk<R> {
     /// Answers what a request is read as, where there was memory to read it.
     fn perform(&mut self, alloc: Global, task: Result<Task, AllocError>) -> Result<Reply, Fault>
         requires supported { IfOk task (λ task. IsSupported task) }
+        requires formed { IfOk task (λ task. IsFormed task) }
         ensures answered { (books : Books) → (R.view self.new.register).is_honest → Holds self.old.is_closed (R.view self.old.register) books
             → IsPerformed (R.view self.old.register).room books task result self.new.is_closed (R.view self.new.register) }
         ensures closed { self.new.is_closed ≡ says_closed result }
         ensures stays { self.old.is_closed ≡ true → says_closed result ≡ true }
         ensures later { IsLater (R.view self.old.register) (R.view self.new.register) }
         ensures blame { result ≡ Err Fault.Storage → (R.view self.old.register).failures < (R.view self.new.register).failures }
-        ensures plain { R.plain ≡ true → self.old.is_closed ≡ false → says_closed result ≡ false }
+        ensures in_memory { R.in_memory ≡ true → self.old.is_closed ≡ false → says_closed result ≡ false }
     {
         if self.is_closed {
             return Err(Fault::Closed);

@@ -19,12 +19,12 @@ ghost use Rattle.desk_book.specs.declared.total.SecurityTotal.{SecurityTotal};
 ghost use Rattle.desk_book.specs.Asked.{Asked, sums};
 ghost use Rattle.desk_book.specs.Task.{IsTask};
 ghost use Rattle.desk_rules.specs.declared.entry.Entry.{Entry};
-ghost use Rattle.desk_book.specs.Command.{Spells};
+ghost use Rattle.desk_book.specs.Command.{SpellsCommand};
 ghost use Rattle.desk_book.specs.Script.{Script, Item};
 
 /// Bytes spell one command at most.
 pub fn one_command()
-    ensures { (bytes : List ℕ) (a b : Entry) → Spells bytes a → Spells bytes b → a ≡ b }
+    ensures { (bytes : List ℕ) (a b : Entry) → SpellsCommand bytes a → SpellsCommand bytes b → a ≡ b }
 {}
 
 /// A script asks one list of items at most. That it asks one at all is what `item_count` shows.

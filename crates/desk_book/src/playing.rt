@@ -42,7 +42,7 @@ impl<R: Register> Desk<R> {
         ensures taken { (taken : List ℕ) × Consumes (I.remaining reader.old) (I.remaining reader.new) taken × (length taken ≤ LONGEST_SCRIPT + 1) }
         ensures stays { self.old.is_closed ≡ true → self.new.is_closed ≡ true }
         ensures later { IsLater (R.view self.old.register) (R.view self.new.register) }
-        ensures plain { R.plain ≡ true → self.old.is_closed ≡ false → self.new.is_closed ≡ false }
+        ensures in_memory { R.in_memory ≡ true → self.old.is_closed ≡ false → self.new.is_closed ≡ false }
     {
         let script = read_whole(alloc, reader, LONGEST_SCRIPT)?;
         match self.answer_script(alloc, &script, writer) {
@@ -64,7 +64,7 @@ impl<R: Register> Desk<R> {
             → PlaysFront self.old.is_closed books script.now self.new.is_closed (R.view self.old.register) (R.view self.new.register) }
         ensures stays { self.old.is_closed ≡ true → self.new.is_closed ≡ true }
         ensures later { IsLater (R.view self.old.register) (R.view self.new.register) }
-        ensures plain { R.plain ≡ true → self.old.is_closed ≡ false → self.new.is_closed ≡ false }
+        ensures in_memory { R.in_memory ≡ true → self.old.is_closed ≡ false → self.new.is_closed ≡ false }
     {
         let mut rest = script;
         'items: while let Some((item, after)) = first_item(rest) {
@@ -87,7 +87,7 @@ impl<R: Register> Desk<R> {
             → (answers : List (Result Reply Fault)) × HasPlayed self.old.is_closed books (item_of item.now ∷ []) answers self.new.is_closed (R.view self.old.register) (R.view self.new.register) }
         ensures stays { self.old.is_closed ≡ true → self.new.is_closed ≡ true }
         ensures later { IsLater (R.view self.old.register) (R.view self.new.register) }
-        ensures plain { R.plain ≡ true → self.old.is_closed ≡ false → self.new.is_closed ≡ false }
+        ensures in_memory { R.in_memory ≡ true → self.old.is_closed ≡ false → self.new.is_closed ≡ false }
     {
         match item {
             Item::Ask(request) => match self.ask(alloc, request) {

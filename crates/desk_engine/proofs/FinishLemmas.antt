@@ -16,7 +16,7 @@ use Rattle.desk_register.specs.declared.register.Fault.{Fault}
 use Rattle.desk_rules.specs.declared.reply.Reply.{Reply}
 use Rattle.desk_rules.specs.declared.standing.State.{State}
 use Rattle.desk_rules.specs.declared.standing.State.TheVariants as states
-use Rattle.desk_rules.specs.declared.standing.State.TheVariants.{Plain, Unmatched, Matched, Cancelled}
+use Rattle.desk_rules.specs.declared.standing.State.TheVariants.{NoInstruction, Unmatched, Matched, Cancelled}
 use Rattle.desk_msg.specs.declared.status.Reason.{Reason}
 use Rattle.desk_rules.specs.declared.standing.Standing.{Standing}
 use Rattle.desk_rules.specs.declared.verdict.Verdict.TheVariants.{Accept}
@@ -42,7 +42,7 @@ use Rattle.desk_rules.proofs.HistoryLemmas.{entry_at-end, before-front, before-a
 use Rattle.desk_rules.proofs.PairingLemmas.{pairing_alone}
 use Rattle.desk_rules.proofs.BalanceLemmas.{IsIn, credits-entry, debits-entry, cash_credits-entry, cash_debits-entry}
 use Rattle.desk_rules.proofs.SettlementLemmas.{due_facts, due_known, precedes_strict, precedes_run, begins_first, begins_true}
-use Rattle.desk_rules.proofs.SettlementGrowth.{run_begins, run_ends, is_due-front, precedes-front, in_passes-front}
+use Rattle.desk_rules.proofs.SettlementGrowth.{as_far_decided, decided_as_far, run_begins, run_ends, is_due-front, precedes-front, in_passes-front}
 use Rattle.desk_rules.proofs.NothingLeft.{begins_counted, counted_begins}
 use Rattle.desk_engine.proofs.TablesLemmas.{accepted_more, beyond, history_more, length_is, not_cancelled, pairs_known, settled_known}
 
@@ -78,7 +78,7 @@ module _ (books : Books) (reference day : List ℕ) (rule : RunRule) (pass : ℕ
     where
       again_so : (k : ℕ) (mate : Option ℕ) (state : State) → PassesSo books (Run reference day rule) pass (λ p. true) settled k mate state
           → PassesSo books (Run reference day rule) (pass + 1) (is_below books (Run reference day rule) None) settled k mate state
-      again_so k mate Plain x = x
+      again_so k mate NoInstruction x = x
       again_so k mate Unmatched x = x
       again_so k mate Cancelled x = x
       again_so k mate (Matched reason) x = record { pair = x.pair; in_pair = x.in_pair; not_due = x.not_due; tried = λ due low. absurd (cc) }
@@ -92,7 +92,7 @@ module _ (books : Books) (reference day : List ℕ) (rule : RunRule) (pass : ℕ
   -- The run has made its passes, where the next does not begin.
   module _ (last : begins (books.history ++ Run reference day rule ∷ []) settled (length books.history + 1) (pass + 1) ≡ false) where
     settlement : IsSettlement (books.history ++ Run reference day rule ∷ []) books.pairs settled
-    settlement = run_ends (books.history ++ Run reference day rule ∷ []) books.pairs settled (length books.history + 1) (pass + 1) (sym longer) (omega arith) over.reached last
+    settlement = run_ends (books.history ++ Run reference day rule ∷ []) books.pairs settled (length books.history + 1) (pass + 1) (sym longer) (omega arith) (decided_as_far over.reached) last
 
     passes_is : passes_of (books.history ++ Run reference day rule ∷ []) settled (length books.history + 1) ≡ pass
     passes_is =
@@ -203,7 +203,7 @@ module _ (books : Books) (reference day : List ℕ) (rule : RunRule) (pass : ℕ
 
     stands_so : (k : ℕ) (mate : Option ℕ) (state : State) → k ≤ length books.history → PassesSo books (Run reference day rule) pass (λ p. true) settled k mate state
         → StandsSo (books_after books (Run reference day rule) settled) k mate state
-    stands_so k mate Plain le x = x
+    stands_so k mate NoInstruction le x = x
     stands_so k mate Unmatched le x = record { none = x.none; free = x.free; gone = requested_same k le ∙ x.gone }
     stands_so k mate Cancelled le (inl x) = inl (record { none = x.none; free = x.free; gone = requested_same k le ∙ x.gone })
     stands_so k mate Cancelled le (inr x) = inr (record { pair = x.pair; in_pair = in_pair_after k mate x.pair true x.in_pair })
@@ -295,7 +295,7 @@ tables_run limit books reference day rule settled content reply are was verdict 
 -- The first pass begins.
 
 begins_so : (books : Books) (e : Entry) (k : ℕ) (mate : Option ℕ) (state : State) → StandsSo books k mate state → PassesSo books e 1 (is_below books e None) books.settled k mate state
-begins_so books e k mate Plain x = x
+begins_so books e k mate NoInstruction x = x
 begins_so books e k mate Unmatched x = x
 begins_so books e k mate Cancelled x = x
 begins_so books e k mate (Matched reason) x = record { pair = x.pair; in_pair = x.in_pair; not_due = λ out. x.why; tried = λ due low. absurd (cc) }
@@ -313,7 +313,7 @@ pass_begins limit books reference day rule content tables = record {
     position = tables.position;
     cash = tables.cash;
   };
-  reached = run_begins books.history (Run reference day rule) books.pairs books.settled tables.are_books.settlement;
+  reached = as_far_decided (run_begins books.history (Run reference day rule) books.pairs books.settled tables.are_books.settlement);
   begun = begins_first (books.history ++ Run reference day rule ∷ []) books.settled (length books.history + 1) 1 refl;
   further = record {
     more = [];

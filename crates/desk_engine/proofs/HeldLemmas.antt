@@ -12,7 +12,7 @@ use Rattle.desk_rules.proofs.HistoryLemmas.{entry_at-known, slice_get-known}
 use Rattle.desk_engine.specs.Applied.{Keeps, no_books}
 use Rattle.desk_rules.specs.Content.{Content}
 use Rattle.desk_register.specs.Changes.{empty_content}
-use Rattle.desk_rules.specs.Standing.{plain_standing, standing_of}
+use Rattle.desk_rules.specs.Standing.{no_standing, standing_of}
 use Rattle.desk_register.specs.Looked.{held_of}
 use Rattle.desk_engine.proofs.PassWhole.{outstanding_within}
 
@@ -31,7 +31,7 @@ pub held_is : (limit : ℕ) (books : Books) (content : Content) (isin : List ℕ
     → held_of content isin + sum_by (λ a. debits books.history books.settled a isin) (accounts_of books.history) ≡ sum_by (λ a. credits books.history books.settled a isin) (accounts_of books.history)
 held_is limit books content isin keeps =
     let h = books.history in
-    let held = sum_both (λ a. content.position a isin) (λ a. debits h books.settled a isin) (λ a. credits h books.settled a isin) (accounts_of h) (λ a. keeps.tables.positions.each a isin) in
+    let held = sum_both (λ a. content.position a isin) (λ a. debits h books.settled a isin) (λ a. credits h books.settled a isin) (accounts_of h) (λ a. keeps.tables.positions a isin) in
     let same : held_of content isin ≡ sum_by (λ a. content.position a isin) (accounts_of h) = ap (λ z. sum_by (λ a. content.position a isin) (accounts_of z)) keeps.tables.history in
     omega arith
 
@@ -58,14 +58,14 @@ empty_keeps limit = record {
     are = record { pairing = none_of.pairing; settlement = none_of.settlement };
     replies = record { each = λ n kept at. (let k : n < 0 = slice_get-known [] n kept at in absurd (omega arith)) };
     standings = record { each = stands };
-    positions = record { each = λ account isin. refl };
-    cash = record { each = λ bic ccy. refl };
+    positions = λ account isin. refl;
+    cash = λ bic ccy. refl;
   };
   accepted = record { each = λ n entry books at history are. (let k = entry_at-known [] n entry at in let a : 0 < n = k.0 in let b : n ≤ 0 = k.1 in absurd (omega arith)) };
   supported = record { each = λ entry c. absurd (In-from_Contains [] entry c) };
 }
   where
-    stands : (k : ℕ) → plain_standing ≡ standing_of no_books k
+    stands : (k : ℕ) → no_standing ≡ standing_of no_books k
     stands zero = refl
     stands (suc zero) = refl
     stands (suc (suc n)) = refl

@@ -12,8 +12,9 @@ use Rattle.desk_rules.specs.declared.pair.Settled.{Settled}
 use Rattle.desk_register.specs.declared.register.Fault.{Fault}
 use Rattle.desk_rules.specs.declared.reply.Reply.{Reply}
 use Rattle.desk_rules.specs.declared.standing.State.{State}
+use Rattle.desk_rules.specs.declared.standing.Standing.{Standing}
 use Rattle.desk_rules.specs.declared.standing.State.TheVariants as states
-use Rattle.desk_rules.specs.declared.standing.State.TheVariants.{Plain, Unmatched, Matched, Cancelled}
+use Rattle.desk_rules.specs.declared.standing.State.TheVariants.{NoInstruction, Unmatched, Matched, Cancelled}
 use Rattle.desk_msg.specs.declared.status.Reason.TheVariants.{Future}
 use Rattle.desk_rules.specs.declared.verdict.Verdict.TheVariants.{Accept}
 use Rattle.desk_rules.specs.declared.entry.Instructed.{Instructed}
@@ -52,7 +53,7 @@ not_free ps p k c side free = elim side [ inl e ↦ (let f = free p c in f.0 e) 
 
 -- an instruction that is in no pair and not cancelled is unmatched
 free_unmatched : (books : Books) (k : ℕ) (mate : Option ℕ) (state : State) → AreBooks books → StandsSo books k mate state → IsFree books.pairs k → is_cancel_requested books.history k ≡ false → state ≡ Unmatched
-free_unmatched books k mate Plain are is free stays = absurd is
+free_unmatched books k mate NoInstruction are is free stays = absurd is
 free_unmatched books k mate Unmatched are is free stays = refl
 free_unmatched books k mate Cancelled are is free stays = elim is [
   | inl alone ↦ (let clash : false ≡ true = sym stays ∙ alone.gone in absurd (cc))
@@ -332,8 +333,22 @@ can_pair content sender instruction reply new n m at found is =
     let known = instruction_at-known (history_of content) m o.other o.is_other in
     let length_h : length content.register ≡ length (history_of content) = length_is content (history_of content) refl in
     let le : m ≤ length (history_of content) = known.1 in
-    let register : length new.register ≡ length content.register + 1 = ap (λ (c : Content). length c.register) is ∙ length-append content.register (record { entry = Instruct sender instruction; reply = reply } ∷ []) in
-    record { two = omega arith; known = omega arith; some = known.0 }
+    let h = history_of content in
+    let e : Entry = Instruct sender instruction in
+    let longer : history_of new ≡ h ++ e ∷ [] = ap history_of is ∙ history_more content e reply h refl in
+    let before : m == length content.register + 1 ≡ false = ne_eqb m (length content.register + 1) (λ (q : m ≡ length content.register + 1). absurd (omega arith)) in
+    let last : n == length content.register + 1 ≡ true = same_test n (length content.register + 1) at in
+    let stands : (appended e reply content).standing m ≡ content.standing m = rw before refl in
+    record {
+      two = omega arith;
+      earlier = o.other;
+      later = record { sender = sender; instruction = instruction };
+      is_earlier = ap (λ z. instruction_at z m) longer ∙ instruction_at-front h (e ∷ []) m le ∙ o.is_other;
+      is_later = ap (λ z. instruction_at z n) longer ∙ ap (option_and_then instructed) (entry_at-end h e n (omega arith));
+      opposite = o.opposite;
+      earlier_unmatched = ap (λ (c : Content). (c.standing m).state) is ∙ ap (λ (s : Standing). s.state) stands ∙ o.unmatched;
+      later_unmatched = ap (λ (c : Content). (c.standing n).state) is ∙ (rw last refl);
+    }
 
 pub instructed_alone : (limit : ℕ) (books : Books) (old new : Content) (sender : List ℕ) (instruction : Instruction) (reply : Reply) (mate : Option ℕ) → mate ≡ None → Tables limit books old
     → IsAccepted limit (Instruct sender instruction) old → IsFirstOpposite old (record { sender = sender; instruction = instruction }) mate

@@ -18,8 +18,8 @@ tables_of limit books content keeps = record {
   standing = λ k.
       let P : Standing → Type 0 = λ s. StandsAt books k (instruction_at books.history k) s in
       subst P (sym (keeps.tables.standings.each k)) (is_stands books keeps.tables.are k (instruction_at books.history k) refl);
-  position = keeps.tables.positions.each;
-  cash = keeps.tables.cash.each;
+  position = keeps.tables.positions;
+  cash = keeps.tables.cash;
 }
 
 pub but_sent_of : (limit : ℕ) (books : Books) (content : Content) → Tables limit books content → HasReplies books content → AreTablesButSent books content
@@ -28,6 +28,6 @@ but_sent_of limit books content tables replies = record {
   are = tables.are_books;
   replies = replies;
   standings = record { each = λ k. stands_is books tables.are_books k (content.standing k) (instruction_at books.history k) refl (tables.standing k) };
-  positions = record { each = tables.position };
-  cash = record { each = tables.cash };
+  positions = tables.position;
+  cash = tables.cash;
 }

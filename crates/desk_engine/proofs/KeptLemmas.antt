@@ -1,8 +1,7 @@
 -- What a register keeps, from call to call.
 use Rattle.std.proofs.Common.{◌≡◌, ℕ, sym, subst}
-use Rattle.desk_rules.specs.declared.entry.Entry.{Entry}
 use Rattle.desk_rules.specs.Books.{Books}
-use Rattle.desk_engine.specs.Applied.{CanApply, Keeps, no_books}
+use Rattle.desk_engine.specs.Applied.{Keeps, no_books}
 use Rattle.desk_engine.proofs.HeldLemmas.{empty_keeps}
 use Rattle.desk_rules.specs.Content.{Content}
 use Rattle.desk_register.specs.Changes.{empty_content}
@@ -13,13 +12,6 @@ kept_in limit now books old new room same keeps =
     let P : Content → Type 0 = λ c. Keeps limit books c in
     let Q : ℕ → Type 0 = λ k. Keeps k books new in
     subst Q (sym room) (subst P (sym same) keeps)
-
--- what is accepted is accepted there
-pub can_apply_in : (limit now : ℕ) (entry : Entry) (old new : Content) → now ≡ limit → new ≡ old → CanApply limit entry old → CanApply now entry new
-can_apply_in limit now entry old new room same can =
-    let P : Content → Type 0 = λ c. CanApply limit entry c in
-    let Q : ℕ → Type 0 = λ k. CanApply k entry new in
-    subst Q (sym room) (subst P (sym same) can)
 
 -- what holds nothing keeps the tables of the history that has no entry
 pub empty_kept : (limit : ℕ) (content : Content) → content ≡ empty_content → Keeps limit no_books content

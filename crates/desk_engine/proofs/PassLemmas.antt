@@ -1,5 +1,5 @@
 -- A run's pass over the due pairs, and what the register finds due.
-use Rattle.std.proofs.Common.{◌≡◌, inl, inr, ℕ, zero, suc, ◌+◌, ◌<◌, ◌≤◌, ◌==◌, Bool, true, false, not, ◌&&◌, List, [], ◌∷◌, ◌++◌, length, Contains, Option, Some, None, refl, ap, sym, ◌∙◌, subst, arith}
+use Rattle.std.proofs.Common.{◌≡◌, ◌≢◌, inl, inr, ℕ, zero, suc, ◌+◌, ◌<◌, ◌≤◌, ◌==◌, Bool, true, false, not, ◌&&◌, List, [], ◌∷◌, ◌++◌, length, Contains, Option, Some, None, refl, ap, sym, ◌∙◌, subst, arith}
 use Rattle.std.specs.Prelude.{option_and_then, nat_lt, nat_le, slice_get}
 use Rattle.std.proofs.lemmas.Bool.{cases_Bool, ne_eqb, both_ways, lt-ltb, le-leb, leb-true, false_from_ne_true}
 use Rattle.std.proofs.lemmas.Bool.Decides.{nat_tests}
@@ -12,13 +12,13 @@ use Rattle.desk_rules.specs.declared.pair.Place.{Place}
 use Rattle.desk_rules.specs.declared.pair.Settled.{Settled}
 use Rattle.desk_rules.specs.declared.standing.State.{State}
 use Rattle.desk_rules.specs.declared.standing.State.TheVariants as states
-use Rattle.desk_rules.specs.declared.standing.State.TheVariants.{Plain, Unmatched, Matched, Cancelled}
+use Rattle.desk_rules.specs.declared.standing.State.TheVariants.{NoInstruction, Unmatched, Matched, Cancelled}
 use Rattle.desk_msg.specs.declared.status.Reason.{Reason}
 use Rattle.desk_rules.specs.declared.entry.Instructed.{Instructed}
 use Rattle.desk_rules.specs.History.{before, instruction_at, entry_at, run_day}
 use Rattle.desk_rules.specs.Cancelled.{is_cancelled_pair}
 use Rattle.desk_rules.specs.Pairing.{IsSide, mate_in}
-use Rattle.desk_rules.specs.Settlement.{is_due, is_before, is_past, is_above, is_sooner, is_by, is_not_cancelled, day_of, place_of, instructed_day, IsOpen, IsNext}
+use Rattle.desk_rules.specs.Settlement.{IsUnsettled, is_due, is_before, is_past, is_above, is_sooner, is_by, is_not_cancelled, day_of, place_of, instructed_day, IsOpen, IsNext}
 use Rattle.desk_rules.specs.Books.{Books, AreBooks}
 use Rattle.desk_rules.specs.Content.{Content}
 use Rattle.desk_register.specs.Looked.{IsDue, IsDuePairAfter, IsMatchedPair}
@@ -62,10 +62,15 @@ run_due_by h reference day rule p le due =
 
 -- The pair of a place that the register finds.
 
+-- a side of a pair is not in no pair
+not_alone : (p : Pair) (k : ℕ) → IsSide p k → (p.earlier ≢ k) × (p.later ≢ k) → ⊥
+not_alone p k (inl is) free = free.0 is
+not_alone p k (inr is) free = free.1 is
+
 module _ (books : Books) (reference day : List ℕ) (rule : RunRule) (pass : ℕ) (place : Option Place) (settled : List Settled) (content : Content)
     (are : AreBooks books) (u : IsUnderway books (Run reference day rule) pass place settled content) where
   -- what stands at an instruction
-  standing_at_instruction : (k : ℕ) (i : Instructed) → instruction_at books.history k ≡ Some i → PassesSo books (Run reference day rule) pass (is_below books (Run reference day rule) place) settled k (content.standing k).mate (content.standing k).state
+  pub standing_at_instruction : (k : ℕ) (i : Instructed) → instruction_at books.history k ≡ Some i → PassesSo books (Run reference day rule) pass (is_below books (Run reference day rule) place) settled k (content.standing k).mate (content.standing k).state
   standing_at_instruction k i at =
       let P : Option Instructed → Type 0 = λ o. PassesAt books (Run reference day rule) pass (is_below books (Run reference day rule) place) settled k o (content.standing k) in
       let here : InstructionPasses books (Run reference day rule) pass (is_below books (Run reference day rule) place) settled k (content.standing k) = subst P at (u.passing.standing k) in
@@ -78,7 +83,7 @@ module _ (books : Books) (reference day : List ℕ) (rule : RunRule) (pass : ℕ
   pair_known p c = let within = pairs_known books.history books.pairs are.pairing p (In-from_Contains books.pairs p c) in within.later
 
   settled_pair : (s : Settled) → Contains settled s → Contains books.pairs s.pair
-  settled_pair s c = let i = In-from_Contains settled s c in let m = (u.reached.exact s (u.reached.within s i)).0 i in m.paired
+  settled_pair s c = let m = (u.reached.exact s (u.reached.within s c)).0 c in m.paired
 
   -- a pair by the number of its later side
   pair_of_later : (p : Pair) (k m : ℕ) → Contains books.pairs p → IsSide p k → mate_in p k ≡ m → m < k → (p.later ≡ k) × (p.earlier ≡ m)
@@ -129,23 +134,30 @@ module _ (books : Books) (reference day : List ℕ) (rule : RunRule) (pass : ℕ
       let here : is_not_cancelled books.history p ≡ true = ap (λ h. is_not_cancelled h p) (sym (before-all books.history (Run reference day rule ∷ []) (length books.history + 1) refl)) ∙ f.stands in
       not_true_is (is_cancelled_pair books.history p) here
 
+  -- a side of a pair that is not settled and not cancelled stands as matched with the other
+  pub side_state : (p : Pair) (k : ℕ) (mate : Option ℕ) (state : State) → PassesSo books (Run reference day rule) pass (is_below books (Run reference day rule) place) settled k mate state
+      → Contains books.pairs p → IsSide p k → IsUnsettled settled p → is_cancelled_pair books.history p ≡ false → (reason : Reason) × (state ≡ Matched reason) × (mate ≡ Some (mate_in p k))
+  side_state p k mate NoInstruction is paired side unsettled stands = absurd is
+  side_state p k mate Unmatched is paired side unsettled stands = absurd (not_alone p k side (is.free p paired))
+  side_state p k mate Cancelled (inl is) paired side unsettled stands = absurd (not_alone p k side (is.free p paired))
+  side_state p k mate Cancelled (inr is) paired side unsettled stands =
+      let one : is.pair ≡ p = one_pair_of books.history books.pairs is.pair p k are.pairing is.in_pair.paired paired is.in_pair.side side in
+      let gone : is_cancelled_pair books.history p ≡ true = ap (is_cancelled_pair books.history) (sym one) ∙ is.in_pair.gone in
+      absurd (both_ways _ stands gone)
+  side_state p k mate (Matched reason) is paired side unsettled stands =
+      let one : is.pair ≡ p = one_pair_of books.history books.pairs is.pair p k are.pairing is.in_pair.paired paired is.in_pair.side side in
+      (reason, refl, is.in_pair.other ∙ ap (λ (z : Pair). Some (mate_in z k)) one)
+  side_state p k mate states.Settled is paired side unsettled stands =
+      let s = is.settlement in
+      let one : s.pair ≡ p = one_pair_of books.history books.pairs s.pair p k are.pairing (settled_pair s is.settled) paired is.side side in
+      absurd (unsettled s is.settled one)
+
   open_state : (p : Pair) (mate : Option ℕ) (state : State) → PassesSo books (Run reference day rule) pass (is_below books (Run reference day rule) place) settled p.later mate state
       → IsOpen (books.history ++ Run reference day rule ∷ []) books.pairs settled (length books.history + 1) place p
       → (reason : Reason) × (state ≡ Matched reason) × (mate ≡ Some p.earlier)
-  open_state p mate Plain is free = absurd is
-  open_state p mate Unmatched is free = absurd (let f = is.free p free.paired in f.1 refl)
-  open_state p mate Cancelled (inl is) free = absurd (let f = is.free p free.paired in f.1 refl)
-  open_state p mate Cancelled (inr is) free =
-      let one : is.pair ≡ p = one_pair_of books.history books.pairs is.pair p p.later are.pairing is.in_pair.paired free.paired is.in_pair.side (inr refl) in
-      let gone : is_cancelled_pair books.history p ≡ true = ap (is_cancelled_pair books.history) (sym one) ∙ is.in_pair.gone in
-      absurd (both_ways _ (open_stands p free) gone)
-  open_state p mate (Matched reason) is free =
-      let one : is.pair ≡ p = one_pair_of books.history books.pairs is.pair p p.later are.pairing is.in_pair.paired free.paired is.in_pair.side (inr refl) in
-      (reason, refl, is.in_pair.other ∙ ap (λ (z : Pair). Some (mate_in z p.later)) one ∙ ap Some (mate_of_later p (in_order p free.paired)))
-  open_state p mate states.Settled is free =
-      let s = is.settlement in
-      let one : s.pair ≡ p = one_pair_of books.history books.pairs s.pair p p.later are.pairing (settled_pair s is.settled) free.paired is.side (inr refl) in
-      absurd (free.unsettled s is.settled one)
+  open_state p mate state is free =
+      let side = side_state p p.later mate state is free.paired (inr refl) free.unsettled (open_stands p free) in
+      (side.0, side.1, side.2 ∙ ap Some (mate_of_later p (in_order p free.paired)))
 
   -- the place of a pair, in the words of the history with the run
   place_same : (p : Pair) (next : Place) → next.day ≡ day_of (books.history ++ Run reference day rule ∷ []) p → next.number ≡ p.later → next ≡ place_of (books.history ++ Run reference day rule ∷ []) p

@@ -8,7 +8,7 @@ use Rattle.desk_rules.specs.declared.pair.Settled.{Settled}
 use Rattle.desk_rules.specs.declared.pair.Lack.TheVariants.{Securities}
 use Rattle.desk_rules.specs.declared.standing.State.{State}
 use Rattle.desk_rules.specs.declared.standing.State.TheVariants as states
-use Rattle.desk_rules.specs.declared.standing.State.TheVariants.{Plain, Unmatched, Matched, Cancelled}
+use Rattle.desk_rules.specs.declared.standing.State.TheVariants.{NoInstruction, Unmatched, Matched, Cancelled}
 use Rattle.desk_msg.specs.declared.status.Reason.{Reason}
 use Rattle.desk_msg.specs.declared.status.Reason.TheVariants as reasons
 use Rattle.desk_rules.specs.Cancelled.{is_cancelled_pair}
@@ -74,7 +74,7 @@ module _ (books : Books) (e : Entry) (pass : ℕ) (place : Option Place) (settle
 
   -- another instruction, where the pair stays
   pub left_so : (k : ℕ) (mate : Option ℕ) (state : State) → (IsSide q k → ⊥) → PassesSo books e pass (is_below books e place) settled k mate state → PassesSo books e pass (is_below books e (Some next)) settled k mate state
-  left_so k mate Plain apart x = x
+  left_so k mate NoInstruction apart x = x
   left_so k mate Unmatched apart x = x
   left_so k mate Cancelled apart x = x
   left_so k mate (Matched reason) apart x = record {
@@ -101,7 +101,7 @@ module _ (books : Books) (e : Entry) (pass : ℕ) (place : Option Place) (settle
   -- and where it settles
   pub settled_so : (k : ℕ) (mate : Option ℕ) (state : State) → (IsSide q k → ⊥) → PassesSo books e pass (is_below books e place) settled k mate state
       → PassesSo books e pass (is_below books e (Some next)) (settled ++ record { run = length books.history + 1; pass = pass; pair = q } ∷ []) k mate state
-  settled_so k mate Plain apart x = x
+  settled_so k mate NoInstruction apart x = x
   settled_so k mate Unmatched apart x = x
   settled_so k mate Cancelled apart (inl x) = inl x
   settled_so k mate Cancelled apart (inr x) = inr (record { pair = x.pair; in_pair = in_pair_on k mate x.pair true (side_apart x.pair k x.in_pair.side apart) x.in_pair })

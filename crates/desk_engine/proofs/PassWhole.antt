@@ -21,7 +21,7 @@ use Rattle.desk_rules.specs.declared.pair.Settled.{Settled}
 use Rattle.desk_rules.specs.declared.pair.Lack.TheVariants.{Securities, Money as LacksMoney}
 use Rattle.desk_rules.specs.declared.standing.State.{State}
 use Rattle.desk_rules.specs.declared.standing.State.TheVariants as states
-use Rattle.desk_rules.specs.declared.standing.State.TheVariants.{Plain, Unmatched, Matched, Cancelled}
+use Rattle.desk_rules.specs.declared.standing.State.TheVariants.{NoInstruction, Unmatched, Matched, Cancelled}
 use Rattle.desk_msg.specs.declared.status.Reason.TheVariants as reasons
 use Rattle.desk_rules.specs.declared.standing.Standing.{Standing}
 use Rattle.desk_rules.specs.declared.verdict.Refusal.TheVariants.{OverLimit}
@@ -48,10 +48,11 @@ use Rattle.desk_rules.proofs.Decided.{In, In-from_Contains, Contains-from_In, In
 use Rattle.desk_rules.proofs.Existence.{books_exist}
 use Rattle.desk_rules.proofs.HistoryLemmas.{some_before, before-all}
 use Rattle.desk_rules.proofs.SettlementLemmas.{ordered_pairs, begins_wider}
-use Rattle.desk_rules.proofs.SettlementGrowth.{IsSettledTo, run_settles, run_leaves}
+use Rattle.desk_rules.proofs.SettlementGrowth.{as_far_decided, decided_as_far, run_settles, run_leaves}
+use Rattle.desk_rules.specs.Tables.{AreCashBalances, ArePositions}
 use Rattle.desk_engine.proofs.TablesLemmas.{sum_member}
 use Rattle.desk_rules.proofs.WellFormedLemmas.{entry_In}
-use Rattle.desk_engine.proofs.PassLemmas.{FoundPair, found_pair, is_next}
+use Rattle.desk_engine.proofs.PassLemmas.{FoundPair, found_pair, is_next, side_state, standing_at_instruction}
 use Rattle.desk_engine.proofs.PassSteps.{left_so, settled_so, side_settled, side_left}
 use Rattle.desk_engine.proofs.WaitingLemmas.{left_count, left_settled, left_lacks, unsettled_fewer}
 use Rattle.desk_engine.proofs.StepLemmas.{HasSides, covered_if, uncovered_if, lack_if, settled_position, settled_cash}
@@ -188,7 +189,7 @@ pub record PassedOn (books : Books) (reference day : List ℕ) (rule : RunRule) 
 module _ (limit : ℕ) (books : Books) (reference day : List ℕ) (rule : RunRule) (pass : ℕ) (place : Option Place) (settled : List Settled) (old : Content)
     (are : AreBooks books) (was : WasAccepted limit books.history) (supported : AreSupported books.history) (u : IsUnderway books (Run reference day rule) pass place settled old) where
   settled_in_pairs : (s : Settled) → In settled s → Contains books.pairs s.pair
-  settled_in_pairs s i = let m = (u.reached.exact s (u.reached.within s i)).0 i in m.paired
+  settled_in_pairs s i = let c = Contains-from_In settled s i in let m = (u.reached.exact s (u.reached.within s c)).0 c in m.paired
 
   -- the two instructions of the next pair
   pub record NextSides (next : Place) (due : IsDue old (number_of day) place next) : Type 0 where
@@ -238,17 +239,28 @@ module _ (limit : ℕ) (books : Books) (reference day : List ℕ) (rule : RunRul
     | inr other ↦ inr (rw other refl)
   ]
 
-  pub next_can_settle : (next : Place) → IsDuePairAfter old (number_of day) place (Some next) → CanSettle old next.number
+  pub next_can_settle : (next : Place) → IsDuePairAfter old (number_of day) place (Some next) → CanSettle old next.number (number_of day)
   next_can_settle next after =
       let due = after.0 in
       let n = next_sides next due in
       let b = due.pair.later in
+      let q = n.found.waiting.pair in
+      let at : instruction_at books.history due.pair.mate ≡ Some n.earlier = ap (λ k. instruction_at books.history k) (sym n.found.earlier) ∙ n.sides.first in
+      let side = side_state books reference day rule pass place settled old are u q due.pair.mate (old.standing due.pair.mate).mate (old.standing due.pair.mate).state
+      (standing_at_instruction books reference day rule pass place settled old are u due.pair.mate n.earlier at)
+      n.found.waiting.in_pair.paired (inl n.found.earlier) n.found.waiting.in_pair.unsettled n.found.waiting.in_pair.gone in
       record {
         mate = due.pair.mate;
         earlier = n.earlier;
         later = b;
         pair = record { is_later = due.pair.is_later; has_mate = due.pair.has_mate; is_earlier = n.is_earlier };
         two = due.pair.is_earlier;
+        back = side.2 ∙ ap Some (ap (mate_in q) (sym n.found.earlier) ∙ mate_of_earlier q ∙ n.found.later);
+        earlier_reason = side.0;
+        earlier_matched = side.1;
+        later_reason = due.pair.reason;
+        later_matched = due.pair.matched;
+        due = (let by = due.by in let on = due.pair.day in omega (arith, by, on));
         free = n.sides.unpaid;
         fits = λ there.
             let from : old.position (deliverer n.earlier b).instruction.account b.instruction.isin ≤ MOST_QUANTITY = side_within next due n (deliverer n.earlier b) (which_delivers n.earlier b) b.instruction.isin in
@@ -303,7 +315,7 @@ module _ (limit : ℕ) (books : Books) (reference day : List ℕ) (rule : RunRul
       → PassesAt books (Run reference day rule) pass (is_below books (Run reference day rule) (Some next)) (settled ++ record { run = length books.history + 1; pass = pass; pair = n.found.waiting.pair } ∷ []) k o st
   rest_settled next after n f k None st apart is = is
   rest_settled next after n f k (Some i) st apart is = record {
-    so = settled_so books (Run reference day rule) pass place settled n.found.waiting.pair next are f.next_is n.found.place_is u.reached k st.mate st.state apart is.so;
+    so = settled_so books (Run reference day rule) pass place settled n.found.waiting.pair next are f.next_is n.found.place_is (decided_as_far u.reached) k st.mate st.state apart is.so;
     requested = is.requested;
   }
 
@@ -312,7 +324,7 @@ module _ (limit : ℕ) (books : Books) (reference day : List ℕ) (rule : RunRul
       → PassesAt books (Run reference day rule) pass (is_below books (Run reference day rule) (Some next)) settled k o st
   rest_left next after n f k None st apart is = is
   rest_left next after n f k (Some i) st apart is = record {
-    so = left_so books (Run reference day rule) pass place settled n.found.waiting.pair next are f.next_is n.found.place_is u.reached k st.mate st.state apart is.so;
+    so = left_so books (Run reference day rule) pass place settled n.found.waiting.pair next are f.next_is n.found.place_is (decided_as_far u.reached) k st.mate st.state apart is.so;
     requested = is.requested;
   }
 
@@ -335,8 +347,8 @@ module _ (limit : ℕ) (books : Books) (reference day : List ℕ) (rule : RunRul
       let on : List Settled = settled ++ t ∷ [] in
       let H : Content → Type 0 = λ c. history_of c ≡ books.history in
       let S : Content → Type 0 = λ c. (k : ℕ) → PassesAt books e pass (is_below books e (Some next)) on k (instruction_at books.history k) (c.standing k) in
-      let B : Content → Type 0 = λ c. (a i : List ℕ) → c.position a i + debits books.history on a i ≡ credits books.history on a i in
-      let C : Content → Type 0 = λ c. (b : List ℕ) (y : Ccy) → c.cash b y + cash_debits books.history on b y ≡ cash_credits books.history on b y in
+      let B : Content → Type 0 = λ c. ArePositions books.history on c.position in
+      let C : Content → Type 0 = λ c. AreCashBalances books.history on c.cash in
       let P : ℕ → Standing → Type 0 = λ k st. PassesAt books e pass (is_below books e (Some next)) on k (instruction_at books.history k) st in
       let covered = covered_if books.history settled q n.earlier due.pair.later n.sides old.position u.passing.position ends.0 in
       let order = ordered_pairs books.history books.pairs are.pairing in
@@ -348,19 +360,19 @@ module _ (limit : ℕ) (books : Books) (reference day : List ℕ) (rule : RunRul
             history = subst H (sym ends.1) u.passing.history;
             standing = subst S (sym ends.1) (both_stand P old.standing due.pair.mate next.number states.Settled
                 (rw f.at_number (record {
-                  so = side_settled books e pass place settled q next are f.next_is n.found.place_is u.reached next.number due.pair.mate f.number_side f.number_mate;
+                  so = side_settled books e pass place settled q next are f.next_is n.found.place_is (decided_as_far u.reached) next.number due.pair.mate f.number_side f.number_mate;
                   requested = requested_at next.number due.pair.later f.at_number;
                 }))
                 (rw f.at_mate (record {
-                  so = side_settled books e pass place settled q next are f.next_is n.found.place_is u.reached due.pair.mate next.number f.mate_side f.mate_number;
+                  so = side_settled books e pass place settled q next are f.next_is n.found.place_is (decided_as_far u.reached) due.pair.mate next.number f.mate_side f.mate_number;
                   requested = requested_at due.pair.mate n.earlier f.at_mate;
                 }))
                 (λ k a b. rest_settled next after n f k (instruction_at books.history k) (old.standing k) (f.others k a b) (u.passing.standing k)));
             position = subst B (sym ends.1) (λ a i. settled_position books.history settled q n.earlier due.pair.later n.sides old.position u.passing.position t refl ends.0 a i);
             cash = subst C (sym ends.1) (λ b y. settled_cash books.history settled q n.earlier due.pair.later n.sides old.position u.passing.position t refl (old.cash b y) b y (u.passing.cash b y));
           };
-          reached = run_settles (books.history ++ e ∷ []) books.pairs settled (length books.history + 1) pass place q next order u.reached u.begun f.next_is n.found.place_is
-              (ap (λ z. is_covered z settled q) (before-all books.history (e ∷ []) (length books.history + 1) refl) ∙ covered);
+          reached = as_far_decided (run_settles (books.history ++ e ∷ []) books.pairs settled (length books.history + 1) pass place q next order (decided_as_far u.reached) u.begun f.next_is n.found.place_is
+              (ap (λ z. is_covered z settled q) (before-all books.history (e ∷ []) (length books.history + 1) refl) ∙ covered));
           begun = begins_wider (books.history ++ e ∷ []) settled on (length books.history + 1) pass (λ x i. In-left settled (t ∷ []) x i) u.begun;
           further = record {
             more = u.further.more ++ t ∷ [];
@@ -388,8 +400,8 @@ module _ (limit : ℕ) (books : Books) (reference day : List ℕ) (rule : RunRul
       let e : Entry = Run reference day rule in
       let H : Content → Type 0 = λ c. history_of c ≡ books.history in
       let S : Content → Type 0 = λ c. (k : ℕ) → PassesAt books e pass (is_below books e (Some next)) settled k (instruction_at books.history k) (c.standing k) in
-      let B : Content → Type 0 = λ c. (a i : List ℕ) → c.position a i + debits books.history settled a i ≡ credits books.history settled a i in
-      let C : Content → Type 0 = λ c. (b : List ℕ) (y : Ccy) → c.cash b y + cash_debits books.history settled b y ≡ cash_credits books.history settled b y in
+      let B : Content → Type 0 = λ c. ArePositions books.history settled c.position in
+      let C : Content → Type 0 = λ c. AreCashBalances books.history settled c.cash in
       let P : ℕ → Standing → Type 0 = λ k st. PassesAt books e pass (is_below books e (Some next)) settled k (instruction_at books.history k) st in
       let short = uncovered_if books.history settled q n.earlier due.pair.later n.sides old.position u.passing.position ends.0 in
       let lack = lack_if books.history settled q n.earlier due.pair.later n.sides old.position u.passing.position ends.0 in
@@ -400,19 +412,19 @@ module _ (limit : ℕ) (books : Books) (reference day : List ℕ) (rule : RunRul
           history = subst H (sym ends.1) u.passing.history;
           standing = subst S (sym ends.1) (both_stand P old.standing due.pair.mate next.number (Matched reasons.Lack)
               (rw f.at_number (record {
-                so = side_left books e pass place settled q next are f.next_is n.found.place_is u.reached next.number due.pair.mate f.number_side f.number_mate n.found.waiting.in_pair.unsettled lack;
+                so = side_left books e pass place settled q next are f.next_is n.found.place_is (decided_as_far u.reached) next.number due.pair.mate f.number_side f.number_mate n.found.waiting.in_pair.unsettled lack;
                 requested = requested_at next.number due.pair.later f.at_number;
               }))
               (rw f.at_mate (record {
-                so = side_left books e pass place settled q next are f.next_is n.found.place_is u.reached due.pair.mate next.number f.mate_side f.mate_number n.found.waiting.in_pair.unsettled lack;
+                so = side_left books e pass place settled q next are f.next_is n.found.place_is (decided_as_far u.reached) due.pair.mate next.number f.mate_side f.mate_number n.found.waiting.in_pair.unsettled lack;
                 requested = requested_at due.pair.mate n.earlier f.at_mate;
               }))
               (λ k a b. rest_left next after n f k (instruction_at books.history k) (old.standing k) (f.others k a b) (u.passing.standing k)));
           position = subst B (sym ends.1) u.passing.position;
           cash = subst C (sym ends.1) u.passing.cash;
         };
-        reached = run_leaves (books.history ++ e ∷ []) books.pairs settled (length books.history + 1) pass place q next order u.reached f.next_is n.found.place_is
-            (ap (λ z. is_covered z settled q) (before-all books.history (e ∷ []) (length books.history + 1) refl) ∙ short);
+        reached = as_far_decided (run_leaves (books.history ++ e ∷ []) books.pairs settled (length books.history + 1) pass place q next order (decided_as_far u.reached) f.next_is n.found.place_is
+            (ap (λ z. is_covered z settled q) (before-all books.history (e ∷ []) (length books.history + 1) refl) ∙ short));
         begun = u.begun;
         further = u.further;
       } in

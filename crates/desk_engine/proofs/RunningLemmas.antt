@@ -79,7 +79,7 @@ running_goes_on room count v0 v w day place tried settled waiting new_settled ne
 }
 
 pub running_can_settle : (room count : ℕ) (v0 v : View) (day : List ℕ) (place : Option Place) (tried settled waiting : ℕ) → Running room count v0 v day place tried settled waiting → (v0.is_honest → v0.is_sure → CanPass room day v0.content)
-    → v.is_honest → v.is_sure → (next : Place) → IsDuePairAfter v.content (number_of day) place (Some next) → CanSettle v.content next.number
+    → v.is_honest → v.is_sure → (next : Place) → IsDuePairAfter v.content (number_of day) place (Some next) → CanSettle v.content next.number (number_of day)
 running_can_settle room count v0 v day place tried settled waiting r may honest sure next due =
     let sure0 = r.later.sure honest sure in
     let can = may (r.later.honest honest) sure0 in
@@ -129,7 +129,7 @@ at_first room books reference day rule content tables supported = record {
 }
 
 -- The first due pair can be tried where the tables of books are kept, whatever run may come.
-pub kept_can_settle : (limit : ℕ) (books : Books) (content : Content) (day : List ℕ) (next : Place) → Keeps limit books content → IsDuePairAfter content (number_of day) None (Some next) → CanSettle content next.number
+pub kept_can_settle : (limit : ℕ) (books : Books) (content : Content) (day : List ℕ) (next : Place) → Keeps limit books content → IsDuePairAfter content (number_of day) None (Some next) → CanSettle content next.number (number_of day)
 kept_can_settle limit books content day next keeps due =
     let at = at_first limit books [] day OnePass content (tables_of limit books content keeps) keeps.supported in
     can_settle limit books [] day OnePass 1 books.settled None 0 0 0 content at.are_books at.accepted at.supported (starts books [] day OnePass 1 books.settled content at.are_books at.underway) next due

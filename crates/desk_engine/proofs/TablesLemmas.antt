@@ -11,7 +11,7 @@ use Rattle.desk_rules.specs.declared.pair.Pair.{Pair}
 use Rattle.desk_rules.specs.declared.pair.Settled.{Settled}
 use Rattle.desk_rules.specs.declared.standing.State.{State}
 use Rattle.desk_rules.specs.declared.standing.State.TheVariants as states
-use Rattle.desk_rules.specs.declared.standing.State.TheVariants.{Plain, Unmatched, Matched, Cancelled}
+use Rattle.desk_rules.specs.declared.standing.State.TheVariants.{NoInstruction, Unmatched, Matched, Cancelled}
 use Rattle.desk_msg.specs.declared.status.Reason.{Reason}
 use Rattle.desk_rules.specs.declared.standing.Standing.{Standing}
 use Rattle.desk_rules.specs.declared.verdict.Verdict.TheVariants.{Accept}
@@ -25,7 +25,7 @@ use Rattle.desk_rules.specs.Settlement.{IsSettlement, is_due, last_pass, passes_
 use Rattle.desk_rules.specs.Books.{Books, AreBooks}
 use Rattle.desk_rules.specs.Verdict.{WasAccepted, IsVerdict, check}
 use Rattle.desk_rules.specs.Content.{Content, history_of}
-use Rattle.desk_rules.specs.Standing.{plain_standing, reason_of_lack}
+use Rattle.desk_rules.specs.Standing.{no_standing, reason_of_lack}
 use Rattle.desk_rules.specs.Stands.{IsAlone, IsInPair, IsReason, StandsAt, StandsSo, reason_found}
 use Rattle.desk_engine.specs.Tables.{Tables, Grown, is_registration}
 use Rattle.desk_rules.proofs.Decided.{In, In-from_Contains, Contains-from_In, In-left, In-cases, filter-same}
@@ -194,7 +194,7 @@ in_pair_more h e ps more settled k mate p is_gone quiet is =
 
 pub stands_more : (h : List Entry) (e : Entry) (ps more : List Pair) (settled : List Settled) (k : ℕ) (mate : Option ℕ) (state : State) → IsQuiet h e ps more settled → k ≤ length h → IsFree more k
     → StandsSo (record { history = h; pairs = ps; settled = settled }) k mate state → StandsSo (record { history = h ++ e ∷ []; pairs = ps ++ more; settled = settled }) k mate state
-stands_more h e ps more settled k mate Plain quiet le free is = is
+stands_more h e ps more settled k mate NoInstruction quiet le free is = is
 stands_more h e ps more settled k mate Unmatched quiet le free is = alone_more h e ps more settled k mate false quiet le free is
 stands_more h e ps more settled k mate Cancelled quiet le free is = elim is [
   | inl alone ↦ inl (alone_more h e ps more settled k mate true quiet le free alone)
@@ -241,7 +241,7 @@ pub record IsPlain (e : Entry) : Type 0 where
   pub no_run : run_day e ≡ None
   pub no_instruction : instructed e ≡ None
   pub no_cancel : (i : Instructed) → requests_cancel e i ≡ false
-  pub first : first_standing e ≡ plain_standing
+  pub first : first_standing e ≡ no_standing
   pub no_payment_in : (share : Payment → ℕ) → paid_in_by share e ≡ 0
   pub no_payment_out : (share : Payment → ℕ) → paid_out_by share e ≡ 0
 

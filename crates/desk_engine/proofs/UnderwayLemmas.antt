@@ -13,7 +13,7 @@ use Rattle.desk_rules.specs.declared.pair.Place.{Place}
 use Rattle.desk_rules.specs.declared.pair.Settled.{Settled}
 use Rattle.desk_rules.specs.declared.standing.State.{State}
 use Rattle.desk_rules.specs.declared.standing.State.TheVariants as states
-use Rattle.desk_rules.specs.declared.standing.State.TheVariants.{Plain, Unmatched, Matched, Cancelled}
+use Rattle.desk_rules.specs.declared.standing.State.TheVariants.{NoInstruction, Unmatched, Matched, Cancelled}
 use Rattle.desk_rules.specs.declared.standing.Standing.{Standing}
 use Rattle.desk_engine.specs.declared.settlement_run.Taken.{Taken}
 use Rattle.desk_rules.specs.History.{instruction_at, run_rule}
@@ -30,7 +30,7 @@ use Rattle.desk_rules.proofs.Decided.{In, In-from_Contains, Contains-from_In, In
 use Rattle.desk_rules.proofs.HistoryLemmas.{entry_at-end}
 use Rattle.desk_rules.proofs.PairingLemmas.{lower, decided_pairing}
 use Rattle.desk_rules.proofs.SettlementLemmas.{ordered_pairs, begins_true, begins_further}
-use Rattle.desk_rules.proofs.SettlementGrowth.{pass_ends}
+use Rattle.desk_rules.proofs.SettlementGrowth.{as_far_decided, decided_as_far, pass_ends}
 use Rattle.desk_rules.proofs.Existence.{fewer_above}
 use Rattle.desk_rules.proofs.NothingLeft.{begins_counted}
 use Rattle.desk_engine.proofs.TablesLemmas.{settled_known}
@@ -89,7 +89,7 @@ starts books reference day rule pass start content are u =
       underway = subst U (sym none) u;
       of_pass = λ s i. absurd i;
       earlier = λ s c run.
-          let r = u.reached.within s (In-from_Contains start s c) in
+          let r = u.reached.within s c in
           elim r.reached [
             | inl lt ↦ absurd (omega arith)
             | inr both ↦ elim both.1 [ inl lt ↦ lt | inr inner ↦ (let never : true ≡ false = inner.1 in absurd (cc)) ]
@@ -100,7 +100,7 @@ starts books reference day rule pass start content are u =
     }
 
 pub can_settle : (limit : ℕ) (books : Books) (reference day : List ℕ) (rule : RunRule) (pass : ℕ) (start : List Settled) (place : Option Place) (tried count waiting : ℕ) (content : Content) → AreBooks books → WasAccepted limit books.history → AreSupported books.history
-    → Underway books reference day rule pass start place tried count waiting content → (next : Place) → IsDuePairAfter content (number_of day) place (Some next) → CanSettle content next.number
+    → Underway books reference day rule pass start place tried count waiting content → (next : Place) → IsDuePairAfter content (number_of day) place (Some next) → CanSettle content next.number (number_of day)
 can_settle limit books reference day rule pass start place tried count waiting content are was supported u next due =
     next_can_settle limit books reference day rule pass place (start ++ u.here) content are was supported u.underway next due
 
@@ -145,7 +145,7 @@ over books reference day rule pass start place tried count waiting content u non
       position = u.underway.passing.position;
       cash = u.underway.passing.cash;
     };
-    reached = pass_ends (books.history ++ Run reference day rule ∷ []) books.pairs (start ++ u.here) (length books.history + 1) pass place u.underway.reached none;
+    reached = as_far_decided (pass_ends (books.history ++ Run reference day rule ∷ []) books.pairs (start ++ u.here) (length books.history + 1) pass place (decided_as_far u.underway.reached) none);
     begun = u.underway.begun;
     further = u.underway.further;
     here = u.here;
@@ -159,7 +159,7 @@ over books reference day rule pass start place tried count waiting content u non
   where
     tried_so : (k : ℕ) (mate : Option ℕ) (state : State) → PassesSo books (Run reference day rule) pass (is_below books (Run reference day rule) place) (start ++ u.here) k mate state
         → PassesSo books (Run reference day rule) pass (λ p. true) (start ++ u.here) k mate state
-    tried_so k mate Plain x = x
+    tried_so k mate NoInstruction x = x
     tried_so k mate Unmatched x = x
     tried_so k mate Cancelled x = x
     tried_so k mate (Matched reason) x = record {

@@ -1,7 +1,6 @@
 -- What a run over supported commands comes to, pass by pass, before the run itself is added. But for `AreSupported`, only
 -- proofs and private contracts speak of it.
 use Rattle.std.specs.Prelude.{◌≡◌, ℕ, ◌+◌, ◌<◌, ◌≤◌, ◌&&◌, Bool, true, false, not, List, [], ◌∷◌, ◌++◌, length, count_by, Contains, ◌⊎◌, Option, Some, None}
-use Rattle.desk_codes.specs.declared.currency.Ccy.{Ccy}
 use Rattle.desk_msg.specs.declared.status.Reason.{Reason}
 use Rattle.desk_rules.specs.declared.entry.Entry.{Entry}
 use Rattle.desk_rules.specs.declared.entry.Entry.TheVariants.{Run}
@@ -12,21 +11,21 @@ use Rattle.desk_rules.specs.declared.pair.Place.{Place}
 use Rattle.desk_rules.specs.declared.pair.Settled.{Settled}
 use Rattle.desk_rules.specs.declared.standing.State.{State}
 use Rattle.desk_rules.specs.declared.standing.State.TheVariants as states
-use Rattle.desk_rules.specs.declared.standing.State.TheVariants.{Plain, Unmatched, Matched, Cancelled}
+use Rattle.desk_rules.specs.declared.standing.State.TheVariants.{NoInstruction, Unmatched, Matched, Cancelled}
 use Rattle.desk_rules.specs.declared.standing.Standing.{Standing}
 use Rattle.desk_rules.specs.declared.verdict.Verdict.TheVariants.{Accept}
 use Rattle.desk_rules.specs.History.{instruction_at}
 use Rattle.desk_rules.specs.Cancelled.{is_cancel_requested}
-use Rattle.desk_rules.specs.Balances.{credits, debits, cash_credits, cash_debits}
 use Rattle.desk_rules.specs.Covered.{lack_of}
 use Rattle.desk_rules.specs.Settlement.{is_due, is_above, settled_before, begins, settled_count, IsSettlement}
 use Rattle.desk_rules.specs.Books.{Books, AreBooks}
-use Rattle.desk_rules.specs.Standing.{plain_standing, reason_of_lack}
+use Rattle.desk_rules.specs.Standing.{no_standing, reason_of_lack}
 use Rattle.desk_rules.specs.Verdict.{IsVerdict, WasAccepted}
 use Rattle.desk_rules.specs.Reply.{is_settled_pair, waiting_count}
 use Rattle.desk_rules.specs.Content.{Content, history_of}
+use Rattle.desk_rules.specs.Tables.{AreCashBalances, ArePositions}
 use Rattle.desk_rules.specs.Stands.{IsReason, IsAlone, IsInPair, IsCancelledSide, IsSettledSide, StandsAt}
-use Rattle.desk_rules.proofs.SettlementGrowth.{IsSettledTo}
+use Rattle.desk_rules.specs.Underway.{IsSettledAsFar}
 use Rattle.desk_register.specs.Changes.{TriesPair}
 use Rattle.desk_register.specs.Looked.{IsDuePairAfter}
 use Rattle.desk_register.specs.declared.outcome.Outcome.{Outcome}
@@ -49,8 +48,8 @@ pub record HasPassed (books : Books) (run : Entry) (settled : List Settled) (con
   pub history : history_of content ≡ books.history
   pub settlement : IsSettlement (books.history ++ run ∷ []) books.pairs settled
   pub standing : (k : ℕ) → StandsAt (books_after books run settled) k (instruction_at books.history k) (content.standing k)
-  pub position : (account isin : List ℕ) → content.position account isin + debits books.history settled account isin ≡ credits books.history settled account isin
-  pub cash : (bic : List ℕ) (ccy : Ccy) → content.cash bic ccy + cash_debits books.history settled bic ccy ≡ cash_credits books.history settled bic ccy
+  pub position : ArePositions books.history settled content.position
+  pub cash : AreCashBalances books.history settled content.cash
 
 -- The desk accepts a run, and it has made its passes.
 pub record IsPassed (limit : ℕ) (run : Entry) (content : Content) : Type 0 where
@@ -95,7 +94,7 @@ module _ (books : Books) (run : Entry) where
       pub tried : is_due with_run run_number pair ≡ true → is_tried pair ≡ true → reason ≡ found_in pass settled pair
 
     abbrev pub PassesSo : ℕ → Option ℕ → State → Type 0
-    PassesSo k mate Plain = ⊥
+    PassesSo k mate NoInstruction = ⊥
     PassesSo k mate Unmatched = IsAlone books k mate false
     PassesSo k mate Cancelled = IsAlone books k mate true ⊎ IsCancelledSide (record books { settled = settled }) k mate
     PassesSo k mate (Matched reason) = IsWaiting k mate reason
@@ -106,15 +105,15 @@ module _ (books : Books) (run : Entry) where
       pub requested : standing.cancel_requested ≡ is_cancel_requested books.history k
 
     abbrev pub PassesAt : ℕ → Option Instructed → Standing → Type 0
-    PassesAt k None standing = standing ≡ plain_standing
+    PassesAt k None standing = standing ≡ no_standing
     PassesAt k (Some i) standing = InstructionPasses k standing
 
     -- the content, within the pass
     pub record IsPassing (content : Content) : Type 0 where
       pub history : history_of content ≡ books.history
       pub standing : (k : ℕ) → PassesAt k (instruction_at books.history k) (content.standing k)
-      pub position : (account isin : List ℕ) → content.position account isin + debits books.history settled account isin ≡ credits books.history settled account isin
-      pub cash : (bic : List ℕ) (ccy : Ccy) → content.cash bic ccy + cash_debits books.history settled bic ccy ≡ cash_credits books.history settled bic ccy
+      pub position : ArePositions books.history settled content.position
+      pub cash : AreCashBalances books.history settled content.cash
 
   -- what the run has settled so far, behind what earlier runs did; no more pairs than there are
   pub record IsFurther (settled : List Settled) : Type 0 where
@@ -130,14 +129,14 @@ module _ (books : Books) (run : Entry) where
   -- A pass has come to a place.
   pub record IsUnderway (pass : ℕ) (place : Option Place) (settled : List Settled) (content : Content) : Type 0 where
     pub passing : IsPassing pass (is_below place) settled content
-    pub reached : IsSettledTo with_run books.pairs run_number pass place settled
+    pub reached : IsSettledAsFar with_run books.pairs run_number pass place settled
     pub begun : begins with_run settled run_number pass ≡ true
     pub further : IsFurther settled
 
   -- A pass is over: it has tried all due pairs, so many settled in it, and so many that are due are not settled.
   pub record IsOver (pass : ℕ) (before settled : List Settled) (settled_so waiting_so : ℕ) (content : Content) : Type 0 where
     pub passing : IsPassing pass (λ p. true) settled content
-    pub reached : IsSettledTo with_run books.pairs run_number (pass + 1) None settled
+    pub reached : IsSettledAsFar with_run books.pairs run_number (pass + 1) None settled
     pub begun : begins with_run settled run_number pass ≡ true
     pub further : IsFurther settled
     pub here : List Settled

@@ -2,17 +2,16 @@
 -- and private contracts speak of them: what a register keeps is `Keeps` in Applied.antt, which says this, with the replies
 -- and that each entry is a supported one.
 use Rattle.std.specs.Prelude.{◌≡◌, ℕ, ◌+◌, Bool, true, false, List, [], ◌∷◌, ◌++◌, Option, Some, None}
-use Rattle.desk_codes.specs.declared.currency.Ccy.{Ccy}
 use Rattle.desk_rules.specs.declared.entry.Entry.{Entry}
 use Rattle.desk_rules.specs.declared.entry.Entry.TheVariants.{Participant, Account, Security, Issue}
 use Rattle.desk_rules.specs.declared.pair.Pair.{Pair}
 use Rattle.desk_rules.specs.declared.pair.Settled.{Settled}
 use Rattle.desk_rules.specs.declared.verdict.Verdict.TheVariants.{Accept}
 use Rattle.desk_rules.specs.History.{instruction_at}
-use Rattle.desk_rules.specs.Balances.{credits, debits, cash_credits, cash_debits}
 use Rattle.desk_rules.specs.Books.{Books, AreBooks}
 use Rattle.desk_rules.specs.Verdict.{IsVerdict, WasAccepted}
 use Rattle.desk_rules.specs.Content.{Content, history_of}
+use Rattle.desk_rules.specs.Tables.{AreCashBalances, ArePositions}
 use Rattle.desk_rules.specs.Stands.{StandsAt}
 use Rattle.desk_register.specs.Changes.{paired}
 
@@ -22,8 +21,8 @@ pub record Tables (limit : ℕ) (books : Books) (content : Content) : Type 0 whe
   pub are_books : AreBooks books
   pub accepted : WasAccepted limit books.history
   pub standing : (k : ℕ) → StandsAt books k (instruction_at books.history k) (content.standing k)
-  pub position : (account isin : List ℕ) → content.position account isin + debits books.history books.settled account isin ≡ credits books.history books.settled account isin
-  pub cash : (bic : List ℕ) (ccy : Ccy) → content.cash bic ccy + cash_debits books.history books.settled bic ccy ≡ cash_credits books.history books.settled bic ccy
+  pub position : ArePositions books.history books.settled content.position
+  pub cash : AreCashBalances books.history books.settled content.cash
 
 -- books of which a content is the tables, after one entry more
 pub record Grown (limit : ℕ) (books : Books) (entry : Entry) (content : Content) : Type 0 where

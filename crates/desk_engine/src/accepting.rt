@@ -26,7 +26,7 @@ pub enum Failure {
 fn take_back<R: Register>(alloc: Global, register: &mut R, fault: Fault) -> Failure
     requires { (R.view register.old).stage ≢ Stage.Idle }
     ensures recovers { Recovers fault result (R.view register.old).mark (R.view register.old) (R.view register.new) }
-    ensures plain { R.plain ≡ true → result ≢ Failure.Lost }
+    ensures in_memory { R.in_memory ≡ true → result ≢ Failure.Lost }
 {
     match register.back(alloc) {
         Ok(()) => Failure::Undone(fault),
@@ -38,7 +38,7 @@ fn take_back<R: Register>(alloc: Global, register: &mut R, fault: Fault) -> Fail
 pub fn recover<R: Register>(alloc: Global, register: &mut R, fault: Fault) -> Failure
     requires { (R.view register.old).stage ≡ Stage.Idle }
     ensures recovers { Recovers fault result (R.view register.old).content (R.view register.old) (R.view register.new) }
-    ensures plain { R.plain ≡ true → result ≢ Failure.Lost }
+    ensures in_memory { R.in_memory ≡ true → result ≢ Failure.Lost }
 {
     match register.begin(alloc) {
         Ok(()) => take_back(alloc, register, fault),
@@ -79,7 +79,7 @@ pub fn accept<R: Register>(
     ensures err { IfErr result (λ failure. IsLeft failure (R.view register.old).content (R.view register.new)) }
     ensures later { IsLater (R.view register.old) (R.view register.new) }
     ensures blame { IfErr result (λ failure. failure ≡ Failure.Undone Fault.Storage → (R.view register.old).failures < (R.view register.new).failures) }
-    ensures plain { R.plain ≡ true → IfErr result (λ failure. failure ≢ Failure.Lost) }
+    ensures in_memory { R.in_memory ≡ true → IfErr result (λ failure. failure ≢ Failure.Lost) }
 {
     if let Err(fault) = register.begin(alloc) {
         return Err(recover(alloc, register, fault));

@@ -65,7 +65,7 @@ fn apply_registration<R: Register>(
         mate: None,
         settled: 0,
         waiting: 0,
-        named: State::Plain,
+        named: State::NoInstruction,
     };
     let reply = accepted_reply(alloc, &entry, &applied)?;
     let kept = once_more(alloc, &reply)?;
@@ -94,7 +94,7 @@ fn apply_instruction<R: Register>(
         mate,
         settled: 0,
         waiting: 0,
-        named: State::Plain,
+        named: State::NoInstruction,
     };
     let entry = Entry::Instruct {
         sender,
@@ -127,7 +127,7 @@ fn apply_run<R: Register>(
         mate: None,
         settled: passed.settled,
         waiting: passed.waiting,
-        named: State::Plain,
+        named: State::NoInstruction,
     };
     let entry = Entry::Run {
         reference,

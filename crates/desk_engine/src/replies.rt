@@ -76,7 +76,7 @@ fn cancellation_case(named: State) -> Case
     match named {
         State::Cancelled => Case::CancelDone,
         State::Settled => Case::CancelRefused(Refusal::AlreadySettled.number()),
-        State::Plain | State::Unmatched | State::Matched(_) => Case::CancelWaits,
+        State::NoInstruction | State::Unmatched | State::Matched(_) => Case::CancelWaits,
     }
 }
 

@@ -32,14 +32,14 @@ fn take_next<R: Register>(
 ) -> Result<Option<Taken>, Fault>
     requires stage { (R.view register.old).stage ≡ Stage.Begun }
     requires fits { IfTrusted (R.view register.old) (R.view register.old) ((next : Place) → IsDuePairAfter (R.view register.old).content (number_of day) place (Some next)
-        → CanSettle (R.view register.old).content next.number) }
+        → CanSettle (R.view register.old).content next.number (number_of day)) }
     ensures taken { IfTrusted (R.view register.old) (R.view register.new) (IfOk result (λ taken. IsTaken (R.view register.old).content (number_of day) place taken (R.view register.new).content)) }
     ensures change { IsChange result (R.view register.old) (R.view register.new) }
 {
     match register.due_pair_after(alloc, day, place)? {
         None => Ok(None),
         Some(next) => {
-            let outcome = register.settle_pair(alloc, next.number)?;
+            let outcome = register.settle_pair(alloc, next.number, day)?;
             Ok(Some(Taken {
                 place: next,
                 outcome,

@@ -410,7 +410,7 @@ module _ (keys : Keys) (numbers : BTreeSet (MatchKey × ℕ)) (places places' : 
       after_standing keys numbers places places' noted old new mate n (Matched Lack) honest was_sure stage indexed ok two (λ e. cc) all placed (ap (λ c. c.register) ends.1) (ap (λ c. c.standing) ends.1)
   settled_so n mate earlier later (Lacks LacksMoney) two placed ok ends = absurd ends
 
-  pub after_settle : (r : Result Outcome Fault) (n : ℕ) → CanSettle old.content n → PlacedAt places' (instruction_at (history_of old.content) n) n
+  pub after_settle : (r : Result Outcome Fault) (n : ℕ) {day : ℕ} → CanSettle old.content n day → PlacedAt places' (instruction_at (history_of old.content) n) n
       → (new.is_honest → old.is_sure → IfOk r (λ outcome. TriesPair old.content n outcome new.content)) → OnOk r (Stays old new) → OnErr r (Falls old new) → IsIndexed new keys numbers places' noted
   after_settle (Ok outcome) n can placed settles ok err =
       let s = settles honest was_sure in

@@ -50,7 +50,7 @@ impl Register for IndexedRegister {
 
     ghost view = { view_of_index };
 
-    ghost plain = { true };
+    ghost in_memory = { true };
 
     fn begin(&mut self, alloc: Global) -> Result<(), Fault> {
         self.held.begin(alloc)
@@ -213,7 +213,7 @@ impl Register for IndexedRegister {
         }
     }
 
-    fn settle_pair(&mut self, alloc: Global, number: u64) -> Result<Outcome, Fault> {
+    fn settle_pair(&mut self, alloc: Global, number: u64, day: Day) -> Result<Outcome, Fault> {
         let mate = self.held.standing_at(number).mate.unwrap_or(number);
         if note_pair(
             &self.held,
@@ -226,7 +226,7 @@ impl Register for IndexedRegister {
         {
             return Err(self.held.fail());
         }
-        match self.held.settle_pair(alloc, number) {
+        match self.held.settle_pair(alloc, number, day) {
             Ok(outcome) => {
                 let noted = noted_count(&self.noted);
                 tidy_new(

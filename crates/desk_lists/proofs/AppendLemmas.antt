@@ -13,13 +13,13 @@ use Rattle.desk_rules.specs.declared.standing.State.{State}
 use Rattle.desk_rules.specs.Balances.{issued, redeemed, issued_by, redeemed_by, movement_of}
 use Rattle.desk_rules.specs.Content.{Content, history_of}
 use Rattle.desk_register.specs.Changes.{CanAppend, appended, positions_after, standing_at, standing_both, first_standing}
-use Rattle.desk_rules.specs.Standing.{plain_standing}
+use Rattle.desk_rules.specs.Standing.{no_standing}
 use Rattle.desk_lists.specs.Lists.{OutstandingIsKept, Listed, SameBooks, value_in, is_key, content_in, outstanding_in, quantity_in, outstanding_after, SameEntries, standing_in}
 use Rattle.desk_register.proofs.CaseLemmas.{by_bool, same_bytes}
 
 -- where entries stand, with one more at the end
 standing_end : (standings : List Standing) (s : Standing) (n : ℕ)
-    → unwrap_or (slice_get (standings ++ s ∷ []) n) plain_standing ≡ (if n == length standings then s else unwrap_or (slice_get standings n) plain_standing)
+    → unwrap_or (slice_get (standings ++ s ∷ []) n) no_standing ≡ (if n == length standings then s else unwrap_or (slice_get standings n) no_standing)
 standing_end [] s zero = refl
 standing_end [] s (suc n) = let other : eqb (suc n) 0 ≡ false = grind (arith, nat_tests) in rw other refl
 standing_end (x ∷ standings) s zero = let other : eqb 0 (suc (length standings)) ≡ false = grind (arith, nat_tests) in rw other refl
@@ -101,7 +101,7 @@ outstanding_well (Ok x) old mid new entry reply outstanding fits rest moved is =
 -- Where entries stand, one of them changed.
 
 standing_put_at : (standings : List Standing) (s : Standing) (i n : ℕ) → i < length standings
-    → unwrap_or (slice_get (slice_set standings i s) n) plain_standing ≡ (if n == i then s else unwrap_or (slice_get standings n) plain_standing)
+    → unwrap_or (slice_get (slice_set standings i s) n) no_standing ≡ (if n == i then s else unwrap_or (slice_get standings n) no_standing)
 standing_put_at [] s i n lt = absurd (omega arith)
 standing_put_at (x ∷ standings) s zero zero lt = refl
 standing_put_at (x ∷ standings) s zero (suc n) lt = let other : eqb (suc n) 0 ≡ false = grind (arith, nat_tests) in rw other refl

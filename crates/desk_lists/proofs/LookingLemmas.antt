@@ -2,7 +2,10 @@
 use Rattle.std.proofs.Common.{◌≡◌, ℕ, zero, suc, ◌-◌, ◌<◌, ◌≤◌, List, [], ◌∷◌, length, drop, map, get_or, Some, None, refl, arith}
 use Rattle.desk_rules.specs.declared.reply.Kept.{Kept}
 use Rattle.std.specs.Prelude.{slice_get}
-use Rattle.desk_rules.specs.History.{entry_at, run_day}
+use Rattle.std.proofs.lemmas.List.{length-map}
+use Rattle.desk_rules.specs.declared.entry.Instructed.{Instructed}
+use Rattle.desk_rules.specs.History.{entry_at, instruction_at, run_day}
+use Rattle.desk_rules.proofs.HistoryLemmas.{instruction_at-known}
 use Rattle.desk_rules.specs.Facts.{last_run}
 
 -- a run behind which there is none is the last
@@ -22,3 +25,10 @@ entry_in (one ∷ kept) (suc i) d lt = entry_in kept i d (omega arith)
 pub entry_of : (kept : List Kept) (n : ℕ) (d : Kept) → 0 < n → n ≤ length kept → entry_at (map (λ k. k.entry) kept) n ≡ Some (get_or kept (n - 1) d).entry
 entry_of kept zero d some within = absurd (omega arith)
 entry_of kept (suc n) d some within = let i : suc n - 1 ≡ n = omega arith in rw i (entry_in kept n d (omega arith))
+
+-- an instruction's number is one of the list
+pub instruction_within : (kept : List Kept) (n : ℕ) (i : Instructed) → instruction_at (map (λ k. k.entry) kept) n ≡ Some i → (0 < n) × (n ≤ length kept)
+instruction_within kept n i is =
+    let known = instruction_at-known (map (λ k. k.entry) kept) n i is in
+    let same : length (map (λ (k : Kept). k.entry) kept) ≡ length kept = length-map kept (λ (k : Kept). k.entry) in
+    (known.0, let within = known.1 in omega (arith, within, same))

@@ -10,7 +10,7 @@ use Rattle.desk_lists.specs.declared.lists.Change.TheVariants.{Appended, Stood, 
 use Rattle.desk_lists.specs.declared.lists.Lists.{Lists}
 use Rattle.desk_rules.specs.Balances.{issued, redeemed}
 use Rattle.desk_rules.specs.Content.{Content}
-use Rattle.desk_rules.specs.Standing.{plain_standing}
+use Rattle.desk_rules.specs.Standing.{no_standing}
 
 -- The lists: the entries with their replies, where each stands, the quantities with their keys, and what is
 -- outstanding of each security.
@@ -56,8 +56,8 @@ outstanding_in l isin = value_in (λ security. bytes_eq security isin) l.securit
 
 -- where the entry of a number stands
 abbrev pub standing_in : List Standing → ℕ → Standing
-standing_in standings zero = plain_standing
-standing_in standings (suc n) = unwrap_or (slice_get standings n) plain_standing
+standing_in standings zero = no_standing
+standing_in standings (suc n) = unwrap_or (slice_get standings n) no_standing
 
 -- the content that the lists hold; they have no cash and no sent messages yet
 abbrev pub content_in : Listed → Content

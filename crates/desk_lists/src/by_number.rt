@@ -44,7 +44,7 @@ pub fn standing(lists: &Lists, number: u64) -> Standing
     if number == 0 || number > lists.standings.len() as u64 {
         return Standing {
             mate: None,
-            state: State::Plain,
+            state: State::NoInstruction,
             cancel_requested: false,
         };
     }

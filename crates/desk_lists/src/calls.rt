@@ -59,7 +59,7 @@ impl Register for ListRegister {
 
     ghost view = { view_of_lists };
 
-    ghost plain = { true };
+    ghost in_memory = { true };
 
     fn begin(&mut self, _alloc: Global) -> Result<(), Fault> {
         self.stage = Stage::Begun;
@@ -191,7 +191,7 @@ impl Register for ListRegister {
         }
     }
 
-    fn settle_pair(&mut self, _alloc: Global, number: u64) -> Result<Outcome, Fault> {
+    fn settle_pair(&mut self, _alloc: Global, number: u64, _day: Day) -> Result<Outcome, Fault> {
         match try_settle(&mut self.lists, &mut self.changes, number) {
             Ok(outcome) => Ok(outcome),
             Err(_) => {

@@ -92,7 +92,7 @@ pub fn first_standing(entry: &Entry) -> Standing
 {
     let state = match entry {
         Entry::Instruct { .. } => State::Unmatched,
-        _ => State::Plain,
+        _ => State::NoInstruction,
     };
     Standing {
         mate: None,

@@ -1,5 +1,5 @@
 //! A pair, settled in the lists.
-ghost use Rattle.std.specs.Prelude.{◌≡◌, ◌<◌, ◌≤◌, ◌+◌, ◌^◌, Some, None, length, IfOk, OnOk};
+ghost use Rattle.std.specs.Prelude.{◌≡◌, ◌<◌, ◌≤◌, ◌+◌, ◌^◌, ℕ, Some, None, length, IfOk, OnOk};
 ghost use Rattle.desk_register.specs.Changes.{delivered, CanSettle, TriesPair, TriesSides, delivering_side, receiving_side};
 ghost use Rattle.desk_lists.specs.Lists.{content_in, listed, quantity_in, undone, SameButQuantities, SameOutstanding};
 
@@ -92,7 +92,7 @@ pub fn try_settle(
     changes: &mut Vec<Change>,
     number: u64,
 ) -> Result<Outcome, AllocError>
-    requires { CanSettle (content_in (listed lists.old)) number }
+    requires { (day : ℕ) × CanSettle (content_in (listed lists.old)) number day }
     ensures settled { IfOk result (λ outcome. TriesPair (content_in (listed lists.old)) number outcome (content_in (listed lists.new))) }
     ensures rest { OnOk result (SameOutstanding (listed lists.old) (listed lists.new)) }
     ensures before { undone changes.new.items (listed lists.new) ≡ undone changes.old.items (listed lists.old) }

@@ -127,7 +127,7 @@ pub fn state_of(alloc: Global, books: Books, number: u64) -> Result<State, Alloc
     ensures { IfOk result (λ state. state ≡ state_of (seen books.entry) number) }
 {
     if instruction_at(books.history, number).is_none() {
-        return Ok(State::Plain);
+        return Ok(State::NoInstruction);
     }
     if is_settled(books, number) {
         return Ok(State::Settled);
@@ -156,7 +156,7 @@ fn case_by_state(state: State) -> Case
     match state {
         State::Cancelled => Case::CancelDone,
         State::Settled => Case::CancelRefused(Refusal::AlreadySettled.number()),
-        State::Plain | State::Unmatched | State::Matched(_) => Case::CancelWaits,
+        State::NoInstruction | State::Unmatched | State::Matched(_) => Case::CancelWaits,
     }
 }
 

@@ -1,5 +1,7 @@
 -- What the calls of a register make of its content.
 use Rattle.std.specs.Prelude.{◌≡◌, ℕ, ◌+◌, ◌-◌, ◌<◌, ◌≤◌, ◌^◌, ◌==◌, ◌&&◌, false, if◌then◌else◌, List, [], ◌∷◌, ◌++◌, length, bytes_eq, Some, None}
+use Rattle.desk_codes.specs.Number.{number_of}
+use Rattle.desk_msg.specs.declared.status.Reason.{Reason}
 use Rattle.desk_msg.specs.declared.status.Reason.TheVariants.{Future, Lack}
 use Rattle.desk_msg.specs.MessageType.{is_delivery}
 use Rattle.desk_rules.specs.declared.limits.TheConstants.{MOST_QUANTITY}
@@ -12,9 +14,10 @@ use Rattle.desk_rules.specs.declared.standing.State.{State}
 use Rattle.desk_rules.specs.declared.standing.State.TheVariants.{Unmatched, Matched, Settled}
 use Rattle.desk_rules.specs.declared.standing.Standing.{Standing}
 use Rattle.desk_rules.specs.History.{instruction_at}
+use Rattle.desk_rules.specs.Opposite.{AreOpposite}
 use Rattle.desk_rules.specs.Balances.{delivering, issued, receiving, redeemed}
 use Rattle.desk_rules.specs.Content.{Content, Positions, history_of}
-use Rattle.desk_rules.specs.Standing.{plain_standing}
+use Rattle.desk_rules.specs.Standing.{no_standing}
 use Rattle.desk_register.specs.declared.outcome.Outcome.{Outcome}
 use Rattle.desk_register.specs.declared.outcome.Outcome.TheVariants as outcomes
 use Rattle.desk_register.specs.declared.outcome.Outcome.TheVariants.{Lacks}
@@ -29,12 +32,12 @@ standing_at standing n new k = if k == n then new else standing k
 
 -- the content that holds nothing
 abbrev pub empty_content : Content
-empty_content = record { register = []; standing = λ n. plain_standing; position = λ account isin. 0; cash = λ bic ccy. 0; sent = [] }
+empty_content = record { register = []; standing = λ n. no_standing; position = λ account isin. 0; cash = λ bic ccy. 0; sent = [] }
 
 -- where an entry stands as it is accepted
 abbrev pub first_standing : Entry → Standing
 first_standing (Instruct sender instruction) = record { mate = None; state = Unmatched; cancel_requested = false }
-first_standing entry = plain_standing
+first_standing entry = no_standing
 
 -- the positions after an entry: an issue is put on its account, a redemption taken off
 abbrev pub positions_after : Entry → Positions → Positions
@@ -74,11 +77,16 @@ paired m n content = record content {
   standing = standing_both content.standing m n (Matched Future);
 }
 
--- two numbers of entries, the earlier first (that both are unmatched instructions is the caller's to see)
+-- the numbers of two unmatched instructions that are opposite, the earlier first
 pub record CanPair (content : Content) (m n : ℕ) : Type 0 where
   pub two : m < n
-  pub known : n ≤ length content.register
-  pub some : 0 < m
+  pub earlier : Instructed
+  pub later : Instructed
+  pub is_earlier : instruction_at (history_of content) m ≡ Some earlier
+  pub is_later : instruction_at (history_of content) n ≡ Some later
+  pub opposite : AreOpposite earlier later
+  pub earlier_unmatched : (content.standing m).state ≡ Unmatched
+  pub later_unmatched : (content.standing n).state ≡ Unmatched
 
 -- the deliverer's instruction of a pair's two, and the receiver's
 abbrev pub delivering_side : Instructed → Instructed → Instructed
@@ -99,14 +107,20 @@ pub record IsPairAt (content : Content) (n m : ℕ) (earlier later : Instructed)
   pub has_mate : (content.standing n).mate ≡ Some m
   pub is_earlier : instruction_at (history_of content) m ≡ Some earlier
 
--- a free pair that a run may try, where what the deliverer holds and delivers can be counted on the receiver's account
--- (that it is not settled yet is the caller's to see)
-pub record CanSettle (content : Content) (n : ℕ) : Type 0 where
+-- A matched free pair that is due by a day, where what the deliverer holds and delivers can be counted on the receiver's
+-- account. Its two instructions are each other's mates.
+pub record CanSettle (content : Content) (n day : ℕ) : Type 0 where
   pub mate : ℕ
   pub earlier : Instructed
   pub later : Instructed
   pub pair : IsPairAt content n mate earlier later
   pub two : mate < n
+  pub back : (content.standing mate).mate ≡ Some n
+  pub earlier_reason : Reason
+  pub earlier_matched : (content.standing mate).state ≡ Matched earlier_reason
+  pub later_reason : Reason
+  pub later_matched : (content.standing n).state ≡ Matched later_reason
+  pub due : number_of later.instruction.day ≤ day
   pub free : earlier.instruction.cash ≡ None
   pub fits : later.instruction.quantity ≤ content.position (delivering_side earlier later).instruction.account later.instruction.isin
       → content.position (receiving_side earlier later).instruction.account later.instruction.isin + later.instruction.quantity < 2 ^ 63

@@ -43,8 +43,8 @@ pub trait Register {
     /// What contracts see of a register
     ghost view: { Self → View };
 
-    /// Whether calls that take no memory always succeed
-    ghost plain: { Bool };
+    /// Whether it is kept in memory: then calls that take none always succeed
+    ghost in_memory: { Bool };
 
     /// Begins a group of changes, which are then kept or taken back together, and marks what is held now as what
     /// `back` goes back to. After a fault there is no such group, so nothing is left to undo: `begin` again, or
@@ -55,7 +55,7 @@ pub trait Register {
         ensures err { OnErr result (Falls (view self.old) (view self.new)) }
         ensures later { IsLater (view self.old) (view self.new) }
         ensures blame { Blames result (view self.old) (view self.new) }
-        ensures plain { plain ≡ true → IsOk result };
+        ensures in_memory { in_memory ≡ true → IsOk result };
 
     /// Keeps all that was changed since `begin`, for good; to be called once every call of the group went well. After
     /// a fault the group has failed like after any other, and only `back` ends it.
@@ -65,7 +65,7 @@ pub trait Register {
         ensures err { OnErr result (Falls (view self.old) (view self.new)) }
         ensures later { IsLater (view self.old) (view self.new) }
         ensures blame { Blames result (view self.old) (view self.new) }
-        ensures plain { plain ≡ true → IsOk result };
+        ensures in_memory { in_memory ≡ true → IsOk result };
 
     /// Takes back all that was changed since `begin`: after a call that failed, or where the caller gives the group
     /// up. After a fault of its own nothing is known of what is held, and the register should not be used further.
@@ -74,7 +74,7 @@ pub trait Register {
         ensures ok { OnOk result (GoesBack (view self.old) (view self.new)) }
         ensures later { IsLater (view self.old) (view self.new) }
         ensures blame { Blames result (view self.old) (view self.new) }
-        ensures plain { plain ≡ true → IsOk result };
+        ensures in_memory { in_memory ≡ true → IsOk result };
 
     /// The greatest number of entries, `MOST_ENTRIES` at most.
     fn limit(&self) -> u64
@@ -85,37 +85,37 @@ pub trait Register {
     fn count(&mut self, alloc: Global) -> Result<u64, Fault>
         ensures value { IfTrusted (view self.old) (view self.new) (IfOk result (λ r. r ≡ length (view self.old).content.register)) }
         ensures read { IsRead result (view self.old) (view self.new) }
-        ensures plain { plain ≡ true → IsOk result };
+        ensures in_memory { in_memory ≡ true → IsOk result };
 
     /// Whether a BIC is a participant's.
     fn participant(&mut self, alloc: Global, bic: Bic) -> Result<bool, Fault>
         ensures value { IfTrusted (view self.old) (view self.new) (IfOk result (λ r. r ≡ is_participant (history_of (view self.old).content) bic)) }
         ensures read { IsRead result (view self.old) (view self.new) }
-        ensures plain { plain ≡ true → IsOk result };
+        ensures in_memory { in_memory ≡ true → IsOk result };
 
     /// Whose an account is; None where there is no such account.
     fn owner(&mut self, alloc: Global, account: AccountId) -> Result<Option<Bic>, Fault>
         ensures value { IfTrusted (view self.old) (view self.new) (IfOk result (λ r. r ≡ owner_of (history_of (view self.old).content) account)) }
         ensures read { IsRead result (view self.old) (view self.new) }
-        ensures plain { plain ≡ true → IsOk result };
+        ensures in_memory { in_memory ≡ true → IsOk result };
 
     /// How a security is counted; None where there is no such security.
     fn security(&mut self, alloc: Global, isin: Isin) -> Result<Option<Kind>, Fault>
         ensures value { IfTrusted (view self.old) (view self.new) (IfOk result (λ r. r ≡ kind_of (history_of (view self.old).content) isin)) }
         ensures read { IsRead result (view self.old) (view self.new) }
-        ensures plain { plain ≡ true → IsOk result };
+        ensures in_memory { in_memory ≡ true → IsOk result };
 
     /// What was issued of a security less what was redeemed; unknown once a call has failed.
     fn outstanding(&mut self, alloc: Global, isin: Isin) -> Result<u64, Fault>
         ensures value { IfTrusted (view self.old) (view self.new) ((view self.old).stage ≢ Stage.Failed → IfOk result (λ r. redeemed (history_of (view self.old).content) isin + r ≡ issued (history_of (view self.old).content) isin)) }
         ensures read { IsRead result (view self.old) (view self.new) }
-        ensures plain { plain ≡ true → IsOk result };
+        ensures in_memory { in_memory ≡ true → IsOk result };
 
     /// The day of the last run; None before any.
     fn last_run(&mut self, alloc: Global) -> Result<Option<Day>, Fault>
         ensures value { IfTrusted (view self.old) (view self.new) (IfOk result (λ r. option_map number_of r ≡ last_run (history_of (view self.old).content))) }
         ensures read { IsRead result (view self.old) (view self.new) }
-        ensures plain { plain ≡ true → IsOk result };
+        ensures in_memory { in_memory ≡ true → IsOk result };
 
     /// The number of the first entry with this key; None where there is none.
     fn number_of(
@@ -126,19 +126,19 @@ pub trait Register {
     ) -> Result<Option<u64>, Fault>
         ensures value { IfTrusted (view self.old) (view self.new) (IfOk result (λ r. r ≡ number_of_key (history_of (view self.old).content) sender reference)) }
         ensures read { IsRead result (view self.old) (view self.new) }
-        ensures plain { plain ≡ true → IsOk result };
+        ensures in_memory { in_memory ≡ true → IsOk result };
 
     /// The entry of this number, counted from 1; None where there is none.
     fn entry(&mut self, alloc: Global, number: u64) -> Result<Option<Entry>, Fault>
         ensures value { IfTrusted (view self.old) (view self.new) (IfOk result (λ r. r ≡ entry_at (history_of (view self.old).content) number)) }
         ensures read { IsRead result (view self.old) (view self.new) }
-        ensures plain { plain ≡ true → IsOk result };
+        ensures in_memory { in_memory ≡ true → IsOk result };
 
-    /// Where the entry of this number stands; what is no instruction of the register stands plain.
+    /// Where the entry of this number stands; what is no instruction of the register stands nowhere.
     fn standing(&mut self, alloc: Global, number: u64) -> Result<Standing, Fault>
         ensures value { IfTrusted (view self.old) (view self.new) (IfOk result (λ r. r ≡ (view self.old).content.standing number)) }
         ensures read { IsRead result (view self.old) (view self.new) }
-        ensures plain { plain ≡ true → IsOk result };
+        ensures in_memory { in_memory ≡ true → IsOk result };
 
     /// The reply that is kept with the entry of this number; None where there is none.
     fn reply(&mut self, alloc: Global, number: u64) -> Result<Option<Reply>, Fault>
@@ -154,13 +154,13 @@ pub trait Register {
     ) -> Result<Option<u64>, Fault>
         ensures value { IfTrusted (view self.old) (view self.new) (IfOk result (λ r. IsFirstOpposite (view self.old).content (record { sender = sender; instruction = instruction.now }) r)) }
         ensures read { IsRead result (view self.old) (view self.new) }
-        ensures plain { plain ≡ true → IsOk result };
+        ensures in_memory { in_memory ≡ true → IsOk result };
 
     /// What an account holds of a security; 0 where there is no such account or security.
     fn position(&mut self, alloc: Global, account: AccountId, isin: Isin) -> Result<u64, Fault>
         ensures value { IfTrusted (view self.old) (view self.new) (IfOk result (λ r. r ≡ (view self.old).content.position account isin)) }
         ensures read { IsRead result (view self.old) (view self.new) }
-        ensures plain { plain ≡ true → IsOk result };
+        ensures in_memory { in_memory ≡ true → IsOk result };
 
     /// The first matched pair due by a day, in order of settlement day and number, after a place; with none, the first
     /// of all. None where there is none.
@@ -172,20 +172,20 @@ pub trait Register {
     ) -> Result<Option<Place>, Fault>
         ensures value { IfTrusted (view self.old) (view self.new) (IfOk result (λ r. IsDuePairAfter (view self.old).content (number_of day) place r)) }
         ensures read { IsRead result (view self.old) (view self.new) }
-        ensures plain { plain ≡ true → IsOk result };
+        ensures in_memory { in_memory ≡ true → IsOk result };
 
     /// The first security, in order of its bytes, after one; with none, the first of all. None where there is none.
     fn security_after(&mut self, alloc: Global, isin: Option<Isin>) -> Result<Option<Isin>, Fault>
         ensures value { IfTrusted (view self.old) (view self.new) (IfOk result (λ r. IsSecurityAfter (history_of (view self.old).content) isin r)) }
         ensures read { IsRead result (view self.old) (view self.new) }
-        ensures plain { plain ≡ true → IsOk result };
+        ensures in_memory { in_memory ≡ true → IsOk result };
 
     /// What all registered accounts hold of a security.
     fn held(&mut self, alloc: Global, isin: Isin) -> Result<u64, Fault>
         requires { IfTrusted (view self.old) (view self.old) (held_of (view self.old).content isin < 2 ^ 64) }
         ensures value { IfTrusted (view self.old) (view self.new) (IfOk result (λ r. r ≡ held_of (view self.old).content isin)) }
         ensures read { IsRead result (view self.old) (view self.new) }
-        ensures plain { plain ≡ true → IsOk result };
+        ensures in_memory { in_memory ≡ true → IsOk result };
 
     /// Adds an entry with its reply.
     fn append(&mut self, alloc: Global, entry: Entry, reply: Reply) -> Result<(), Fault>
@@ -194,18 +194,18 @@ pub trait Register {
         ensures added { IfTrusted (view self.old) (view self.new) (OnOk result ((view self.new).content ≡ appended entry reply (view self.old).content)) }
         ensures change { IsChange result (view self.old) (view self.new) };
 
-    /// Makes two unmatched instructions each other's mates, by their numbers.
+    /// Makes two unmatched opposite instructions each other's mates, by their numbers.
     fn pair(&mut self, alloc: Global, earlier: u64, later: u64) -> Result<(), Fault>
         requires stage { (view self.old).stage ≡ Stage.Begun }
         requires fits { IfTrusted (view self.old) (view self.old) (CanPair (view self.old).content earlier later) }
         ensures paired { IfTrusted (view self.old) (view self.new) (OnOk result ((view self.new).content ≡ paired earlier later (view self.old).content)) }
         ensures change { IsChange result (view self.old) (view self.new) };
 
-    /// Settles the matched pair of this number where it is covered, and moves its quantity from the deliverer's
-    /// account to the receiver's; else says what it lacks, and changes the reason alone.
-    fn settle_pair(&mut self, alloc: Global, number: u64) -> Result<Outcome, Fault>
+    /// Settles the matched pair of this number, which is due by a day, where it is covered, and moves its quantity from
+    /// the deliverer's account to the receiver's; else says what it lacks, and changes the reason alone.
+    fn settle_pair(&mut self, alloc: Global, number: u64, day: Day) -> Result<Outcome, Fault>
         requires stage { (view self.old).stage ≡ Stage.Begun }
-        requires fits { IfTrusted (view self.old) (view self.old) (CanSettle (view self.old).content number) }
+        requires fits { IfTrusted (view self.old) (view self.old) (CanSettle (view self.old).content number (number_of day)) }
         ensures settled { IfTrusted (view self.old) (view self.new) (IfOk result (λ outcome. TriesPair (view self.old).content number outcome (view self.new).content)) }
         ensures change { IsChange result (view self.old) (view self.new) };
 }

@@ -21,7 +21,7 @@ use Rattle.desk_rules.proofs.BalanceLemmas.{sum_same}
 use Rattle.desk_rules.proofs.Conservation.{sum_zero, sum_swap, if_true, if_false}
 use Rattle.desk_rules.proofs.SaidConfirmations.{confirmations_to, confirmations_of}
 
-sum_flat : {X Y : Type 0} (g : Y → ℕ) (f : X → List Y) (xs : List X) → sum_by g (flat_map f xs) ≡ sum_by (λ x. sum_by g (f x)) xs
+pub sum_flat : {X Y : Type 0} (g : Y → ℕ) (f : X → List Y) (xs : List X) → sum_by g (flat_map f xs) ≡ sum_by (λ x. sum_by g (f x)) xs
 sum_flat g f [] = refl
 sum_flat g f (x ∷ xs) =
     ap (sum_by g) (flat_map-cons f x xs)
@@ -54,7 +54,7 @@ found_at r v a (suc n) from below =
     ]
 
 -- a sum over a list that stands only where a test holds
-sum_if : {X : Type 0} (g : X → ℕ) (test : Bool) (xs : List X) → sum_by g (if test then xs else []) ≡ quantity_if test (sum_by g xs)
+pub sum_if : {X : Type 0} (g : X → ℕ) (test : Bool) (xs : List X) → sum_by g (if test then xs else []) ≡ quantity_if test (sum_by g xs)
 sum_if g true xs = refl
 sum_if g false xs = refl
 

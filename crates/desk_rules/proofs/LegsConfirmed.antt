@@ -249,7 +249,7 @@ module _ (books : Books) (are : AreBooks books) (formed : AreWellFormed books.hi
 -- Each settled instruction has one confirmation, and no other has one.
 
 -- where one member at most passes, as many pass as there is one
-count_one : {X : Type 0} (test : X → Bool) (lt : X → X → Bool) (xs : List X) → ((x : X) → lt x x ≡ true → ⊥) → Ordered lt xs → ((x y : X) → In xs x → In xs y → test x ≡ true → test y ≡ true → x ≡ y)
+pub count_one : {X : Type 0} (test : X → Bool) (lt : X → X → Bool) (xs : List X) → ((x : X) → lt x x ≡ true → ⊥) → Ordered lt xs → ((x y : X) → In xs x → In xs y → test x ≡ true → test y ≡ true → x ≡ y)
     → sum_by (λ x. quantity_if (test x) 1) xs ≡ quantity_if (list_any test xs) 1
 count_one test lt [] never order one = refl
 count_one {X} test lt (x ∷ xs) never order one =

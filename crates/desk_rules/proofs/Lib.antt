@@ -31,6 +31,7 @@ pub mod StandsAccepted
 pub mod StandsLemmas
 pub mod LegsMoved
 pub mod LegsConfirmed
+pub mod SentNumbers
 pub mod FinalStates
 pub mod Requests
 pub mod AskedAlone

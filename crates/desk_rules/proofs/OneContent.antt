@@ -85,14 +85,14 @@ one_content x y a b s t e =
       same_position = λ account isin.
           let gone = ap (λ (bs : Books). debits bs.history bs.settled account isin) books in
           let come = ap (λ (bs : Books). credits bs.history bs.settled account isin) books in
-          let first = s.but_sent.positions.each account isin in
-          let second = t.but_sent.positions.each account isin in
+          let first = s.but_sent.positions account isin in
+          let second = t.but_sent.positions account isin in
           omega (arith, gone, come, first, second);
       same_cash = λ bic ccy.
           let gone = ap (λ (bs : Books). cash_debits bs.history bs.settled bic ccy) books in
           let come = ap (λ (bs : Books). cash_credits bs.history bs.settled bic ccy) books in
-          let first = s.but_sent.cash.each bic ccy in
-          let second = t.but_sent.cash.each bic ccy in
+          let first = s.but_sent.cash bic ccy in
+          let second = t.but_sent.cash bic ccy in
           omega (arith, gone, come, first, second);
       same_sent = s.sent ∙ ap sent_of books ∙ sym t.sent;
     }

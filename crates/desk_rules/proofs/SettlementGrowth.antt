@@ -10,7 +10,8 @@ use Rattle.desk_rules.specs.declared.pair.Place.{Place}
 use Rattle.desk_rules.specs.History.{entry_at, before, run_day, run_rule}
 use Rattle.desk_rules.specs.Covered.{is_covered}
 use Rattle.desk_rules.specs.Settlement.{instructed_day, day_of, is_sooner, precedes, settled_before, is_by, is_due, allows_more, is_in_passes, begins, Settles, IsSettlement, is_above, IsOpen, IsNext}
-use Rattle.desk_rules.proofs.Decided.{In-from_Contains, Contains-from_In, In-left, In-push_cases, In, In-filter, filter-In, filter-front, Ordered, Decided, grow_out, grow_in, Decided-same}
+use Rattle.desk_rules.specs.Underway.{IsReached, IsSettledAsFar}
+use Rattle.desk_rules.proofs.Decided.{AllPairs-from_Ordered, Ordered-from_AllPairs, In-from_Contains, Contains-from_In, In-left, In-push_cases, In, In-filter, filter-In, filter-front, Ordered, Decided, grow_out, grow_in, Decided-same}
 use Rattle.desk_rules.proofs.HistoryLemmas.{entry_at-front, entry_at-end, before-front, instruction_at-front}
 use Rattle.desk_rules.proofs.PairingLemmas.{pair_same, lower}
 use Rattle.desk_rules.proofs.SettlementLemmas.{sooner_true, sooner_day, sooner_number, precedes_run, precedes_pass, precedes_pair, begins_true, begins_first, begins_wider, above_true, above_day, above_number, precedes_strict, settled_same, due_facts, IsRanged, decided_settlement, settlement_decided, one_number}
@@ -102,14 +103,29 @@ settlement_alone h e ps qs settled same no_run is =
 
 -- Within a run: what stands in the list so far, up to a place in the order of the run.
 
--- runs below n, and of run n the passes below k, and of pass k the pairs that are not above the place
-pub record IsReached (h : List Entry) (n k : ℕ) (place : Option Place) (s : Settled) : Type 0 where
-  pub numbered : s.pair.later < s.run
-  pub reached : (s.run < n) ⊎ ((s.run ≡ n) × ((s.pass < k) ⊎ ((s.pass ≡ k) × (is_above h place s.pair ≡ false))))
-
 -- the settlement of a history whose last entry is the run n, as far as the place in the pass k
 abbrev pub IsSettledTo : List Entry → List Pair → ℕ → ℕ → Option Place → List Settled → Type 0
 IsSettledTo h ps n k place settled = Decided (precedes h) (IsReached h n k place) (Settles h ps) settled
+
+pub decided_as_far : {h : List Entry} {ps : List Pair} {n k : ℕ} {place : Option Place} {settled : List Settled} → IsSettledAsFar h ps n k place settled → IsSettledTo h ps n k place settled
+decided_as_far {settled = settled} far = record {
+  exact = λ s b. (
+    λ i. (far.exact s b).0 (Contains-from_In settled s i),
+    λ c. In-from_Contains settled s ((far.exact s b).1 c),
+  );
+  within = λ s i. far.within s (Contains-from_In settled s i);
+  order = Ordered-from_AllPairs _ settled far.in_order;
+}
+
+pub as_far_decided : {h : List Entry} {ps : List Pair} {n k : ℕ} {place : Option Place} {settled : List Settled} → IsSettledTo h ps n k place settled → IsSettledAsFar h ps n k place settled
+as_far_decided {settled = settled} d = record {
+  exact = λ s b. (
+    λ c. (d.exact s b).0 (In-from_Contains settled s c),
+    λ m. Contains-from_In settled s ((d.exact s b).1 m),
+  );
+  within = λ s c. d.within s (In-from_Contains settled s c);
+  in_order = AllPairs-from_Ordered _ settled d.order;
+}
 
 no_pass_zero : (h : List Entry) (settled : List Settled) (run pass : ℕ) → pass < 1 → begins h settled run pass ≡ true → ⊥
 no_pass_zero h settled run pass lt e = elim (begins_true h settled run pass e) [ inl first ↦ omega arith | inr f ↦ (let is : f.member.pass + 1 ≡ pass = f.pass_is in omega arith) ]

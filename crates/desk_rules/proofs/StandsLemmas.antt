@@ -11,14 +11,14 @@ use Rattle.desk_rules.specs.declared.pair.Pair.{Pair}
 use Rattle.desk_rules.specs.declared.pair.Settled.{Settled}
 use Rattle.desk_rules.specs.declared.standing.State.{State}
 use Rattle.desk_rules.specs.declared.standing.State.TheVariants as states
-use Rattle.desk_rules.specs.declared.standing.State.TheVariants.{Plain, Unmatched, Matched, Cancelled}
+use Rattle.desk_rules.specs.declared.standing.State.TheVariants.{NoInstruction, Unmatched, Matched, Cancelled}
 use Rattle.desk_rules.specs.declared.standing.Standing.{Standing}
 use Rattle.desk_rules.specs.History.{instruction_at}
 use Rattle.desk_rules.specs.Cancelled.{is_cancel_requested, is_cancel_requested_by, is_cancelled_pair}
 use Rattle.desk_rules.specs.Pairing.{IsFree, IsSide, has_side, mate_in, pair_of, other_side, mate_of}
 use Rattle.desk_rules.specs.Settlement.{is_due}
 use Rattle.desk_rules.specs.Books.{Books, AreBooks, is_settled}
-use Rattle.desk_rules.specs.Standing.{plain_standing, is_called_off, reason_below, open_state, instruction_state, state_of, standing_of}
+use Rattle.desk_rules.specs.Standing.{no_standing, is_called_off, reason_below, open_state, instruction_state, state_of, standing_of}
 use Rattle.desk_rules.proofs.Decided.{In, In-from_Contains, Contains-from_In}
 use Rattle.desk_rules.proofs.SideLemmas.{any-In, In-any, free_from_none, free_no_side}
 use Rattle.desk_rules.proofs.SettlementLemmas.{due_known}
@@ -134,7 +134,7 @@ module _ (books : Books) (are : AreBooks books) (k : ℕ) where
 
   -- From the relations to `standing_of`.
   so_mate : (mate : Option ℕ) (state : State) → StandsSo books k mate state → mate ≡ mate_of books.pairs k
-  so_mate mate Plain so = absurd so
+  so_mate mate NoInstruction so = absurd so
   so_mate mate Unmatched so = so.none ∙ sym (ap (other_side k) (no_pair so.free))
   so_mate mate Cancelled (inl so) = so.none ∙ sym (ap (other_side k) (no_pair so.free))
   so_mate mate Cancelled (inr so) = so.in_pair.other ∙ sym (ap (other_side k) (pair_at so.pair so.in_pair.paired so.in_pair.side))
@@ -142,7 +142,7 @@ module _ (books : Books) (are : AreBooks books) (k : ℕ) where
   so_mate mate states.Settled so = so.other ∙ sym (ap (other_side k) (pair_at so.settlement.pair (settled_paired so.settlement so.settled) so.side))
 
   so_state : (i : Instructed) → instruction_at books.history k ≡ Some i → (mate : Option ℕ) (state : State) → StandsSo books k mate state → state ≡ state_of books k
-  so_state i at mate Plain so = absurd so
+  so_state i at mate NoInstruction so = absurd so
   so_state i at mate Unmatched so =
       let pair = no_pair so.free in
       sym (state_by i at false false (unsettled_free so.free) (ap (is_called_off books.history k) pair ∙ so.gone) ∙ ap (open_state books) pair)
@@ -174,7 +174,7 @@ module _ (books : Books) (are : AreBooks books) (k : ℕ) where
   pub stands_is : (standing : Standing) (o : Option Instructed) → instruction_at books.history k ≡ o → StandsAt books k o standing → standing ≡ standing_of books k
   stands_is standing None at st =
       st
-      ∙ standing_same plain_standing (standing_of books k)
+      ∙ standing_same no_standing (standing_of books k)
       (sym (ap (other_side k) (no_pair (no_side_of_none at))))
       (sym (ap (instruction_state books k) at))
       (sym (ap (is_cancel_requested_by (drop k books.history)) at))
@@ -182,7 +182,7 @@ module _ (books : Books) (are : AreBooks books) (k : ℕ) where
 
   -- And back.
   pub is_stands : (o : Option Instructed) → instruction_at books.history k ≡ o → StandsAt books k o (standing_of books k)
-  is_stands None at = sym (stands_is plain_standing None at refl)
+  is_stands None at = sym (stands_is no_standing None at refl)
   is_stands (Some i) at = record { so = so; requested = refl }
     where
       P : Option ℕ → State → Type 0

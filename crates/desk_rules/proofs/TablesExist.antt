@@ -92,8 +92,8 @@ tables_exist limit books are accepted =
                 subst (IsFirstReply h (n + 1)) (sym reply) (first_is_first h (n + 1));
           };
           standings = record { each = λ n. refl };
-          positions = record { each = λ account isin. let fits = never.now.positions account isin in omega arith };
-          cash = record { each = λ bic ccy. let fits = never.now.cash bic ccy in omega arith };
+          positions = λ account isin. let fits = never.now.positions account isin in omega arith;
+          cash = λ bic ccy. let fits = never.now.cash bic ccy in omega arith;
         };
         sent = refl;
       },

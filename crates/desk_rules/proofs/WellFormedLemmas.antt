@@ -1,7 +1,16 @@
 -- What a history of well formed entries says by number.
-use Rattle.std.proofs.Common.{◌≡◌, ℕ, zero, suc, List, [], ◌∷◌, ◌++◌, length, refl, sym, ◌∙◌, ap, subst, arith, slice_get, Some, inl, inr, Contains}
+use Rattle.std.proofs.Common.{◌≡◌, ℕ, zero, suc, List, [], ◌∷◌, ◌++◌, drop, length, refl, sym, ◌∙◌, ap, subst, arith, slice_get, Some, inl, inr, Contains}
+use Rattle.std.proofs.lemmas.Bool.{cases_Bool}
+use Rattle.std.specs.Prelude.{codes, nat_eq, Ok}
+use Rattle.std.specs.Cmp.Lexicographic.{pointwise}
+use Rattle.desk_codes.specs.Bic.{IsBic, ReadsBic}
+use Rattle.desk_codes.proofs.BicLemmas.{front_is_bic, head_office, own_branch, same_bytes, whole_is_bic}
 use Rattle.desk_codes.specs.Day.{IsDay}
+use Rattle.desk_msg.specs.declared.instruction.Instruction.{Instruction}
 use Rattle.desk_msg.specs.declared.instruction.Message.TheVariants.{New}
+use Rattle.desk_msg.specs.declared.mt.Mt.{Mt}
+use Rattle.desk_msg.specs.Reads.{Reads}
+use Rattle.desk_msg.specs.Refused.{ReadsText}
 use Rattle.desk_rules.specs.declared.entry.Entry.{Entry}
 use Rattle.desk_rules.specs.declared.entry.Entry.TheVariants.{Participant, Account, Security, Issue, Redeem, PayIn, PayOut, Instruct, Cancel, Run}
 use Rattle.desk_rules.specs.declared.entry.RunRule.{RunRule}
@@ -9,6 +18,19 @@ use Rattle.desk_rules.specs.History.{Instructed, entry_at, instructed, instructi
 use Rattle.desk_rules.specs.WellFormed.{IsReadable, IsWellFormed, AreWellFormed}
 use Rattle.desk_rules.proofs.Decided.{In, In-from_Contains, Contains-from_In, In-push_cases}
 use Rattle.desk_rules.proofs.HistoryLemmas.{some_before}
+
+-- a BIC as it is spelled is one
+pub spelled_bic : (name bic : List ℕ) → ReadsBic name (Ok bic) → IsBic bic
+spelled_bic name bic s = elim (cases_Bool (pointwise nat_eq (drop 8 name) (codes "XXX"))) [
+  | inl head ↦ front_is_bic name bic s.1 s.2 (s.0 ∙ head_office name (drop 8 name) refl (sym head)) (same_bytes (drop 8 name) (codes "XXX") head)
+  | inr own ↦ subst IsBic (sym (s.0 ∙ own_branch name (drop 8 name) refl (sym own))) (whole_is_bic name s.1 s.2 own)
+]
+
+-- what is read as an instruction is one that fields read as
+pub readable : (mt : Mt) (text : List ℕ) (i : Instruction) → ReadsText mt text (Ok (New i)) → IsReadable i.mt (New i)
+readable mt text i r =
+    let type : i.mt ≡ mt = r.reads.0 in
+    (r.fields, subst (λ (m : Mt). Reads m r.fields (Ok (New i))) (sym type) r.reads)
 
 pub got_In : {X : Type 0} (xs : List X) (n : ℕ) (x : X) → slice_get xs n ≡ Some x → In xs x
 got_In [] n x e = absurd (cc)

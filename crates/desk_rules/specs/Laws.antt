@@ -5,7 +5,9 @@ use Rattle.desk_rules.specs.declared.entry.Entry.{Entry}
 use Rattle.desk_rules.specs.declared.entry.Entry.TheVariants.{Cancel}
 use Rattle.desk_rules.specs.declared.pair.Pair.{Pair}
 use Rattle.desk_rules.specs.declared.pair.Settled.{Settled}
-use Rattle.desk_rules.specs.History.{before}
+use Rattle.desk_rules.specs.declared.reply.Sent.{Sent}
+use Rattle.desk_rules.specs.History.{Instructed, before, instruction_at}
+use Rattle.desk_rules.specs.Sent.{told}
 use Rattle.desk_rules.specs.Pairing.{pairs_below, pair_of}
 use Rattle.desk_rules.specs.Balances.{credits, debits, cash_credits, cash_debits}
 use Rattle.desk_rules.specs.Standing.{is_called_off}
@@ -14,6 +16,14 @@ use Rattle.desk_rules.specs.Standing.{is_called_off}
 pub record AreNonNegative (history : List Entry) (settled : List Settled) : Type 0 where
   pub positions : (account isin : List ℕ) → debits history settled account isin ≤ credits history settled account isin
   pub cash : (bic : List ℕ) (ccy : Ccy) → cash_debits history settled bic ccy ≤ cash_credits history settled bic ccy
+
+-- A message has this number: it tells of an instruction that it was paired, or that a run settled it.
+pub record IsMessageOf (history : List Entry) (n : ℕ) (message : Sent) : Type 0 where
+  pub about : ℕ
+  pub run : Option ℕ
+  pub instructed : Instructed
+  pub instructs : instruction_at history about ≡ Some instructed
+  pub is : message ≡ told history n about run instructed
 
 -- an entry, unless it is a cancellation
 abbrev pub but_cancellation : Entry → Option Entry

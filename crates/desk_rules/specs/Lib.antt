@@ -20,3 +20,4 @@ pub mod Confirmations
 pub mod BothLegs
 pub mod Laws
 pub mod Stands
+pub mod Underway

@@ -14,7 +14,7 @@ use Rattle.desk_rules.specs.declared.entry.Sender.TheVariants.{Participant as Fr
 use Rattle.desk_rules.specs.declared.reply.Reply.{Reply}
 use Rattle.desk_rules.specs.declared.reply.Sent.{Sent}
 use Rattle.desk_rules.specs.declared.standing.State.{State}
-use Rattle.desk_rules.specs.declared.standing.State.TheVariants.{Plain, Unmatched, Matched, Cancelled, Settled}
+use Rattle.desk_rules.specs.declared.standing.State.TheVariants.{NoInstruction, Unmatched, Matched, Cancelled, Settled}
 use Rattle.desk_rules.specs.declared.verdict.Refusal.TheVariants.{NoSuchInstruction, SenderUnknown}
 use Rattle.desk_rules.specs.Refusals.{number_of_refusal}
 use Rattle.desk_rules.specs.History.{entry_at, number_of_key}
@@ -51,7 +51,7 @@ standing_reply books mt reference about = advice_reply 200 (advice (Answer (leng
 
 -- an instruction: how it stands now or, once it is settled, its confirmation exactly as it was sent
 abbrev pub instruction_reply : Books → ℕ → Instruction → State → Reply
-instruction_reply books n i Plain = refused_question (number_of_refusal NoSuchInstruction)
+instruction_reply books n i NoInstruction = refused_question (number_of_refusal NoSuchInstruction)
 instruction_reply books n i Unmatched = standing_reply books i.mt i.reference cases.Unmatched
 instruction_reply books n i (Matched reason) = standing_reply books i.mt i.reference (cases.Matched reason)
 instruction_reply books n i Cancelled = standing_reply books i.mt i.reference cases.Cancelled

@@ -45,7 +45,7 @@ open_state books None = states.Unmatched
 open_state books (Some p) = states.Matched (reason_below books p (length books.history + 1))
 
 abbrev pub instruction_state : Books → ℕ → Option Instructed → State
-instruction_state books n None = states.Plain
+instruction_state books n None = states.NoInstruction
 instruction_state books n (Some i) =
     if is_settled books n then states.Settled
     else (if is_called_off books.history n (pair_of books.pairs n) then states.Cancelled else open_state books (pair_of books.pairs n))
@@ -54,8 +54,8 @@ abbrev pub state_of : Books → ℕ → State
 state_of books n = instruction_state books n (instruction_at books.history n)
 
 -- where what is no instruction stands
-abbrev pub plain_standing : Standing
-plain_standing = record { mate = None; state = states.Plain; cancel_requested = false }
+abbrev pub no_standing : Standing
+no_standing = record { mate = None; state = states.NoInstruction; cancel_requested = false }
 
 -- where the entry of a number stands; a request for its cancellation stays noted, whatever came of it
 abbrev pub standing_of : Books → ℕ → Standing

@@ -9,7 +9,7 @@ use Rattle.desk_rules.specs.declared.pair.Pair.{Pair}
 use Rattle.desk_rules.specs.declared.pair.Settled.{Settled}
 use Rattle.desk_rules.specs.declared.standing.State.{State}
 use Rattle.desk_rules.specs.declared.standing.State.TheVariants as states
-use Rattle.desk_rules.specs.declared.standing.State.TheVariants.{Plain, Unmatched, Matched, Cancelled}
+use Rattle.desk_rules.specs.declared.standing.State.TheVariants.{NoInstruction, Unmatched, Matched, Cancelled}
 use Rattle.desk_rules.specs.declared.standing.Standing.{Standing}
 use Rattle.desk_rules.specs.History.{before}
 use Rattle.desk_rules.specs.Cancelled.{is_cancel_requested, is_cancelled_pair}
@@ -17,7 +17,7 @@ use Rattle.desk_rules.specs.Pairing.{IsFree, IsSide, mate_in}
 use Rattle.desk_rules.specs.Covered.{lack_of}
 use Rattle.desk_rules.specs.Settlement.{IsUnsettled, is_due, settled_before, passes_of}
 use Rattle.desk_rules.specs.Books.{Books}
-use Rattle.desk_rules.specs.Standing.{plain_standing, reason_of_lack}
+use Rattle.desk_rules.specs.Standing.{no_standing, reason_of_lack}
 
 -- what the last pass of a run, in which a pair is due, found
 abbrev pub reason_found : Books → Pair → ℕ → Reason
@@ -73,7 +73,7 @@ pub record IsSettledSide (books : Books) (k : ℕ) (mate : Option ℕ) : Type 0 
   pub other : mate ≡ Some (mate_in settlement.pair k)
 
 abbrev pub StandsSo : Books → ℕ → Option ℕ → State → Type 0
-StandsSo books k mate Plain = ⊥
+StandsSo books k mate NoInstruction = ⊥
 StandsSo books k mate Unmatched = IsAlone books k mate false
 StandsSo books k mate Cancelled = IsAlone books k mate true ⊎ IsCancelledSide books k mate
 StandsSo books k mate (Matched reason) = IsMatched books k mate reason
@@ -85,5 +85,5 @@ pub record InstructionStands (books : Books) (k : ℕ) (standing : Standing) : T
   pub requested : standing.cancel_requested ≡ is_cancel_requested books.history k
 
 abbrev pub StandsAt : Books → ℕ → Option Instructed → Standing → Type 0
-StandsAt books k None standing = standing ≡ plain_standing
+StandsAt books k None standing = standing ≡ no_standing
 StandsAt books k (Some i) standing = InstructionStands books k standing

@@ -1,5 +1,5 @@
 //! Laws of the definitions, each the contract of a function with an empty body.
-ghost use Rattle.std.specs.Prelude.{◌≡◌, ◌≢◌, ◌⊎◌, ◌<◌, ◌≤◌, ◌↔◌, true, false, ℕ, ◌+◌, List, [], ◌∷◌, ◌++◌, length, Contains, sum_by, count_by, if◌then◌else◌, Some};
+ghost use Rattle.std.specs.Prelude.{◌≡◌, ◌≢◌, ◌⊎◌, ◌<◌, ◌≤◌, ◌↔◌, true, false, ℕ, ◌+◌, ◌*◌, List, [], ◌∷◌, ◌++◌, length, Contains, sum_by, count_by, if◌then◌else◌, slice_get, Some};
 ghost use Rattle.desk_codes.specs.declared.currency.Ccy.{Ccy};
 ghost use Rattle.desk_rules.specs.History.{Instructed, before, entry_at, instruction_at};
 ghost use Rattle.desk_rules.specs.Cancelled.{IsRequestFor, is_cancel_requested, is_cancelled_pair};
@@ -23,7 +23,8 @@ ghost use Rattle.desk_rules.specs.Books.{AreBooks, Books, is_settled};
 ghost use Rattle.desk_rules.specs.BothLegs.{ChangesOnly, ComeInTwos, Moves, StandTogether};
 ghost use Rattle.desk_rules.specs.Verdict.{IsVerdict, WasAccepted, named_by};
 ghost use Rattle.desk_rules.specs.Facts.{accounts_of, participants_of};
-ghost use Rattle.desk_rules.specs.Laws.{AreNonNegative, AreSameButCancellations, CallOffTheSame};
+ghost use Rattle.desk_rules.specs.Laws.{AreNonNegative, AreSameButCancellations, CallOffTheSame, IsMessageOf};
+ghost use Rattle.desk_rules.specs.declared.limits.TheConstants.{MOST_ENTRIES, MOST_SENT};
 ghost use Rattle.desk_rules.specs.Opposite.{AreOpposite};
 ghost use Rattle.desk_rules.specs.Pairing.{IsPairing, IsSide, mate_of};
 ghost use Rattle.desk_rules.specs.Covered.{is_covered};
@@ -149,6 +150,15 @@ pub fn sent_for_good()
         → (bic : List ℕ) (k : ℕ) → (sent_reply front bic k).status ≡ 200 → sent_reply books bic k ≡ sent_reply front bic k }
     ensures confirmed { (front books : Books) (rest : List Entry) → AreBooks front → AreBooks books → books.history ≡ front.history ++ rest
         → (n : ℕ) (message : Sent) → confirmation_of front n ≡ Some message → confirmation_of books n ≡ Some message }
+{}
+
+/// What is sent is numbered in its order, from 1: each message tells of one instruction, under its own number. There is
+/// one for each pair and two for each settlement, and so fewer than `MOST_SENT`, however many entries a desk holds.
+pub fn sent_in_order()
+    ensures numbered { (books : Books) (n : ℕ) (message : Sent) → AreBooks books → slice_get (sent_of books) n ≡ Some message
+        → IsMessageOf books.history (n + 1) message }
+    ensures counted { (books : Books) → AreBooks books → length (sent_of books) ≡ length books.pairs + 2 * length books.settled }
+    ensures few { (books : Books) → AreBooks books → length books.history ≤ MOST_ENTRIES → length (sent_of books) < MOST_SENT }
 {}
 
 /// Right after a message was accepted, how it stands is answered as its acceptance was.

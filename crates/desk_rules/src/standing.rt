@@ -6,7 +6,7 @@ use desk_msg::Reason;
 #[derive(Clone, Copy, Debug, PartialEq, Eq)]
 pub enum State {
     /// It is no instruction.
-    Plain,
+    NoInstruction,
     Unmatched,
     /// Paired and not settled, for this reason
     Matched(Reason),

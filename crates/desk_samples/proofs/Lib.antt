@@ -1,2 +1,3 @@
 pub mod LedgerLemmas
 pub mod MessageLemmas
+mod PairingLemmas

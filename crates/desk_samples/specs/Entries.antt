@@ -54,13 +54,13 @@ abbrev pub IsFirstWrong : List Text → EntryFault → Type 0
 IsFirstWrong [] fault = ⊥
 IsFirstWrong (text ∷ texts) fault = IsWrong text fault ⊎ (IsRight text × IsFirstWrong texts fault)
 
--- What texts spell, read one after another: where all are right a value of which this holds, else the first fault.
-abbrev pub Spells : {X : Type 0} → List Text → (X → Type 0) → Result X EntryFault → Type 0
-Spells texts Says (Ok x) = Says x × AreRight texts
-Spells texts Says (Err fault) = IsFirstWrong texts fault
+-- What is made of texts, read one after another: where all are right a value of which this holds, else the first fault.
+abbrev pub IsMadeOf : {X : Type 0} → List Text → (X → Type 0) → Result X EntryFault → Type 0
+IsMadeOf texts Says (Ok x) = Says x × AreRight texts
+IsMadeOf texts Says (Err fault) = IsFirstWrong texts fault
 
 -- so much of a security, on an account
-pub record Moves (key name code : List ℕ) (amount : ℕ) (movement : Movement) : Type 0 where
+pub record IsMovementOf (key name code : List ℕ) (amount : ℕ) (movement : Movement) : Type 0 where
   pub reference : movement.reference ≡ key
   pub account : movement.account ≡ name
   pub isin : movement.isin ≡ code

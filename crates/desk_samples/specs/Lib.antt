@@ -1,3 +1,4 @@
 pub mod Entries
 pub mod Instructed
 pub mod Ledger
+pub mod Pairing

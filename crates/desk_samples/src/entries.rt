@@ -2,7 +2,7 @@
 ghost use Rattle.std.specs.Prelude.{◌≡◌, ◌<◌, ◌≤◌, [], ◌∷◌, IfErr, IfOk, string_bytes};
 ghost use Rattle.desk_codes.specs.Bic.{party_of};
 ghost use Rattle.desk_rules.specs.declared.entry.RunRule.TheVariants.{Passes};
-ghost use Rattle.desk_samples.specs.Entries.{Issues, Moves, Redeems, Spells, account_text, bic_text, day_text, isin_text, reference_text};
+ghost use Rattle.desk_samples.specs.Entries.{Issues, IsMovementOf, Redeems, IsMadeOf, account_text, bic_text, day_text, isin_text, reference_text};
 ghost use Rattle.desk_samples.specs.Instructed.{Instructs, IsInstructed, agent_of, free_delivery, free_receipt, message_text, paid, texts_seen};
 ghost use Rattle.desk_rules.specs.declared.limits.TheConstants.{MOST_QUANTITY};
 
@@ -88,42 +88,42 @@ impl From<AllocError> for EntryFault {
 
 /// The reference that a text spells.
 pub fn reference(text: &str) -> Result<Reference, EntryFault>
-    ensures { Spells (reference_text text.now ∷ []) (λ value. value ≡ text.now) result }
+    ensures { IsMadeOf (reference_text text.now ∷ []) (λ value. value ≡ text.now) result }
 {
     Reference::read(text.as_bytes()).ok_or(EntryFault::Reference)
 }
 
 /// The BIC that a text spells.
 pub fn bic(text: &str) -> Result<Bic, EntryFault>
-    ensures { Spells (bic_text text.now ∷ []) (λ value. value ≡ party_of text.now) result }
+    ensures { IsMadeOf (bic_text text.now ∷ []) (λ value. value ≡ party_of text.now) result }
 {
     Ok(Bic::parse(text.as_bytes())?)
 }
 
 /// The account that a text names.
 pub fn account(text: &str) -> Result<AccountId, EntryFault>
-    ensures { Spells (account_text text.now ∷ []) (λ value. value ≡ text.now) result }
+    ensures { IsMadeOf (account_text text.now ∷ []) (λ value. value ≡ text.now) result }
 {
     AccountId::read(text.as_bytes()).ok_or(EntryFault::Account)
 }
 
 /// The ISIN that a text spells.
 pub fn isin(text: &str) -> Result<Isin, EntryFault>
-    ensures { Spells (isin_text text.now ∷ []) (λ value. value ≡ text.now) result }
+    ensures { IsMadeOf (isin_text text.now ∷ []) (λ value. value ≡ text.now) result }
 {
     Ok(Isin::parse(text.as_bytes())?)
 }
 
 /// The day that eight digits spell.
 pub fn day(digits: &[u8; 8]) -> Result<Day, EntryFault>
-    ensures { Spells (day_text digits.now ∷ []) (λ value. value ≡ digits.now) result }
+    ensures { IsMadeOf (day_text digits.now ∷ []) (λ value. value ≡ digits.now) result }
 {
     Day::read(digits).ok_or(EntryFault::Day)
 }
 
 /// A new participant, under the reference `key`.
 pub fn participant(key: &str, party: &str) -> Result<Entry, EntryFault>
-    ensures { Spells (reference_text key.now ∷ bic_text party.now ∷ []) (λ entry. entry ≡ Entry.Participant key.now (party_of party.now)) result }
+    ensures { IsMadeOf (reference_text key.now ∷ bic_text party.now ∷ []) (λ entry. entry ≡ Entry.Participant key.now (party_of party.now)) result }
 {
     Ok(Entry::Participant {
         reference: reference(key)?,
@@ -133,7 +133,7 @@ pub fn participant(key: &str, party: &str) -> Result<Entry, EntryFault>
 
 /// A new account of a participant.
 pub fn new_account(key: &str, party: &str, name: &str) -> Result<Entry, EntryFault>
-    ensures { Spells (reference_text key.now ∷ bic_text party.now ∷ account_text name.now ∷ [])
+    ensures { IsMadeOf (reference_text key.now ∷ bic_text party.now ∷ account_text name.now ∷ [])
         (λ entry. entry ≡ Entry.Account key.now (party_of party.now) name.now) result }
 {
     Ok(Entry::Account {
@@ -145,7 +145,7 @@ pub fn new_account(key: &str, party: &str, name: &str) -> Result<Entry, EntryFau
 
 /// A new security.
 pub fn security(key: &str, code: &str, kind: Kind) -> Result<Entry, EntryFault>
-    ensures { Spells (reference_text key.now ∷ isin_text code.now ∷ []) (λ entry. entry ≡ Entry.Security key.now code.now kind) result }
+    ensures { IsMadeOf (reference_text key.now ∷ isin_text code.now ∷ []) (λ entry. entry ≡ Entry.Security key.now code.now kind) result }
 {
     Ok(Entry::Security {
         reference: reference(key)?,
@@ -158,8 +158,8 @@ pub fn security(key: &str, code: &str, kind: Kind) -> Result<Entry, EntryFault>
 fn movement(key: &str, name: &str, code: &str, quantity: u64) -> Result<Movement, EntryFault>
     requires some { 0 < quantity }
     requires within { quantity ≤ MOST_QUANTITY }
-    ensures { Spells (reference_text key.now ∷ account_text name.now ∷ isin_text code.now ∷ [])
-        (Moves key.now name.now code.now quantity) result }
+    ensures { IsMadeOf (reference_text key.now ∷ account_text name.now ∷ isin_text code.now ∷ [])
+        (IsMovementOf key.now name.now code.now quantity) result }
 {
     Ok(Movement {
         reference: reference(key)?,
@@ -173,8 +173,8 @@ fn movement(key: &str, name: &str, code: &str, quantity: u64) -> Result<Movement
 pub fn issue(key: &str, name: &str, code: &str, quantity: u64) -> Result<Entry, EntryFault>
     requires some { 0 < quantity }
     requires within { quantity ≤ MOST_QUANTITY }
-    ensures { Spells (reference_text key.now ∷ account_text name.now ∷ isin_text code.now ∷ [])
-        (Issues (Moves key.now name.now code.now quantity)) result }
+    ensures { IsMadeOf (reference_text key.now ∷ account_text name.now ∷ isin_text code.now ∷ [])
+        (Issues (IsMovementOf key.now name.now code.now quantity)) result }
 {
     Ok(Entry::Issue(movement(key, name, code, quantity)?))
 }
@@ -183,15 +183,15 @@ pub fn issue(key: &str, name: &str, code: &str, quantity: u64) -> Result<Entry, 
 pub fn redeem(key: &str, name: &str, code: &str, quantity: u64) -> Result<Entry, EntryFault>
     requires some { 0 < quantity }
     requires within { quantity ≤ MOST_QUANTITY }
-    ensures { Spells (reference_text key.now ∷ account_text name.now ∷ isin_text code.now ∷ [])
-        (Redeems (Moves key.now name.now code.now quantity)) result }
+    ensures { IsMadeOf (reference_text key.now ∷ account_text name.now ∷ isin_text code.now ∷ [])
+        (Redeems (IsMovementOf key.now name.now code.now quantity)) result }
 {
     Ok(Entry::Redeem(movement(key, name, code, quantity)?))
 }
 
 /// A settlement run for the pairs due by a day.
 pub fn run(key: &str, digits: &[u8; 8]) -> Result<Entry, EntryFault>
-    ensures { Spells (reference_text key.now ∷ day_text digits.now ∷ []) (λ entry. entry ≡ Entry.Run key.now digits.now Passes) result }
+    ensures { IsMadeOf (reference_text key.now ∷ day_text digits.now ∷ []) (λ entry. entry ≡ Entry.Run key.now digits.now Passes) result }
 {
     Ok(Entry::Run {
         reference: reference(key)?,

@@ -2,8 +2,9 @@
 //! of the desk stands on it.
 //!
 //! `entries` makes codes, entries and instructions from the texts that name them. `Ledger`, in `ledger`, is a register
-//! in plain lists that takes in what the desk accepts.
+//! in plain lists that takes in what the desk accepts; `pairing` pairs two instructions of any register.
 #![tactic(auto)]
 
 pub mod entries;
 pub mod ledger;
+pub mod pairing;

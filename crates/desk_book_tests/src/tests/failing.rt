@@ -1,6 +1,7 @@
 //! A register in plain lists of which chosen calls fail, as those of a device may.
 ghost use Rattle.std.specs.Prelude.{◌≡◌, ◌≢◌, ◌+◌, ◌<◌, ◌^◌, true, false, if◌then◌else◌};
-ghost use Rattle.desk_engine.specs.Applied.{Keeps, no_books};
+ghost use Rattle.desk_book.specs.Held.{KeepsFormed};
+ghost use Rattle.desk_engine.specs.Applied.{no_books};
 ghost use Rattle.desk_lists.specs.ListView.{view_of_lists};
 ghost use Rattle.desk_register.specs.declared.register.Stage.TheVariants.{Idle, Begun};
 ghost use Rattle.desk_register.specs.View.{fallen};
@@ -98,7 +99,7 @@ pub struct FailingRegister {
 impl FailingRegister {
     /// An empty one.
     pub fn new(alloc: Global, plan: Plan) -> FailingRegister
-        ensures empty { Keeps MOST_ENTRIES no_books (view_of_lists result.inner).content }
+        ensures empty { KeepsFormed MOST_ENTRIES no_books (view_of_lists result.inner).content }
         ensures limit { (view_of_lists result.inner).room ≡ MOST_ENTRIES }
         ensures stage { result.stage ≡ Stage.Idle }
     {
@@ -149,7 +150,7 @@ impl Register for FailingRegister {
 
     ghost view = { λ r. failing (view_of_lists r.inner) r.stage r.calls.failed };
 
-    ghost plain = { false };
+    ghost in_memory = { false };
 
     fn begin(&mut self, alloc: Global) -> Result<(), Fault> {
         if self.calls.fails() {
@@ -330,12 +331,12 @@ impl Register for FailingRegister {
         answer
     }
 
-    fn settle_pair(&mut self, alloc: Global, number: u64) -> Result<Outcome, Fault> {
+    fn settle_pair(&mut self, alloc: Global, number: u64, day: Day) -> Result<Outcome, Fault> {
         let fails = self.calls.fails();
         if fails && !self.calls.plan.is_late {
             return Err(self.fail());
         }
-        let answer = self.inner.settle_pair(alloc, number);
+        let answer = self.inner.settle_pair(alloc, number, day);
         self.stage = stage_after(self.stage, answer.is_ok());
         if fails {
             return Err(self.fail());

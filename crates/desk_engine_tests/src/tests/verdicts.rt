@@ -28,7 +28,7 @@ fn accepts(
         mate: None,
         settled: 0,
         waiting: 0,
-        named: State::Plain,
+        named: State::NoInstruction,
     });
     assert_eq!(rt; ledger.enter(alloc, entry)?, want);
     Ok(())
@@ -155,7 +155,7 @@ fn messages(rt: HostRuntime) -> Result<(), Fail> {
         mate: Some(6),
         settled: 0,
         waiting: 0,
-        named: State::Plain,
+        named: State::NoInstruction,
     });
     assert_eq!(rt; ledger.enter(alloc, of_beta)?, paired);
     Ok(())

@@ -1,15 +1,12 @@
 //! What is found by key, as the first opposite and as a due pair, at an empty register, after changes and after
 //! `back`. The values are worked by hand.
-ghost use Rattle.std.specs.Prelude.{◌≡◌, OnOk};
-ghost use Rattle.desk_index.specs.IndexView.{view_of_index};
-
 use desk_codes::{Bic, Day, Reference};
 use desk_index::IndexedRegister;
 use desk_msg::{Instruction, Message, Mt, read_instruction_text};
-use desk_register::{Fault, Register, Stage};
-use desk_rules::{Entry, Place, Reply, Sender, Text};
+use desk_register::{Register, Stage};
+use desk_rules::{Place, Sender};
+use desk_samples::pairing::{add_instruction, pair_opposites};
 use std::alloc::Global;
-use std::process::Abort;
 use std::test::Fail;
 
 /// 400 of a share delivered free to BETADEFF, due on 29 February 2024.
@@ -39,41 +36,6 @@ fn bic(text: &str) -> Result<Bic, Fail> {
     Ok(Bic::parse(text.as_bytes())?)
 }
 
-/// Adds an instruction, with a reply of no text.
-fn add(
-    alloc: Global,
-    register: &mut IndexedRegister,
-    sender: Bic,
-    instruction: Instruction,
-) -> Result<(), Fault>
-    requires { (view_of_index register.old).stage ≡ Stage.Begun }
-    ensures { OnOk result ((view_of_index register.new).stage ≡ Stage.Begun) }
-{
-    let reply = Reply {
-        status: 200,
-        mt: None,
-        text: Text::new(Vec::new(alloc)),
-    };
-    register.append(
-        alloc,
-        Entry::Instruct {
-            sender,
-            instruction,
-        },
-        reply,
-    )
-}
-
-/// Pairs the numbers 1 and 2 of a register that has them.
-fn pair_two(rt: &impl Abort, alloc: Global, register: &mut IndexedRegister) -> Result<(), Fault>
-    requires { (view_of_index register.old).stage ≡ Stage.Begun }
-    ensures { OnOk result ((view_of_index register.new).stage ≡ Stage.Begun) }
-{
-    let count = register.count(alloc)?;
-    assert!(rt; count >= 2);
-    register.pair(alloc, 1, 2)
-}
-
 #[test]
 fn keys(rt: HostRuntime) -> Result<(), Fail> {
     let alloc = rt.alloc();
@@ -85,10 +47,10 @@ fn keys(rt: HostRuntime) -> Result<(), Fail> {
     let sender = Sender::Participant(alpha);
     assert_eq!(rt; register.number_of(alloc, sender, a_1)?, None);
     register.begin(alloc)?;
-    add(alloc, &mut register, alpha, delivery)?;
+    add_instruction(alloc, &mut register, alpha, delivery)?;
     assert_eq!(rt; register.number_of(alloc, sender, a_1)?, Some(1));
     // the first of the key, and no other sender's
-    add(alloc, &mut register, alpha, delivery)?;
+    add_instruction(alloc, &mut register, alpha, delivery)?;
     assert_eq!(rt; register.number_of(alloc, sender, a_1)?, Some(1));
     assert_eq!(rt; register.number_of(alloc, beta, a_1)?, None);
     assert_eq!(rt; register.number_of(alloc, Sender::Operator, a_1)?, None);
@@ -107,14 +69,14 @@ fn opposites(rt: HostRuntime) -> Result<(), Fail> {
     let receipt = instruction(alloc, Mt::Mt540, RECEIPT)?;
     let mut register = IndexedRegister::new(alloc, 10);
     register.begin(alloc)?;
-    add(alloc, &mut register, alpha, delivery)?;
+    add_instruction(alloc, &mut register, alpha, delivery)?;
     assert_eq!(rt; register.first_opposite(alloc, beta, &receipt)?, Some(1));
     assert_eq!(rt; register.first_opposite(alloc, alpha, &delivery)?, None);
-    add(alloc, &mut register, beta, receipt)?;
+    add_instruction(alloc, &mut register, beta, receipt)?;
     assert_eq!(rt; register.first_opposite(alloc, alpha, &delivery)?, Some(2));
     register.commit(alloc)?;
     register.begin(alloc)?;
-    pair_two(&rt, alloc, &mut register)?;
+    assert!(rt; pair_opposites(alloc, &mut register, 1, 2)?);
     assert_eq!(rt; register.first_opposite(alloc, beta, &receipt)?, None);
     assert_eq!(rt; register.first_opposite(alloc, alpha, &delivery)?, None);
     register.back(alloc)?;
@@ -137,10 +99,10 @@ fn due_pairs(rt: HostRuntime) -> Result<(), Fail> {
     let receipt = instruction(alloc, Mt::Mt540, RECEIPT)?;
     let mut register = IndexedRegister::new(alloc, 10);
     register.begin(alloc)?;
-    add(alloc, &mut register, alpha, delivery)?;
-    add(alloc, &mut register, beta, receipt)?;
+    add_instruction(alloc, &mut register, alpha, delivery)?;
+    add_instruction(alloc, &mut register, beta, receipt)?;
     assert_eq!(rt; register.due_pair_after(alloc, leap, None)?, None);
-    pair_two(&rt, alloc, &mut register)?;
+    assert!(rt; pair_opposites(alloc, &mut register, 1, 2)?);
     assert_eq!(rt; register.due_pair_after(alloc, eve, None)?, None);
     assert_eq!(rt; register.due_pair_after(alloc, leap, None)?, Some(place));
     assert_eq!(rt; register.due_pair_after(alloc, leap, Some(place))?, None);

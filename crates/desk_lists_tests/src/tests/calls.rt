@@ -13,6 +13,7 @@ use desk_samples::entries::{
     isin, issue, new_account, participant, receipt, reference, run, security,
 };
 use desk_samples::ledger::Ledger;
+use desk_samples::pairing::{add_instruction, pair_opposites};
 use std::alloc::Global;
 use std::process::Abort;
 use std::test::Fail;
@@ -222,11 +223,11 @@ fn entries_by_number(rt: HostRuntime) -> Result<(), Fail> {
     let mut register = filled(alloc)?.into_register();
     let wanted = [
         (0, None),
-        (1, standing(1, None, State::Plain)),
+        (1, standing(1, None, State::NoInstruction)),
         (9, standing(9, Some(10), future)),
         (10, standing(10, Some(9), future)),
         (11, standing(11, None, State::Unmatched)),
-        (12, standing(12, None, State::Plain)),
+        (12, standing(12, None, State::NoInstruction)),
         (13, None),
     ];
     for (number, want) in wanted {
@@ -342,40 +343,33 @@ fn goes_back(rt: HostRuntime) -> Result<(), Fail> {
     Ok(())
 }
 
-/// Pairs the numbers 11 and 12 of a register that has them.
-fn pair_two(rt: &impl Abort, alloc: Global, register: &mut ListRegister) -> Result<(), Fault>
-    requires { (view_of_lists register.old).stage ≡ Stage.Begun }
-    ensures { OnOk result ((view_of_lists register.new).stage ≡ Stage.Begun) }
-{
-    let count = register.count(alloc)?;
-    assert!(rt; count >= 12);
-    register.pair(alloc, 11, 12)
-}
-
 #[test]
 fn pairs(rt: HostRuntime) -> Result<(), Fail> {
     let alloc = rt.alloc();
     let future = State::Matched(Reason::Future);
+    let beta = bic("BETADEFF")?;
+    let taken = instruction(alloc, more(receipt("B2")))?;
     let mut register = filled(alloc)?.into_register();
     register.begin(alloc)?;
-    pair_two(&rt, alloc, &mut register)?;
+    add_instruction(alloc, &mut register, beta, taken)?;
+    // a run is no instruction, and what is matched is not paired again
+    assert!(rt; !pair_opposites(alloc, &mut register, 11, 12)?);
+    assert!(rt; !pair_opposites(alloc, &mut register, 9, 13)?);
+    assert!(rt; pair_opposites(alloc, &mut register, 11, 13)?);
     assert_eq!(rt;
         at(alloc, &mut register, 11)?,
-        standing(11, Some(12), future)
+        standing(11, Some(13), future)
     );
     assert_eq!(rt;
-        at(alloc, &mut register, 12)?,
-        standing(12, Some(11), future)
+        at(alloc, &mut register, 13)?,
+        standing(13, Some(11), future)
     );
     register.back(alloc)?;
     assert_eq!(rt;
         at(alloc, &mut register, 11)?,
         standing(11, None, State::Unmatched)
     );
-    assert_eq!(rt;
-        at(alloc, &mut register, 12)?,
-        standing(12, None, State::Plain)
-    );
+    assert_eq!(rt; at(alloc, &mut register, 13)?, None);
     Ok(())
 }
 
@@ -416,7 +410,7 @@ fn try_first(
     register.begin(alloc)?;
     match register.due_pair_after(alloc, day, None)? {
         Some(place) => {
-            let outcome = register.settle_pair(alloc, place.number)?;
+            let outcome = register.settle_pair(alloc, place.number, day)?;
             Ok((register, Some(outcome)))
         }
         None => Ok((register, None)),

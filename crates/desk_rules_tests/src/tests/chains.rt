@@ -111,7 +111,7 @@ fn settles_a_chain_in_one_run(rt: HostRuntime) -> Result<(), Fail> {
     assert_eq!(rt; mate_of(&all.pairs, 16), Some(15));
     assert_eq!(rt; mate_of(&all.pairs, 10), None);
     assert_eq!(rt; state(alloc, &entries, 11)?, State::Settled);
-    assert_eq!(rt; state(alloc, &entries, 10)?, State::Plain);
+    assert_eq!(rt; state(alloc, &entries, 10)?, State::NoInstruction);
     assert_eq!(rt; play(alloc, &mut entries, run("R2", b"20240229")?)?, (0, 0));
     Ok(())
 }

@@ -3,11 +3,11 @@ use Rattle.desk.specs.declared.status.Failure.TheVariants.{Memory, Input}
 use Rattle.desk_lists.specs.ListView.{view_of_lists}
 use Rattle.desk.proofs.PlayLemmas.{limit_is, new_keeps, told, told_alone}
 use Rattle.desk_engine.specs.Applied.{no_books}
-use Rattle.desk_engine.proofs.KeptLemmas.{empty_kept}
+use Rattle.desk_book.proofs.FormedLemmas.{empty_formed}
 use Rattle.desk.proofs.play.answer_play.Goals as goal
 
 pub new-desk-requires : goal.new-desk-requires
-new-desk-requires g c = record { stage = λ is. c.new.ensures.stage; sure = λ is honest. tt; books = λ is honest. (no_books, empty_kept _ _ c.new.ensures.empty) }
+new-desk-requires g c = record { stage = λ is. c.new.ensures.stage; sure = λ is honest. tt; books = λ is honest. (no_books, empty_formed _ _ c.new.ensures.empty) }
 
 pub returns-in-Ok : goal.returns-in-Ok
 returns-in-Ok g c =
@@ -15,7 +15,7 @@ returns-in-Ok g c =
     let held = c.new-desk.result.register in
     let same = c.new-desk.ensures.register in
     told (g.R.Read.remaining c.args.reader.now) _ _ c.new-desk.result.is_closed c.play.new.self.is_closed (view_of_lists held) (view_of_lists c.play.new.self.register) (limit_is made held same c.new.ensures.limit) c.new-desk.ensures.open
-    (c.in-Ok.ensures.plain refl c.new-desk.ensures.open) refl tt (λ is. new_keeps made held same c.new.ensures.empty) c.in-Ok.ensures.played
+    (c.in-Ok.ensures.in_memory refl c.new-desk.ensures.open) refl tt (λ is. new_keeps made held same c.new.ensures.empty) c.in-Ok.ensures.played
 
 pub returns-in-Err-Memory : goal.returns-in-Err-Memory
 returns-in-Err-Memory g c =

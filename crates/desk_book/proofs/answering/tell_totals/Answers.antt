@@ -7,7 +7,7 @@ pub security_totals-requires-clause-small : goal.security_totals-requires-clause
 security_totals-requires-clause-small g c = λ honest sure isin.
     let v0 = g.R.Register.view c.args.register.now in
     let kept = c.requires.ready.books refl honest in
-    held_small v0.room kept.0 v0.content isin kept.1
+    held_small v0.room kept.0 v0.content isin kept.1.tables
 
 pub returns-in-Ok-totals_text-clause-told : goal.returns-in-Ok-totals_text-clause-told
 returns-in-Ok-totals_text-clause-told g c = λ books honest keeps.

@@ -1,6 +1,6 @@
 use Rattle.std.proofs.Common.{refl, inl, ap, ◌∙◌}
 use Rattle.desk_rules.specs.Reply.{untyped_reply}
-use Rattle.desk_book.proofs.FormedLemmas.{readable}
+use Rattle.desk_rules.proofs.WellFormedLemmas.{readable}
 use Rattle.desk_book.proofs.task.message_task.Goals as goal
 
 pub returns-in-Ok-New-clause-task : goal.returns-in-Ok-New-clause-task

@@ -8,7 +8,7 @@ items-init g c =
     let v0 = g.R.Register.view c.args.self.now.register in
     record {
       closed = λ was. was;
-      plain = λ is not_closed. not_closed;
+      in_memory = λ is not_closed. not_closed;
       later = never_later v0;
       played = λ books honest holds. none_so_far c.args.self.now.is_closed books c.args.script.now (g.O.Write.contents c.args.writer.now) v0 holds;
     }
@@ -22,7 +22,7 @@ items-preserved g c =
     let v2 = g.R.Register.view c.answer_item.new.self.register in
     record {
       closed = λ was. a.stays (i.closed was);
-      plain = λ is not_closed. a.plain is (i.plain is not_closed);
+      in_memory = λ is not_closed. a.in_memory is (i.in_memory is not_closed);
       later = later_on v0 v1 v2 i.later a.later;
       played = λ books honest holds.
           let s = i.played books (a.later.honest honest) holds in

@@ -8,7 +8,7 @@ use Rattle.desk_book.proofs.desk.Desk.answer_script.Given as goal
 abbrev pub invariant-items : goal.invariant-items
 invariant-items g l = record {
   closed : l.fn.self.is_closed ≡ true → l.self.is_closed ≡ true;
-  plain : g.R.Register.plain ≡ true → l.fn.self.is_closed ≡ false → l.self.is_closed ≡ false;
+  in_memory : g.R.Register.in_memory ≡ true → l.fn.self.is_closed ≡ false → l.self.is_closed ≡ false;
   later : IsLater (g.R.Register.view l.fn.self.register) (g.R.Register.view l.self.register);
   played : (books : Books) → (g.R.Register.view l.self.register).is_honest → Holds l.fn.self.is_closed (g.R.Register.view l.fn.self.register) books
       → SoFar l.fn.self.is_closed books l.script l.rest (g.O.Write.contents l.fn.writer) (g.O.Write.contents l.writer) l.self.is_closed (g.R.Register.view l.fn.self.register) (g.R.Register.view l.self.register);

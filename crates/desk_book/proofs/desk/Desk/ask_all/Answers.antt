@@ -19,7 +19,7 @@ requests-preserved g c =
       count = search rules;
       closed = λ was. (let stays = a.stays (i.closed was).0 in (a.closed ∙ stays, rw items (All-push (λ answer. says_closed answer ≡ true) c.requests.answers.items c.ask-answer.result (i.closed was).1 stays)));
       blame = rw items (blamed v0 v1 v2 c.requests.answers.items c.ask-answer.result a.later i.blame a.blame);
-      plain = λ is not_closed. a.closed ∙ a.plain is (i.plain is not_closed);
+      in_memory = λ is not_closed. a.closed ∙ a.in_memory is (i.in_memory is not_closed);
       later = later_on v0 v1 v2 i.later a.later;
       run = λ books honest holds.
           run_steps v0 v1 v2 c.args.self.now.is_closed c.requests.self.is_closed c.ask-answer.new.self.is_closed books c.args.requests.now c.requests.request-index c.request-item.result

@@ -13,7 +13,7 @@ invariant-requests g l = record {
   count : vec_len l.answers ≡ l.request-index;
   closed : l.fn.self.is_closed ≡ true → (l.self.is_closed ≡ true) × All (λ answer. says_closed answer ≡ true) l.answers.items;
   blame : count_by says_storage l.answers.items + (g.R.Register.view l.fn.self.register).failures ≤ (g.R.Register.view l.self.register).failures;
-  plain : g.R.Register.plain ≡ true → l.fn.self.is_closed ≡ false → l.self.is_closed ≡ false;
+  in_memory : g.R.Register.in_memory ≡ true → l.fn.self.is_closed ≡ false → l.self.is_closed ≡ false;
   later : IsLater (g.R.Register.view l.fn.self.register) (g.R.Register.view l.self.register);
   run : (books : Books) → (g.R.Register.view l.self.register).is_honest → Holds l.fn.self.is_closed (g.R.Register.view l.fn.self.register) books
       → (last : Books) × Run (g.R.Register.view l.fn.self.register).room l.fn.self.is_closed books (map asked_by (take l.request-index l.requests)) l.answers.items l.self.is_closed last

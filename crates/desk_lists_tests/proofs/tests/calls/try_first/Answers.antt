@@ -1,4 +1,5 @@
 use Rattle.std.proofs.Common.{sym, subst}
+use Rattle.desk_codes.specs.Number.{number_of}
 use Rattle.desk_rules.specs.Content.{Content}
 use Rattle.desk_register.specs.Changes.{CanSettle}
 use Rattle.desk_engine.proofs.KeptLemmas.{kept_in}
@@ -11,6 +12,6 @@ settle_pair-requires-clause-fits c = λ honest sure.
     let d = c.in_ok-place.ensures in
     let kept = c.into_register-register.ensures.keeps in
     let keeps = kept_in _ _ kept.0 _ _ b.later.room (b.ok.content tt tt) kept.1 in
-    let P : Content → Type 0 = λ content. CanSettle content c.in-Some.place.number in
+    let P : Content → Type 0 = λ content. CanSettle content c.in-Some.place.number (number_of c.args.day) in
     subst P (sym (d.read.same tt tt))
     (kept_can_settle _ kept.0 _ c.args.day c.in-Some.place keeps (rw c.in-Some.is at (d.value tt tt)))

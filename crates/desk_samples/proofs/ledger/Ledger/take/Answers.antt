@@ -10,7 +10,7 @@ pub invariant_of-self : goal.invariant_of-self
 invariant_of-self c =
     let a = c.accept.ensures in
     let kept = c.self.invariant.1 in
-    kept_after c.accept.result c.self.inside.register c.accept.new.register kept.0 c.args.entry kept.1 (a.accepted kept.0 tt tt kept.1) a.ok a.err a.later (a.plain refl)
+    kept_after c.accept.result c.self.inside.register c.accept.new.register kept.0 c.args.entry kept.1 (a.accepted kept.0 tt tt kept.1) a.ok a.err a.later (a.in_memory refl)
 
 pub returns-clause-taken : goal.returns-clause-taken
 returns-clause-taken c = λ books keeps.

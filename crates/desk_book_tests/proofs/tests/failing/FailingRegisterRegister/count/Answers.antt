@@ -11,4 +11,4 @@ returns-then-fails-clause-read c =
 pub returns-clause-read : goal.returns-clause-read
 returns-clause-read c =
     let old = c.args.self.now in
-    read_well old.inner c.count.new.self old.stage old.calls.failed c.fails.new.self.failed old.idle (search rules) c.count.result (c.count.ensures.plain refl) c.count.ensures.read
+    read_well old.inner c.count.new.self old.stage old.calls.failed c.fails.new.self.failed old.idle (search rules) c.count.result (c.count.ensures.in_memory refl) c.count.ensures.read

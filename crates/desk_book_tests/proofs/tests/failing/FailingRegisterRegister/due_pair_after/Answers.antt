@@ -11,4 +11,4 @@ returns-then-fails-clause-read c =
 pub returns-clause-read : goal.returns-clause-read
 returns-clause-read c =
     let old = c.args.self.now in
-    read_well old.inner c.due_pair_after.new.self old.stage old.calls.failed c.fails.new.self.failed old.idle (search rules) c.due_pair_after.result (c.due_pair_after.ensures.plain refl) c.due_pair_after.ensures.read
+    read_well old.inner c.due_pair_after.new.self old.stage old.calls.failed c.fails.new.self.failed old.idle (search rules) c.due_pair_after.result (c.due_pair_after.ensures.in_memory refl) c.due_pair_after.ensures.read

@@ -11,4 +11,4 @@ returns-then-fails-clause-read c =
 pub returns-clause-read : goal.returns-clause-read
 returns-clause-read c =
     let old = c.args.self.now in
-    read_well old.inner c.first_opposite.new.self old.stage old.calls.failed c.fails.new.self.failed old.idle (search rules) c.first_opposite.result (c.first_opposite.ensures.plain refl) c.first_opposite.ensures.read
+    read_well old.inner c.first_opposite.new.self old.stage old.calls.failed c.fails.new.self.failed old.idle (search rules) c.first_opposite.result (c.first_opposite.ensures.in_memory refl) c.first_opposite.ensures.read

@@ -11,4 +11,4 @@ returns-then-fails-clause-read c =
 pub returns-clause-read : goal.returns-clause-read
 returns-clause-read c =
     let old = c.args.self.now in
-    read_well old.inner c.held.new.self old.stage old.calls.failed c.fails.new.self.failed old.idle (search rules) c.held.result (c.held.ensures.plain refl) c.held.ensures.read
+    read_well old.inner c.held.new.self old.stage old.calls.failed c.fails.new.self.failed old.idle (search rules) c.held.result (c.held.ensures.in_memory refl) c.held.ensures.read

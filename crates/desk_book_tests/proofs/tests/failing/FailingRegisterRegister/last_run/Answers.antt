@@ -11,4 +11,4 @@ returns-then-fails-clause-read c =
 pub returns-clause-read : goal.returns-clause-read
 returns-clause-read c =
     let old = c.args.self.now in
-    read_well old.inner c.last_run.new.self old.stage old.calls.failed c.fails.new.self.failed old.idle (search rules) c.last_run.result (c.last_run.ensures.plain refl) c.last_run.ensures.read
+    read_well old.inner c.last_run.new.self old.stage old.calls.failed c.fails.new.self.failed old.idle (search rules) c.last_run.result (c.last_run.ensures.in_memory refl) c.last_run.ensures.read

@@ -11,4 +11,4 @@ returns-then-fails-clause-read c =
 pub returns-clause-read : goal.returns-clause-read
 returns-clause-read c =
     let old = c.args.self.now in
-    read_well old.inner c.number_of.new.self old.stage old.calls.failed c.fails.new.self.failed old.idle (search rules) c.number_of.result (c.number_of.ensures.plain refl) c.number_of.ensures.read
+    read_well old.inner c.number_of.new.self old.stage old.calls.failed c.fails.new.self.failed old.idle (search rules) c.number_of.result (c.number_of.ensures.in_memory refl) c.number_of.ensures.read

@@ -11,4 +11,4 @@ returns-then-fails-clause-read c =
 pub returns-clause-read : goal.returns-clause-read
 returns-clause-read c =
     let old = c.args.self.now in
-    read_well old.inner c.outstanding.new.self old.stage old.calls.failed c.fails.new.self.failed old.idle (search rules) c.outstanding.result (c.outstanding.ensures.plain refl) c.outstanding.ensures.read
+    read_well old.inner c.outstanding.new.self old.stage old.calls.failed c.fails.new.self.failed old.idle (search rules) c.outstanding.result (c.outstanding.ensures.in_memory refl) c.outstanding.ensures.read

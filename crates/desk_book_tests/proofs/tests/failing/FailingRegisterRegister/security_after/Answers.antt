@@ -11,4 +11,4 @@ returns-then-fails-clause-read c =
 pub returns-clause-read : goal.returns-clause-read
 returns-clause-read c =
     let old = c.args.self.now in
-    read_well old.inner c.security_after.new.self old.stage old.calls.failed c.fails.new.self.failed old.idle (search rules) c.security_after.result (c.security_after.ensures.plain refl) c.security_after.ensures.read
+    read_well old.inner c.security_after.new.self old.stage old.calls.failed c.fails.new.self.failed old.idle (search rules) c.security_after.result (c.security_after.ensures.in_memory refl) c.security_after.ensures.read

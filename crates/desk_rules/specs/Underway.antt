@@ -1,0 +1,20 @@
+-- How far a run has come, said by relations: the form that steps of a register are proved in. Only proofs and private
+-- contracts speak of it.
+use Rattle.std.specs.Prelude.{◌≡◌, ◌⊎◌, ◌↔◌, ℕ, ◌<◌, true, false, List, Contains, AllPairs, Option}
+use Rattle.desk_rules.specs.declared.entry.Entry.{Entry}
+use Rattle.desk_rules.specs.declared.pair.Pair.{Pair}
+use Rattle.desk_rules.specs.declared.pair.Place.{Place}
+use Rattle.desk_rules.specs.declared.pair.Settled.{Settled}
+use Rattle.desk_rules.specs.Settlement.{Settles, is_above, precedes, settled_before}
+
+-- A settlement was decided on by then: it is of a run before this one, of a pass of the run before this one, or of the
+-- pass, and not above the place.
+pub record IsReached (history : List Entry) (run pass : ℕ) (place : Option Place) (s : Settled) : Type 0 where
+  pub numbered : s.pair.later < s.run
+  pub reached : (s.run < run) ⊎ ((s.run ≡ run) × ((s.pass < pass) ⊎ ((s.pass ≡ pass) × (is_above history place s.pair ≡ false))))
+
+-- The settlement of a history whose last entry is the run, as far as a place in a pass.
+pub record IsSettledAsFar (history : List Entry) (pairs : List Pair) (run pass : ℕ) (place : Option Place) (settled : List Settled) : Type 0 where
+  pub exact : (s : Settled) → IsReached history run pass place s → Contains settled s ↔ Settles history pairs (settled_before history s settled) s
+  pub within : (s : Settled) → Contains settled s → IsReached history run pass place s
+  pub in_order : AllPairs (λ s t. precedes history s t ≡ true) settled
