@@ -1,5 +1,5 @@
 //! What the words ask for, answered.
-ghost use Rattle.std.specs.Prelude.{◌≡◌, ◌⊎◌, ℕ, List, [], ◌∷◌, ◌++◌, map, IfOk, OnOk};
+ghost use Rattle.std.specs.Prelude.{◌≡◌, ◌⊎◌, ℕ, List, [], ◌∷◌, ◌++◌, codes, map, IfOk, OnOk};
 ghost use Rattle.std.specs.Io.KnownBytes.{Appends};
 ghost use Rattle.std.specs.IoError.{error_kind};
 ghost use Rattle.std.specs.declared.io.ErrorKind.TheVariants as io_kind;
@@ -76,7 +76,7 @@ fn answer<R: Read, W: Write>(
 fn tell_error<W: Write>(error: &Error, writer: &mut W) -> io::Result<Status>
     ensures status { IfOk result (λ status. status ≡ status_of_error (kind_of error.now)) }
     ensures memory { kind_of error.now ≡ ErrorKind.OutOfMemory
-        → OnOk result (Appends (W.contents writer.old) (W.contents writer.new) (failure_line Failure.Memory ++ 10 ∷ [])) }
+        → OnOk result (Appends (W.contents writer.old) (W.contents writer.new) (failure_line Failure.Memory ++ codes "\n")) }
 {
     match error.kind() {
         ErrorKind::OutOfMemory => tell_failure(Failure::Memory, writer),

@@ -1,5 +1,5 @@
 //! How a run ends: its exit status, and the failures that are told in place of an answer.
-ghost use Rattle.std.specs.Prelude.{◌≡◌, [], ◌∷◌, ◌++◌, IfOk};
+ghost use Rattle.std.specs.Prelude.{◌≡◌, ◌++◌, codes, IfOk};
 ghost use Rattle.std.specs.Io.KnownBytes.{Appends};
 ghost use Rattle.std.specs.Process.{exit_status};
 ghost use Rattle.desk.specs.Status.{failure_line, status_number};
@@ -40,7 +40,7 @@ pub enum Failure {
 /// Writes a failure's line, and gives the status of a fault.
 pub fn tell_failure<W: Write>(failure: Failure, writer: &mut W) -> io::Result<Status>
     ensures { IfOk result (λ status. (status ≡ Status.Fault)
-        × Appends (W.contents writer.old) (W.contents writer.new) (failure_line failure ++ 10 ∷ [])) }
+        × Appends (W.contents writer.old) (W.contents writer.new) (failure_line failure ++ codes "\n")) }
 {
     writer.write_all(match failure {
         Failure::Memory => b"fault 60\n",

@@ -21,7 +21,7 @@ use Rattle.desk_book.specs.Command.{IsCommand, SpellsCommand}
 use Rattle.desk_book.specs.Task.{IsTask, IsMessageTask, is_supported_type, unknown_form}
 use Rattle.desk_book.specs.declared.task.Task.TheVariants.{Decide, Answer}
 
-command_formed : (d : Data) (entry : Entry) → IsCommand d entry → IsWellFormed entry
+pub command_formed : (d : Data) (entry : Entry) → IsCommand d entry → IsWellFormed entry
 command_formed d (Participant reference bic) c = (c.2, spelled_bic c.0 bic c.1)
 command_formed d (Account reference bic account) c = (c.2, spelled_bic c.0 bic c.1, c.3)
 command_formed d (Security reference isin kind) c = (c.0, c.1)

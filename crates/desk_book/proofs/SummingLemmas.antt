@@ -1,14 +1,14 @@
 -- The loop over a register's securities, over the views of the register.
-use Rattle.std.proofs.Common.{◌≡◌, ℕ, ◌+◌, ◌≤◌, List, ◌∷◌, ◌++◌, [], length, Option, Some, None, is_some, true, ap, sym, ◌∙◌, subst, arith}
+use Rattle.std.proofs.Common.{◌≡◌, ◌≢◌, ℕ, ◌+◌, ◌≤◌, List, ◌∷◌, ◌++◌, [], length, Option, Some, None, is_some, true, ap, sym, ◌∙◌, subst, arith}
 use Rattle.std.proofs.lemmas.List.{length-map}
 use Rattle.std.specs.Prelude.{Result, Ok, Err}
 use Rattle.desk_rules.specs.Facts.{kind_of}
 use Rattle.desk_register.specs.declared.register.Fault.{Fault}
-use Rattle.desk_register.specs.declared.register.Stage.TheVariants.{Idle}
+use Rattle.desk_register.specs.declared.register.Stage.TheVariants.{Idle, Failed}
 use Rattle.desk_register.specs.View.{View, IsLater, Stays, fallen, IsRead}
 use Rattle.desk_rules.specs.Content.{Content, history_of}
 use Rattle.desk_register.specs.Looked.{IsSecurityAfter}
-use Rattle.desk_register.proofs.ViewLemmas.{later_then, stays_then}
+use Rattle.desk_register.proofs.ViewLemmas.{idle_goes, later_then, stays_then}
 use Rattle.desk_book.specs.declared.total.SecurityTotal.{SecurityTotal}
 use Rattle.desk_book.specs.Totals.{AreTotals, IsTotal}
 use Rattle.desk_book.proofs.ListedLemmas.{Gathered, gathers_none, gathers_one, gathered_all, gathered_enough}
@@ -53,6 +53,10 @@ pub record Summing (v0 v : View) (count : ℕ) (last : Option (List ℕ)) (turns
   pub entries : v.is_honest → v0.is_sure → count ≡ length v0.content.register
   pub read : HasRead v0 v
   pub sums : v.is_honest → v0.is_sure → Gathered v0.content last turns totals
+
+-- no call of the loop has failed
+pub still_idle : {v0 v : View} {count turns : ℕ} {last : Option (List ℕ)} {totals : List SecurityTotal} → Summing v0 v count last turns totals → v.stage ≢ Failed
+still_idle s = idle_goes _ (s.read.stays.stage ∙ s.read.idle)
 
 pub summing_begins : (v0 v : View) (count : ℕ) → HasRead v0 v → (v.is_honest → v0.is_sure → count ≡ length v0.content.register) → Summing v0 v count None 0 []
 summing_begins v0 v count read entries = record { entries = entries; read = read; sums = λ honest sure. gathers_none v0.content }

@@ -11,7 +11,7 @@ use Rattle.desk_codes.specs.Day.{IsDay}
 use Rattle.desk_codes.specs.Reference.{IsReference}
 use Rattle.desk_msg.specs.Profile.{code_of_kind}
 use Rattle.desk_rules.specs.declared.entry.Entry.{Entry}
-use Rattle.desk_rules.specs.declared.entry.Entry.TheVariants.{Participant, Account, Security, Issue, Redeem, PayIn, PayOut, Instruct, Cancel, Run}
+use Rattle.desk_rules.specs.declared.entry.Entry.TheVariants.{Participant, Account, Security, Issue, Redeem, PayIn, PayOut, Run}
 use Rattle.desk_rules.specs.declared.entry.RunRule.TheVariants.{Passes}
 use Rattle.desk_rules.specs.WellFormed.{IsMovement}
 use Rattle.desk_engine.specs.Decision.{is_supported}
@@ -62,9 +62,8 @@ IsCommand d (Issue m) = IsMovement m × (d ≡ movement_object (codes "issue") m
 IsCommand d (Redeem m) = IsMovement m × (d ≡ movement_object (codes "redeem") m.reference m.account m.isin m.quantity)
 IsCommand d (PayIn p) = (name : List ℕ) × SpellsBic name p.bic × IsReference p.reference × (d ≡ payment_object (codes "payin") p.reference name (letters_of p.ccy) p.amount)
 IsCommand d (PayOut p) = (name : List ℕ) × SpellsBic name p.bic × IsReference p.reference × (d ≡ payment_object (codes "payout") p.reference name (letters_of p.ccy) p.amount)
-IsCommand d (Instruct sender instruction) = ⊥
-IsCommand d (Cancel sender order) = ⊥
 IsCommand d (Run reference day rule) = IsReference reference × IsDay day × (d ≡ run_object reference day) × (rule ≡ Passes)
+IsCommand d entry = ⊥
 
 -- a value is a command that the desk takes today
 pub record IsSupportedCommand (d : Data) (entry : Entry) : Type 0 where

@@ -39,7 +39,7 @@ impl<R: Register> Model for Desk<R> {
 }
 
 impl<R: Register> Desk<R> {
-    /// A desk over a register that keeps the tables of a history, with no `begin` open.
+    /// A desk over a register that keeps the tables of a history of well formed entries, with no `begin` open.
     pub fn new(register: R) -> Desk<R>
         requires { IsReady false (R.view register) }
         ensures register { result.register ≡ register }

@@ -1,5 +1,12 @@
 //! Laws of the definitions, each the contract of a function with an empty body.
 ghost use Rattle.std.specs.Prelude.{◌≡◌, ℕ, Bool, false, List, [], All, Result, Ok};
+ghost use Rattle.serde_json.specs.Data.{Data};
+ghost use Rattle.desk_codes.specs.Bic.{IsBic};
+ghost use Rattle.desk_msg.specs.declared.instruction.CancelOrder.{CancelOrder};
+ghost use Rattle.desk_msg.specs.declared.instruction.Instruction.{Instruction};
+ghost use Rattle.desk_msg.specs.declared.instruction.Message.TheVariants.{New, Cancel as CancelMessage};
+ghost use Rattle.desk_msg.specs.declared.mt.Mt.{Mt};
+ghost use Rattle.desk_msg.specs.Refused.{ReadsText};
 ghost use Rattle.desk_rules.specs.declared.reply.Reply.{Reply};
 ghost use Rattle.desk_rules.specs.declared.verdict.Verdict.TheVariants.{Accept};
 ghost use Rattle.desk_rules.specs.Reply.{AreNext, untyped_reply};
@@ -19,7 +26,7 @@ ghost use Rattle.desk_book.specs.declared.total.SecurityTotal.{SecurityTotal};
 ghost use Rattle.desk_book.specs.Asked.{Asked, sums};
 ghost use Rattle.desk_book.specs.Task.{IsTask};
 ghost use Rattle.desk_rules.specs.declared.entry.Entry.{Entry};
-ghost use Rattle.desk_book.specs.Command.{SpellsCommand};
+ghost use Rattle.desk_book.specs.Command.{IsCommand, SpellsCommand};
 ghost use Rattle.desk_book.specs.Script.{Script, Item};
 
 /// Bytes spell one command at most.
@@ -32,9 +39,13 @@ pub fn one_script()
     ensures { (bytes : List ℕ) (a b : List Item) → Script bytes a → Script bytes b → a ≡ b }
 {}
 
-/// Who reads an entry, reads a well formed one: each command that the desk decides on is.
+/// Who reads an entry, reads a well formed one: each command that an operator's object spells, each message of a sender
+/// with a BIC, and each entry that the desk decides on is.
 pub fn reads_well_formed()
-    ensures { (asked : Asked) (entry : Entry) → IsTask asked (Decide entry) → IsWellFormed entry }
+    ensures commands { (value : Data) (entry : Entry) → IsCommand value entry → IsWellFormed entry }
+    ensures instructions { (sender text : List ℕ) (mt : Mt) (i : Instruction) → IsBic sender → ReadsText mt text (Ok (New i)) → IsWellFormed (Entry.Instruct sender i) }
+    ensures cancellations { (sender text : List ℕ) (mt : Mt) (order : CancelOrder) → IsBic sender → ReadsText mt text (Ok (CancelMessage order)) → IsWellFormed (Entry.Cancel sender order) }
+    ensures decided { (asked : Asked) (entry : Entry) → IsTask asked (Decide entry) → IsWellFormed entry }
 {}
 
 /// A request is read as one task at most.

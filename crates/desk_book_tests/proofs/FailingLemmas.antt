@@ -1,5 +1,5 @@
 -- A register in plain lists of which calls fail: a call that comes to the lists, and one that does not.
-use Rattle.std.proofs.Common.{◌≡◌, true, false, ℕ, ◌+◌, ◌<◌, ◌≤◌, refl, ap, sym, ◌∙◌, arith}
+use Rattle.std.proofs.Common.{◌≡◌, ◌≢◌, true, false, ℕ, ◌+◌, ◌<◌, ◌≤◌, refl, ap, sym, ◌∙◌, arith}
 use Rattle.std.specs.Prelude.{Result, Ok, Err, OnOk, OnErr, IsOk, is_ok, if◌then◌else◌}
 use Rattle.desk_register.specs.declared.register.Fault.{Fault}
 use Rattle.desk_register.specs.declared.register.Stage.{Stage}
@@ -95,3 +95,9 @@ module _ (a b c : ListRegister) (s was t : Stage) (n m : ℕ) (begun : s ≡ Beg
     later = record { honest = λ h. tt; sure = λ h su. tt; failures = omega (arith, more); room = ap (λ r. (view_of_lists r).room) same ∙ i.later.room };
     blame = λ is. omega (arith, more);
   }
+
+-- where no call of it has failed, none of the register within has
+pub goes : (s t : Stage) → (s ≡ Idle → t ≡ Idle) → (s ≡ Begun → t ≡ Begun) → s ≢ Failed → t ≢ Failed
+goes Idle t idle begun well = λ failed. (let clash : Idle ≡ Failed = sym (idle refl) ∙ failed in absurd (cc))
+goes Begun t idle begun well = λ failed. (let clash : Begun ≡ Failed = sym (begun refl) ∙ failed in absurd (cc))
+goes Failed t idle begun well = absurd (well refl)

@@ -1,15 +1,16 @@
 -- How a verdict is put together.
-use Rattle.std.proofs.Common.{◌≡◌, ℕ, Bool, true, false, List, [], ◌∷◌, length, Some, None, refl, ap, ◌∙◌}
-use Rattle.std.specs.Prelude.{nat_le, Result, Ok, Err, IfOk}
+use Rattle.std.proofs.Common.{◌≡◌, ℕ, Bool, true, false, List, [], ◌∷◌, length, Option, Some, None, refl, ap, sym, ◌∙◌}
+use Rattle.std.specs.Prelude.{nat_le, option_map, Result, Ok, Err, IfOk}
 use Rattle.desk_register.specs.declared.register.Fault.{Fault}
 use Rattle.desk_rules.specs.declared.entry.Entry.{Entry}
 use Rattle.desk_rules.specs.declared.entry.Entry.TheVariants.{Participant, Account, Security, Issue, Redeem, PayIn, PayOut, Instruct, Cancel, Run}
 use Rattle.desk_rules.specs.declared.verdict.Verdict.{Verdict}
 use Rattle.desk_rules.specs.declared.verdict.Verdict.TheVariants.{Accept, Repeat, Refuse}
 use Rattle.desk_rules.specs.declared.verdict.Refusal.{Refusal}
-use Rattle.desk_rules.specs.History.{number_of_key, sender_of, reference_of}
+use Rattle.desk_rules.specs.declared.entry.Sender.{Sender}
+use Rattle.desk_rules.specs.History.{as_asked, entry_at, number_of_key, sender_of, reference_of}
 use Rattle.desk_rules.specs.Books.{Books}
-use Rattle.desk_rules.specs.Verdict.{Check, checks_of, first_failing, IsVerdict, IsVerdictAt, is_from_stranger}
+use Rattle.desk_rules.specs.Verdict.{Check, checks_of, first_failing, IsVerdict, IsVerdictAt, is_from_stranger, reused_by}
 use Rattle.desk_engine.specs.Decision.{first_refusal, is_supported, with_history, IsVerdictOnKey}
 use Rattle.desk_register.proofs.CaseLemmas.{by_bool}
 
@@ -61,3 +62,24 @@ pub verdict_new_ok : (limit room : ℕ) (books : Books) (history : List Entry) (
 verdict_new_ok limit room books history entry (Ok verdict) at same friend new supported is =
     verdict_new room books history entry verdict same friend new supported (rw at at is)
 verdict_new_ok limit room books history entry (Err fault) at same friend new supported is = is
+
+-- an entry that is found by its key asks for the same as another, or does not
+pub key_repeated : (history later : List Entry) (entry : Entry) (sender : Sender) (reference : List ℕ) (number : ℕ) (found : Option Entry) → later ≡ history → sender ≡ sender_of entry → reference ≡ reference_of entry
+    → Some number ≡ number_of_key history sender reference → found ≡ entry_at later number → option_map as_asked found ≡ Some (as_asked entry) → IsVerdictOnKey history entry (Repeat number)
+key_repeated history later entry sender reference number found same is_sender is_reference known at asks = record {
+  number = number;
+  is_number = sym (ap (λ s. number_of_key history s (reference_of entry)) is_sender) ∙ sym (ap (number_of_key history sender) is_reference) ∙ sym known;
+  is_verdict = (refl, sym (ap (option_map as_asked) (at ∙ ap (λ h. entry_at h number) same)) ∙ asks);
+}
+
+pub key_used : (history later : List Entry) (entry : Entry) (sender : Sender) (reference : List ℕ) (number : ℕ) (found : Option Entry) (refusal : Refusal) → later ≡ history → sender ≡ sender_of entry → reference ≡ reference_of entry
+    → Some number ≡ number_of_key history sender reference → found ≡ entry_at later number → (option_map as_asked found ≡ Some (as_asked entry) → ⊥) → refusal ≡ reused_by (sender_of entry) → IsVerdictOnKey history entry (Refuse refusal)
+key_used history later entry sender reference number found refusal same is_sender is_reference known at other is = record {
+  number = number;
+  is_number = sym (ap (λ s. number_of_key history s (reference_of entry)) is_sender) ∙ sym (ap (number_of_key history sender) is_reference) ∙ sym known;
+  is_verdict = (is, λ asks. other (ap (option_map as_asked) (at ∙ ap (λ h. entry_at h number) same) ∙ asks));
+}
+
+pub not_both : (test : Bool) → test ≡ true → test ≡ false → ⊥
+not_both true is other = absurd (cc)
+not_both false is other = absurd (cc)

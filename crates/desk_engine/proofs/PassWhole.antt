@@ -41,7 +41,8 @@ use Rattle.desk_engine.specs.Decision.{is_supported}
 use Rattle.desk_rules.specs.Content.{Content, history_of}
 use Rattle.desk_register.specs.Changes.{standing_both, CanSettle, TriesPair, TriesSides, delivering_side as deliverer, receiving_side as receiver}
 use Rattle.desk_register.specs.Looked.{IsDue, IsDuePairAfter}
-use Rattle.desk_engine.specs.Pass.{settled_of, AreSupported, PassesAt, InstructionPasses, IsUnderway, is_below}
+use Rattle.desk_engine.specs.Pass.{settled_of, PassesAt, InstructionPasses, IsUnderway, is_below}
+use Rattle.desk_engine.specs.Decision.{AreSupported}
 use Rattle.desk_rules.proofs.Accepted.{accepted_last}
 use Rattle.desk_rules.proofs.Conservation.{accepted_all, account_registered, paired_add_up}
 use Rattle.desk_rules.proofs.Decided.{In, In-from_Contains, Contains-from_In, In-left, In-push_cases}
@@ -254,6 +255,7 @@ module _ (limit : ℕ) (books : Books) (reference day : List ℕ) (rule : RunRul
         earlier = n.earlier;
         later = b;
         pair = record { is_later = due.pair.is_later; has_mate = due.pair.has_mate; is_earlier = n.is_earlier };
+        opposite = n.sides.opposite;
         two = due.pair.is_earlier;
         back = side.2 ∙ ap Some (ap (mate_in q) (sym n.found.earlier) ∙ mate_of_earlier q ∙ n.found.later);
         earlier_reason = side.0;

@@ -21,7 +21,8 @@ use Rattle.desk_rules.specs.declared.pair.Lack.TheVariants.{Securities, Money as
 use Rattle.desk_register.specs.Looked.{IsDuePairAfter}
 use Rattle.desk_engine.specs.Applied.{Keeps}
 use Rattle.desk_engine.specs.Tables.{Tables}
-use Rattle.desk_engine.specs.Pass.{AreSupported, CanPass, CanRun, IsAtPass, IsTaken, PassEnds, RanTo, settled_of}
+use Rattle.desk_engine.specs.Pass.{CanPass, CanRun, IsAtPass, IsTaken, PassEnds, RanTo, settled_of}
+use Rattle.desk_engine.specs.Decision.{AreSupported}
 use Rattle.desk_engine.proofs.TablesLemmas.{length_is}
 use Rattle.desk_register.proofs.ViewLemmas.{later_then, stays_then}
 use Rattle.desk_engine.proofs.FinishLemmas.{pass_begins}

@@ -25,7 +25,8 @@ use Rattle.desk_rules.specs.Content.{Content}
 use Rattle.desk_register.specs.Changes.{CanSettle}
 use Rattle.desk_register.specs.Looked.{IsDuePairAfter}
 use Rattle.desk_engine.specs.Tables.{Tables}
-use Rattle.desk_engine.specs.Pass.{AreSupported, IsTaken, RanTo, settled_of, PassesAt, PassesSo, IsUnderway, IsOver, IsAtPass, PassEnds, is_below}
+use Rattle.desk_engine.specs.Pass.{IsTaken, RanTo, settled_of, PassesAt, PassesSo, IsUnderway, IsOver, IsAtPass, PassEnds, is_below}
+use Rattle.desk_engine.specs.Decision.{AreSupported}
 use Rattle.desk_rules.proofs.Decided.{In, In-from_Contains, Contains-from_In, In-left, In-right, In-cases, Ordered, filter-In}
 use Rattle.desk_rules.proofs.HistoryLemmas.{entry_at-end}
 use Rattle.desk_rules.proofs.PairingLemmas.{lower, decided_pairing}

@@ -1,15 +1,14 @@
 -- What a verdict is put together from.
-use Rattle.std.specs.Prelude.{◌≡◌, ◌≢◌, ℕ, Bool, true, false, not, if◌then◌else◌, List, [], ◌∷◌, Option, Some, None}
+use Rattle.std.specs.Prelude.{◌≡◌, ◌≢◌, ℕ, Bool, true, false, not, if◌then◌else◌, List, [], ◌∷◌, Contains, Option, Some, None}
 use Rattle.desk_msg.specs.MessageType.{is_against_payment}
 use Rattle.desk_rules.specs.declared.entry.Entry.{Entry}
 use Rattle.desk_rules.specs.declared.entry.Entry.TheVariants.{Redeem, PayIn, PayOut, Instruct, Cancel}
 use Rattle.desk_rules.specs.declared.verdict.Refusal.{Refusal}
 use Rattle.desk_rules.specs.declared.verdict.Verdict.{Verdict}
-use Rattle.desk_register.specs.declared.register.Stage.TheVariants.{Failed}
 use Rattle.desk_rules.specs.History.{number_of_key, sender_of, reference_of}
 use Rattle.desk_rules.specs.Books.{Books}
 use Rattle.desk_rules.specs.Verdict.{Check, IsVerdictAt}
-use Rattle.desk_register.specs.View.{View, IfTrusted}
+use Rattle.desk_register.specs.View.{View, IfRead}
 use Rattle.desk_rules.specs.Content.{history_of}
 
 -- the commands that the desk takes: participants, accounts, securities, issues, runs, and free instructions
@@ -20,6 +19,10 @@ is_supported (PayOut payment) = false
 is_supported (Instruct sender instruction) = not (is_against_payment instruction.mt)
 is_supported (Cancel sender order) = false
 is_supported entry = true
+
+-- a history of nothing but the commands that the desk takes
+pub record AreSupported (history : List Entry) : Type 0 where
+  pub each : (entry : Entry) → Contains history entry → is_supported entry ≡ true
 
 -- the refusal of the first check that fails
 abbrev pub first_refusal : List Check → Option Refusal
@@ -41,7 +44,6 @@ abbrev pub IsVerdictIfKnown : List Entry → Entry → Option Verdict → Type 0
 IsVerdictIfKnown history entry None = number_of_key history (sender_of entry) (reference_of entry) ≡ None
 IsVerdictIfKnown history entry (Some verdict) = IsVerdictOnKey history entry verdict
 
--- Between two views a call read a sure register, of which no call has failed since `begin`: then this holds of
--- the history.
+-- Over a reading call this holds of the history.
 abbrev pub Reading : View → View → (List Entry → Type 0) → Type 0
-Reading old new says = IfTrusted old new (old.stage ≢ Failed → says (history_of old.content))
+Reading old new says = IfRead old new (says (history_of old.content))

@@ -1,5 +1,5 @@
--- What a run over supported commands comes to, pass by pass, before the run itself is added. But for `AreSupported`, only
--- proofs and private contracts speak of it.
+-- What a run over supported commands comes to, pass by pass, before the run itself is added. Only proofs and private
+-- contracts speak of it.
 use Rattle.std.specs.Prelude.{◌≡◌, ℕ, ◌+◌, ◌<◌, ◌≤◌, ◌&&◌, Bool, true, false, not, List, [], ◌∷◌, ◌++◌, length, count_by, Contains, ◌⊎◌, Option, Some, None}
 use Rattle.desk_msg.specs.declared.status.Reason.{Reason}
 use Rattle.desk_rules.specs.declared.entry.Entry.{Entry}
@@ -32,12 +32,8 @@ use Rattle.desk_register.specs.declared.outcome.Outcome.{Outcome}
 use Rattle.desk_register.specs.declared.outcome.Outcome.TheVariants as outcomes
 use Rattle.desk_register.specs.declared.outcome.Outcome.TheVariants.{Lacks}
 use Rattle.desk_engine.specs.declared.settlement_run.Taken.{Taken}
-use Rattle.desk_engine.specs.Decision.{is_supported}
+use Rattle.desk_engine.specs.Decision.{AreSupported}
 use Rattle.desk_engine.specs.Tables.{Tables}
-
--- a history of nothing but the commands that the desk takes
-pub record AreSupported (history : List Entry) : Type 0 where
-  pub each : (entry : Entry) → Contains history entry → is_supported entry ≡ true
 
 -- the books with the run, where this is settled
 abbrev pub books_after : Books → Entry → List Settled → Books

@@ -14,6 +14,7 @@ use std::alloc::Global;
 
 /// The number of the next entry, where there is room for it.
 pub fn next_number<R: Register>(alloc: Global, register: &mut R) -> Result<u64, Fault>
+    requires { (R.view register.old).stage ≡ Stage.Begun }
     ensures value { IfTrusted (R.view register.old) (R.view register.new) (length (R.view register.old).content.register < (R.view register.old).room
         → IfOk result (λ n. n ≡ length (R.view register.old).content.register + 1)) }
     ensures most { IfOk result (λ n. n ≤ MOST_ENTRIES) }

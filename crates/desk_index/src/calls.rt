@@ -110,13 +110,10 @@ impl Register for IndexedRegister {
 
     fn number_of(
         &mut self,
-        alloc: Global,
+        _alloc: Global,
         sender: Sender,
         reference: Reference,
     ) -> Result<Option<u64>, Fault> {
-        if let Stage::Failed = self.held.stage() {
-            return self.held.number_of(alloc, sender, reference);
-        }
         Ok(self.keys.number(&sender, &reference))
     }
 
@@ -134,12 +131,12 @@ impl Register for IndexedRegister {
 
     fn first_opposite(
         &mut self,
-        alloc: Global,
+        _alloc: Global,
         sender: Bic,
         instruction: &Instruction,
     ) -> Result<Option<u64>, Fault> {
         if let Stage::Failed = self.held.stage() {
-            return self.held.first_opposite(alloc, sender, instruction);
+            return Ok(None);
         }
         let wanted = Instructed {
             sender,
@@ -150,12 +147,12 @@ impl Register for IndexedRegister {
 
     fn due_pair_after(
         &mut self,
-        alloc: Global,
+        _alloc: Global,
         day: Day,
         place: Option<Place>,
     ) -> Result<Option<Place>, Fault> {
         if let Stage::Failed = self.held.stage() {
-            return self.held.due_pair_after(alloc, day, place);
+            return Ok(None);
         }
         Ok(first_due(&self.held, &self.matched, day.yyyymmdd(), &place))
     }

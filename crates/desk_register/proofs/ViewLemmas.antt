@@ -1,8 +1,9 @@
 -- One call after another.
-use Rattle.std.proofs.Common.{◌≡◌, ap, sym, ◌∙◌, arith}
+use Rattle.std.proofs.Common.{◌≡◌, ◌≢◌, ap, sym, ◌∙◌, arith}
 use Rattle.std.specs.Prelude.{Result, Ok, Err}
 use Rattle.desk_register.specs.declared.register.Fault.{Fault}
-use Rattle.desk_register.specs.declared.register.Stage.TheVariants.{Idle, Begun}
+use Rattle.desk_register.specs.declared.register.Stage.{Stage}
+use Rattle.desk_register.specs.declared.register.Stage.TheVariants.{Idle, Begun, Failed}
 use Rattle.desk_register.specs.View.{View, IsLater, Stays, Falls, fallen, IsChange}
 
 module _ (v0 v1 v2 : View) (stays : Stays v0 v1) (first : IsLater v0 v1) where
@@ -40,3 +41,10 @@ module _ (v0 v1 v2 : View) (stays : Stays v0 v1) (first : IsLater v0 v1) where
 -- a call that went well
 pub change_ok : {X : Type 0} (x : X) (v0 v1 : View) → Stays v0 v1 → IsLater v0 v1 → IsChange {X = X} (Ok x) v0 v1
 change_ok x v0 v1 stays later = record { ok = stays; err = tt; later = later; blame = tt }
+
+-- where a `begin` is open and every call since went well, or none is open, no call has failed
+pub begun_goes : (stage : Stage) → stage ≡ Begun → stage ≢ Failed
+begun_goes stage begun failed = (let clash : Begun ≡ Failed = sym begun ∙ failed in absurd (cc))
+
+pub idle_goes : (stage : Stage) → stage ≡ Idle → stage ≢ Failed
+idle_goes stage idle failed = (let clash : Idle ≡ Failed = sym idle ∙ failed in absurd (cc))

@@ -114,6 +114,7 @@ pub record CanSettle (content : Content) (n day : ℕ) : Type 0 where
   pub earlier : Instructed
   pub later : Instructed
   pub pair : IsPairAt content n mate earlier later
+  pub opposite : AreOpposite earlier later
   pub two : mate < n
   pub back : (content.standing mate).mate ≡ Some n
   pub earlier_reason : Reason

@@ -28,6 +28,11 @@ pub record View : Type 1 where
 abbrev pub IfTrusted : View → View → Type 0 → Type 0
 IfTrusted old new fact = new.is_honest → old.is_sure → fact
 
+-- Where answers over a reading call are to be trusted, and no call had failed since `begin`, this holds: once one has,
+-- what is held is not known until `back`.
+abbrev pub IfRead : View → View → Type 0 → Type 0
+IfRead old new fact = IfTrusted old new (old.stage ≢ Failed → fact)
+
 -- the stage after a call that failed
 abbrev pub fallen : Stage → Stage
 fallen Idle = Idle

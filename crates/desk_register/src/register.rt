@@ -1,7 +1,7 @@
 //! The register: the law by which every store of the desk is judged.
 ghost use Rattle.std.specs.Prelude.{◌≡◌, ◌≢◌, ℕ, true, Bool, ◌+◌, ◌<◌, ◌≤◌, ◌^◌, length, option_map, IfOk, IfErr, IsOk, OnOk, OnErr};
 ghost use Rattle.desk_codes.specs.Number.{number_of};
-ghost use Rattle.desk_register.specs.View.{View, IfTrusted, IsLater, Begins, Commits, GoesBack, Falls, Blames, IsRead, IsChange};
+ghost use Rattle.desk_register.specs.View.{View, IfRead, IfTrusted, IsLater, Begins, Commits, GoesBack, Falls, Blames, IsRead, IsChange};
 ghost use Rattle.desk_rules.specs.Content.{history_of};
 ghost use Rattle.desk_register.specs.Changes.{appended, paired, CanAppend, CanPair, CanSettle, TriesPair};
 ghost use Rattle.desk_register.specs.Looked.{held_of, reply_at, IsFirstOpposite, IsDuePairAfter, IsSecurityAfter};
@@ -38,7 +38,7 @@ pub enum Fault {
 /// What the desk keeps: its accepted entries with their replies, where each stands, and the positions.
 ///
 /// Whatever changes stands between `begin` and `commit`, or `back`, which takes it all back. What only reads may be
-/// called at any time.
+/// called at any time; once a call has failed, what it answers means nothing until `back`.
 pub trait Register {
     /// What contracts see of a register
     ghost view: { Self → View };
@@ -83,37 +83,37 @@ pub trait Register {
 
     /// How many entries there are.
     fn count(&mut self, alloc: Global) -> Result<u64, Fault>
-        ensures value { IfTrusted (view self.old) (view self.new) (IfOk result (λ r. r ≡ length (view self.old).content.register)) }
+        ensures value { IfRead (view self.old) (view self.new) (IfOk result (λ r. r ≡ length (view self.old).content.register)) }
         ensures read { IsRead result (view self.old) (view self.new) }
         ensures in_memory { in_memory ≡ true → IsOk result };
 
     /// Whether a BIC is a participant's.
     fn participant(&mut self, alloc: Global, bic: Bic) -> Result<bool, Fault>
-        ensures value { IfTrusted (view self.old) (view self.new) (IfOk result (λ r. r ≡ is_participant (history_of (view self.old).content) bic)) }
+        ensures value { IfRead (view self.old) (view self.new) (IfOk result (λ r. r ≡ is_participant (history_of (view self.old).content) bic)) }
         ensures read { IsRead result (view self.old) (view self.new) }
         ensures in_memory { in_memory ≡ true → IsOk result };
 
     /// Whose an account is; None where there is no such account.
     fn owner(&mut self, alloc: Global, account: AccountId) -> Result<Option<Bic>, Fault>
-        ensures value { IfTrusted (view self.old) (view self.new) (IfOk result (λ r. r ≡ owner_of (history_of (view self.old).content) account)) }
+        ensures value { IfRead (view self.old) (view self.new) (IfOk result (λ r. r ≡ owner_of (history_of (view self.old).content) account)) }
         ensures read { IsRead result (view self.old) (view self.new) }
         ensures in_memory { in_memory ≡ true → IsOk result };
 
     /// How a security is counted; None where there is no such security.
     fn security(&mut self, alloc: Global, isin: Isin) -> Result<Option<Kind>, Fault>
-        ensures value { IfTrusted (view self.old) (view self.new) (IfOk result (λ r. r ≡ kind_of (history_of (view self.old).content) isin)) }
+        ensures value { IfRead (view self.old) (view self.new) (IfOk result (λ r. r ≡ kind_of (history_of (view self.old).content) isin)) }
         ensures read { IsRead result (view self.old) (view self.new) }
         ensures in_memory { in_memory ≡ true → IsOk result };
 
-    /// What was issued of a security less what was redeemed; unknown once a call has failed.
+    /// What was issued of a security less what was redeemed.
     fn outstanding(&mut self, alloc: Global, isin: Isin) -> Result<u64, Fault>
-        ensures value { IfTrusted (view self.old) (view self.new) ((view self.old).stage ≢ Stage.Failed → IfOk result (λ r. redeemed (history_of (view self.old).content) isin + r ≡ issued (history_of (view self.old).content) isin)) }
+        ensures value { IfRead (view self.old) (view self.new) (IfOk result (λ r. redeemed (history_of (view self.old).content) isin + r ≡ issued (history_of (view self.old).content) isin)) }
         ensures read { IsRead result (view self.old) (view self.new) }
         ensures in_memory { in_memory ≡ true → IsOk result };
 
     /// The day of the last run; None before any.
     fn last_run(&mut self, alloc: Global) -> Result<Option<Day>, Fault>
-        ensures value { IfTrusted (view self.old) (view self.new) (IfOk result (λ r. option_map number_of r ≡ last_run (history_of (view self.old).content))) }
+        ensures value { IfRead (view self.old) (view self.new) (IfOk result (λ r. option_map number_of r ≡ last_run (history_of (view self.old).content))) }
         ensures read { IsRead result (view self.old) (view self.new) }
         ensures in_memory { in_memory ≡ true → IsOk result };
 
@@ -124,25 +124,25 @@ pub trait Register {
         sender: Sender,
         reference: Reference,
     ) -> Result<Option<u64>, Fault>
-        ensures value { IfTrusted (view self.old) (view self.new) (IfOk result (λ r. r ≡ number_of_key (history_of (view self.old).content) sender reference)) }
+        ensures value { IfRead (view self.old) (view self.new) (IfOk result (λ r. r ≡ number_of_key (history_of (view self.old).content) sender reference)) }
         ensures read { IsRead result (view self.old) (view self.new) }
         ensures in_memory { in_memory ≡ true → IsOk result };
 
     /// The entry of this number, counted from 1; None where there is none.
     fn entry(&mut self, alloc: Global, number: u64) -> Result<Option<Entry>, Fault>
-        ensures value { IfTrusted (view self.old) (view self.new) (IfOk result (λ r. r ≡ entry_at (history_of (view self.old).content) number)) }
+        ensures value { IfRead (view self.old) (view self.new) (IfOk result (λ r. r ≡ entry_at (history_of (view self.old).content) number)) }
         ensures read { IsRead result (view self.old) (view self.new) }
         ensures in_memory { in_memory ≡ true → IsOk result };
 
     /// Where the entry of this number stands; what is no instruction of the register stands nowhere.
     fn standing(&mut self, alloc: Global, number: u64) -> Result<Standing, Fault>
-        ensures value { IfTrusted (view self.old) (view self.new) (IfOk result (λ r. r ≡ (view self.old).content.standing number)) }
+        ensures value { IfRead (view self.old) (view self.new) (IfOk result (λ r. r ≡ (view self.old).content.standing number)) }
         ensures read { IsRead result (view self.old) (view self.new) }
         ensures in_memory { in_memory ≡ true → IsOk result };
 
     /// The reply that is kept with the entry of this number; None where there is none.
     fn reply(&mut self, alloc: Global, number: u64) -> Result<Option<Reply>, Fault>
-        ensures value { IfTrusted (view self.old) (view self.new) (IfOk result (λ r. r ≡ reply_at (view self.old).content number)) }
+        ensures value { IfRead (view self.old) (view self.new) (IfOk result (λ r. r ≡ reply_at (view self.old).content number)) }
         ensures read { IsRead result (view self.old) (view self.new) };
 
     /// The least number of an unmatched instruction that is opposite to one of this sender; None where there is none.
@@ -152,13 +152,13 @@ pub trait Register {
         sender: Bic,
         instruction: &Instruction,
     ) -> Result<Option<u64>, Fault>
-        ensures value { IfTrusted (view self.old) (view self.new) (IfOk result (λ r. IsFirstOpposite (view self.old).content (record { sender = sender; instruction = instruction.now }) r)) }
+        ensures value { IfRead (view self.old) (view self.new) (IfOk result (λ r. IsFirstOpposite (view self.old).content (record { sender = sender; instruction = instruction.now }) r)) }
         ensures read { IsRead result (view self.old) (view self.new) }
         ensures in_memory { in_memory ≡ true → IsOk result };
 
     /// What an account holds of a security; 0 where there is no such account or security.
     fn position(&mut self, alloc: Global, account: AccountId, isin: Isin) -> Result<u64, Fault>
-        ensures value { IfTrusted (view self.old) (view self.new) (IfOk result (λ r. r ≡ (view self.old).content.position account isin)) }
+        ensures value { IfRead (view self.old) (view self.new) (IfOk result (λ r. r ≡ (view self.old).content.position account isin)) }
         ensures read { IsRead result (view self.old) (view self.new) }
         ensures in_memory { in_memory ≡ true → IsOk result };
 
@@ -170,20 +170,20 @@ pub trait Register {
         day: Day,
         place: Option<Place>,
     ) -> Result<Option<Place>, Fault>
-        ensures value { IfTrusted (view self.old) (view self.new) (IfOk result (λ r. IsDuePairAfter (view self.old).content (number_of day) place r)) }
+        ensures value { IfRead (view self.old) (view self.new) (IfOk result (λ r. IsDuePairAfter (view self.old).content (number_of day) place r)) }
         ensures read { IsRead result (view self.old) (view self.new) }
         ensures in_memory { in_memory ≡ true → IsOk result };
 
     /// The first security, in order of its bytes, after one; with none, the first of all. None where there is none.
     fn security_after(&mut self, alloc: Global, isin: Option<Isin>) -> Result<Option<Isin>, Fault>
-        ensures value { IfTrusted (view self.old) (view self.new) (IfOk result (λ r. IsSecurityAfter (history_of (view self.old).content) isin r)) }
+        ensures value { IfRead (view self.old) (view self.new) (IfOk result (λ r. IsSecurityAfter (history_of (view self.old).content) isin r)) }
         ensures read { IsRead result (view self.old) (view self.new) }
         ensures in_memory { in_memory ≡ true → IsOk result };
 
     /// What all registered accounts hold of a security.
     fn held(&mut self, alloc: Global, isin: Isin) -> Result<u64, Fault>
         requires { IfTrusted (view self.old) (view self.old) (held_of (view self.old).content isin < 2 ^ 64) }
-        ensures value { IfTrusted (view self.old) (view self.new) (IfOk result (λ r. r ≡ held_of (view self.old).content isin)) }
+        ensures value { IfRead (view self.old) (view self.new) (IfOk result (λ r. r ≡ held_of (view self.old).content isin)) }
         ensures read { IsRead result (view self.old) (view self.new) }
         ensures in_memory { in_memory ≡ true → IsOk result };
 

@@ -7,7 +7,8 @@ use Rattle.desk_codes.specs.Bic.{IsBic, ReadsBic}
 use Rattle.desk_codes.proofs.BicLemmas.{front_is_bic, head_office, own_branch, same_bytes, whole_is_bic}
 use Rattle.desk_codes.specs.Day.{IsDay}
 use Rattle.desk_msg.specs.declared.instruction.Instruction.{Instruction}
-use Rattle.desk_msg.specs.declared.instruction.Message.TheVariants.{New}
+use Rattle.desk_msg.specs.declared.instruction.CancelOrder.{CancelOrder}
+use Rattle.desk_msg.specs.declared.instruction.Message.TheVariants.{New, Cancel as Cancellation}
 use Rattle.desk_msg.specs.declared.mt.Mt.{Mt}
 use Rattle.desk_msg.specs.Reads.{Reads}
 use Rattle.desk_msg.specs.Refused.{ReadsText}
@@ -31,6 +32,11 @@ pub readable : (mt : Mt) (text : List ℕ) (i : Instruction) → ReadsText mt te
 readable mt text i r =
     let type : i.mt ≡ mt = r.reads.0 in
     (r.fields, subst (λ (m : Mt). Reads m r.fields (Ok (New i))) (sym type) r.reads)
+
+pub readable_cancellation : (mt : Mt) (text : List ℕ) (order : CancelOrder) → ReadsText mt text (Ok (Cancellation order)) → IsReadable order.mt (Cancellation order)
+readable_cancellation mt text order r =
+    let type : order.mt ≡ mt = r.reads.0 in
+    (r.fields, subst (λ (m : Mt). Reads m r.fields (Ok (Cancellation order))) (sym type) r.reads)
 
 pub got_In : {X : Type 0} (xs : List X) (n : ℕ) (x : X) → slice_get xs n ≡ Some x → In xs x
 got_In [] n x e = absurd (cc)

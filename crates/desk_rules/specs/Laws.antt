@@ -17,7 +17,7 @@ pub record AreNonNegative (history : List Entry) (settled : List Settled) : Type
   pub positions : (account isin : List ℕ) → debits history settled account isin ≤ credits history settled account isin
   pub cash : (bic : List ℕ) (ccy : Ccy) → cash_debits history settled bic ccy ≤ cash_credits history settled bic ccy
 
--- A message has this number: it tells of an instruction that it was paired, or that a run settled it.
+-- A message has this number: it is what is told of an instruction under it, with a run or with none.
 pub record IsMessageOf (history : List Entry) (n : ℕ) (message : Sent) : Type 0 where
   pub about : ℕ
   pub run : Option ℕ

@@ -152,8 +152,8 @@ pub fn sent_for_good()
         → (n : ℕ) (message : Sent) → confirmation_of front n ≡ Some message → confirmation_of books n ≡ Some message }
 {}
 
-/// What is sent is numbered in its order, from 1: each message tells of one instruction, under its own number. There is
-/// one for each pair and two for each settlement, and so fewer than `MOST_SENT`, however many entries a desk holds.
+/// What is sent is numbered in its order, from 1: each message tells of one instruction, under its own number. There are
+/// as many as pairs, and twice as many as settlements beside, and so fewer than `MOST_SENT` of all that a desk may hold.
 pub fn sent_in_order()
     ensures numbered { (books : Books) (n : ℕ) (message : Sent) → AreBooks books → slice_get (sent_of books) n ≡ Some message
         → IsMessageOf books.history (n + 1) message }

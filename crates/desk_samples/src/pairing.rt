@@ -2,7 +2,7 @@
 ghost use Rattle.std.specs.Prelude.{◌≡◌, ◌<◌, [], IfOk, IfSome, OnOk};
 ghost use Rattle.desk_rules.specs.Reply.{untyped_reply};
 ghost use Rattle.desk_register.specs.Changes.{appended};
-ghost use Rattle.desk_register.specs.View.{IfTrusted, IsChange, IsRead};
+ghost use Rattle.desk_register.specs.View.{IfRead, IfTrusted, IsChange, IsRead};
 ghost use Rattle.desk_samples.specs.Pairing.{IsUnmatchedAt, PairsIf};
 
 use desk_codes::Bic;
@@ -44,7 +44,7 @@ fn unmatched_at<R: Register>(
     register: &mut R,
     number: u64,
 ) -> Result<Option<Instructed>, Fault>
-    ensures found { IfTrusted (R.view register.old) (R.view register.new) (IfOk result (λ found. IfSome found (IsUnmatchedAt (R.view register.old).content number))) }
+    ensures found { IfRead (R.view register.old) (R.view register.new) (IfOk result (λ found. IfSome found (IsUnmatchedAt (R.view register.old).content number))) }
     ensures read { IsRead result (R.view register.old) (R.view register.new) }
 {
     let entry = register.entry(alloc, number)?;

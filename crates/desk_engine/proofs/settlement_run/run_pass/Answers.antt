@@ -1,14 +1,14 @@
 use Rattle.std.proofs.Common.{None, ◌<◌, ◌≤◌, ◌^◌, ◌∙◌, arith, rules}
 use Rattle.desk_engine.specs.declared.settlement_run.Passed.{Passed}
 use Rattle.desk_register.specs.View.{IsChange}
-use Rattle.desk_register.proofs.ViewLemmas.{change_then, change_ok, stays_then, later_then}
+use Rattle.desk_register.proofs.ViewLemmas.{begun_goes, change_then, change_ok, stays_then, later_then}
 use Rattle.desk_engine.proofs.RunningLemmas.{running_begins, running_goes_on, running_can_settle, running_ends_none, running_ends_all, taken_keeps}
 use Rattle.desk_engine.proofs.settlement_run.run_pass.Goals as goal
 
 pub pairs-init : goal.pairs-init
 pairs-init g c =
     let r = c.in_ok-count.ensures.read in
-    running_begins (g.R.Register.view c.args.register.now).room c.in_ok-count.count (g.R.Register.view c.args.register.now) (g.R.Register.view c.count.new.self) c.args.day r.ok r.later r.same c.in_ok-count.ensures.value
+    running_begins (g.R.Register.view c.args.register.now).room c.in_ok-count.count (g.R.Register.view c.args.register.now) (g.R.Register.view c.count.new.self) c.args.day r.ok r.later r.same (λ honest sure. c.in_ok-count.ensures.value honest sure (begun_goes _ c.requires.stage))
 
 pub take_next-requires-clause-stage : goal.take_next-requires-clause-stage
 take_next-requires-clause-stage g c = c.pairs.invariant.stays.stage ∙ c.requires.stage

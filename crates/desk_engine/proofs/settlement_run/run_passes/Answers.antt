@@ -1,7 +1,7 @@
 use Rattle.std.proofs.Common.{refl, sym, ◌<◌, ◌≤◌, ◌^◌, ◌∙◌, arith, rules}
 use Rattle.desk_register.specs.View.{IsChange}
 use Rattle.desk_engine.specs.declared.settlement_run.Passed.{Passed}
-use Rattle.desk_register.proofs.ViewLemmas.{change_then, change_ok, stays_then, later_then}
+use Rattle.desk_register.proofs.ViewLemmas.{begun_goes, change_then, change_ok, stays_then, later_then}
 use Rattle.desk_engine.proofs.RunningLemmas.{can_begin, passing_begins, passing_can_go, passing_goes_on, passing_ends, passing_ends_all, makes_another, makes_no_other}
 use Rattle.desk_engine.proofs.settlement_run.run_passes.Goals as goal
 
@@ -18,7 +18,7 @@ passes-init g c =
     let p = c.in_ok-passed.ensures in
     let v0 = g.R.Register.view c.args.register.now in
     passing_begins v0.room c.in_ok-count.count v0 (g.R.Register.view c.count.new.self) (g.R.Register.view c.run_pass.new.register) c.args.day c.args.rule c.in_ok-passed.passed.settled c.in_ok-passed.passed.waiting refl
-    r.ok r.later r.same c.in_ok-count.ensures.value p.change.ok p.change.later p.kept (λ books reference rule pass start honest sure. p.ran books reference rule pass start honest sure)
+    r.ok r.later r.same (λ honest sure. c.in_ok-count.ensures.value honest sure (begun_goes _ c.requires.stage)) p.change.ok p.change.later p.kept (λ books reference rule pass start honest sure. p.ran books reference rule pass start honest sure)
 
 pub returns-then-not-makes_another-clause-ran : goal.returns-then-not-makes_another-clause-ran
 returns-then-not-makes_another-clause-ran g c = λ books reference honest sure tables supported.

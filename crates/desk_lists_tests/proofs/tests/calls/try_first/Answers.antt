@@ -2,6 +2,7 @@ use Rattle.std.proofs.Common.{sym, subst}
 use Rattle.desk_codes.specs.Number.{number_of}
 use Rattle.desk_rules.specs.Content.{Content}
 use Rattle.desk_register.specs.Changes.{CanSettle}
+use Rattle.desk_register.proofs.ViewLemmas.{begun_goes}
 use Rattle.desk_engine.proofs.KeptLemmas.{kept_in}
 use Rattle.desk_engine.proofs.RunningLemmas.{kept_can_settle}
 use Rattle.desk_lists_tests.proofs.tests.calls.try_first.Goals as goal
@@ -14,4 +15,4 @@ settle_pair-requires-clause-fits c = λ honest sure.
     let keeps = kept_in _ _ kept.0 _ _ b.later.room (b.ok.content tt tt) kept.1 in
     let P : Content → Type 0 = λ content. CanSettle content c.in-Some.place.number (number_of c.args.day) in
     subst P (sym (d.read.same tt tt))
-    (kept_can_settle _ kept.0 _ c.args.day c.in-Some.place keeps (rw c.in-Some.is at (d.value tt tt)))
+    (kept_can_settle _ kept.0 _ c.args.day c.in-Some.place keeps (rw c.in-Some.is at (d.value tt tt (begun_goes _ b.ok.stage))))

@@ -4,6 +4,7 @@ use Rattle.desk_register.specs.Looked.{IsDuePairAfter}
 use Rattle.desk_lists.specs.declared.list_register.ListRegister.{ListRegister}
 use Rattle.desk_samples.specs.Ledger.{content_of}
 use Rattle.desk_engine.proofs.KeptLemmas.{kept_in}
+use Rattle.desk_register.proofs.ViewLemmas.{idle_goes}
 use Rattle.desk_samples.proofs.LedgerLemmas.{read_idle, read_unchanged}
 use Rattle.desk_samples.proofs.ledger.Ledger.due_pair_after.Goals as goal
 
@@ -20,4 +21,4 @@ returns-clause-same c = read_unchanged c.due_pair_after.result _ _ _ c.self.view
 pub returns-clause-value : goal.returns-clause-value
 returns-clause-value c =
     let P : ListRegister → Type 0 = λ r. IfOk c.due_pair_after.result (λ x. IsDuePairAfter (content_of r) (number_of c.args.day) c.args.place x) in
-    subst P c.self.view_is (c.due_pair_after.ensures.value tt tt)
+    subst P c.self.view_is (c.due_pair_after.ensures.value tt tt (idle_goes _ c.self.invariant.0))

@@ -5,6 +5,7 @@ use Rattle.desk_lists.specs.declared.list_register.ListRegister.{ListRegister}
 use Rattle.desk_samples.specs.Ledger.{content_of}
 use Rattle.desk_engine.proofs.HeldLemmas.{held_within}
 use Rattle.desk_engine.proofs.KeptLemmas.{kept_in}
+use Rattle.desk_register.proofs.ViewLemmas.{idle_goes}
 use Rattle.desk_samples.proofs.LedgerLemmas.{read_idle, read_unchanged}
 use Rattle.desk_samples.proofs.ledger.Ledger.held.Goals as goal
 
@@ -28,4 +29,4 @@ returns-clause-same c = read_unchanged c.held.result _ _ _ c.self.view_is c.held
 pub returns-clause-value : goal.returns-clause-value
 returns-clause-value c =
     let P : ListRegister → Type 0 = λ r. IfOk c.held.result (λ x. x ≡ held_of (content_of r) c.args.isin) in
-    subst P c.self.view_is (c.held.ensures.value tt tt)
+    subst P c.self.view_is (c.held.ensures.value tt tt (idle_goes _ c.self.invariant.0))
