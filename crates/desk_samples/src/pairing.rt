@@ -1,9 +1,9 @@
 //! Instructions of a register, added and paired call by call.
-ghost use Rattle.std.specs.Prelude.{◌≡◌, ◌<◌, [], IfOk, IfSome, OnOk};
+ghost use Rattle.std.specs.Prelude.{◌≡◌, ◌<◌, [], IfOk, OnOk};
 ghost use Rattle.desk_rules.specs.Reply.{untyped_reply};
 ghost use Rattle.desk_register.specs.Changes.{appended};
 ghost use Rattle.desk_register.specs.View.{IfRead, IfTrusted, IsChange, IsRead};
-ghost use Rattle.desk_samples.specs.Pairing.{IsUnmatchedAt, PairsIf};
+ghost use Rattle.desk_samples.specs.Pairing.{FindsUnmatched, PairsIf};
 
 use desk_codes::Bic;
 use desk_msg::Instruction;
@@ -44,7 +44,7 @@ fn unmatched_at<R: Register>(
     register: &mut R,
     number: u64,
 ) -> Result<Option<Instructed>, Fault>
-    ensures found { IfRead (R.view register.old) (R.view register.new) (IfOk result (λ found. IfSome found (IsUnmatchedAt (R.view register.old).content number))) }
+    ensures found { IfRead (R.view register.old) (R.view register.new) (IfOk result (FindsUnmatched (R.view register.old).content number)) }
     ensures read { IsRead result (R.view register.old) (R.view register.new) }
 {
     let entry = register.entry(alloc, number)?;
