@@ -42,34 +42,27 @@ paired_by pairs n (Some m) paired =
 case_by : (books : Books) (n : ℕ) (mate : Option ℕ) → is_paired books n ≡ is_some mate → first_case books n ≡ (if is_some mate then Matched Future else Unmatched)
 case_by books n mate is = ap (λ b. if b then Matched Future else Unmatched) is
 
-pub instruct_reply : (books : Books) (a : Applied) (entry : Entry) (sender : List ℕ) (i : Instruction) (text : List ℕ) (about : Case) → entry ≡ Instruct sender i → IsApplied books entry a
-    → about ≡ (if is_some a.mate then Matched Future else Unmatched) → text ≡ advice (Answer a.number) i.mt i.reference about
-    → (let r : Reply = record { status = 200; mt = Some 548; text = text } in r) ≡ reply_to books entry
-instruct_reply books a entry sender i text about is fared at written =
-    let case : first_case books a.number ≡ about = case_by books a.number a.mate (paired_by books.pairs a.number a.mate fared.mate) ∙ sym at in
-    let first : text ≡ advice (Answer a.number) i.mt i.reference (first_case books a.number) = written ∙ ap (λ x. advice (Answer a.number) i.mt i.reference x) (sym case) in
-    let second : text ≡ advice (Answer (length books.history)) i.mt i.reference (first_case books (length books.history)) = first ∙ ap (λ k. advice (Answer k) i.mt i.reference (first_case books k)) fared.number in
-    ap (λ t. advice_reply 200 t) second ∙ ap (λ e. reply_to books e) (sym is)
+-- what is this value is that one, where both are the same
+ok_is : {T E : Type 0} (r : Result T E) (x y : T) → x ≡ y → IfOk r (λ t. t ≡ x) → IfOk r (λ t. t ≡ y)
+ok_is (Ok t) x y same is = is ∙ same
+ok_is (Err e) x y same is = is
 
--- the line of a run, made from left to right
-pub line_is : {A E : Type 0} (r : Result (String A) E) (n settled waiting : ℕ)
-    → IfOk r (λ t. string_bytes t ≡ codes "accepted " ++ (decimal n ++ (codes " settled " ++ (decimal settled ++ (codes " waiting " ++ decimal waiting)))))
-    → IfOk r (λ t. string_bytes t ≡ accepted_text n ++ codes " settled " ++ decimal settled ++ codes " waiting " ++ decimal waiting)
-line_is (Ok t) n settled waiting is = is ∙ joined (codes "accepted ") (decimal n) (codes " settled ") (decimal settled) (codes " waiting ") (decimal waiting)
-  where
-    joined : (a b c d e f : List ℕ) → a ++ (b ++ (c ++ (d ++ (e ++ f)))) ≡ a ++ b ++ c ++ d ++ e ++ f
-    joined a b c d e f =
-        sym (append_assoc a b (c ++ (d ++ (e ++ f)))) ∙ sym (append_assoc (a ++ b) c (d ++ (e ++ f)))
-        ∙ sym (append_assoc (a ++ b ++ c) d (e ++ f)) ∙ sym (append_assoc (a ++ b ++ c ++ d) e f)
-line_is (Err e) n settled waiting is = is
+pub instruct_reply : {E : Type 0} (r : Result Reply E) (books : Books) (a : Applied) (entry : Entry) (sender : List ℕ) (i : Instruction) (about : Case) → entry ≡ Instruct sender i
+    → about ≡ (if is_some a.mate then Matched Future else Unmatched) → IfOk r (λ reply. reply ≡ advice_reply 200 (advice (Answer a.number) i.mt i.reference about))
+    → IsApplied books entry a → IfOk r (λ reply. reply ≡ reply_to books entry)
+instruct_reply r books a entry sender i about is at written fared =
+    let case : about ≡ first_case books a.number = at ∙ sym (case_by books a.number a.mate (paired_by books.pairs a.number a.mate fared.mate)) in
+    let first = ap (λ x. advice_reply 200 (advice (Answer a.number) i.mt i.reference x)) case in
+    let second = ap (λ k. advice_reply 200 (advice (Answer k) i.mt i.reference (first_case books k))) fared.number in
+    ok_is r (advice_reply 200 (advice (Answer a.number) i.mt i.reference about)) (reply_to books entry) (first ∙ second ∙ ap (λ e. reply_to books e) (sym is)) written
 
-pub cancel_reply : (books : Books) (a : Applied) (entry : Entry) (sender : List ℕ) (order : CancelOrder) (text : List ℕ) (about : Case) → entry ≡ Cancel sender order → IsApplied books entry a
-    → about ≡ case_by_state a.named → text ≡ advice (Answer a.number) order.mt order.reference about
-    → (let r : Reply = record { status = 200; mt = Some 548; text = text } in r) ≡ reply_to books entry
-cancel_reply books a entry sender order text about is fared at written =
+pub cancel_reply : {E : Type 0} (r : Result Reply E) (books : Books) (a : Applied) (entry : Entry) (sender : List ℕ) (order : CancelOrder) (about : Case) → entry ≡ Cancel sender order
+    → about ≡ case_by_state a.named → IfOk r (λ reply. reply ≡ advice_reply 200 (advice (Answer a.number) order.mt order.reference about))
+    → IsApplied books entry a → IfOk r (λ reply. reply ≡ reply_to books entry)
+cancel_reply r books a entry sender order about is at written fared =
     let P : Entry → Type 0 = λ e. IsNamed books e a.named in
     let named : cancellation_case books (named_by books.history sender order) ≡ case_by_state a.named = subst P is fared.named in
     let case : about ≡ cancellation_case books (named_by books.history sender order) = at ∙ sym named in
-    let first : text ≡ advice (Answer a.number) order.mt order.reference (cancellation_case books (named_by books.history sender order)) = written ∙ ap (λ x. advice (Answer a.number) order.mt order.reference x) case in
-    let second = first ∙ ap (λ k. advice (Answer k) order.mt order.reference (cancellation_case books (named_by books.history sender order))) fared.number in
-    ap (λ t. advice_reply 200 t) second ∙ ap (λ e. reply_to books e) (sym is)
+    let first = ap (λ x. advice_reply 200 (advice (Answer a.number) order.mt order.reference x)) case in
+    let second = ap (λ k. advice_reply 200 (advice (Answer k) order.mt order.reference (cancellation_case books (named_by books.history sender order)))) fared.number in
+    ok_is r (advice_reply 200 (advice (Answer a.number) order.mt order.reference about)) (reply_to books entry) (first ∙ second ∙ ap (λ e. reply_to books e) (sym is)) written

@@ -1,3 +1,4 @@
 mod PlainLemmas
 mod StandingLemmas
+mod ToldLemmas
 mod VerdictLemmas

@@ -17,7 +17,8 @@ fn is_delivered_by_earlier(entries: &[Entry], pair: Pair) -> bool
     }
 }
 
-fn deliverer_of(entries: &[Entry], pair: Pair) -> u64
+/// The number of the instruction of a pair that delivers.
+pub fn deliverer_of(entries: &[Entry], pair: Pair) -> u64
     ensures { result ≡ deliverer_of entries.now pair }
 {
     if is_delivered_by_earlier(entries, pair) {
@@ -27,7 +28,8 @@ fn deliverer_of(entries: &[Entry], pair: Pair) -> u64
     }
 }
 
-fn receiver_of(entries: &[Entry], pair: Pair) -> u64
+/// The number of the instruction of a pair that receives.
+pub fn receiver_of(entries: &[Entry], pair: Pair) -> u64
     ensures { result ≡ receiver_of entries.now pair }
 {
     if is_delivered_by_earlier(entries, pair) {

@@ -11,7 +11,10 @@ mod books;
 mod cover;
 mod facts;
 mod history;
+mod notices;
 mod pairing;
+mod replies;
+mod sent;
 mod settlement;
 mod standing;
 mod totals;
@@ -21,7 +24,10 @@ pub use balances::{cash_credits, cash_debits, credits, debits, delivery_of, rece
 pub use books::Books;
 pub use cover::{is_covered, lack_of};
 pub use history::{before, entry_at, instruction_at, is_cancel_requested, is_cancelled_pair};
+pub use notices::notices_of;
 pub use pairing::pairing_of;
+pub use replies::reply_to;
+pub use sent::sent_of;
 pub use settlement::{begins, is_due, passes_of, settled_count, settlement_of, waiting_count};
 pub use standing::{
     cancellation_case, is_cancelled, is_settled, mate_of, pair_of, reason_below, standing_of,

@@ -7,7 +7,8 @@ ghost use Rattle.desk_rules.specs.Settlement.{passes_of, settled_before};
 ghost use Rattle.desk_rules.specs.Covered.{lack_of};
 ghost use Rattle.desk_rules.specs.Books.{is_settled};
 ghost use Rattle.desk_rules.specs.Standing.{is_called_off, is_cancelled, reason_of_lack, reason_below, open_state, state_of, standing_of};
-ghost use Rattle.desk_rules.specs.Reply.{case_by_state, cancellation_case};
+ghost use Rattle.desk_msg.specs.StatusText.{IsCase};
+ghost use Rattle.desk_rules.specs.Reply.{cancellation_case};
 ghost use Rattle.desk_plain.specs.Books.{seen};
 
 use crate::books::Books;
@@ -15,7 +16,7 @@ use crate::cover::lack_of;
 use crate::history::{before, instruction_at, is_cancel_requested, is_cancelled_pair};
 use crate::settlement::{is_due, passes_of, settled_before};
 use desk_msg::{Case, Reason};
-use desk_rules::{Entry, Lack, Pair, Refusal, Settled, Standing, State};
+use desk_rules::{Entry, Lack, Pair, Settled, Standing, State};
 use std::alloc::{AllocError, Global};
 
 /// The pair that an entry is in.
@@ -150,26 +151,17 @@ pub fn standing_of(alloc: Global, books: Books, number: u64) -> Result<Standing,
     })
 }
 
-fn case_by_state(state: State) -> Case
-    ensures { result ≡ case_by_state state }
-{
-    match state {
-        State::Cancelled => Case::CancelDone,
-        State::Settled => Case::CancelRefused(Refusal::AlreadySettled.number()),
-        State::NoInstruction | State::Unmatched | State::Matched(_) => Case::CancelWaits,
-    }
-}
-
 /// How a cancellation stands, by the instruction that it names.
 pub fn cancellation_case(
     alloc: Global,
     books: Books,
     named: Option<u64>,
 ) -> Result<Case, AllocError>
-    ensures { IfOk result (λ about. about ≡ cancellation_case (seen books.entry) named) }
+    ensures value { IfOk result (λ about. about ≡ cancellation_case (seen books.entry) named) }
+    ensures case { IfOk result IsCase }
 {
     match named {
-        Some(number) => Ok(case_by_state(state_of(alloc, books, number)?)),
+        Some(number) => Ok(state_of(alloc, books, number)?.cancellation_case()),
         None => Ok(Case::CancelWaits),
     }
 }

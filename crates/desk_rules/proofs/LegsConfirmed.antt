@@ -103,7 +103,7 @@ within xs part inner a b = record {
 on_right : {X : Type 0} (front rest part : List X) → StandsAt rest part → StandsAt (front ++ rest) part
 on_right front rest part a = record { before = front ++ a.before; after = a.after; is = ap (λ z. front ++ z) a.is ∙ sym (append_assoc front a.before (part ++ a.after)) }
 
-sent_split : (h : List Entry) (k : ℕ) (front rest : List Notice) → sent_from h k (front ++ rest) ≡ sent_from h k front ++ sent_from h (k + length front) rest
+pub sent_split : (h : List Entry) (k : ℕ) (front rest : List Notice) → sent_from h k (front ++ rest) ≡ sent_from h k front ++ sent_from h (k + length front) rest
 sent_split h k [] rest = ap (λ j. sent_from h j rest) (let e : k ≡ k + 0 = omega arith in e)
 sent_split h k (n ∷ front) rest =
     let e : k + 1 + length front ≡ k + length (n ∷ front) = omega arith in

@@ -25,7 +25,7 @@ use Rattle.desk_rules.proofs.FreshParts.{fresh_pairs, fresh_settled}
 
 -- Lists of lists, joined.
 
-flat-append : {X Y : Type 0} (f : X → List Y) (xs ys : List X) → flat_map f (xs ++ ys) ≡ flat_map f xs ++ flat_map f ys
+pub flat-append : {X Y : Type 0} (f : X → List Y) (xs ys : List X) → flat_map f (xs ++ ys) ≡ flat_map f xs ++ flat_map f ys
 flat-append f [] ys = refl
 flat-append f (x ∷ xs) ys =
     flat_map-cons f x (xs ++ ys)
@@ -45,7 +45,7 @@ flat-same f g (x ∷ xs) same =
     ∙ ap (λ z. g x ++ z) (flat-same f g xs (λ y i. same y (inr i)))
     ∙ sym (flat_map-cons g x xs)
 
-range-append : (a m n : ℕ) → range_with_len a (m + n) ≡ range_with_len a m ++ range_with_len (a + m) n
+pub range-append : (a m n : ℕ) → range_with_len a (m + n) ≡ range_with_len a m ++ range_with_len (a + m) n
 range-append a zero n =
     let none : 0 + n ≡ n = omega arith in
     let at : a + 0 ≡ a = omega arith in

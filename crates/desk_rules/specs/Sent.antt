@@ -11,15 +11,11 @@ use Rattle.desk_rules.specs.declared.entry.Entry.{Entry}
 use Rattle.desk_rules.specs.declared.entry.Entry.TheVariants.{Run}
 use Rattle.desk_rules.specs.declared.pair.Pair.{Pair}
 use Rattle.desk_rules.specs.declared.pair.Settled.{Settled}
+pub use Rattle.desk_rules.specs.declared.reply.Notice.{Notice}
 use Rattle.desk_rules.specs.declared.reply.Sent.{Sent}
 use Rattle.desk_rules.specs.History.{Instructed, entry_at, instruction_at}
 use Rattle.desk_rules.specs.Balances.{deliverer_of, receiver_of}
 use Rattle.desk_rules.specs.Books.{Books}
-
--- Something to be told of an instruction: that it was paired, or that a run settled it.
-pub record Notice : Type 0 where
-  pub about : ℕ
-  pub run : Option ℕ
 
 -- what the entry n tells by a pair of its number, and by a settlement of its run: the deliverer first
 abbrev pub told_of_pair : ℕ → Pair → List Notice

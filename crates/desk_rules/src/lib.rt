@@ -15,6 +15,7 @@ mod laws;
 mod limits;
 mod opposite;
 mod pair;
+mod replies;
 mod reply;
 mod same;
 mod standing;
@@ -31,7 +32,8 @@ pub use laws::{
 pub use limits::{MOST_ENTRIES, MOST_PAID, MOST_QUANTITY, MOST_SENT};
 pub use opposite::are_opposite;
 pub use pair::{Lack, Pair, Place, Settled};
-pub use reply::{Kept, Reply, Sent, Text};
+pub use replies::{command_reply, message_reply, refused_reply, run_reply};
+pub use reply::{Kept, Notice, Reply, Sent, Text};
 pub use same::same_entry;
 pub use standing::{Standing, State};
 pub use verdict::{Refusal, Verdict};

@@ -76,6 +76,15 @@ pub struct Kept {
     pub reply: Reply,
 }
 
+/// Something to be told of an instruction: that it was paired, or that a run settled it.
+#[derive(Clone, Copy, Debug, PartialEq, Eq)]
+pub struct Notice {
+    /// The number of the instruction
+    pub about: u64,
+    /// The number of the run that settled it; None where it was paired
+    pub run: Option<u64>,
+}
+
 /// A message that the desk sent.
 #[derive(Debug, Drop)]
 pub struct Sent {
