@@ -9,7 +9,12 @@ use Rattle.desk_rules.specs.declared.reply.Reply.{Reply}
 use Rattle.desk_rules.specs.declared.verdict.Verdict.TheVariants.{Accept, Repeat, Refuse}
 use Rattle.desk_rules.specs.declared.verdict.Refusal.TheVariants.{Full}
 use Rattle.desk_rules.specs.History.{as_asked, entry_at, sender_of, reference_of, number_of_key}
-use Rattle.desk_rules.specs.Balances.{issued, redeemed}
+use Rattle.desk_codes.specs.declared.currency.Ccy.{Ccy}
+use Rattle.desk_rules.specs.declared.entry.Payment.{Payment}
+use Rattle.desk_rules.specs.declared.entry.Entry.TheVariants.{Participant, Account, Security, Issue, Redeem, PayIn, PayOut, Instruct, Cancel, Run}
+use Rattle.desk_engine.specs.Decision.{AreSupported, is_supported}
+use Rattle.desk_rules.proofs.Decided.{In, In-from_Contains, Contains-from_In}
+use Rattle.desk_rules.specs.Balances.{issued, paid_in, paid_in_by, payment_in, redeemed}
 use Rattle.desk_rules.specs.Reply.{IsFirstReply, untyped_reply}
 use Rattle.desk_rules.specs.Books.{Books}
 use Rattle.desk_rules.specs.Verdict.{AsksTheSame, Check, IsVerdict, IsVerdictAt, checks_of, first_failing, is_from_stranger}
@@ -28,12 +33,12 @@ use Rattle.desk_engine.proofs.HeldLemmas.{held_is, held_within}
 use Rattle.desk_engine.proofs.TablesLemmas.{length_is}
 use Rattle.desk_book.specs.declared.fault.Fault.{Fault}
 use Rattle.desk_book.specs.declared.total.SecurityTotal.{SecurityTotal}
-use Rattle.desk_book.specs.Answered.{IsSum, IsToldSums, says_closed}
+use Rattle.desk_book.specs.Answered.{IsToldSums, says_closed}
 use Rattle.desk_book.specs.Held.{Answers, Decides, Ends, IsPut, IsReady, KeepsFormed}
 use Rattle.desk_book.specs.declared.task.Task.{Task}
 use Rattle.desk_book.specs.declared.task.Task.TheVariants.{Decide}
 use Rattle.desk_book.specs.Sums.{sums_text}
-use Rattle.desk_book.specs.Totals.{AreTotals, IsTotal}
+use Rattle.desk_book.specs.Totals.{AreCashSums, AreTotals, IsSum, IsTotal}
 
 -- what is kept is kept in another view of the same content
 pub keeps_at : (v0 v1 : View) (books : Books) → v1.content ≡ v0.content → v1.room ≡ v0.room → Keeps v0.room books v0.content → Keeps v1.room books v1.content
@@ -158,10 +163,43 @@ total_told limit books content total keeps is =
       outstanding = subst Q history is.outstanding;
     }
 
+-- Nothing was paid in where only supported commands were accepted.
+
+unpaid : (share : Payment → ℕ) (e : Entry) → is_supported e ≡ true → paid_in_by share e ≡ 0
+unpaid share (Participant reference bic) is = refl
+unpaid share (Account reference bic account) is = refl
+unpaid share (Security reference isin kind) is = refl
+unpaid share (Issue movement) is = refl
+unpaid share (Redeem movement) is = refl
+unpaid share (PayIn payment) is = absurd (cc)
+unpaid share (PayOut payment) is = refl
+unpaid share (Instruct sender instruction) is = refl
+unpaid share (Cancel sender order) is = refl
+unpaid share (Run reference day rule) is = refl
+
+nothing_paid_in : (history : List Entry) (ccy : Ccy) → ((e : Entry) → In history e → is_supported e ≡ true) → paid_in history ccy ≡ 0
+nothing_paid_in [] ccy all = refl
+nothing_paid_in (e ∷ history) ccy all =
+    let first = unpaid (payment_in ccy) e (all e (inl refl)) in
+    let rest = nothing_paid_in history ccy (λ x i. all x (inr i)) in
+    rw (first) rest
+
+no_cash_sums : (books : Books) → AreSupported books.history → AreCashSums books []
+no_cash_sums books supported = record {
+  each = λ total has. absurd (In-from_Contains [] total has);
+  all = λ letters paid.
+      let none = nothing_paid_in books.history paid.0 (λ e i. supported.each e (Contains-from_In books.history e i)) in
+      let some = paid.2 in
+      absurd (omega arith);
+  in_order = λ i j d i<j j<n. absurd (omega arith);
+}
+
 pub sums_told : (limit : ℕ) (books : Books) (content : Content) (totals : List SecurityTotal) (reply : Reply) → Keeps limit books content → AreTotals content totals
     → reply ≡ untyped_reply 200 (sums_text [] totals) → IsToldSums books reply books
 sums_told limit books content totals reply keeps are is = record {
-  totals = totals;
+  cash = [];
+  are_cash = no_cash_sums books keeps.supported;
+  securities = totals;
   are = record {
     each = λ total c. total_told limit books content total keeps (are.each total c);
     all = λ isin known. are.all isin (let P : List Entry → Type 0 = λ h. is_some (kind_of h isin) ≡ true in subst P (sym keeps.tables.history) known);

@@ -10,16 +10,17 @@ use Rattle.desk_rules.specs.declared.reply.Reply.{Reply}
 use Rattle.desk_rules.specs.Books.{Books}
 use Rattle.desk_rules.specs.WellFormed.{AreAccepted}
 use Rattle.desk_rules.specs.Reply.{TellsRefusal, untyped_reply}
-use Rattle.desk_rules.proofs.Conservation.{securities_add_up}
+use Rattle.desk_rules.proofs.Conservation.{cash_adds_up, securities_add_up}
 use Rattle.desk_rules.proofs.KnownNumbers.{known_reply}
 use Rattle.desk_book.specs.declared.fault.Fault.{Fault}
 use Rattle.desk_book.specs.declared.task.Task.{Task}
 use Rattle.desk_book.specs.declared.task.Task.TheVariants.{Decide, Totals, Answer}
+use Rattle.desk_book.specs.declared.total.CashTotal.{CashTotal}
 use Rattle.desk_book.specs.declared.total.SecurityTotal.{SecurityTotal}
-use Rattle.desk_book.specs.Answered.{AreSums, IsAnswer, IsToldSums, Run, Step}
+use Rattle.desk_book.specs.Answered.{IsAnswer, IsToldSums, Run, Step}
 use Rattle.desk_book.specs.Asked.{Asked, message, operator, status, sent, holdings, sums}
 use Rattle.desk_book.specs.Known.{Agree, IsKnown, TellsUnread, done, refused, unread}
-use Rattle.desk_book.specs.Sums.{sums_text}
+use Rattle.desk_book.specs.Totals.{AreCashSums, AreSums}
 use Rattle.desk_book.specs.Task.{IsCommandTask, IsMessageTask, IsTask, is_supported_type, no_command, unknown_form}
 use Rattle.desk_book.proofs.ConfirmedRuns.{ran}
 
@@ -67,9 +68,15 @@ known limit books after asked reply step = of_task limit books after asked step.
 
 -- Totals.
 
-agreeing : (limit : ℕ) (books : Books) (totals : List SecurityTotal) → AreAccepted limit books → AreSums books totals → Agree totals
-agreeing limit books totals was are = record {
-  each = λ total has.
+agreeing : (limit : ℕ) (books : Books) (cash : List CashTotal) (securities : List SecurityTotal) → AreAccepted limit books → AreCashSums books cash → AreSums books securities → Agree cash securities
+agreeing limit books cash securities was are_cash are = record {
+  each_currency = λ total has.
+      let is = are_cash.each total has in
+      let all = cash_adds_up limit books.history was.accepted books.pairs books.settled was.are.pairing was.are.settlement total.ccy in
+      let held = is.held in
+      let net = is.net in
+      omega arith;
+  each_security = λ total has.
       let is = are.each total has in
       let all = securities_add_up limit books.history was.accepted books.pairs books.settled was.are.pairing was.are.settlement total.isin in
       let held = is.held in
@@ -78,12 +85,12 @@ agreeing limit books totals was are = record {
 }
 
 told : (limit : ℕ) (books after : Books) (task : Task) (reply : Reply) → IsTask sums task → AreAccepted limit books → IsAnswer limit books task reply after
-    → (totals : List SecurityTotal) × AreSums books totals × Agree totals × (reply ≡ untyped_reply 200 (sums_text [] totals))
+    → (told : IsToldSums books reply after) × Agree told.cash told.securities
 told limit books after (Decide entry) reply is was answer = let no : Decide entry ≡ Totals = is in cc
-told limit books after Totals reply is was answer = (answer.totals, answer.are, agreeing limit books answer.totals was answer.are, answer.replied)
+told limit books after Totals reply is was answer = (answer, agreeing limit books answer.cash answer.securities was answer.are_cash answer.are)
 told limit books after (Answer given) reply is was answer = let no : Answer given ≡ Totals = is in cc
 
 pub sums_agree : (limit : ℕ) (was is : Bool) (books last next : Books) (requests : List Asked) (answers : List (Result Reply Fault)) (reply : Reply)
     → AreAccepted limit books → Run limit was books requests answers is last → Step limit last sums (Ok reply) next
-    → (totals : List SecurityTotal) × AreSums last totals × Agree totals × (reply ≡ untyped_reply 200 (sums_text [] totals))
+    → (told : IsToldSums last reply next) × Agree told.cash told.securities
 sums_agree limit was is books last next requests answers reply start run step = told limit last next step.0 reply step.1 (ran limit was is books last requests answers start run) step.2

@@ -1,6 +1,6 @@
 -- The abstract desk has one answer to a request.
 use Rattle.std.proofs.Common.{◌≡◌, inl, inr, suc, ℕ, ◌+◌, ◌<◌, List, [], ◌∷◌, length, take, AllPairs, get_or, refl, sym, ◌∙◌, ap, subst, arith}
-use Rattle.std.specs.Prelude.{Some, sum_by, Ok}
+use Rattle.std.specs.Prelude.{◌==◌, if◌then◌else◌, Some, sum_by, Ok}
 use Rattle.std.proofs.lemmas.Cmp.{nat_list_cmp_total}
 use Rattle.std.specs.Ordering.{ordering_reverse}
 use Rattle.desk_rules.proofs.Decided.{In, Contains-from_In, In-from_Contains}
@@ -14,19 +14,24 @@ use Rattle.desk_rules.specs.declared.pair.Settled.{Settled}
 use Rattle.desk_rules.specs.declared.reply.Reply.{Reply}
 use Rattle.desk_rules.specs.declared.verdict.Verdict.{Verdict}
 use Rattle.desk_rules.specs.declared.verdict.Verdict.TheVariants.{Accept, Repeat, Refuse}
-use Rattle.desk_rules.specs.Balances.{issued, redeemed, credits, debits}
+use Rattle.desk_codes.specs.declared.currency.Ccy.{Ccy}
+use Rattle.desk_codes.specs.declared.currency.Ccy.TheVariants.{Chf, Eur, Gbp, Jpy, Kwd, Usd}
+use Rattle.desk_codes.specs.Currency.{letters_of}
+use Rattle.desk_rules.specs.Balances.{cash_credits, cash_debits, issued, paid_in, paid_out, redeemed, credits, debits}
 use Rattle.desk_rules.specs.History.{entry_at}
-use Rattle.desk_rules.specs.Facts.{accounts_of}
+use Rattle.desk_rules.specs.Facts.{accounts_of, participants_of}
 use Rattle.desk_rules.specs.Pairing.{IsPairing}
 use Rattle.desk_rules.specs.Reply.{IsFirstReply, IsReply, untyped_reply, reply_to}
 use Rattle.desk_rules.specs.Settlement.{IsSettlement}
 use Rattle.desk_rules.specs.Books.{AreBooks, Books}
 use Rattle.desk_register.specs.Looked.{IsLess}
-use Rattle.desk_book.specs.Answered.{AreSums, Grows, IsAnswer, IsDecided, IsSum, IsToldSums, Step}
+use Rattle.desk_book.specs.Answered.{Grows, IsAnswer, IsDecided, IsToldSums, Step}
+use Rattle.desk_book.specs.Totals.{AreRows, IsCashSum, IsPaidIn, IsRegistered, IsSum}
 use Rattle.desk_book.specs.Asked.{Asked}
 use Rattle.desk_book.specs.Sums.{sums_text}
 use Rattle.desk_book.specs.declared.task.Task.{Task}
 use Rattle.desk_book.specs.declared.task.Task.TheVariants.{Decide, Totals, Answer}
+use Rattle.desk_book.specs.declared.total.CashTotal.{CashTotal}
 use Rattle.desk_book.specs.declared.total.SecurityTotal.{SecurityTotal}
 use Rattle.desk_book.proofs.AnsweringLemmas.{asked_there}
 use Rattle.desk_book.proofs.OneTask.{one_task}
@@ -74,7 +79,80 @@ one_decision limit books entry r s n m x y =
     let Q : Verdict → Type 0 = λ v. IsReply books entry v m s in
     one_reply books entry x.verdict r s n m x.grows (subst P (sym same) y.grows) x.replied (subst Q (sym same) y.replied)
 
+-- Rows.
+
+not_itself : (a : List ℕ) → IsLess a a → ⊥
+not_itself a less =
+    let bad = sym less ∙ nat_list_cmp_total.antisymm a a ∙ ap ordering_reverse less in
+    cc
+
+module _ {Row : Type 0} (key_of : Row → List ℕ) where
+  -- the rows, in order
+  abbrev InOrder : List Row → Type 0
+  InOrder [] = Unit {0}
+  InOrder (t ∷ rows) = ((u : Row) → In rows u → IsLess (key_of t) (key_of u)) × InOrder rows
+
+  in_order : (rows : List Row) → AllPairs (λ a b. IsLess (key_of a) (key_of b)) rows → InOrder rows
+  in_order [] all = tt
+  in_order (t ∷ rows) all = (
+    λ u i.
+        let c = Contains-from_In rows u i in
+        let h : IsLess (key_of t) (key_of (get_or rows c.0 u)) = all 0 (suc c.0) u (omega arith) (let l : c.0 < length rows = c.1 in omega arith) in
+        let P : Row → Type 0 = λ z. IsLess (key_of t) (key_of z) in
+        subst P c.2 h,
+    in_order rows (λ i j d i<j j<n. all (suc i) (suc j) d (omega arith) (omega arith)),
+  )
+
+  one_order_of : (xs ys : List Row) → InOrder xs → InOrder ys → ((t : Row) → In xs t → In ys t) → ((t : Row) → In ys t → In xs t) → xs ≡ ys
+  one_order_of [] [] o p there back = refl
+  one_order_of [] (y ∷ ys) o p there back = absurd (back y (inl refl))
+  one_order_of (x ∷ xs) [] o p there back = absurd (there x (inl refl))
+  one_order_of (x ∷ xs) (y ∷ ys) o p there back =
+      let same : x ≡ y = heads (there x (inl refl)) (back y (inl refl)) in
+      let rest : xs ≡ ys = one_order_of xs ys o.1 p.1 (λ t i. onward t i same) (λ t i. backward t i same) in
+      rw (same, rest) refl where
+        heads : In (y ∷ ys) x → In (x ∷ xs) y → x ≡ y
+        heads (inl e) j = sym e
+        heads (inr i) (inl e) = e
+        heads (inr i) (inr j) = absurd (not_itself (key_of x) (nat_list_cmp_total.trans (key_of x) (key_of y) (key_of x) (o.0 y j) (p.0 x i)))
+
+        skip_y : (t : Row) → In (y ∷ ys) t → IsLess (key_of x) (key_of t) → x ≡ y → In ys t
+        skip_y t (inl e) less same =
+            let P : Row → Type 0 = λ z. IsLess (key_of x) (key_of z) in
+            absurd (not_itself (key_of x) (subst P (sym (same ∙ e)) less))
+        skip_y t (inr i) less same = i
+
+        skip_x : (t : Row) → In (x ∷ xs) t → IsLess (key_of y) (key_of t) → x ≡ y → In xs t
+        skip_x t (inl e) less same =
+            let P : Row → Type 0 = λ z. IsLess (key_of y) (key_of z) in
+            absurd (not_itself (key_of y) (subst P (sym (sym same ∙ e)) less))
+        skip_x t (inr i) less same = i
+
+        onward : (t : Row) → In xs t → x ≡ y → In ys t
+        onward t i same = skip_y t (there t (inr i)) (o.0 t i) same
+
+        backward : (t : Row) → In ys t → x ≡ y → In xs t
+        backward t i same = skip_x t (back t (inr i)) (p.0 t i) same
+
+  -- Where a key has one row, the rows are one list.
+  module _ (IsKey : List ℕ → Type 0) (IsRow : Row → Type 0) (keyed : (t : Row) → IsRow t → IsKey (key_of t)) (one : (a b : Row) → key_of a ≡ key_of b → IsRow a → IsRow b → a ≡ b) where
+    also_there : (xs ys : List Row) → AreRows key_of IsKey IsRow xs → AreRows key_of IsKey IsRow ys → (t : Row) → In xs t → In ys t
+    also_there xs ys x y t i =
+        let s = x.each t (Contains-from_In xs t i) in
+        let u = y.all (key_of t) (keyed t s) in
+        let P : Row → Type 0 = λ z. In ys z in
+        subst P (one u.0 t u.2 (y.each u.0 u.1) s) (In-from_Contains ys u.0 u.1)
+
+    one_list : (xs ys : List Row) → AreRows key_of IsKey IsRow xs → AreRows key_of IsKey IsRow ys → xs ≡ ys
+    one_list xs ys x y = one_order_of xs ys (in_order xs x.in_order) (in_order ys y.in_order) (also_there xs ys x y) (also_there ys xs y x)
+
 -- Sums.
+
+left_of : (a b c d : ℕ) → a + c ≡ d → b + c ≡ d → a ≡ b
+left_of a b c d e f = omega arith
+
+right_of : (a b c d : ℕ) → c + a ≡ d → c + b ≡ d → a ≡ b
+right_of a b c d e f = omega arith
 
 abbrev as_total : SecurityTotal → SecurityTotal
 as_total t = t
@@ -85,12 +163,6 @@ same_total a b e f g =
     ∙ ap (λ (k : ℕ). as_total (record { isin = b.isin; held = k; outstanding = a.outstanding })) f
     ∙ ap (λ (k : ℕ). as_total (record { isin = b.isin; held = b.held; outstanding = k })) g
 
-left_of : (a b c d : ℕ) → a + c ≡ d → b + c ≡ d → a ≡ b
-left_of a b c d e f = omega arith
-
-right_of : (a b c d : ℕ) → c + a ≡ d → c + b ≡ d → a ≡ b
-right_of a b c d e f = omega arith
-
 one_sum : (books : Books) (a b : SecurityTotal) → a.isin ≡ b.isin → IsSum books a → IsSum books b → a ≡ b
 one_sum books a b e x y =
     let out : List ℕ → ℕ = λ i. sum_by (λ account. debits books.history books.settled account i) (accounts_of books.history) in
@@ -100,72 +172,49 @@ one_sum books a b e x y =
     same_total a b e (left_of a.held b.held (out a.isin) (into a.isin) x.held (subst P (sym e) y.held))
     (right_of a.outstanding b.outstanding (redeemed books.history a.isin) (issued books.history a.isin) x.outstanding (subst Q (sym e) y.outstanding))
 
--- the list of totals, in order
-abbrev InOrder : List SecurityTotal → Type 0
-InOrder [] = Unit {0}
-InOrder (t ∷ totals) = ((u : SecurityTotal) → In totals u → IsLess t.isin u.isin) × InOrder totals
+-- The currencies' letters begin with different ones.
+abbrev by_first : ℕ → Ccy
+by_first letter =
+    if letter == 67 then Chf else if letter == 69 then Eur else if letter == 71 then Gbp else if letter == 74 then Jpy else if letter == 75 then Kwd else Usd
 
-in_order : (totals : List SecurityTotal) → AllPairs (λ a b. IsLess a.isin b.isin) totals → InOrder totals
-in_order [] all = tt
-in_order (t ∷ totals) all = (
-  λ u i.
-      let c = Contains-from_In totals u i in
-      let h : IsLess t.isin (get_or totals c.0 u).isin = all 0 (suc c.0) u (omega arith) (let l : c.0 < length totals = c.1 in omega arith) in
-      let P : SecurityTotal → Type 0 = λ z. IsLess t.isin z.isin in
-      subst P c.2 h,
-  in_order totals (λ i j d i<j j<n. all (suc i) (suc j) d (omega arith) (omega arith)),
-)
+of_letters : (ccy : Ccy) → by_first (get_or (letters_of ccy) 0 0) ≡ ccy
+of_letters Chf = refl
+of_letters Eur = refl
+of_letters Gbp = refl
+of_letters Jpy = refl
+of_letters Kwd = refl
+of_letters Usd = refl
 
-not_itself : (a : List ℕ) → IsLess a a → ⊥
-not_itself a less =
-    let bad = sym less ∙ nat_list_cmp_total.antisymm a a ∙ ap ordering_reverse less in
-    cc
+one_currency : (a b : Ccy) → letters_of a ≡ letters_of b → a ≡ b
+one_currency a b e = sym (of_letters a) ∙ ap (λ letters. by_first (get_or letters 0 0)) e ∙ of_letters b
 
-one_order_of : (xs ys : List SecurityTotal) → InOrder xs → InOrder ys → ((t : SecurityTotal) → In xs t → In ys t) → ((t : SecurityTotal) → In ys t → In xs t) → xs ≡ ys
-one_order_of [] [] o p there back = refl
-one_order_of [] (y ∷ ys) o p there back = absurd (back y (inl refl))
-one_order_of (x ∷ xs) [] o p there back = absurd (there x (inl refl))
-one_order_of (x ∷ xs) (y ∷ ys) o p there back =
-    let same : x ≡ y = heads (there x (inl refl)) (back y (inl refl)) in
-    let rest : xs ≡ ys = one_order_of xs ys o.1 p.1 (λ t i. onward t i same) (λ t i. backward t i same) in
-    rw (same, rest) refl where
-      heads : In (y ∷ ys) x → In (x ∷ xs) y → x ≡ y
-      heads (inl e) j = sym e
-      heads (inr i) (inl e) = e
-      heads (inr i) (inr j) = absurd (not_itself x.isin (nat_list_cmp_total.trans x.isin y.isin x.isin (o.0 y j) (p.0 x i)))
+abbrev as_cash : CashTotal → CashTotal
+as_cash t = t
 
-      skip_y : (t : SecurityTotal) → In (y ∷ ys) t → IsLess x.isin t.isin → x ≡ y → In ys t
-      skip_y t (inl e) less same =
-          let P : SecurityTotal → Type 0 = λ z. IsLess x.isin z.isin in
-          absurd (not_itself x.isin (subst P (sym (same ∙ e)) less))
-      skip_y t (inr i) less same = i
+same_cash : (a b : CashTotal) → a.ccy ≡ b.ccy → a.held ≡ b.held → a.net ≡ b.net → a ≡ b
+same_cash a b e f g =
+    ap (λ (c : Ccy). as_cash (record { ccy = c; held = a.held; net = a.net })) e
+    ∙ ap (λ (k : ℕ). as_cash (record { ccy = b.ccy; held = k; net = a.net })) f
+    ∙ ap (λ (k : ℕ). as_cash (record { ccy = b.ccy; held = b.held; net = k })) g
 
-      skip_x : (t : SecurityTotal) → In (x ∷ xs) t → IsLess y.isin t.isin → x ≡ y → In xs t
-      skip_x t (inl e) less same =
-          let P : SecurityTotal → Type 0 = λ z. IsLess y.isin z.isin in
-          absurd (not_itself y.isin (subst P (sym (sym same ∙ e)) less))
-      skip_x t (inr i) less same = i
-
-      onward : (t : SecurityTotal) → In xs t → x ≡ y → In ys t
-      onward t i same = skip_y t (there t (inr i)) (o.0 t i) same
-
-      backward : (t : SecurityTotal) → In ys t → x ≡ y → In xs t
-      backward t i same = skip_x t (back t (inr i)) (p.0 t i) same
-
-also_there : (books : Books) (xs ys : List SecurityTotal) → AreSums books xs → AreSums books ys → (t : SecurityTotal) → In xs t → In ys t
-also_there books xs ys x y t i =
-    let s = x.each t (Contains-from_In xs t i) in
-    let u = y.all t.isin s.known in
-    let P : SecurityTotal → Type 0 = λ z. In ys z in
-    subst P (one_sum books u.0 t u.2 (y.each u.0 u.1) s) (In-from_Contains ys u.0 u.1)
-
-one_list_of_sums : (books : Books) (xs ys : List SecurityTotal) → AreSums books xs → AreSums books ys → xs ≡ ys
-one_list_of_sums books xs ys x y = one_order_of xs ys (in_order xs x.in_order) (in_order ys y.in_order) (also_there books xs ys x y) (also_there books ys xs y x)
+one_cash_sum : (books : Books) (a b : CashTotal) → letters_of a.ccy ≡ letters_of b.ccy → IsCashSum books a → IsCashSum books b → a ≡ b
+one_cash_sum books a b letters x y =
+    let e : a.ccy ≡ b.ccy = one_currency a.ccy b.ccy letters in
+    let out : Ccy → ℕ = λ c. sum_by (λ bic. cash_debits books.history books.settled bic c) (participants_of books.history) in
+    let into : Ccy → ℕ = λ c. sum_by (λ bic. cash_credits books.history books.settled bic c) (participants_of books.history) in
+    let P : Ccy → Type 0 = λ c. b.held + out c ≡ into c in
+    let Q : Ccy → Type 0 = λ c. paid_out books.history c + b.net ≡ paid_in books.history c in
+    same_cash a b e (left_of a.held b.held (out a.ccy) (into a.ccy) x.held (subst P (sym e) y.held))
+    (right_of a.net b.net (paid_out books.history a.ccy) (paid_in books.history a.ccy) x.net (subst Q (sym e) y.net))
 
 one_telling : (books : Books) (r s : Reply) (n m : Books) → IsToldSums books r n → IsToldSums books s m → (r ≡ s) × (n ≡ m)
 one_telling books r s n m x y =
-    let same = one_list_of_sums books x.totals y.totals x.are y.are in
-    (x.replied ∙ ap (λ totals. untyped_reply 200 (sums_text [] totals)) same ∙ sym y.replied, x.stays ∙ sym y.stays)
+    let same_cash_list = one_list (λ t. letters_of t.ccy) (IsPaidIn books.history) (IsCashSum books) (λ t is. is.known) (one_cash_sum books) x.cash y.cash x.are_cash y.are_cash in
+    let same = one_list (λ t. t.isin) (IsRegistered books.history) (IsSum books) (λ t is. is.known) (one_sum books) x.securities y.securities x.are y.are in
+    (
+      x.replied ∙ ap (λ totals. untyped_reply 200 (sums_text totals x.securities)) same_cash_list ∙ ap (λ totals. untyped_reply 200 (sums_text y.cash totals)) same ∙ sym y.replied,
+      x.stays ∙ sym y.stays,
+    )
 
 -- Answers.
 

@@ -1,22 +1,21 @@
 -- What the desk answers to a request, and how its books grow by it.
-use Rattle.std.specs.Prelude.{◌≡◌, ℕ, ◌+◌, Bool, true, false, List, [], ◌∷◌, AllPairs, Contains, sum_by, is_some, Result, Ok, Err}
+use Rattle.std.specs.Prelude.{◌≡◌, ℕ, Bool, true, false, List, [], ◌∷◌, Result, Ok, Err}
 use Rattle.desk_rules.specs.declared.entry.Entry.{Entry}
 use Rattle.desk_rules.specs.declared.reply.Reply.{Reply}
 use Rattle.desk_rules.specs.declared.verdict.Verdict.{Verdict}
 use Rattle.desk_rules.specs.declared.verdict.Verdict.TheVariants.{Accept, Repeat, Refuse}
-use Rattle.desk_rules.specs.Balances.{issued, redeemed, credits, debits}
-use Rattle.desk_rules.specs.Facts.{accounts_of, kind_of}
 use Rattle.desk_rules.specs.Reply.{untyped_reply, AreNext, IsFirstReply, IsReply}
 use Rattle.desk_rules.specs.Books.{Books}
 use Rattle.desk_rules.specs.Verdict.{IsVerdict}
-use Rattle.desk_register.specs.Looked.{IsLess}
 use Rattle.desk_book.specs.Asked.{Asked}
 use Rattle.desk_book.specs.Task.{IsTask}
 use Rattle.desk_book.specs.Sums.{sums_text}
+use Rattle.desk_book.specs.Totals.{AreCashSums, AreSums}
 use Rattle.desk_book.specs.declared.fault.Fault.{Fault}
 use Rattle.desk_book.specs.declared.fault.Fault.TheVariants.{Memory, Storage, Closed}
 use Rattle.desk_book.specs.declared.task.Task.{Task}
 use Rattle.desk_book.specs.declared.task.Task.TheVariants.{Decide, Totals, Answer}
+use Rattle.desk_book.specs.declared.total.CashTotal.{CashTotal}
 use Rattle.desk_book.specs.declared.total.SecurityTotal.{SecurityTotal}
 
 -- what a verdict makes of the books: they grow by what is accepted, and by nothing else
@@ -32,25 +31,13 @@ pub record IsDecided (limit : ℕ) (books : Books) (entry : Entry) (reply : Repl
   pub grows : Grows verdict books entry after
   pub replied : IsReply books entry verdict after reply
 
--- the total of one security: what all accounts hold, which is their credits less their debits, and what was issued
--- less what was redeemed
-pub record IsSum (books : Books) (total : SecurityTotal) : Type 0 where
-  pub known : is_some (kind_of books.history total.isin) ≡ true
-  pub held : total.held + sum_by (λ account. debits books.history books.settled account total.isin) (accounts_of books.history)
-      ≡ sum_by (λ account. credits books.history books.settled account total.isin) (accounts_of books.history)
-  pub outstanding : redeemed books.history total.isin + total.outstanding ≡ issued books.history total.isin
-
--- the totals of all securities, each once, in the order of their bytes
-pub record AreSums (books : Books) (totals : List SecurityTotal) : Type 0 where
-  pub each : (total : SecurityTotal) → Contains totals total → IsSum books total
-  pub all : (isin : List ℕ) → is_some (kind_of books.history isin) ≡ true → (total : SecurityTotal) × Contains totals total × (total.isin ≡ isin)
-  pub in_order : AllPairs (λ a b. IsLess a.isin b.isin) totals
-
--- the desk's totals are told
+-- the desk's totals are told, of currencies and of securities
 pub record IsToldSums (books : Books) (reply : Reply) (after : Books) : Type 0 where
-  pub totals : List SecurityTotal
-  pub are : AreSums books totals
-  pub replied : reply ≡ untyped_reply 200 (sums_text [] totals)
+  pub cash : List CashTotal
+  pub are_cash : AreCashSums books cash
+  pub securities : List SecurityTotal
+  pub are : AreSums books securities
+  pub replied : reply ≡ untyped_reply 200 (sums_text cash securities)
   pub stays : after ≡ books
 
 -- the answer to what a request is read as, and the books after it

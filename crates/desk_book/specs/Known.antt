@@ -9,6 +9,7 @@ use Rattle.desk_rules.specs.Reply.{TellsRefusal, untyped_reply}
 use Rattle.desk_book.specs.Asked.{Asked}
 use Rattle.desk_book.specs.Task.{IsTask, no_command, unknown_form}
 use Rattle.desk_book.specs.declared.task.Task.TheVariants.{Decide}
+use Rattle.desk_book.specs.declared.total.CashTotal.{CashTotal}
 use Rattle.desk_book.specs.declared.total.SecurityTotal.{SecurityTotal}
 
 -- What was asked could not be read: it has none of the desk's forms, it spells no command, or it is a text that is
@@ -23,6 +24,8 @@ pub data IsKnown (books : Books) (asked : Asked) (reply : Reply) : Type 0 where
   refused : (entry : Entry) → IsTask asked (Decide entry) → reply.status ≡ 422 → TellsRefusal books entry reply → IsKnown books asked reply
   unread : reply.status ≡ 400 → TellsUnread reply → IsKnown books asked reply
 
--- of each security the accounts hold just what is outstanding
-pub record Agree (totals : List SecurityTotal) : Type 0 where
-  pub each : (total : SecurityTotal) → Contains totals total → total.held ≡ total.outstanding
+-- of each security the accounts hold just what is outstanding, and of each currency the participants what was paid in
+-- less what was paid out
+pub record Agree (cash : List CashTotal) (securities : List SecurityTotal) : Type 0 where
+  pub each_currency : (total : CashTotal) → Contains cash total → total.held ≡ total.net
+  pub each_security : (total : SecurityTotal) → Contains securities total → total.held ≡ total.outstanding

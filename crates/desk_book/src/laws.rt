@@ -19,7 +19,7 @@ ghost use Rattle.desk_engine.specs.Applied.{no_books};
 ghost use Rattle.desk_book.specs.declared.fault.Fault.{Fault};
 ghost use Rattle.desk_book.specs.declared.task.Task.{Task};
 ghost use Rattle.desk_book.specs.declared.task.Task.TheVariants.{Decide};
-ghost use Rattle.desk_book.specs.Answered.{ActsOnce, AreSums, IsRepeat, Run, Step, says_closed};
+ghost use Rattle.desk_book.specs.Answered.{ActsOnce, IsRepeat, IsToldSums, Run, Step, says_closed};
 ghost use Rattle.desk_book.specs.Known.{Agree, IsKnown};
 ghost use Rattle.desk_book.specs.Sums.{sums_text};
 ghost use Rattle.desk_book.specs.declared.total.SecurityTotal.{SecurityTotal};
@@ -93,12 +93,12 @@ pub fn accepted_stays()
 {}
 
 /// Where the totals are asked for, after any list of requests to a desk whose entries were accepted in their turn and are
-/// well formed, they agree: of each security the accounts hold just what is outstanding. (The desk takes no cash yet, so
-/// it tells no totals of currencies.)
+/// well formed, they agree: of each security the accounts hold just what is outstanding, and of each currency the
+/// participants just what was paid in less what was paid out.
 pub fn sums_agree()
     ensures { (limit : ℕ) (was is : Bool) (books last next : Books) (requests : List Asked) (answers : List (Result Reply Fault)) (reply : Reply)
         → AreAccepted limit books → Run limit was books requests answers is last → Step limit last sums (Ok reply) next
-        → (totals : List SecurityTotal) × AreSums last totals × Agree totals × (reply ≡ untyped_reply 200 (sums_text [] totals)) }
+        → (told : IsToldSums last reply next) × Agree told.cash told.securities }
 {}
 
 /// Each change is confirmed: after any list of requests to a desk whose entries were accepted in their turn and are well
