@@ -21,7 +21,7 @@ abbrev pub IsReplyOrMemory : Result Reply Fault → Type 0
 IsReplyOrMemory (Ok reply) = Unit {0}
 IsReplyOrMemory (Err fault) = fault ≡ desk_fault.Memory
 
--- The whole script, of at most 16,777,216 bytes, was played on a desk of no history and its answers were written, with
+-- The whole script, of at most `LONGEST_SCRIPT` bytes, was played on a desk of no history and its answers were written, with
 -- the status done; or a failure is told alone, as a fault. A desk in memory is never closed.
 pub data IsPlayAnswer (input : List ℕ) (status : Status) (before after : Option (List ℕ)) : Type 0 where
   told_answers : (items : List Item) (answers : List (Result Reply Fault)) (last : Books) → length input ≤ LONGEST_SCRIPT → Script input items

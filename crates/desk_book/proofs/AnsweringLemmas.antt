@@ -1,5 +1,5 @@
 -- What is answered to an entry, from what the register keeps.
-use Rattle.std.proofs.Common.{◌≡◌, inl, inr, ℕ, zero, suc, ◌+◌, ◌<◌, ◌≤◌, ◌^◌, Bool, true, false, List, [], ◌∷◌, length, Option, Some, None, option_map, refl, ap, sym, ◌∙◌, subst, arith, lit<}
+use Rattle.std.proofs.Common.{◌≡◌, inl, inr, ℕ, zero, suc, ◌+◌, ◌<◌, ◌≤◌, ◌^◌, Bool, true, false, List, [], ◌∷◌, length, Option, Some, None, option_map, refl, sym, ◌∙◌, subst, arith, lit<}
 use Rattle.std.specs.Prelude.{slice_get, is_some, nat_le, Result, Ok, Err, IfOk, OnOk}
 use Rattle.std.proofs.lemmas.Bool.{cases_Bool}
 use Rattle.desk_rules.specs.declared.limits.TheConstants.{MOST_QUANTITY}
@@ -34,7 +34,8 @@ use Rattle.desk_engine.proofs.TablesLemmas.{length_is}
 use Rattle.desk_book.specs.declared.fault.Fault.{Fault}
 use Rattle.desk_book.specs.declared.total.SecurityTotal.{SecurityTotal}
 use Rattle.desk_book.specs.Answered.{IsToldSums, says_closed}
-use Rattle.desk_book.specs.Held.{Answers, Decides, Ends, IsPut, IsReady, KeepsFormed}
+use Rattle.desk_book.specs.Held.{IsReady, KeepsFormed}
+use Rattle.desk_book.specs.Answering.{Answers, Decides, Ends, IsPut}
 use Rattle.desk_book.specs.declared.task.Task.{Task}
 use Rattle.desk_book.specs.declared.task.Task.TheVariants.{Decide}
 use Rattle.desk_book.specs.Sums.{sums_text}

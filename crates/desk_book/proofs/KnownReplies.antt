@@ -1,15 +1,14 @@
 -- What is known of every reply: its status and number, and that the totals agree.
-use Rattle.std.proofs.Common.{◌≡◌, ◌⊎◌, inl, inr, ℕ, Bool, true, false, List, [], ap, sym, subst, arith}
-use Rattle.std.specs.Prelude.{MatchBool, Result, Ok, sum_by}
+use Rattle.std.proofs.Common.{◌≡◌, ◌⊎◌, inl, inr, ℕ, Bool, true, false, List, ap, sym, subst, arith}
+use Rattle.std.specs.Prelude.{MatchBool, Result, Ok}
 use Rattle.desk_msg.specs.declared.fault.MsgFault.TheVariants.{Function}
 use Rattle.desk_msg.specs.declared.mt.Mt.{Mt}
 use Rattle.desk_msg.specs.declared.refusal.TextRefusal.TheVariants.{Fields}
-use Rattle.desk_msg.specs.Refused.{refusal_line}
 use Rattle.desk_rules.specs.declared.entry.Entry.{Entry}
 use Rattle.desk_rules.specs.declared.reply.Reply.{Reply}
 use Rattle.desk_rules.specs.Books.{Books}
 use Rattle.desk_rules.specs.WellFormed.{AreAccepted}
-use Rattle.desk_rules.specs.Reply.{TellsRefusal, untyped_reply}
+use Rattle.desk_rules.specs.Reply.{TellsRefusal}
 use Rattle.desk_rules.proofs.Conservation.{cash_adds_up, securities_add_up}
 use Rattle.desk_rules.proofs.KnownNumbers.{known_reply}
 use Rattle.desk_book.specs.declared.fault.Fault.{Fault}
@@ -21,7 +20,7 @@ use Rattle.desk_book.specs.Answered.{IsAnswer, IsToldSums, Run, Step}
 use Rattle.desk_book.specs.Asked.{Asked, message, operator, status, sent, holdings, sums}
 use Rattle.desk_book.specs.Known.{Agree, IsKnown, TellsUnread, done, refused, unread}
 use Rattle.desk_book.specs.Totals.{AreCashSums, AreSums}
-use Rattle.desk_book.specs.Task.{IsCommandTask, IsMessageTask, IsTask, is_supported_type, no_command, unknown_form}
+use Rattle.desk_book.specs.Task.{IsMessageTask, IsTask, is_supported_type, unknown_form}
 use Rattle.desk_book.proofs.ConfirmedRuns.{ran}
 
 -- Replies.

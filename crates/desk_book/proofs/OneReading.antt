@@ -9,8 +9,8 @@ use Rattle.desk_msg.specs.declared.mt.Mt.TheVariants.{Mt540, Mt541, Mt542, Mt543
 use Rattle.desk_book.specs.Asked.{Asked, message, operator, status, sent, holdings, sums}
 use Rattle.desk_msg.specs.MessageType.{digits_of_type}
 use Rattle.desk_book.specs.Forms.{IsLineOf, Asks}
-use Rattle.desk_book.specs.Lines.{lines_of, content, is_skipped, has_body, is_stop}
-use Rattle.desk_book.specs.Script.{Item, ask, bad_line, Asking, ended, skipped, bodiless, posted, cut, Means, Script, IsOpen, posted_text, BeginsWith, SpellsOnly}
+use Rattle.desk_book.specs.Lines.{lines_of, said_by, is_skipped, has_body, is_stop}
+use Rattle.desk_book.specs.Script.{Item, ask, bad_line, Asking, ended, skipped, bodiless, posted, cut, Means, Script, HasNoStop, posted_text, BeginsWith, SpellsOnly}
 use Rattle.desk_book.proofs.FormLemmas.{bic_no_space, same_split}
 
 -- One request for a line.
@@ -78,7 +78,7 @@ one_item said body bad_line bad_line h k = refl
 IsStop : List ℕ → Type 0
 IsStop line = is_stop line ≡ true
 
-same_body : (b c : List (List ℕ)) (s t : List ℕ) (xs ys : List (List ℕ)) → IsOpen b → IsOpen c → is_stop s ≡ true → is_stop t ≡ true → b ++ s ∷ xs ≡ c ++ t ∷ ys
+same_body : (b c : List (List ℕ)) (s t : List ℕ) (xs ys : List (List ℕ)) → HasNoStop b → HasNoStop c → is_stop s ≡ true → is_stop t ≡ true → b ++ s ∷ xs ≡ c ++ t ∷ ys
     → (b ≡ c) × (xs ≡ ys)
 same_body [] [] s t xs ys ob oc is it e = (refl, cc)
 same_body [] (l ∷ c) s t xs ys ob oc is it e =
@@ -92,7 +92,7 @@ same_body (k ∷ b) (l ∷ c) s t xs ys ob oc is it e =
     let head : k ≡ l = cc in
     (rw (head, rest.0) refl, rest.1)
 
-no_stop : (b c : List (List ℕ)) (t : List ℕ) (ys : List (List ℕ)) → IsOpen b → is_stop t ≡ true → b ≡ c ++ t ∷ ys → ⊥
+no_stop : (b c : List (List ℕ)) (t : List ℕ) (ys : List (List ℕ)) → HasNoStop b → is_stop t ≡ true → b ≡ c ++ t ∷ ys → ⊥
 no_stop [] [] t ys ob it e = cc
 no_stop [] (l ∷ c) t ys ob it e = cc
 no_stop (k ∷ b) [] t ys ob it e =
@@ -120,33 +120,33 @@ one_list ended (posted body stop b o s m h) e = cc
 one_list ended (cut b o) e = cc
 one_list (skipped {line = l} s h) ended e = cc
 one_list (skipped {line = l} s h) (skipped {line = k} t g) e = one_list h g cc
-one_list (skipped {line = l} s h) (bodiless {line = k} t b m g) e = let same : l ≡ k = cc in absurd (false≢true (sym t ∙ ap (λ x. is_skipped (content x)) (sym same) ∙ s))
-one_list (skipped {line = l} s h) (posted {line = k} body stop b o t m g) e = let same : l ≡ k = cc in absurd (no_word (content l) s (ap (λ x. has_body (content x)) same ∙ b))
-one_list (skipped {line = l} s h) (cut {line = k} b o) e = let same : l ≡ k = cc in absurd (no_word (content l) s (ap (λ x. has_body (content x)) same ∙ b))
+one_list (skipped {line = l} s h) (bodiless {line = k} t b m g) e = let same : l ≡ k = cc in absurd (false≢true (sym t ∙ ap (λ x. is_skipped (said_by x)) (sym same) ∙ s))
+one_list (skipped {line = l} s h) (posted {line = k} body stop b o t m g) e = let same : l ≡ k = cc in absurd (no_word (said_by l) s (ap (λ x. has_body (said_by x)) same ∙ b))
+one_list (skipped {line = l} s h) (cut {line = k} b o) e = let same : l ≡ k = cc in absurd (no_word (said_by l) s (ap (λ x. has_body (said_by x)) same ∙ b))
 one_list (bodiless {line = l} s b m h) ended e = cc
-one_list (bodiless {line = l} s b m h) (skipped {line = k} t g) e = let same : l ≡ k = cc in absurd (false≢true (sym s ∙ ap (λ x. is_skipped (content x)) same ∙ t))
+one_list (bodiless {line = l} s b m h) (skipped {line = k} t g) e = let same : l ≡ k = cc in absurd (false≢true (sym s ∙ ap (λ x. is_skipped (said_by x)) same ∙ t))
 one_list (bodiless {line = l} {item = x} s b m h) (bodiless {line = k} {item = y} t c n g) e =
     let same : l ≡ k = cc in
     let rest = one_list h g cc in
-    let item : y ≡ x = one_item (content l) None y x (subst (λ z. Means (content z) None y) (sym same) n) m in
+    let item : y ≡ x = one_item (said_by l) None y x (subst (λ z. Means (said_by z) None y) (sym same) n) m in
     cc
-one_list (bodiless {line = l} s b m h) (posted {line = k} body stop c o t n g) e = let same : l ≡ k = cc in absurd (false≢true (sym b ∙ ap (λ x. has_body (content x)) same ∙ c))
-one_list (bodiless {line = l} s b m h) (cut {line = k} c o) e = let same : l ≡ k = cc in absurd (false≢true (sym b ∙ ap (λ x. has_body (content x)) same ∙ c))
+one_list (bodiless {line = l} s b m h) (posted {line = k} body stop c o t n g) e = let same : l ≡ k = cc in absurd (false≢true (sym b ∙ ap (λ x. has_body (said_by x)) same ∙ c))
+one_list (bodiless {line = l} s b m h) (cut {line = k} c o) e = let same : l ≡ k = cc in absurd (false≢true (sym b ∙ ap (λ x. has_body (said_by x)) same ∙ c))
 one_list (posted {line = l} body stop b o s m h) ended e = cc
-one_list (posted {line = l} body stop b o s m h) (skipped {line = k} t g) e = let same : l ≡ k = cc in absurd (no_word (content k) t (ap (λ x. has_body (content x)) (sym same) ∙ b))
-one_list (posted {line = l} body stop b o s m h) (bodiless {line = k} t c n g) e = let same : l ≡ k = cc in absurd (false≢true (sym c ∙ ap (λ x. has_body (content x)) (sym same) ∙ b))
+one_list (posted {line = l} body stop b o s m h) (skipped {line = k} t g) e = let same : l ≡ k = cc in absurd (no_word (said_by k) t (ap (λ x. has_body (said_by x)) (sym same) ∙ b))
+one_list (posted {line = l} body stop b o s m h) (bodiless {line = k} t c n g) e = let same : l ≡ k = cc in absurd (false≢true (sym c ∙ ap (λ x. has_body (said_by x)) (sym same) ∙ b))
 one_list (posted {line = l} body stop {lines = us} {item = x} b o s m h) (posted {line = k} other end {lines = vs} {item = y} c p t n g) e =
     let same : l ≡ k = cc in
     let parts = same_body body other stop end us vs o p s t cc in
     let rest = one_list h g parts.1 in
     let item : y ≡ x =
-    one_item (content l) (Some (posted_text body)) y x
-    (subst (λ z. Means (content l) (Some (posted_text z)) y) (sym parts.0) (subst (λ z. Means (content z) (Some (posted_text other)) y) (sym same) n)) m
+    one_item (said_by l) (Some (posted_text body)) y x
+    (subst (λ z. Means (said_by l) (Some (posted_text z)) y) (sym parts.0) (subst (λ z. Means (said_by z) (Some (posted_text other)) y) (sym same) n)) m
     in cc
 one_list (posted {line = l} body stop {lines = us} b o s m h) (cut {line = k} {body = other} c p) e = absurd (no_stop other body stop us p s cc)
 one_list (cut {line = l} b o) ended e = cc
-one_list (cut {line = l} b o) (skipped {line = k} t g) e = let same : l ≡ k = cc in absurd (no_word (content k) t (ap (λ x. has_body (content x)) (sym same) ∙ b))
-one_list (cut {line = l} b o) (bodiless {line = k} t c n g) e = let same : l ≡ k = cc in absurd (false≢true (sym c ∙ ap (λ x. has_body (content x)) (sym same) ∙ b))
+one_list (cut {line = l} b o) (skipped {line = k} t g) e = let same : l ≡ k = cc in absurd (no_word (said_by k) t (ap (λ x. has_body (said_by x)) (sym same) ∙ b))
+one_list (cut {line = l} b o) (bodiless {line = k} t c n g) e = let same : l ≡ k = cc in absurd (false≢true (sym c ∙ ap (λ x. has_body (said_by x)) (sym same) ∙ b))
 one_list (cut {line = l} {body = body} b o) (posted {line = k} other end {lines = vs} c p t n g) e = absurd (no_stop body other end vs o t cc)
 one_list (cut {line = l} b o) (cut {line = k} c p) e = refl
 

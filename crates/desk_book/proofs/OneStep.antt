@@ -210,8 +210,7 @@ one_cash_sum books a b letters x y =
 one_telling : (books : Books) (r s : Reply) (n m : Books) → IsToldSums books r n → IsToldSums books s m → (r ≡ s) × (n ≡ m)
 one_telling books r s n m x y =
     let same_cash_list = one_list (λ t. letters_of t.ccy) (IsPaidIn books.history) (IsCashSum books) (λ t is. is.known) (one_cash_sum books) x.cash y.cash x.are_cash y.are_cash in
-    let same = one_list (λ t. t.isin) (IsRegistered books.history) (IsSum books) (λ t is. is.known) (one_sum books) x.securities y.securities x.are y.are in
-    (
+    let same = one_list (λ t. t.isin) (IsRegistered books.history) (IsSum books) (λ t is. is.known) (one_sum books) x.securities y.securities x.are y.are in (
       x.replied ∙ ap (λ totals. untyped_reply 200 (sums_text totals x.securities)) same_cash_list ∙ ap (λ totals. untyped_reply 200 (sums_text y.cash totals)) same ∙ sym y.replied,
       x.stays ∙ sym y.stays,
     )

@@ -12,12 +12,12 @@ use Rattle.desk_book.specs.Answered.{Run, says_closed, says_storage}
 use Rattle.desk_book.specs.Asked.{Asked, asked_by}
 use Rattle.desk_book.specs.declared.request.Request.{Request}
 use Rattle.desk_book.specs.Held.{Holds, Steps}
-use Rattle.desk_book.specs.Played.{HasPlayed, PlaysFront, PlaysItem, PlaysScript, answers_text, asked_in, shown_answer}
+use Rattle.desk_book.specs.Played.{HasPlayed, PlaysFront, PlaysItem, PlaysScript, answers_text, asked_in, answer_text}
 use Rattle.desk_book.specs.Lines.{lines_of}
 use Rattle.desk_book.specs.Script.{Asking, BeginsWith, Item, Script, ask, bad_line, item_of}
 use Rattle.desk_book.specs.declared.script.Item.{Item as ScriptItem}
 use Rattle.desk_book.specs.declared.script.Item.TheVariants.{Ask}
-use Rattle.desk_book.specs.Shown.{shown_bad_line}
+use Rattle.desk_book.specs.WrittenAnswers.{written_bad_line}
 use Rattle.desk_book.proofs.RunLemmas.{counted_one, counted_then, run_then}
 
 -- One item.
@@ -33,12 +33,12 @@ one_played was books asked answer is old new closed later stays blame s = record
 }
 
 pub item_written : {E : Type 0} (was : Bool) (books : Books) (item : ScriptItem) (request : Request) (answer : Result Reply Fault) (text : List ℕ) (before after : Option (List ℕ)) (is : Bool) (old new : View) (r : Result (Unit {0}) E)
-    → item ≡ Ask request → text ≡ shown_answer answer → HasPlayed was books (ask (asked_by request) ∷ []) (answer ∷ []) is old new → OnOk r (Appends before after text)
+    → item ≡ Ask request → text ≡ answer_text answer → HasPlayed was books (ask (asked_by request) ∷ []) (answer ∷ []) is old new → OnOk r (Appends before after text)
     → OnOk r (PlaysItem was books (item_of item) before after is old new)
 item_written was books item request answer text before after is old new (Ok done) same shown played written =
     let P : ScriptItem → Type 0 = λ i. PlaysItem was books (item_of i) before after is old new in
     let Q : List ℕ → Type 0 = λ t. Appends before after t in
-    subst P (sym same) (record { answers = answer ∷ []; played = played; written = subst Q (shown ∙ sym (append-nil (shown_answer answer))) written })
+    subst P (sym same) (record { answers = answer ∷ []; played = played; written = subst Q (shown ∙ sym (append-nil (answer_text answer))) written })
 item_written was books item request answer text before after is old new (Err fault) same shown played written = tt
 
 none_counted : (view : View) → count_by says_storage [] + view.failures ≤ view.failures
@@ -64,11 +64,11 @@ text_then : (limit : ℕ) (was : Bool) (books : Books) (items more : List Item) 
 text_then limit was books [] more [] others is last run = refl
 text_then limit was books [] more (answer ∷ answers) others is last run = absurd run
 text_then limit was books (bad_line ∷ items) more answers others is last run =
-    ap (λ text. shown_bad_line ++ text) (text_then limit was books items more answers others is last run) ∙ sym (append_assoc shown_bad_line (answers_text items answers) (answers_text more others))
+    ap (λ text. written_bad_line ++ text) (text_then limit was books items more answers others is last run) ∙ sym (append_assoc written_bad_line (answers_text items answers) (answers_text more others))
 text_then limit was books (ask asked ∷ items) more [] others is last run = absurd run
 text_then limit was books (ask asked ∷ items) more (answer ∷ answers) others is last run =
-    ap (λ text. shown_answer answer ++ text) (text_then limit (says_closed answer) run.1.0 items more answers others is last run.1.2)
-    ∙ sym (append_assoc (shown_answer answer) (answers_text items answers) (answers_text more others))
+    ap (λ text. answer_text answer ++ text) (text_then limit (says_closed answer) run.1.0 items more answers others is last run.1.2)
+    ∙ sym (append_assoc (answer_text answer) (answers_text items answers) (answers_text more others))
 
 play_then : (was is next : Bool) (books : Books) (front items : List Item) (answers others : List (Result Reply Fault)) (v0 v1 v2 : View) → IsLater v0 v1
     → (first : HasPlayed was books front answers is v0 v1) → HasPlayed is first.last items others next v1 v2 → HasPlayed was books (front ++ items) (answers ++ others) next v0 v2

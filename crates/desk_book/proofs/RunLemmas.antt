@@ -14,7 +14,8 @@ use Rattle.desk_book.specs.declared.task.Task.{Task}
 use Rattle.desk_book.specs.Answered.{Run, Step, says_closed, says_storage}
 use Rattle.desk_book.specs.Asked.{Asked, asked_by}
 use Rattle.desk_book.specs.declared.request.Request.{Request}
-use Rattle.desk_book.specs.Held.{Holds, IsPerformed, Steps}
+use Rattle.desk_book.specs.Held.{Holds, Steps}
+use Rattle.desk_book.specs.Answering.{IsPerformed}
 use Rattle.desk_book.specs.Task.{IsTask}
 
 -- what was read as a task, and performed, is a step

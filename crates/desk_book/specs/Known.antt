@@ -1,5 +1,5 @@
 -- What is known of every reply.
-use Rattle.std.specs.Prelude.{◌≡◌, ◌⊎◌, ℕ, List, Contains}
+use Rattle.std.specs.Prelude.{◌≡◌, ◌⊎◌, List, Contains}
 use Rattle.desk_msg.specs.declared.refusal.TextRefusal.{TextRefusal}
 use Rattle.desk_msg.specs.Refused.{refusal_line}
 use Rattle.desk_rules.specs.declared.entry.Entry.{Entry}

@@ -2,7 +2,7 @@ pub mod Asked
 pub mod Lines
 pub mod Forms
 pub mod Script
-pub mod Shown
+pub mod WrittenAnswers
 pub mod Command
 pub mod Members
 pub mod Sums
@@ -11,5 +11,6 @@ pub mod Totals
 pub mod Answered
 pub mod Known
 pub mod Held
+pub mod Answering
 pub mod DeskValue
 pub mod Played

@@ -13,8 +13,8 @@ abbrev pub has_end : List ℕ → List ℕ → Bool
 has_end end line = bytes_eq (drop (length line - length end) line) end
 
 -- what a line says: without its line feed, and without a carriage return right before that
-abbrev pub content : List ℕ → List ℕ
-content line =
+abbrev pub said_by : List ℕ → List ℕ
+said_by line =
     if has_end (codes "\r\n") line then take (length line - 2) line else (if has_end (codes "\n") line then take (length line - 1) line else line)
 
 -- what stands before the first space, or all of it
@@ -32,4 +32,4 @@ has_body said = bytes_eq (first_word said) (codes "in") || bytes_eq (first_word 
 
 -- the line ends a body
 abbrev pub is_stop : List ℕ → Bool
-is_stop line = bytes_eq (content line) (codes ".")
+is_stop line = bytes_eq (said_by line) (codes ".")

@@ -13,7 +13,7 @@ use Rattle.desk_book.specs.Answered.{Run, says_storage}
 use Rattle.desk_book.specs.Asked.{Asked}
 use Rattle.desk_book.specs.Held.{Holds}
 use Rattle.desk_book.specs.Script.{Item, ask, bad_line, Script}
-use Rattle.desk_book.specs.Shown.{shown, shown_fault, shown_bad_line}
+use Rattle.desk_book.specs.WrittenAnswers.{written_answer, written_fault, written_bad_line}
 
 -- why a script that could not be read was not played
 abbrev pub unplayed : InputFault → PlayFault
@@ -22,9 +22,9 @@ unplayed ReadFailed = plays.ReadFailed
 unplayed TooLong = plays.TooLong
 
 -- what is written for an answer
-abbrev pub shown_answer : Result Reply Fault → List ℕ
-shown_answer (Ok reply) = shown reply.status reply.mt reply.text
-shown_answer (Err fault) = shown_fault fault
+abbrev pub answer_text : Result Reply Fault → List ℕ
+answer_text (Ok reply) = written_answer reply.status reply.mt reply.text
+answer_text (Err fault) = written_fault fault
 
 -- the requests among the items of a script
 abbrev pub asked_in : List Item → List Asked
@@ -36,9 +36,9 @@ asked_in (ask asked ∷ items) = asked ∷ asked_in items
 -- the answers.
 abbrev pub answers_text : List Item → List (Result Reply Fault) → List ℕ
 answers_text [] answers = []
-answers_text (bad_line ∷ items) answers = shown_bad_line ++ answers_text items answers
+answers_text (bad_line ∷ items) answers = written_bad_line ++ answers_text items answers
 answers_text (ask asked ∷ items) [] = []
-answers_text (ask asked ∷ items) (answer ∷ answers) = shown_answer answer ++ answers_text items answers
+answers_text (ask asked ∷ items) (answer ∷ answers) = answer_text answer ++ answers_text items answers
 
 -- Items were played from these books, and their requests got these answers: those of a run to the books that the desk
 -- holds then. No more answers name the device than it failed.

@@ -3,7 +3,7 @@ use Rattle.std.specs.Prelude.{◌≡◌, ℕ, ◌+◌, true, false, List, [], �
 use Rattle.std.specs.List.{concat}
 use Rattle.desk_text.specs.declared.limits.TheConstants.{LONGEST_TEXT}
 use Rattle.desk_book.specs.Asked.{Asked, asked_by}
-use Rattle.desk_book.specs.Lines.{lines_of, content, is_skipped, has_body, is_stop}
+use Rattle.desk_book.specs.Lines.{lines_of, said_by, is_skipped, has_body, is_stop}
 use Rattle.desk_book.specs.Forms.{Asks}
 use Rattle.desk_book.specs.declared.script.Item.{Item as ScriptItem}
 use Rattle.desk_book.specs.declared.script.Item.TheVariants.{Ask, BadLine}
@@ -23,22 +23,22 @@ abbrev pub posted_text : List (List ℕ) → List ℕ
 posted_text body = take (LONGEST_TEXT + 1) (concat body)
 
 -- none of the lines ends a body
-abbrev pub IsOpen : List (List ℕ) → Type 0
-IsOpen body = All (λ line. is_stop line ≡ false) body
+abbrev pub HasNoStop : List (List ℕ) → Type 0
+HasNoStop body = All (λ line. is_stop line ≡ false) body
 
 -- These lines ask these items, in order: skipped lines ask nothing, a line without a body is an item, and a
 -- line that a body follows is one with its body. The body is the lines up to one that ends it; where the
 -- script ends before, line and body are one bad line.
 pub data Asking : List (List ℕ) → List Item → Type 0 where
   ended : Asking [] []
-  skipped : {line : List ℕ} {lines : List (List ℕ)} {items : List Item} → is_skipped (content line) ≡ true
+  skipped : {line : List ℕ} {lines : List (List ℕ)} {items : List Item} → is_skipped (said_by line) ≡ true
       → Asking lines items → Asking (line ∷ lines) items
-  bodiless : {line : List ℕ} {lines : List (List ℕ)} {item : Item} {items : List Item} → is_skipped (content line) ≡ false → has_body (content line) ≡ false
-      → Means (content line) None item → Asking lines items → Asking (line ∷ lines) (item ∷ items)
-  posted : {line : List ℕ} (body : List (List ℕ)) (stop : List ℕ) {lines : List (List ℕ)} {item : Item} {items : List Item} → has_body (content line) ≡ true
-      → IsOpen body → is_stop stop ≡ true → Means (content line) (Some (posted_text body)) item → Asking lines items → Asking (line ∷ (body ++ stop ∷ lines)) (item ∷ items)
-  cut : {line : List ℕ} {body : List (List ℕ)} → has_body (content line) ≡ true
-      → IsOpen body → Asking (line ∷ body) (bad_line ∷ [])
+  bodiless : {line : List ℕ} {lines : List (List ℕ)} {item : Item} {items : List Item} → is_skipped (said_by line) ≡ false → has_body (said_by line) ≡ false
+      → Means (said_by line) None item → Asking lines items → Asking (line ∷ lines) (item ∷ items)
+  posted : {line : List ℕ} (body : List (List ℕ)) (stop : List ℕ) {lines : List (List ℕ)} {item : Item} {items : List Item} → has_body (said_by line) ≡ true
+      → HasNoStop body → is_stop stop ≡ true → Means (said_by line) (Some (posted_text body)) item → Asking lines items → Asking (line ∷ (body ++ stop ∷ lines)) (item ∷ items)
+  cut : {line : List ℕ} {body : List (List ℕ)} → has_body (said_by line) ≡ true
+      → HasNoStop body → Asking (line ∷ body) (bad_line ∷ [])
 
 -- the items that a script's bytes spell
 abbrev pub Script : List ℕ → List Item → Type 0
@@ -58,7 +58,7 @@ pub record BeginsWithBody (lines : List (List ℕ)) (text : List ℕ) (rest : Li
   pub body : List (List ℕ)
   pub stop : List ℕ
   pub split : lines ≡ body ++ stop ∷ lines_of rest
-  pub inside : IsOpen body
+  pub inside : HasNoStop body
   pub stops : is_stop stop ≡ true
   pub is : text ≡ concat body
 

@@ -19,7 +19,7 @@ use Rattle.desk_rules.specs.WellFormed.{IsWellFormed}
 use Rattle.desk_engine.specs.Decision.{is_supported}
 use Rattle.desk_book.specs.Asked.{Asked, message, operator, status, sent, holdings, sums}
 use Rattle.desk_book.specs.Command.{SpellsCommand}
-use Rattle.desk_book.specs.Shown.{bad_line_text}
+use Rattle.desk_book.specs.WrittenAnswers.{bad_line_text}
 use Rattle.desk_book.specs.declared.task.Task.{Task}
 use Rattle.desk_book.specs.declared.task.Task.TheVariants.{Decide, Totals, Answer}
 

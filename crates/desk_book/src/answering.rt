@@ -8,7 +8,8 @@ ghost use Rattle.desk_engine.specs.Applied.{CanApply, Keeps};
 ghost use Rattle.desk_engine.specs.Decision.{is_supported};
 ghost use Rattle.desk_book.specs.Answered.{IsToldSums, says_closed};
 ghost use Rattle.desk_book.specs.Task.{IsFormed, IsSupported};
-ghost use Rattle.desk_book.specs.Held.{Answers, Decides, Ends, IsPut, IsReady, KeepsFormed, Recovers, named, told};
+ghost use Rattle.desk_book.specs.Held.{IsReady, KeepsFormed};
+ghost use Rattle.desk_book.specs.Answering.{Answers, Decides, Ends, IsPut, AnswersFault, fault_of_register, fault_of_failure};
 
 use crate::fault::Fault;
 use crate::summing::{security_totals, totals_text};
@@ -19,8 +20,8 @@ use desk_rules::{Entry, Refusal, Reply, Text, Verdict};
 use std::alloc::Global;
 
 /// The desk's fault of a register's.
-fn named(fault: RegisterFault) -> Fault
-    ensures { result ≡ named fault }
+fn fault_of_register(fault: RegisterFault) -> Fault
+    ensures { result ≡ fault_of_register fault }
 {
     match fault {
         RegisterFault::Memory => Fault::Memory,
@@ -29,11 +30,11 @@ fn named(fault: RegisterFault) -> Fault
 }
 
 /// What the desk answers to a failure: the fault, of which nothing is left, or that it is closed.
-fn told(failure: Failure) -> Fault
-    ensures { result ≡ told failure }
+fn fault_of_failure(failure: Failure) -> Fault
+    ensures { result ≡ fault_of_failure failure }
 {
     match failure {
-        Failure::Undone(fault) => named(fault),
+        Failure::Undone(fault) => fault_of_register(fault),
         Failure::Lost => Fault::Closed,
     }
 }
@@ -42,10 +43,10 @@ fn told(failure: Failure) -> Fault
 /// desk is closed.
 fn recovered<R: Register>(alloc: Global, register: &mut R, fault: RegisterFault) -> Fault
     requires { (R.view register.old).stage ≡ Stage.Idle }
-    ensures recovers { Recovers (named fault) result (R.view register.old) (R.view register.old).content (R.view register.new) }
+    ensures recovers { AnswersFault (fault_of_register fault) result (R.view register.old) (R.view register.old).content (R.view register.new) }
     ensures in_memory { R.in_memory ≡ true → result ≢ Fault.Closed }
 {
-    told(recover(alloc, register, fault))
+    fault_of_failure(recover(alloc, register, fault))
 }
 
 /// Takes an accepted entry in, and answers its reply.
@@ -60,7 +61,7 @@ fn take_in<R: Register>(alloc: Global, register: &mut R, entry: Entry) -> Result
 {
     match accept(alloc, register, entry) {
         Ok(accepted) => Ok(accepted.reply),
-        Err(failure) => Err(told(failure)),
+        Err(failure) => Err(fault_of_failure(failure)),
     }
 }
 
@@ -82,7 +83,7 @@ fn refuse<R: Register>(
     match register.count(alloc) {
         Ok(count) => match refused_reply(alloc, entry, count.min(limit), refusal) {
             Ok(reply) => Ok(reply),
-            Err(fault) => Err(named(fault)),
+            Err(fault) => Err(fault_of_register(fault)),
         },
         Err(fault) => Err(recovered(alloc, register, fault)),
     }

@@ -4,7 +4,8 @@ ghost use Rattle.desk_rules.specs.Books.{Books};
 ghost use Rattle.desk_register.specs.View.{IsLater};
 ghost use Rattle.desk_book.specs.Answered.{ActsOnce, Run, says_closed, says_storage};
 ghost use Rattle.desk_book.specs.Asked.{asked_by};
-ghost use Rattle.desk_book.specs.Held.{Holds, IsPerformed, IsReady, Steps};
+ghost use Rattle.desk_book.specs.Held.{Holds, IsReady, Steps};
+ghost use Rattle.desk_book.specs.Answering.{IsPerformed};
 ghost use Rattle.desk_book.specs.Task.{IsFormed, IsSupported};
 
 use crate::answering::answer;

@@ -1,6 +1,6 @@
 //! Why a request has no answer, and why a script was not played.
 ghost use Rattle.std.specs.Prelude.{◌≡◌};
-ghost use Rattle.desk_book.specs.Shown.{status_of_fault, text_of_fault};
+ghost use Rattle.desk_book.specs.WrittenAnswers.{status_of_fault, text_of_fault};
 
 use thiserror::Error;
 
@@ -64,7 +64,7 @@ pub enum PlayFault {
     /// The writer failed, or took no byte. What was asked before stands.
     #[error("writing failed")]
     WriteFailed,
-    /// The script has more than 16,777,216 bytes; nothing was asked.
+    /// The script has more than `LONGEST_SCRIPT` bytes; nothing was asked.
     #[error("the script is too long")]
     TooLong,
     /// There was no room for the script; nothing was read.

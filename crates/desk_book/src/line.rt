@@ -1,7 +1,7 @@
 //! The lines of a script.
 ghost use Rattle.std.specs.Prelude.{◌≡◌, ◌<◌, ◌≤◌, ◌==◌, ◌++◌, ◌∷◌, [], length, IfSome, IfNone};
 ghost use Rattle.std.specs.List.{position_or_len};
-ghost use Rattle.desk_book.specs.Lines.{lines_of, content as content_of, is_skipped as skips, has_body as posts, is_stop as stops, first_word as word_of};
+ghost use Rattle.desk_book.specs.Lines.{lines_of, said_by as said_of, is_skipped as skips, has_body as posts, is_stop as stops, first_word as word_of};
 
 /// The first word of a line that a participant's message follows.
 pub const MESSAGE: &[u8] = b"in";
@@ -43,8 +43,8 @@ fn index_of(text: &[u8], byte: u8) -> usize
 }
 
 /// What a line says: without its line feed and a carriage return right before that.
-pub fn content(line: &[u8]) -> &[u8]
-    ensures { result.now ≡ content_of line.now }
+pub fn said_by(line: &[u8]) -> &[u8]
+    ensures { result.now ≡ said_of line.now }
 {
     if let Some(said) = line.strip_suffix(b"\r\n") {
         return said;
@@ -84,5 +84,5 @@ fn first_word(said: &[u8]) -> &[u8]
 pub fn is_stop(line: &[u8]) -> bool
     ensures { result ≡ stops line.now }
 {
-    content(line) == STOP
+    said_by(line) == STOP
 }

@@ -1,10 +1,10 @@
 //! Scripts: requests as lines of text, with bodies.
 ghost use Rattle.std.specs.Prelude.{◌≡◌, ℕ, ◌<◌, ◌≤◌, [], ◌∷◌, List, Some, None, false, true, length, All, IfSome, IfNone};
-ghost use Rattle.desk_book.specs.Lines.{lines_of, content as content_of, is_skipped as skips, has_body as posts, is_stop as stops};
-ghost use Rattle.desk_book.specs.Script.{Asking, Means, BeginsWith, BeginsWithBody, IsOpen, SpellsOnly, item_of};
+ghost use Rattle.desk_book.specs.Lines.{lines_of, said_by as said_of, is_skipped as skips, has_body as posts, is_stop as stops};
+ghost use Rattle.desk_book.specs.Script.{Asking, Means, BeginsWith, BeginsWithBody, HasNoStop, SpellsOnly, item_of};
 
 use crate::form::{bodiless, posted};
-use crate::line::{content, first_line, has_body, is_skipped, is_stop};
+use crate::line::{first_line, has_body, is_skipped, is_stop, said_by};
 use crate::request::Request;
 use desk_text::LONGEST_TEXT;
 
@@ -29,7 +29,7 @@ pub fn first_item(script: &[u8]) -> Option<(Item<'_>, &[u8])>
 {
     let mut rest = script;
     while let Some((line, after)) = first_line(rest) {
-        if !is_skipped(content(line)) {
+        if !is_skipped(said_by(line)) {
             return Some(item_at(line, after));
         }
         rest = after;
@@ -52,11 +52,11 @@ pub fn item_count(script: &[u8]) -> usize
 
 /// The item that begins with this line, and the bytes behind it.
 fn item_at<'a>(line: &'a [u8], after: &'a [u8]) -> (Item<'a>, &'a [u8])
-    requires { skips (content_of line.now) ≡ false }
+    requires { skips (said_of line.now) ≡ false }
     ensures first { BeginsWith (line.now ∷ lines_of after.now) (item_of result.0) result.1.now }
     ensures shorter { length result.1.now ≤ length after.now }
 {
-    let said = content(line);
+    let said = said_by(line);
     if !has_body(said) {
         return (bodiless(said), after);
     }
@@ -70,7 +70,7 @@ fn item_at<'a>(line: &'a [u8], after: &'a [u8]) -> (Item<'a>, &'a [u8])
 fn split_body(text: &[u8]) -> Option<(&[u8], &[u8])>
     ensures body { IfSome result (λ parts. BeginsWithBody (lines_of text.now) parts.0.now parts.1.now) }
     ensures shorter { IfSome result (λ parts. length parts.1.now ≤ length text.now) }
-    ensures none { IfNone result (IsOpen (lines_of text.now)) }
+    ensures none { IfNone result (HasNoStop (lines_of text.now)) }
 {
     let mut rest = text;
     while let Some((line, after)) = first_line(rest) {

@@ -11,7 +11,8 @@ use Rattle.desk_rules.specs.declared.entry.Sender.{Sender}
 use Rattle.desk_rules.specs.History.{as_asked, entry_at, number_of_key, sender_of, reference_of}
 use Rattle.desk_rules.specs.Books.{Books}
 use Rattle.desk_rules.specs.Verdict.{Check, checks_of, first_failing, IsVerdict, IsVerdictAt, is_from_stranger, reused_by}
-use Rattle.desk_engine.specs.Decision.{first_refusal, is_supported, with_history, IsVerdictOnKey}
+use Rattle.desk_engine.specs.Decision.{is_supported}
+use Rattle.desk_engine.specs.Deciding.{first_refusal, with_history, IsVerdictOnKey}
 use Rattle.desk_register.proofs.CaseLemmas.{by_bool}
 
 -- a refusal is the verdict

@@ -1,11 +1,10 @@
 -- A pass that begins, one that is over, and a run that has made its passes and is added.
-use Rattle.std.proofs.Common.{◌≡◌, ◌≢◌, inl, inr, ℕ, zero, suc, ◌+◌, ◌<◌, ◌≤◌, ◌==◌, Bool, true, false, ◌&&◌, List, [], ◌∷◌, ◌++◌, length, Contains, Option, Some, None, refl, ap, sym, ◌∙◌, subst, arith, length-append, append-nil, if◌then◌else◌}
-use Rattle.std.specs.Prelude.{option_and_then, nat_lt, not, count_by, Result, Ok, Err, OnOk}
+use Rattle.std.proofs.Common.{◌≡◌, ◌≢◌, inl, inr, ℕ, ◌+◌, ◌<◌, ◌≤◌, ◌==◌, Bool, true, false, ◌&&◌, List, [], ◌∷◌, ◌++◌, length, Contains, Option, Some, None, refl, ap, sym, ◌∙◌, subst, arith, length-append, append-nil, if◌then◌else◌}
+use Rattle.std.specs.Prelude.{option_and_then, nat_lt, not, Result, Ok, Err, OnOk}
 use Rattle.std.proofs.lemmas.Bool.{cases_Bool, cases_lt, cases_eq, ne_eqb, both_ways}
 use Rattle.std.proofs.lemmas.Bool.Decides.{nat_tests}
 use Rattle.std.proofs.lemmas.List.Elements.{filter-append}
 use Rattle.std.proofs.lemmas.List.Sums.{count_by-le-length}
-use Rattle.desk_codes.specs.declared.currency.Ccy.{Ccy}
 use Rattle.desk_codes.specs.Number.{number_of}
 use Rattle.desk_rules.specs.declared.entry.Entry.{Entry}
 use Rattle.desk_rules.specs.declared.entry.Entry.TheVariants.{Run}
@@ -32,16 +31,16 @@ use Rattle.desk_rules.specs.Standing.{reason_of_lack}
 use Rattle.desk_rules.specs.Verdict.{WasAccepted, IsVerdict}
 use Rattle.desk_rules.specs.Reply.{is_settled_pair}
 use Rattle.desk_rules.specs.Content.{Content, history_of}
-use Rattle.desk_rules.specs.Stands.{reason_found, IsReason, IsReasonBelow, IsInPair, StandsAt, StandsSo}
+use Rattle.desk_rules.specs.Stands.{reason_found, IsReason, IsInPair, StandsAt, StandsSo}
 use Rattle.desk_register.specs.Changes.{appended}
 use Rattle.desk_engine.specs.Tables.{Tables, Grown}
-use Rattle.desk_engine.specs.Pass.{HasPassed, IsPassed, PassesAt, PassesSo, IsWaiting, IsUnderway, IsOver, found_in, is_below, books_after}
+use Rattle.desk_engine.specs.Pass.{HasPassed, IsPassed, PassesAt, PassesSo, IsUnderway, IsOver, found_in, is_below, books_after}
 use Rattle.desk_rules.proofs.Decided.{In, In-from_Contains, Contains-from_In, filter-none, filter-same, not_back}
 use Rattle.desk_rules.proofs.Existence.{run_unpaired}
 use Rattle.desk_rules.proofs.HistoryLemmas.{entry_at-end, before-front, before-all, instruction_at-known, instruction_at-front}
 use Rattle.desk_rules.proofs.PairingLemmas.{pairing_alone}
 use Rattle.desk_rules.proofs.BalanceLemmas.{IsIn, credits-entry, debits-entry, cash_credits-entry, cash_debits-entry}
-use Rattle.desk_rules.proofs.SettlementLemmas.{due_facts, due_known, precedes_strict, precedes_run, begins_first, begins_true}
+use Rattle.desk_rules.proofs.SettlementLemmas.{due_facts, due_known, precedes_strict, precedes_run, begins_first}
 use Rattle.desk_rules.proofs.SettlementGrowth.{as_far_decided, decided_as_far, run_begins, run_ends, is_due-front, precedes-front, in_passes-front}
 use Rattle.desk_rules.proofs.NothingLeft.{begins_counted, counted_begins}
 use Rattle.desk_engine.proofs.TablesLemmas.{accepted_more, beyond, history_more, length_is, not_cancelled, pairs_known, settled_known}

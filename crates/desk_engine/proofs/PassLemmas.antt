@@ -1,7 +1,7 @@
 -- A run's pass over the due pairs, and what the register finds due.
-use Rattle.std.proofs.Common.{◌≡◌, ◌≢◌, inl, inr, ℕ, zero, suc, ◌+◌, ◌<◌, ◌≤◌, ◌==◌, Bool, true, false, not, ◌&&◌, List, [], ◌∷◌, ◌++◌, length, Contains, Option, Some, None, refl, ap, sym, ◌∙◌, subst, arith}
-use Rattle.std.specs.Prelude.{option_and_then, nat_lt, nat_le, slice_get}
-use Rattle.std.proofs.lemmas.Bool.{cases_Bool, ne_eqb, both_ways, lt-ltb, le-leb, leb-true, false_from_ne_true}
+use Rattle.std.proofs.Common.{◌≡◌, ◌≢◌, inl, inr, ℕ, ◌+◌, ◌<◌, ◌≤◌, ◌==◌, Bool, true, false, ◌&&◌, List, [], ◌∷◌, ◌++◌, length, Contains, Option, Some, None, refl, ap, sym, ◌∙◌, subst, arith}
+use Rattle.std.specs.Prelude.{option_and_then, nat_lt, nat_le}
+use Rattle.std.proofs.lemmas.Bool.{ne_eqb, both_ways, lt-ltb, le-leb, leb-true}
 use Rattle.std.proofs.lemmas.Bool.Decides.{nat_tests}
 use Rattle.desk_codes.specs.Number.{number_of}
 use Rattle.desk_rules.specs.declared.entry.Entry.{Entry}
@@ -18,12 +18,13 @@ use Rattle.desk_rules.specs.declared.entry.Instructed.{Instructed}
 use Rattle.desk_rules.specs.History.{before, instruction_at, entry_at, run_day}
 use Rattle.desk_rules.specs.Cancelled.{is_cancelled_pair}
 use Rattle.desk_rules.specs.Pairing.{IsSide, mate_in}
-use Rattle.desk_rules.specs.Settlement.{IsUnsettled, is_due, is_before, is_past, is_above, is_sooner, is_by, is_not_cancelled, day_of, place_of, instructed_day, IsOpen, IsNext}
+use Rattle.desk_rules.specs.Settlement.{IsUnsettled, is_due, is_before, is_past, is_by, is_not_cancelled, day_of, place_of, instructed_day}
+use Rattle.desk_rules.specs.Underway.{IsOpen, IsNext}
 use Rattle.desk_rules.specs.Books.{Books, AreBooks}
 use Rattle.desk_rules.specs.Content.{Content}
 use Rattle.desk_register.specs.Looked.{IsDue, IsDuePairAfter, IsMatchedPair}
-use Rattle.desk_engine.specs.Pass.{PassesAt, PassesSo, InstructionPasses, IsWaiting, IsPassing, IsUnderway, is_below}
-use Rattle.desk_rules.proofs.Decided.{In, In-from_Contains, Contains-from_In}
+use Rattle.desk_engine.specs.Pass.{PassesAt, PassesSo, InstructionPasses, IsWaiting, IsUnderway, is_below}
+use Rattle.desk_rules.proofs.Decided.{In-from_Contains}
 use Rattle.desk_rules.proofs.HistoryLemmas.{entry_at-end, before-all}
 use Rattle.desk_rules.proofs.SettlementLemmas.{due_facts}
 use Rattle.desk_rules.proofs.SettlementGrowth.{IsPlaceOf, day_of-front}

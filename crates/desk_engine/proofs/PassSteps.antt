@@ -9,20 +9,20 @@ use Rattle.desk_rules.specs.declared.pair.Lack.TheVariants.{Securities}
 use Rattle.desk_rules.specs.declared.standing.State.{State}
 use Rattle.desk_rules.specs.declared.standing.State.TheVariants as states
 use Rattle.desk_rules.specs.declared.standing.State.TheVariants.{NoInstruction, Unmatched, Matched, Cancelled}
-use Rattle.desk_msg.specs.declared.status.Reason.{Reason}
 use Rattle.desk_msg.specs.declared.status.Reason.TheVariants as reasons
 use Rattle.desk_rules.specs.Cancelled.{is_cancelled_pair}
 use Rattle.desk_rules.specs.Pairing.{IsSide, mate_in}
 use Rattle.desk_rules.specs.Covered.{lack_of}
-use Rattle.desk_rules.specs.Settlement.{is_above, is_due, is_sooner, precedes, settled_before, is_not_cancelled, IsNext}
+use Rattle.desk_rules.specs.Settlement.{is_above, is_due, is_sooner, precedes, settled_before, is_not_cancelled}
+use Rattle.desk_rules.specs.Underway.{IsNext}
 use Rattle.desk_rules.specs.Books.{Books, AreBooks}
 use Rattle.desk_rules.specs.Standing.{reason_of_lack}
 use Rattle.desk_rules.specs.Stands.{IsInPair}
-use Rattle.desk_engine.specs.Pass.{PassesSo, IsWaiting, found_in, is_below}
+use Rattle.desk_engine.specs.Pass.{PassesSo, found_in, is_below}
 use Rattle.desk_rules.proofs.Decided.{In-from_Contains, Contains-from_In, In-left, In-right, In-push_cases, filter-push_no, filter-front, not_back}
 use Rattle.desk_rules.proofs.HistoryLemmas.{before-all}
 use Rattle.desk_rules.proofs.SettlementLemmas.{precedes_strict, precedes_pair, ordered_pairs, one_number, due_facts}
-use Rattle.desk_rules.proofs.SettlementGrowth.{IsSettledTo, IsPlaceOf, below_above, at_place, own_place, sooner_place, before_above}
+use Rattle.desk_rules.proofs.SettlementGrowth.{IsSettledTo, IsPlaceOf, below_above, at_place, before_above}
 
 pub not_true_is : (a : Bool) → not a ≡ true → a ≡ false
 not_true_is true e = absurd (cc)

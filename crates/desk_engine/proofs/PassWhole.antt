@@ -27,13 +27,12 @@ use Rattle.desk_rules.specs.declared.standing.Standing.{Standing}
 use Rattle.desk_rules.specs.declared.verdict.Refusal.TheVariants.{OverLimit}
 use Rattle.desk_rules.specs.declared.entry.Instructed.{Instructed}
 use Rattle.desk_rules.specs.History.{entry_at, instruction_at, instructed}
-use Rattle.desk_codes.specs.declared.currency.Ccy.{Ccy}
 use Rattle.desk_rules.specs.Cancelled.{is_cancel_requested}
-use Rattle.desk_rules.specs.Balances.{credits, debits, cash_credits, cash_debits, issued, redeemed, issued_by, redeemed_by, movement_of}
+use Rattle.desk_rules.specs.Balances.{credits, debits, issued, redeemed, issued_by, redeemed_by, movement_of}
 use Rattle.desk_rules.specs.Covered.{is_covered}
 use Rattle.desk_rules.specs.Facts.{accounts_of}
 use Rattle.desk_rules.specs.Pairing.{IsSide, mate_in}
-use Rattle.desk_rules.specs.Settlement.{IsNext}
+use Rattle.desk_rules.specs.Underway.{IsNext}
 use Rattle.desk_rules.specs.Books.{Books, AreBooks}
 use Rattle.desk_rules.specs.Verdict.{WasAccepted, check}
 use Rattle.desk_rules.specs.declared.limits.TheConstants.{MOST_QUANTITY}

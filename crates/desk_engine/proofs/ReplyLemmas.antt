@@ -1,6 +1,6 @@
 -- The reply to an accepted instruction.
-use Rattle.std.proofs.Common.{◌≡◌, inl, inr, ℕ, ◌==◌, ◌||◌, Bool, true, false, List, ◌++◌, codes, decimal, append_assoc, length, Option, Some, None, refl, ap, sym, ◌∙◌, subst, arith}
-use Rattle.std.specs.Prelude.{if◌then◌else◌, is_some, string_bytes, String, Result, Ok, Err, IfOk}
+use Rattle.std.proofs.Common.{◌≡◌, inl, inr, ℕ, ◌==◌, ◌||◌, Bool, true, false, List, Option, Some, None, refl, ap, sym, ◌∙◌, subst, arith}
+use Rattle.std.specs.Prelude.{if◌then◌else◌, is_some, Result, Ok, Err, IfOk}
 use Rattle.std.specs.List.{list_any}
 use Rattle.std.proofs.lemmas.Bool.{cases_Bool}
 use Rattle.std.proofs.lemmas.Bool.Decides.{nat_tests}
@@ -15,7 +15,7 @@ use Rattle.desk_rules.specs.declared.entry.Entry.TheVariants.{Cancel, Instruct}
 use Rattle.desk_rules.specs.declared.pair.Pair.{Pair}
 use Rattle.desk_rules.specs.declared.reply.Reply.{Reply}
 use Rattle.desk_rules.specs.Pairing.{has_side}
-use Rattle.desk_rules.specs.Reply.{accepted_text, advice_reply, cancellation_case, case_by_state, first_case, reply_to}
+use Rattle.desk_rules.specs.Reply.{advice_reply, cancellation_case, case_by_state, first_case, reply_to}
 use Rattle.desk_rules.specs.Verdict.{named_by}
 use Rattle.desk_msg.specs.declared.instruction.CancelOrder.{CancelOrder}
 use Rattle.desk_rules.specs.Books.{Books, is_paired}

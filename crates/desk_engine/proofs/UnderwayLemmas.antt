@@ -1,8 +1,7 @@
 -- A pass, pair by pair, and a run, pass by pass.
-use Rattle.std.proofs.Common.{◌≡◌, ◌≢◌, ◌⊎◌, inl, inr, ℕ, ◌+◌, ◌<◌, ◌≤◌, ◌==◌, Bool, true, false, ◌||◌, ◌&&◌, List, [], ◌∷◌, ◌++◌, length, filter, Contains, Option, Some, None, refl, ap, sym, ◌∙◌, subst, arith, length-append, append_assoc, append-nil}
-use Rattle.std.specs.Prelude.{not, count_by, option_and_then}
-use Rattle.std.specs.List.{list_any}
-use Rattle.std.proofs.lemmas.Bool.{cases_Bool, cases_lt, both_ways, ltb-true, ne_eqb, false_from_ne_true}
+use Rattle.std.proofs.Common.{◌≡◌, ◌⊎◌, inl, inr, ℕ, ◌+◌, ◌<◌, ◌≤◌, Bool, true, false, List, [], ◌∷◌, ◌++◌, length, filter, Contains, Option, Some, None, refl, ap, sym, ◌∙◌, subst, arith, length-append, append_assoc, append-nil}
+use Rattle.std.specs.Prelude.{option_and_then}
+use Rattle.std.proofs.lemmas.Bool.{cases_Bool, cases_lt, both_ways, ltb-true, false_from_ne_true}
 use Rattle.desk_codes.specs.Number.{number_of}
 use Rattle.desk_rules.specs.declared.entry.Entry.TheVariants.{Run}
 use Rattle.desk_rules.specs.declared.entry.RunRule.{RunRule}
@@ -17,29 +16,27 @@ use Rattle.desk_rules.specs.declared.standing.State.TheVariants.{NoInstruction, 
 use Rattle.desk_rules.specs.declared.standing.Standing.{Standing}
 use Rattle.desk_engine.specs.declared.settlement_run.Taken.{Taken}
 use Rattle.desk_rules.specs.History.{instruction_at, run_rule}
-use Rattle.desk_rules.specs.Settlement.{IsOpen, is_above, settled_count, begins, is_in_passes, allows_more}
+use Rattle.desk_rules.specs.Settlement.{is_above, settled_count, begins, is_in_passes, allows_more}
+use Rattle.desk_rules.specs.Underway.{IsOpen}
 use Rattle.desk_rules.specs.Books.{Books, AreBooks}
 use Rattle.desk_rules.specs.Verdict.{WasAccepted}
-use Rattle.desk_rules.specs.Reply.{is_settled_pair}
 use Rattle.desk_rules.specs.Content.{Content}
 use Rattle.desk_register.specs.Changes.{CanSettle}
 use Rattle.desk_register.specs.Looked.{IsDuePairAfter}
-use Rattle.desk_engine.specs.Tables.{Tables}
-use Rattle.desk_engine.specs.Pass.{IsTaken, RanTo, settled_of, PassesAt, PassesSo, IsUnderway, IsOver, IsAtPass, PassEnds, is_below}
+use Rattle.desk_engine.specs.Pass.{IsTaken, RanTo, settled_of, PassesAt, PassesSo, IsUnderway, IsOver, PassEnds, is_below}
 use Rattle.desk_engine.specs.Decision.{AreSupported}
-use Rattle.desk_rules.proofs.Decided.{In, In-from_Contains, Contains-from_In, In-left, In-right, In-cases, Ordered, filter-In}
+use Rattle.desk_rules.proofs.Decided.{In, In-from_Contains, Contains-from_In, In-right, In-cases, Ordered, filter-In}
 use Rattle.desk_rules.proofs.HistoryLemmas.{entry_at-end}
 use Rattle.desk_rules.proofs.PairingLemmas.{lower, decided_pairing}
 use Rattle.desk_rules.proofs.SettlementLemmas.{ordered_pairs, begins_true, begins_further}
 use Rattle.desk_rules.proofs.SettlementGrowth.{as_far_decided, decided_as_far, pass_ends}
 use Rattle.desk_rules.proofs.Existence.{fewer_above}
-use Rattle.desk_rules.proofs.NothingLeft.{begins_counted}
 use Rattle.desk_engine.proofs.TablesLemmas.{settled_known}
 use Rattle.desk_engine.proofs.PassLemmas.{none_open}
 use Rattle.desk_engine.proofs.PassSteps.{not_of}
 use Rattle.desk_engine.proofs.WaitingLemmas.{count_of_run, left_count, none_left, all_left}
 use Rattle.desk_engine.proofs.PassWhole.{step, next_can_settle, next_sides, next_facts}
-use Rattle.desk_engine.proofs.FinishLemmas.{has_passed, next_begins, pass_begins}
+use Rattle.desk_engine.proofs.FinishLemmas.{has_passed, next_begins}
 
 -- pairs that rise by number are no more than the numbers
 rising_length : (low high : ℕ) (ps : List Pair) → Ordered lower ps → ((p : Pair) → In ps p → low < p.later) → ((p : Pair) → In ps p → p.later ≤ high) → low ≤ high → low + length ps ≤ high

@@ -26,7 +26,7 @@ pub enum TextRefusal {
     /// A line that is nested wrongly (refusal 3).
     #[error("line {0} is nested wrongly")]
     BadNesting(usize),
-    /// More than 65,536 bytes (refusal 4).
+    /// More than `LONGEST_TEXT` bytes (refusal 4).
     #[error("too long")]
     TooLong,
     /// The fields are no message (refusals 5 to 8).

@@ -1,6 +1,5 @@
 -- What is told by one entry more, and what one notice more says.
-use Rattle.std.proofs.Common.{◌≡◌, ℕ, ◌+◌, ◌<◌, ◌≤◌, List, [], ◌∷◌, ◌++◌, length, take, flat_map, append-nil, sym, ◌∙◌, ap, subst, arith, get_or, false, refl}
-use Rattle.std.specs.Prelude.{All}
+use Rattle.std.proofs.Common.{◌≡◌, ℕ, ◌+◌, ◌<◌, List, [], ◌∷◌, ◌++◌, length, take, flat_map, append-nil, sym, ◌∙◌, ap, arith, get_or}
 use Rattle.std.specs.List.{range_with_len}
 use Rattle.std.proofs.lemmas.List.{take_more}
 use Rattle.desk_rules.specs.declared.entry.Entry.{Entry}

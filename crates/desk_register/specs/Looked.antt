@@ -1,6 +1,5 @@
 -- What the look-ups of a register find in its content.
 use Rattle.std.specs.Prelude.{◌≡◌, ℕ, zero, suc, ◌<◌, ◌≤◌, true, false, List, Option, Some, None, option_map, slice_get, sum_by, is_some}
-use Rattle.std.specs.List.{filter_map}
 use Rattle.std.specs.Ordering.{nat_cmp}
 use Rattle.std.specs.Cmp.Lexicographic.{slice_cmp}
 use Rattle.std.specs.declared.cmp.Ordering.TheVariants.{Less}
@@ -15,7 +14,7 @@ use Rattle.desk_rules.specs.declared.entry.Instructed.{Instructed}
 use Rattle.desk_rules.specs.History.{instruction_at}
 use Rattle.desk_rules.specs.Opposite.{AreOpposite}
 use Rattle.desk_rules.specs.Settlement.{is_before, is_past}
-use Rattle.desk_rules.specs.Facts.{account_by, kind_of}
+use Rattle.desk_rules.specs.Facts.{accounts_of, kind_of}
 use Rattle.desk_rules.specs.declared.reply.Kept.{Kept}
 use Rattle.desk_rules.specs.Content.{Content, history_of}
 
@@ -81,7 +80,7 @@ IsSecurityAfter history above (Some isin) = IsRegisteredAbove history above isin
 
 -- what all registered accounts hold of a security
 abbrev pub held_of : Content → List ℕ → ℕ
-held_of content isin = sum_by (λ account. content.position account isin) (filter_map account_by (history_of content))
+held_of content isin = sum_by (λ account. content.position account isin) (accounts_of (history_of content))
 
 -- the security that an entry registers
 abbrev pub security_by : Entry → Option (List ℕ)

@@ -1,5 +1,5 @@
 -- After a run in passes nothing covered is left, and its passes are those that begin.
-use Rattle.std.proofs.Common.{◌≡◌, ◌≢◌, ℕ, zero, suc, ◌+◌, ◌<◌, ◌≤◌, ◌↔◌, ◌⊎◌, inl, inr, Bool, true, false, ◌&&◌, ◌==◌, nat_lt, List, [], ◌∷◌, ◌++◌, filter, length, Option, Some, None, refl, sym, ◌∙◌, ap, subst, arith, append-nil, length-append, if◌then◌else◌}
+use Rattle.std.proofs.Common.{◌≡◌, ℕ, zero, suc, ◌+◌, ◌<◌, ◌≤◌, ◌⊎◌, inl, inr, Bool, true, false, ◌&&◌, ◌==◌, nat_lt, List, [], ◌∷◌, ◌++◌, length, Option, Some, None, refl, sym, ◌∙◌, ap, subst, arith, append-nil, length-append, if◌then◌else◌}
 use Rattle.std.specs.Prelude.{nat_le, count_by, Contains, option_and_then}
 use Rattle.std.proofs.lemmas.List.Sums.{length-filter}
 use Rattle.std.proofs.lemmas.Bool.{cases_Bool, cases_lt, both_ways, false_from_ne_true, eqb-true, eq-eqb, ltb-true, lt-ltb, leb-true, le-leb, and_parts, and_from}
@@ -16,10 +16,10 @@ use Rattle.desk_rules.specs.Balances.{delivery_of, receipt_of, credits, debits, 
 use Rattle.desk_rules.specs.Covered.{can_deliver, can_pay_cash, can_pay, has_securities, has_cash, is_covered}
 use Rattle.desk_rules.specs.Books.{Books, AreBooks}
 use Rattle.desk_rules.specs.Settlement.{begins, precedes, settled_before, is_due, IsUnsettled, allows_more, is_in_passes, Settles, IsSettlement, last_pass, passes_of, settled_count}
-use Rattle.desk_rules.proofs.Decided.{In, In-from_Contains, Contains-from_In, In-filter, filter-front, filter_yes, filter_no}
+use Rattle.desk_rules.proofs.Decided.{In, Contains-from_In, In-filter, filter-front, filter_yes, filter_no}
 use Rattle.desk_rules.proofs.HistoryLemmas.{entry_at-end, before-all}
 use Rattle.desk_rules.proofs.BalanceLemmas.{IsIn, delivery_of-front, receipt_of-front, credits-entry, debits-entry, cash_credits-entry, cash_debits-entry}
-use Rattle.desk_rules.proofs.SettlementLemmas.{begins_true, begins_first, begins_further, Follows, due_facts, decided_settlement, precedes_run, precedes_pass}
+use Rattle.desk_rules.proofs.SettlementLemmas.{begins_true, begins_first, begins_further, due_facts, decided_settlement, precedes_run, precedes_pass}
 
 -- no settled pair of the run has a pass above the last
 pub below_last : (settled : List Settled) (run : ℕ) (s : Settled) → In settled s → s.run ≡ run → s.pass ≤ last_pass settled run

@@ -1,19 +1,18 @@
 -- Each notice is one message, so the messages are numbered in their order; and how many there are.
-use Rattle.std.proofs.Common.{◌≡◌, ℕ, zero, suc, ◌+◌, ◌*◌, ◌<◌, ◌≤◌, inl, inr, Bool, true, false, if◌then◌else◌, List, [], ◌∷◌, ◌++◌, length, sum_by, refl, sym, ◌∙◌, ap, subst, arith, Contains, Option, Some, None}
+use Rattle.std.proofs.Common.{◌≡◌, ℕ, zero, suc, ◌+◌, ◌*◌, ◌<◌, ◌≤◌, inl, inr, Bool, true, false, if◌then◌else◌, List, [], ◌∷◌, ◌++◌, length, sum_by, refl, sym, ◌∙◌, ap, arith, Contains, Some}
 use Rattle.std.specs.Prelude.{◌==◌, slice_get}
 use Rattle.std.specs.List.{range_with_len, flat_map, list_any}
 use Rattle.std.proofs.lemmas.Bool.{eqb-true, ltb-true}
 use Rattle.std.proofs.lemmas.List.Sums.{sum_by-cons, sum_by-append}
-use Rattle.std.proofs.lemmas.List.Concat.{flat_map-cons}
 use Rattle.desk_rules.specs.declared.entry.Entry.{Entry}
 use Rattle.desk_rules.specs.declared.pair.Pair.{Pair}
 use Rattle.desk_rules.specs.declared.pair.Settled.{Settled}
 use Rattle.desk_rules.specs.declared.reply.Sent.{Sent}
 use Rattle.desk_rules.specs.declared.limits.TheConstants.{MOST_ENTRIES, MOST_SENT}
 use Rattle.desk_rules.specs.History.{Instructed, instruction_at}
-use Rattle.desk_rules.specs.Balances.{deliverer_of, receiver_of, quantity_if}
+use Rattle.desk_rules.specs.Balances.{quantity_if}
 use Rattle.desk_rules.specs.Sent.{Notice, told_of_pair, told_of_settled, told_by, notices_of, told, told_to, sent_from, sent_of}
-use Rattle.desk_rules.specs.Laws.{IsMessageOf}
+use Rattle.desk_rules.specs.Laws.{TellsNotice}
 use Rattle.desk_rules.specs.Books.{Books, AreBooks}
 use Rattle.desk_rules.proofs.Decided.{In, In-from_Contains, Contains-from_In, Ordered-from_AllPairs}
 use Rattle.desk_rules.proofs.BalanceLemmas.{sum_same}
@@ -56,21 +55,34 @@ sent_length : (h : List Entry) (k : ℕ) (ns : List Notice) → Every (IsKnown h
 sent_length h k [] all = refl
 sent_length h k (n ∷ ns) all = ap (λ z. length (z ++ sent_from h (k + 1) ns)) (told_known h k n all.0) ∙ ap suc (sent_length h (k + 1) ns all.1)
 
-sent_at : (h : List Entry) (k : ℕ) (ns : List Notice) (j : ℕ) (message : Sent) → Every (IsKnown h) ns → slice_get (sent_from h k ns) j ≡ Some message → IsMessageOf h (k + j) message
+-- the notice of a place, and its message
+record IsAt (h : List Entry) (k : ℕ) (ns : List Notice) (j : ℕ) (message : Sent) : Type 0 where
+  notice : Notice
+  is_notice : slice_get ns j ≡ Some notice
+  instructed : Instructed
+  instructs : instruction_at h notice.about ≡ Some instructed
+  is : message ≡ told h (k + j) notice.about notice.run instructed
+
+sent_at : (h : List Entry) (k : ℕ) (ns : List Notice) (j : ℕ) (message : Sent) → Every (IsKnown h) ns → slice_get (sent_from h k ns) j ≡ Some message → IsAt h k ns j message
 sent_at h k [] j message all is = absurd (cc)
 sent_at h k (n ∷ ns) zero message all is =
     let this = told h k n.about n.run all.0.0 in
     let first : slice_get (sent_from h k (n ∷ ns)) zero ≡ Some this = ap (λ z. slice_get (z ++ sent_from h (k + 1) ns) zero) (told_known h k n all.0) in
     let both : Some this ≡ Some message = sym first ∙ is in
     let same : this ≡ message = cc in
-    let number : k + zero ≡ k = omega arith in
-    let N : ℕ → Type 0 = λ m. IsMessageOf h m message in
-    subst N (sym number) (record { about = n.about; run = n.run; instructed = all.0.0; instructs = all.0.1; is = sym same })
+    let number : k ≡ k + zero = omega arith in
+    record { notice = n; is_notice = refl; instructed = all.0.0; instructs = all.0.1; is = sym same ∙ ap (λ m. told h m n.about n.run all.0.0) number }
 sent_at h k (n ∷ ns) (suc j) message all is =
     let rest : slice_get (sent_from h k (n ∷ ns)) (suc j) ≡ slice_get (sent_from h (k + 1) ns) j = ap (λ z. slice_get (z ++ sent_from h (k + 1) ns) (suc j)) (told_known h k n all.0) in
     let number : k + 1 + j ≡ k + suc j = omega arith in
-    let N : ℕ → Type 0 = λ m. IsMessageOf h m message in
-    subst N number (sent_at h (k + 1) ns j message all.1 (sym rest ∙ is))
+    let later = sent_at h (k + 1) ns j message all.1 (sym rest ∙ is) in
+    record {
+      notice = later.notice;
+      is_notice = later.is_notice;
+      instructed = later.instructed;
+      instructs = later.instructs;
+      is = later.is ∙ ap (λ m. told h m later.notice.about later.notice.run later.instructed) number;
+    }
 
 ones : {X : Type 0} (xs : List X) → sum_by (λ x. 1) xs ≡ length xs
 ones [] = refl
@@ -136,11 +148,17 @@ module _ (books : Books) (are : AreBooks books) where
       let legs = legs_of books.history s.pair mate.candidate.opposite in
       every_if (IsKnown books.history) (s.run == n) _ ((legs.delivery, legs.delivered), ((legs.receipt, legs.received), tt)))))
 
-  pub sent_numbered : (n : ℕ) (message : Sent) → slice_get (sent_of books) n ≡ Some message → IsMessageOf books.history (n + 1) message
+  pub sent_numbered : (n : ℕ) (message : Sent) → slice_get (sent_of books) n ≡ Some message → TellsNotice books n message
   sent_numbered n message is =
       let number : 1 + n ≡ n + 1 = omega arith in
-      let N : ℕ → Type 0 = λ m. IsMessageOf books.history m message in
-      subst N number (sent_at books.history 1 (notices_of books) n message all_known is)
+      let at = sent_at books.history 1 (notices_of books) n message all_known is in
+      record {
+        notice = at.notice;
+        is_notice = at.is_notice;
+        instructed = at.instructed;
+        instructs = at.instructs;
+        is = at.is ∙ ap (λ m. told books.history m at.notice.about at.notice.run at.instructed) number;
+      }
 
   -- one notice of each pair, and two of each settlement
 

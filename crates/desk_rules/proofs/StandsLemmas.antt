@@ -1,11 +1,8 @@
 -- `standing_of` says of an entry what the relations of specs/Stands.antt say.
-use Rattle.std.proofs.Common.{◌≡◌, ◌≢◌, ◌⊎◌, inl, inr, ℕ, zero, suc, ◌+◌, ◌<◌, ◌≤◌, Bool, true, false, ◌||◌, ◌&&◌, not, List, [], ◌∷◌, ◌++◌, length, Contains, refl, sym, ◌∙◌, ap, subst, arith, Option, Some, None, if◌then◌else◌, drop}
+use Rattle.std.proofs.Common.{◌≡◌, ◌≢◌, inl, inr, ℕ, zero, suc, ◌+◌, ◌<◌, Bool, true, false, length, Contains, refl, sym, ◌∙◌, ap, subst, arith, Option, Some, None, if◌then◌else◌, drop}
 use Rattle.std.specs.Prelude.{◌==◌}
-use Rattle.std.specs.List.{list_any}
 use Rattle.std.proofs.lemmas.Bool.{cases_Bool, cases_lt, cases_order, both_ways, eqb-true, eq-eqb, or_cases, or_left, or_right}
 use Rattle.desk_msg.specs.declared.status.Reason.{Reason}
-use Rattle.desk_msg.specs.declared.status.Reason.TheVariants.{Future}
-use Rattle.desk_rules.specs.declared.entry.Entry.{Entry}
 use Rattle.desk_rules.specs.declared.entry.Instructed.{Instructed}
 use Rattle.desk_rules.specs.declared.pair.Pair.{Pair}
 use Rattle.desk_rules.specs.declared.pair.Settled.{Settled}
@@ -19,12 +16,11 @@ use Rattle.desk_rules.specs.Pairing.{IsFree, IsSide, has_side, mate_in, pair_of,
 use Rattle.desk_rules.specs.Settlement.{is_due}
 use Rattle.desk_rules.specs.Books.{Books, AreBooks, is_settled}
 use Rattle.desk_rules.specs.Standing.{no_standing, is_called_off, reason_below, open_state, instruction_state, state_of, standing_of}
-use Rattle.desk_rules.proofs.Decided.{In, In-from_Contains, Contains-from_In}
+use Rattle.desk_rules.proofs.Decided.{In-from_Contains, Contains-from_In}
 use Rattle.desk_rules.proofs.SideLemmas.{any-In, In-any, free_from_none, free_no_side}
-use Rattle.desk_rules.proofs.SettlementLemmas.{due_known}
 use Rattle.desk_rules.proofs.PairingLaws.{one_pair_of}
 use Rattle.desk_rules.proofs.StandsAccepted.{HasPair, HasNone, pair_or_none, none_any}
-use Rattle.desk_rules.specs.Stands.{reason_found, IsUntriedBelow, IsTriedBelow, IsReasonBelow, IsReason, IsAlone, IsInPair, IsMatched, IsCancelledSide, IsSettledSide, StandsSo, InstructionStands, StandsAt}
+use Rattle.desk_rules.specs.Stands.{reason_found, IsReasonBelow, StandsSo, StandsAt}
 
 -- Why a pair is not settled.
 

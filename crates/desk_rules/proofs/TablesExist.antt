@@ -1,6 +1,5 @@
 -- Every accepted history has tables.
-use Rattle.std.proofs.Common.{◌≡◌, ℕ, zero, suc, ◌+◌, ◌-◌, ◌≤◌, List, [], ◌∷◌, map, take, refl, sym, ◌∙◌, ap, subst, arith, slice_get, Option, Some, None}
-use Rattle.desk_codes.specs.declared.currency.Ccy.{Ccy}
+use Rattle.std.proofs.Common.{◌≡◌, ℕ, zero, suc, ◌+◌, ◌-◌, List, [], ◌∷◌, map, take, refl, sym, ◌∙◌, ap, subst, arith, slice_get, Option, Some, None}
 use Rattle.desk_rules.specs.declared.entry.Entry.{Entry}
 use Rattle.desk_rules.specs.declared.reply.Kept.{Kept}
 use Rattle.desk_rules.specs.declared.reply.Reply.{Reply}
@@ -11,7 +10,7 @@ use Rattle.desk_rules.specs.Standing.{standing_of}
 use Rattle.desk_rules.specs.Verdict.{WasAccepted}
 use Rattle.desk_rules.specs.Reply.{untyped_reply, reply_to, IsFirstReply}
 use Rattle.desk_rules.specs.Sent.{sent_of}
-use Rattle.desk_rules.specs.Content.{Content, history_of}
+use Rattle.desk_rules.specs.Content.{Content}
 use Rattle.desk_rules.specs.Tables.{AreTables}
 use Rattle.desk_rules.proofs.Existence.{books_exist}
 use Rattle.desk_rules.proofs.NonNegative.{never_negative}

@@ -1,5 +1,5 @@
 -- What the laws speak of.
-use Rattle.std.specs.Prelude.{◌≡◌, ℕ, ◌≤◌, List, map, Option, Some, None}
+use Rattle.std.specs.Prelude.{◌≡◌, ℕ, ◌+◌, ◌≤◌, List, map, slice_get, Option, Some, None}
 use Rattle.desk_codes.specs.declared.currency.Ccy.{Ccy}
 use Rattle.desk_rules.specs.declared.entry.Entry.{Entry}
 use Rattle.desk_rules.specs.declared.entry.Entry.TheVariants.{Cancel}
@@ -7,7 +7,8 @@ use Rattle.desk_rules.specs.declared.pair.Pair.{Pair}
 use Rattle.desk_rules.specs.declared.pair.Settled.{Settled}
 use Rattle.desk_rules.specs.declared.reply.Sent.{Sent}
 use Rattle.desk_rules.specs.History.{Instructed, before, instruction_at}
-use Rattle.desk_rules.specs.Sent.{told}
+use Rattle.desk_rules.specs.Books.{Books}
+use Rattle.desk_rules.specs.Sent.{Notice, notices_of, told}
 use Rattle.desk_rules.specs.Pairing.{pairs_below, pair_of}
 use Rattle.desk_rules.specs.Balances.{credits, debits, cash_credits, cash_debits}
 use Rattle.desk_rules.specs.Standing.{is_called_off}
@@ -17,13 +18,14 @@ pub record AreNonNegative (history : List Entry) (settled : List Settled) : Type
   pub positions : (account isin : List ℕ) → debits history settled account isin ≤ credits history settled account isin
   pub cash : (bic : List ℕ) (ccy : Ccy) → cash_debits history settled bic ccy ≤ cash_credits history settled bic ccy
 
--- A message has this number: it is what is told of an instruction under it, with a run or with none.
-pub record IsMessageOf (history : List Entry) (n : ℕ) (message : Sent) : Type 0 where
-  pub about : ℕ
-  pub run : Option ℕ
+-- A message tells the notice of this place, counted from 0, under the number that is one more: so it says that a pair
+-- was made of the instruction, or that a run settled it.
+pub record TellsNotice (books : Books) (place : ℕ) (message : Sent) : Type 0 where
+  pub notice : Notice
+  pub is_notice : slice_get (notices_of books) place ≡ Some notice
   pub instructed : Instructed
-  pub instructs : instruction_at history about ≡ Some instructed
-  pub is : message ≡ told history n about run instructed
+  pub instructs : instruction_at books.history notice.about ≡ Some instructed
+  pub is : message ≡ told books.history (place + 1) notice.about notice.run instructed
 
 -- an entry, unless it is a cancellation
 abbrev pub but_cancellation : Entry → Option Entry

@@ -1,6 +1,6 @@
 -- What the desk answers to the questions of a participant, by its books now: how a message of its own stands, and
 -- what was sent to it. A question that is refused has no message type.
-use Rattle.std.specs.Prelude.{ℕ, zero, suc, ◌==◌, Bool, ◌&&◌, if◌then◌else◌, List, ◌++◌, length, codes, decimal, bytes_eq, filter, slice_get, Option, Some, None}
+use Rattle.std.specs.Prelude.{ℕ, zero, suc, ◌==◌, Bool, ◌&&◌, if◌then◌else◌, List, length, bytes_eq, filter, slice_get, Option, Some, None}
 use Rattle.std.specs.List.{find}
 use Rattle.desk_msg.specs.declared.instruction.Instruction.{Instruction}
 use Rattle.desk_msg.specs.declared.mt.Mt.{Mt}

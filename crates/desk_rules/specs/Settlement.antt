@@ -97,18 +97,6 @@ is_past (Some last) place = is_before last place
 abbrev pub is_above : List Entry → Option Place → Pair → Bool
 is_above history last p = is_past last (place_of history p)
 
--- a pair that the pass may yet settle: above the place, due, and not yet settled
-pub record IsOpen (history : List Entry) (pairs : List Pair) (settled : List Settled) (run : ℕ) (place : Option Place) (p : Pair) : Type 0 where
-  pub paired : Contains pairs p
-  pub due : is_due history run p ≡ true
-  pub unsettled : IsUnsettled settled p
-  pub above : is_above history place p ≡ true
-
--- the next pair that the pass takes: the least of the open ones
-pub record IsNext (history : List Entry) (pairs : List Pair) (settled : List Settled) (run : ℕ) (place : Option Place) (p : Pair) : Type 0 where
-  pub is_open : IsOpen history pairs settled run place p
-  pub least : (q : Pair) → IsOpen history pairs settled run place q → is_sooner history q p ≡ false
-
 -- the number of a run's last pass that settled some pair; 0 where none did
 abbrev pub last_pass : List Settled → ℕ → ℕ
 last_pass [] run = 0

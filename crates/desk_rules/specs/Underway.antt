@@ -5,10 +5,10 @@ use Rattle.desk_rules.specs.declared.entry.Entry.{Entry}
 use Rattle.desk_rules.specs.declared.pair.Pair.{Pair}
 use Rattle.desk_rules.specs.declared.pair.Place.{Place}
 use Rattle.desk_rules.specs.declared.pair.Settled.{Settled}
-use Rattle.desk_rules.specs.Settlement.{Settles, is_above, precedes, settled_before}
+use Rattle.desk_rules.specs.Settlement.{IsUnsettled, Settles, is_above, is_due, is_sooner, precedes, settled_before}
 
--- A settlement was decided on by then: it is of a run before this one, of a pass of the run before this one, or of the
--- pass, and not above the place.
+-- A settlement of a pair numbered below its run was decided on by then: it is of a run before this one, of a pass of the
+-- run before this one, or of the pass, and not above the place.
 pub record IsReached (history : List Entry) (run pass : ℕ) (place : Option Place) (s : Settled) : Type 0 where
   pub numbered : s.pair.later < s.run
   pub reached : (s.run < run) ⊎ ((s.run ≡ run) × ((s.pass < pass) ⊎ ((s.pass ≡ pass) × (is_above history place s.pair ≡ false))))
@@ -18,3 +18,15 @@ pub record IsSettledAsFar (history : List Entry) (pairs : List Pair) (run pass :
   pub exact : (s : Settled) → IsReached history run pass place s → Contains settled s ↔ Settles history pairs (settled_before history s settled) s
   pub within : (s : Settled) → Contains settled s → IsReached history run pass place s
   pub in_order : AllPairs (λ s t. precedes history s t ≡ true) settled
+
+-- a pair that the pass may yet settle: above the place, due, and not yet settled
+pub record IsOpen (history : List Entry) (pairs : List Pair) (settled : List Settled) (run : ℕ) (place : Option Place) (p : Pair) : Type 0 where
+  pub paired : Contains pairs p
+  pub due : is_due history run p ≡ true
+  pub unsettled : IsUnsettled settled p
+  pub above : is_above history place p ≡ true
+
+-- the next pair that the pass takes: the least of the open ones
+pub record IsNext (history : List Entry) (pairs : List Pair) (settled : List Settled) (run : ℕ) (place : Option Place) (p : Pair) : Type 0 where
+  pub is_open : IsOpen history pairs settled run place p
+  pub least : (q : Pair) → IsOpen history pairs settled run place q → is_sooner history q p ≡ false

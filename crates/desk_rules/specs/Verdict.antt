@@ -1,5 +1,5 @@
 -- What the desk decides on an entry: the first check that fails, in the order of the table, else Accept.
-use Rattle.std.specs.Prelude.{◌≡◌, ℕ, ◌+◌, nat_lt, nat_le, ◌==◌, Bool, true, false, not, if◌then◌else◌, List, [], ◌∷◌, length, bytes_eq, MatchBool, Option, Some, None, is_none, is_some, option_and_then, option_map}
+use Rattle.std.specs.Prelude.{◌≡◌, ℕ, ◌+◌, nat_lt, nat_le, ◌==◌, Bool, false, not, if◌then◌else◌, List, [], ◌∷◌, length, bytes_eq, MatchBool, Option, Some, None, is_none, is_some, option_and_then, option_map}
 use Rattle.desk_codes.specs.Number.{number_of}
 use Rattle.desk_msg.specs.declared.instruction.CancelOrder.{CancelOrder}
 use Rattle.desk_msg.specs.Depository.{desk_bic}

@@ -23,7 +23,7 @@ ghost use Rattle.desk_rules.specs.Books.{AreBooks, Books, is_settled};
 ghost use Rattle.desk_rules.specs.BothLegs.{ChangesOnly, ComeInTwos, Moves, StandTogether};
 ghost use Rattle.desk_rules.specs.Verdict.{IsVerdict, WasAccepted, named_by};
 ghost use Rattle.desk_rules.specs.Facts.{accounts_of, participants_of};
-ghost use Rattle.desk_rules.specs.Laws.{AreNonNegative, AreSameButCancellations, CallOffTheSame, IsMessageOf};
+ghost use Rattle.desk_rules.specs.Laws.{AreNonNegative, AreSameButCancellations, CallOffTheSame, TellsNotice};
 ghost use Rattle.desk_rules.specs.declared.limits.TheConstants.{MOST_ENTRIES, MOST_SENT};
 ghost use Rattle.desk_rules.specs.Opposite.{AreOpposite};
 ghost use Rattle.desk_rules.specs.Pairing.{IsPairing, IsSide, mate_of};
@@ -122,7 +122,7 @@ pub fn accepted_fronts()
     ensures { (limit : ℕ) (front rest : List Entry) → WasAccepted limit (front ++ rest) → WasAccepted limit front }
 {}
 
-/// An entry has one verdict at most.
+/// An entry has one verdict at most. (That it has one is what `verdict_on` of `desk_plain` shows, which computes it.)
 pub fn one_verdict()
     ensures { (limit : ℕ) (books : Books) (entry : Entry) (a b : Verdict) → IsVerdict limit books entry a → IsVerdict limit books entry b → a ≡ b }
 {}
@@ -152,11 +152,11 @@ pub fn sent_for_good()
         → (n : ℕ) (message : Sent) → confirmation_of front n ≡ Some message → confirmation_of books n ≡ Some message }
 {}
 
-/// What is sent is numbered in its order, from 1: each message tells of one instruction, under its own number. There are
-/// as many as pairs, and twice as many as settlements beside, and so fewer than `MOST_SENT` of all that a desk may hold.
+/// What is sent is numbered in its order, from 1: each message tells the notice of its place, that a pair was made or a run
+/// settled it, under its own number. There are as many as pairs, and twice as many as settlements beside, and so fewer than `MOST_SENT` of all that a desk may hold.
 pub fn sent_in_order()
     ensures numbered { (books : Books) (n : ℕ) (message : Sent) → AreBooks books → slice_get (sent_of books) n ≡ Some message
-        → IsMessageOf books.history (n + 1) message }
+        → TellsNotice books n message }
     ensures counted { (books : Books) → AreBooks books → length (sent_of books) ≡ length books.pairs + 2 * length books.settled }
     ensures few { (books : Books) → AreBooks books → length books.history ≤ MOST_ENTRIES → length (sent_of books) < MOST_SENT }
 {}

@@ -6,12 +6,12 @@ use Rattle.desk_book.proofs.script.item_at.Goals as goal
 
 pub returns-then-not-has_body-clause-first : goal.returns-then-not-has_body-clause-first
 returns-then-not-has_body-clause-first c =
-    bodiless_begins c.args.line.now c.args.after.now c.content-said.result.now (item_of c.bodiless.result) c.content-said.ensures c.requires (sym c.if-not-has_body.ensures) c.bodiless.ensures
+    bodiless_begins c.args.line.now c.args.after.now c.said_by-said.result.now (item_of c.bodiless.result) c.said_by-said.ensures c.requires (sym c.if-not-has_body.ensures) c.bodiless.ensures
 
 pub returns-in-Some-clause-first : goal.returns-in-Some-clause-first
 returns-in-Some-clause-first c =
-    posted_begins c.args.line.now c.args.after.now c.content-said.result.now c.in-Some.body.now c.in-Some.rest.now (item_of c.posted.result) c.content-said.ensures
+    posted_begins c.args.line.now c.args.after.now c.said_by-said.result.now c.in-Some.body.now c.in-Some.rest.now (item_of c.posted.result) c.said_by-said.ensures
     (sym c.if-not-has_body.ensures) c.in-Some.ensures.body (rw c.min.ensures at c.posted.ensures)
 
 pub returns-in-None-clause-first : goal.returns-in-None-clause-first
-returns-in-None-clause-first c = cut_begins c.args.line.now c.args.after.now c.content-said.result.now c.content-said.ensures (sym c.if-not-has_body.ensures) c.in-None.ensures.none
+returns-in-None-clause-first c = cut_begins c.args.line.now c.args.after.now c.said_by-said.result.now c.said_by-said.ensures (sym c.if-not-has_body.ensures) c.in-None.ensures.none

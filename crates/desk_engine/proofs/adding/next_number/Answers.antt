@@ -1,4 +1,4 @@
-use Rattle.std.proofs.Common.{◌≡◌, ◌+◌, ◌<◌, ◌≤◌, length, arith}
+use Rattle.std.proofs.Common.{arith}
 use Rattle.desk_register.proofs.ViewLemmas.{begun_goes}
 use Rattle.desk_engine.proofs.adding.next_number.Goals as goal
 

@@ -1,4 +1,4 @@
-use Rattle.std.proofs.Common.{◌≢◌, false, sym, ◌∙◌, ap}
+use Rattle.std.proofs.Common.{◌≢◌, sym, ◌∙◌, ap}
 use Rattle.desk_register.specs.declared.register.Stage.TheVariants.{Failed}
 use Rattle.desk_rules.specs.Content.{history_of}
 use Rattle.desk_engine.proofs.DecisionLemmas.{key_repeated, key_used, not_both}

@@ -2,7 +2,7 @@ use Rattle.std.proofs.Common.{length}
 use Rattle.std.specs.Prelude.{nat_le}
 use Rattle.desk_rules.specs.Content.{history_of}
 use Rattle.desk_rules.specs.Verdict.{checks_of}
-use Rattle.desk_engine.specs.Decision.{with_history}
+use Rattle.desk_engine.specs.Deciding.{with_history}
 use Rattle.desk_engine.proofs.DecisionLemmas.{refused}
 use Rattle.desk_engine.proofs.decision.verdict_on_new.Goals as goal
 

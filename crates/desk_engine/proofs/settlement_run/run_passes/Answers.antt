@@ -1,7 +1,5 @@
 use Rattle.std.proofs.Common.{refl, sym, ◌<◌, ◌≤◌, ◌^◌, ◌∙◌, arith, rules}
-use Rattle.desk_register.specs.View.{IsChange}
-use Rattle.desk_engine.specs.declared.settlement_run.Passed.{Passed}
-use Rattle.desk_register.proofs.ViewLemmas.{begun_goes, change_then, change_ok, stays_then, later_then}
+use Rattle.desk_register.proofs.ViewLemmas.{begun_goes}
 use Rattle.desk_engine.proofs.RunningLemmas.{can_begin, passing_begins, passing_can_go, passing_goes_on, passing_ends, passing_ends_all, makes_another, makes_no_other}
 use Rattle.desk_engine.proofs.settlement_run.run_passes.Goals as goal
 

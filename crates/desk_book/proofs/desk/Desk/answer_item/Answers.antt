@@ -1,6 +1,6 @@
 use Rattle.std.proofs.Common.{[], refl}
 use Rattle.desk_book.specs.Asked.{asked_by}
-use Rattle.desk_book.specs.Shown.{shown, shown_fault}
+use Rattle.desk_book.specs.WrittenAnswers.{written_answer, written_fault}
 use Rattle.desk_book.proofs.PlayLemmas.{bad_line_played, item_written, one_played}
 use Rattle.desk_book.proofs.desk.Desk.answer_item.Goals as goal
 
@@ -9,7 +9,7 @@ returns-in-Ok-clause-played g c = λ books honest holds.
     let v0 = g.R.Register.view c.args.self.now.register in
     let v1 = g.R.Register.view c.ask.new.self.register in
     let a = c.ask.ensures in
-    item_written c.args.self.now.is_closed books c.args.item.now c.in-Ask.request c.ask.result (shown c.in-Ok.reply.status c.in-Ok.reply.mt c.in-Ok.reply.text) _ _ c.ask.new.self.is_closed v0 v1 c.write_answer.result c.in-Ask.is
+    item_written c.args.self.now.is_closed books c.args.item.now c.in-Ask.request c.ask.result (written_answer c.in-Ok.reply.status c.in-Ok.reply.mt c.in-Ok.reply.text) _ _ c.ask.new.self.is_closed v0 v1 c.write_answer.result c.in-Ask.is
     (rw c.in-Ok.is refl) (one_played c.args.self.now.is_closed books (asked_by c.in-Ask.request) c.ask.result c.ask.new.self.is_closed v0 v1 a.closed a.later a.stays a.blame (a.step books honest holds))
     (rw c.as_bytes.ensures at c.write_answer.ensures)
 
@@ -26,7 +26,7 @@ returns-in-Err-clause-played g c = λ books honest holds.
     let v0 = g.R.Register.view c.args.self.now.register in
     let v1 = g.R.Register.view c.ask.new.self.register in
     let a = c.ask.ensures in
-    item_written c.args.self.now.is_closed books c.args.item.now c.in-Ask.request c.ask.result (shown_fault c.in-Err.fault) _ _ c.ask.new.self.is_closed v0 v1 c.write_fault.result c.in-Ask.is
+    item_written c.args.self.now.is_closed books c.args.item.now c.in-Ask.request c.ask.result (written_fault c.in-Err.fault) _ _ c.ask.new.self.is_closed v0 v1 c.write_fault.result c.in-Ask.is
     (rw c.in-Err.is refl) (one_played c.args.self.now.is_closed books (asked_by c.in-Ask.request) c.ask.result c.ask.new.self.is_closed v0 v1 a.closed a.later a.stays a.blame (a.step books honest holds))
     c.write_fault.ensures
 

@@ -11,8 +11,8 @@ head_line status None = decimal status ++ codes "\n"
 head_line status (Some mt) = decimal status ++ byte " " ∷ (decimal mt ++ codes "\n")
 
 -- an answer: the status line, the text, and a line `.`
-abbrev pub shown : ℕ → Option ℕ → List ℕ → List ℕ
-shown status mt text = head_line status mt ++ (text ++ codes "\n.\n")
+abbrev pub written_answer : ℕ → Option ℕ → List ℕ → List ℕ
+written_answer status mt text = head_line status mt ++ (text ++ codes "\n.\n")
 
 -- what stands in place of an answer that could not be had
 abbrev pub status_of_fault : Fault → ℕ
@@ -25,12 +25,12 @@ text_of_fault Memory = codes "fault 60"
 text_of_fault Storage = codes "fault 61"
 text_of_fault Closed = codes "fault 62"
 
-abbrev pub shown_fault : Fault → List ℕ
-shown_fault fault = shown (status_of_fault fault) None (text_of_fault fault)
+abbrev pub written_fault : Fault → List ℕ
+written_fault fault = written_answer (status_of_fault fault) None (text_of_fault fault)
 
 -- the answer to what is no request
 abbrev pub bad_line_text : List ℕ
 bad_line_text = codes "refused 41"
 
-abbrev pub shown_bad_line : List ℕ
-shown_bad_line = shown 400 None bad_line_text
+abbrev pub written_bad_line : List ℕ
+written_bad_line = written_answer 400 None bad_line_text

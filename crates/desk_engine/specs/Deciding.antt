@@ -1,0 +1,34 @@
+-- What a verdict is put together from. Only private contracts speak of it.
+use Rattle.std.specs.Prelude.{◌≡◌, ℕ, if◌then◌else◌, List, [], ◌∷◌, Option, Some, None}
+use Rattle.desk_rules.specs.declared.entry.Entry.{Entry}
+use Rattle.desk_rules.specs.declared.verdict.Refusal.{Refusal}
+use Rattle.desk_rules.specs.declared.verdict.Verdict.{Verdict}
+use Rattle.desk_rules.specs.History.{number_of_key, sender_of, reference_of}
+use Rattle.desk_rules.specs.Books.{Books}
+use Rattle.desk_rules.specs.Verdict.{Check, IsVerdictAt}
+use Rattle.desk_rules.specs.Content.{history_of}
+use Rattle.desk_register.specs.View.{View, IfRead}
+
+-- the refusal of the first check that fails
+abbrev pub first_refusal : List Check → Option Refusal
+first_refusal [] = None
+first_refusal (c ∷ checks) = if c.fails then Some c.refusal else first_refusal checks
+
+-- a history of which nothing is paired or settled: the checks of supported commands read no more
+abbrev pub with_history : List Entry → Books
+with_history history = record { history = history; pairs = []; settled = [] }
+
+-- the verdict on an entry whose key an earlier entry has
+pub record IsVerdictOnKey (history : List Entry) (entry : Entry) (verdict : Verdict) : Type 0 where
+  pub number : ℕ
+  pub is_number : number_of_key history (sender_of entry) (reference_of entry) ≡ Some number
+  pub is_verdict : IsVerdictAt 0 (with_history history) entry (Some number) verdict
+
+-- there is none where the key is new
+abbrev pub IsVerdictIfKnown : List Entry → Entry → Option Verdict → Type 0
+IsVerdictIfKnown history entry None = number_of_key history (sender_of entry) (reference_of entry) ≡ None
+IsVerdictIfKnown history entry (Some verdict) = IsVerdictOnKey history entry verdict
+
+-- Over a reading call this holds of the history.
+abbrev pub Reading : View → View → (List Entry → Type 0) → Type 0
+Reading old new says = IfRead old new (says (history_of old.content))
