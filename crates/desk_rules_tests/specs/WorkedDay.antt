@@ -15,6 +15,7 @@ use Rattle.desk_rules.specs.declared.entry.Movement.{Movement}
 use Rattle.desk_rules.specs.declared.entry.Payment.{Payment}
 use Rattle.desk_rules.specs.declared.entry.Entry.{Entry}
 use Rattle.desk_rules.specs.declared.entry.Entry.TheVariants.{Participant, Account, Security, Issue, PayIn, Instruct, Cancel, Run}
+use Rattle.desk_rules.specs.declared.limits.TheConstants.{MOST_PAID, MOST_QUANTITY}
 use Rattle.desk_rules.specs.declared.pair.Pair.{Pair}
 use Rattle.desk_rules.specs.Books.{Books}
 use Rattle.desk_rules.specs.Confirmations.{Confirmation}
@@ -83,10 +84,10 @@ abbrev pub larger : Instruction
 larger = record delivery { quantity = 401; some = lit< tt; short = short_larger }
 
 -- so much of the security put on an account or taken off it, and so much of a participant's cash
-abbrev pub movement : List ℕ → List ℕ → (quantity : ℕ) → 0 < quantity → quantity ≤ 99_999_999_999_999 → Movement
+abbrev pub movement : List ℕ → List ℕ → (quantity : ℕ) → 0 < quantity → quantity ≤ MOST_QUANTITY → Movement
 movement reference account quantity some within = record { reference = reference; account = account; isin = share; quantity = quantity; some = some; within = within }
 
-abbrev pub payment : List ℕ → List ℕ → (amount : ℕ) → 0 < amount → amount ≤ 999_999_999_999_999_999 → Payment
+abbrev pub payment : List ℕ → List ℕ → (amount : ℕ) → 0 < amount → amount ≤ MOST_PAID → Payment
 payment reference bic amount some within = record { reference = reference; bic = bic; ccy = Eur; amount = amount; some = some; within = within }
 
 abbrev pub history : List Entry
