@@ -8,6 +8,7 @@ mod chains;
 mod decisions;
 mod scripts;
 mod steps;
+mod texts;
 mod worked_day;
 
 use desk_codes::Ccy;
@@ -17,6 +18,7 @@ use desk_samples::entries::{InstructionTexts, SHARE, UNKNOWN};
 use scripts::{Fact, Line, Sum, play};
 use std::test::Fail;
 use steps::{DELIVERY, PAID_DELIVERY, PAID_RECEIPT, Step};
+use texts::{DELIVERED_A1, MATCHED_B1, RECEIVED_B1, SENT_MATCHED_A1, UNMATCHED_A1};
 
 /// The day of the deliveries, and of most runs.
 const LEAP_DAY: &[u8; 8] = b"20240229";
@@ -77,6 +79,32 @@ fn settles_a_pair_against_payment(rt: HostRuntime) -> Result<(), Fail> {
         Line::Sum(Sum::Debits("B-1"), 0),
         Line::Sum(Sum::CashCredits("ALPHDEFF"), 100_050),
         Line::Sum(Sum::CashDebits("BETADEFF"), 100_050),
+    ];
+    play(rt.alloc(), DAY)
+}
+
+/// The replies of that day, and what it sends.
+#[test]
+fn tells_a_pair_against_payment(rt: HostRuntime) -> Result<(), Fail> {
+    const DAY: &[Line] = &[
+        Line::Accept(OPENING),
+        Line::Accept(&[CASH]),
+        Line::Reply("accepted 7"),
+        Line::Accept(&[A1]),
+        Line::Reply(UNMATCHED_A1),
+        Line::Sent(&[]),
+        Line::Accept(&[B1]),
+        Line::Reply(MATCHED_B1),
+        Line::Accept(&[Step::Run("R1", LEAP_DAY)]),
+        Line::Reply("accepted 10 settled 1 waiting 0"),
+        Line::Sent(&[
+            ("ALPHDEFF", 548, 8),
+            ("ALPHDEFF", 547, 8),
+            ("BETADEFF", 545, 9),
+        ]),
+        Line::SentText(1, SENT_MATCHED_A1),
+        Line::SentText(2, DELIVERED_A1),
+        Line::SentText(3, RECEIVED_B1),
     ];
     play(rt.alloc(), DAY)
 }

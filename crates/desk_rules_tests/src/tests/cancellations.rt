@@ -1,6 +1,7 @@
 //! Cancellations: of an instruction in no pair, by one side of a pair and by both.
 use super::scripts::{Fact, Line, Sum, play};
 use super::steps::{DELIVERY, Step};
+use super::texts::{DONE_X7, WAITS_X6};
 use super::{A1, A2, B1, CASH, LEAP_DAY, OPENING, PAIR};
 use desk_msg::{Case, Mt, Reason};
 use desk_rules::{Refusal, Standing, State, Verdict};
@@ -20,6 +21,7 @@ fn cancels_by_both_sides(rt: HostRuntime) -> Result<(), Fail> {
     const DAY: &[Line] = &[
         Line::Accept(OPENING),
         Line::Accept(&[CASH, A1, B1, X6]),
+        Line::Reply(WAITS_X6),
         Line::Case(10, Case::CancelWaits),
         Line::State(8, State::Matched(Reason::Future)),
         Line::IsNot(Fact::CancelledPair(PAIR)),
@@ -27,6 +29,7 @@ fn cancels_by_both_sides(rt: HostRuntime) -> Result<(), Fail> {
         Line::Verdict(X8, Verdict::Refuse(Refusal::CancellationWaits)),
         Line::Verdict(X6, Verdict::Repeat(10)),
         Line::Accept(&[X7]),
+        Line::Reply(DONE_X7),
         Line::Case(11, Case::CancelDone),
         Line::Case(10, Case::CancelDone),
         Line::Is(Fact::CancelledPair(PAIR)),
@@ -35,6 +38,8 @@ fn cancels_by_both_sides(rt: HostRuntime) -> Result<(), Fail> {
         Line::Verdict(X8, Verdict::Refuse(Refusal::AlreadyCancelled)),
         Line::Accept(&[Step::Run("R1", LEAP_DAY)]),
         Line::Told(0, 0),
+        // Cancellations send nothing.
+        Line::Sent(&[("ALPHDEFF", 548, 8)]),
         Line::Mate(8, Some(9)),
         Line::Standing(
             9,

@@ -1,6 +1,7 @@
 //! Chains of deliveries, in one pass and in passes, and the order in which a pass takes pairs.
 use super::scripts::{Fact, Line, Sum, play};
 use super::steps::{DELIVERY, PAID_DELIVERY, PAID_RECEIPT, RECEIPT, Step};
+use super::texts::LAST_OF_THE_CHAIN;
 use super::{A1, B1, CASH, LEAP_DAY, OPENING, PAIR};
 use desk_msg::{Mt, Reason};
 use desk_rules::{Lack, Pair, Settled, State, same_entry};
@@ -37,7 +38,7 @@ const FOUR: &[Step] = &[
 /// the first to the second (16).
 const CHAIN: &[Step] = &[
     Step::Instruct(InstructionTexts {
-        key: "C1",
+        key: "G1",
         sender: "GAMMDEFF",
         account: "C-1",
         other: "DELTDEFF",
@@ -58,7 +59,7 @@ const CHAIN: &[Step] = &[
         ..GIVEN
     }),
     Step::Instruct(InstructionTexts {
-        key: "C2",
+        key: "G2",
         sender: "GAMMDEFF",
         account: "C-1",
         other: "BETADEFF",
@@ -111,6 +112,20 @@ fn settles_a_chain_in_one_run(rt: HostRuntime) -> Result<(), Fail> {
         Line::Accept(CHAIN),
         Line::Accept(&[Step::Run("R1", LEAP_DAY)]),
         Line::Told(3, 0),
+        Line::Reply("accepted 17 settled 3 waiting 0"),
+        // Each pair is told to its earlier side, and each settlement to both, the deliverer first.
+        Line::Sent(&[
+            ("GAMMDEFF", 548, 11),
+            ("BETADEFF", 548, 13),
+            ("ALPHDEFF", 548, 15),
+            ("ALPHDEFF", 546, 15),
+            ("BETADEFF", 544, 16),
+            ("BETADEFF", 546, 13),
+            ("GAMMDEFF", 544, 14),
+            ("GAMMDEFF", 546, 11),
+            ("DELTDEFF", 544, 12),
+        ]),
+        Line::SentText(9, LAST_OF_THE_CHAIN),
         Line::Settled(&[
             FIRST_SETTLED,
             Settled {
@@ -203,7 +218,7 @@ fn pays_from_what_a_pass_earned(rt: HostRuntime) -> Result<(), Fail> {
         ..PAID_DELIVERY
     });
     const BOUGHT: Step = Step::Instruct(InstructionTexts {
-        key: "C1",
+        key: "G1",
         sender: "GAMMDEFF",
         account: "C-1",
         other: "BETADEFF",

@@ -5,10 +5,10 @@ use desk_msg::Case;
 use desk_plain::{
     Books, before, begins, cancellation_case, cash_credits, cash_debits, credits, debits, entry_at,
     is_cancelled, is_cancelled_pair, issued, lack_of, mate_of, named_by, paid_in, paid_out,
-    pairing_of, passes_of, redeemed, settled_count, settlement_of, standing_of, state_of,
-    verdict_on, waiting_count,
+    pairing_of, passes_of, redeemed, reply_to, sent_of, settled_count, settlement_of, standing_of,
+    state_of, verdict_on, waiting_count,
 };
-use desk_rules::{Entry, Lack, MOST_ENTRIES, Pair, Settled, Standing, State, Verdict};
+use desk_rules::{Entry, Lack, MOST_ENTRIES, Pair, Reply, Sent, Settled, Standing, State, Verdict};
 use desk_samples::entries::{SHARE, account, bic, isin};
 use std::alloc::{AllocError, Global};
 use std::fmt::Debug;
@@ -41,6 +41,12 @@ pub enum Line {
     Standing(u64, Standing),
     /// How a cancellation stands
     Case(u64, Case),
+    /// The text of the reply to the last entry
+    Reply(&'static str),
+    /// All that was sent, in order: the participant, the message type, and the instruction that it is about
+    Sent(&'static [(&'static str, u16, u64)]),
+    /// The text of the sent message of this number, from 1
+    SentText(usize, &'static str),
     /// What a sum comes to
     Sum(Sum, u128),
     Is(Fact),
@@ -163,6 +169,50 @@ fn told(books: Books) -> (usize, usize) {
     (settled_count(books.settled, run), waiting_count(books, run))
 }
 
+/// The reply to the last of the entries.
+fn reply(alloc: Global, books: Books) -> Result<Reply, Fail> {
+    let history = books.history;
+    let Some(entry) = history.last() else {
+        return Err("no entry")?;
+    };
+    if history.len() as u64 > MOST_ENTRIES {
+        return Err("too many entries")?;
+    }
+    Ok(reply_to(alloc, books, entry)?)
+}
+
+/// All that was sent.
+fn sent(alloc: Global, books: Books) -> Result<Vec<Sent>, Fail> {
+    match sent_of(alloc, books)? {
+        Some(sent) => Ok(sent),
+        None => Err("what was sent can't be told")?,
+    }
+}
+
+/// Whether a message went to this participant, in this type, about this instruction.
+fn is_sent(message: &Sent, expected: &(&str, u16, u64)) -> Result<bool, Fail> {
+    let (party, mt, about) = *expected;
+    Ok(message.bic == bic(party)? && message.mt == mt && message.about == about)
+}
+
+/// Whether these messages went out, and no other.
+fn are_sent(sent: &[Sent], expected: &[(&str, u16, u64)]) -> Result<bool, Fail> {
+    for (message, one) in sent.iter().zip(expected) {
+        if !is_sent(message, one)? {
+            return Ok(false);
+        }
+    }
+    Ok(sent.len() == expected.len())
+}
+
+/// Fails where the sent message of this number has another text, by the script's line.
+fn agree_sent(line: usize, sent: &[Sent], number: usize, text: &str) -> Result<(), Fail> {
+    match sent.get(number.saturating_sub(1)) {
+        Some(message) => agree(line, str::from_utf8(message.text.as_bytes())?, text),
+        None => Err("no such message")?,
+    }
+}
+
 /// The verdict on a further entry.
 fn verdict(alloc: Global, entries: &[Entry], entry: &Entry) -> Result<Verdict, Fail> {
     let following = Following::of(alloc, entries)?;
@@ -230,6 +280,12 @@ fn check(alloc: Global, books: Books, number: usize, line: &Line) -> Result<(), 
             agree(number, standing_of(alloc, books, entry)?, standing)
         }
         Line::Case(entry, expected) => agree(number, case(alloc, books, entry)?, expected),
+        Line::Reply(text) => {
+            let reply = reply(alloc, books)?;
+            agree(number, str::from_utf8(reply.text.as_bytes())?, text)
+        }
+        Line::Sent(expected) => agree(number, are_sent(&sent(alloc, books)?, expected)?, true),
+        Line::SentText(message, text) => agree_sent(number, &sent(alloc, books)?, message, text),
         Line::Sum(sum, value) => agree(number, sum.value(books)?, value),
         Line::Is(fact) => agree(number, fact.holds(alloc, books)?, true),
         Line::IsNot(fact) => agree(number, fact.holds(alloc, books)?, false),
