@@ -239,7 +239,7 @@ const WITH_SELF: Pair = Pair {
 /// A transfer against payment between two accounts of one participant: cash is asked for, and stays.
 #[test]
 fn transfers_between_own_accounts(rt: HostRuntime) -> Result<(), Fail> {
-    const COVERED: &[Line] = &[
+    const DAY: &[Line] = &[
         Line::Accept(OPENING),
         Line::Accept(&[
             CASH,
@@ -259,8 +259,13 @@ fn transfers_between_own_accounts(rt: HostRuntime) -> Result<(), Fail> {
         Line::Sum(Sum::CashCredits("ALPHDEFF"), 1000),
         Line::Sum(Sum::CashDebits("ALPHDEFF"), 500),
     ];
-    play(rt.alloc(), COVERED)?;
-    const SHORT: &[Line] = &[
+    play(rt.alloc(), DAY)
+}
+
+/// With a cent less it waits for the cash.
+#[test]
+fn asks_cash_between_own_accounts(rt: HostRuntime) -> Result<(), Fail> {
+    const DAY: &[Line] = &[
         Line::Accept(OPENING),
         Line::Accept(&[
             CASH,
@@ -273,5 +278,5 @@ fn transfers_between_own_accounts(rt: HostRuntime) -> Result<(), Fail> {
         Line::Settled(&[]),
         Line::Lack(WITH_SELF, Lack::Money),
     ];
-    play(rt.alloc(), SHORT)
+    play(rt.alloc(), DAY)
 }

@@ -225,7 +225,7 @@ fn accept(alloc: Global, entries: &mut Vec<Entry>, number: usize, step: &Step) -
     let verdict = verdict(alloc, entries, &entry)?;
     if verdict != Verdict::Accept {
         let count = entries.len();
-        return Err(Fail::new(format_args!("line {number}: after {count} entries {verdict:?}")));
+        return Err(Fail::new(format_args!("line {number}: {verdict:?} after {count} entries")));
     }
     Ok(entries.push(entry)?)
 }
@@ -292,10 +292,11 @@ fn check(alloc: Global, books: Books, number: usize, line: &Line) -> Result<(), 
     }
 }
 
-/// Plays a day by its script, whose lines count from 0.
+/// Plays a day by its script, whose lines count from 1.
 pub fn play(alloc: Global, script: &[Line]) -> Result<(), Fail> {
     let mut entries = Vec::new(alloc);
-    for (number, line) in script.iter().enumerate() {
+    for (i, line) in script.iter().enumerate() {
+        let number = i + 1;
         if let Line::Accept(steps) = line {
             accept_all(alloc, &mut entries, number, steps)?;
         }
