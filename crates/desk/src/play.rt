@@ -4,7 +4,7 @@ ghost use Rattle.desk.specs.PlayAnswer.{IsPlayAnswer};
 
 use crate::status::{Failure, Status, tell_failure};
 use desk_book::{Desk, PlayFault};
-use desk_lists::ListRegister;
+use desk_index::IndexedRegister;
 use desk_rules::MOST_ENTRIES;
 use std::alloc::Global;
 use std::io::{self, Read, Write};
@@ -19,7 +19,7 @@ pub fn answer_play<R: Read, W: Write>(
 ) -> io::Result<Status>
     ensures { IfOk result (λ status. (input : List ℕ) × IfSome (R.remaining reader.old) (λ known. known ≡ input) × IsPlayAnswer input status (W.contents writer.old) (W.contents writer.new)) }
 {
-    let mut desk = Desk::new(ListRegister::new(alloc, MOST_ENTRIES));
+    let mut desk = Desk::new(IndexedRegister::new(alloc, MOST_ENTRIES));
     match desk.play(alloc, reader, writer) {
         Ok(()) => Ok(Status::Done),
         Err(PlayFault::Memory) => tell_failure(Failure::Memory, writer),
