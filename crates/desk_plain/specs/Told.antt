@@ -1,4 +1,4 @@
--- Which notices can be told as messages: those of an instruction that was paired, or that a run settled.
+-- Which notices can be told as messages: those about an instruction, with no run or with one.
 use Rattle.std.specs.Prelude.{◌≡◌, ◌≤◌, Bool, true, ◌&&◌, is_some, List, length, All, ℕ, Option, Some, None, option_and_then}
 use Rattle.desk_rules.specs.declared.entry.Entry.{Entry}
 use Rattle.desk_rules.specs.declared.limits.TheConstants.{MOST_SENT}

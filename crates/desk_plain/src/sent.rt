@@ -1,7 +1,9 @@
 //! All that was sent by books.
-ghost use Rattle.std.specs.Prelude.{◌≡◌, ◌≤◌, true, false, [], ◌∷◌, None, is_some, option_and_then, IfOk, MatchOption};
+ghost use Rattle.std.specs.Prelude.{◌≡◌, ◌≤◌, true, false, [], ◌∷◌, length, None, is_some, option_and_then, IfOk, MatchOption};
+ghost use Rattle.desk_rules.specs.declared.limits.TheConstants.{MOST_ENTRIES};
 ghost use Rattle.desk_msg.specs.ConfirmationText.{confirming_type, confirmation};
 ghost use Rattle.desk_msg.specs.MessageType.{number_of_type};
+ghost use Rattle.desk_rules.specs.Books.{AreBooks};
 ghost use Rattle.desk_rules.specs.History.{entry_at, instruction_at, run_day};
 ghost use Rattle.desk_rules.specs.Sent.{date_by, date_in, sent_of, told, told_to};
 ghost use Rattle.desk_plain.specs.Books.{seen};
@@ -97,10 +99,11 @@ fn told(
     Ok(Some(settled(alloc, k, notice.about, &found, day)?))
 }
 
-/// All that was sent by these books, in order; None where some of it can't be told or numbered, as never in books of a
-/// history.
+/// All that was sent by these books, in order; None where some of it can't be told or numbered, as never where the pairs
+/// and settlements are those of a history that a desk may hold.
 pub fn sent_of(alloc: Global, books: Books) -> Result<Option<Vec<Sent>>, AllocError>
-    ensures { IfOk result (λ sent. MatchOption sent (CanTell (seen books.entry) → ⊥) (λ messages. messages.items ≡ sent_of (seen books.entry))) }
+    ensures books { AreBooks (seen books.entry) → length (seen books.entry).history ≤ MOST_ENTRIES → IfOk result (λ sent. is_some sent ≡ true) }
+    ensures sent { IfOk result (λ sent. MatchOption sent (CanTell (seen books.entry) → ⊥) (λ messages. messages.items ≡ sent_of (seen books.entry))) }
 {
     let notices = notices_of(alloc, books)?;
     if notices.len() as u64 > MOST_SENT {

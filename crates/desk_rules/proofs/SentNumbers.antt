@@ -26,7 +26,7 @@ use Rattle.desk_rules.specs.Settlement.{precedes}
 
 -- What holds of each member, by recursion.
 
-abbrev Every : {X : Type 0} → (X → Type 0) → List X → Type 0
+abbrev pub Every : {X : Type 0} → (X → Type 0) → List X → Type 0
 Every P [] = Unit {0}
 Every P (x ∷ xs) = P x × Every P xs
 
@@ -43,7 +43,7 @@ every_if P true xs all = all
 every_if P false xs all = tt
 
 -- a notice is about an instruction
-abbrev IsKnown : List Entry → Notice → Type 0
+abbrev pub IsKnown : List Entry → Notice → Type 0
 IsKnown h n = (i : Instructed) × (instruction_at h n.about ≡ Some i)
 
 -- Of notices about instructions each gives one message, and the first the number k.
@@ -51,7 +51,7 @@ IsKnown h n = (i : Instructed) × (instruction_at h n.about ≡ Some i)
 told_known : (h : List Entry) (k : ℕ) (n : Notice) (is : IsKnown h n) → told_to h k n (instruction_at h n.about) ≡ told h k n.about n.run is.0 ∷ []
 told_known h k n is = ap (told_to h k n) is.1
 
-sent_length : (h : List Entry) (k : ℕ) (ns : List Notice) → Every (IsKnown h) ns → length (sent_from h k ns) ≡ length ns
+pub sent_length : (h : List Entry) (k : ℕ) (ns : List Notice) → Every (IsKnown h) ns → length (sent_from h k ns) ≡ length ns
 sent_length h k [] all = refl
 sent_length h k (n ∷ ns) all = ap (λ z. length (z ++ sent_from h (k + 1) ns)) (told_known h k n all.0) ∙ ap suc (sent_length h (k + 1) ns all.1)
 
@@ -124,7 +124,7 @@ module _ (books : Books) (are : AreBooks books) where
       let earlier = mate.candidate.earlier in
       (omega (arith, earlier), omega (arith, later))
 
-  settled_pair : (s : Settled) → In books.settled s → Contains books.pairs s.pair
+  pub settled_pair : (s : Settled) → In books.settled s → Contains books.pairs s.pair
   settled_pair s i = let m = (are.settlement.exact s).0 (Contains-from_In books.settled s i) in m.paired
 
   settled_known : (s : Settled) → In books.settled s → (1 ≤ s.run) × (s.run < 1 + length books.history)
@@ -136,7 +136,7 @@ module _ (books : Books) (are : AreBooks books) where
       (omega (arith, numbered), omega (arith, below))
 
   -- each notice is about an instruction
-  all_known : Every (IsKnown books.history) (notices_of books)
+  pub all_known : Every (IsKnown books.history) (notices_of books)
   all_known = every_flat (IsKnown books.history) (told_by books) (range_with_len 1 (length books.history)) (λ n i.
       every_joined (IsKnown books.history) (flat_map (told_of_pair n) books.pairs) (flat_map (told_of_settled books.history n) books.settled)
       (every_flat (IsKnown books.history) (told_of_pair n) books.pairs (λ p j.

@@ -32,7 +32,7 @@ pub use laws::{
 pub use limits::{MOST_ENTRIES, MOST_PAID, MOST_QUANTITY, MOST_SENT};
 pub use opposite::are_opposite;
 pub use pair::{Lack, Pair, Place, Settled};
-pub use replies::{command_reply, message_reply, refused_reply, run_reply};
+pub use replies::{command_reply, message_reply, question_refused, refused_reply, run_reply};
 pub use reply::{Kept, Notice, Reply, Sent, Text};
 pub use same::same_entry;
 pub use standing::{Standing, State};

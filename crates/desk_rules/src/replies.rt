@@ -3,6 +3,7 @@ ghost use Rattle.std.specs.Prelude.{◌≡◌, ◌++◌, ◌≤◌, codes, decim
 ghost use Rattle.desk_msg.specs.StatusText.{IsCase, IsOwn, advice};
 ghost use Rattle.desk_rules.specs.Reply.{accepted_text, advice_reply, case_by_state, refused_reply, untyped_reply};
 ghost use Rattle.desk_rules.specs.Books.{Books};
+ghost use Rattle.desk_rules.specs.Questions.{refused_question};
 ghost use Rattle.desk_rules.specs.Refusals.{number_of_refusal};
 
 use crate::entry::Entry;
@@ -107,6 +108,13 @@ pub fn message_reply(
     advising(alloc, DONE, number, mt, reference, about)
 }
 
+/// The answer to a question that is refused with a number: `refused N`.
+pub fn question_refused(alloc: Global, number: u8) -> Result<Reply, AllocError>
+    ensures { IfOk result (λ reply. reply ≡ refused_question number) }
+{
+    Ok(untyped(REFUSED, format!(in alloc; "refused {number}")?))
+}
+
 /// The reply to an entry that is refused by a desk of so many entries: to a message a status advice with the refusal's
 /// number, else `refused N`.
 pub fn refused_reply(
@@ -142,6 +150,6 @@ pub fn refused_reply(
         | Entry::Redeem(_)
         | Entry::PayIn(_)
         | Entry::PayOut(_)
-        | Entry::Run { .. } => Ok(untyped(REFUSED, format!(in alloc; "refused {number}")?)),
+        | Entry::Run { .. } => question_refused(alloc, number),
     }
 }

@@ -95,6 +95,7 @@ fn tells_a_pair_against_payment(rt: HostRuntime) -> Result<(), Fail> {
         Line::Sent(&[]),
         Line::Accept(&[B1]),
         Line::Reply(MATCHED_B1),
+        Line::Status("BETADEFF", "B1", MATCHED_B1),
         Line::Accept(&[Step::Run("R1", LEAP_DAY)]),
         Line::Reply("accepted 10 settled 1 waiting 0"),
         Line::Sent(&[
@@ -105,6 +106,12 @@ fn tells_a_pair_against_payment(rt: HostRuntime) -> Result<(), Fail> {
         Line::SentText(1, SENT_MATCHED_A1),
         Line::SentText(2, DELIVERED_A1),
         Line::SentText(3, RECEIVED_B1),
+        Line::SentTo("ALPHDEFF", 2, DELIVERED_A1),
+        Line::SentTo("BETADEFF", 1, RECEIVED_B1),
+        Line::SentTo("BETADEFF", 2, "refused 42"),
+        Line::SentTo("GAMMDEFF", 1, "refused 10"),
+        Line::Status("BETADEFF", "B1", RECEIVED_B1),
+        Line::Status("BETADEFF", "A1", "refused 17"),
     ];
     play(rt.alloc(), DAY)
 }

@@ -1,7 +1,10 @@
 //! Cancellations: of an instruction in no pair, by one side of a pair and by both.
 use super::scripts::{Fact, Line, Sum, play};
 use super::steps::{DELIVERY, Step};
-use super::texts::{DONE_X7, WAITS_X6};
+use super::texts::{
+    CANCELLED_A1, CANCELLED_B1, DELIVERED_A1, DONE_X6, DONE_X7, REFUSED_ONCE_CANCELLED,
+    REFUSED_ONCE_SETTLED, REFUSED_WHILE_X6_WAITS, TOO_LATE_X6, WAITS_X6,
+};
 use super::{A1, A2, B1, CASH, LEAP_DAY, OPENING, PAIR};
 use desk_msg::{Case, Mt, Reason};
 use desk_rules::{Refusal, Standing, State, Verdict};
@@ -27,6 +30,7 @@ fn cancels_by_both_sides(rt: HostRuntime) -> Result<(), Fail> {
         Line::IsNot(Fact::CancelledPair(PAIR)),
         // Another one of that side is refused, and the first one asked again is a repeat.
         Line::Verdict(X8, Verdict::Refuse(Refusal::CancellationWaits)),
+        Line::Refused(X8, REFUSED_WHILE_X6_WAITS),
         Line::Verdict(X6, Verdict::Repeat(10)),
         Line::Accept(&[X7]),
         Line::Reply(DONE_X7),
@@ -35,7 +39,11 @@ fn cancels_by_both_sides(rt: HostRuntime) -> Result<(), Fail> {
         Line::Is(Fact::CancelledPair(PAIR)),
         Line::State(8, State::Cancelled),
         Line::State(9, State::Cancelled),
+        Line::Status("ALPHDEFF", "A1", CANCELLED_A1),
+        Line::Status("BETADEFF", "B1", CANCELLED_B1),
+        Line::Status("ALPHDEFF", "X6", DONE_X6),
         Line::Verdict(X8, Verdict::Refuse(Refusal::AlreadyCancelled)),
+        Line::Refused(X8, REFUSED_ONCE_CANCELLED),
         Line::Accept(&[Step::Run("R1", LEAP_DAY)]),
         Line::Told(0, 0),
         // Cancellations send nothing.
@@ -63,8 +71,13 @@ fn settles_while_one_side_asks(rt: HostRuntime) -> Result<(), Fail> {
         Line::Accept(&[CASH, A1, B1, X6, Step::Run("R1", LEAP_DAY)]),
         Line::Told(1, 0),
         Line::Case(10, Case::CancelRefused(19)),
+        Line::Status("ALPHDEFF", "X6", TOO_LATE_X6),
+        // Asked again, it gets its first reply.
         Line::Verdict(X6, Verdict::Repeat(10)),
+        Line::FirstReply(10, WAITS_X6),
         Line::Verdict(X7, Verdict::Refuse(Refusal::AlreadySettled)),
+        Line::Refused(X7, REFUSED_ONCE_SETTLED),
+        Line::Status("ALPHDEFF", "A1", DELIVERED_A1),
         Line::Verdict(X8, Verdict::Refuse(Refusal::AlreadySettled)),
         Line::Standing(
             8,

@@ -5,11 +5,13 @@ use desk_msg::Case;
 use desk_plain::{
     Books, before, begins, cancellation_case, cash_credits, cash_debits, credits, debits, entry_at,
     is_cancelled, is_cancelled_pair, issued, lack_of, mate_of, named_by, paid_in, paid_out,
-    pairing_of, passes_of, redeemed, reply_to, sent_of, settled_count, settlement_of, standing_of,
-    state_of, verdict_on, waiting_count,
+    pairing_of, passes_of, redeemed, reply_to, sent_of, sent_reply, settled_count, settlement_of,
+    standing_of, state_of, status_reply, verdict_on, waiting_count,
 };
-use desk_rules::{Entry, Lack, MOST_ENTRIES, Pair, Reply, Sent, Settled, Standing, State, Verdict};
-use desk_samples::entries::{SHARE, account, bic, isin};
+use desk_rules::{
+    Entry, Lack, MOST_ENTRIES, Pair, Reply, Sent, Settled, Standing, State, Verdict, refused_reply,
+};
+use desk_samples::entries::{SHARE, account, bic, isin, reference};
 use std::alloc::{AllocError, Global};
 use std::fmt::Debug;
 use std::test::Fail;
@@ -43,6 +45,14 @@ pub enum Line {
     Case(u64, Case),
     /// The text of the reply to the last entry
     Reply(&'static str),
+    /// The text of the first reply to an entry, which a repeat of it gets
+    FirstReply(u64, &'static str),
+    /// The text of the reply to a further step, which is refused
+    Refused(Step, &'static str),
+    /// How the message of a participant with a reference stands
+    Status(&'static str, &'static str, &'static str),
+    /// The message of a number, from 1, that was sent to a participant
+    SentTo(&'static str, u64, &'static str),
     /// All that was sent, in order: the participant, the message type, and the instruction that it is about
     Sent(&'static [(&'static str, u16, u64)]),
     /// The text of the sent message of this number, from 1
@@ -189,6 +199,53 @@ fn sent(alloc: Global, books: Books) -> Result<Vec<Sent>, Fail> {
     }
 }
 
+/// The first reply to the entry of a number.
+fn first_reply(alloc: Global, entries: &[Entry], number: u64) -> Result<Reply, Fail> {
+    let front = before(number.saturating_add(1), entries);
+    let following = Following::of(alloc, front)?;
+    reply(alloc, following.books(front))
+}
+
+/// The reply to a further step, which is refused.
+fn refused(alloc: Global, books: Books, step: &Step) -> Result<Reply, Fail> {
+    let count = books.history.len() as u64;
+    if count > MOST_ENTRIES {
+        return Err("too many entries")?;
+    }
+    let entry = step.entry(alloc)?;
+    match verdict_on(books, &entry, MOST_ENTRIES) {
+        Verdict::Refuse(refusal) => Ok(refused_reply(alloc, &entry, count, refusal)?),
+        Verdict::Accept | Verdict::Repeat(_) => Err("not refused")?,
+    }
+}
+
+/// How the message of a participant with a reference stands.
+fn status(alloc: Global, books: Books, party: &str, key: &str) -> Result<Reply, Fail> {
+    let bic = bic(party)?;
+    let reference = reference(key)?;
+    if books.history.len() as u64 > MOST_ENTRIES {
+        return Err("too many entries")?;
+    }
+    match sent_of(alloc, books)? {
+        Some(sent) => Ok(status_reply(alloc, books, &sent, &bic, &reference)?),
+        None => Err("what was sent can't be told")?,
+    }
+}
+
+/// The message of a number that was sent to a participant.
+fn sent_to(alloc: Global, books: Books, party: &str, number: u64) -> Result<Reply, Fail> {
+    let bic = bic(party)?;
+    match sent_of(alloc, books)? {
+        Some(sent) => Ok(sent_reply(alloc, books, &sent, &bic, number)?),
+        None => Err("what was sent can't be told")?,
+    }
+}
+
+/// Fails where a reply has another text, by the script's line.
+fn agree_reply(line: usize, reply: &Reply, text: &str) -> Result<(), Fail> {
+    agree(line, str::from_utf8(reply.text.as_bytes())?, text)
+}
+
 /// Whether a message went to this participant, in this type, about this instruction.
 fn is_sent(message: &Sent, expected: &(&str, u16, u64)) -> Result<bool, Fail> {
     let (party, mt, about) = *expected;
@@ -280,9 +337,16 @@ fn check(alloc: Global, books: Books, number: usize, line: &Line) -> Result<(), 
             agree(number, standing_of(alloc, books, entry)?, standing)
         }
         Line::Case(entry, expected) => agree(number, case(alloc, books, entry)?, expected),
-        Line::Reply(text) => {
-            let reply = reply(alloc, books)?;
-            agree(number, str::from_utf8(reply.text.as_bytes())?, text)
+        Line::Reply(text) => agree_reply(number, &reply(alloc, books)?, text),
+        Line::FirstReply(entry, text) => {
+            agree_reply(number, &first_reply(alloc, history, entry)?, text)
+        }
+        Line::Refused(step, text) => agree_reply(number, &refused(alloc, books, &step)?, text),
+        Line::Status(party, key, text) => {
+            agree_reply(number, &status(alloc, books, party, key)?, text)
+        }
+        Line::SentTo(party, message, text) => {
+            agree_reply(number, &sent_to(alloc, books, party, message)?, text)
         }
         Line::Sent(expected) => agree(number, are_sent(&sent(alloc, books)?, expected)?, true),
         Line::SentText(message, text) => agree_sent(number, &sent(alloc, books)?, message, text),

@@ -196,3 +196,131 @@ pub const LAST_OF_THE_CHAIN: &str = "\
 :16S:SETPRTY\r\n\
 :16S:SETDET\r\n\
 -}";
+
+/// What X8 is answered while X6 waits: 22.
+pub const REFUSED_WHILE_X6_WAITS: &str = "\
+{4:\r\n\
+:16R:GENL\r\n\
+:20C::SEME//S000000000000010\r\n\
+:23G:CAST\r\n\
+:16R:LINK\r\n\
+:13A::LINK//543\r\n\
+:20C::RELA//X8\r\n\
+:16S:LINK\r\n\
+:16R:STAT\r\n\
+:25D::CPRC//REJT\r\n\
+:16R:REAS\r\n\
+:24B::REJT//NARR\r\n\
+:70D::REAS//DESK 22\r\n\
+:16S:REAS\r\n\
+:16S:STAT\r\n\
+:16S:GENL\r\n\
+-}";
+
+/// How A1 stands once both sides asked: cancelled.
+pub const CANCELLED_A1: &str = "\
+{4:\r\n\
+:16R:GENL\r\n\
+:20C::SEME//S000000000000011\r\n\
+:23G:INST\r\n\
+:16R:LINK\r\n\
+:13A::LINK//543\r\n\
+:20C::RELA//A1\r\n\
+:16S:LINK\r\n\
+:16R:STAT\r\n\
+:25D::IPRC//CAND\r\n\
+:16S:STAT\r\n\
+:16S:GENL\r\n\
+-}";
+
+/// How B1 stands then.
+pub const CANCELLED_B1: &str = "\
+{4:\r\n\
+:16R:GENL\r\n\
+:20C::SEME//S000000000000011\r\n\
+:23G:INST\r\n\
+:16R:LINK\r\n\
+:13A::LINK//541\r\n\
+:20C::RELA//B1\r\n\
+:16S:LINK\r\n\
+:16R:STAT\r\n\
+:25D::IPRC//CAND\r\n\
+:16S:STAT\r\n\
+:16S:GENL\r\n\
+-}";
+
+/// How X6 stands then: carried out.
+pub const DONE_X6: &str = "\
+{4:\r\n\
+:16R:GENL\r\n\
+:20C::SEME//S000000000000011\r\n\
+:23G:CAST\r\n\
+:16R:LINK\r\n\
+:13A::LINK//543\r\n\
+:20C::RELA//X6\r\n\
+:16S:LINK\r\n\
+:16R:STAT\r\n\
+:25D::CPRC//CAND\r\n\
+:16S:STAT\r\n\
+:16S:GENL\r\n\
+-}";
+
+/// What X8 is answered then: 18.
+pub const REFUSED_ONCE_CANCELLED: &str = "\
+{4:\r\n\
+:16R:GENL\r\n\
+:20C::SEME//S000000000000011\r\n\
+:23G:CAST\r\n\
+:16R:LINK\r\n\
+:13A::LINK//543\r\n\
+:20C::RELA//X8\r\n\
+:16S:LINK\r\n\
+:16R:STAT\r\n\
+:25D::CPRC//REJT\r\n\
+:16R:REAS\r\n\
+:24B::REJT//NARR\r\n\
+:70D::REAS//DESK 18\r\n\
+:16S:REAS\r\n\
+:16S:STAT\r\n\
+:16S:GENL\r\n\
+-}";
+
+/// How X6 stands once the pair has settled: refused, with 19.
+pub const TOO_LATE_X6: &str = "\
+{4:\r\n\
+:16R:GENL\r\n\
+:20C::SEME//S000000000000011\r\n\
+:23G:CAST\r\n\
+:16R:LINK\r\n\
+:13A::LINK//543\r\n\
+:20C::RELA//X6\r\n\
+:16S:LINK\r\n\
+:16R:STAT\r\n\
+:25D::CPRC//REJT\r\n\
+:16R:REAS\r\n\
+:24B::REJT//NARR\r\n\
+:70D::REAS//DESK 19\r\n\
+:16S:REAS\r\n\
+:16S:STAT\r\n\
+:16S:GENL\r\n\
+-}";
+
+/// What X7 is answered then: 19.
+pub const REFUSED_ONCE_SETTLED: &str = "\
+{4:\r\n\
+:16R:GENL\r\n\
+:20C::SEME//S000000000000011\r\n\
+:23G:CAST\r\n\
+:16R:LINK\r\n\
+:13A::LINK//541\r\n\
+:20C::RELA//X7\r\n\
+:16S:LINK\r\n\
+:16R:STAT\r\n\
+:25D::CPRC//REJT\r\n\
+:16R:REAS\r\n\
+:24B::REJT//NARR\r\n\
+:70D::REAS//DESK 19\r\n\
+:16S:REAS\r\n\
+:16S:STAT\r\n\
+:16S:GENL\r\n\
+-}";
