@@ -16,7 +16,8 @@ use Rattle.desk_rules.specs.declared.standing.State.TheVariants.{NoInstruction, 
 use Rattle.desk_rules.specs.declared.standing.Standing.{Standing}
 use Rattle.desk_engine.specs.declared.settlement_run.Taken.{Taken}
 use Rattle.desk_rules.specs.History.{instruction_at, run_rule}
-use Rattle.desk_rules.specs.Settlement.{is_above, settled_count, begins, is_in_passes, allows_more}
+use Rattle.desk_rules.specs.Settlement.{settled_count, begins, is_in_passes, allows_more}
+use Rattle.desk_rules.specs.Underway.{is_above}
 use Rattle.desk_rules.specs.Underway.{IsOpen}
 use Rattle.desk_rules.specs.Books.{Books, AreBooks}
 use Rattle.desk_rules.specs.Verdict.{WasAccepted}

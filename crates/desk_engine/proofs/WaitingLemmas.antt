@@ -9,7 +9,8 @@ use Rattle.desk_rules.specs.declared.entry.Entry.{Entry}
 use Rattle.desk_rules.specs.declared.pair.Pair.{Pair}
 use Rattle.desk_rules.specs.declared.pair.Place.{Place}
 use Rattle.desk_rules.specs.declared.pair.Settled.{Settled}
-use Rattle.desk_rules.specs.Settlement.{is_due, is_above}
+use Rattle.desk_rules.specs.Settlement.{is_due}
+use Rattle.desk_rules.specs.Underway.{is_above}
 use Rattle.desk_rules.specs.Underway.{IsOpen, IsNext}
 use Rattle.desk_rules.specs.Reply.{same_pair, is_settled_pair}
 use Rattle.desk_rules.proofs.Decided.{In, In-from_Contains, Contains-from_In, In-right, Ordered, filter_yes, filter_no, filter-none, filter-same}

@@ -17,7 +17,8 @@ use Rattle.desk_rules.specs.declared.verdict.Verdict.TheVariants.{Accept}
 use Rattle.desk_rules.specs.History.{instruction_at}
 use Rattle.desk_rules.specs.Cancelled.{is_cancel_requested}
 use Rattle.desk_rules.specs.Covered.{lack_of}
-use Rattle.desk_rules.specs.Settlement.{is_due, is_above, settled_before, begins, settled_count, IsSettlement}
+use Rattle.desk_rules.specs.Settlement.{is_due, settled_before, begins, settled_count, IsSettlement}
+use Rattle.desk_rules.specs.Underway.{is_above}
 use Rattle.desk_rules.specs.Books.{Books, AreBooks}
 use Rattle.desk_rules.specs.Standing.{no_standing, reason_of_lack}
 use Rattle.desk_rules.specs.Verdict.{IsVerdict, WasAccepted}

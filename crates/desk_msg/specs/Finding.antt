@@ -1,4 +1,4 @@
--- What is found among the fields that the code holds.
+-- What is found among the fields that the code holds. Only private contracts speak of it.
 use Rattle.std.specs.Prelude.{◌≡◌, ℕ, ◌<◌, true, false, List, [], ◌∷◌, length, map, Option, Some, None, is_some, codes, Result, Ok, Err}
 use Rattle.std.specs.Borrow.{Bor}
 use Rattle.std.specs.List.{filter}

@@ -10,7 +10,8 @@ use Rattle.desk_rules.specs.declared.pair.Settled.{Settled}
 use Rattle.desk_rules.specs.declared.pair.Place.{Place}
 use Rattle.desk_rules.specs.History.{before}
 use Rattle.desk_rules.specs.Pairing.{IsCandidate, IsMate, IsPairing}
-use Rattle.desk_rules.specs.Settlement.{is_sooner, is_above, place_of, begins, IsUnsettled, IsSettlement}
+use Rattle.desk_rules.specs.Settlement.{is_sooner, place_of, begins, IsUnsettled, IsSettlement}
+use Rattle.desk_rules.specs.Underway.{is_above}
 use Rattle.desk_rules.specs.Underway.{IsOpen, IsNext}
 use Rattle.desk_rules.proofs.Decided.{In, In-from_Contains, In-left, In-push_cases, Ordered, Ordered-from_AllPairs}
 use Rattle.desk_rules.proofs.HistoryLemmas.{length-before, take-take}

@@ -3,7 +3,8 @@ ghost use Rattle.std.specs.Prelude.{◌≡◌, ◌≢◌, ◌↔◌, ◌==◌, �
 ghost use Rattle.std.specs.List.{list_any};
 ghost use Rattle.desk_rules.specs.History.{before, entry_at, run_day};
 ghost use Rattle.desk_rules.specs.Pairing.{IsPairing};
-ghost use Rattle.desk_rules.specs.Settlement.{day_of, is_sooner, is_by, is_due, place_of, is_above, is_in_passes, begins, IsUnsettled, IsSettlement, last_pass, passes_of, settled_count, precedes, settled_before};
+ghost use Rattle.desk_rules.specs.Settlement.{day_of, is_sooner, is_by, is_due, place_of, is_in_passes, begins, IsUnsettled, IsSettlement, last_pass, passes_of, settled_count, precedes, settled_before};
+ghost use Rattle.desk_rules.specs.Underway.{is_above};
 ghost use Rattle.desk_rules.specs.Underway.{IsOpen, IsNext};
 ghost use Rattle.desk_rules.specs.Reply.{is_settled_pair, waiting_count};
 ghost use Rattle.desk_plain.specs.Books.{seen};

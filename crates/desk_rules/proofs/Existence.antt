@@ -11,7 +11,8 @@ use Rattle.desk_rules.specs.declared.pair.Place.{Place}
 use Rattle.desk_rules.specs.History.{Instructed, instructed, before, instruction_at, run_day}
 use Rattle.desk_rules.specs.Pairing.{IsCandidate, IsPairing}
 use Rattle.desk_rules.specs.Covered.{is_covered}
-use Rattle.desk_rules.specs.Settlement.{is_sooner, precedes, settled_before, is_due, IsUnsettled, begins, Settles, IsSettlement, place_of, is_above}
+use Rattle.desk_rules.specs.Settlement.{is_sooner, precedes, settled_before, is_due, IsUnsettled, begins, Settles, IsSettlement, place_of}
+use Rattle.desk_rules.specs.Underway.{is_above}
 use Rattle.desk_rules.specs.Underway.{IsOpen, IsNext}
 use Rattle.desk_rules.proofs.Decided.{In, In-from_Contains, Contains-from_In, In-left, filter-In, Ordered, filter_yes, filter_no}
 use Rattle.desk_rules.proofs.HistoryLemmas.{entry_at-end}

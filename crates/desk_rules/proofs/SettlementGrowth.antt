@@ -9,7 +9,8 @@ use Rattle.desk_rules.specs.declared.pair.Settled.{Settled}
 use Rattle.desk_rules.specs.declared.pair.Place.{Place}
 use Rattle.desk_rules.specs.History.{entry_at, before, run_day, run_rule}
 use Rattle.desk_rules.specs.Covered.{is_covered}
-use Rattle.desk_rules.specs.Settlement.{instructed_day, day_of, is_sooner, precedes, settled_before, is_by, is_due, allows_more, is_in_passes, begins, Settles, IsSettlement, is_above}
+use Rattle.desk_rules.specs.Settlement.{instructed_day, day_of, is_sooner, precedes, settled_before, is_by, is_due, allows_more, is_in_passes, begins, Settles, IsSettlement}
+use Rattle.desk_rules.specs.Underway.{is_above}
 use Rattle.desk_rules.specs.Underway.{IsOpen, IsNext}
 use Rattle.desk_rules.specs.Underway.{IsReached, IsSettledAsFar}
 use Rattle.desk_rules.proofs.Decided.{AllPairs-from_Ordered, Ordered-from_AllPairs, In-from_Contains, Contains-from_In, In-left, In-push_cases, In, In-filter, filter-In, filter-front, Ordered, Decided, grow_out, grow_in, Decided-same}

@@ -9,7 +9,8 @@ use Rattle.desk_rules.specs.declared.pair.Settled.{Settled}
 use Rattle.desk_rules.specs.declared.pair.Place.{Place}
 use Rattle.desk_rules.specs.History.{entry_at, before, run_day}
 use Rattle.desk_rules.specs.Pairing.{IsPairing}
-use Rattle.desk_rules.specs.Settlement.{day_of, place_of, is_sooner, is_passed_sooner, precedes, settled_before, is_by, is_not_cancelled, is_due, is_in_passes, begins, Settles, IsSettlement, is_above}
+use Rattle.desk_rules.specs.Settlement.{day_of, place_of, is_sooner, is_passed_sooner, precedes, settled_before, is_by, is_not_cancelled, is_due, is_in_passes, begins, Settles, IsSettlement}
+use Rattle.desk_rules.specs.Underway.{is_above}
 use Rattle.desk_rules.proofs.Decided.{In, In-from_Contains, Contains-from_In, Ordered, Ordered-from_AllPairs, AllPairs-from_Ordered, IsStrict, IsTotalOn, Decided, one_list}
 use Rattle.desk_rules.proofs.HistoryLemmas.{entry_at-known}
 use Rattle.desk_rules.proofs.PairingLemmas.{lower}

@@ -56,8 +56,8 @@ pub record StandTogether (history : List Entry) (settled : Settled) (messages : 
   pub receipt : ConfirmsSettled history settled.run (receiver_of history settled.pair) second
 
 -- What one settlement more moves. Its pair is a delivery and a receipt that are opposite, so of one quantity of one
--- security and, exactly against payment, for one amount of one currency. (No instruction is for a quantity or an amount
--- of 0.) The quantity goes from the account of the delivery to that of the receipt, the amount from the sender of the
+-- security and, exactly against payment, for one amount of one currency. (By its type, no instruction is for a
+-- quantity or an amount of 0.) The quantity goes from the account of the delivery to that of the receipt, the amount from the sender of the
 -- receipt to that of the delivery, and nothing goes from or to another.
 pub record Moves (history : List Entry) (settled : List Settled) (s : Settled) : Type 0 where
   pub delivery : Instructed

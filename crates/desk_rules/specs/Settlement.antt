@@ -93,10 +93,6 @@ abbrev pub is_past : Option Place → Place → Bool
 is_past None place = true
 is_past (Some last) place = is_before last place
 
--- a pair is past a place, in the order of a pass
-abbrev pub is_above : List Entry → Option Place → Pair → Bool
-is_above history last p = is_past last (place_of history p)
-
 -- the number of a run's last pass that settled some pair; 0 where none did
 abbrev pub last_pass : List Settled → ℕ → ℕ
 last_pass [] run = 0

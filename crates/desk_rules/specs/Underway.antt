@@ -5,7 +5,11 @@ use Rattle.desk_rules.specs.declared.entry.Entry.{Entry}
 use Rattle.desk_rules.specs.declared.pair.Pair.{Pair}
 use Rattle.desk_rules.specs.declared.pair.Place.{Place}
 use Rattle.desk_rules.specs.declared.pair.Settled.{Settled}
-use Rattle.desk_rules.specs.Settlement.{IsUnsettled, Settles, is_above, is_due, is_sooner, precedes, settled_before}
+use Rattle.desk_rules.specs.Settlement.{IsUnsettled, Settles, is_due, is_past, is_sooner, place_of, precedes, settled_before}
+
+-- a pair is past a place, in the order of a pass
+abbrev pub is_above : List Entry → Option Place → Pair → Bool
+is_above history last p = is_past last (place_of history p)
 
 -- A settlement of a pair numbered below its run was decided on by then: it is of a run before this one, of a pass of the
 -- run before this one, or of the pass, and not above the place.

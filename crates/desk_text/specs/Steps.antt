@@ -1,4 +1,4 @@
--- What each step of the reader gives, in terms of what reading the rest gives.
+-- What each step of the reader gives, in terms of what reading the rest gives. Only private contracts speak of it.
 use Rattle.std.specs.Prelude.{◌≡◌, ℕ, ◌+◌, Bool, true, false, List, [], ◌∷◌, map, reverse, Result, Ok, Err}
 use Rattle.desk_text.specs.declared.reading.Reader.{Reader}
 use Rattle.desk_text.specs.declared.fields.Block.{Block}

@@ -1,5 +1,5 @@
 use Rattle.std.proofs.Common.{length, filter}
-use Rattle.desk_rules.specs.Settlement.{is_above}
+use Rattle.desk_rules.specs.Underway.{is_above}
 use Rattle.desk_plain.proofs.PlainLemmas.{IsPassing, IsBetween, steps_left}
 use Rattle.desk_plain.proofs.settlement.settle_last.Given as goal
 
