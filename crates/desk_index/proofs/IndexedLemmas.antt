@@ -5,7 +5,7 @@ use Rattle.std.specs.BTreeSet.{BTreeSet, contains}
 use Rattle.std.proofs.lemmas.Bool.{cases_eq}
 use Rattle.std.proofs.lemmas.List.{length-map, length-append, map-append}
 use Rattle.desk_codes.specs.Number.{number_of}
-use Rattle.desk_msg.specs.declared.status.Reason.TheVariants.{Future, Lack}
+use Rattle.desk_msg.specs.declared.status.Reason.TheVariants.{Future, Lack, Money as LackOfMoney}
 use Rattle.desk_rules.specs.declared.entry.Entry.{Entry}
 use Rattle.desk_rules.specs.declared.entry.Entry.TheVariants.{Participant, Account, Security, Issue, Redeem, PayIn, PayOut, Instruct, Cancel, Run}
 use Rattle.desk_rules.specs.declared.entry.Instructed.{Instructed}
@@ -405,10 +405,11 @@ module _ (keys : Keys) (numbers : BTreeSet (MatchKey × ℕ)) (places places' : 
   settled_so : (n mate : ℕ) (earlier later : Instructed) (outcome : Outcome) → mate < n → PlacedAt places' (instruction_at (history_of old.content) n) n → Stays old new
       → TriesSides old.content n mate earlier later outcome new.content → IsIndexed new keys numbers places' noted
   settled_so n mate earlier later outcomes.Settled two placed ok ends =
-      after_standing keys numbers places places' noted old new mate n Settled honest was_sure stage indexed ok two (λ e. cc) all placed (ap (λ c. c.register) ends.1) (ap (λ c. c.standing) ends.1)
+      after_standing keys numbers places places' noted old new mate n Settled honest was_sure stage indexed ok two (λ e. cc) all placed (ap (λ c. c.register) ends.2) (ap (λ c. c.standing) ends.2)
   settled_so n mate earlier later (Lacks Securities) two placed ok ends =
       after_standing keys numbers places places' noted old new mate n (Matched Lack) honest was_sure stage indexed ok two (λ e. cc) all placed (ap (λ c. c.register) ends.1) (ap (λ c. c.standing) ends.1)
-  settled_so n mate earlier later (Lacks LacksMoney) two placed ok ends = absurd ends
+  settled_so n mate earlier later (Lacks LacksMoney) two placed ok ends =
+      after_standing keys numbers places places' noted old new mate n (Matched LackOfMoney) honest was_sure stage indexed ok two (λ e. cc) all placed (ap (λ c. c.register) ends.2) (ap (λ c. c.standing) ends.2)
 
   pub after_settle : (r : Result Outcome Fault) (n : ℕ) {day : ℕ} → CanSettle old.content n day → PlacedAt places' (instruction_at (history_of old.content) n) n
       → (new.is_honest → old.is_sure → IfOk r (λ outcome. TriesPair old.content n outcome new.content)) → OnOk r (Stays old new) → OnErr r (Falls old new) → IsIndexed new keys numbers places' noted

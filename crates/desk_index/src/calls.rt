@@ -10,7 +10,7 @@ use crate::keys::Keys;
 use crate::noting::{note_entry, note_pair};
 use crate::opposites::first_open_opposite;
 use crate::tidying::{forget_all, tidy_all, tidy_new};
-use desk_codes::{AccountId, Bic, Day, Isin, Reference};
+use desk_codes::{AccountId, Bic, Ccy, Day, Isin, Reference};
 use desk_lists::ListRegister;
 use desk_msg::{Instruction, Kind};
 use desk_register::{Fault, Outcome, Register, Stage};
@@ -100,12 +100,20 @@ impl Register for IndexedRegister {
         self.held.outstanding(alloc, isin)
     }
 
+    fn paid(&mut self, alloc: Global, ccy: Ccy) -> Result<Option<u64>, Fault> {
+        self.held.paid(alloc, ccy)
+    }
+
     fn last_run(&mut self, alloc: Global) -> Result<Option<Day>, Fault> {
         self.held.last_run(alloc)
     }
 
     fn position(&mut self, alloc: Global, account: AccountId, isin: Isin) -> Result<u64, Fault> {
         self.held.position(alloc, account, isin)
+    }
+
+    fn cash(&mut self, alloc: Global, bic: Bic, ccy: Ccy) -> Result<u64, Fault> {
+        self.held.cash(alloc, bic, ccy)
     }
 
     fn number_of(
@@ -163,6 +171,10 @@ impl Register for IndexedRegister {
 
     fn held(&mut self, alloc: Global, isin: Isin) -> Result<u64, Fault> {
         self.held.held(alloc, isin)
+    }
+
+    fn held_cash(&mut self, alloc: Global, ccy: Ccy) -> Result<u64, Fault> {
+        self.held.held_cash(alloc, ccy)
     }
 
     fn append(&mut self, alloc: Global, entry: Entry, reply: Reply) -> Result<(), Fault> {

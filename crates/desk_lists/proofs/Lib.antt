@@ -1,7 +1,8 @@
 mod AppendLemmas
+mod BalanceLemmas
 mod ListingLemmas
 mod ListsLemmas
 mod LookingLemmas
-mod QuantityLemmas
 mod SearchLemmas
 mod SettleLemmas
+mod SumLemmas

@@ -1,14 +1,30 @@
--- What a search through the entries finds, entry by entry.
-use Rattle.std.specs.Prelude.{◌≡◌, ◌⊎◌, ℕ, if◌then◌else◌, List, Option, Some, None}
+-- What a walk through the entries finds and sums up, entry by entry.
+use Rattle.std.specs.Prelude.{◌≡◌, ◌⊎◌, ℕ, if◌then◌else◌, List, map, sum_by, Option, Some, None, option_map}
+use Rattle.std.specs.List.{filter_map}
 use Rattle.desk_rules.specs.declared.entry.Entry.{Entry}
 use Rattle.desk_rules.specs.declared.pair.Place.{Place}
+use Rattle.desk_lists.specs.declared.holdings.Summed.{Summed}
+use Rattle.desk_lists.specs.declared.holdings.Summed.TheVariants.{Currency, Security}
+use Rattle.desk_lists.specs.declared.lists.BalanceKey.{BalanceKey}
+use Rattle.desk_lists.specs.declared.lists.BalanceKey.TheVariants.{Cash, Position}
+use Rattle.desk_lists.specs.Lists.{Listed, balance_in}
+use Rattle.desk_rules.specs.Facts.{account_by, participant_by}
 use Rattle.desk_rules.specs.Settlement.{is_before}
 use Rattle.desk_register.specs.Looked.{IsAboveText, IsLess, security_by}
 
--- what the account that an entry registers holds, if it registers one
-abbrev pub held_by : (List ℕ → ℕ) → Option (List ℕ) → ℕ
-held_by holds None = 0
-held_by holds (Some account) = holds account
+-- the balance that counts in a sum, of the account or the participant that an entry registers
+abbrev pub key_by : Summed → Entry → Option BalanceKey
+key_by (Security isin) entry = option_map (λ account. Position account isin) (account_by entry)
+key_by (Currency ccy) entry = option_map (λ bic. Cash bic ccy) (participant_by entry)
+
+-- the sum over all accounts, or over all participants
+abbrev pub sum_of : Summed → Listed → ℕ
+sum_of summed l = sum_by (balance_in l) (filter_map (key_by summed) (map (λ k. k.entry) l.kept))
+
+-- the amount of a key, if there is one
+abbrev pub amount_by : (BalanceKey → ℕ) → Option BalanceKey → ℕ
+amount_by balance None = 0
+amount_by balance (Some key) = balance key
 
 -- the sooner of two places, where there are two
 abbrev pub sooner_of : Option Place → Option Place → Option Place

@@ -5,18 +5,18 @@ ghost use Rattle.desk_register.specs.Changes.{empty_content};
 ghost use Rattle.desk_register.specs.View.{fallen};
 
 use crate::appending::append_entry;
+use crate::balances::balance_of;
 use crate::changes::undo_all;
 use crate::due_pairs::due_pair_after;
-use crate::holdings::held;
+use crate::holdings::{held, held_cash};
 use crate::list_register::ListRegister;
-use crate::lists::Lists;
+use crate::lists::{BalanceKey, Lists};
 use crate::opposites::first_opposite;
-use crate::positions::{outstanding_of, quantity_of};
 use crate::securities::security_after;
 use crate::settling::try_settle;
 use crate::standings::pair_entries;
 use crate::{by_number, history};
-use desk_codes::{AccountId, Bic, Day, Isin, Reference};
+use desk_codes::{AccountId, Bic, Ccy, Day, Isin, Reference};
 use desk_msg::{Instruction, Kind};
 use desk_register::{Fault, Outcome, Register, Stage};
 use desk_rules::{Entry, Instructed, MOST_ENTRIES, Place, Reply, Sender, Standing};
@@ -36,9 +36,7 @@ impl ListRegister {
                 kept: Vec::new(alloc),
                 standings: Vec::new(alloc),
                 keys: Vec::new(alloc),
-                quantities: Vec::new(alloc),
-                securities: Vec::new(alloc),
-                outstanding: Vec::new(alloc),
+                amounts: Vec::new(alloc),
             },
             changes: Vec::new(alloc),
             stage: Stage::Idle,
@@ -99,7 +97,14 @@ impl Register for ListRegister {
     }
 
     fn outstanding(&mut self, _alloc: Global, isin: Isin) -> Result<u64, Fault> {
-        Ok(outstanding_of(&self.lists, &isin))
+        Ok(balance_of(&self.lists, &BalanceKey::Outstanding { isin }))
+    }
+
+    fn paid(&mut self, _alloc: Global, ccy: Ccy) -> Result<Option<u64>, Fault> {
+        if !history::is_paid_in(&self.lists.kept, &ccy) {
+            return Ok(None);
+        }
+        Ok(Some(balance_of(&self.lists, &BalanceKey::Paid { ccy })))
     }
 
     fn last_run(&mut self, _alloc: Global) -> Result<Option<Day>, Fault> {
@@ -107,7 +112,11 @@ impl Register for ListRegister {
     }
 
     fn position(&mut self, _alloc: Global, account: AccountId, isin: Isin) -> Result<u64, Fault> {
-        Ok(quantity_of(&self.lists, &account, &isin))
+        Ok(balance_of(&self.lists, &BalanceKey::Position { account, isin }))
+    }
+
+    fn cash(&mut self, _alloc: Global, bic: Bic, ccy: Ccy) -> Result<u64, Fault> {
+        Ok(balance_of(&self.lists, &BalanceKey::Cash { bic, ccy }))
     }
 
     fn number_of(
@@ -169,6 +178,10 @@ impl Register for ListRegister {
 
     fn held(&mut self, _alloc: Global, isin: Isin) -> Result<u64, Fault> {
         Ok(held(&self.lists, &isin))
+    }
+
+    fn held_cash(&mut self, _alloc: Global, ccy: Ccy) -> Result<u64, Fault> {
+        Ok(held_cash(&self.lists, &ccy))
     }
 
     fn append(&mut self, _alloc: Global, entry: Entry, reply: Reply) -> Result<(), Fault> {

@@ -1,12 +1,13 @@
 -- What the look-ups of a register find in its content.
-use Rattle.std.specs.Prelude.{◌≡◌, ℕ, zero, suc, ◌<◌, ◌≤◌, true, false, List, Option, Some, None, option_map, slice_get, sum_by, is_some}
-use Rattle.std.specs.List.{filter_map}
+use Rattle.std.specs.Prelude.{◌≡◌, ℕ, zero, suc, ◌+◌, ◌<◌, ◌≤◌, Bool, true, false, List, Option, Some, None, option_map, slice_get, sum_by, is_some}
+use Rattle.std.specs.List.{filter_map, list_any}
 use Rattle.std.specs.Ordering.{nat_cmp}
 use Rattle.std.specs.Cmp.Lexicographic.{slice_cmp}
 use Rattle.std.specs.declared.cmp.Ordering.TheVariants.{Less}
+use Rattle.desk_codes.specs.declared.currency.Ccy.{Ccy}
 use Rattle.desk_codes.specs.Number.{number_of}
 use Rattle.desk_rules.specs.declared.entry.Entry.{Entry}
-use Rattle.desk_rules.specs.declared.entry.Entry.TheVariants.{Security}
+use Rattle.desk_rules.specs.declared.entry.Entry.TheVariants.{PayIn, Security}
 use Rattle.desk_rules.specs.declared.reply.Reply.{Reply}
 use Rattle.desk_rules.specs.declared.pair.Place.{Place}
 use Rattle.desk_rules.specs.declared.standing.State.TheVariants.{Unmatched, Matched}
@@ -15,7 +16,8 @@ use Rattle.desk_rules.specs.declared.entry.Instructed.{Instructed}
 use Rattle.desk_rules.specs.History.{instruction_at}
 use Rattle.desk_rules.specs.Opposite.{AreOpposite}
 use Rattle.desk_rules.specs.Settlement.{is_before, is_past}
-use Rattle.desk_rules.specs.Facts.{account_by, kind_of}
+use Rattle.desk_rules.specs.Balances.{paid_in, paid_out, same_ccy}
+use Rattle.desk_rules.specs.Facts.{account_by, kind_of, participants_of}
 use Rattle.desk_rules.specs.declared.reply.Kept.{Kept}
 use Rattle.desk_rules.specs.Content.{Content, history_of}
 
@@ -82,6 +84,20 @@ IsSecurityAfter history above (Some isin) = IsRegisteredAbove history above isin
 -- what all registered accounts hold of a security
 abbrev pub held_of : Content → List ℕ → ℕ
 held_of content isin = sum_by (λ account. content.position account isin) (filter_map account_by (history_of content))
+
+-- an entry pays in cash of this currency
+abbrev pub pays_in : Ccy → Entry → Bool
+pays_in ccy (PayIn payment) = same_ccy payment.ccy ccy
+pays_in ccy entry = false
+
+-- what was paid in of a currency less what was paid out; none before any pay in of it
+abbrev pub IsPaid : List Entry → Ccy → Option ℕ → Type 0
+IsPaid history ccy None = list_any (pays_in ccy) history ≡ false
+IsPaid history ccy (Some paid) = (list_any (pays_in ccy) history ≡ true) × (paid_out history ccy + paid ≡ paid_in history ccy)
+
+-- what all registered participants have of a currency
+abbrev pub held_cash_of : Content → Ccy → ℕ
+held_cash_of content ccy = sum_by (λ bic. content.cash bic ccy) (participants_of (history_of content))
 
 -- the security that an entry registers
 abbrev pub security_by : Entry → Option (List ℕ)

@@ -4,13 +4,13 @@ ghost use Rattle.desk_codes.specs.Number.{number_of};
 ghost use Rattle.desk_register.specs.View.{View, IfRead, IfTrusted, IsLater, Begins, Commits, GoesBack, Falls, Blames, IsRead, IsChange};
 ghost use Rattle.desk_rules.specs.Content.{history_of};
 ghost use Rattle.desk_register.specs.Changes.{appended, paired, CanAppend, CanPair, CanSettle, TriesPair};
-ghost use Rattle.desk_register.specs.Looked.{held_of, reply_at, IsFirstOpposite, IsDuePairAfter, IsSecurityAfter};
+ghost use Rattle.desk_register.specs.Looked.{held_cash_of, held_of, reply_at, IsFirstOpposite, IsDuePairAfter, IsPaid, IsSecurityAfter};
 ghost use Rattle.desk_rules.specs.History.{entry_at, number_of_key};
 ghost use Rattle.desk_rules.specs.Facts.{is_participant, owner_of, kind_of, last_run};
 ghost use Rattle.desk_rules.specs.Balances.{issued, redeemed};
 
 use crate::outcome::Outcome;
-use desk_codes::{AccountId, Bic, Day, Isin, Reference};
+use desk_codes::{AccountId, Bic, Ccy, Day, Isin, Reference};
 use desk_msg::{Instruction, Kind};
 use desk_rules::{Entry, MOST_ENTRIES, Place, Reply, Sender, Standing};
 use std::alloc::Global;
@@ -35,7 +35,7 @@ pub enum Fault {
     Storage,
 }
 
-/// What the desk keeps: its accepted entries with their replies, where each stands, and the positions.
+/// What the desk keeps: its accepted entries with their replies, where each stands, the positions, and the cash.
 ///
 /// Whatever changes stands between `begin` and `commit`, or `back`, which takes it all back. What only reads may be
 /// called at any time; once a call has failed, what it answers means nothing until `back`.
@@ -111,6 +111,12 @@ pub trait Register {
         ensures read { IsRead result (view self.old) (view self.new) }
         ensures in_memory { in_memory ≡ true → IsOk result };
 
+    /// What was paid in of a currency less what was paid out, in minor units; None before any pay in of it.
+    fn paid(&mut self, alloc: Global, ccy: Ccy) -> Result<Option<u64>, Fault>
+        ensures value { IfRead (view self.old) (view self.new) (IfOk result (λ r. IsPaid (history_of (view self.old).content) ccy r)) }
+        ensures read { IsRead result (view self.old) (view self.new) }
+        ensures in_memory { in_memory ≡ true → IsOk result };
+
     /// The day of the last run; None before any.
     fn last_run(&mut self, alloc: Global) -> Result<Option<Day>, Fault>
         ensures value { IfRead (view self.old) (view self.new) (IfOk result (λ r. option_map number_of r ≡ last_run (history_of (view self.old).content))) }
@@ -162,6 +168,12 @@ pub trait Register {
         ensures read { IsRead result (view self.old) (view self.new) }
         ensures in_memory { in_memory ≡ true → IsOk result };
 
+    /// What a participant has of a currency, in minor units; 0 where there is no such participant, or nothing of it.
+    fn cash(&mut self, alloc: Global, bic: Bic, ccy: Ccy) -> Result<u64, Fault>
+        ensures value { IfRead (view self.old) (view self.new) (IfOk result (λ r. r ≡ (view self.old).content.cash bic ccy)) }
+        ensures read { IsRead result (view self.old) (view self.new) }
+        ensures in_memory { in_memory ≡ true → IsOk result };
+
     /// The first matched pair due by a day, in order of settlement day and number, after a place; with none, the first
     /// of all. None where there is none.
     fn due_pair_after(
@@ -187,6 +199,13 @@ pub trait Register {
         ensures read { IsRead result (view self.old) (view self.new) }
         ensures in_memory { in_memory ≡ true → IsOk result };
 
+    /// What all registered participants have of a currency, in minor units.
+    fn held_cash(&mut self, alloc: Global, ccy: Ccy) -> Result<u64, Fault>
+        requires { IfTrusted (view self.old) (view self.old) (held_cash_of (view self.old).content ccy < 2 ^ 64) }
+        ensures value { IfRead (view self.old) (view self.new) (IfOk result (λ r. r ≡ held_cash_of (view self.old).content ccy)) }
+        ensures read { IsRead result (view self.old) (view self.new) }
+        ensures in_memory { in_memory ≡ true → IsOk result };
+
     /// Adds an entry with its reply.
     fn append(&mut self, alloc: Global, entry: Entry, reply: Reply) -> Result<(), Fault>
         requires stage { (view self.old).stage ≡ Stage.Begun }
@@ -202,7 +221,8 @@ pub trait Register {
         ensures change { IsChange result (view self.old) (view self.new) };
 
     /// Settles the matched pair of this number, which is due by a day, where it is covered, and moves its quantity from
-    /// the deliverer's account to the receiver's; else says what it lacks, and changes the reason alone.
+    /// the deliverer's account to the receiver's, and its cash from the receiver to the deliverer; else says what it
+    /// lacks, securities before money, and changes the reason alone.
     fn settle_pair(&mut self, alloc: Global, number: u64, day: Day) -> Result<Outcome, Fault>
         requires stage { (view self.old).stage ≡ Stage.Begun }
         requires fits { IfTrusted (view self.old) (view self.old) (CanSettle (view self.old).content number (number_of day)) }

@@ -6,7 +6,7 @@ ghost use Rattle.desk_lists.specs.ListView.{view_of_lists};
 ghost use Rattle.desk_register.specs.declared.register.Stage.TheVariants.{Idle, Begun};
 ghost use Rattle.desk_register.specs.View.{fallen};
 
-use desk_codes::{AccountId, Bic, Day, Isin, Reference};
+use desk_codes::{AccountId, Bic, Ccy, Day, Isin, Reference};
 use desk_lists::ListRegister;
 use desk_msg::{Instruction, Kind};
 use desk_register::{Fault, Outcome, Register, Stage};
@@ -218,6 +218,13 @@ impl Register for FailingRegister {
         self.inner.outstanding(alloc, isin)
     }
 
+    fn paid(&mut self, alloc: Global, ccy: Ccy) -> Result<Option<u64>, Fault> {
+        if self.calls.fails() {
+            return Err(self.fail());
+        }
+        self.inner.paid(alloc, ccy)
+    }
+
     fn last_run(&mut self, alloc: Global) -> Result<Option<Day>, Fault> {
         if self.calls.fails() {
             return Err(self.fail());
@@ -279,6 +286,13 @@ impl Register for FailingRegister {
         self.inner.position(alloc, account, isin)
     }
 
+    fn cash(&mut self, alloc: Global, bic: Bic, ccy: Ccy) -> Result<u64, Fault> {
+        if self.calls.fails() {
+            return Err(self.fail());
+        }
+        self.inner.cash(alloc, bic, ccy)
+    }
+
     fn due_pair_after(
         &mut self,
         alloc: Global,
@@ -303,6 +317,13 @@ impl Register for FailingRegister {
             return Err(self.fail());
         }
         self.inner.held(alloc, isin)
+    }
+
+    fn held_cash(&mut self, alloc: Global, ccy: Ccy) -> Result<u64, Fault> {
+        if self.calls.fails() {
+            return Err(self.fail());
+        }
+        self.inner.held_cash(alloc, ccy)
     }
 
     fn append(&mut self, alloc: Global, entry: Entry, reply: Reply) -> Result<(), Fault> {
