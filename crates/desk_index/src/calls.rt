@@ -251,6 +251,14 @@ impl Register for IndexedRegister {
             Err(fault) => Err(fault),
         }
     }
+
+    fn cancel(&mut self, alloc: Global, number: u64) -> Result<(), Fault> {
+        self.held.cancel(alloc, number)
+    }
+
+    fn cancel_pair(&mut self, alloc: Global, earlier: u64, later: u64) -> Result<(), Fault> {
+        self.held.cancel_pair(alloc, earlier, later)
+    }
 }
 
 /// How many entries were noted.

@@ -16,9 +16,9 @@ use Rattle.desk_rules.proofs.Deciding.{same_ccy-true}
 use Rattle.desk_lists.specs.declared.lists.BalanceKey.{BalanceKey}
 use Rattle.desk_lists.specs.declared.lists.BalanceKey.TheVariants.{Cash, Outstanding, Paid, Position}
 use Rattle.desk_rules.specs.Content.{Content, history_of}
-use Rattle.desk_register.specs.Changes.{CanAppend, appended, cash_after, positions_after, standing_at, standing_both, first_standing}
+use Rattle.desk_register.specs.Changes.{CanAppend, appended, cash_after, positions_after, requests_noted, standing_at, standing_both, first_standing}
 use Rattle.desk_rules.specs.Standing.{no_standing}
-use Rattle.desk_lists.specs.Lists.{TotalsAreKept, Listed, SameBooks, amount_at, balance_in, balances_after, content_in, SameEntries, standing_in}
+use Rattle.desk_lists.specs.Lists.{TotalsAreKept, Listed, SameBooks, amount_at, balance_in, balances_after, content_in, standing_in}
 use Rattle.desk_register.proofs.CaseLemmas.{by_bool, same_bytes}
 
 -- where entries stand, with one more at the end
@@ -59,17 +59,18 @@ moved_content (Instruct sender instruction) r s b = refl
 moved_content (Cancel sender order) r s b = refl
 moved_content (Run reference day rule) r s b = refl
 
--- the content with one entry more
-pub appended_well : {T E : Type 0} (r : Result T E) (old mid new : Listed) (entry : Entry) (reply : Reply) → length old.standings ≡ length old.kept
-    → SameEntries old mid → balance_in mid ≡ balances_after entry (balance_in old)
-    → OnOk r (new ≡ record mid { kept = mid.kept ++ record { entry = entry; reply = reply } ∷ []; standings = mid.standings ++ first_standing entry ∷ [] })
+-- The content with one entry more, once its balances have moved and what it requests is noted.
+pub appended_well : {T E : Type 0} (r : Result T E) (old noted new : Listed) (entry : Entry) (reply : Reply) → length noted.standings ≡ length noted.kept → noted.kept ≡ old.kept
+    → standing_in noted.standings ≡ requests_noted (map (λ k. k.entry) old.kept) entry (standing_in old.standings) → balance_in noted ≡ balances_after entry (balance_in old)
+    → OnOk r (new ≡ record noted { kept = noted.kept ++ record { entry = entry; reply = reply } ∷ []; standings = noted.standings ++ first_standing entry ∷ [] })
     → OnOk r (content_in new ≡ appended entry reply (content_in old))
-appended_well (Err f) old mid new entry reply len rest moved is = is
-appended_well (Ok x) old mid new entry reply len rest moved is =
+appended_well (Err f) old noted new entry reply len kept stands moved is = is
+appended_well (Ok x) old noted new entry reply len kept stands moved is =
+    let size = ap length kept in
     ap content_in is
     ∙ content_by_parts _ _ _ _ _ _
-    (ap (λ z. z ++ record { entry = entry; reply = reply } ∷ []) rest.kept)
-    (ap (λ z. standing_in (z ++ first_standing entry ∷ [])) rest.standings ∙ (λ k n. standing_more old.standings (first_standing entry) (length old.kept + 1) n (omega (arith, len)) k))
+    (ap (λ z. z ++ record { entry = entry; reply = reply } ∷ []) kept)
+    ((λ k n. standing_more noted.standings (first_standing entry) (length old.kept + 1) n (omega arith) k) ∙ ap (λ st. standing_at st (length old.kept + 1) (first_standing entry)) stands)
     moved
     ∙ moved_content entry _ _ (balance_in old)
 
@@ -124,14 +125,14 @@ module _ (content : Content) (balance : BalanceKey → ℕ) where
 sum_push : (f : Entry → ℕ) (kept : List Kept) (k : Kept) → sum_by f (map (λ k. k.entry) (kept ++ k ∷ [])) ≡ sum_by f (map (λ k. k.entry) kept) + f k.entry
 sum_push f kept k = ap (sum_by f) (map-append (λ k. k.entry) kept (k ∷ [])) ∙ sum_by-append f (map (λ k. k.entry) kept) (k.entry ∷ []) ∙ omega arith
 
-pub totals_well : {T E : Type 0} (r : Result T E) (old mid new : Listed) (entry : Entry) (reply : Reply) → TotalsAreKept old → CanAppend entry (content_in old)
-    → SameEntries old mid → balance_in mid ≡ balances_after entry (balance_in old)
-    → OnOk r (new ≡ record mid { kept = mid.kept ++ record { entry = entry; reply = reply } ∷ []; standings = mid.standings ++ first_standing entry ∷ [] })
+pub totals_well : {T E : Type 0} (r : Result T E) (old noted new : Listed) (entry : Entry) (reply : Reply) → TotalsAreKept old → CanAppend entry (content_in old)
+    → noted.kept ≡ old.kept → balance_in noted ≡ balances_after entry (balance_in old)
+    → OnOk r (new ≡ record noted { kept = noted.kept ++ record { entry = entry; reply = reply } ∷ []; standings = noted.standings ++ first_standing entry ∷ [] })
     → OnOk r (TotalsAreKept new)
-totals_well (Err f) old mid new entry reply totals fits rest moved is = is
-totals_well (Ok x) old mid new entry reply totals fits rest moved is =
+totals_well (Err f) old noted new entry reply totals fits same moved is = is
+totals_well (Ok x) old noted new entry reply totals fits same moved is =
     let one : Kept = record { entry = entry; reply = reply } in
-    let kept : new.kept ≡ old.kept ++ one ∷ [] = ap (λ l. l.kept) is ∙ ap (λ z. z ++ one ∷ []) rest.kept in
+    let kept : new.kept ≡ old.kept ++ one ∷ [] = ap (λ l. l.kept) is ∙ ap (λ z. z ++ one ∷ []) same in
     let balances : balance_in new ≡ balances_after entry (balance_in old) = ap balance_in is ∙ moved in
     record {
       securities = λ i.

@@ -7,6 +7,7 @@ use crate::balances::{add_to, take_from};
 use crate::changes::push_entry;
 use crate::entries::first_standing;
 use crate::lists::{BalanceKey, Change, Lists};
+use crate::requests::note_request;
 use desk_rules::{Entry, Kept, Movement, Payment, Reply};
 use std::alloc::AllocError;
 
@@ -103,7 +104,7 @@ fn move_balances(
     }
 }
 
-/// Adds an entry with its reply, and moves what it issues or redeems, pays in or out.
+/// Adds an entry with its reply, moves what it issues or redeems, pays in or out, and notes what it requests.
 pub fn append_entry(
     lists: &mut Lists,
     changes: &mut Vec<Change>,
@@ -117,6 +118,7 @@ pub fn append_entry(
     ensures before { undone changes.new.items (listed lists.new) ≡ undone changes.old.items (listed lists.old) }
 {
     move_balances(lists, changes, &entry)?;
+    note_request(lists, changes, &entry)?;
     let standing = first_standing(&entry);
     push_entry(lists, changes, Kept { entry, reply }, standing)
 }

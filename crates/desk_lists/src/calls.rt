@@ -14,7 +14,7 @@ use crate::lists::{BalanceKey, Lists};
 use crate::opposites::first_opposite;
 use crate::securities::security_after;
 use crate::settling::try_settle;
-use crate::standings::pair_entries;
+use crate::standings::{cancel_both, cancel_entry, pair_entries};
 use crate::{by_number, history};
 use desk_codes::{AccountId, Bic, Ccy, Day, Isin, Reference};
 use desk_msg::{Instruction, Kind};
@@ -196,6 +196,26 @@ impl Register for ListRegister {
 
     fn pair(&mut self, _alloc: Global, earlier: u64, later: u64) -> Result<(), Fault> {
         match pair_entries(&mut self.lists, &mut self.changes, earlier, later) {
+            Ok(()) => Ok(()),
+            Err(_) => {
+                self.stage = Stage::Failed;
+                Err(Fault::Memory)
+            }
+        }
+    }
+
+    fn cancel(&mut self, _alloc: Global, number: u64) -> Result<(), Fault> {
+        match cancel_entry(&mut self.lists, &mut self.changes, number) {
+            Ok(()) => Ok(()),
+            Err(_) => {
+                self.stage = Stage::Failed;
+                Err(Fault::Memory)
+            }
+        }
+    }
+
+    fn cancel_pair(&mut self, _alloc: Global, earlier: u64, later: u64) -> Result<(), Fault> {
+        match cancel_both(&mut self.lists, &mut self.changes, earlier, later) {
             Ok(()) => Ok(()),
             Err(_) => {
                 self.stage = Stage::Failed;

@@ -1,5 +1,5 @@
 -- What the calls of a register make of its content.
-use Rattle.std.specs.Prelude.{◌≡◌, ℕ, ◌+◌, ◌-◌, ◌<◌, ◌≤◌, ◌^◌, ◌==◌, ◌&&◌, false, if◌then◌else◌, List, [], ◌∷◌, ◌++◌, length, bytes_eq, Option, Some, None}
+use Rattle.std.specs.Prelude.{◌≡◌, ℕ, ◌+◌, ◌-◌, ◌<◌, ◌≤◌, ◌^◌, ◌==◌, ◌&&◌, true, false, if◌then◌else◌, List, [], ◌∷◌, ◌++◌, length, bytes_eq, Option, Some, None}
 use Rattle.desk_codes.specs.declared.currency.Ccy.{Ccy}
 use Rattle.desk_codes.specs.Number.{number_of}
 use Rattle.desk_msg.specs.declared.instruction.Cash.{Cash}
@@ -13,13 +13,14 @@ use Rattle.desk_rules.specs.declared.entry.Instructed.{Instructed}
 use Rattle.desk_rules.specs.declared.pair.Lack.TheVariants.{Securities, Money as LacksMoney}
 use Rattle.desk_rules.specs.declared.reply.Reply.{Reply}
 use Rattle.desk_rules.specs.declared.standing.State.{State}
-use Rattle.desk_rules.specs.declared.standing.State.TheVariants.{Unmatched, Matched, Settled}
+use Rattle.desk_rules.specs.declared.standing.State.TheVariants.{Cancelled, Matched, Settled, Unmatched}
 use Rattle.desk_rules.specs.declared.standing.Standing.{Standing}
 use Rattle.desk_rules.specs.History.{instruction_at}
 use Rattle.desk_rules.specs.Opposite.{AreOpposite}
 use Rattle.desk_rules.specs.Balances.{delivering, issued, paid_in, paid_out, receiving, redeemed, same_ccy}
 use Rattle.desk_rules.specs.Content.{CashBalances, Content, Positions, history_of}
 use Rattle.desk_rules.specs.Standing.{no_standing}
+use Rattle.desk_rules.specs.Verdict.{named_by}
 use Rattle.desk_register.specs.declared.outcome.Outcome.{Outcome}
 use Rattle.desk_register.specs.declared.outcome.Outcome.TheVariants as outcomes
 use Rattle.desk_register.specs.declared.outcome.Outcome.TheVariants.{Lacks}
@@ -57,8 +58,7 @@ cash_after (PayIn payment) cash = cash_at cash payment.bic payment.ccy (cash pay
 cash_after (PayOut payment) cash = cash_at cash payment.bic payment.ccy (cash payment.bic payment.ccy - payment.amount)
 cash_after entry cash = cash
 
--- What the content must allow: what is issued or paid in can be counted, and what is redeemed or paid out is there.
--- Cancellations are not taken yet.
+-- what the content must allow: what is issued or paid in can be counted, and what is redeemed or paid out is there
 abbrev pub CanAppend : Entry → Content → Type 0
 CanAppend (Issue movement) content =
     (content.position movement.account movement.isin + movement.quantity < 2 ^ 63)
@@ -70,14 +70,27 @@ CanAppend (PayIn payment) content =
     × (paid_in (history_of content) payment.ccy + payment.amount ≤ paid_out (history_of content) payment.ccy + MOST_PAID)
 CanAppend (PayOut payment) content =
     (payment.amount ≤ content.cash payment.bic payment.ccy) × (paid_out (history_of content) payment.ccy + payment.amount ≤ paid_in (history_of content) payment.ccy)
-CanAppend (Cancel sender order) content = ⊥
 CanAppend entry content = Unit {0}
+
+-- the cancellation of an instruction, if one is named, is requested
+abbrev pub with_request : Option ℕ → (ℕ → Standing) → ℕ → Standing
+with_request None standing = standing
+with_request (Some k) standing = standing_at standing k (record (standing k) { cancel_requested = true })
+
+-- the instruction whose cancellation an entry requests, if it is a cancellation and names one
+abbrev pub requested_by : List Entry → Entry → Option ℕ
+requested_by history (Cancel sender order) = named_by history sender order
+requested_by history entry = None
+
+-- where entries stand once the request of an entry is noted
+abbrev pub requests_noted : List Entry → Entry → (ℕ → Standing) → ℕ → Standing
+requests_noted history entry standing = with_request (requested_by history entry) standing
 
 -- the content with one entry more
 abbrev pub appended : Entry → Reply → Content → Content
 appended entry reply content = record content {
   register = content.register ++ record { entry = entry; reply = reply } ∷ [];
-  standing = standing_at content.standing (length content.register + 1) (first_standing entry);
+  standing = standing_at (requests_noted (history_of content) entry content.standing) (length content.register + 1) (first_standing entry);
   position = positions_after entry content.position;
   cash = cash_after entry content.cash;
 }
@@ -167,6 +180,36 @@ pub record CanSettle (content : Content) (n day : ℕ) : Type 0 where
   pub later_matched : (content.standing n).state ≡ Matched later_reason
   pub due : number_of later.instruction.day ≤ day
   pub fits : SidesFit content earlier later
+
+-- the number of an unmatched instruction
+pub record CanCancel (content : Content) (n : ℕ) : Type 0 where
+  pub instructed : Instructed
+  pub is_instruction : instruction_at (history_of content) n ≡ Some instructed
+  pub unmatched : (content.standing n).state ≡ Unmatched
+
+-- the content in which an instruction stands cancelled
+abbrev pub cancelled : ℕ → Content → Content
+cancelled n content = record content {
+  standing = standing_at content.standing n (record (content.standing n) { state = Cancelled });
+}
+
+-- the numbers of a matched pair's two instructions, the earlier first; each is the other's mate
+pub record CanCancelPair (content : Content) (m n : ℕ) : Type 0 where
+  pub two : m < n
+  pub earlier : Instructed
+  pub later : Instructed
+  pub pair : IsPairAt content n m earlier later
+  pub back : (content.standing m).mate ≡ Some n
+  pub earlier_reason : Reason
+  pub earlier_matched : (content.standing m).state ≡ Matched earlier_reason
+  pub later_reason : Reason
+  pub later_matched : (content.standing n).state ≡ Matched later_reason
+
+-- the content in which both instructions of a pair stand cancelled; they keep their mates
+abbrev pub pair_cancelled : ℕ → ℕ → Content → Content
+pair_cancelled m n content = record content {
+  standing = standing_both content.standing m n Cancelled;
+}
 
 -- What trying the pair of a number does: it settles, and moves its quantity and its cash, where the deliverer holds
 -- the one and the receiver has the other; else only the reason changes. A pair that lacks both lacks securities, and a

@@ -3,7 +3,7 @@ ghost use Rattle.std.specs.Prelude.{◌≡◌, ◌≢◌, ℕ, true, Bool, ◌+�
 ghost use Rattle.desk_codes.specs.Number.{number_of};
 ghost use Rattle.desk_register.specs.View.{View, IfRead, IfTrusted, IsLater, Begins, Commits, GoesBack, Falls, Blames, IsRead, IsChange};
 ghost use Rattle.desk_rules.specs.Content.{history_of};
-ghost use Rattle.desk_register.specs.Changes.{appended, paired, CanAppend, CanPair, CanSettle, TriesPair};
+ghost use Rattle.desk_register.specs.Changes.{appended, cancelled, pair_cancelled, paired, CanAppend, CanCancel, CanCancelPair, CanPair, CanSettle, TriesPair};
 ghost use Rattle.desk_register.specs.Looked.{held_cash_of, held_of, reply_at, IsFirstOpposite, IsDuePairAfter, IsPaid, IsSecurityAfter};
 ghost use Rattle.desk_rules.specs.History.{entry_at, number_of_key};
 ghost use Rattle.desk_rules.specs.Facts.{is_participant, owner_of, kind_of, last_run};
@@ -206,7 +206,7 @@ pub trait Register {
         ensures read { IsRead result (view self.old) (view self.new) }
         ensures in_memory { in_memory ≡ true → IsOk result };
 
-    /// Adds an entry with its reply.
+    /// Adds an entry with its reply. A cancellation is noted where the instruction stands that it names.
     fn append(&mut self, alloc: Global, entry: Entry, reply: Reply) -> Result<(), Fault>
         requires stage { (view self.old).stage ≡ Stage.Begun }
         requires fits { IfTrusted (view self.old) (view self.old) (CanAppend entry (view self.old).content) }
@@ -227,5 +227,19 @@ pub trait Register {
         requires stage { (view self.old).stage ≡ Stage.Begun }
         requires fits { IfTrusted (view self.old) (view self.old) (CanSettle (view self.old).content number (number_of day)) }
         ensures settled { IfTrusted (view self.old) (view self.new) (IfOk result (λ outcome. TriesPair (view self.old).content number outcome (view self.new).content)) }
+        ensures change { IsChange result (view self.old) (view self.new) };
+
+    /// Lets an unmatched instruction, by its number, stand cancelled.
+    fn cancel(&mut self, alloc: Global, number: u64) -> Result<(), Fault>
+        requires stage { (view self.old).stage ≡ Stage.Begun }
+        requires fits { IfTrusted (view self.old) (view self.old) (CanCancel (view self.old).content number) }
+        ensures cancelled { IfTrusted (view self.old) (view self.new) (OnOk result ((view self.new).content ≡ cancelled number (view self.old).content)) }
+        ensures change { IsChange result (view self.old) (view self.new) };
+
+    /// Lets both instructions of a matched pair, by their numbers, stand cancelled. They keep their mates.
+    fn cancel_pair(&mut self, alloc: Global, earlier: u64, later: u64) -> Result<(), Fault>
+        requires stage { (view self.old).stage ≡ Stage.Begun }
+        requires fits { IfTrusted (view self.old) (view self.old) (CanCancelPair (view self.old).content earlier later) }
+        ensures cancelled { IfTrusted (view self.old) (view self.new) (OnOk result ((view self.new).content ≡ pair_cancelled earlier later (view self.old).content)) }
         ensures change { IsChange result (view self.old) (view self.new) };
 }

@@ -364,6 +364,32 @@ impl Register for FailingRegister {
         }
         answer
     }
+
+    fn cancel(&mut self, alloc: Global, number: u64) -> Result<(), Fault> {
+        let fails = self.calls.fails();
+        if fails && !self.calls.plan.is_late {
+            return Err(self.fail());
+        }
+        let answer = self.inner.cancel(alloc, number);
+        self.stage = stage_after(self.stage, answer.is_ok());
+        if fails {
+            return Err(self.fail());
+        }
+        answer
+    }
+
+    fn cancel_pair(&mut self, alloc: Global, earlier: u64, later: u64) -> Result<(), Fault> {
+        let fails = self.calls.fails();
+        if fails && !self.calls.plan.is_late {
+            return Err(self.fail());
+        }
+        let answer = self.inner.cancel_pair(alloc, earlier, later);
+        self.stage = stage_after(self.stage, answer.is_ok());
+        if fails {
+            return Err(self.fail());
+        }
+        answer
+    }
 }
 
 /// The stage after a call that failed.
