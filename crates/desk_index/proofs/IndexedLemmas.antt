@@ -12,6 +12,7 @@ use Rattle.desk_rules.specs.declared.entry.Entry.TheVariants.{Participant, Accou
 use Rattle.desk_rules.specs.declared.entry.Instructed.{Instructed}
 use Rattle.desk_rules.specs.declared.reply.Kept.{Kept}
 use Rattle.desk_rules.specs.declared.reply.Reply.{Reply}
+use Rattle.desk_rules.specs.declared.reply.Sent.{Sent}
 use Rattle.desk_rules.specs.declared.standing.State.{State}
 use Rattle.desk_rules.specs.declared.standing.State.TheVariants.{Cancelled, Unmatched, Matched, Settled}
 use Rattle.desk_rules.specs.History.{instructed, instruction_at}
@@ -27,7 +28,7 @@ use Rattle.desk_rules.specs.declared.pair.Lack.TheVariants.{Securities, Money as
 use Rattle.desk_register.specs.declared.outcome.Outcome.{Outcome}
 use Rattle.desk_register.specs.declared.outcome.Outcome.TheVariants as outcomes
 use Rattle.desk_register.specs.declared.outcome.Outcome.TheVariants.{Lacks}
-use Rattle.desk_register.specs.Changes.{CanSettle, TriesPair, TriesSides, appended, cancelled, first_standing, pair_cancelled, paired, requested_by, requests_noted, standing_at, standing_both, with_request}
+use Rattle.desk_register.specs.Changes.{CanSettle, TriesPair, TriesSides, appended, cancelled, first_standing, pair_cancelled, paired, requested_by, requests_noted, standing_at, standing_both, with_request, with_sent}
 use Rattle.desk_rules.specs.Content.{Content, history_of}
 use Rattle.desk_index.specs.DuePlaces.{HasDue, HoldsDue, PlacedAt, place_cmp}
 use Rattle.desk_index.specs.Indexed.{HoldsOn, IsIndexed}
@@ -469,7 +470,7 @@ retidied keys numbers numbers' places places' noted count view apart is open_on 
 pub still_begun : (old new : View) → old.stage ≡ Begun → Stays old new → new.stage ≢ Failed
 still_begun old new stage ok failed = let bad = sym stage ∙ sym ok.stage ∙ failed in cc
 
--- Instructions came to stand cancelled: fewer are unmatched, and fewer pairs matched.
+-- Fewer instructions are unmatched than were, and fewer pairs matched, where some came to stand cancelled.
 
 record StandsFewer (old new : Content) : Type 0 where
   pub register : new.register ≡ old.register
@@ -562,3 +563,8 @@ module _ (keys : Keys) (numbers : BTreeSet (MatchKey × ℕ)) (places : BTreeSet
       → IsIndexed (view_of_lists new) keys numbers places noted
   after_cancel_pair (Ok x) m n made ok err = fewer_keeps (subst (StandsFewer (view_of_lists held).content) (sym made) (pair_fewer m n (view_of_lists held).content)) ok
   after_cancel_pair (Err f) m n made ok err = fallen_keeps err
+
+  pub after_send : {T : Type 0} (r : Result T Fault) (message : Sent) → OnOk r ((view_of_lists new).content ≡ with_sent message (view_of_lists held).content) → OnOk r (Stays (view_of_lists held) (view_of_lists new)) → OnErr r (Falls (view_of_lists held) (view_of_lists new))
+      → IsIndexed (view_of_lists new) keys numbers places noted
+  after_send (Ok x) message made ok err = fewer_keeps (subst (StandsFewer (view_of_lists held).content) (sym made) (record { register = refl; unmatched = λ k e. e; matched = λ k m reason mate e. (mate, e) })) ok
+  after_send (Err f) message made ok err = fallen_keeps err

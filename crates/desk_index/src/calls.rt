@@ -14,7 +14,7 @@ use desk_codes::{AccountId, Bic, Ccy, Day, Isin, Reference};
 use desk_lists::ListRegister;
 use desk_msg::{Instruction, Kind};
 use desk_register::{Fault, Outcome, Register, Stage};
-use desk_rules::{Entry, Instructed, Place, Reply, Sender, Standing};
+use desk_rules::{Entry, Instructed, Place, Reply, Sender, Sent, Standing};
 use std::alloc::Global;
 use std::collections::BTreeSet;
 
@@ -258,6 +258,22 @@ impl Register for IndexedRegister {
 
     fn cancel_pair(&mut self, alloc: Global, earlier: u64, later: u64) -> Result<(), Fault> {
         self.held.cancel_pair(alloc, earlier, later)
+    }
+
+    fn sent_count(&mut self, alloc: Global, bic: Bic) -> Result<u64, Fault> {
+        self.held.sent_count(alloc, bic)
+    }
+
+    fn sent(&mut self, alloc: Global, bic: Bic, number: u64) -> Result<Option<Sent>, Fault> {
+        self.held.sent(alloc, bic, number)
+    }
+
+    fn confirmation(&mut self, alloc: Global, number: u64) -> Result<Option<Sent>, Fault> {
+        self.held.confirmation(alloc, number)
+    }
+
+    fn send(&mut self, alloc: Global, message: Sent) -> Result<(), Fault> {
+        self.held.send(alloc, message)
     }
 }
 

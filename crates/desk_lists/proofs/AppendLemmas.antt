@@ -8,6 +8,7 @@ use Rattle.desk_rules.specs.declared.entry.Entry.{Entry}
 use Rattle.desk_rules.specs.declared.entry.Entry.TheVariants.{Participant, Account, Security, Issue, Redeem, PayIn, PayOut, Instruct, Cancel, Run}
 use Rattle.desk_rules.specs.declared.reply.Kept.{Kept}
 use Rattle.desk_rules.specs.declared.reply.Reply.{Reply}
+use Rattle.desk_rules.specs.declared.reply.Sent.{Sent}
 use Rattle.desk_rules.specs.declared.standing.Standing.{Standing}
 use Rattle.desk_rules.specs.declared.standing.State.{State}
 use Rattle.desk_codes.specs.declared.currency.Ccy.{Ccy}
@@ -39,40 +40,41 @@ standing_more standings s m (suc n) e =
     (λ t. let same : eqb (suc n) m ≡ true = grind (arith, nat_tests) in rw same (rw t at (standing_end standings s n)))
     (λ f. let other : eqb (suc n) m ≡ false = grind (arith, nat_tests) in rw other (rw f at (standing_end standings s n)))
 
-pub content_by_parts : (r r' : List Kept) (s s' : ℕ → Standing) (b b' : BalanceKey → ℕ) → r ≡ r' → s ≡ s' → b ≡ b'
-    → ◌≡◌ {A = Content} (record { register = r; standing = s; position = λ account isin. b (Position account isin); cash = λ bic ccy. b (Cash bic ccy); sent = [] })
-    (record { register = r'; standing = s'; position = λ account isin. b' (Position account isin); cash = λ bic ccy. b' (Cash bic ccy); sent = [] })
-content_by_parts r r' s s' b b' x y z = λ k. record { register = x k; standing = y k; position = λ account isin. z k (Position account isin); cash = λ bic ccy. z k (Cash bic ccy); sent = [] }
+pub content_by_parts : (r r' : List Kept) (s s' : ℕ → Standing) (b b' : BalanceKey → ℕ) (m m' : List Sent) → r ≡ r' → s ≡ s' → b ≡ b' → m ≡ m'
+    → ◌≡◌ {A = Content} (record { register = r; standing = s; position = λ account isin. b (Position account isin); cash = λ bic ccy. b (Cash bic ccy); sent = m })
+    (record { register = r'; standing = s'; position = λ account isin. b' (Position account isin); cash = λ bic ccy. b' (Cash bic ccy); sent = m' })
+content_by_parts r r' s s' b b' m m' x y z w = λ k. record { register = x k; standing = y k; position = λ account isin. z k (Position account isin); cash = λ bic ccy. z k (Cash bic ccy); sent = w k }
 
 -- what an entry moves, as the content has it
-moved_content : (entry : Entry) (r : List Kept) (s : ℕ → Standing) (b : BalanceKey → ℕ)
-    → ◌≡◌ {A = Content} (record { register = r; standing = s; position = λ account isin. balances_after entry b (Position account isin); cash = λ bic ccy. balances_after entry b (Cash bic ccy); sent = [] })
-    (record { register = r; standing = s; position = positions_after entry (λ account isin. b (Position account isin)); cash = cash_after entry (λ bic ccy. b (Cash bic ccy)); sent = [] })
-moved_content (Participant reference bic) r s b = refl
-moved_content (Account reference bic account) r s b = refl
-moved_content (Security reference isin kind) r s b = refl
-moved_content (Issue movement) r s b = refl
-moved_content (Redeem movement) r s b = refl
-moved_content (PayIn payment) r s b = refl
-moved_content (PayOut payment) r s b = refl
-moved_content (Instruct sender instruction) r s b = refl
-moved_content (Cancel sender order) r s b = refl
-moved_content (Run reference day rule) r s b = refl
+moved_content : (entry : Entry) (r : List Kept) (s : ℕ → Standing) (b : BalanceKey → ℕ) (m : List Sent)
+    → ◌≡◌ {A = Content} (record { register = r; standing = s; position = λ account isin. balances_after entry b (Position account isin); cash = λ bic ccy. balances_after entry b (Cash bic ccy); sent = m })
+    (record { register = r; standing = s; position = positions_after entry (λ account isin. b (Position account isin)); cash = cash_after entry (λ bic ccy. b (Cash bic ccy)); sent = m })
+moved_content (Participant reference bic) r s b m = refl
+moved_content (Account reference bic account) r s b m = refl
+moved_content (Security reference isin kind) r s b m = refl
+moved_content (Issue movement) r s b m = refl
+moved_content (Redeem movement) r s b m = refl
+moved_content (PayIn payment) r s b m = refl
+moved_content (PayOut payment) r s b m = refl
+moved_content (Instruct sender instruction) r s b m = refl
+moved_content (Cancel sender order) r s b m = refl
+moved_content (Run reference day rule) r s b m = refl
 
 -- The content with one entry more, once its balances have moved and what it requests is noted.
-pub appended_well : {T E : Type 0} (r : Result T E) (old noted new : Listed) (entry : Entry) (reply : Reply) → length noted.standings ≡ length noted.kept → noted.kept ≡ old.kept
+pub appended_well : {T E : Type 0} (r : Result T E) (old noted new : Listed) (entry : Entry) (reply : Reply) → length noted.standings ≡ length noted.kept → noted.kept ≡ old.kept → noted.sent ≡ old.sent
     → standing_in noted.standings ≡ requests_noted (map (λ k. k.entry) old.kept) entry (standing_in old.standings) → balance_in noted ≡ balances_after entry (balance_in old)
     → OnOk r (new ≡ record noted { kept = noted.kept ++ record { entry = entry; reply = reply } ∷ []; standings = noted.standings ++ first_standing entry ∷ [] })
     → OnOk r (content_in new ≡ appended entry reply (content_in old))
-appended_well (Err f) old noted new entry reply len kept stands moved is = is
-appended_well (Ok x) old noted new entry reply len kept stands moved is =
+appended_well (Err f) old noted new entry reply len kept sent stands moved is = is
+appended_well (Ok x) old noted new entry reply len kept sent stands moved is =
     let size = ap length kept in
     ap content_in is
-    ∙ content_by_parts _ _ _ _ _ _
+    ∙ content_by_parts _ _ _ _ _ _ _ _
     (ap (λ z. z ++ record { entry = entry; reply = reply } ∷ []) kept)
     ((λ k n. standing_more noted.standings (first_standing entry) (length old.kept + 1) n (omega arith) k) ∙ ap (λ st. standing_at st (length old.kept + 1) (first_standing entry)) stands)
     moved
-    ∙ moved_content entry _ _ (balance_in old)
+    sent
+    ∙ moved_content entry _ _ (balance_in old) old.sent
 
 -- The totals stay those of the entries.
 
@@ -173,7 +175,7 @@ pub same_balances : (old new : Listed) → SameBooks old new → balance_in new 
 same_balances old new rest = λ k key. amount_at key (rest.keys k) (rest.amounts k)
 
 pub stood_content : (old new : Listed) (standing : ℕ → Standing) → SameBooks old new → standing_in new.standings ≡ standing → content_in new ≡ record (content_in old) { standing = standing }
-stood_content old new standing rest is = content_by_parts _ _ _ _ _ _ rest.kept is (same_balances old new rest)
+stood_content old new standing rest is = content_by_parts _ _ _ _ _ _ _ _ rest.kept is (same_balances old new rest) rest.sent
 
 pub stood_well : {T E : Type 0} (r : Result T E) (old new : Listed) (standing : ℕ → Standing) → SameBooks old new
     → OnOk r (standing_in new.standings ≡ standing) → OnOk r (content_in new ≡ record (content_in old) { standing = standing })

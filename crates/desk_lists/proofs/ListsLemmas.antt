@@ -4,10 +4,11 @@ use Rattle.std.specs.Prelude.{slice_set}
 use Rattle.std.proofs.lemmas.List.{length-append, set-get_or}
 use Rattle.std.proofs.Math.Seq.{take-append_seam}
 use Rattle.desk_rules.specs.declared.reply.Kept.{Kept}
+use Rattle.desk_rules.specs.declared.reply.Sent.{Sent}
 use Rattle.desk_rules.specs.declared.standing.Standing.{Standing}
 use Rattle.desk_lists.specs.declared.lists.BalanceKey.{BalanceKey}
 use Rattle.desk_lists.specs.declared.lists.Change.{Change}
-use Rattle.desk_lists.specs.declared.lists.Change.TheVariants.{Appended, Stood, Opened, Moved}
+use Rattle.desk_lists.specs.declared.lists.Change.TheVariants.{Appended, Stood, Sent as SentChange, Opened, Moved}
 use Rattle.desk_lists.specs.Lists.{Listed, undo, undone, without_last}
 
 pub undone-push : (changes : List Change) (change : Change) (l : Listed) → undone (changes ++ change ∷ []) l ≡ undone changes (undo change l)
@@ -23,6 +24,9 @@ pub before_appended : (changes : List Change) (l : Listed) (kept : Kept) (standi
     → undone (changes ++ Appended ∷ []) (record l { kept = l.kept ++ kept ∷ []; standings = l.standings ++ standing ∷ [] }) ≡ undone changes l
 before_appended changes l kept standing =
     undone-push changes Appended _ ∙ ap (undone changes) (rw (without_last-push l.kept kept, without_last-push l.standings standing) refl)
+
+pub before_sent : (changes : List Change) (l : Listed) (message : Sent) → undone (changes ++ SentChange ∷ []) (record l { sent = l.sent ++ message ∷ [] }) ≡ undone changes l
+before_sent changes l message = undone-push changes SentChange _ ∙ ap (undone changes) (rw (without_last-push l.sent message) refl)
 
 pub before_opened : (changes : List Change) (l : Listed) (key : BalanceKey) (amount : ℕ)
     → undone (changes ++ Opened ∷ []) (record l { keys = l.keys ++ key ∷ []; amounts = l.amounts ++ amount ∷ [] }) ≡ undone changes l

@@ -3,6 +3,7 @@ use Rattle.std.proofs.Common.{◌≡◌, ℕ, ◌+◌, ◌<◌, ◌^◌, List, [
 use Rattle.desk_codes.specs.declared.currency.Ccy.{Ccy}
 use Rattle.desk_msg.specs.declared.instruction.Cash.{Cash as Amount}
 use Rattle.desk_rules.specs.declared.reply.Kept.{Kept}
+use Rattle.desk_rules.specs.declared.reply.Sent.{Sent}
 use Rattle.desk_rules.specs.declared.standing.Standing.{Standing}
 use Rattle.desk_rules.specs.declared.entry.Instructed.{Instructed}
 use Rattle.desk_rules.specs.Content.{CashBalances, Content}
@@ -27,11 +28,11 @@ taken_fits balance from to q fits =
 abbrev pub after_pair : (BalanceKey → ℕ) → List ℕ → List ℕ → List ℕ → ℕ → List ℕ → List ℕ → Option Amount → BalanceKey → ℕ
 after_pair balance from to isin q payer payee cash = paid_between (moved_between balance (Position from isin) (Position to isin) q) payer payee cash
 
-settled_parts : (r : List Kept) (s : ℕ → Standing) (b : BalanceKey → ℕ) (from to isin : List ℕ) (q : ℕ) (payer payee : List ℕ) (cash : Option Amount)
-    → ◌≡◌ {A = Content} (record { register = r; standing = s; position = λ a i. after_pair b from to isin q payer payee cash (Position a i); cash = λ p c. after_pair b from to isin q payer payee cash (Cash p c); sent = [] })
-    (record { register = r; standing = s; position = delivered (λ a i. b (Position a i)) from to isin q; cash = paid_over (λ p c. b (Cash p c)) payer payee cash; sent = [] })
-settled_parts r s b from to isin q payer payee None = refl
-settled_parts r s b from to isin q payer payee (Some asked) = refl
+settled_parts : (r : List Kept) (s : ℕ → Standing) (m : List Sent) (b : BalanceKey → ℕ) (from to isin : List ℕ) (q : ℕ) (payer payee : List ℕ) (cash : Option Amount)
+    → ◌≡◌ {A = Content} (record { register = r; standing = s; position = λ a i. after_pair b from to isin q payer payee cash (Position a i); cash = λ p c. after_pair b from to isin q payer payee cash (Cash p c); sent = m })
+    (record { register = r; standing = s; position = delivered (λ a i. b (Position a i)) from to isin q; cash = paid_over (λ p c. b (Cash p c)) payer payee cash; sent = m })
+settled_parts r s m b from to isin q payer payee None = refl
+settled_parts r s m b from to isin q payer payee (Some asked) = refl
 
 total_stays : (b : BalanceKey → ℕ) (from to isin : List ℕ) (q : ℕ) (payer payee : List ℕ) (cash : Option Amount) (i : List ℕ) → after_pair b from to isin q payer payee cash (Outstanding i) ≡ b (Outstanding i)
 total_stays b from to isin q payer payee None i = refl
@@ -64,8 +65,8 @@ module _ (old stood moved new : Listed) (d r from to : Instructed) (isin : List 
         cash = paid_over (λ p c. balance_in old (Cash p c)) to.sender from.sender cash;
       }
   settled_content standing stands =
-      content_by_parts _ _ _ _ _ _ (pays.kept ∙ moves.kept ∙ books.kept) (ap standing_in (pays.standings ∙ moves.standings) ∙ stands) pair_balances
-      ∙ settled_parts old.kept standing (balance_in old) from.instruction.account to.instruction.account isin q to.sender from.sender cash
+      content_by_parts _ _ _ _ _ _ _ _ (pays.kept ∙ moves.kept ∙ books.kept) (ap standing_in (pays.standings ∙ moves.standings) ∙ stands) pair_balances (pays.sent ∙ moves.sent ∙ books.sent)
+      ∙ settled_parts old.kept standing old.sent (balance_in old) from.instruction.account to.instruction.account isin q to.sender from.sender cash
 
   pub settled_totals : SameTotals old new
   settled_totals = record {

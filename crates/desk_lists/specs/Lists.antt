@@ -4,22 +4,24 @@ use Rattle.desk_codes.specs.declared.currency.Ccy.{Ccy}
 use Rattle.desk_rules.specs.declared.entry.Entry.{Entry}
 use Rattle.desk_rules.specs.declared.entry.Entry.TheVariants.{Issue, PayIn, PayOut, Redeem}
 use Rattle.desk_rules.specs.declared.reply.Kept.{Kept}
+use Rattle.desk_rules.specs.declared.reply.Sent.{Sent}
 use Rattle.desk_rules.specs.declared.standing.Standing.{Standing}
 use Rattle.desk_lists.specs.declared.lists.BalanceKey.{BalanceKey}
 use Rattle.desk_lists.specs.declared.lists.BalanceKey.TheVariants.{Cash, Outstanding, Paid, Position}
 use Rattle.desk_lists.specs.declared.lists.Change.{Change}
-use Rattle.desk_lists.specs.declared.lists.Change.TheVariants.{Appended, Moved, Opened, Stood}
+use Rattle.desk_lists.specs.declared.lists.Change.TheVariants.{Appended, Moved, Opened, Sent as SentChange, Stood}
 use Rattle.desk_lists.specs.declared.lists.Lists.{Lists}
 use Rattle.desk_rules.specs.Balances.{issued, paid_in, paid_out, redeemed, same_ccy}
 use Rattle.desk_rules.specs.Content.{Content}
 use Rattle.desk_rules.specs.Standing.{no_standing}
 
--- The lists: the entries with their replies, where each stands, and the amounts with their keys.
+-- The lists: the entries with their replies, where each stands, the amounts with their keys, and what was sent.
 pub record Listed : Type 0 where
   pub kept : List Kept
   pub standings : List Standing
   pub keys : List BalanceKey
   pub amounts : List ℕ
+  pub sent : List Sent
 
 abbrev pub listed : Lists → Listed
 listed l = record {
@@ -27,6 +29,7 @@ listed l = record {
   standings = l.standings.items;
   keys = l.keys.items;
   amounts = l.amounts.items;
+  sent = l.sent.items;
 }
 
 -- two keys are one
@@ -76,14 +79,14 @@ abbrev pub standing_in : List Standing → ℕ → Standing
 standing_in standings zero = no_standing
 standing_in standings (suc n) = unwrap_or (slice_get standings n) no_standing
 
--- the content that the lists hold; they have no sent messages yet
+-- the content that the lists hold
 abbrev pub content_in : Listed → Content
 content_in l = record {
   register = l.kept;
   standing = standing_in l.standings;
   position = λ account isin. balance_in l (Position account isin);
   cash = λ bic ccy. balance_in l (Cash bic ccy);
-  sent = [];
+  sent = l.sent;
 }
 
 abbrev pub without_last : {X : Type 0} → List X → List X
@@ -93,6 +96,7 @@ without_last xs = take (length xs - 1) xs
 abbrev pub undo : Change → Listed → Listed
 undo Appended l = record l { kept = without_last l.kept; standings = without_last l.standings }
 undo (Stood index was) l = record l { standings = slice_set l.standings index was }
+undo SentChange l = record l { sent = without_last l.sent }
 undo Opened l = record l { keys = without_last l.keys; amounts = without_last l.amounts }
 undo (Moved index was) l = record l { amounts = slice_set l.amounts index was }
 
@@ -107,16 +111,18 @@ pub record TotalsAreKept (l : Listed) : Type 0 where
   pub securities : (isin : List ℕ) → redeemed (map (λ k. k.entry) l.kept) isin + balance_in l (Outstanding isin) ≡ issued (map (λ k. k.entry) l.kept) isin
   pub currencies : (ccy : Ccy) → paid_out (map (λ k. k.entry) l.kept) ccy + balance_in l (Paid ccy) ≡ paid_in (map (λ k. k.entry) l.kept) ccy
 
--- the entries are the same, and stand as they did
+-- nothing but balances has changed
 pub record SameEntries (old new : Listed) : Type 0 where
   pub kept : new.kept ≡ old.kept
   pub standings : new.standings ≡ old.standings
+  pub sent : new.sent ≡ old.sent
 
 -- nothing but where entries stand has changed
 pub record SameBooks (old new : Listed) : Type 0 where
   pub kept : new.kept ≡ old.kept
   pub keys : new.keys ≡ old.keys
   pub amounts : new.amounts ≡ old.amounts
+  pub sent : new.sent ≡ old.sent
 
 -- the entries are the same, and so are the totals
 pub record SameTotals (old new : Listed) : Type 0 where

@@ -15,11 +15,11 @@ use crate::opposites::first_opposite;
 use crate::securities::security_after;
 use crate::settling::try_settle;
 use crate::standings::{cancel_both, cancel_entry, pair_entries};
-use crate::{by_number, history};
+use crate::{by_number, history, messages};
 use desk_codes::{AccountId, Bic, Ccy, Day, Isin, Reference};
 use desk_msg::{Instruction, Kind};
 use desk_register::{Fault, Outcome, Register, Stage};
-use desk_rules::{Entry, Instructed, MOST_ENTRIES, Place, Reply, Sender, Standing};
+use desk_rules::{Entry, Instructed, MOST_ENTRIES, Place, Reply, Sender, Sent, Standing};
 use std::alloc::Global;
 
 impl ListRegister {
@@ -37,6 +37,7 @@ impl ListRegister {
                 standings: Vec::new(alloc),
                 keys: Vec::new(alloc),
                 amounts: Vec::new(alloc),
+                sent: Vec::new(alloc),
             },
             changes: Vec::new(alloc),
             stage: Stage::Idle,
@@ -184,6 +185,33 @@ impl Register for ListRegister {
         Ok(held_cash(&self.lists, &ccy))
     }
 
+    fn sent_count(&mut self, _alloc: Global, bic: Bic) -> Result<u64, Fault> {
+        Ok(messages::sent_count(&self.lists.sent, &bic))
+    }
+
+    fn sent(&mut self, alloc: Global, bic: Bic, number: u64) -> Result<Option<Sent>, Fault> {
+        if number == 0 {
+            return Ok(None);
+        }
+        match messages::sent_after(&self.lists.sent, alloc, &bic, number - 1) {
+            Ok(found) => Ok(found),
+            Err(_) => {
+                self.stage = fallen(self.stage);
+                Err(Fault::Memory)
+            }
+        }
+    }
+
+    fn confirmation(&mut self, alloc: Global, number: u64) -> Result<Option<Sent>, Fault> {
+        match messages::confirmation(&self.lists.sent, alloc, number) {
+            Ok(found) => Ok(found),
+            Err(_) => {
+                self.stage = fallen(self.stage);
+                Err(Fault::Memory)
+            }
+        }
+    }
+
     fn append(&mut self, _alloc: Global, entry: Entry, reply: Reply) -> Result<(), Fault> {
         match append_entry(&mut self.lists, &mut self.changes, entry, reply) {
             Ok(()) => Ok(()),
@@ -227,6 +255,16 @@ impl Register for ListRegister {
     fn settle_pair(&mut self, _alloc: Global, number: u64, _day: Day) -> Result<Outcome, Fault> {
         match try_settle(&mut self.lists, &mut self.changes, number) {
             Ok(outcome) => Ok(outcome),
+            Err(_) => {
+                self.stage = Stage::Failed;
+                Err(Fault::Memory)
+            }
+        }
+    }
+
+    fn send(&mut self, _alloc: Global, message: Sent) -> Result<(), Fault> {
+        match messages::send_message(&mut self.lists, &mut self.changes, message) {
+            Ok(()) => Ok(()),
             Err(_) => {
                 self.stage = Stage::Failed;
                 Err(Fault::Memory)

@@ -3,7 +3,7 @@ ghost use Rattle.std.specs.Prelude.{◌≡◌, ◌<◌, ◌∷◌, ◌++◌, [],
 ghost use Rattle.desk_lists.specs.Lists.{listed, undo, undone};
 
 use crate::lists::{BalanceKey, Change, Lists};
-use desk_rules::{Kept, Standing};
+use desk_rules::{Kept, Sent, Standing};
 use std::alloc::AllocError;
 
 impl Lists {
@@ -20,6 +20,9 @@ impl Lists {
                 if index < self.standings.len() {
                     self.standings[index] = was;
                 }
+            }
+            Change::Sent => {
+                let _ = self.sent.pop();
             }
             Change::Opened => {
                 let _ = self.keys.pop();
@@ -60,6 +63,22 @@ pub fn push_entry(
     changes.push(Change::Appended)?;
     lists.kept.push(kept).unwrap();
     lists.standings.push(standing).unwrap();
+    Ok(())
+}
+
+/// Adds a message to those that were sent.
+pub fn push_sent(
+    lists: &mut Lists,
+    changes: &mut Vec<Change>,
+    message: Sent,
+) -> Result<(), AllocError>
+    ensures sent { OnOk result (listed lists.new ≡ record (listed lists.old) { sent = lists.old.sent.items ++ message ∷ [] }) }
+    ensures before { OnOk result (undone changes.new.items (listed lists.new) ≡ undone changes.old.items (listed lists.old)) }
+    ensures err { OnErr result ((listed lists.new ≡ listed lists.old) × (changes.new.items ≡ changes.old.items)) }
+{
+    lists.sent.reserve(1)?;
+    changes.push(Change::Sent)?;
+    lists.sent.push(message).unwrap();
     Ok(())
 }
 

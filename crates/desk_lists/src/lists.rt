@@ -2,7 +2,7 @@
 ghost use Rattle.std.specs.Prelude.{◌≡◌, length};
 
 use desk_codes::{AccountId, Bic, Ccy, Isin};
-use desk_rules::{Kept, Standing};
+use desk_rules::{Kept, Sent, Standing};
 
 /// What an amount is of.
 #[derive(Clone, Copy, Debug, PartialEq, Eq)]
@@ -24,19 +24,23 @@ pub enum Change {
     Appended,
     /// An entry came to stand otherwise; it stood so.
     Stood { index: usize, was: Standing },
+    /// A message was sent.
+    Sent,
     /// A balance was added.
     Opened,
     /// A balance was changed; it was so much.
     Moved { index: usize, was: u64 },
 }
 
-/// The entries with their replies, where each stands, and the balances, which are amounts by their keys.
+/// The entries with their replies, where each stands, the balances, which are amounts by their keys, and what
+/// was sent.
 #[derive(Drop)]
 pub struct Lists {
     pub kept: Vec<Kept>,
     pub standings: Vec<Standing>,
     pub keys: Vec<BalanceKey>,
     pub amounts: Vec<u64>,
+    pub sent: Vec<Sent>,
     ghost standing_each: { length standings.items ≡ length kept.items },
     ghost amount_each: { length amounts.items ≡ length keys.items },
 }

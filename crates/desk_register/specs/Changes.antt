@@ -6,12 +6,13 @@ use Rattle.desk_msg.specs.declared.instruction.Cash.{Cash}
 use Rattle.desk_msg.specs.declared.status.Reason.{Reason}
 use Rattle.desk_msg.specs.declared.status.Reason.TheVariants.{Future, Lack, Money as LackOfMoney}
 use Rattle.desk_msg.specs.MessageType.{is_delivery}
-use Rattle.desk_rules.specs.declared.limits.TheConstants.{MOST_PAID, MOST_QUANTITY}
+use Rattle.desk_rules.specs.declared.limits.TheConstants.{MOST_PAID, MOST_QUANTITY, MOST_SENT}
 use Rattle.desk_rules.specs.declared.entry.Entry.{Entry}
 use Rattle.desk_rules.specs.declared.entry.Entry.TheVariants.{Issue, Redeem, PayIn, PayOut, Instruct, Cancel}
 use Rattle.desk_rules.specs.declared.entry.Instructed.{Instructed}
 use Rattle.desk_rules.specs.declared.pair.Lack.TheVariants.{Securities, Money as LacksMoney}
 use Rattle.desk_rules.specs.declared.reply.Reply.{Reply}
+use Rattle.desk_rules.specs.declared.reply.Sent.{Sent}
 use Rattle.desk_rules.specs.declared.standing.State.{State}
 use Rattle.desk_rules.specs.declared.standing.State.TheVariants.{Cancelled, Matched, Settled, Unmatched}
 use Rattle.desk_rules.specs.declared.standing.Standing.{Standing}
@@ -210,6 +211,14 @@ abbrev pub pair_cancelled : ℕ → ℕ → Content → Content
 pair_cancelled m n content = record content {
   standing = standing_both content.standing m n Cancelled;
 }
+
+-- one message more can be sent
+abbrev pub CanSend : Content → Type 0
+CanSend content = length content.sent < MOST_SENT
+
+-- the content with one message more sent
+abbrev pub with_sent : Sent → Content → Content
+with_sent message content = record content { sent = content.sent ++ message ∷ [] }
 
 -- What trying the pair of a number does: it settles, and moves its quantity and its cash, where the deliverer holds
 -- the one and the receiver has the other; else only the reason changes. A pair that lacks both lacks securities, and a

@@ -1,6 +1,6 @@
 -- What the look-ups of a register find in its content.
-use Rattle.std.specs.Prelude.{◌≡◌, ℕ, zero, suc, ◌+◌, ◌<◌, ◌≤◌, Bool, true, false, List, Option, Some, None, option_map, slice_get, sum_by, is_some}
-use Rattle.std.specs.List.{filter_map, list_any}
+use Rattle.std.specs.Prelude.{◌≡◌, ℕ, zero, suc, ◌+◌, ◌<◌, ◌≤◌, Bool, true, false, List, Option, Some, None, option_map, slice_get, sum_by, is_some, bytes_eq, filter}
+use Rattle.std.specs.List.{filter_map, find, list_any}
 use Rattle.std.specs.Ordering.{nat_cmp}
 use Rattle.std.specs.Cmp.Lexicographic.{slice_cmp}
 use Rattle.std.specs.declared.cmp.Ordering.TheVariants.{Less}
@@ -9,12 +9,14 @@ use Rattle.desk_codes.specs.Number.{number_of}
 use Rattle.desk_rules.specs.declared.entry.Entry.{Entry}
 use Rattle.desk_rules.specs.declared.entry.Entry.TheVariants.{PayIn, Security}
 use Rattle.desk_rules.specs.declared.reply.Reply.{Reply}
+use Rattle.desk_rules.specs.declared.reply.Sent.{Sent}
 use Rattle.desk_rules.specs.declared.pair.Place.{Place}
 use Rattle.desk_rules.specs.declared.standing.State.TheVariants.{Unmatched, Matched}
 use Rattle.desk_msg.specs.declared.status.Reason.{Reason}
 use Rattle.desk_rules.specs.declared.entry.Instructed.{Instructed}
 use Rattle.desk_rules.specs.History.{instruction_at}
 use Rattle.desk_rules.specs.Opposite.{AreOpposite}
+use Rattle.desk_rules.specs.Questions.{confirms_it}
 use Rattle.desk_rules.specs.Settlement.{is_before, is_past}
 use Rattle.desk_rules.specs.Balances.{paid_in, paid_out, same_ccy}
 use Rattle.desk_rules.specs.Facts.{account_by, kind_of, participants_of}
@@ -103,3 +105,11 @@ held_cash_of content ccy = sum_by (λ bic. content.cash bic ccy) (participants_o
 abbrev pub security_by : Entry → Option (List ℕ)
 security_by (Security reference isin kind) = Some isin
 security_by entry = None
+
+-- what was sent to a participant, in order
+abbrev pub sent_to : Content → List ℕ → List Sent
+sent_to content bic = filter (λ message. bytes_eq message.bic bic) content.sent
+
+-- the sent message that confirms an instruction
+abbrev pub confirmation_in : Content → ℕ → Option Sent
+confirmation_in content n = find (confirms_it n) content.sent

@@ -3,16 +3,17 @@ ghost use Rattle.std.specs.Prelude.{◌≡◌, ◌≢◌, ℕ, true, Bool, ◌+�
 ghost use Rattle.desk_codes.specs.Number.{number_of};
 ghost use Rattle.desk_register.specs.View.{View, IfRead, IfTrusted, IsLater, Begins, Commits, GoesBack, Falls, Blames, IsRead, IsChange};
 ghost use Rattle.desk_rules.specs.Content.{history_of};
-ghost use Rattle.desk_register.specs.Changes.{appended, cancelled, pair_cancelled, paired, CanAppend, CanCancel, CanCancelPair, CanPair, CanSettle, TriesPair};
-ghost use Rattle.desk_register.specs.Looked.{held_cash_of, held_of, reply_at, IsFirstOpposite, IsDuePairAfter, IsPaid, IsSecurityAfter};
+ghost use Rattle.desk_register.specs.Changes.{appended, cancelled, pair_cancelled, paired, with_sent, CanAppend, CanCancel, CanCancelPair, CanPair, CanSend, CanSettle, TriesPair};
+ghost use Rattle.desk_register.specs.Looked.{confirmation_in, held_cash_of, held_of, reply_at, sent_to, IsFirstOpposite, IsDuePairAfter, IsPaid, IsSecurityAfter};
 ghost use Rattle.desk_rules.specs.History.{entry_at, number_of_key};
+ghost use Rattle.desk_rules.specs.Questions.{sent_at};
 ghost use Rattle.desk_rules.specs.Facts.{is_participant, owner_of, kind_of, last_run};
 ghost use Rattle.desk_rules.specs.Balances.{issued, redeemed};
 
 use crate::outcome::Outcome;
 use desk_codes::{AccountId, Bic, Ccy, Day, Isin, Reference};
 use desk_msg::{Instruction, Kind};
-use desk_rules::{Entry, MOST_ENTRIES, Place, Reply, Sender, Standing};
+use desk_rules::{Entry, MOST_ENTRIES, Place, Reply, Sender, Sent, Standing};
 use std::alloc::Global;
 
 /// Whether a `begin` is open, and whether a call within it has failed.
@@ -35,7 +36,8 @@ pub enum Fault {
     Storage,
 }
 
-/// What the desk keeps: its accepted entries with their replies, where each stands, the positions, and the cash.
+/// What the desk keeps: its accepted entries with their replies, where each stands, the positions, the cash, and
+/// the sent messages.
 ///
 /// Whatever changes stands between `begin` and `commit`, or `back`, which takes it all back. What only reads may be
 /// called at any time; once a call has failed, what it answers means nothing until `back`.
@@ -206,6 +208,23 @@ pub trait Register {
         ensures read { IsRead result (view self.old) (view self.new) }
         ensures in_memory { in_memory ≡ true → IsOk result };
 
+    /// How many messages were sent to a participant.
+    fn sent_count(&mut self, alloc: Global, bic: Bic) -> Result<u64, Fault>
+        ensures value { IfRead (view self.old) (view self.new) (IfOk result (λ r. r ≡ length (sent_to (view self.old).content bic))) }
+        ensures read { IsRead result (view self.old) (view self.new) }
+        ensures in_memory { in_memory ≡ true → IsOk result };
+
+    /// A copy of the message of this number among those that were sent to a participant, counted from 1; None where
+    /// there is none.
+    fn sent(&mut self, alloc: Global, bic: Bic, number: u64) -> Result<Option<Sent>, Fault>
+        ensures value { IfRead (view self.old) (view self.new) (IfOk result (λ r. r ≡ sent_at (sent_to (view self.old).content bic) number)) }
+        ensures read { IsRead result (view self.old) (view self.new) };
+
+    /// A copy of the message that confirms the instruction of this number; None where none was sent.
+    fn confirmation(&mut self, alloc: Global, number: u64) -> Result<Option<Sent>, Fault>
+        ensures value { IfRead (view self.old) (view self.new) (IfOk result (λ r. r ≡ confirmation_in (view self.old).content number)) }
+        ensures read { IsRead result (view self.old) (view self.new) };
+
     /// Adds an entry with its reply. A cancellation is noted where the instruction stands that it names.
     fn append(&mut self, alloc: Global, entry: Entry, reply: Reply) -> Result<(), Fault>
         requires stage { (view self.old).stage ≡ Stage.Begun }
@@ -241,5 +260,12 @@ pub trait Register {
         requires stage { (view self.old).stage ≡ Stage.Begun }
         requires fits { IfTrusted (view self.old) (view self.old) (CanCancelPair (view self.old).content earlier later) }
         ensures cancelled { IfTrusted (view self.old) (view self.new) (OnOk result ((view self.new).content ≡ pair_cancelled earlier later (view self.old).content)) }
+        ensures change { IsChange result (view self.old) (view self.new) };
+
+    /// Adds a message to those that were sent.
+    fn send(&mut self, alloc: Global, message: Sent) -> Result<(), Fault>
+        requires stage { (view self.old).stage ≡ Stage.Begun }
+        requires fits { IfTrusted (view self.old) (view self.old) (CanSend (view self.old).content) }
+        ensures sent { IfTrusted (view self.old) (view self.new) (OnOk result ((view self.new).content ≡ with_sent message (view self.old).content)) }
         ensures change { IsChange result (view self.old) (view self.new) };
 }

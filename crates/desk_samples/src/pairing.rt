@@ -45,7 +45,7 @@ pub fn no_text(alloc: Global) -> Reply
 }
 
 /// The instruction of a number, where there is one that is unmatched.
-fn unmatched_at<R: Register>(
+pub fn unmatched_at<R: Register>(
     alloc: Global,
     register: &mut R,
     number: u64,

@@ -10,7 +10,7 @@ use desk_codes::{AccountId, Bic, Ccy, Day, Isin, Reference};
 use desk_lists::ListRegister;
 use desk_msg::{Instruction, Kind};
 use desk_register::{Fault, Outcome, Register, Stage};
-use desk_rules::{Entry, MOST_ENTRIES, Place, Reply, Sender, Standing};
+use desk_rules::{Entry, MOST_ENTRIES, Place, Reply, Sender, Sent, Standing};
 use std::alloc::Global;
 
 /// Which calls of a store fail.
@@ -326,6 +326,31 @@ impl Register for FailingRegister {
         self.inner.held_cash(alloc, ccy)
     }
 
+    fn sent_count(&mut self, alloc: Global, bic: Bic) -> Result<u64, Fault> {
+        if self.calls.fails() {
+            return Err(self.fail());
+        }
+        self.inner.sent_count(alloc, bic)
+    }
+
+    fn sent(&mut self, alloc: Global, bic: Bic, number: u64) -> Result<Option<Sent>, Fault> {
+        if self.calls.fails() {
+            return Err(self.fail());
+        }
+        let answer = self.inner.sent(alloc, bic, number);
+        self.stage = stage_after(self.stage, answer.is_ok());
+        answer
+    }
+
+    fn confirmation(&mut self, alloc: Global, number: u64) -> Result<Option<Sent>, Fault> {
+        if self.calls.fails() {
+            return Err(self.fail());
+        }
+        let answer = self.inner.confirmation(alloc, number);
+        self.stage = stage_after(self.stage, answer.is_ok());
+        answer
+    }
+
     fn append(&mut self, alloc: Global, entry: Entry, reply: Reply) -> Result<(), Fault> {
         let fails = self.calls.fails();
         if fails && !self.calls.plan.is_late {
@@ -384,6 +409,19 @@ impl Register for FailingRegister {
             return Err(self.fail());
         }
         let answer = self.inner.cancel_pair(alloc, earlier, later);
+        self.stage = stage_after(self.stage, answer.is_ok());
+        if fails {
+            return Err(self.fail());
+        }
+        answer
+    }
+
+    fn send(&mut self, alloc: Global, message: Sent) -> Result<(), Fault> {
+        let fails = self.calls.fails();
+        if fails && !self.calls.plan.is_late {
+            return Err(self.fail());
+        }
+        let answer = self.inner.send(alloc, message);
         self.stage = stage_after(self.stage, answer.is_ok());
         if fails {
             return Err(self.fail());
