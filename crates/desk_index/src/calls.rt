@@ -13,7 +13,7 @@ use crate::tidying::{forget_all, tidy_all, tidy_new};
 use desk_codes::{AccountId, Bic, Ccy, Day, Isin, Reference};
 use desk_lists::ListRegister;
 use desk_msg::{Instruction, Kind};
-use desk_register::{Fault, Outcome, Register, Stage};
+use desk_register::{Fault, Holding, Outcome, Register, Stage};
 use desk_rules::{Entry, Instructed, Place, Reply, Sender, Sent, Standing};
 use std::alloc::Global;
 use std::collections::BTreeSet;
@@ -167,6 +167,15 @@ impl Register for IndexedRegister {
 
     fn security_after(&mut self, alloc: Global, isin: Option<Isin>) -> Result<Option<Isin>, Fault> {
         self.held.security_after(alloc, isin)
+    }
+
+    fn holding_after(
+        &mut self,
+        alloc: Global,
+        account: AccountId,
+        isin: Option<Isin>,
+    ) -> Result<Option<Holding>, Fault> {
+        self.held.holding_after(alloc, account, isin)
     }
 
     fn held(&mut self, alloc: Global, isin: Isin) -> Result<u64, Fault> {

@@ -1,5 +1,6 @@
 mod AppendLemmas
 mod BalanceLemmas
+mod HoldingLemmas
 mod ListingLemmas
 mod ListsLemmas
 mod LookingLemmas

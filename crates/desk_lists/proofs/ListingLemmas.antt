@@ -76,14 +76,14 @@ IsFirstListed kept above (Some best) = (listed_in kept best ≡ true) × IsAbove
 pub record IsListedSoFar (kept : List Kept) (above best : Option (List ℕ)) : Type 0 where
   pub first : IsFirstListed kept above best
 
-not_less_itself : (a b : List ℕ) → a ≡ b → IsLess a b → ⊥
+pub not_less_itself : (a b : List ℕ) → a ≡ b → IsLess a b → ⊥
 not_less_itself a b e less =
     let flip = nat_list_cmp_total.antisymm a b in
     let back : slice_cmp nat_cmp b a ≡ Less = subst (λ z. slice_cmp nat_cmp b z ≡ Less) (sym e) (subst (λ z. slice_cmp nat_cmp z b ≡ Less) e less) in
     let bad = sym less ∙ flip ∙ ap ordering_reverse back in
     cc
 
-less_less : (a b c : List ℕ) → IsLess a b → IsLess b c → IsLess a c
+pub less_less : (a b c : List ℕ) → IsLess a b → IsLess b c → IsLess a c
 less_less a b c p q = nat_list_cmp_total.trans a b c p q
 
 named : (o : Option (List ℕ)) (isin : List ℕ) → is_of o isin ≡ true → o ≡ Some isin

@@ -7,10 +7,10 @@ use Rattle.desk_lists.specs.declared.holdings.Summed.{Summed}
 use Rattle.desk_lists.specs.declared.holdings.Summed.TheVariants.{Currency, Security}
 use Rattle.desk_lists.specs.declared.lists.BalanceKey.{BalanceKey}
 use Rattle.desk_lists.specs.declared.lists.BalanceKey.TheVariants.{Cash, Position}
-use Rattle.desk_lists.specs.Lists.{Listed, balance_in}
+use Rattle.desk_lists.specs.Lists.{Listed, balance_in, content_in}
 use Rattle.desk_rules.specs.Facts.{account_by, participant_by}
 use Rattle.desk_rules.specs.Settlement.{is_before}
-use Rattle.desk_register.specs.Looked.{IsAboveText, IsLess, security_by}
+use Rattle.desk_register.specs.Looked.{HoldsAbove, IsAboveText, IsLess, security_by}
 
 -- the balance that counts in a sum, of the account or the participant that an entry registers
 abbrev pub key_by : Summed → Entry → Option BalanceKey
@@ -36,6 +36,16 @@ sooner_of (Some best) (Some candidate) = if is_before candidate best then Some c
 abbrev pub IsSecurityOf : Entry → Option (List ℕ) → Option (List ℕ) → Type 0
 IsSecurityOf entry above None = (isin : List ℕ) → security_by entry ≡ Some isin → IsAboveText above isin → ⊥
 IsSecurityOf entry above (Some isin) = (security_by entry ≡ Some isin) × IsAboveText above isin
+
+-- the security of a key, where it is of a position of this account, of which some is held, above one
+abbrev pub IsHeldBy : Listed → List ℕ → Option (List ℕ) → BalanceKey → Option (List ℕ) → Type 0
+IsHeldBy l account above key None = (isin : List ℕ) → Position account isin ≡ key → HoldsAbove (content_in l) account above isin → ⊥
+IsHeldBy l account above key (Some isin) = (Position account isin ≡ key) × HoldsAbove (content_in l) account above isin
+
+-- the first security above one of which an account holds some, or there is none
+abbrev pub IsFirstHeld : Listed → List ℕ → Option (List ℕ) → Option (List ℕ) → Type 0
+IsFirstHeld l account above None = (isin : List ℕ) → HoldsAbove (content_in l) account above isin → ⊥
+IsFirstHeld l account above (Some isin) = HoldsAbove (content_in l) account above isin × ((other : List ℕ) → HoldsAbove (content_in l) account above other → IsLess other isin → ⊥)
 
 -- the lesser of two, where there are two
 abbrev pub IsLesser : Option (List ℕ) → Option (List ℕ) → Option (List ℕ) → Type 0

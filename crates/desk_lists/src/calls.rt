@@ -11,6 +11,7 @@ use crate::due_pairs::due_pair_after;
 use crate::holdings::{held, held_cash};
 use crate::list_register::ListRegister;
 use crate::lists::{BalanceKey, Lists};
+use crate::next_holding::holding_after;
 use crate::opposites::first_opposite;
 use crate::securities::security_after;
 use crate::settling::try_settle;
@@ -18,7 +19,7 @@ use crate::standings::{cancel_both, cancel_entry, pair_entries};
 use crate::{by_number, history, messages};
 use desk_codes::{AccountId, Bic, Ccy, Day, Isin, Reference};
 use desk_msg::{Instruction, Kind};
-use desk_register::{Fault, Outcome, Register, Stage};
+use desk_register::{Fault, Holding, Outcome, Register, Stage};
 use desk_rules::{Entry, Instructed, MOST_ENTRIES, Place, Reply, Sender, Sent, Standing};
 use std::alloc::Global;
 
@@ -175,6 +176,15 @@ impl Register for ListRegister {
         isin: Option<Isin>,
     ) -> Result<Option<Isin>, Fault> {
         Ok(security_after(&self.lists, &isin))
+    }
+
+    fn holding_after(
+        &mut self,
+        _alloc: Global,
+        account: AccountId,
+        isin: Option<Isin>,
+    ) -> Result<Option<Holding>, Fault> {
+        Ok(holding_after(&self.lists, &account, &isin))
     }
 
     fn held(&mut self, _alloc: Global, isin: Isin) -> Result<u64, Fault> {

@@ -22,6 +22,7 @@ use Rattle.desk_rules.specs.Balances.{paid_in, paid_out, same_ccy}
 use Rattle.desk_rules.specs.Facts.{account_by, kind_of, participants_of}
 use Rattle.desk_rules.specs.declared.reply.Kept.{Kept}
 use Rattle.desk_rules.specs.Content.{Content, history_of}
+use Rattle.desk_register.specs.declared.holding.Holding.{Holding}
 
 -- the entry of a number, with its reply
 abbrev pub kept_at : List Kept → ℕ → Option Kept
@@ -82,6 +83,18 @@ IsRegisteredAbove history above isin = (is_some (kind_of history isin) ≡ true)
 abbrev pub IsSecurityAfter : List Entry → Option (List ℕ) → Option (List ℕ) → Type 0
 IsSecurityAfter history above None = (isin : List ℕ) → IsRegisteredAbove history above isin → ⊥
 IsSecurityAfter history above (Some isin) = IsRegisteredAbove history above isin × ((other : List ℕ) → IsRegisteredAbove history above other → IsLess other isin → ⊥)
+
+-- an account holds some of a security above one, or above none
+abbrev pub HoldsAbove : Content → List ℕ → Option (List ℕ) → List ℕ → Type 0
+HoldsAbove content account above isin = (0 < content.position account isin) × IsAboveText above isin
+
+-- the first such security, with how much of it the account holds, or there is none
+abbrev pub IsHoldingAfter : Content → List ℕ → Option (List ℕ) → Option Holding → Type 0
+IsHoldingAfter content account above None = (isin : List ℕ) → HoldsAbove content account above isin → ⊥
+IsHoldingAfter content account above (Some holding) =
+    HoldsAbove content account above holding.isin
+    × (holding.quantity ≡ content.position account holding.isin)
+    × ((other : List ℕ) → HoldsAbove content account above other → IsLess other holding.isin → ⊥)
 
 -- what all registered accounts hold of a security
 abbrev pub held_of : Content → List ℕ → ℕ

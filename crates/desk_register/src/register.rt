@@ -4,12 +4,13 @@ ghost use Rattle.desk_codes.specs.Number.{number_of};
 ghost use Rattle.desk_register.specs.View.{View, IfRead, IfTrusted, IsLater, Begins, Commits, GoesBack, Falls, Blames, IsRead, IsChange};
 ghost use Rattle.desk_rules.specs.Content.{history_of};
 ghost use Rattle.desk_register.specs.Changes.{appended, cancelled, pair_cancelled, paired, with_sent, CanAppend, CanCancel, CanCancelPair, CanPair, CanSend, CanSettle, TriesPair};
-ghost use Rattle.desk_register.specs.Looked.{confirmation_in, held_cash_of, held_of, reply_at, sent_to, IsFirstOpposite, IsDuePairAfter, IsPaid, IsSecurityAfter};
+ghost use Rattle.desk_register.specs.Looked.{confirmation_in, held_cash_of, held_of, reply_at, sent_to, IsFirstOpposite, IsDuePairAfter, IsHoldingAfter, IsPaid, IsSecurityAfter};
 ghost use Rattle.desk_rules.specs.History.{entry_at, number_of_key};
 ghost use Rattle.desk_rules.specs.Questions.{sent_at};
 ghost use Rattle.desk_rules.specs.Facts.{is_participant, owner_of, kind_of, last_run};
 ghost use Rattle.desk_rules.specs.Balances.{issued, redeemed};
 
+use crate::holding::Holding;
 use crate::outcome::Outcome;
 use desk_codes::{AccountId, Bic, Ccy, Day, Isin, Reference};
 use desk_msg::{Instruction, Kind};
@@ -191,6 +192,18 @@ pub trait Register {
     /// The first security, in order of its bytes, after one; with none, the first of all. None where there is none.
     fn security_after(&mut self, alloc: Global, isin: Option<Isin>) -> Result<Option<Isin>, Fault>
         ensures value { IfRead (view self.old) (view self.new) (IfOk result (λ r. IsSecurityAfter (history_of (view self.old).content) isin r)) }
+        ensures read { IsRead result (view self.old) (view self.new) }
+        ensures in_memory { in_memory ≡ true → IsOk result };
+
+    /// The first security, in order of its bytes, after one, of which an account holds some, and how much; with none, the
+    /// first of all. None where there is none.
+    fn holding_after(
+        &mut self,
+        alloc: Global,
+        account: AccountId,
+        isin: Option<Isin>,
+    ) -> Result<Option<Holding>, Fault>
+        ensures value { IfRead (view self.old) (view self.new) (IfOk result (λ r. IsHoldingAfter (view self.old).content account isin r)) }
         ensures read { IsRead result (view self.old) (view self.new) }
         ensures in_memory { in_memory ≡ true → IsOk result };
 

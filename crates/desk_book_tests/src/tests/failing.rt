@@ -9,7 +9,7 @@ ghost use Rattle.desk_register.specs.View.{fallen};
 use desk_codes::{AccountId, Bic, Ccy, Day, Isin, Reference};
 use desk_lists::ListRegister;
 use desk_msg::{Instruction, Kind};
-use desk_register::{Fault, Outcome, Register, Stage};
+use desk_register::{Fault, Holding, Outcome, Register, Stage};
 use desk_rules::{Entry, MOST_ENTRIES, Place, Reply, Sender, Sent, Standing};
 use std::alloc::Global;
 
@@ -310,6 +310,18 @@ impl Register for FailingRegister {
             return Err(self.fail());
         }
         self.inner.security_after(alloc, isin)
+    }
+
+    fn holding_after(
+        &mut self,
+        alloc: Global,
+        account: AccountId,
+        isin: Option<Isin>,
+    ) -> Result<Option<Holding>, Fault> {
+        if self.calls.fails() {
+            return Err(self.fail());
+        }
+        self.inner.holding_after(alloc, account, isin)
     }
 
     fn held(&mut self, alloc: Global, isin: Isin) -> Result<u64, Fault> {
