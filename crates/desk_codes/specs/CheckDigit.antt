@@ -4,9 +4,9 @@ use Rattle.std.specs.List.{flat_map}
 use Rattle.std.specs.Str.{byte}
 use Rattle.desk_codes.specs.Characters.{IsCapital, IsCodeChar}
 
--- A digit stands for itself, and A to Z for 10 to 35, written as two digits.
+-- A digit stands for itself, and A to Z, whose codes are 65 to 90, for 10 to 35, written as two digits.
 abbrev pub digits_of_char : ℕ → List ℕ
-digits_of_char c = if nat_le c (byte "9") then (c - byte "0") ∷ [] else ((c - byte "A" + 10) / 10) ∷ ((c - byte "A" + 10) % 10) ∷ []
+digits_of_char c = if nat_le c (byte "9") then (c - byte "0") ∷ [] else ((c - 55) / 10) ∷ ((c - 55) % 10) ∷ []
 
 -- the digits of a whole text
 abbrev pub expanded : List ℕ → List ℕ

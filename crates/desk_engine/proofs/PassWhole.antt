@@ -37,8 +37,8 @@ use Rattle.desk_rules.specs.Books.{Books, AreBooks}
 use Rattle.desk_rules.specs.Verdict.{WasAccepted, check}
 use Rattle.desk_rules.specs.declared.limits.TheConstants.{MOST_QUANTITY}
 use Rattle.desk_engine.specs.Decision.{is_supported}
-use Rattle.desk_rules.specs.Content.{Content, history_of}
-use Rattle.desk_register.specs.Changes.{standing_both, CanSettle, TriesPair, TriesSides, delivering_side as deliverer, receiving_side as receiver}
+use Rattle.desk_rules.specs.Content.{CashBalances, Content, history_of}
+use Rattle.desk_register.specs.Changes.{standing_both, paid_over, CanSettle, FitsCash, LacksCash, TriesPair, TriesSides, delivering_side as deliverer, receiving_side as receiver}
 use Rattle.desk_register.specs.Looked.{IsDue, IsDuePairAfter}
 use Rattle.desk_engine.specs.Pass.{settled_of, PassesAt, InstructionPasses, IsUnderway, is_below}
 use Rattle.desk_engine.specs.Decision.{AreSupported}
@@ -239,6 +239,10 @@ module _ (limit : ℕ) (books : Books) (reference day : List ℕ) (rule : RunRul
     | inr other ↦ inr (rw other refl)
   ]
 
+  -- the later side is free, as the earlier one is
+  unpaid_later : (next : Place) (due : IsDue old (number_of day) place next) (n : NextSides next due) → due.pair.later.instruction.cash ≡ None
+  unpaid_later next due n = sym n.sides.opposite.cash ∙ n.sides.unpaid
+
   pub next_can_settle : (next : Place) → IsDuePairAfter old (number_of day) place (Some next) → CanSettle old next.number (number_of day)
   next_can_settle next after =
       let due = after.0 in
@@ -262,12 +266,16 @@ module _ (limit : ℕ) (books : Books) (reference day : List ℕ) (rule : RunRul
         later_reason = due.pair.reason;
         later_matched = due.pair.matched;
         due = (let by = due.by in let on = due.pair.day in omega (arith, by, on));
-        free = n.sides.unpaid;
-        fits = λ there.
-            let from : old.position (deliverer n.earlier b).instruction.account b.instruction.isin ≤ MOST_QUANTITY = side_within next due n (deliverer n.earlier b) (which_delivers n.earlier b) b.instruction.isin in
-            let to : old.position (receiver n.earlier b).instruction.account b.instruction.isin ≤ MOST_QUANTITY = side_within next due n (receiver n.earlier b) (which_receives n.earlier b) b.instruction.isin in
-            let room : MOST_QUANTITY + MOST_QUANTITY < 2 ^ 63 = lit< tt in
-            omega arith;
+        fits = record {
+          securities = λ there.
+              let from : old.position (deliverer n.earlier b).instruction.account b.instruction.isin ≤ MOST_QUANTITY = side_within next due n (deliverer n.earlier b) (which_delivers n.earlier b) b.instruction.isin in
+              let to : old.position (receiver n.earlier b).instruction.account b.instruction.isin ≤ MOST_QUANTITY = side_within next due n (receiver n.earlier b) (which_receives n.earlier b) b.instruction.isin in
+              let room : MOST_QUANTITY + MOST_QUANTITY < 2 ^ 63 = lit< tt in
+              omega arith;
+          cash = λ has.
+              let Fits : Option Cash → Type 0 = λ z. FitsCash old.cash (deliverer n.earlier b).sender z in
+              subst Fits (sym (unpaid_later next due n)) tt;
+        };
       }
 
   -- the sides that the register settled are those
@@ -350,6 +358,7 @@ module _ (limit : ℕ) (books : Books) (reference day : List ℕ) (rule : RunRul
       let S : Content → Type 0 = λ c. (k : ℕ) → PassesAt books e pass (is_below books e (Some next)) on k (instruction_at books.history k) (c.standing k) in
       let B : Content → Type 0 = λ c. ArePositions books.history on c.position in
       let C : Content → Type 0 = λ c. AreCashBalances books.history on c.cash in
+      let D : CashBalances → Type 0 = λ z. AreCashBalances books.history on z in
       let P : ℕ → Standing → Type 0 = λ k st. PassesAt books e pass (is_below books e (Some next)) on k (instruction_at books.history k) st in
       let covered = covered_if books.history settled q n.earlier due.pair.later n.sides old.position u.passing.position ends.0 in
       let order = ordered_pairs books.history books.pairs are.pairing in
@@ -358,8 +367,8 @@ module _ (limit : ℕ) (books : Books) (reference day : List ℕ) (rule : RunRul
         added = t ∷ [];
         underway = record {
           passing = record {
-            history = subst H (sym ends.1) u.passing.history;
-            standing = subst S (sym ends.1) (both_stand P old.standing due.pair.mate next.number states.Settled
+            history = subst H (sym ends.2) u.passing.history;
+            standing = subst S (sym ends.2) (both_stand P old.standing due.pair.mate next.number states.Settled
                 (rw f.at_number (record {
                   so = side_settled books e pass place settled q next are f.next_is n.found.place_is (decided_as_far u.reached) next.number due.pair.mate f.number_side f.number_mate;
                   requested = requested_at next.number due.pair.later f.at_number;
@@ -369,8 +378,8 @@ module _ (limit : ℕ) (books : Books) (reference day : List ℕ) (rule : RunRul
                   requested = requested_at due.pair.mate n.earlier f.at_mate;
                 }))
                 (λ k a b. rest_settled next after n f k (instruction_at books.history k) (old.standing k) (f.others k a b) (u.passing.standing k)));
-            position = subst B (sym ends.1) (λ a i. settled_position books.history settled q n.earlier due.pair.later n.sides old.position u.passing.position t refl ends.0 a i);
-            cash = subst C (sym ends.1) (λ b y. settled_cash books.history settled q n.earlier due.pair.later n.sides old.position u.passing.position t refl (old.cash b y) b y (u.passing.cash b y));
+            position = subst B (sym ends.2) (λ a i. settled_position books.history settled q n.earlier due.pair.later n.sides old.position u.passing.position t refl ends.0 a i);
+            cash = subst C (sym ends.2) (subst D (sym (ap (paid_over old.cash (receiver n.earlier due.pair.later).sender (deliverer n.earlier due.pair.later).sender) (unpaid_later next due n))) (λ b y. settled_cash books.history settled q n.earlier due.pair.later n.sides old.position u.passing.position t refl (old.cash b y) b y (u.passing.cash b y)));
           };
           reached = as_far_decided (run_settles (books.history ++ e ∷ []) books.pairs settled (length books.history + 1) pass place q next order (decided_as_far u.reached) u.begun f.next_is n.found.place_is
               (ap (λ z. is_covered z settled q) (before-all books.history (e ∷ []) (length books.history + 1) refl) ∙ covered));
@@ -445,4 +454,8 @@ module _ (limit : ℕ) (books : Books) (reference day : List ℕ) (rule : RunRul
   pub step : (next : Place) (after : IsDuePairAfter old (number_of day) place (Some next)) (outcome : Outcome) (new : Content) → TriesPair old next.number outcome new → PassedOn books reference day rule pass place next settled outcome new
   step next after outcomes.Settled new s = step_settled next after new s
   step next after (Lacks Securities) new s = step_lacks next after new s
-  step next after (Lacks LacksMoney) new s = absurd s.ends
+  step next after (Lacks LacksMoney) new s =
+      let n = next_sides next after.0 in
+      let ends = ends_here next after.0 n (Lacks LacksMoney) new s in
+      let Short : Option Cash → Type 0 = λ z. LacksCash old.cash (receiver n.earlier after.0.pair.later).sender z in
+      absurd (subst Short (unpaid_later next after.0 n) ends.1)

@@ -32,9 +32,9 @@ use Rattle.desk_engine.proofs.UnderwayLemmas.{Underway, starts, can_settle, goes
 -- to try a pair changes no entry and no reply
 
 settles_keeps : (old new : Content) (n : ℕ) (outcome : Outcome) → TriesPair old n outcome new → new.register ≡ old.register
-settles_keeps old new n outcomes.Settled s = ap (λ (c : Content). c.register) s.ends.1
+settles_keeps old new n outcomes.Settled s = ap (λ (c : Content). c.register) s.ends.2
 settles_keeps old new n (Lacks Securities) s = ap (λ (c : Content). c.register) s.ends.1
-settles_keeps old new n (Lacks LacksMoney) s = absurd s.ends
+settles_keeps old new n (Lacks LacksMoney) s = ap (λ (c : Content). c.register) s.ends.2
 
 pub taken_keeps : (old new : Content) (day : ℕ) (place : Option Place) (taken : Option Taken) → IsTaken old day place taken new → new.register ≡ old.register
 taken_keeps old new day place None t = ap (λ (c : Content). c.register) t.1

@@ -24,7 +24,7 @@ use Rattle.desk_rules.specs.Covered.{lack_of}
 use Rattle.desk_rules.specs.Settlement.{IsSettlement, is_due, last_pass, passes_of, settled_before, precedes}
 use Rattle.desk_rules.specs.Books.{Books, AreBooks}
 use Rattle.desk_rules.specs.Verdict.{WasAccepted, IsVerdict, check}
-use Rattle.desk_rules.specs.Content.{Content, history_of}
+use Rattle.desk_rules.specs.Content.{CashBalances, Content, history_of}
 use Rattle.desk_rules.specs.Standing.{no_standing, reason_of_lack}
 use Rattle.desk_rules.specs.Stands.{IsAlone, IsInPair, IsReason, StandsAt, StandsSo, reason_found}
 use Rattle.desk_engine.specs.Tables.{Tables, Grown, is_registration}
@@ -45,7 +45,7 @@ use Rattle.std.proofs.lemmas.Slice.Eq.{bytes_eq-Decides}
 use Rattle.std.proofs.lemmas.List.Sums.{sum_by-cons}
 use Rattle.desk_rules.specs.declared.reply.Kept.{Kept}
 use Rattle.desk_rules.specs.declared.reply.Reply.{Reply}
-use Rattle.desk_register.specs.Changes.{appended, first_standing, positions_after, moved_to, CanAppend}
+use Rattle.desk_register.specs.Changes.{appended, cash_after, first_standing, positions_after, requests_noted, moved_to, CanAppend}
 use Rattle.desk_rules.specs.Facts.{owner_of, accounts_of}
 use Rattle.desk_rules.specs.declared.limits.TheConstants.{MOST_QUANTITY}
 use Rattle.desk_rules.specs.Balances.{cash_credits, cash_debits, issued_by, redeemed_by, movement_on, paid_in_by, paid_out_by, payment_of, quantity_if}
@@ -244,12 +244,14 @@ pub record IsPlain (e : Entry) : Type 0 where
   pub first : first_standing e ≡ no_standing
   pub no_payment_in : (share : Payment → ℕ) → paid_in_by share e ≡ 0
   pub no_payment_out : (share : Payment → ℕ) → paid_out_by share e ≡ 0
+  pub no_cash : (cash : CashBalances) → cash_after e cash ≡ cash
+  pub no_request : (h : List Entry) (standing : ℕ → Standing) → requests_noted h e standing ≡ standing
 
 plain_entry : (e : Entry) → is_registration e ≡ true → IsPlain e
-plain_entry (Participant reference bic) is = record { no_run = refl; no_instruction = refl; no_cancel = λ i. refl; first = refl; no_payment_in = λ share. refl; no_payment_out = λ share. refl }
-plain_entry (Account reference bic account) is = record { no_run = refl; no_instruction = refl; no_cancel = λ i. refl; first = refl; no_payment_in = λ share. refl; no_payment_out = λ share. refl }
-plain_entry (Security reference isin kind) is = record { no_run = refl; no_instruction = refl; no_cancel = λ i. refl; first = refl; no_payment_in = λ share. refl; no_payment_out = λ share. refl }
-plain_entry (Issue movement) is = record { no_run = refl; no_instruction = refl; no_cancel = λ i. refl; first = refl; no_payment_in = λ share. refl; no_payment_out = λ share. refl }
+plain_entry (Participant reference bic) is = record { no_run = refl; no_instruction = refl; no_cancel = λ i. refl; first = refl; no_payment_in = λ share. refl; no_payment_out = λ share. refl; no_cash = λ cash. refl; no_request = λ h standing. refl }
+plain_entry (Account reference bic account) is = record { no_run = refl; no_instruction = refl; no_cancel = λ i. refl; first = refl; no_payment_in = λ share. refl; no_payment_out = λ share. refl; no_cash = λ cash. refl; no_request = λ h standing. refl }
+plain_entry (Security reference isin kind) is = record { no_run = refl; no_instruction = refl; no_cancel = λ i. refl; first = refl; no_payment_in = λ share. refl; no_payment_out = λ share. refl; no_cash = λ cash. refl; no_request = λ h standing. refl }
+plain_entry (Issue movement) is = record { no_run = refl; no_instruction = refl; no_cancel = λ i. refl; first = refl; no_payment_in = λ share. refl; no_payment_out = λ share. refl; no_cash = λ cash. refl; no_request = λ h standing. refl }
 plain_entry (Redeem movement) is = absurd (cc)
 plain_entry (PayIn p) is = absurd (cc)
 plain_entry (PayOut p) is = absurd (cc)
@@ -354,10 +356,10 @@ tables_registration limit books content e reply is tables verdict =
           | inl last ↦
               let new : k == length content.register + 1 ≡ true = grind (arith, nat_tests) in
               let none : instruction_at (h ++ e ∷ []) k ≡ None = ap (option_and_then instructed) (entry_at-end h e k last) ∙ plain.no_instruction in
-              rw (new, none) plain.first
+              rw (plain.no_request (history_of content) content.standing, new, none) plain.first
           | inr other ↦
               let old : k == length content.register + 1 ≡ false = ne_eqb k (length content.register + 1) (λ (q : k ≡ length content.register + 1). other (omega arith)) in
-              rw old (stands_rest h e books.pairs [] books.settled k (content.standing k) quiet other (free_of_none k) (tables.standing k))
+              rw (plain.no_request (history_of content) content.standing, old) (stands_rest h e books.pairs [] books.settled k (content.standing k) quiet other (free_of_none k) (tables.standing k))
         ];
         position = λ account isin.
             let within = settled_in_history books are in
@@ -369,7 +371,7 @@ tables_registration limit books content e reply is tables verdict =
             let more = cash_credits-entry h e books.settled within bic ccy in
             let less = cash_debits-entry h e books.settled within bic ccy in
             let here : content.cash bic ccy + cash_debits h books.settled bic ccy ≡ cash_credits h books.settled bic ccy = tables.cash bic ccy in
-            rw (more, less, plain.no_payment_in (payment_of bic ccy), plain.no_payment_out (payment_of bic ccy)) (omega arith);
+            rw (plain.no_cash content.cash, more, less, plain.no_payment_in (payment_of bic ccy), plain.no_payment_out (payment_of bic ccy)) (omega arith);
       };
     }
 

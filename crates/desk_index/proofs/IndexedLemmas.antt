@@ -1,17 +1,20 @@
 -- The look-ups of an indexed register through its calls.
-use Rattle.std.proofs.Common.{rules, ◌≡◌, ◌≢◌, ℕ, zero, suc, ◌+◌, ◌<◌, true, false, List, [], ◌∷◌, ◌++◌, length, map, Some, None, refl, ap, sym, ◌∙◌, subst, arith, inl, inr, append_assoc}
+use Rattle.std.proofs.Common.{rules, ◌≡◌, ◌≢◌, ℕ, zero, suc, ◌+◌, ◌<◌, true, false, List, [], ◌∷◌, ◌++◌, length, map, Option, Some, None, refl, ap, sym, ◌∙◌, subst, arith, inl, inr, append_assoc}
 use Rattle.std.specs.Prelude.{Result, Ok, Err, OnOk, OnErr, IfOk, is_err, slice_get, option_and_then, ◌==◌}
 use Rattle.std.specs.BTreeSet.{BTreeSet, contains}
 use Rattle.std.proofs.lemmas.Bool.{cases_eq}
 use Rattle.std.proofs.lemmas.List.{length-map, length-append, map-append}
 use Rattle.desk_codes.specs.Number.{number_of}
-use Rattle.desk_msg.specs.declared.status.Reason.TheVariants.{Future, Lack}
+use Rattle.desk_msg.specs.declared.status.Reason.{Reason}
+use Rattle.desk_msg.specs.declared.status.Reason.TheVariants.{Future, Lack, Money as LackOfMoney}
 use Rattle.desk_rules.specs.declared.entry.Entry.{Entry}
 use Rattle.desk_rules.specs.declared.entry.Entry.TheVariants.{Participant, Account, Security, Issue, Redeem, PayIn, PayOut, Instruct, Cancel, Run}
 use Rattle.desk_rules.specs.declared.entry.Instructed.{Instructed}
+use Rattle.desk_rules.specs.declared.reply.Kept.{Kept}
 use Rattle.desk_rules.specs.declared.reply.Reply.{Reply}
+use Rattle.desk_rules.specs.declared.reply.Sent.{Sent}
 use Rattle.desk_rules.specs.declared.standing.State.{State}
-use Rattle.desk_rules.specs.declared.standing.State.TheVariants.{Unmatched, Matched, Settled}
+use Rattle.desk_rules.specs.declared.standing.State.TheVariants.{Cancelled, Unmatched, Matched, Settled}
 use Rattle.desk_rules.specs.History.{instructed, instruction_at}
 use Rattle.desk_lists.specs.declared.list_register.ListRegister.{ListRegister}
 use Rattle.desk_register.specs.declared.register.Fault.{Fault}
@@ -25,7 +28,7 @@ use Rattle.desk_rules.specs.declared.pair.Lack.TheVariants.{Securities, Money as
 use Rattle.desk_register.specs.declared.outcome.Outcome.{Outcome}
 use Rattle.desk_register.specs.declared.outcome.Outcome.TheVariants as outcomes
 use Rattle.desk_register.specs.declared.outcome.Outcome.TheVariants.{Lacks}
-use Rattle.desk_register.specs.Changes.{CanSettle, TriesPair, TriesSides, appended, first_standing, paired, standing_at, standing_both}
+use Rattle.desk_register.specs.Changes.{CanSettle, TriesPair, TriesSides, appended, cancelled, first_standing, pair_cancelled, paired, requested_by, requests_noted, standing_at, standing_both, with_request, with_sent}
 use Rattle.desk_rules.specs.Content.{Content, history_of}
 use Rattle.desk_index.specs.DuePlaces.{HasDue, HoldsDue, PlacedAt, place_cmp}
 use Rattle.desk_index.specs.Indexed.{HoldsOn, IsIndexed}
@@ -188,6 +191,26 @@ standing_here st n s = let same : (n == n) ≡ true = search rules in rw same re
 standing_other : (st : ℕ → Standing) (n k : ℕ) (s : Standing) → k ≢ n → standing_at st n s k ≡ st k
 standing_other st n k s apart = let other : (k == n) ≡ false = grind (arith, apart) in rw other refl
 
+-- What an entry requests changes neither a mate nor how far an instruction has come.
+
+record AreAlike (a b : Standing) : Type 0 where
+  pub mate : a.mate ≡ b.mate
+  pub state : a.state ≡ b.state
+
+request_alike : (named : Option ℕ) (st : ℕ → Standing) (k : ℕ) → AreAlike (with_request named st k) (st k)
+request_alike None st k = record { mate = refl; state = refl }
+request_alike (Some j) st k = elim (cases_eq k j) [
+  | inl here ↦
+      let same : standing_at st j (record (st j) { cancel_requested = true }) k ≡ record (st j) { cancel_requested = true } = ap (standing_at st j (record (st j) { cancel_requested = true })) here ∙ standing_here st j (record (st j) { cancel_requested = true }) in
+      record { mate = ap (λ s. s.mate) same ∙ ap (λ z. (st z).mate) (sym here); state = ap (λ s. s.state) same ∙ ap (λ z. (st z).state) (sym here) }
+  | inr apart ↦
+      let same : standing_at st j (record (st j) { cancel_requested = true }) k ≡ st k = standing_other st j k (record (st j) { cancel_requested = true }) apart in
+      record { mate = ap (λ s. s.mate) same; state = ap (λ s. s.state) same }
+]
+
+noted_alike : (entry : Entry) (h : List Entry) (st : ℕ → Standing) (k : ℕ) → AreAlike (requests_noted h entry st k) (st k)
+noted_alike entry h st k = request_alike (requested_by h entry) st k
+
 pub size_of : (content : Content) → length (history_of content) ≡ length content.register
 size_of content = length-map content.register (λ kept. kept.entry)
 
@@ -195,8 +218,11 @@ module _ (entry : Entry) (reply : Reply) (content : Content) (n : ℕ) (is : n �
   n_is : n ≡ length (history_of content) + 1
   n_is = is ∙ ap (λ z. z + 1) (sym (size_of content))
 
-  m_is : length content.register + 1 ≡ n
-  m_is = sym is
+  abbrev noted : ℕ → Standing
+  noted = requests_noted (history_of content) entry content.standing
+
+  stands_otherwise : (k : ℕ) → k ≢ n → noted k ≡ (appended entry reply content).standing k
+  stands_otherwise k apart = sym (subst (λ z. standing_at noted z (first_standing entry) k ≡ noted k) is (standing_other noted n k (first_standing entry) apart))
 
   open_appended : (numbers : BTreeSet (MatchKey × ℕ)) → HasOpen numbers content → OpensAt numbers (instructed entry) n → HasOpen numbers (appended entry reply content)
   open_appended numbers has opens = record {
@@ -206,8 +232,8 @@ module _ (entry : Entry) (reply : Reply) (content : Content) (n : ℕ) (is : n �
           subst (λ k. contains (numbered_cmp match_cmp) numbers (key_of i, k) ≡ true) (sym here) (subst (λ o. OpensAt numbers o n) last opens)
       | inr apart ↦
           let before : instruction_at (history_of content) m ≡ Some i = sym (instruction_more (history_of content) entry n m n_is apart) ∙ ap (λ h. instruction_at h m) (sym (history_more entry reply content)) ∙ at in
-          let stood : content.standing m ≡ (appended entry reply content).standing m = sym (subst (λ k. standing_at content.standing k (first_standing entry) m ≡ content.standing m) is (standing_other content.standing n m (first_standing entry) apart)) in
-          has.each m i before (ap (λ s. s.state) stood ∙ unmatched)
+          let alike = noted_alike entry (history_of content) content.standing m in
+          has.each m i before (sym alike.state ∙ ap (λ s. s.state) (stands_otherwise m apart) ∙ unmatched)
     ];
   }
 
@@ -215,19 +241,20 @@ module _ (entry : Entry) (reply : Reply) (content : Content) (n : ℕ) (is : n �
   due_appended places has = record {
     each = λ p pair. elim (cases_eq p.number n) [
       | inl here ↦
-          let stood : (appended entry reply content).standing p.number ≡ first_standing entry = ap (appended entry reply content).standing here ∙ subst (λ k. standing_at content.standing k (first_standing entry) n ≡ first_standing entry) is (standing_here content.standing n (first_standing entry)) in
+          let stood : (appended entry reply content).standing p.number ≡ first_standing entry = ap (appended entry reply content).standing here ∙ subst (λ k. standing_at noted k (first_standing entry) n ≡ first_standing entry) is (standing_here noted n (first_standing entry)) in
           let none : None ≡ Some pair.mate = sym (no_mate entry) ∙ ap (λ s. s.mate) (sym stood) ∙ pair.has_mate in
           absurd (cc)
       | inr apart ↦
-          let stood : content.standing p.number ≡ (appended entry reply content).standing p.number = sym (subst (λ k. standing_at content.standing k (first_standing entry) p.number ≡ content.standing p.number) is (standing_other content.standing n p.number (first_standing entry) apart)) in
+          let alike = noted_alike entry (history_of content) content.standing p.number in
+          let stood = stands_otherwise p.number apart in
           has.each p (record {
             later = pair.later;
             mate = pair.mate;
             reason = pair.reason;
             is_later = sym (instruction_more (history_of content) entry n p.number n_is apart) ∙ ap (λ h. instruction_at h p.number) (sym (history_more entry reply content)) ∙ pair.is_later;
-            has_mate = ap (λ s. s.mate) stood ∙ pair.has_mate;
+            has_mate = sym alike.mate ∙ ap (λ s. s.mate) stood ∙ pair.has_mate;
             is_earlier = pair.is_earlier;
-            matched = ap (λ s. s.state) stood ∙ pair.matched;
+            matched = sym alike.state ∙ ap (λ s. s.state) stood ∙ pair.matched;
             day = pair.day;
           })
     ];
@@ -405,10 +432,11 @@ module _ (keys : Keys) (numbers : BTreeSet (MatchKey × ℕ)) (places places' : 
   settled_so : (n mate : ℕ) (earlier later : Instructed) (outcome : Outcome) → mate < n → PlacedAt places' (instruction_at (history_of old.content) n) n → Stays old new
       → TriesSides old.content n mate earlier later outcome new.content → IsIndexed new keys numbers places' noted
   settled_so n mate earlier later outcomes.Settled two placed ok ends =
-      after_standing keys numbers places places' noted old new mate n Settled honest was_sure stage indexed ok two (λ e. cc) all placed (ap (λ c. c.register) ends.1) (ap (λ c. c.standing) ends.1)
+      after_standing keys numbers places places' noted old new mate n Settled honest was_sure stage indexed ok two (λ e. cc) all placed (ap (λ c. c.register) ends.2) (ap (λ c. c.standing) ends.2)
   settled_so n mate earlier later (Lacks Securities) two placed ok ends =
       after_standing keys numbers places places' noted old new mate n (Matched Lack) honest was_sure stage indexed ok two (λ e. cc) all placed (ap (λ c. c.register) ends.1) (ap (λ c. c.standing) ends.1)
-  settled_so n mate earlier later (Lacks LacksMoney) two placed ok ends = absurd ends
+  settled_so n mate earlier later (Lacks LacksMoney) two placed ok ends =
+      after_standing keys numbers places places' noted old new mate n (Matched LackOfMoney) honest was_sure stage indexed ok two (λ e. cc) all placed (ap (λ c. c.register) ends.2) (ap (λ c. c.standing) ends.2)
 
   pub after_settle : (r : Result Outcome Fault) (n : ℕ) {day : ℕ} → CanSettle old.content n day → PlacedAt places' (instruction_at (history_of old.content) n) n
       → (new.is_honest → old.is_sure → IfOk r (λ outcome. TriesPair old.content n outcome new.content)) → OnOk r (Stays old new) → OnErr r (Falls old new) → IsIndexed new keys numbers places' noted
@@ -441,3 +469,102 @@ retidied keys numbers numbers' places places' noted count view apart is open_on 
 
 pub still_begun : (old new : View) → old.stage ≡ Begun → Stays old new → new.stage ≢ Failed
 still_begun old new stage ok failed = let bad = sym stage ∙ sym ok.stage ∙ failed in cc
+
+-- Fewer instructions are unmatched than were, and fewer pairs matched, where some came to stand cancelled.
+
+record StandsFewer (old new : Content) : Type 0 where
+  pub register : new.register ≡ old.register
+  pub unmatched : (k : ℕ) → (new.standing k).state ≡ Unmatched → (old.standing k).state ≡ Unmatched
+  pub matched : (k m : ℕ) (reason : Reason) → (new.standing k).mate ≡ Some m → (new.standing k).state ≡ Matched reason → ((old.standing k).mate ≡ Some m) × ((old.standing k).state ≡ Matched reason)
+
+open_fewer : (old new : Content) (numbers : BTreeSet (MatchKey × ℕ)) → StandsFewer old new → HasOpen numbers old → HasOpen numbers new
+open_fewer old new numbers fewer has = record {
+  each = λ k i at unmatched. has.each k i (ap (λ r. instruction_at (map (λ (x : Kept). x.entry) r) k) (sym fewer.register) ∙ at) (fewer.unmatched k unmatched);
+}
+
+due_fewer : (old new : Content) (places : BTreeSet (ℕ × ℕ)) → StandsFewer old new → HasDue places old → HasDue places new
+due_fewer old new places fewer has = record {
+  each = λ p pair.
+      let was = fewer.matched p.number pair.mate pair.reason pair.has_mate pair.matched in
+      has.each p (record {
+        later = pair.later;
+        mate = pair.mate;
+        reason = pair.reason;
+        is_later = ap (λ r. instruction_at (map (λ (x : Kept). x.entry) r) p.number) (sym fewer.register) ∙ pair.is_later;
+        has_mate = was.0;
+        is_earlier = pair.is_earlier;
+        matched = was.1;
+        day = pair.day;
+      });
+}
+
+-- one stands cancelled, and the rest as before
+one_fewer : (st : ℕ → Standing) (n k m : ℕ) (s : Standing) (reason : Reason) → s.state ≡ Cancelled
+    → ((standing_at st n s k).state ≡ Unmatched → (st k).state ≡ Unmatched) × ((standing_at st n s k).mate ≡ Some m → (standing_at st n s k).state ≡ Matched reason → ((st k).mate ≡ Some m) × ((st k).state ≡ Matched reason))
+one_fewer st n k m s reason gone = elim (cases_eq k n) [
+  | inl here ↦
+      let same : standing_at st n s k ≡ s = ap (standing_at st n s) here ∙ standing_here st n s in
+      let state : (standing_at st n s k).state ≡ Cancelled = ap (λ z. z.state) same ∙ gone in
+      (λ e. absurd (let bad : Cancelled ≡ Unmatched = sym state ∙ e in cc), λ mate e. absurd (let bad : Cancelled ≡ Matched reason = sym state ∙ e in cc))
+  | inr apart ↦
+      let same : standing_at st n s k ≡ st k = standing_other st n k s apart in
+      (λ e. ap (λ z. z.state) (sym same) ∙ e, λ mate e. (ap (λ z. z.mate) (sym same) ∙ mate, ap (λ z. z.state) (sym same) ∙ e))
+]
+
+cancelled_fewer : (n : ℕ) (old : Content) → StandsFewer old (cancelled n old)
+cancelled_fewer n old = record {
+  register = refl;
+  unmatched = λ k e. let one = one_fewer old.standing n k 0 (record (old.standing n) { state = Cancelled }) Future refl in one.0 e;
+  matched = λ k m reason mate e. let one = one_fewer old.standing n k m (record (old.standing n) { state = Cancelled }) reason refl in one.1 mate e;
+}
+
+pair_fewer : (m n : ℕ) (old : Content) → StandsFewer old (pair_cancelled m n old)
+pair_fewer m n old =
+    let first : Standing = record (old.standing m) { mate = Some n; state = Cancelled } in
+    let second : Standing = record (old.standing n) { mate = Some m; state = Cancelled } in
+    record {
+      register = refl;
+      unmatched = λ k e.
+          let a = one_fewer old.standing m k 0 first Future refl in
+          let b = one_fewer (standing_at old.standing m first) n k 0 second Future refl in
+          a.0 (b.0 e);
+      matched = λ k j reason mate e.
+          let a = one_fewer old.standing m k j first reason refl in
+          let b = one_fewer (standing_at old.standing m first) n k j second reason refl in
+          let was = b.1 mate e in
+          a.1 was.0 was.1;
+    }
+
+module _ (keys : Keys) (numbers : BTreeSet (MatchKey × ℕ)) (places : BTreeSet (ℕ × ℕ)) (noted : List Entry) (held new : ListRegister) (stage : (view_of_lists held).stage ≡ Begun) (indexed : IsIndexed (view_of_lists held) keys numbers places noted) where
+  fewer_keeps : StandsFewer (view_of_lists held).content (view_of_lists new).content → Stays (view_of_lists held) (view_of_lists new) → IsIndexed (view_of_lists new) keys numbers places noted
+  fewer_keeps fewer ok =
+      let old = view_of_lists held in
+      let apart = begun_is_not_failed old.stage stage in
+      let mark = ok.mark tt tt in
+      record {
+        idle = λ idle. absurd (begun_is_not_idle old.stage stage (sym ok.stage ∙ idle));
+        keyed = subst (λ z. AreKeysOf keys (history_of z ++ noted)) (sym mark) indexed.keyed;
+        grown = λ up. ap (λ r. map (λ (x : Kept). x.entry) r) fewer.register ∙ indexed.grown apart ∙ ap (λ z. history_of z ++ noted) (sym mark);
+        open_marked = subst (HasOpen numbers) (sym mark) indexed.open_marked;
+        open_now = λ up. open_fewer old.content (view_of_lists new).content numbers fewer (indexed.open_now apart);
+        due_marked = subst (HasDue places) (sym mark) indexed.due_marked;
+        due_now = λ up. due_fewer old.content (view_of_lists new).content places fewer (indexed.due_now apart);
+      }
+
+  fallen_keeps : Falls (view_of_lists held) (view_of_lists new) → IsIndexed (view_of_lists new) keys numbers places noted
+  fallen_keeps falls = after_fault keys numbers places places noted (view_of_lists held) (view_of_lists new) tt tt stage indexed (λ q there. there) falls
+
+  pub after_cancel : {T : Type 0} (r : Result T Fault) (n : ℕ) → OnOk r ((view_of_lists new).content ≡ cancelled n (view_of_lists held).content) → OnOk r (Stays (view_of_lists held) (view_of_lists new)) → OnErr r (Falls (view_of_lists held) (view_of_lists new))
+      → IsIndexed (view_of_lists new) keys numbers places noted
+  after_cancel (Ok x) n made ok err = fewer_keeps (subst (StandsFewer (view_of_lists held).content) (sym made) (cancelled_fewer n (view_of_lists held).content)) ok
+  after_cancel (Err f) n made ok err = fallen_keeps err
+
+  pub after_cancel_pair : {T : Type 0} (r : Result T Fault) (m n : ℕ) → OnOk r ((view_of_lists new).content ≡ pair_cancelled m n (view_of_lists held).content) → OnOk r (Stays (view_of_lists held) (view_of_lists new)) → OnErr r (Falls (view_of_lists held) (view_of_lists new))
+      → IsIndexed (view_of_lists new) keys numbers places noted
+  after_cancel_pair (Ok x) m n made ok err = fewer_keeps (subst (StandsFewer (view_of_lists held).content) (sym made) (pair_fewer m n (view_of_lists held).content)) ok
+  after_cancel_pair (Err f) m n made ok err = fallen_keeps err
+
+  pub after_send : {T : Type 0} (r : Result T Fault) (message : Sent) → OnOk r ((view_of_lists new).content ≡ with_sent message (view_of_lists held).content) → OnOk r (Stays (view_of_lists held) (view_of_lists new)) → OnErr r (Falls (view_of_lists held) (view_of_lists new))
+      → IsIndexed (view_of_lists new) keys numbers places noted
+  after_send (Ok x) message made ok err = fewer_keeps (subst (StandsFewer (view_of_lists held).content) (sym made) (record { register = refl; unmatched = λ k e. e; matched = λ k m reason mate e. (mate, e) })) ok
+  after_send (Err f) message made ok err = fallen_keeps err

@@ -10,11 +10,11 @@ use crate::keys::Keys;
 use crate::noting::{note_entry, note_pair};
 use crate::opposites::first_open_opposite;
 use crate::tidying::{forget_all, tidy_all, tidy_new};
-use desk_codes::{AccountId, Bic, Day, Isin, Reference};
+use desk_codes::{AccountId, Bic, Ccy, Day, Isin, Reference};
 use desk_lists::ListRegister;
 use desk_msg::{Instruction, Kind};
-use desk_register::{Fault, Outcome, Register, Stage};
-use desk_rules::{Entry, Instructed, Place, Reply, Sender, Standing};
+use desk_register::{Fault, Holding, Outcome, Register, Stage};
+use desk_rules::{Entry, Instructed, Place, Reply, Sender, Sent, Standing};
 use std::alloc::Global;
 use std::collections::BTreeSet;
 
@@ -100,12 +100,20 @@ impl Register for IndexedRegister {
         self.held.outstanding(alloc, isin)
     }
 
+    fn paid(&mut self, alloc: Global, ccy: Ccy) -> Result<Option<u64>, Fault> {
+        self.held.paid(alloc, ccy)
+    }
+
     fn last_run(&mut self, alloc: Global) -> Result<Option<Day>, Fault> {
         self.held.last_run(alloc)
     }
 
     fn position(&mut self, alloc: Global, account: AccountId, isin: Isin) -> Result<u64, Fault> {
         self.held.position(alloc, account, isin)
+    }
+
+    fn cash(&mut self, alloc: Global, bic: Bic, ccy: Ccy) -> Result<u64, Fault> {
+        self.held.cash(alloc, bic, ccy)
     }
 
     fn number_of(
@@ -161,8 +169,21 @@ impl Register for IndexedRegister {
         self.held.security_after(alloc, isin)
     }
 
+    fn holding_after(
+        &mut self,
+        alloc: Global,
+        account: AccountId,
+        isin: Option<Isin>,
+    ) -> Result<Option<Holding>, Fault> {
+        self.held.holding_after(alloc, account, isin)
+    }
+
     fn held(&mut self, alloc: Global, isin: Isin) -> Result<u64, Fault> {
         self.held.held(alloc, isin)
+    }
+
+    fn held_cash(&mut self, alloc: Global, ccy: Ccy) -> Result<u64, Fault> {
+        self.held.held_cash(alloc, ccy)
     }
 
     fn append(&mut self, alloc: Global, entry: Entry, reply: Reply) -> Result<(), Fault> {
@@ -238,6 +259,30 @@ impl Register for IndexedRegister {
             }
             Err(fault) => Err(fault),
         }
+    }
+
+    fn cancel(&mut self, alloc: Global, number: u64) -> Result<(), Fault> {
+        self.held.cancel(alloc, number)
+    }
+
+    fn cancel_pair(&mut self, alloc: Global, earlier: u64, later: u64) -> Result<(), Fault> {
+        self.held.cancel_pair(alloc, earlier, later)
+    }
+
+    fn sent_count(&mut self, alloc: Global, bic: Bic) -> Result<u64, Fault> {
+        self.held.sent_count(alloc, bic)
+    }
+
+    fn sent(&mut self, alloc: Global, bic: Bic, number: u64) -> Result<Option<Sent>, Fault> {
+        self.held.sent(alloc, bic, number)
+    }
+
+    fn confirmation(&mut self, alloc: Global, number: u64) -> Result<Option<Sent>, Fault> {
+        self.held.confirmation(alloc, number)
+    }
+
+    fn send(&mut self, alloc: Global, message: Sent) -> Result<(), Fault> {
+        self.held.send(alloc, message)
     }
 }
 

@@ -1,2 +1,3 @@
 //! The look-ups of an indexed register, each with ample memory.
+mod cash;
 mod look_ups;

@@ -1,5 +1,5 @@
 -- One entry more in the lists.
-use Rattle.std.proofs.Common.{◌≡◌, ℕ, zero, suc, ◌+◌, ◌-◌, ◌<◌, ◌≤◌, true, false, eqb, List, [], ◌∷◌, ◌++◌, length, map, refl, ap, ◌∙◌, arith}
+use Rattle.std.proofs.Common.{◌≡◌, ℕ, zero, suc, ◌+◌, ◌-◌, ◌<◌, ◌≤◌, Bool, true, false, eqb, List, [], ◌∷◌, ◌++◌, length, map, refl, ap, ◌∙◌, arith}
 use Rattle.std.specs.Prelude.{Some, slice_get, slice_set, unwrap_or, ◌==◌, if◌then◌else◌, Result, Ok, Err, OnOk, bytes_eq, sum_by}
 use Rattle.std.proofs.lemmas.Bool.Decides.{nat_tests}
 use Rattle.std.proofs.lemmas.List.Sums.{sum_by-append}
@@ -8,13 +8,18 @@ use Rattle.desk_rules.specs.declared.entry.Entry.{Entry}
 use Rattle.desk_rules.specs.declared.entry.Entry.TheVariants.{Participant, Account, Security, Issue, Redeem, PayIn, PayOut, Instruct, Cancel, Run}
 use Rattle.desk_rules.specs.declared.reply.Kept.{Kept}
 use Rattle.desk_rules.specs.declared.reply.Reply.{Reply}
+use Rattle.desk_rules.specs.declared.reply.Sent.{Sent}
 use Rattle.desk_rules.specs.declared.standing.Standing.{Standing}
 use Rattle.desk_rules.specs.declared.standing.State.{State}
-use Rattle.desk_rules.specs.Balances.{issued, redeemed, issued_by, redeemed_by, movement_of}
+use Rattle.desk_codes.specs.declared.currency.Ccy.{Ccy}
+use Rattle.desk_rules.specs.Balances.{issued, redeemed, issued_by, redeemed_by, movement_of, paid_in, paid_out, paid_in_by, paid_out_by, payment_in, same_ccy}
+use Rattle.desk_rules.proofs.Deciding.{same_ccy-true}
+use Rattle.desk_lists.specs.declared.lists.BalanceKey.{BalanceKey}
+use Rattle.desk_lists.specs.declared.lists.BalanceKey.TheVariants.{Cash, Outstanding, Paid, Position}
 use Rattle.desk_rules.specs.Content.{Content, history_of}
-use Rattle.desk_register.specs.Changes.{CanAppend, appended, positions_after, standing_at, standing_both, first_standing}
+use Rattle.desk_register.specs.Changes.{CanAppend, appended, cash_after, positions_after, requests_noted, standing_at, standing_both, first_standing}
 use Rattle.desk_rules.specs.Standing.{no_standing}
-use Rattle.desk_lists.specs.Lists.{OutstandingIsKept, Listed, SameBooks, value_in, is_key, content_in, outstanding_in, quantity_in, outstanding_after, SameEntries, standing_in}
+use Rattle.desk_lists.specs.Lists.{TotalsAreKept, Listed, SameBooks, amount_at, balance_in, balances_after, content_in, standing_in}
 use Rattle.desk_register.proofs.CaseLemmas.{by_bool, same_bytes}
 
 -- where entries stand, with one more at the end
@@ -35,68 +40,110 @@ standing_more standings s m (suc n) e =
     (λ t. let same : eqb (suc n) m ≡ true = grind (arith, nat_tests) in rw same (rw t at (standing_end standings s n)))
     (λ f. let other : eqb (suc n) m ≡ false = grind (arith, nat_tests) in rw other (rw f at (standing_end standings s n)))
 
-pub content_by_parts : (r r' : List Kept) (s s' : ℕ → Standing) (p p' : List ℕ → List ℕ → ℕ) → r ≡ r' → s ≡ s' → p ≡ p'
-    → ◌≡◌ {A = Content} (record { register = r; standing = s; position = p; cash = λ bic ccy. 0; sent = [] }) (record { register = r'; standing = s'; position = p'; cash = λ bic ccy. 0; sent = [] })
-content_by_parts r r' s s' p p' a b c = λ k. record { register = a k; standing = b k; position = c k; cash = λ bic ccy. 0; sent = [] }
+pub content_by_parts : (r r' : List Kept) (s s' : ℕ → Standing) (b b' : BalanceKey → ℕ) (m m' : List Sent) → r ≡ r' → s ≡ s' → b ≡ b' → m ≡ m'
+    → ◌≡◌ {A = Content} (record { register = r; standing = s; position = λ account isin. b (Position account isin); cash = λ bic ccy. b (Cash bic ccy); sent = m })
+    (record { register = r'; standing = s'; position = λ account isin. b' (Position account isin); cash = λ bic ccy. b' (Cash bic ccy); sent = m' })
+content_by_parts r r' s s' b b' m m' x y z w = λ k. record { register = x k; standing = y k; position = λ account isin. z k (Position account isin); cash = λ bic ccy. z k (Cash bic ccy); sent = w k }
 
--- the content with one entry more
-pub appended_well : {T E : Type 0} (r : Result T E) (old mid new : Listed) (entry : Entry) (reply : Reply) → length old.standings ≡ length old.kept
-    → SameEntries old mid → quantity_in mid ≡ positions_after entry (quantity_in old)
-    → OnOk r (new ≡ record mid { kept = mid.kept ++ record { entry = entry; reply = reply } ∷ []; standings = mid.standings ++ first_standing entry ∷ [] })
+-- what an entry moves, as the content has it
+moved_content : (entry : Entry) (r : List Kept) (s : ℕ → Standing) (b : BalanceKey → ℕ) (m : List Sent)
+    → ◌≡◌ {A = Content} (record { register = r; standing = s; position = λ account isin. balances_after entry b (Position account isin); cash = λ bic ccy. balances_after entry b (Cash bic ccy); sent = m })
+    (record { register = r; standing = s; position = positions_after entry (λ account isin. b (Position account isin)); cash = cash_after entry (λ bic ccy. b (Cash bic ccy)); sent = m })
+moved_content (Participant reference bic) r s b m = refl
+moved_content (Account reference bic account) r s b m = refl
+moved_content (Security reference isin kind) r s b m = refl
+moved_content (Issue movement) r s b m = refl
+moved_content (Redeem movement) r s b m = refl
+moved_content (PayIn payment) r s b m = refl
+moved_content (PayOut payment) r s b m = refl
+moved_content (Instruct sender instruction) r s b m = refl
+moved_content (Cancel sender order) r s b m = refl
+moved_content (Run reference day rule) r s b m = refl
+
+-- The content with one entry more, once its balances have moved and what it requests is noted.
+pub appended_well : {T E : Type 0} (r : Result T E) (old noted new : Listed) (entry : Entry) (reply : Reply) → length noted.standings ≡ length noted.kept → noted.kept ≡ old.kept → noted.sent ≡ old.sent
+    → standing_in noted.standings ≡ requests_noted (map (λ k. k.entry) old.kept) entry (standing_in old.standings) → balance_in noted ≡ balances_after entry (balance_in old)
+    → OnOk r (new ≡ record noted { kept = noted.kept ++ record { entry = entry; reply = reply } ∷ []; standings = noted.standings ++ first_standing entry ∷ [] })
     → OnOk r (content_in new ≡ appended entry reply (content_in old))
-appended_well (Err f) old mid new entry reply len rest moved is = is
-appended_well (Ok x) old mid new entry reply len rest moved is =
+appended_well (Err f) old noted new entry reply len kept sent stands moved is = is
+appended_well (Ok x) old noted new entry reply len kept sent stands moved is =
+    let size = ap length kept in
     ap content_in is
-    ∙ content_by_parts _ _ _ _ _ _
-    (ap (λ z. z ++ record { entry = entry; reply = reply } ∷ []) rest.kept)
-    (ap (λ z. standing_in (z ++ first_standing entry ∷ [])) rest.standings ∙ (λ k n. standing_more old.standings (first_standing entry) (length old.kept + 1) n (omega (arith, len)) k))
+    ∙ content_by_parts _ _ _ _ _ _ _ _
+    (ap (λ z. z ++ record { entry = entry; reply = reply } ∷ []) kept)
+    ((λ k n. standing_more noted.standings (first_standing entry) (length old.kept + 1) n (omega arith) k) ∙ ap (λ st. standing_at st (length old.kept + 1) (first_standing entry)) stands)
     moved
+    sent
+    ∙ moved_content entry _ _ (balance_in old) old.sent
 
--- What is outstanding stays what is issued less what is redeemed.
+-- The totals stay those of the entries.
 
-outstanding_after_issue : (outstanding : List ℕ → ℕ) (isin i : List ℕ) (q r n : ℕ) → r + outstanding i ≡ n → (r + 0) + (if bytes_eq isin i then outstanding isin + q else outstanding i) ≡ n + (if bytes_eq isin i then q else 0)
-outstanding_after_issue outstanding isin i q r n e =
-    by_bool (bytes_eq isin i)
-    (λ t. let same = ap outstanding (same_bytes isin i t) in rw t (omega arith))
-    (λ f. rw f (omega arith))
+module _ {K : Type 0} (total : K → ℕ) (same : K → K → Bool) (decides : (a b : K) → same a b ≡ true → a ≡ b) (key k : K) (q r n : ℕ) (is : r + total k ≡ n) where
+  total_more : (r + 0) + (if same key k then total key + q else total k) ≡ n + (if same key k then q else 0)
+  total_more =
+      by_bool (same key k)
+      (λ t. let one = ap total (decides key k t) in rw t (omega arith))
+      (λ f. rw f (omega arith))
 
-outstanding_after_redemption : (outstanding : List ℕ → ℕ) (isin i : List ℕ) (q r n : ℕ) → q ≤ outstanding isin → r + outstanding i ≡ n → (r + (if bytes_eq isin i then q else 0)) + (if bytes_eq isin i then outstanding isin - q else outstanding i) ≡ n + 0
-outstanding_after_redemption outstanding isin i q r n le e =
-    by_bool (bytes_eq isin i)
-    (λ t. let same = ap outstanding (same_bytes isin i t) in rw t (omega arith))
-    (λ f. rw f (omega arith))
+  total_less : q ≤ total key → (r + (if same key k then q else 0)) + (if same key k then total key - q else total k) ≡ n + 0
+  total_less le =
+      by_bool (same key k)
+      (λ t. let one = ap total (decides key k t) in rw t (omega arith))
+      (λ f. rw f (omega arith))
 
-outstanding_more : (content : Content) (entry : Entry) (outstanding : List ℕ → ℕ) → CanAppend entry content → ((i : List ℕ) → redeemed (history_of content) i + outstanding i ≡ issued (history_of content) i)
-    → (i : List ℕ) → (redeemed (history_of content) i + redeemed_by (movement_of i) entry) + outstanding_after entry outstanding i ≡ issued (history_of content) i + issued_by (movement_of i) entry
-outstanding_more content (Participant reference bic) outstanding fits each i = omega (arith, each i)
-outstanding_more content (Account reference bic account) outstanding fits each i = omega (arith, each i)
-outstanding_more content (Security reference isin kind) outstanding fits each i = omega (arith, each i)
-outstanding_more content (Issue movement) outstanding fits each i = outstanding_after_issue outstanding movement.isin i movement.quantity _ _ (each i)
-outstanding_more content (Redeem movement) outstanding fits each i =
-    let room = fits.1 in
-    let whole = each movement.isin in
-    outstanding_after_redemption outstanding movement.isin i movement.quantity _ _ (omega arith) (each i)
-outstanding_more content (PayIn payment) outstanding fits each i = omega (arith, each i)
-outstanding_more content (PayOut payment) outstanding fits each i = omega (arith, each i)
-outstanding_more content (Instruct sender instruction) outstanding fits each i = omega (arith, each i)
-outstanding_more content (Cancel sender order) outstanding fits each i = omega (arith, each i)
-outstanding_more content (Run reference day rule) outstanding fits each i = omega (arith, each i)
+module _ (content : Content) (balance : BalanceKey → ℕ) where
+  outstanding_more : (entry : Entry) → CanAppend entry content → ((i : List ℕ) → redeemed (history_of content) i + balance (Outstanding i) ≡ issued (history_of content) i)
+      → (i : List ℕ) → (redeemed (history_of content) i + redeemed_by (movement_of i) entry) + balances_after entry balance (Outstanding i) ≡ issued (history_of content) i + issued_by (movement_of i) entry
+  outstanding_more (Participant reference bic) fits each i = omega (arith, each i)
+  outstanding_more (Account reference bic account) fits each i = omega (arith, each i)
+  outstanding_more (Security reference isin kind) fits each i = omega (arith, each i)
+  outstanding_more (Issue movement) fits each i = total_more (λ z. balance (Outstanding z)) bytes_eq same_bytes movement.isin i movement.quantity _ _ (each i)
+  outstanding_more (Redeem movement) fits each i =
+      let room = fits.1 in
+      let whole = each movement.isin in
+      total_less (λ z. balance (Outstanding z)) bytes_eq same_bytes movement.isin i movement.quantity _ _ (each i) (omega arith)
+  outstanding_more (PayIn payment) fits each i = omega (arith, each i)
+  outstanding_more (PayOut payment) fits each i = omega (arith, each i)
+  outstanding_more (Instruct sender instruction) fits each i = omega (arith, each i)
+  outstanding_more (Cancel sender order) fits each i = omega (arith, each i)
+  outstanding_more (Run reference day rule) fits each i = omega (arith, each i)
+
+  paid_more : (entry : Entry) → CanAppend entry content → ((c : Ccy) → paid_out (history_of content) c + balance (Paid c) ≡ paid_in (history_of content) c)
+      → (c : Ccy) → (paid_out (history_of content) c + paid_out_by (payment_in c) entry) + balances_after entry balance (Paid c) ≡ paid_in (history_of content) c + paid_in_by (payment_in c) entry
+  paid_more (Participant reference bic) fits each c = omega (arith, each c)
+  paid_more (Account reference bic account) fits each c = omega (arith, each c)
+  paid_more (Security reference isin kind) fits each c = omega (arith, each c)
+  paid_more (Issue movement) fits each c = omega (arith, each c)
+  paid_more (Redeem movement) fits each c = omega (arith, each c)
+  paid_more (PayIn payment) fits each c = total_more (λ z. balance (Paid z)) same_ccy same_ccy-true payment.ccy c payment.amount _ _ (each c)
+  paid_more (PayOut payment) fits each c =
+      let room = fits.1 in
+      let whole = each payment.ccy in
+      total_less (λ z. balance (Paid z)) same_ccy same_ccy-true payment.ccy c payment.amount _ _ (each c) (omega arith)
+  paid_more (Instruct sender instruction) fits each c = omega (arith, each c)
+  paid_more (Cancel sender order) fits each c = omega (arith, each c)
+  paid_more (Run reference day rule) fits each c = omega (arith, each c)
 
 sum_push : (f : Entry → ℕ) (kept : List Kept) (k : Kept) → sum_by f (map (λ k. k.entry) (kept ++ k ∷ [])) ≡ sum_by f (map (λ k. k.entry) kept) + f k.entry
 sum_push f kept k = ap (sum_by f) (map-append (λ k. k.entry) kept (k ∷ [])) ∙ sum_by-append f (map (λ k. k.entry) kept) (k.entry ∷ []) ∙ omega arith
 
-pub outstanding_well : {T E : Type 0} (r : Result T E) (old mid new : Listed) (entry : Entry) (reply : Reply) → OutstandingIsKept old → CanAppend entry (content_in old)
-    → SameEntries old mid → outstanding_in mid ≡ outstanding_after entry (outstanding_in old)
-    → OnOk r (new ≡ record mid { kept = mid.kept ++ record { entry = entry; reply = reply } ∷ []; standings = mid.standings ++ first_standing entry ∷ [] })
-    → OnOk r (OutstandingIsKept new)
-outstanding_well (Err f) old mid new entry reply outstanding fits rest moved is = is
-outstanding_well (Ok x) old mid new entry reply outstanding fits rest moved is = record {
-  each = λ i.
-      let more = outstanding_more (content_in old) entry (outstanding_in old) fits outstanding.each i in
-      let kept : new.kept ≡ old.kept ++ record { entry = entry; reply = reply } ∷ [] = ap (λ l. l.kept) is ∙ ap (λ z. z ++ record { entry = entry; reply = reply } ∷ []) rest.kept in
-      let whole : outstanding_in new i ≡ outstanding_after entry (outstanding_in old) i = ap (λ l. outstanding_in l i) is ∙ ap (λ t. t i) moved in
-      rw (kept, whole, sum_push (redeemed_by (movement_of i)) old.kept (record { entry = entry; reply = reply }), sum_push (issued_by (movement_of i)) old.kept (record { entry = entry; reply = reply })) more;
-}
+pub totals_well : {T E : Type 0} (r : Result T E) (old noted new : Listed) (entry : Entry) (reply : Reply) → TotalsAreKept old → CanAppend entry (content_in old)
+    → noted.kept ≡ old.kept → balance_in noted ≡ balances_after entry (balance_in old)
+    → OnOk r (new ≡ record noted { kept = noted.kept ++ record { entry = entry; reply = reply } ∷ []; standings = noted.standings ++ first_standing entry ∷ [] })
+    → OnOk r (TotalsAreKept new)
+totals_well (Err f) old noted new entry reply totals fits same moved is = is
+totals_well (Ok x) old noted new entry reply totals fits same moved is =
+    let one : Kept = record { entry = entry; reply = reply } in
+    let kept : new.kept ≡ old.kept ++ one ∷ [] = ap (λ l. l.kept) is ∙ ap (λ z. z ++ one ∷ []) same in
+    let balances : balance_in new ≡ balances_after entry (balance_in old) = ap balance_in is ∙ moved in
+    record {
+      securities = λ i.
+          let whole : balance_in new (Outstanding i) ≡ balances_after entry (balance_in old) (Outstanding i) = ap (λ b. b (Outstanding i)) balances in
+          rw (kept, whole, sum_push (redeemed_by (movement_of i)) old.kept one, sum_push (issued_by (movement_of i)) old.kept one) (outstanding_more (content_in old) (balance_in old) entry fits totals.securities i);
+      currencies = λ c.
+          let whole : balance_in new (Paid c) ≡ balances_after entry (balance_in old) (Paid c) = ap (λ b. b (Paid c)) balances in
+          rw (kept, whole, sum_push (paid_out_by (payment_in c)) old.kept one, sum_push (paid_in_by (payment_in c)) old.kept one) (paid_more (content_in old) (balance_in old) entry fits totals.currencies c);
+    }
 
 -- Where entries stand, one of them changed.
 
@@ -123,11 +170,17 @@ pub stands_well : {T E : Type 0} (r : Result T E) (old new : Listed) (m : ℕ) (
 stands_well (Err f) old new m s some within is = is
 stands_well (Ok x) old new m s some within is = ap (λ l. standing_in l.standings) is ∙ (λ k n. standing_put old.standings s m n some within k)
 
+-- only where entries stand has changed
+pub same_balances : (old new : Listed) → SameBooks old new → balance_in new ≡ balance_in old
+same_balances old new rest = λ k key. amount_at key (rest.keys k) (rest.amounts k)
+
+pub stood_content : (old new : Listed) (standing : ℕ → Standing) → SameBooks old new → standing_in new.standings ≡ standing → content_in new ≡ record (content_in old) { standing = standing }
+stood_content old new standing rest is = content_by_parts _ _ _ _ _ _ _ _ rest.kept is (same_balances old new rest) rest.sent
+
 pub stood_well : {T E : Type 0} (r : Result T E) (old new : Listed) (standing : ℕ → Standing) → SameBooks old new
     → OnOk r (standing_in new.standings ≡ standing) → OnOk r (content_in new ≡ record (content_in old) { standing = standing })
 stood_well (Err f) old new standing rest is = is
-stood_well (Ok x) old new standing rest is =
-    content_by_parts _ _ _ _ _ _ rest.kept is (λ k account isin. value_in (is_key account isin) (rest.keys k) (rest.quantities k))
+stood_well (Ok x) old new standing rest is = stood_content old new standing rest is
 
 -- where two entries stand, each changed from how it stood
 pub both_well : {T E : Type 0} (r : Result T E) (s s1 s2 : ℕ → Standing) (m n : ℕ) (state : State) (a b : Standing) → a ≡ s m → b ≡ s n

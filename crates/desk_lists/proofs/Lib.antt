@@ -1,7 +1,9 @@
 mod AppendLemmas
+mod BalanceLemmas
+mod HoldingLemmas
 mod ListingLemmas
 mod ListsLemmas
 mod LookingLemmas
-mod QuantityLemmas
 mod SearchLemmas
 mod SettleLemmas
+mod SumLemmas

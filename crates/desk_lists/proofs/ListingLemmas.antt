@@ -1,72 +1,16 @@
--- What accounts hold, entry by entry.
-use Rattle.std.proofs.Common.{◌≡◌, ℕ, zero, suc, ◌+◌, ◌<◌, ◌≤◌, List, [], ◌∷◌, length, take, map, get_or, Option, Some, None, refl, ap, sym, ◌∙◌, subst, arith, inl, inr}
-use Rattle.std.specs.Prelude.{sum_by}
-use Rattle.std.specs.List.{filter_map, cons_option}
-use Rattle.std.proofs.lemmas.List.Sums.{sum_by-append}
+-- Registered securities, entry by entry.
+use Rattle.std.proofs.Common.{◌≡◌, ℕ, zero, suc, ◌<◌, List, [], ◌∷◌, length, take, map, get_or, Option, Some, None, refl, ap, sym, ◌∙◌, subst, arith, inl, inr}
 use Rattle.desk_rules.specs.declared.entry.Entry.{Entry}
 use Rattle.desk_rules.specs.declared.reply.Kept.{Kept}
-use Rattle.desk_rules.specs.Content.{Content}
 use Rattle.std.specs.Prelude.{Bool, true, false, ◌||◌, bytes_eq, is_some}
 use Rattle.desk_rules.specs.declared.entry.Entry.TheVariants.{Participant, Account, Security, Issue, Redeem, PayIn, PayOut, Instruct, Cancel, Run}
-use Rattle.desk_rules.specs.Facts.{kind_by, kind_of, account_by}
-use Rattle.desk_register.specs.Looked.{held_of, security_by, IsLess, IsAboveText, IsSecurityAfter}
-use Rattle.desk_lists.specs.Search.{held_by, IsLesser, IsSecurityOf}
+use Rattle.desk_rules.specs.Facts.{kind_by, kind_of}
+use Rattle.desk_register.specs.Looked.{security_by, IsLess, IsAboveText, IsSecurityAfter}
+use Rattle.desk_lists.specs.Search.{IsLesser, IsSecurityOf}
 use Rattle.std.specs.Ordering.{nat_cmp, ordering_reverse}
 use Rattle.std.specs.Cmp.Lexicographic.{slice_cmp, nat_list_cmp_total}
 use Rattle.std.specs.declared.cmp.Ordering.TheVariants.{Less}
 use Rattle.desk_register.proofs.CaseLemmas.{by_bool, same_bytes, bytes_refl}
-
-abbrev pub held_in : (List ℕ → ℕ) → List Kept → ℕ
-held_in holds kept = sum_by holds (filter_map account_by (map (λ k. k.entry) kept))
-
-abbrev pub held_so_far : Content → List ℕ → ℕ → ℕ
-held_so_far content isin n = held_in (λ account. content.position account isin) (take n content.register)
-
-held_first : (holds : List ℕ → ℕ) (account : Option (List ℕ)) (rest : List (List ℕ)) → sum_by holds (cons_option account rest) ≡ held_by holds account + sum_by holds rest
-held_first holds None rest = omega arith
-held_first holds (Some account) rest = sum_by-append holds (account ∷ []) rest ∙ omega arith
-
-held_cons : (holds : List ℕ → ℕ) (k : Kept) (kept : List Kept) → held_in holds (k ∷ kept) ≡ held_by holds (account_by k.entry) + held_in holds kept
-held_cons holds k kept = held_first holds (account_by k.entry) (filter_map account_by (map (λ k. k.entry) kept))
-
--- one entry more
-pub held_more : (holds : List ℕ → ℕ) (kept : List Kept) (n : ℕ) (d : Kept) → n < length kept → held_in holds (take (suc n) kept) ≡ held_in holds (take n kept) + held_by holds (account_by (get_or kept n d).entry)
-held_more holds [] n d lt = absurd (omega arith)
-held_more holds (k ∷ kept) zero d lt = held_cons holds k [] ∙ omega arith
-held_more holds (k ∷ kept) (suc n) d lt =
-    let ih = held_more holds kept n d (omega arith) in
-    let a = held_cons holds k (take (suc n) kept) in
-    let b = held_cons holds k (take n kept) in
-    omega arith
-
--- a front holds no more than the whole
-pub held_front : (holds : List ℕ → ℕ) (kept : List Kept) (n : ℕ) → held_in holds (take n kept) ≤ held_in holds kept
-held_front holds [] zero = omega arith
-held_front holds [] (suc n) = omega arith
-held_front holds (k ∷ kept) zero = omega arith
-held_front holds (k ∷ kept) (suc n) =
-    let ih = held_front holds kept n in
-    let a = held_cons holds k (take n kept) in
-    let b = held_cons holds k kept in
-    omega arith
-
--- some entry, where there is one
-pub some_kept : (kept : List Kept) (n : ℕ) → n < length kept → Kept
-some_kept [] n lt = absurd (omega arith)
-some_kept (k ∷ kept) n lt = k
-
-pub held_step : (content : Content) (isin : List ℕ) (n sum more : ℕ) → n < length content.register → sum ≡ held_so_far content isin n
-    → ((d : Kept) → more ≡ held_by (λ account. content.position account isin) (account_by (get_or content.register n d).entry)) → sum + more ≡ held_so_far content isin (n + 1)
-held_step content isin n sum more lt is each =
-    let d = some_kept content.register n lt in
-    let one = held_more (λ account. content.position account isin) content.register n d lt in
-    let suc_is : n + 1 ≡ suc n = omega arith in
-    rw suc_is (omega (arith, each d))
-
-pub held_fits : (content : Content) (isin : List ℕ) (n : ℕ) → held_so_far content isin n ≤ held_of content isin
-held_fits content isin n = held_front (λ account. content.position account isin) content.register n
-
--- Registered securities, entry by entry.
 
 -- an entry registers this security
 abbrev pub is_of : Option (List ℕ) → List ℕ → Bool
@@ -132,14 +76,14 @@ IsFirstListed kept above (Some best) = (listed_in kept best ≡ true) × IsAbove
 pub record IsListedSoFar (kept : List Kept) (above best : Option (List ℕ)) : Type 0 where
   pub first : IsFirstListed kept above best
 
-not_less_itself : (a b : List ℕ) → a ≡ b → IsLess a b → ⊥
+pub not_less_itself : (a b : List ℕ) → a ≡ b → IsLess a b → ⊥
 not_less_itself a b e less =
     let flip = nat_list_cmp_total.antisymm a b in
     let back : slice_cmp nat_cmp b a ≡ Less = subst (λ z. slice_cmp nat_cmp b z ≡ Less) (sym e) (subst (λ z. slice_cmp nat_cmp z b ≡ Less) e less) in
     let bad = sym less ∙ flip ∙ ap ordering_reverse back in
     cc
 
-less_less : (a b c : List ℕ) → IsLess a b → IsLess b c → IsLess a c
+pub less_less : (a b c : List ℕ) → IsLess a b → IsLess b c → IsLess a c
 less_less a b c p q = nat_list_cmp_total.trans a b c p q
 
 named : (o : Option (List ℕ)) (isin : List ℕ) → is_of o isin ≡ true → o ≡ Some isin

@@ -1,40 +1,90 @@
 -- A pair, settled in the lists.
-use Rattle.std.proofs.Common.{◌≡◌, ℕ, ◌+◌, ◌-◌, ◌<◌, ◌≤◌, ◌^◌, ◌&&◌, List, ap, ◌∙◌, arith}
-use Rattle.std.specs.Prelude.{bytes_eq, Result, Ok, Err, OnOk}
+use Rattle.std.proofs.Common.{◌≡◌, ℕ, ◌+◌, ◌<◌, ◌^◌, List, [], Option, Some, None, refl, ap, ◌∙◌, arith}
+use Rattle.desk_codes.specs.declared.currency.Ccy.{Ccy}
+use Rattle.desk_msg.specs.declared.instruction.Cash.{Cash as Amount}
+use Rattle.desk_rules.specs.declared.reply.Kept.{Kept}
+use Rattle.desk_rules.specs.declared.reply.Sent.{Sent}
 use Rattle.desk_rules.specs.declared.standing.Standing.{Standing}
 use Rattle.desk_rules.specs.declared.entry.Instructed.{Instructed}
-use Rattle.desk_rules.specs.Content.{Positions}
-use Rattle.desk_register.specs.Changes.{moved_to, delivered}
-use Rattle.desk_lists.specs.Lists.{Listed, SameBooks, SameButQuantities, content_in, is_key, quantity_in, standing_in, value_in}
-use Rattle.desk_lists.proofs.AppendLemmas.{content_by_parts}
+use Rattle.desk_rules.specs.Content.{CashBalances, Content}
+use Rattle.desk_register.specs.Changes.{delivered, paid_over}
+use Rattle.desk_lists.specs.declared.lists.BalanceKey.{BalanceKey}
+use Rattle.desk_lists.specs.declared.lists.BalanceKey.TheVariants.{Cash, Outstanding, Paid, Position}
+use Rattle.desk_lists.specs.Lists.{Listed, SameBooks, SameEntries, SameTotals, TotalsAreKept, balance_in, content_in, is_key, standing_in, with_less}
+use Rattle.desk_lists.specs.Moves.{moved_between, paid_between}
+use Rattle.desk_lists.proofs.AppendLemmas.{content_by_parts, same_balances}
+use Rattle.desk_lists.proofs.BalanceLemmas.{key_true}
 use Rattle.desk_register.proofs.CaseLemmas.{by_bool}
 
--- what was taken off one account leaves room on the other
-pub taken_fits : (position : Positions) (from to isin : List ℕ) (q : ℕ) → q ≤ position from isin → position from isin < 2 ^ 64 → position to isin + q < 2 ^ 63
-    → moved_to position from isin (position from isin - q) to isin + q < 2 ^ 64
-taken_fits position from to isin q held small fits =
-    by_bool (bytes_eq from to && bytes_eq isin isin)
-    (λ t. rw t (omega arith))
+-- what was taken off one balance leaves room on the other
+pub taken_fits : (balance : BalanceKey → ℕ) (from to : BalanceKey) (q : ℕ) → balance to + q < 2 ^ 63 → with_less balance from q to + q < 2 ^ 64
+taken_fits balance from to q fits =
+    by_bool (is_key from to)
+    (λ t. let one = ap balance (key_true from to t) in rw t (omega arith))
     (λ f. rw f (omega arith))
 
-pub delivered_well : {T E : Type 0} (r : Result T E) (old mid new : Positions) (from to isin : List ℕ) (q less more : ℕ) → less ≡ old from isin - q → mid ≡ moved_to old from isin less
-    → more ≡ mid to isin + q → OnOk r (new ≡ moved_to mid to isin more) → OnOk r (new ≡ delivered old from to isin q)
-delivered_well (Err f) old mid new from to isin q less more a b c is = is
-delivered_well (Ok x) old mid new from to isin q less more a b c is =
-    let first : mid ≡ moved_to old from isin (old from isin - q) = b ∙ ap (moved_to old from isin) a in
-    is ∙ ap (moved_to mid to isin) c ∙ ap (λ p. moved_to p to isin (p to isin + q)) first
+-- The balances of a settled pair, as the content has them.
 
-pub same_quantities : (old new : Listed) → SameBooks old new → quantity_in new ≡ quantity_in old
-same_quantities old new rest = λ k account isin. value_in (is_key account isin) (rest.keys k) (rest.quantities k)
+abbrev pub after_pair : (BalanceKey → ℕ) → List ℕ → List ℕ → List ℕ → ℕ → List ℕ → List ℕ → Option Amount → BalanceKey → ℕ
+after_pair balance from to isin q payer payee cash = paid_between (moved_between balance (Position from isin) (Position to isin) q) payer payee cash
 
--- only where entries stand has changed
-pub stood_content : (old new : Listed) (standing : ℕ → Standing) → SameBooks old new → standing_in new.standings ≡ standing → content_in new ≡ record (content_in old) { standing = standing }
-stood_content old new standing rest is = content_by_parts _ _ _ _ _ _ rest.kept is (same_quantities old new rest)
+settled_parts : (r : List Kept) (s : ℕ → Standing) (m : List Sent) (b : BalanceKey → ℕ) (from to isin : List ℕ) (q : ℕ) (payer payee : List ℕ) (cash : Option Amount)
+    → ◌≡◌ {A = Content} (record { register = r; standing = s; position = λ a i. after_pair b from to isin q payer payee cash (Position a i); cash = λ p c. after_pair b from to isin q payer payee cash (Cash p c); sent = m })
+    (record { register = r; standing = s; position = delivered (λ a i. b (Position a i)) from to isin q; cash = paid_over (λ p c. b (Cash p c)) payer payee cash; sent = m })
+settled_parts r s m b from to isin q payer payee None = refl
+settled_parts r s m b from to isin q payer payee (Some asked) = refl
 
--- where two entries stand has changed, and then positions
-pub settled_content : (old mid new : Listed) (standing : ℕ → Standing) (d r from to : Instructed) (isin : List ℕ) (q : ℕ) → SameBooks old mid → standing_in mid.standings ≡ standing
-    → SameButQuantities mid new → d ≡ from → r ≡ to → quantity_in new ≡ delivered (quantity_in mid) d.instruction.account r.instruction.account isin q
-    → content_in new ≡ record (content_in old) { standing = standing; position = delivered (quantity_in old) from.instruction.account to.instruction.account isin q }
-settled_content old mid new standing d r from to isin q books stands rest is_from is_to moved =
-    content_by_parts _ _ _ _ _ _ (rest.kept ∙ books.kept) (ap standing_in rest.standings ∙ stands)
-    (moved ∙ (λ k. delivered (same_quantities old mid books k) (is_from k).instruction.account (is_to k).instruction.account isin q))
+total_stays : (b : BalanceKey → ℕ) (from to isin : List ℕ) (q : ℕ) (payer payee : List ℕ) (cash : Option Amount) (i : List ℕ) → after_pair b from to isin q payer payee cash (Outstanding i) ≡ b (Outstanding i)
+total_stays b from to isin q payer payee None i = refl
+total_stays b from to isin q payer payee (Some asked) i = refl
+
+paid_stays : (b : BalanceKey → ℕ) (from to isin : List ℕ) (q : ℕ) (payer payee : List ℕ) (cash : Option Amount) (c : Ccy) → after_pair b from to isin q payer payee cash (Paid c) ≡ b (Paid c)
+paid_stays b from to isin q payer payee None c = refl
+paid_stays b from to isin q payer payee (Some asked) c = refl
+
+-- what the participants have is as before, where only positions have changed
+pub same_cash : (old stood moved : Listed) (from to isin : List ℕ) (q : ℕ) → SameBooks old stood → balance_in moved ≡ moved_between (balance_in stood) (Position from isin) (Position to isin) q
+    → ◌≡◌ {A = CashBalances} (λ p c. balance_in moved (Cash p c)) (λ p c. balance_in old (Cash p c))
+same_cash old stood moved from to isin q books first = (λ k p c. first k (Cash p c)) ∙ (λ k p c. same_balances old stood books k (Cash p c))
+
+-- Where two entries stand has changed, then positions, and then cash.
+
+module _ (old stood moved new : Listed) (d r from to : Instructed) (isin : List ℕ) (q : ℕ) (cash : Option Amount)
+    (books : SameBooks old stood) (moves : SameEntries stood moved) (pays : SameEntries moved new) (is_from : d ≡ from) (is_to : r ≡ to)
+    (first : balance_in moved ≡ moved_between (balance_in stood) (Position d.instruction.account isin) (Position r.instruction.account isin) q)
+    (second : balance_in new ≡ paid_between (balance_in moved) r.sender d.sender cash) where
+  pair_balances : balance_in new ≡ after_pair (balance_in old) from.instruction.account to.instruction.account isin q to.sender from.sender cash
+  pair_balances =
+      second ∙ ap (λ b. paid_between b r.sender d.sender cash) first
+      ∙ (λ k. after_pair (same_balances old stood books k) (is_from k).instruction.account (is_to k).instruction.account isin q (is_to k).sender (is_from k).sender cash)
+
+  pub settled_content : (standing : ℕ → Standing) → standing_in stood.standings ≡ standing
+      → content_in new ≡ record (content_in old) {
+        standing = standing;
+        position = delivered (λ a i. balance_in old (Position a i)) from.instruction.account to.instruction.account isin q;
+        cash = paid_over (λ p c. balance_in old (Cash p c)) to.sender from.sender cash;
+      }
+  settled_content standing stands =
+      content_by_parts _ _ _ _ _ _ _ _ (pays.kept ∙ moves.kept ∙ books.kept) (ap standing_in (pays.standings ∙ moves.standings) ∙ stands) pair_balances (pays.sent ∙ moves.sent ∙ books.sent)
+      ∙ settled_parts old.kept standing old.sent (balance_in old) from.instruction.account to.instruction.account isin q to.sender from.sender cash
+
+  pub settled_totals : SameTotals old new
+  settled_totals = record {
+    kept = pays.kept ∙ moves.kept ∙ books.kept;
+    outstanding = λ i. ap (λ b. b (Outstanding i)) pair_balances ∙ total_stays (balance_in old) from.instruction.account to.instruction.account isin q to.sender from.sender cash i;
+    paid = λ c. ap (λ b. b (Paid c)) pair_balances ∙ paid_stays (balance_in old) from.instruction.account to.instruction.account isin q to.sender from.sender cash c;
+  }
+
+-- nothing but where entries stand has changed
+pub stood_totals : (old new : Listed) → SameBooks old new → SameTotals old new
+stood_totals old new books = record {
+  kept = books.kept;
+  outstanding = λ i. ap (λ b. b (Outstanding i)) (same_balances old new books);
+  paid = λ c. ap (λ b. b (Paid c)) (same_balances old new books);
+}
+
+pub totals_of_same : (old new : Listed) → SameTotals old new → TotalsAreKept old → TotalsAreKept new
+totals_of_same old new same totals = record {
+  securities = λ i. rw (same.kept, same.outstanding i) (totals.securities i);
+  currencies = λ c. rw (same.kept, same.paid c) (totals.currencies c);
+}

@@ -1,3 +1,4 @@
 pub mod Lists
 pub mod ListView
 pub mod Search
+pub mod Moves

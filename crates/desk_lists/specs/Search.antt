@@ -1,14 +1,30 @@
--- What a search through the entries finds, entry by entry.
-use Rattle.std.specs.Prelude.{◌≡◌, ◌⊎◌, ℕ, if◌then◌else◌, List, Option, Some, None}
+-- What a walk through the entries finds and sums up, entry by entry.
+use Rattle.std.specs.Prelude.{◌≡◌, ◌⊎◌, ℕ, if◌then◌else◌, List, map, sum_by, Option, Some, None, option_map}
+use Rattle.std.specs.List.{filter_map}
 use Rattle.desk_rules.specs.declared.entry.Entry.{Entry}
 use Rattle.desk_rules.specs.declared.pair.Place.{Place}
+use Rattle.desk_lists.specs.declared.holdings.Summed.{Summed}
+use Rattle.desk_lists.specs.declared.holdings.Summed.TheVariants.{Currency, Security}
+use Rattle.desk_lists.specs.declared.lists.BalanceKey.{BalanceKey}
+use Rattle.desk_lists.specs.declared.lists.BalanceKey.TheVariants.{Cash, Position}
+use Rattle.desk_lists.specs.Lists.{Listed, balance_in, content_in}
+use Rattle.desk_rules.specs.Facts.{account_by, participant_by}
 use Rattle.desk_rules.specs.Settlement.{is_before}
-use Rattle.desk_register.specs.Looked.{IsAboveText, IsLess, security_by}
+use Rattle.desk_register.specs.Looked.{HoldsAbove, IsAboveText, IsLess, security_by}
 
--- what the account that an entry registers holds, if it registers one
-abbrev pub held_by : (List ℕ → ℕ) → Option (List ℕ) → ℕ
-held_by holds None = 0
-held_by holds (Some account) = holds account
+-- the balance that counts in a sum, of the account or the participant that an entry registers
+abbrev pub key_by : Summed → Entry → Option BalanceKey
+key_by (Security isin) entry = option_map (λ account. Position account isin) (account_by entry)
+key_by (Currency ccy) entry = option_map (λ bic. Cash bic ccy) (participant_by entry)
+
+-- the sum over all accounts, or over all participants
+abbrev pub sum_of : Summed → Listed → ℕ
+sum_of summed l = sum_by (balance_in l) (filter_map (key_by summed) (map (λ k. k.entry) l.kept))
+
+-- the amount of a key, if there is one
+abbrev pub amount_by : (BalanceKey → ℕ) → Option BalanceKey → ℕ
+amount_by balance None = 0
+amount_by balance (Some key) = balance key
 
 -- the sooner of two places, where there are two
 abbrev pub sooner_of : Option Place → Option Place → Option Place
@@ -20,6 +36,16 @@ sooner_of (Some best) (Some candidate) = if is_before candidate best then Some c
 abbrev pub IsSecurityOf : Entry → Option (List ℕ) → Option (List ℕ) → Type 0
 IsSecurityOf entry above None = (isin : List ℕ) → security_by entry ≡ Some isin → IsAboveText above isin → ⊥
 IsSecurityOf entry above (Some isin) = (security_by entry ≡ Some isin) × IsAboveText above isin
+
+-- the security of a key, where it is of a position of this account, of which some is held, above one
+abbrev pub IsHeldBy : Listed → List ℕ → Option (List ℕ) → BalanceKey → Option (List ℕ) → Type 0
+IsHeldBy l account above key None = (isin : List ℕ) → Position account isin ≡ key → HoldsAbove (content_in l) account above isin → ⊥
+IsHeldBy l account above key (Some isin) = (Position account isin ≡ key) × HoldsAbove (content_in l) account above isin
+
+-- the first security above one of which an account holds some, or there is none
+abbrev pub IsFirstHeld : Listed → List ℕ → Option (List ℕ) → Option (List ℕ) → Type 0
+IsFirstHeld l account above None = (isin : List ℕ) → HoldsAbove (content_in l) account above isin → ⊥
+IsFirstHeld l account above (Some isin) = HoldsAbove (content_in l) account above isin × ((other : List ℕ) → HoldsAbove (content_in l) account above other → IsLess other isin → ⊥)
 
 -- the lesser of two, where there are two
 abbrev pub IsLesser : Option (List ℕ) → Option (List ℕ) → Option (List ℕ) → Type 0

@@ -1,47 +1,110 @@
 //! An entry, added to the lists.
-ghost use Rattle.std.specs.Prelude.{◌≡◌, OnOk};
-ghost use Rattle.desk_register.specs.Changes.{CanAppend, appended, positions_after};
-ghost use Rattle.desk_lists.specs.Lists.{OutstandingIsKept, content_in, listed, outstanding_in, quantity_in, undone, outstanding_after, SameEntries};
+ghost use Rattle.std.specs.Prelude.{◌≡◌, ◌+◌, ◌<◌, ◌≤◌, ◌^◌, false, OnOk};
+ghost use Rattle.desk_register.specs.Changes.{CanAppend, appended};
+ghost use Rattle.desk_lists.specs.Lists.{TotalsAreKept, balance_in, balances_after, content_in, is_key, listed, undone, with_less, with_more, SameEntries};
 
+use crate::balances::{add_to, take_from};
 use crate::changes::push_entry;
 use crate::entries::first_standing;
-use crate::lists::{Change, Lists};
-use crate::positions::{outstanding_of, put_outstanding, put_quantity, quantity_of};
-use desk_rules::{Entry, Kept, Reply};
+use crate::lists::{BalanceKey, Change, Lists};
+use crate::requests::note_request;
+use desk_rules::{Entry, Kept, Movement, Payment, Reply};
 use std::alloc::AllocError;
 
-/// Moves what an entry issues or redeems.
+/// The position that a movement changes, and the total of its security.
+fn keys_of_movement(movement: &Movement) -> (BalanceKey, BalanceKey)
+    ensures position { result.0 ≡ BalanceKey.Position movement.now.account movement.now.isin }
+    ensures total { result.1 ≡ BalanceKey.Outstanding movement.now.isin }
+{
+    let Movement { account, isin, .. } = *movement;
+    (
+        BalanceKey::Position { account, isin },
+        BalanceKey::Outstanding { isin },
+    )
+}
+
+/// The cash that a payment changes, and the total of its currency.
+fn keys_of_payment(payment: &Payment) -> (BalanceKey, BalanceKey)
+    ensures cash { result.0 ≡ BalanceKey.Cash payment.now.bic payment.now.ccy }
+    ensures total { result.1 ≡ BalanceKey.Paid payment.now.ccy }
+{
+    let Payment { bic, ccy, .. } = *payment;
+    (BalanceKey::Cash { bic, ccy }, BalanceKey::Paid { ccy })
+}
+
+/// Puts so much more on a balance, and on the total that it counts in.
+fn add_to_both(
+    lists: &mut Lists,
+    changes: &mut Vec<Change>,
+    keys: (BalanceKey, BalanceKey),
+    amount: u64,
+) -> Result<(), AllocError>
+    requires apart { is_key keys.0 keys.1 ≡ false }
+    requires fits { balance_in (listed lists.old) keys.0 + amount < 2 ^ 64 }
+    requires total_fits { balance_in (listed lists.old) keys.1 + amount < 2 ^ 64 }
+    ensures put { OnOk result (balance_in (listed lists.new) ≡ with_more (with_more (balance_in (listed lists.old)) keys.0 amount) keys.1 amount) }
+    ensures rest { OnOk result (SameEntries (listed lists.old) (listed lists.new)) }
+    ensures before { undone changes.new.items (listed lists.new) ≡ undone changes.old.items (listed lists.old) }
+{
+    let (balance, total) = keys;
+    add_to(lists, changes, balance, amount)?;
+    add_to(lists, changes, total, amount)
+}
+
+/// Takes so much off a balance, and off the total that it counts in.
+fn take_from_both(
+    lists: &mut Lists,
+    changes: &mut Vec<Change>,
+    keys: (BalanceKey, BalanceKey),
+    amount: u64,
+) -> Result<(), AllocError>
+    requires apart { is_key keys.0 keys.1 ≡ false }
+    requires held { amount ≤ balance_in (listed lists.old) keys.0 }
+    requires total_held { amount ≤ balance_in (listed lists.old) keys.1 }
+    ensures put { OnOk result (balance_in (listed lists.new) ≡ with_less (with_less (balance_in (listed lists.old)) keys.0 amount) keys.1 amount) }
+    ensures rest { OnOk result (SameEntries (listed lists.old) (listed lists.new)) }
+    ensures before { undone changes.new.items (listed lists.new) ≡ undone changes.old.items (listed lists.old) }
+{
+    let (balance, total) = keys;
+    take_from(lists, changes, balance, amount)?;
+    take_from(lists, changes, total, amount)
+}
+
+/// Moves what an entry issues or redeems, and what it pays in or out.
 fn move_balances(
     lists: &mut Lists,
     changes: &mut Vec<Change>,
     entry: &Entry,
 ) -> Result<(), AllocError>
     requires fits { CanAppend entry.now (content_in (listed lists.old)) }
-    requires outstanding { OutstandingIsKept (listed lists.old) }
-    ensures positions { OnOk result (quantity_in (listed lists.new) ≡ positions_after entry.now (quantity_in (listed lists.old))) }
-    ensures outstanding { OnOk result (outstanding_in (listed lists.new) ≡ outstanding_after entry.now (outstanding_in (listed lists.old))) }
+    requires totals { TotalsAreKept (listed lists.old) }
+    ensures moved { OnOk result (balance_in (listed lists.new) ≡ balances_after entry.now (balance_in (listed lists.old))) }
     ensures rest { OnOk result (SameEntries (listed lists.old) (listed lists.new)) }
     ensures before { undone changes.new.items (listed lists.new) ≡ undone changes.old.items (listed lists.old) }
 {
     match entry {
         Entry::Issue(issue) => {
-            let held = quantity_of(lists, &issue.account, &issue.isin) + issue.quantity;
-            let outstanding = outstanding_of(lists, &issue.isin) + issue.quantity;
-            put_quantity(lists, changes, issue.account, issue.isin, held)?;
-            put_outstanding(lists, changes, issue.isin, outstanding)
+            add_to_both(lists, changes, keys_of_movement(issue), issue.quantity)
         }
         Entry::Redeem(redemption) => {
-            let held = quantity_of(lists, &redemption.account, &redemption.isin)
-                - redemption.quantity;
-            let outstanding = outstanding_of(lists, &redemption.isin) - redemption.quantity;
-            put_quantity(lists, changes, redemption.account, redemption.isin, held)?;
-            put_outstanding(lists, changes, redemption.isin, outstanding)
+            take_from_both(
+                lists,
+                changes,
+                keys_of_movement(redemption),
+                redemption.quantity,
+            )
+        }
+        Entry::PayIn(payment) => {
+            add_to_both(lists, changes, keys_of_payment(payment), payment.amount)
+        }
+        Entry::PayOut(payment) => {
+            take_from_both(lists, changes, keys_of_payment(payment), payment.amount)
         }
         _ => Ok(()),
     }
 }
 
-/// Adds an entry with its reply, and moves what it issues or redeems.
+/// Adds an entry with its reply, moves what it issues or redeems, pays in or out, and notes what it requests.
 pub fn append_entry(
     lists: &mut Lists,
     changes: &mut Vec<Change>,
@@ -49,12 +112,13 @@ pub fn append_entry(
     reply: Reply,
 ) -> Result<(), AllocError>
     requires fits { CanAppend entry (content_in (listed lists.old)) }
-    requires outstanding { OutstandingIsKept (listed lists.old) }
+    requires totals { TotalsAreKept (listed lists.old) }
     ensures added { OnOk result (content_in (listed lists.new) ≡ appended entry reply (content_in (listed lists.old))) }
-    ensures outstanding { OnOk result (OutstandingIsKept (listed lists.new)) }
+    ensures totals { OnOk result (TotalsAreKept (listed lists.new)) }
     ensures before { undone changes.new.items (listed lists.new) ≡ undone changes.old.items (listed lists.old) }
 {
     move_balances(lists, changes, &entry)?;
+    note_request(lists, changes, &entry)?;
     let standing = first_standing(&entry);
     push_entry(lists, changes, Kept { entry, reply }, standing)
 }

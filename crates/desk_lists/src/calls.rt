@@ -5,21 +5,22 @@ ghost use Rattle.desk_register.specs.Changes.{empty_content};
 ghost use Rattle.desk_register.specs.View.{fallen};
 
 use crate::appending::append_entry;
+use crate::balances::balance_of;
 use crate::changes::undo_all;
 use crate::due_pairs::due_pair_after;
-use crate::holdings::held;
+use crate::holdings::{held, held_cash};
 use crate::list_register::ListRegister;
-use crate::lists::Lists;
+use crate::lists::{BalanceKey, Lists};
+use crate::next_holding::holding_after;
 use crate::opposites::first_opposite;
-use crate::positions::{outstanding_of, quantity_of};
 use crate::securities::security_after;
 use crate::settling::try_settle;
-use crate::standings::pair_entries;
-use crate::{by_number, history};
-use desk_codes::{AccountId, Bic, Day, Isin, Reference};
+use crate::standings::{cancel_both, cancel_entry, pair_entries};
+use crate::{by_number, history, messages};
+use desk_codes::{AccountId, Bic, Ccy, Day, Isin, Reference};
 use desk_msg::{Instruction, Kind};
-use desk_register::{Fault, Outcome, Register, Stage};
-use desk_rules::{Entry, Instructed, MOST_ENTRIES, Place, Reply, Sender, Standing};
+use desk_register::{Fault, Holding, Outcome, Register, Stage};
+use desk_rules::{Entry, Instructed, MOST_ENTRIES, Place, Reply, Sender, Sent, Standing};
 use std::alloc::Global;
 
 impl ListRegister {
@@ -36,9 +37,8 @@ impl ListRegister {
                 kept: Vec::new(alloc),
                 standings: Vec::new(alloc),
                 keys: Vec::new(alloc),
-                quantities: Vec::new(alloc),
-                securities: Vec::new(alloc),
-                outstanding: Vec::new(alloc),
+                amounts: Vec::new(alloc),
+                sent: Vec::new(alloc),
             },
             changes: Vec::new(alloc),
             stage: Stage::Idle,
@@ -99,7 +99,14 @@ impl Register for ListRegister {
     }
 
     fn outstanding(&mut self, _alloc: Global, isin: Isin) -> Result<u64, Fault> {
-        Ok(outstanding_of(&self.lists, &isin))
+        Ok(balance_of(&self.lists, &BalanceKey::Outstanding { isin }))
+    }
+
+    fn paid(&mut self, _alloc: Global, ccy: Ccy) -> Result<Option<u64>, Fault> {
+        if !history::is_paid_in(&self.lists.kept, &ccy) {
+            return Ok(None);
+        }
+        Ok(Some(balance_of(&self.lists, &BalanceKey::Paid { ccy })))
     }
 
     fn last_run(&mut self, _alloc: Global) -> Result<Option<Day>, Fault> {
@@ -107,7 +114,11 @@ impl Register for ListRegister {
     }
 
     fn position(&mut self, _alloc: Global, account: AccountId, isin: Isin) -> Result<u64, Fault> {
-        Ok(quantity_of(&self.lists, &account, &isin))
+        Ok(balance_of(&self.lists, &BalanceKey::Position { account, isin }))
+    }
+
+    fn cash(&mut self, _alloc: Global, bic: Bic, ccy: Ccy) -> Result<u64, Fault> {
+        Ok(balance_of(&self.lists, &BalanceKey::Cash { bic, ccy }))
     }
 
     fn number_of(
@@ -167,8 +178,48 @@ impl Register for ListRegister {
         Ok(security_after(&self.lists, &isin))
     }
 
+    fn holding_after(
+        &mut self,
+        _alloc: Global,
+        account: AccountId,
+        isin: Option<Isin>,
+    ) -> Result<Option<Holding>, Fault> {
+        Ok(holding_after(&self.lists, &account, &isin))
+    }
+
     fn held(&mut self, _alloc: Global, isin: Isin) -> Result<u64, Fault> {
         Ok(held(&self.lists, &isin))
+    }
+
+    fn held_cash(&mut self, _alloc: Global, ccy: Ccy) -> Result<u64, Fault> {
+        Ok(held_cash(&self.lists, &ccy))
+    }
+
+    fn sent_count(&mut self, _alloc: Global, bic: Bic) -> Result<u64, Fault> {
+        Ok(messages::sent_count(&self.lists.sent, &bic))
+    }
+
+    fn sent(&mut self, alloc: Global, bic: Bic, number: u64) -> Result<Option<Sent>, Fault> {
+        if number == 0 {
+            return Ok(None);
+        }
+        match messages::sent_after(&self.lists.sent, alloc, &bic, number - 1) {
+            Ok(found) => Ok(found),
+            Err(_) => {
+                self.stage = fallen(self.stage);
+                Err(Fault::Memory)
+            }
+        }
+    }
+
+    fn confirmation(&mut self, alloc: Global, number: u64) -> Result<Option<Sent>, Fault> {
+        match messages::confirmation(&self.lists.sent, alloc, number) {
+            Ok(found) => Ok(found),
+            Err(_) => {
+                self.stage = fallen(self.stage);
+                Err(Fault::Memory)
+            }
+        }
     }
 
     fn append(&mut self, _alloc: Global, entry: Entry, reply: Reply) -> Result<(), Fault> {
@@ -191,9 +242,39 @@ impl Register for ListRegister {
         }
     }
 
+    fn cancel(&mut self, _alloc: Global, number: u64) -> Result<(), Fault> {
+        match cancel_entry(&mut self.lists, &mut self.changes, number) {
+            Ok(()) => Ok(()),
+            Err(_) => {
+                self.stage = Stage::Failed;
+                Err(Fault::Memory)
+            }
+        }
+    }
+
+    fn cancel_pair(&mut self, _alloc: Global, earlier: u64, later: u64) -> Result<(), Fault> {
+        match cancel_both(&mut self.lists, &mut self.changes, earlier, later) {
+            Ok(()) => Ok(()),
+            Err(_) => {
+                self.stage = Stage::Failed;
+                Err(Fault::Memory)
+            }
+        }
+    }
+
     fn settle_pair(&mut self, _alloc: Global, number: u64, _day: Day) -> Result<Outcome, Fault> {
         match try_settle(&mut self.lists, &mut self.changes, number) {
             Ok(outcome) => Ok(outcome),
+            Err(_) => {
+                self.stage = Stage::Failed;
+                Err(Fault::Memory)
+            }
+        }
+    }
+
+    fn send(&mut self, _alloc: Global, message: Sent) -> Result<(), Fault> {
+        match messages::send_message(&mut self.lists, &mut self.changes, message) {
+            Ok(()) => Ok(()),
             Err(_) => {
                 self.stage = Stage::Failed;
                 Err(Fault::Memory)

@@ -3,8 +3,7 @@ ghost use Rattle.std.specs.Prelude.{◌≡◌, ◌<◌, ◌∷◌, ◌++◌, [],
 ghost use Rattle.desk_lists.specs.Lists.{listed, undo, undone};
 
 use crate::lists::{BalanceKey, Change, Lists};
-use desk_codes::Isin;
-use desk_rules::{Kept, Standing};
+use desk_rules::{Kept, Sent, Standing};
 use std::alloc::AllocError;
 
 impl Lists {
@@ -22,22 +21,16 @@ impl Lists {
                     self.standings[index] = was;
                 }
             }
+            Change::Sent => {
+                let _ = self.sent.pop();
+            }
             Change::Opened => {
                 let _ = self.keys.pop();
-                let _ = self.quantities.pop();
+                let _ = self.amounts.pop();
             }
             Change::Moved { index, was } => {
-                if index < self.quantities.len() {
-                    self.quantities[index] = was;
-                }
-            }
-            Change::OutstandingAdded => {
-                let _ = self.securities.pop();
-                let _ = self.outstanding.pop();
-            }
-            Change::OutstandingChanged { index, was } => {
-                if index < self.outstanding.len() {
-                    self.outstanding[index] = was;
+                if index < self.amounts.len() {
+                    self.amounts[index] = was;
                 }
             }
         }
@@ -73,6 +66,22 @@ pub fn push_entry(
     Ok(())
 }
 
+/// Adds a message to those that were sent.
+pub fn push_sent(
+    lists: &mut Lists,
+    changes: &mut Vec<Change>,
+    message: Sent,
+) -> Result<(), AllocError>
+    ensures sent { OnOk result (listed lists.new ≡ record (listed lists.old) { sent = lists.old.sent.items ++ message ∷ [] }) }
+    ensures before { OnOk result (undone changes.new.items (listed lists.new) ≡ undone changes.old.items (listed lists.old)) }
+    ensures err { OnErr result ((listed lists.new ≡ listed lists.old) × (changes.new.items ≡ changes.old.items)) }
+{
+    lists.sent.reserve(1)?;
+    changes.push(Change::Sent)?;
+    lists.sent.push(message).unwrap();
+    Ok(())
+}
+
 /// Lets the entry at an index stand otherwise.
 pub fn stand(
     lists: &mut Lists,
@@ -91,76 +100,39 @@ pub fn stand(
     Ok(())
 }
 
-/// Adds a quantity of an account.
-pub fn open_quantity(
+/// Adds a balance.
+pub fn open_balance(
     lists: &mut Lists,
     changes: &mut Vec<Change>,
     key: BalanceKey,
-    quantity: u64,
+    amount: u64,
 ) -> Result<(), AllocError>
-    ensures opened { OnOk result (listed lists.new ≡ record (listed lists.old) { keys = lists.old.keys.items ++ key ∷ []; quantities = lists.old.quantities.items ++ quantity ∷ [] }) }
+    ensures opened { OnOk result (listed lists.new ≡ record (listed lists.old) { keys = lists.old.keys.items ++ key ∷ []; amounts = lists.old.amounts.items ++ amount ∷ [] }) }
     ensures before { OnOk result (undone changes.new.items (listed lists.new) ≡ undone changes.old.items (listed lists.old)) }
     ensures err { OnErr result ((listed lists.new ≡ listed lists.old) × (changes.new.items ≡ changes.old.items)) }
 {
     lists.keys.reserve(1)?;
-    lists.quantities.reserve(1)?;
+    lists.amounts.reserve(1)?;
     changes.push(Change::Opened)?;
     lists.keys.push(key).unwrap();
-    lists.quantities.push(quantity).unwrap();
+    lists.amounts.push(amount).unwrap();
     Ok(())
 }
 
-/// Changes the quantity of an account, at its index.
-pub fn move_quantity(
+/// Changes a balance, at its index.
+pub fn move_balance(
     lists: &mut Lists,
     changes: &mut Vec<Change>,
     index: usize,
-    quantity: u64,
+    amount: u64,
 ) -> Result<(), AllocError>
-    requires { index < length lists.old.quantities.items }
-    ensures moved { OnOk result (listed lists.new ≡ record (listed lists.old) { quantities = slice_set lists.old.quantities.items index quantity }) }
+    requires { index < length lists.old.amounts.items }
+    ensures moved { OnOk result (listed lists.new ≡ record (listed lists.old) { amounts = slice_set lists.old.amounts.items index amount }) }
     ensures before { OnOk result (undone changes.new.items (listed lists.new) ≡ undone changes.old.items (listed lists.old)) }
     ensures err { OnErr result ((listed lists.new ≡ listed lists.old) × (changes.new.items ≡ changes.old.items)) }
 {
-    let was = lists.quantities[index];
+    let was = lists.amounts[index];
     changes.push(Change::Moved { index, was })?;
-    lists.quantities[index] = quantity;
-    Ok(())
-}
-
-/// Adds what is outstanding of a security.
-pub fn add_outstanding(
-    lists: &mut Lists,
-    changes: &mut Vec<Change>,
-    isin: Isin,
-    quantity: u64,
-) -> Result<(), AllocError>
-    ensures listed { OnOk result (listed lists.new ≡ record (listed lists.old) { securities = lists.old.securities.items ++ isin ∷ []; outstanding = lists.old.outstanding.items ++ quantity ∷ [] }) }
-    ensures before { OnOk result (undone changes.new.items (listed lists.new) ≡ undone changes.old.items (listed lists.old)) }
-    ensures err { OnErr result ((listed lists.new ≡ listed lists.old) × (changes.new.items ≡ changes.old.items)) }
-{
-    lists.securities.reserve(1)?;
-    lists.outstanding.reserve(1)?;
-    changes.push(Change::OutstandingAdded)?;
-    lists.securities.push(isin).unwrap();
-    lists.outstanding.push(quantity).unwrap();
-    Ok(())
-}
-
-/// Changes what is outstanding of a security, at its index.
-pub fn change_outstanding(
-    lists: &mut Lists,
-    changes: &mut Vec<Change>,
-    index: usize,
-    quantity: u64,
-) -> Result<(), AllocError>
-    requires { index < length lists.old.outstanding.items }
-    ensures resized { OnOk result (listed lists.new ≡ record (listed lists.old) { outstanding = slice_set lists.old.outstanding.items index quantity }) }
-    ensures before { OnOk result (undone changes.new.items (listed lists.new) ≡ undone changes.old.items (listed lists.old)) }
-    ensures err { OnErr result ((listed lists.new ≡ listed lists.old) × (changes.new.items ≡ changes.old.items)) }
-{
-    let was = lists.outstanding[index];
-    changes.push(Change::OutstandingChanged { index, was })?;
-    lists.outstanding[index] = quantity;
+    lists.amounts[index] = amount;
     Ok(())
 }

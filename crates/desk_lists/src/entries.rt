@@ -1,11 +1,13 @@
-//! What one entry says of participants, accounts, securities and runs.
+//! What one entry says of participants, accounts, securities, cash and runs.
 ghost use Rattle.std.specs.Prelude.{◌≡◌, option_map};
 ghost use Rattle.desk_codes.specs.Number.{number_of};
 ghost use Rattle.desk_rules.specs.History.{has_key, run_day, same_sender};
 ghost use Rattle.desk_register.specs.Changes.{first_standing};
-ghost use Rattle.desk_rules.specs.Facts.{account_by, adds_participant, kind_by, owner_by};
+ghost use Rattle.desk_register.specs.Looked.{pays_in};
+ghost use Rattle.desk_rules.specs.Facts.{account_by, adds_participant, kind_by, owner_by, participant_by};
 
-use desk_codes::{AccountId, Bic, Day, Isin, Reference};
+use crate::balances::same_ccy;
+use desk_codes::{AccountId, Bic, Ccy, Day, Isin, Reference};
 use desk_msg::Kind;
 use desk_rules::{Entry, Sender, Standing, State};
 
@@ -64,6 +66,26 @@ pub fn account_by(entry: &Entry) -> Option<AccountId>
     match entry {
         Entry::Account { account, .. } => Some(*account),
         _ => None,
+    }
+}
+
+/// The participant that an entry registers.
+pub fn participant_by(entry: &Entry) -> Option<Bic>
+    ensures { result ≡ participant_by entry.now }
+{
+    match entry {
+        Entry::Participant { bic, .. } => Some(*bic),
+        _ => None,
+    }
+}
+
+/// Whether an entry pays in cash of a currency.
+pub fn pays_in(entry: &Entry, ccy: &Ccy) -> bool
+    ensures { result ≡ pays_in ccy.now entry.now }
+{
+    match entry {
+        Entry::PayIn(payment) => same_ccy(&payment.ccy, ccy),
+        _ => false,
     }
 }
 

@@ -2,10 +2,12 @@
 ghost use Rattle.std.specs.Prelude.{◌≡◌, map, option_map};
 ghost use Rattle.desk_codes.specs.Number.{number_of};
 ghost use Rattle.desk_rules.specs.History.{number_of_key};
+ghost use Rattle.std.specs.List.{list_any};
+ghost use Rattle.desk_register.specs.Looked.{pays_in};
 ghost use Rattle.desk_rules.specs.Facts.{is_participant, kind_of, last_run, owner_of};
 
 use crate::entries;
-use desk_codes::{AccountId, Bic, Day, Isin, Reference};
+use desk_codes::{AccountId, Bic, Ccy, Day, Isin, Reference};
 use desk_msg::Kind;
 use desk_rules::{Kept, Sender};
 
@@ -15,6 +17,18 @@ pub fn is_participant(kept: &[Kept], bic: &Bic) -> bool
 {
     for one in kept {
         if entries::adds_participant(&one.entry, bic) {
+            return true;
+        }
+    }
+    false
+}
+
+/// Whether cash of a currency was ever paid in.
+pub fn is_paid_in(kept: &[Kept], ccy: &Ccy) -> bool
+    ensures { result ≡ list_any (pays_in ccy.now) (map (λ k. k.entry) kept.now) }
+{
+    for one in kept {
+        if entries::pays_in(&one.entry, ccy) {
             return true;
         }
     }

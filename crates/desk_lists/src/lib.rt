@@ -2,10 +2,10 @@
 //!
 //! `ListRegister`, in `list_register.rt`, meets the law of `desk_register`; contracts see it by `view_of_lists` of
 //! specs/ListView.antt. `calls.rt` has its calls. `lists.rt` has the lists, with the changes that `back` undoes;
-//! `changes.rt` makes each and undoes it. All that changes goes through it: `appending`, `standings`, `positions` and
-//! `settling`. The rest only reads: `by_number` and `history` the entries, `entries` what one entry says, `balances`
-//! and `holdings` the quantities, and `opposites`, `due_pairs` and `securities` search in order.
-//! `wrapped` is what a register that keeps look-ups beside the lists asks of them. Begin with `calls.rt`.
+//! `changes.rt` makes each and undoes it. All that changes goes through it: `appending`, `requests`, `standings`,
+//! `balances`, `settling` and `messages`. The rest only reads: `by_number` and `history` the entries, `entries` what
+//! one entry says, `holdings` the balances, and `opposites`, `due_pairs`, `securities` and `next_holding` search in
+//! order. `wrapped` is what a register that keeps look-ups beside the lists asks of them. Begin with `calls.rt`.
 #![tactic(auto)]
 
 mod appending;
@@ -19,8 +19,10 @@ mod history;
 mod holdings;
 mod list_register;
 mod lists;
+mod messages;
+mod next_holding;
 mod opposites;
-mod positions;
+mod requests;
 mod securities;
 mod settling;
 mod standings;

@@ -1,6 +1,6 @@
 //! A register that keeps plain lists.
 ghost use Rattle.std.specs.Prelude.{◌≡◌, ◌≢◌, ◌≤◌, []};
-ghost use Rattle.desk_lists.specs.Lists.{listed, undone, OutstandingIsKept};
+ghost use Rattle.desk_lists.specs.Lists.{listed, undone, TotalsAreKept};
 ghost use Rattle.desk_register.specs.declared.register.Stage.TheVariants.{Idle, Failed};
 ghost use Rattle.desk_rules.specs.declared.limits.TheConstants.{MOST_ENTRIES};
 
@@ -18,6 +18,6 @@ pub struct ListRegister {
     pub(crate) stage: Stage,
     ghost limited: { limit ≤ MOST_ENTRIES },
     ghost idle: { stage ≡ Idle → changes.items ≡ [] },
-    ghost outstanding: { stage ≢ Failed → OutstandingIsKept (listed lists) },
-    ghost outstanding_marked: { OutstandingIsKept (undone changes.items (listed lists)) },
+    ghost totals: { stage ≢ Failed → TotalsAreKept (listed lists) },
+    ghost totals_marked: { TotalsAreKept (undone changes.items (listed lists)) },
 }

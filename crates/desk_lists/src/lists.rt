@@ -1,14 +1,20 @@
 //! The lists of a list register, and its changes that can be undone.
 ghost use Rattle.std.specs.Prelude.{◌≡◌, length};
 
-use desk_codes::{AccountId, Isin};
-use desk_rules::{Kept, Standing};
+use desk_codes::{AccountId, Bic, Ccy, Isin};
+use desk_rules::{Kept, Sent, Standing};
 
-/// What a quantity is of: a security on an account.
+/// What an amount is of.
 #[derive(Clone, Copy, Debug, PartialEq, Eq)]
-pub struct BalanceKey {
-    pub account: AccountId,
-    pub isin: Isin,
+pub enum BalanceKey {
+    /// A security on an account
+    Position { account: AccountId, isin: Isin },
+    /// What is outstanding of a security
+    Outstanding { isin: Isin },
+    /// The cash of a participant in a currency, in minor units
+    Cash { bic: Bic, ccy: Ccy },
+    /// What is paid in of a currency less what is paid out, in minor units
+    Paid { ccy: Ccy },
 }
 
 /// A change of the lists, with what is needed to undo it.
@@ -18,27 +24,23 @@ pub enum Change {
     Appended,
     /// An entry came to stand otherwise; it stood so.
     Stood { index: usize, was: Standing },
-    /// A quantity of an account was added.
+    /// A message was sent.
+    Sent,
+    /// A balance was added.
     Opened,
-    /// A quantity of an account was changed; it was so much.
+    /// A balance was changed; it was so much.
     Moved { index: usize, was: u64 },
-    /// What is outstanding of a security was added.
-    OutstandingAdded,
-    /// What is outstanding of a security was changed; it was so much.
-    OutstandingChanged { index: usize, was: u64 },
 }
 
-/// The entries with their replies, where each stands, the quantities of accounts with their keys, and what is
-/// outstanding of each security that was issued.
+/// The entries with their replies, where each stands, the balances, which are amounts by their keys, and what
+/// was sent.
 #[derive(Drop)]
 pub struct Lists {
     pub kept: Vec<Kept>,
     pub standings: Vec<Standing>,
     pub keys: Vec<BalanceKey>,
-    pub quantities: Vec<u64>,
-    pub securities: Vec<Isin>,
-    pub outstanding: Vec<u64>,
+    pub amounts: Vec<u64>,
+    pub sent: Vec<Sent>,
     ghost standing_each: { length standings.items ≡ length kept.items },
-    ghost quantity_each: { length quantities.items ≡ length keys.items },
-    ghost outstanding_each: { length outstanding.items ≡ length securities.items },
+    ghost amount_each: { length amounts.items ≡ length keys.items },
 }

@@ -2,7 +2,7 @@
 ghost use Rattle.std.specs.Prelude.{◌≡◌, ◌↔◌, IsTrue};
 ghost use Rattle.desk_rules.specs.Content.{history_of};
 ghost use Rattle.desk_lists.specs.Lists.{content_in, listed};
-ghost use Rattle.desk_register.specs.Looked.{IsLess, IsSecurityAfter};
+ghost use Rattle.desk_register.specs.Looked.{IsAboveText, IsLess, IsSecurityAfter};
 ghost use Rattle.desk_lists.specs.Search.{IsLesser, IsSecurityOf};
 
 use crate::lists::Lists;
@@ -27,14 +27,24 @@ fn security_above(entry: &Entry, above: &Option<Isin>) -> Option<Isin>
     let Entry::Security { isin, .. } = entry else {
         return None;
     };
+    if is_above(above, isin) {
+        return Some(*isin);
+    }
+    None
+}
+
+/// Whether an ISIN is above one, or above none.
+pub fn is_above(above: &Option<Isin>, isin: &Isin) -> bool
+    ensures { IsTrue result ↔ IsAboveText above.now isin.now }
+{
     match above {
-        Some(least) if !is_less(least, isin) => None,
-        _ => Some(*isin),
+        Some(least) => is_less(least, isin),
+        None => true,
     }
 }
 
 /// The lesser of two ISINs, where there are two.
-fn lesser(best: Option<Isin>, candidate: Option<Isin>) -> Option<Isin>
+pub fn lesser(best: Option<Isin>, candidate: Option<Isin>) -> Option<Isin>
     ensures { IsLesser best candidate result }
 {
     let Some(first) = best else {

@@ -1,37 +1,68 @@
 //! A pair, settled in the lists.
-ghost use Rattle.std.specs.Prelude.{◌≡◌, ◌<◌, ◌≤◌, ◌+◌, ◌^◌, ℕ, Some, None, length, IfOk, OnOk};
-ghost use Rattle.desk_register.specs.Changes.{delivered, CanSettle, TriesPair, TriesSides, delivering_side, receiving_side};
-ghost use Rattle.desk_lists.specs.Lists.{content_in, listed, quantity_in, undone, SameButQuantities, SameOutstanding};
+ghost use Rattle.std.specs.Prelude.{◌≡◌, ◌<◌, ◌≤◌, ◌+◌, ◌^◌, ◌↔◌, ℕ, Some, None, false, length, IfOk, IsTrue, OnOk};
+ghost use Rattle.desk_register.specs.Changes.{CanSettle, FitsCash, HasCash, LacksCash, SidesFit, TriesPair, TriesSides, delivering_side, receiving_side};
+ghost use Rattle.desk_lists.specs.Lists.{balance_in, content_in, listed, undone, with_less, with_more, SameEntries, SameTotals};
+ghost use Rattle.desk_lists.specs.Moves.{moved_between, paid_between};
 
+use crate::balances::{add_to, balance_of, take_from};
 use crate::by_number::{instruction, standing};
-use crate::lists::{Change, Lists};
-use crate::positions::{put_quantity, quantity_of};
+use crate::lists::{BalanceKey, Change, Lists};
 use crate::standings::stand_both;
-use desk_codes::{AccountId, Isin};
-use desk_msg::Reason;
+use desk_codes::Bic;
+use desk_msg::{Cash, Reason};
 use desk_register::Outcome;
 use desk_rules::{Instructed, Lack, State};
 use std::alloc::AllocError;
 
-/// Takes so much of a security off one account and puts it on another, or on the same.
-fn deliver(
+/// Takes so much off one balance and puts it on another, or on the same.
+fn move_between(
     lists: &mut Lists,
     changes: &mut Vec<Change>,
-    from: AccountId,
-    to: AccountId,
-    isin: Isin,
-    quantity: u64,
+    from: BalanceKey,
+    to: BalanceKey,
+    amount: u64,
 ) -> Result<(), AllocError>
-    requires held { quantity ≤ quantity_in (listed lists.old) from isin }
-    requires fits { quantity_in (listed lists.old) to isin + quantity < 2 ^ 63 }
-    ensures delivered { OnOk result (quantity_in (listed lists.new) ≡ delivered (quantity_in (listed lists.old)) from to isin quantity) }
-    ensures rest { OnOk result (SameButQuantities (listed lists.old) (listed lists.new)) }
+    requires held { amount ≤ balance_in (listed lists.old) from }
+    requires fits { balance_in (listed lists.old) to + amount < 2 ^ 63 }
+    ensures moved { OnOk result (balance_in (listed lists.new) ≡ moved_between (balance_in (listed lists.old)) from to amount) }
+    ensures rest { OnOk result (SameEntries (listed lists.old) (listed lists.new)) }
     ensures before { undone changes.new.items (listed lists.new) ≡ undone changes.old.items (listed lists.old) }
 {
-    let less = quantity_of(lists, &from, &isin) - quantity;
-    put_quantity(lists, changes, from, isin, less)?;
-    let more = quantity_of(lists, &to, &isin) + quantity;
-    put_quantity(lists, changes, to, isin, more)
+    take_from(lists, changes, from, amount)?;
+    add_to(lists, changes, to, amount)
+}
+
+/// Whether a participant has too little of the cash that is asked of it.
+fn lacks_cash(lists: &Lists, bic: Bic, asked: Option<Cash>) -> bool
+    ensures lacks { IsTrue result → LacksCash (content_in (listed lists.now)).cash bic asked }
+    ensures has { result ≡ false → HasCash (content_in (listed lists.now)).cash bic asked }
+{
+    let Some(Cash { ccy, amount, .. }) = asked else {
+        return false;
+    };
+    balance_of(lists, &BalanceKey::Cash { bic, ccy }) < amount
+}
+
+/// Takes cash off one participant and puts it on another, or on the same.
+fn pay(
+    lists: &mut Lists,
+    changes: &mut Vec<Change>,
+    from: Bic,
+    to: Bic,
+    asked: Option<Cash>,
+) -> Result<(), AllocError>
+    requires held { HasCash (content_in (listed lists.old)).cash from asked }
+    requires fits { FitsCash (content_in (listed lists.old)).cash to asked }
+    ensures moved { OnOk result (balance_in (listed lists.new) ≡ paid_between (balance_in (listed lists.old)) from to asked) }
+    ensures rest { OnOk result (SameEntries (listed lists.old) (listed lists.new)) }
+    ensures before { undone changes.new.items (listed lists.new) ≡ undone changes.old.items (listed lists.old) }
+{
+    let Some(Cash { ccy, amount, .. }) = asked else {
+        return Ok(());
+    };
+    let from = BalanceKey::Cash { bic: from, ccy };
+    let to = BalanceKey::Cash { bic: to, ccy };
+    move_between(lists, changes, from, to, amount)
 }
 
 /// The instruction of two that delivers.
@@ -66,27 +97,40 @@ fn settle_sides(
     requires some { 0 < mate }
     requires two { mate < number }
     requires known { number ≤ length lists.old.kept.items }
-    requires fits { later.now.instruction.quantity ≤ quantity_in (listed lists.old) (delivering_side earlier.now later.now).instruction.account later.now.instruction.isin
-        → quantity_in (listed lists.old) (receiving_side earlier.now later.now).instruction.account later.now.instruction.isin + later.now.instruction.quantity < 2 ^ 63 }
+    requires fits { SidesFit (content_in (listed lists.old)) earlier.now later.now }
     ensures settled { IfOk result (λ outcome. TriesSides (content_in (listed lists.old)) number mate earlier.now later.now outcome (content_in (listed lists.new))) }
-    ensures rest { OnOk result (SameOutstanding (listed lists.old) (listed lists.new)) }
+    ensures rest { OnOk result (SameTotals (listed lists.old) (listed lists.new)) }
     ensures before { undone changes.new.items (listed lists.new) ≡ undone changes.old.items (listed lists.old) }
 {
-    let from = delivery(earlier, later).instruction.account;
-    let to = receipt(earlier, later).instruction.account;
+    let from = delivery(earlier, later);
+    let to = receipt(earlier, later);
     let isin = later.instruction.isin;
     let quantity = later.instruction.quantity;
-    if quantity_of(lists, &from, &isin) < quantity {
+    let cash = later.instruction.cash;
+    let given = BalanceKey::Position {
+        account: from.instruction.account,
+        isin,
+    };
+    let taken = BalanceKey::Position {
+        account: to.instruction.account,
+        isin,
+    };
+    if balance_of(lists, &given) < quantity {
         stand_both(lists, changes, mate, number, State::Matched(Reason::Lack))?;
         return Ok(Outcome::Lacks(Lack::Securities));
     }
+    if lacks_cash(lists, to.sender, cash) {
+        stand_both(lists, changes, mate, number, State::Matched(Reason::Money))?;
+        return Ok(Outcome::Lacks(Lack::Money));
+    }
     stand_both(lists, changes, mate, number, State::Settled)?;
-    deliver(lists, changes, from, to, isin, quantity)?;
+    move_between(lists, changes, given, taken, quantity)?;
+    pay(lists, changes, to.sender, from.sender, cash)?;
     Ok(Outcome::Settled)
 }
 
-/// Tries the matched pair of a number: settles it, and moves its quantity between the accounts, where it is
-/// covered, else changes the reason alone.
+/// Tries the matched pair of a number: settles it, and moves its quantity between the accounts and its cash between
+/// the participants, where it is covered, else changes the reason alone.
 pub fn try_settle(
     lists: &mut Lists,
     changes: &mut Vec<Change>,
@@ -94,7 +138,7 @@ pub fn try_settle(
 ) -> Result<Outcome, AllocError>
     requires { (day : ℕ) × CanSettle (content_in (listed lists.old)) number day }
     ensures settled { IfOk result (λ outcome. TriesPair (content_in (listed lists.old)) number outcome (content_in (listed lists.new))) }
-    ensures rest { OnOk result (SameOutstanding (listed lists.old) (listed lists.new)) }
+    ensures rest { OnOk result (SameTotals (listed lists.old) (listed lists.new)) }
     ensures before { undone changes.new.items (listed lists.new) ≡ undone changes.old.items (listed lists.old) }
 {
     let later = instruction(lists, number).unwrap();

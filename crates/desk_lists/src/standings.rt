@@ -1,6 +1,6 @@
 //! Where entries stand, changed in the lists by their numbers.
 ghost use Rattle.std.specs.Prelude.{◌≡◌, ◌<◌, ◌≤◌, ◌-◌, length, OnOk};
-ghost use Rattle.desk_register.specs.Changes.{paired, CanPair, standing_at, standing_both};
+ghost use Rattle.desk_register.specs.Changes.{cancelled, pair_cancelled, paired, CanCancel, CanCancelPair, CanPair, standing_at, standing_both};
 ghost use Rattle.desk_lists.specs.Lists.{content_in, listed, undone, standing_in, SameBooks};
 
 use crate::by_number::standing;
@@ -11,7 +11,7 @@ use desk_rules::{Standing, State};
 use std::alloc::AllocError;
 
 /// Lets the entry of a number stand otherwise.
-fn stand_number(
+pub fn stand_number(
     lists: &mut Lists,
     changes: &mut Vec<Change>,
     number: u64,
@@ -75,4 +75,37 @@ pub fn pair_entries(
         later,
         State::Matched(Reason::Future),
     )
+}
+
+/// Lets an unmatched instruction stand cancelled.
+pub fn cancel_entry(
+    lists: &mut Lists,
+    changes: &mut Vec<Change>,
+    number: u64,
+) -> Result<(), AllocError>
+    requires { CanCancel (content_in (listed lists.old)) number }
+    ensures cancelled { OnOk result (content_in (listed lists.new) ≡ cancelled number (content_in (listed lists.old))) }
+    ensures rest { SameBooks (listed lists.old) (listed lists.new) }
+    ensures before { undone changes.new.items (listed lists.new) ≡ undone changes.old.items (listed lists.old) }
+{
+    let cancelled = Standing {
+        state: State::Cancelled,
+        ..standing(lists, number)
+    };
+    stand_number(lists, changes, number, cancelled)
+}
+
+/// Lets both instructions of a matched pair stand cancelled.
+pub fn cancel_both(
+    lists: &mut Lists,
+    changes: &mut Vec<Change>,
+    earlier: u64,
+    later: u64,
+) -> Result<(), AllocError>
+    requires { CanCancelPair (content_in (listed lists.old)) earlier later }
+    ensures cancelled { OnOk result (content_in (listed lists.new) ≡ pair_cancelled earlier later (content_in (listed lists.old))) }
+    ensures rest { SameBooks (listed lists.old) (listed lists.new) }
+    ensures before { undone changes.new.items (listed lists.new) ≡ undone changes.old.items (listed lists.old) }
+{
+    stand_both(lists, changes, earlier, later, State::Cancelled)
 }

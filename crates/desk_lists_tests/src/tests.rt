@@ -1,2 +1,3 @@
 //! The calls of a register in plain lists, each with ample memory.
 mod calls;
+mod cash;

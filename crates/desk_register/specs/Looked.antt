@@ -1,22 +1,28 @@
 -- What the look-ups of a register find in its content.
-use Rattle.std.specs.Prelude.{◌≡◌, ℕ, zero, suc, ◌<◌, ◌≤◌, true, false, List, Option, Some, None, option_map, slice_get, sum_by, is_some}
+use Rattle.std.specs.Prelude.{◌≡◌, ℕ, zero, suc, ◌+◌, ◌<◌, ◌≤◌, Bool, true, false, List, Option, Some, None, option_map, slice_get, sum_by, is_some, bytes_eq, filter}
+use Rattle.std.specs.List.{find, list_any}
 use Rattle.std.specs.Ordering.{nat_cmp}
 use Rattle.std.specs.Cmp.Lexicographic.{slice_cmp}
 use Rattle.std.specs.declared.cmp.Ordering.TheVariants.{Less}
+use Rattle.desk_codes.specs.declared.currency.Ccy.{Ccy}
 use Rattle.desk_codes.specs.Number.{number_of}
 use Rattle.desk_rules.specs.declared.entry.Entry.{Entry}
-use Rattle.desk_rules.specs.declared.entry.Entry.TheVariants.{Security}
+use Rattle.desk_rules.specs.declared.entry.Entry.TheVariants.{PayIn, Security}
 use Rattle.desk_rules.specs.declared.reply.Reply.{Reply}
+use Rattle.desk_rules.specs.declared.reply.Sent.{Sent}
 use Rattle.desk_rules.specs.declared.pair.Place.{Place}
 use Rattle.desk_rules.specs.declared.standing.State.TheVariants.{Unmatched, Matched}
 use Rattle.desk_msg.specs.declared.status.Reason.{Reason}
 use Rattle.desk_rules.specs.declared.entry.Instructed.{Instructed}
 use Rattle.desk_rules.specs.History.{instruction_at}
 use Rattle.desk_rules.specs.Opposite.{AreOpposite}
+use Rattle.desk_rules.specs.Questions.{confirms_it}
 use Rattle.desk_rules.specs.Settlement.{is_before, is_past}
-use Rattle.desk_rules.specs.Facts.{accounts_of, kind_of}
+use Rattle.desk_rules.specs.Balances.{paid_in, paid_out, same_ccy}
+use Rattle.desk_rules.specs.Facts.{accounts_of, kind_of, participants_of}
 use Rattle.desk_rules.specs.declared.reply.Kept.{Kept}
 use Rattle.desk_rules.specs.Content.{Content, history_of}
+use Rattle.desk_register.specs.declared.holding.Holding.{Holding}
 
 -- the entry of a number, with its reply
 abbrev pub kept_at : List Kept → ℕ → Option Kept
@@ -78,11 +84,45 @@ abbrev pub IsSecurityAfter : List Entry → Option (List ℕ) → Option (List �
 IsSecurityAfter history above None = (isin : List ℕ) → IsRegisteredAbove history above isin → ⊥
 IsSecurityAfter history above (Some isin) = IsRegisteredAbove history above isin × ((other : List ℕ) → IsRegisteredAbove history above other → IsLess other isin → ⊥)
 
+-- an account holds some of a security above one, or above none
+abbrev pub HoldsAbove : Content → List ℕ → Option (List ℕ) → List ℕ → Type 0
+HoldsAbove content account above isin = (0 < content.position account isin) × IsAboveText above isin
+
+-- the first such security, with how much of it the account holds, or there is none
+abbrev pub IsHoldingAfter : Content → List ℕ → Option (List ℕ) → Option Holding → Type 0
+IsHoldingAfter content account above None = (isin : List ℕ) → HoldsAbove content account above isin → ⊥
+IsHoldingAfter content account above (Some holding) =
+    HoldsAbove content account above holding.isin
+    × (holding.quantity ≡ content.position account holding.isin)
+    × ((other : List ℕ) → HoldsAbove content account above other → IsLess other holding.isin → ⊥)
+
 -- what all registered accounts hold of a security
 abbrev pub held_of : Content → List ℕ → ℕ
 held_of content isin = sum_by (λ account. content.position account isin) (accounts_of (history_of content))
+
+-- an entry pays in cash of this currency
+abbrev pub pays_in : Ccy → Entry → Bool
+pays_in ccy (PayIn payment) = same_ccy payment.ccy ccy
+pays_in ccy entry = false
+
+-- what was paid in of a currency less what was paid out; none before any pay in of it
+abbrev pub IsPaid : List Entry → Ccy → Option ℕ → Type 0
+IsPaid history ccy None = list_any (pays_in ccy) history ≡ false
+IsPaid history ccy (Some paid) = (list_any (pays_in ccy) history ≡ true) × (paid_out history ccy + paid ≡ paid_in history ccy)
+
+-- what all registered participants have of a currency
+abbrev pub held_cash_of : Content → Ccy → ℕ
+held_cash_of content ccy = sum_by (λ bic. content.cash bic ccy) (participants_of (history_of content))
 
 -- the security that an entry registers
 abbrev pub security_by : Entry → Option (List ℕ)
 security_by (Security reference isin kind) = Some isin
 security_by entry = None
+
+-- what was sent to a participant, in order
+abbrev pub sent_to : Content → List ℕ → List Sent
+sent_to content bic = filter (λ message. bytes_eq message.bic bic) content.sent
+
+-- the sent message that confirms an instruction
+abbrev pub confirmation_in : Content → ℕ → Option Sent
+confirmation_in content n = find (confirms_it n) content.sent

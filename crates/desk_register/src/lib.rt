@@ -5,8 +5,10 @@
 //! content is that of specs/Content.antt in `desk_rules`. Begin with `register.rt`, then specs/View.antt.
 #![tactic(auto)]
 
+mod holding;
 mod outcome;
 mod register;
 
+pub use holding::Holding;
 pub use outcome::Outcome;
 pub use register::{Fault, Register, Stage};

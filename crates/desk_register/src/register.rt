@@ -3,16 +3,18 @@ ghost use Rattle.std.specs.Prelude.{◌≡◌, ◌≢◌, ℕ, true, Bool, ◌+�
 ghost use Rattle.desk_codes.specs.Number.{number_of};
 ghost use Rattle.desk_register.specs.View.{View, IfRead, IfTrusted, IsLater, Begins, Commits, GoesBack, Falls, Blames, IsRead, IsChange};
 ghost use Rattle.desk_rules.specs.Content.{history_of};
-ghost use Rattle.desk_register.specs.Changes.{appended, paired, CanAppend, CanPair, CanSettle, TriesPair};
-ghost use Rattle.desk_register.specs.Looked.{held_of, reply_at, IsFirstOpposite, IsDuePairAfter, IsSecurityAfter};
+ghost use Rattle.desk_register.specs.Changes.{appended, cancelled, pair_cancelled, paired, with_sent, CanAppend, CanCancel, CanCancelPair, CanPair, CanSend, CanSettle, TriesPair};
+ghost use Rattle.desk_register.specs.Looked.{confirmation_in, held_cash_of, held_of, reply_at, sent_to, IsFirstOpposite, IsDuePairAfter, IsHoldingAfter, IsPaid, IsSecurityAfter};
 ghost use Rattle.desk_rules.specs.History.{entry_at, number_of_key};
+ghost use Rattle.desk_rules.specs.Questions.{sent_at};
 ghost use Rattle.desk_rules.specs.Facts.{is_participant, owner_of, kind_of, last_run};
 ghost use Rattle.desk_rules.specs.Balances.{issued, redeemed};
 
+use crate::holding::Holding;
 use crate::outcome::Outcome;
-use desk_codes::{AccountId, Bic, Day, Isin, Reference};
+use desk_codes::{AccountId, Bic, Ccy, Day, Isin, Reference};
 use desk_msg::{Instruction, Kind};
-use desk_rules::{Entry, MOST_ENTRIES, Place, Reply, Sender, Standing};
+use desk_rules::{Entry, MOST_ENTRIES, Place, Reply, Sender, Sent, Standing};
 use std::alloc::Global;
 
 /// Whether a `begin` is open, and whether a call within it has failed.
@@ -35,7 +37,8 @@ pub enum Fault {
     Storage,
 }
 
-/// What the desk keeps: its accepted entries with their replies, where each stands, and the positions.
+/// What the desk keeps: its accepted entries with their replies, where each stands, the positions, the cash, and
+/// the sent messages.
 ///
 /// Whatever changes stands between `begin` and `commit`, or `back`, which takes it all back. What only reads may be
 /// called at any time; once a call has failed, what it answers means nothing until `back`.
@@ -111,6 +114,12 @@ pub trait Register {
         ensures read { IsRead result (view self.old) (view self.new) }
         ensures in_memory { in_memory ≡ true → IsOk result };
 
+    /// What was paid in of a currency less what was paid out, in minor units; None before any pay in of it.
+    fn paid(&mut self, alloc: Global, ccy: Ccy) -> Result<Option<u64>, Fault>
+        ensures value { IfRead (view self.old) (view self.new) (IfOk result (λ r. IsPaid (history_of (view self.old).content) ccy r)) }
+        ensures read { IsRead result (view self.old) (view self.new) }
+        ensures in_memory { in_memory ≡ true → IsOk result };
+
     /// The day of the last run; None before any.
     fn last_run(&mut self, alloc: Global) -> Result<Option<Day>, Fault>
         ensures value { IfRead (view self.old) (view self.new) (IfOk result (λ r. option_map number_of r ≡ last_run (history_of (view self.old).content))) }
@@ -162,6 +171,12 @@ pub trait Register {
         ensures read { IsRead result (view self.old) (view self.new) }
         ensures in_memory { in_memory ≡ true → IsOk result };
 
+    /// What a participant has of a currency, in minor units; 0 where there is no such participant, or nothing of it.
+    fn cash(&mut self, alloc: Global, bic: Bic, ccy: Ccy) -> Result<u64, Fault>
+        ensures value { IfRead (view self.old) (view self.new) (IfOk result (λ r. r ≡ (view self.old).content.cash bic ccy)) }
+        ensures read { IsRead result (view self.old) (view self.new) }
+        ensures in_memory { in_memory ≡ true → IsOk result };
+
     /// The first matched pair due by a day, in order of settlement day and number, after a place; with none, the first
     /// of all. None where there is none.
     fn due_pair_after(
@@ -180,6 +195,18 @@ pub trait Register {
         ensures read { IsRead result (view self.old) (view self.new) }
         ensures in_memory { in_memory ≡ true → IsOk result };
 
+    /// The first security, in order of its bytes, after one, of which an account holds some, and how much; with none, the
+    /// first of all. None where there is none.
+    fn holding_after(
+        &mut self,
+        alloc: Global,
+        account: AccountId,
+        isin: Option<Isin>,
+    ) -> Result<Option<Holding>, Fault>
+        ensures value { IfRead (view self.old) (view self.new) (IfOk result (λ r. IsHoldingAfter (view self.old).content account isin r)) }
+        ensures read { IsRead result (view self.old) (view self.new) }
+        ensures in_memory { in_memory ≡ true → IsOk result };
+
     /// What all registered accounts hold of a security.
     fn held(&mut self, alloc: Global, isin: Isin) -> Result<u64, Fault>
         requires { IfTrusted (view self.old) (view self.old) (held_of (view self.old).content isin < 2 ^ 64) }
@@ -187,7 +214,31 @@ pub trait Register {
         ensures read { IsRead result (view self.old) (view self.new) }
         ensures in_memory { in_memory ≡ true → IsOk result };
 
-    /// Adds an entry with its reply.
+    /// What all registered participants have of a currency, in minor units.
+    fn held_cash(&mut self, alloc: Global, ccy: Ccy) -> Result<u64, Fault>
+        requires { IfTrusted (view self.old) (view self.old) (held_cash_of (view self.old).content ccy < 2 ^ 64) }
+        ensures value { IfRead (view self.old) (view self.new) (IfOk result (λ r. r ≡ held_cash_of (view self.old).content ccy)) }
+        ensures read { IsRead result (view self.old) (view self.new) }
+        ensures in_memory { in_memory ≡ true → IsOk result };
+
+    /// How many messages were sent to a participant.
+    fn sent_count(&mut self, alloc: Global, bic: Bic) -> Result<u64, Fault>
+        ensures value { IfRead (view self.old) (view self.new) (IfOk result (λ r. r ≡ length (sent_to (view self.old).content bic))) }
+        ensures read { IsRead result (view self.old) (view self.new) }
+        ensures in_memory { in_memory ≡ true → IsOk result };
+
+    /// A copy of the message of this number among those that were sent to a participant, counted from 1; None where
+    /// there is none.
+    fn sent(&mut self, alloc: Global, bic: Bic, number: u64) -> Result<Option<Sent>, Fault>
+        ensures value { IfRead (view self.old) (view self.new) (IfOk result (λ r. r ≡ sent_at (sent_to (view self.old).content bic) number)) }
+        ensures read { IsRead result (view self.old) (view self.new) };
+
+    /// A copy of the message that confirms the instruction of this number; None where none was sent.
+    fn confirmation(&mut self, alloc: Global, number: u64) -> Result<Option<Sent>, Fault>
+        ensures value { IfRead (view self.old) (view self.new) (IfOk result (λ r. r ≡ confirmation_in (view self.old).content number)) }
+        ensures read { IsRead result (view self.old) (view self.new) };
+
+    /// Adds an entry with its reply. A cancellation is noted where the instruction stands that it names.
     fn append(&mut self, alloc: Global, entry: Entry, reply: Reply) -> Result<(), Fault>
         requires stage { (view self.old).stage ≡ Stage.Begun }
         requires fits { IfTrusted (view self.old) (view self.old) (CanAppend entry (view self.old).content) }
@@ -202,10 +253,32 @@ pub trait Register {
         ensures change { IsChange result (view self.old) (view self.new) };
 
     /// Settles the matched pair of this number, which is due by a day, where it is covered, and moves its quantity from
-    /// the deliverer's account to the receiver's; else says what it lacks, and changes the reason alone.
+    /// the deliverer's account to the receiver's, and its cash from the receiver to the deliverer; else says what it
+    /// lacks, securities before money, and changes the reason alone.
     fn settle_pair(&mut self, alloc: Global, number: u64, day: Day) -> Result<Outcome, Fault>
         requires stage { (view self.old).stage ≡ Stage.Begun }
         requires fits { IfTrusted (view self.old) (view self.old) (CanSettle (view self.old).content number (number_of day)) }
         ensures settled { IfTrusted (view self.old) (view self.new) (IfOk result (λ outcome. TriesPair (view self.old).content number outcome (view self.new).content)) }
+        ensures change { IsChange result (view self.old) (view self.new) };
+
+    /// Lets an unmatched instruction, by its number, stand cancelled.
+    fn cancel(&mut self, alloc: Global, number: u64) -> Result<(), Fault>
+        requires stage { (view self.old).stage ≡ Stage.Begun }
+        requires fits { IfTrusted (view self.old) (view self.old) (CanCancel (view self.old).content number) }
+        ensures cancelled { IfTrusted (view self.old) (view self.new) (OnOk result ((view self.new).content ≡ cancelled number (view self.old).content)) }
+        ensures change { IsChange result (view self.old) (view self.new) };
+
+    /// Lets both instructions of a matched pair, by their numbers, stand cancelled. They keep their mates.
+    fn cancel_pair(&mut self, alloc: Global, earlier: u64, later: u64) -> Result<(), Fault>
+        requires stage { (view self.old).stage ≡ Stage.Begun }
+        requires fits { IfTrusted (view self.old) (view self.old) (CanCancelPair (view self.old).content earlier later) }
+        ensures cancelled { IfTrusted (view self.old) (view self.new) (OnOk result ((view self.new).content ≡ pair_cancelled earlier later (view self.old).content)) }
+        ensures change { IsChange result (view self.old) (view self.new) };
+
+    /// Adds a message to those that were sent.
+    fn send(&mut self, alloc: Global, message: Sent) -> Result<(), Fault>
+        requires stage { (view self.old).stage ≡ Stage.Begun }
+        requires fits { IfTrusted (view self.old) (view self.old) (CanSend (view self.old).content) }
+        ensures sent { IfTrusted (view self.old) (view self.new) (OnOk result ((view self.new).content ≡ with_sent message (view self.old).content)) }
         ensures change { IsChange result (view self.old) (view self.new) };
 }

@@ -1,3 +1,4 @@
 pub mod LedgerLemmas
 pub mod MessageLemmas
 mod PairingLemmas
+mod PayingLemmas

@@ -2,9 +2,12 @@
 //! of the desk stands on it.
 //!
 //! `entries` makes codes, entries and instructions from the texts that name them. `Ledger`, in `ledger`, is a register
-//! in plain lists that takes in what the desk accepts; `pairing` pairs two instructions of any register.
+//! in plain lists that takes in what the desk accepts; `pairing` pairs two instructions of any register, and `paying`
+//! pays cash in and out; `cancelling` cancels.
 #![tactic(auto)]
 
+pub mod cancelling;
 pub mod entries;
 pub mod ledger;
 pub mod pairing;
+pub mod paying;

@@ -23,23 +23,29 @@ pub fn add_instruction<R: Register>(
         ≡ appended (Entry.Instruct sender instruction) (untyped_reply 200 []) (R.view register.old).content)) }
     ensures change { IsChange result (R.view register.old) (R.view register.new) }
 {
-    let reply = Reply {
-        status: 200,
-        mt: None,
-        text: Text::new(Vec::new(alloc)),
-    };
     register.append(
         alloc,
         Entry::Instruct {
             sender,
             instruction,
         },
-        reply,
+        no_text(alloc),
     )
 }
 
+/// A reply of no text.
+pub fn no_text(alloc: Global) -> Reply
+    ensures { result ≡ untyped_reply 200 [] }
+{
+    Reply {
+        status: 200,
+        mt: None,
+        text: Text::new(Vec::new(alloc)),
+    }
+}
+
 /// The instruction of a number, where there is one that is unmatched.
-fn unmatched_at<R: Register>(
+pub fn unmatched_at<R: Register>(
     alloc: Global,
     register: &mut R,
     number: u64,

@@ -6,11 +6,11 @@ ghost use Rattle.desk_lists.specs.ListView.{view_of_lists};
 ghost use Rattle.desk_register.specs.declared.register.Stage.TheVariants.{Idle, Begun};
 ghost use Rattle.desk_register.specs.View.{fallen};
 
-use desk_codes::{AccountId, Bic, Day, Isin, Reference};
+use desk_codes::{AccountId, Bic, Ccy, Day, Isin, Reference};
 use desk_lists::ListRegister;
 use desk_msg::{Instruction, Kind};
-use desk_register::{Fault, Outcome, Register, Stage};
-use desk_rules::{Entry, MOST_ENTRIES, Place, Reply, Sender, Standing};
+use desk_register::{Fault, Holding, Outcome, Register, Stage};
+use desk_rules::{Entry, MOST_ENTRIES, Place, Reply, Sender, Sent, Standing};
 use std::alloc::Global;
 
 /// Which calls of a store fail.
@@ -218,6 +218,13 @@ impl Register for FailingRegister {
         self.inner.outstanding(alloc, isin)
     }
 
+    fn paid(&mut self, alloc: Global, ccy: Ccy) -> Result<Option<u64>, Fault> {
+        if self.calls.fails() {
+            return Err(self.fail());
+        }
+        self.inner.paid(alloc, ccy)
+    }
+
     fn last_run(&mut self, alloc: Global) -> Result<Option<Day>, Fault> {
         if self.calls.fails() {
             return Err(self.fail());
@@ -279,6 +286,13 @@ impl Register for FailingRegister {
         self.inner.position(alloc, account, isin)
     }
 
+    fn cash(&mut self, alloc: Global, bic: Bic, ccy: Ccy) -> Result<u64, Fault> {
+        if self.calls.fails() {
+            return Err(self.fail());
+        }
+        self.inner.cash(alloc, bic, ccy)
+    }
+
     fn due_pair_after(
         &mut self,
         alloc: Global,
@@ -298,11 +312,55 @@ impl Register for FailingRegister {
         self.inner.security_after(alloc, isin)
     }
 
+    fn holding_after(
+        &mut self,
+        alloc: Global,
+        account: AccountId,
+        isin: Option<Isin>,
+    ) -> Result<Option<Holding>, Fault> {
+        if self.calls.fails() {
+            return Err(self.fail());
+        }
+        self.inner.holding_after(alloc, account, isin)
+    }
+
     fn held(&mut self, alloc: Global, isin: Isin) -> Result<u64, Fault> {
         if self.calls.fails() {
             return Err(self.fail());
         }
         self.inner.held(alloc, isin)
+    }
+
+    fn held_cash(&mut self, alloc: Global, ccy: Ccy) -> Result<u64, Fault> {
+        if self.calls.fails() {
+            return Err(self.fail());
+        }
+        self.inner.held_cash(alloc, ccy)
+    }
+
+    fn sent_count(&mut self, alloc: Global, bic: Bic) -> Result<u64, Fault> {
+        if self.calls.fails() {
+            return Err(self.fail());
+        }
+        self.inner.sent_count(alloc, bic)
+    }
+
+    fn sent(&mut self, alloc: Global, bic: Bic, number: u64) -> Result<Option<Sent>, Fault> {
+        if self.calls.fails() {
+            return Err(self.fail());
+        }
+        let answer = self.inner.sent(alloc, bic, number);
+        self.stage = stage_after(self.stage, answer.is_ok());
+        answer
+    }
+
+    fn confirmation(&mut self, alloc: Global, number: u64) -> Result<Option<Sent>, Fault> {
+        if self.calls.fails() {
+            return Err(self.fail());
+        }
+        let answer = self.inner.confirmation(alloc, number);
+        self.stage = stage_after(self.stage, answer.is_ok());
+        answer
     }
 
     fn append(&mut self, alloc: Global, entry: Entry, reply: Reply) -> Result<(), Fault> {
@@ -337,6 +395,45 @@ impl Register for FailingRegister {
             return Err(self.fail());
         }
         let answer = self.inner.settle_pair(alloc, number, day);
+        self.stage = stage_after(self.stage, answer.is_ok());
+        if fails {
+            return Err(self.fail());
+        }
+        answer
+    }
+
+    fn cancel(&mut self, alloc: Global, number: u64) -> Result<(), Fault> {
+        let fails = self.calls.fails();
+        if fails && !self.calls.plan.is_late {
+            return Err(self.fail());
+        }
+        let answer = self.inner.cancel(alloc, number);
+        self.stage = stage_after(self.stage, answer.is_ok());
+        if fails {
+            return Err(self.fail());
+        }
+        answer
+    }
+
+    fn cancel_pair(&mut self, alloc: Global, earlier: u64, later: u64) -> Result<(), Fault> {
+        let fails = self.calls.fails();
+        if fails && !self.calls.plan.is_late {
+            return Err(self.fail());
+        }
+        let answer = self.inner.cancel_pair(alloc, earlier, later);
+        self.stage = stage_after(self.stage, answer.is_ok());
+        if fails {
+            return Err(self.fail());
+        }
+        answer
+    }
+
+    fn send(&mut self, alloc: Global, message: Sent) -> Result<(), Fault> {
+        let fails = self.calls.fails();
+        if fails && !self.calls.plan.is_late {
+            return Err(self.fail());
+        }
+        let answer = self.inner.send(alloc, message);
         self.stage = stage_after(self.stage, answer.is_ok());
         if fails {
             return Err(self.fail());

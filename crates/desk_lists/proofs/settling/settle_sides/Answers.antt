@@ -1,21 +1,72 @@
-use Rattle.std.proofs.Common.{◌<◌, ◌≤◌, subst, arith}
+use Rattle.std.proofs.Common.{◌<◌, ◌≤◌, refl, subst, sym, arith}
 use Rattle.desk_rules.specs.declared.entry.Instructed.{Instructed}
-use Rattle.desk_lists.specs.Lists.{listed, quantity_in}
-use Rattle.desk_lists.proofs.SettleLemmas.{stood_content, settled_content}
+use Rattle.desk_rules.specs.Content.{CashBalances}
+use Rattle.desk_register.specs.Changes.{FitsCash, HasCash, LacksCash}
+use Rattle.desk_lists.specs.declared.lists.BalanceKey.TheVariants.{Cash, Position}
+use Rattle.desk_lists.specs.Lists.{listed, balance_in}
+use Rattle.desk_lists.proofs.AppendLemmas.{stood_content}
+use Rattle.desk_lists.proofs.SettleLemmas.{same_cash, settled_content, settled_totals}
 use Rattle.desk_lists.proofs.settling.settle_sides.Goals as goal
 
-pub returns-then-quantity_of-quantity-clause-settled : goal.returns-then-quantity_of-quantity-clause-settled
-returns-then-quantity_of-quantity-clause-settled c =
+pub returns-then-balance_of-quantity-clause-settled : goal.returns-then-balance_of-quantity-clause-settled
+returns-then-balance_of-quantity-clause-settled c =
     let l = c.args.lists.now in
     let later = c.args.later.now.instruction in
-    let IsLess : Instructed → Type 0 = λ d. quantity_in (listed l) d.instruction.account later.isin < later.quantity in
-    (subst IsLess c.delivery.ensures (omega (arith, c.quantity_of.ensures)), stood_content (listed l) (listed c.stand_both.new.lists) _ c.in_ok-stand_both.ensures.rest c.in_ok-stand_both.ensures.stands)
+    let IsLess : Instructed → Type 0 = λ d. balance_in (listed l) (Position d.instruction.account later.isin) < later.quantity in
+    (subst IsLess c.delivery-from.ensures (omega (arith, c.balance_of.ensures)), stood_content (listed l) (listed c.stand_both.new.lists) _ c.in_ok-stand_both.ensures.rest c.in_ok-stand_both.ensures.stands)
+
+pub returns-then-lacks_cash-clause-settled : goal.returns-then-lacks_cash-clause-settled
+returns-then-lacks_cash-clause-settled c =
+    let l = c.args.lists.now in
+    let later = c.args.later.now.instruction in
+    let IsThere : Instructed → Type 0 = λ d. later.quantity ≤ balance_in (listed l) (Position d.instruction.account later.isin) in
+    let Lacks : Instructed → Type 0 = λ r. LacksCash (λ p y. balance_in (listed l) (Cash p y)) r.sender later.cash in
+    let stood = c.in_ok-stand_both-2.ensures in (
+      subst IsThere c.delivery-from.ensures (omega (arith, c.balance_of.ensures)),
+      subst Lacks c.receipt-to.ensures (c.if-lacks_cash.ensures.lacks refl),
+      stood_content (listed l) (listed c.stand_both-then-lacks_cash.new.lists) _ stood.rest stood.stands,
+    )
+
+pub pay-requires-clause-held : goal.pay-requires-clause-held
+pay-requires-clause-held c =
+    let later = c.args.later.now.instruction in
+    let same = same_cash (listed c.args.lists.now) (listed c.stand_both-2.new.lists) (listed c.move_between.new.lists) c.delivery-from.result.now.instruction.account c.receipt-to.result.now.instruction.account later.isin later.quantity
+    c.in_ok-stand_both-3.ensures.rest c.in_ok-move_between.ensures.moved in
+    let Has : CashBalances → Type 0 = λ z. HasCash z c.receipt-to.result.now.sender later.cash in
+    subst Has (sym same) (c.if-lacks_cash.ensures.has refl)
+
+pub pay-requires-clause-fits : goal.pay-requires-clause-fits
+pay-requires-clause-fits c =
+    let l = c.args.lists.now in
+    let later = c.args.later.now.instruction in
+    let same = same_cash (listed c.args.lists.now) (listed c.stand_both-2.new.lists) (listed c.move_between.new.lists) c.delivery-from.result.now.instruction.account c.receipt-to.result.now.instruction.account later.isin later.quantity
+    c.in_ok-stand_both-3.ensures.rest c.in_ok-move_between.ensures.moved in
+    let Has : Instructed → Type 0 = λ r. HasCash (λ p y. balance_in (listed l) (Cash p y)) r.sender later.cash in
+    let Fits : Instructed → Type 0 = λ d. FitsCash (λ p y. balance_in (listed l) (Cash p y)) d.sender later.cash in
+    let FitsThen : CashBalances → Type 0 = λ z. FitsCash z c.delivery-from.result.now.sender later.cash in
+    subst FitsThen (sym same) (subst Fits (sym c.delivery-from.ensures) (c.requires.fits.cash (subst Has c.receipt-to.ensures (c.if-lacks_cash.ensures.has refl))))
 
 pub returns-clause-settled : goal.returns-clause-settled
 returns-clause-settled c =
     let l = c.args.lists.now in
     let later = c.args.later.now.instruction in
-    let IsThere : Instructed → Type 0 = λ d. later.quantity ≤ quantity_in (listed l) d.instruction.account later.isin in
-    let stood = c.in_ok-stand_both-2.ensures in
-    let moved = c.in_ok-deliver.ensures in
-    (subst IsThere c.delivery.ensures (omega (arith, c.quantity_of.ensures)), settled_content (listed l) (listed c.stand_both-2.new.lists) (listed c.deliver.new.lists) _ c.delivery.result.now c.receipt.result.now _ _ later.isin later.quantity stood.rest stood.stands moved.rest c.delivery.ensures c.receipt.ensures moved.delivered)
+    let IsThere : Instructed → Type 0 = λ d. later.quantity ≤ balance_in (listed l) (Position d.instruction.account later.isin) in
+    let Has : Instructed → Type 0 = λ r. HasCash (λ p y. balance_in (listed l) (Cash p y)) r.sender later.cash in
+    let stood = c.in_ok-stand_both-3.ensures in
+    let moved = c.in_ok-move_between.ensures in
+    let paid = c.in_ok-pay.ensures in (
+      subst IsThere c.delivery-from.ensures (omega (arith, c.balance_of.ensures)),
+      subst Has c.receipt-to.ensures (c.if-lacks_cash.ensures.has refl),
+      settled_content (listed l) (listed c.stand_both-2.new.lists) (listed c.move_between.new.lists) (listed c.pay.new.lists) c.delivery-from.result.now c.receipt-to.result.now _ _ later.isin later.quantity later.cash
+          stood.rest moved.rest paid.rest c.delivery-from.ensures c.receipt-to.ensures moved.moved paid.moved _ stood.stands,
+    )
+
+pub returns-clause-rest : goal.returns-clause-rest
+returns-clause-rest c =
+    let l = c.args.lists.now in
+    let later = c.args.later.now.instruction in
+    let stood = c.in_ok-stand_both-3.ensures in
+    let moved = c.in_ok-move_between.ensures in
+    let paid = c.in_ok-pay.ensures in
+    settled_totals (listed l) (listed c.stand_both-2.new.lists) (listed c.move_between.new.lists) (listed c.pay.new.lists) c.delivery-from.result.now c.receipt-to.result.now _ _ later.isin later.quantity later.cash
+    stood.rest moved.rest paid.rest c.delivery-from.ensures c.receipt-to.ensures moved.moved paid.moved

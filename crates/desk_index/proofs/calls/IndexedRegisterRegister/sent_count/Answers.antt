@@ -1,0 +1,7 @@
+use Rattle.desk_index.proofs.IndexedLemmas.{read_keeps}
+use Rattle.desk_index.proofs.calls.IndexedRegisterRegister.sent_count.Goals as goal
+
+pub invariant_of-self : goal.invariant_of-self
+invariant_of-self c =
+    let r = c.args.self.now in
+    record { indexed = read_keeps c.sent_count.result r.keys r.unmatched r.matched r.noted.items r.held c.sent_count.new.self c.sent_count.ensures.read r.indexed }

@@ -1,0 +1,73 @@
+//! Cash of a register: what is paid in and out, what a participant has of it, and how `back` takes it back. The values
+//! are worked by hand.
+ghost use Rattle.std.specs.Prelude.{◌<◌, ◌≤◌};
+ghost use Rattle.desk_rules.specs.declared.limits.TheConstants.{MOST_PAID};
+
+use desk_codes::{Bic, Ccy};
+use desk_index::IndexedRegister;
+use desk_register::Register;
+use desk_rules::{MOST_PAID, Payment};
+use desk_samples::entries::{bic, reference};
+use desk_samples::paying::{pay_in, pay_out};
+use std::test::Fail;
+
+fn payment(key: &str, bic: Bic, ccy: Ccy, amount: u64) -> Result<Payment, Fail>
+    requires some { 0 < amount }
+    requires within { amount ≤ MOST_PAID }
+{
+    Ok(Payment {
+        reference: reference(key)?,
+        bic,
+        ccy,
+        amount,
+    })
+}
+
+#[test]
+fn pays_in_and_out(rt: HostRuntime) -> Result<(), Fail> {
+    let alloc = rt.alloc();
+    let alpha = bic("ALPHDEFF")?;
+    let beta = bic("BETADEFF")?;
+    let mut register = IndexedRegister::new(alloc, 10);
+    assert_eq!(rt; register.held_cash(alloc, Ccy::Eur)?, 0);
+    assert_eq!(rt; register.paid(alloc, Ccy::Eur)?, None);
+    register.begin(alloc)?;
+    assert!(rt; pay_in(alloc, &mut register, payment("C1", alpha, Ccy::Eur, 700)?)?);
+    assert!(rt; pay_in(alloc, &mut register, payment("C2", beta, Ccy::Eur, 50)?)?);
+    assert!(rt; pay_out(alloc, &mut register, payment("C3", alpha, Ccy::Eur, 300)?)?);
+    assert_eq!(rt; register.cash(alloc, alpha, Ccy::Eur)?, 400);
+    assert_eq!(rt; register.cash(alloc, beta, Ccy::Eur)?, 50);
+    assert_eq!(rt; register.paid(alloc, Ccy::Eur)?, Some(450));
+    // another currency
+    assert_eq!(rt; register.cash(alloc, alpha, Ccy::Usd)?, 0);
+    assert_eq!(rt; register.paid(alloc, Ccy::Usd)?, None);
+    Ok(())
+}
+
+#[test]
+fn goes_back(rt: HostRuntime) -> Result<(), Fail> {
+    let alloc = rt.alloc();
+    let alpha = bic("ALPHDEFF")?;
+    let mut register = IndexedRegister::new(alloc, 10);
+    register.begin(alloc)?;
+    assert!(rt; pay_in(alloc, &mut register, payment("C1", alpha, Ccy::Eur, 700)?)?);
+    register.commit(alloc)?;
+    register.begin(alloc)?;
+    // all of it, and no more
+    assert!(rt; !pay_out(alloc, &mut register, payment("C2", alpha, Ccy::Eur, 701)?)?);
+    assert!(rt; pay_out(alloc, &mut register, payment("C2", alpha, Ccy::Eur, 700)?)?);
+    assert_eq!(rt; register.paid(alloc, Ccy::Eur)?, Some(0));
+    // up to the most, and no more
+    assert!(rt;
+        pay_in(
+            alloc,
+            &mut register,
+            payment("C3", alpha, Ccy::Eur, MOST_PAID)?
+        )?
+    );
+    assert!(rt; !pay_in(alloc, &mut register, payment("C4", alpha, Ccy::Eur, 1)?)?);
+    register.back(alloc)?;
+    assert_eq!(rt; register.cash(alloc, alpha, Ccy::Eur)?, 700);
+    assert_eq!(rt; register.paid(alloc, Ccy::Eur)?, Some(700));
+    Ok(())
+}

@@ -1,0 +1,66 @@
+//! What a cancellation asks for, noted where the instruction stands that it names.
+ghost use Rattle.std.specs.Prelude.{◌≡◌, ◌==◌, ◌<◌, ◌≤◌, length, IfSome, OnOk};
+ghost use Rattle.desk_msg.specs.MessageType.{number_of_type};
+ghost use Rattle.desk_rules.specs.Content.{history_of};
+ghost use Rattle.desk_rules.specs.Verdict.{named_by};
+ghost use Rattle.desk_register.specs.Changes.{requested_by, requests_noted};
+ghost use Rattle.desk_lists.specs.Lists.{content_in, listed, standing_in, undone, SameBooks};
+
+use crate::by_number::{instruction, standing};
+use crate::history::number_of_key;
+use crate::lists::{Change, Lists};
+use crate::standings::stand_number;
+use desk_codes::Bic;
+use desk_msg::{CancelOrder, Mt};
+use desk_rules::{Entry, Sender, Standing};
+use std::alloc::AllocError;
+
+/// The number of the instruction that a cancellation names: the sender's, of that reference and type.
+fn named(lists: &Lists, sender: Bic, order: &CancelOrder) -> Option<u64>
+    ensures named { result ≡ named_by (history_of (content_in (listed lists.now))) sender order.now }
+    ensures known { IfSome result (λ k. (0 < k) × (k ≤ length lists.now.kept.items)) }
+{
+    let number = number_of_key(&lists.kept, &Sender::Participant(sender), &order.previous)?;
+    let named = instruction(lists, number)?;
+    if same_type(named.instruction.mt, order.mt) {
+        return Some(number);
+    }
+    None
+}
+
+fn same_type(a: Mt, b: Mt) -> bool
+    ensures { result ≡ (number_of_type a == number_of_type b) }
+{
+    a.number() == b.number()
+}
+
+/// The number of the instruction whose cancellation an entry requests.
+fn requested_by(lists: &Lists, entry: &Entry) -> Option<u64>
+    ensures requested { result ≡ requested_by (history_of (content_in (listed lists.now))) entry.now }
+    ensures known { IfSome result (λ k. (0 < k) × (k ≤ length lists.now.kept.items)) }
+{
+    match entry {
+        Entry::Cancel { sender, order } => named(lists, *sender, order),
+        _ => None,
+    }
+}
+
+/// Notes what an entry requests, if it is a cancellation that names an instruction.
+pub fn note_request(
+    lists: &mut Lists,
+    changes: &mut Vec<Change>,
+    entry: &Entry,
+) -> Result<(), AllocError>
+    ensures noted { OnOk result (standing_in (listed lists.new).standings ≡ requests_noted (history_of (content_in (listed lists.old))) entry.now (standing_in (listed lists.old).standings)) }
+    ensures rest { SameBooks (listed lists.old) (listed lists.new) }
+    ensures before { undone changes.new.items (listed lists.new) ≡ undone changes.old.items (listed lists.old) }
+{
+    let Some(number) = requested_by(lists, entry) else {
+        return Ok(());
+    };
+    let requested = Standing {
+        cancel_requested: true,
+        ..standing(lists, number)
+    };
+    stand_number(lists, changes, number, requested)
+}
