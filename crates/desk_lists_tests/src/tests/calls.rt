@@ -6,7 +6,7 @@ ghost use Rattle.desk_lists.specs.ListView.{view_of_lists};
 use desk_codes::{AccountId, Bic, Day, Isin, Reference};
 use desk_lists::ListRegister;
 use desk_msg::{Kind, Reason};
-use desk_register::{Fault, Outcome, Register, Stage};
+use desk_register::{Fault, Holding, Outcome, Register, Stage};
 use desk_rules::{Entry, Lack, Place, Reply, Sender, Standing, State, Text};
 use desk_samples::entries::{
     BOND, InstructionTexts, SHARE, UNKNOWN, account, bic, day, delivery, instruct, instruction,
@@ -197,6 +197,35 @@ fn counts_and_order(rt: HostRuntime) -> Result<(), Fail> {
     let mut ledger = filled(alloc)?;
     assert_eq!(rt; ledger.held(alloc, share)?, 1000);
     assert_eq!(rt; ledger.held(alloc, bond)?, 7);
+    Ok(())
+}
+
+#[test]
+fn holdings_in_order(rt: HostRuntime) -> Result<(), Fail> {
+    let alloc = rt.alloc();
+    let first = names_of("ALPHDEFF", "A-1", SHARE)?;
+    let second = names_of("BETADEFF", "B-1", BOND)?;
+    let share = Holding {
+        isin: first.isin,
+        quantity: 1000,
+    };
+    let bond = Holding {
+        isin: second.isin,
+        quantity: 7,
+    };
+    let mut register = filled(alloc)?.into_register();
+    assert_eq!(rt;
+        register.holding_after(alloc, first.account, None)?,
+        Some(share)
+    );
+    assert_eq!(rt;
+        register.holding_after(alloc, first.account, Some(first.isin))?,
+        None
+    );
+    assert_eq!(rt;
+        register.holding_after(alloc, second.account, Some(first.isin))?,
+        Some(bond)
+    );
     Ok(())
 }
 

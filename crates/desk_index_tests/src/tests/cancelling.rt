@@ -1,0 +1,86 @@
+//! Cancellations: an unmatched instruction, both of a pair, and the request that an entry notes.
+use desk_index::IndexedRegister;
+use desk_msg::CancelOrder;
+use desk_register::Register;
+use desk_rules::{Entry, State};
+use desk_samples::cancelling::{cancel_unmatched, pair_and_cancel};
+use desk_samples::entries::{bic, day, delivery, instruction, receipt, reference};
+use desk_samples::pairing::{add_instruction, no_text};
+use std::test::Fail;
+
+#[test]
+fn one_of_no_pair(rt: HostRuntime) -> Result<(), Fail> {
+    let alloc = rt.alloc();
+    let alpha = bic("ALPHDEFF")?;
+    let beta = bic("BETADEFF")?;
+    let wanted = instruction(alloc, receipt("B1"))?;
+    let mut register = IndexedRegister::new(alloc, 10);
+    register.begin(alloc)?;
+    add_instruction(
+        alloc,
+        &mut register,
+        alpha,
+        instruction(alloc, delivery("A1"))?,
+    )?;
+    register.commit(alloc)?;
+    register.begin(alloc)?;
+    assert!(rt; cancel_unmatched(alloc, &mut register, 1)?);
+    assert!(rt; !cancel_unmatched(alloc, &mut register, 1)?);
+    assert_eq!(rt; register.standing(alloc, 1)?.state, State::Cancelled);
+    assert_eq!(rt; register.first_opposite(alloc, beta, &wanted)?, None);
+    register.back(alloc)?;
+    assert_eq!(rt; register.standing(alloc, 1)?.state, State::Unmatched);
+    assert_eq!(rt; register.first_opposite(alloc, beta, &wanted)?, Some(1));
+    Ok(())
+}
+
+#[test]
+fn both_of_a_pair(rt: HostRuntime) -> Result<(), Fail> {
+    let alloc = rt.alloc();
+    let alpha = bic("ALPHDEFF")?;
+    let beta = bic("BETADEFF")?;
+    let end = day(b"20991231")?;
+    let mut register = IndexedRegister::new(alloc, 10);
+    register.begin(alloc)?;
+    add_instruction(
+        alloc,
+        &mut register,
+        alpha,
+        instruction(alloc, delivery("A1"))?,
+    )?;
+    add_instruction(
+        alloc,
+        &mut register,
+        beta,
+        instruction(alloc, receipt("B1"))?,
+    )?;
+    assert!(rt; pair_and_cancel(alloc, &mut register, 1, 2)?);
+    let first = register.standing(alloc, 1)?;
+    let second = register.standing(alloc, 2)?;
+    // both are cancelled, and keep their mates
+    assert_eq!(rt; (first.mate, first.state), (Some(2), State::Cancelled));
+    assert_eq!(rt; (second.mate, second.state), (Some(1), State::Cancelled));
+    assert_eq!(rt; register.due_pair_after(alloc, end, None)?, None);
+    Ok(())
+}
+
+#[test]
+fn a_request(rt: HostRuntime) -> Result<(), Fail> {
+    let alloc = rt.alloc();
+    let sender = bic("ALPHDEFF")?;
+    let given = instruction(alloc, delivery("A1"))?;
+    let order = CancelOrder {
+        mt: given.mt,
+        reference: reference("A9")?,
+        previous: given.reference,
+    };
+    let mut register = IndexedRegister::new(alloc, 10);
+    register.begin(alloc)?;
+    add_instruction(alloc, &mut register, sender, given)?;
+    assert!(rt; !register.standing(alloc, 1)?.cancel_requested);
+    register.append(alloc, Entry::Cancel { sender, order }, no_text(alloc))?;
+    assert!(rt; register.standing(alloc, 1)?.cancel_requested);
+    assert_eq!(rt; register.standing(alloc, 1)?.state, State::Unmatched);
+    assert!(rt; !register.standing(alloc, 2)?.cancel_requested);
+    Ok(())
+}

@@ -1,0 +1,34 @@
+//! A message that was sent: counted, found by its participant and number, and by what it confirms, and taken back.
+use desk_lists::ListRegister;
+use desk_register::Register;
+use desk_rules::{Sent, Text};
+use desk_samples::entries::bic;
+use std::test::Fail;
+
+#[test]
+fn one_message(rt: HostRuntime) -> Result<(), Fail> {
+    let alloc = rt.alloc();
+    let alpha = bic("ALPHDEFF")?;
+    let beta = bic("BETADEFF")?;
+    let message = Sent {
+        bic: alpha,
+        mt: 544,
+        about: 7,
+        text: Text::new(Vec::new(alloc)),
+    };
+    let mut register = ListRegister::new(alloc, 10);
+    register.begin(alloc)?;
+    register.send(alloc, message)?;
+    assert_eq!(rt; register.sent_count(alloc, alpha)?, 1);
+    assert_eq!(rt; register.sent_count(alloc, beta)?, 0);
+    let sent = register.sent(alloc, alpha, 1)?.ok_or("no message")?;
+    assert_eq!(rt; sent.mt, 544);
+    assert_eq!(rt; sent.about, 7);
+    assert!(rt; register.sent(alloc, alpha, 2)?.is_none());
+    assert!(rt; register.sent(alloc, beta, 1)?.is_none());
+    assert!(rt; register.confirmation(alloc, 7)?.is_some());
+    assert!(rt; register.confirmation(alloc, 8)?.is_none());
+    register.back(alloc)?;
+    assert_eq!(rt; register.sent_count(alloc, alpha)?, 0);
+    Ok(())
+}
