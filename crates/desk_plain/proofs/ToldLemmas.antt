@@ -48,12 +48,12 @@ sent_more history notices i n sent more message lt is before told next =
 -- All that books of a history tell can be told, and numbered.
 
 all_flat : {X Y : Type 0} (P : Y → Type 0) (f : X → List Y) (xs : List X) → ((x : X) → In xs x → All P (f x)) → All P (flat_map f xs)
-all_flat P f [] each = All-nil
-all_flat P f (x ∷ xs) each = subst (All P) (sym (flat_map-cons f x xs)) (All-append (f x) (flat_map f xs) (each x (inl refl)) (all_flat P f xs (λ y i. each y (inr i))))
+all_flat P f [] each = All-nil P
+all_flat P f (x ∷ xs) each = subst (All P) (sym (flat_map-cons f x xs)) (All-append P (f x) (flat_map f xs) (each x (inl refl)) (all_flat P f xs (λ y i. each y (inr i))))
 
 all_if : {X : Type 0} (P : X → Type 0) (test : Bool) (xs : List X) → (test ≡ true → All P xs) → All P (if test then xs else [])
 all_if P true xs all = all refl
-all_if P false xs all = All-nil
+all_if P false xs all = All-nil P
 
 some_by : (o : Option ℕ) (day : ℕ) → is_by o day ≡ true → is_some o ≡ true
 some_by None day e = absurd (cc)
@@ -63,14 +63,14 @@ can_tell_of : (history : List Entry) (about : ℕ) (run : Option ℕ) (i : Instr
 can_tell_of history about run i known dated = rw (known) dated
 
 module _ (books : Books) (are : AreBooks books) where
-  Told : Notice → Type 0
+  abbrev Told : Notice → Type 0
   Told notice = can_tell books.history notice ≡ true
 
   pair_told : (n : ℕ) (p : Pair) → In books.pairs p → All Told (told_of_pair n p)
   pair_told n p i =
       let mate = (are.pairing.exact p).0 (Contains-from_In books.pairs p i) in
       let opposite = mate.candidate.opposite in
-      all_if Told (p.later == n) _ (λ e. All-cons _ [] (can_tell_of books.history p.earlier None opposite.first opposite.is_first refl) All-nil)
+      all_if Told (p.later == n) _ (λ e. All-cons Told (record { about = p.earlier; run = None }) [] (can_tell_of books.history p.earlier None opposite.first opposite.is_first refl) (All-nil Told))
 
   settled_told : (n : ℕ) (s : Settled) → In books.settled s → All Told (told_of_settled books.history n s)
   settled_told n s i =
@@ -80,13 +80,15 @@ module _ (books : Books) (are : AreBooks books) where
       let legs = legs_of books.history s.pair mate.candidate.opposite in
       all_if Told (s.run == n) _ (λ e.
       let run : is_run books.history (Some n) ≡ true = subst (λ k. is_run books.history (Some k) ≡ true) (eqb-true s.run n e) (some_by _ _ due.by) in
-      All-cons _ _ (can_tell_of books.history (deliverer_of books.history s.pair) (Some n) legs.delivery legs.delivered run)
-      (All-cons _ [] (can_tell_of books.history (receiver_of books.history s.pair) (Some n) legs.receipt legs.received run) All-nil))
+      let gone : Notice = record { about = deliverer_of books.history s.pair; run = Some n } in
+      let come : Notice = record { about = receiver_of books.history s.pair; run = Some n } in
+      All-cons Told gone (come ∷ []) (can_tell_of books.history (deliverer_of books.history s.pair) (Some n) legs.delivery legs.delivered run)
+      (All-cons Told come [] (can_tell_of books.history (receiver_of books.history s.pair) (Some n) legs.receipt legs.received run) (All-nil Told)))
 
   pub all_told : length books.history ≤ MOST_ENTRIES → CanTell books
   all_told within = record {
     each = all_flat Told (told_by books) (range_with_len 1 (length books.history)) (λ n i.
-        All-append (flat_map (told_of_pair n) books.pairs) (flat_map (told_of_settled books.history n) books.settled) (all_flat Told (told_of_pair n) books.pairs (λ p j. pair_told n p j)) (all_flat Told (told_of_settled books.history n) books.settled (λ s j. settled_told n s j)));
+        All-append Told (flat_map (told_of_pair n) books.pairs) (flat_map (told_of_settled books.history n) books.settled) (all_flat Told (told_of_pair n) books.pairs (λ p j. pair_told n p j)) (all_flat Told (told_of_settled books.history n) books.settled (λ s j. settled_told n s j)));
     few =
         let sizes = sent_length books.history 1 (notices_of books) (all_known books are) in
         let most = sent_few books are within in
