@@ -1,6 +1,6 @@
 -- What an accepted entry leaves behind.
 use Rattle.std.proofs.Common.{◌≡◌, inl, inr, ℕ, zero, suc, ◌+◌, ◌<◌, ◌≤◌, ◌==◌, Bool, true, false, not, ◌&&◌, List, [], ◌∷◌, ◌++◌, length, take, Contains, Option, Some, None, refl, ap, sym, ◌∙◌, subst, arith, length-append}
-use Rattle.std.specs.Prelude.{nat_le, slice_get, count_by, option_and_then}
+use Rattle.std.specs.Prelude.{slice_get, count_by, option_and_then}
 use Rattle.std.proofs.lemmas.Bool.{cases_Bool, cases_lt, cases_eq, both_ways}
 use Rattle.std.proofs.lemmas.Bool.Decides.{nat_tests}
 use Rattle.std.proofs.lemmas.List.Sums.{length-filter}
@@ -18,14 +18,13 @@ use Rattle.desk_msg.specs.declared.instruction.Instruction.{Instruction}
 use Rattle.desk_rules.specs.declared.standing.Standing.{Standing}
 use Rattle.desk_engine.specs.declared.applied.Applied.{Applied}
 use Rattle.desk_register.specs.Looked.{kept_at}
-use Rattle.desk_rules.specs.declared.verdict.Verdict.TheVariants.{Accept, Refuse}
-use Rattle.desk_rules.specs.declared.verdict.Refusal.TheVariants.{Full}
-use Rattle.desk_rules.specs.History.{before, entry_at, instruction_at, instructed, run_day, sender_of, reference_of, number_of_key}
+use Rattle.desk_rules.specs.declared.verdict.Verdict.TheVariants.{Accept}
+use Rattle.desk_rules.specs.History.{before, entry_at, instruction_at, instructed, run_day}
 use Rattle.desk_rules.specs.Pairing.{IsPairing, IsFree}
 use Rattle.desk_rules.specs.Settlement.{is_due, settled_count}
 use Rattle.desk_rules.specs.Reply.{IsFirstReply, reply_to, waiting_count, is_settled_pair}
 use Rattle.desk_rules.specs.Books.{Books, AreBooks}
-use Rattle.desk_rules.specs.Verdict.{Check, WasAccepted, IsVerdict, IsVerdictAt, checks_of, first_failing, is_from_stranger}
+use Rattle.desk_rules.specs.Verdict.{WasAccepted, IsVerdict}
 use Rattle.desk_rules.proofs.Decided.{In, In-from_Contains, Contains-from_In, In-push_cases, filter-none}
 use Rattle.desk_rules.proofs.HistoryLemmas.{entry_at-front, entry_at-end, entry_at-some, length-before, slice_get-known, slice_get-front, slice_get-end}
 use Rattle.desk_rules.proofs.Existence.{books_exist}
@@ -47,37 +46,9 @@ use Rattle.desk_register.specs.declared.register.Stage.TheVariants.{Idle, Begun,
 use Rattle.desk_register.specs.View.{View, IsLater, IsRead, IsStep, Stays, fallen}
 use Rattle.desk_register.proofs.ViewLemmas.{later_then, stays_then}
 use Rattle.desk_engine.specs.Applied.{Keeps, IsMateOf, IsNamed, IsApplied, CanApply, HasApplied}
+use Rattle.desk_engine.proofs.AppendLemmas.{accepted_new}
 use Rattle.desk_engine.proofs.TablesLemmas.{one_books, length_is, pairs_known, accepted_in}
 use Rattle.desk_engine.proofs.FinishLemmas.{tables_after_run}
-
--- Whether there is room for what is accepted.
-
-has_room : (checks : List Check) (full : Bool) → Accept ≡ first_failing checks full → full ≡ false
-has_room [] full is = elim (cases_Bool full) [
-  | inr less ↦ less
-  | inl most ↦ let f : first_failing [] full ≡ Refuse Full = rw most refl in let g : Accept ≡ Refuse Full = is ∙ f in absurd (cc)
-]
-has_room (c ∷ checks) full is = elim (cases_Bool c.fails) [
-  | inl bad ↦ let f : first_failing (c ∷ checks) full ≡ Refuse c.refusal = rw bad refl in let g : Accept ≡ Refuse c.refusal = is ∙ f in absurd (cc)
-  | inr good ↦ let f : first_failing (c ∷ checks) full ≡ first_failing checks full = rw good refl in has_room checks full (is ∙ f)
-]
-
-room_at : (limit : ℕ) (books : Books) (e : Entry) (key : Option ℕ) → IsVerdictAt limit books e key Accept → length books.history < limit
-room_at limit books e None v =
-    let less = has_room (checks_of books e) (nat_le limit (length books.history)) v in
-    elim (cases_lt (length books.history) limit) [
-      | inl lt ↦ lt
-      | inr ge ↦ let test : nat_le limit (length books.history) ≡ true = grind (arith, nat_tests) in absurd (both_ways _ less test)
-    ]
-room_at limit books e (Some n) v = absurd v
-
-pub accepted_room : (limit : ℕ) (books : Books) (e : Entry) → IsVerdict limit books e Accept → length books.history < limit
-accepted_room limit books e v = elim (cases_Bool (is_from_stranger books.history (sender_of e))) [
-  | inl stranger ↦ let w : Accept ≡ Refuse _ = (rw stranger at v) in absurd (cc)
-  | inr known ↦
-      let w : IsVerdictAt limit books e (number_of_key books.history (sender_of e) (reference_of e)) Accept = (rw known at v) in
-      room_at limit books e (number_of_key books.history (sender_of e) (reference_of e)) w
-]
 
 -- What is no run settles nothing, and no pair is due in it.
 
@@ -341,7 +312,7 @@ can_run_of limit e content can = record { books = can.books; tables = tables_of 
 
 pub room_of : (limit : ℕ) (e : Entry) (content : Content) → CanApply limit e content → length content.register < limit
 room_of limit e content can =
-    let lt = accepted_room limit can.books e can.verdict in
+    let lt = (accepted_new limit can.books e can.verdict).has_room in
     let size = length_is content can.books.history can.keeps.tables.history in
     omega arith
 
@@ -453,7 +424,7 @@ entries_within limit h was = elim (cases_lt 0 (length h)) [
       let b = books_exist (before n h) in
       let books : Books = record { history = before n h; pairs = b.0; settled = b.1 } in
       let verdict = was.each n last.0 books last.1 refl (record { pairing = b.2.pairing; settlement = b.2.settlement }) in
-      let room = accepted_room limit books last.0 verdict in
+      let room = (accepted_new limit books last.0 verdict).has_room in
       let shorter : length (before n h) + 1 ≡ n = length-before h n some (omega arith) in
       omega arith
 ]

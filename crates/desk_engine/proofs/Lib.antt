@@ -2,6 +2,7 @@ pub mod AcceptingLemmas
 pub mod HeldLemmas
 pub mod KeptLemmas
 pub mod TablesLemmas
+mod AppendLemmas
 mod UnderwayLemmas
 mod DecisionLemmas
 mod FinishLemmas

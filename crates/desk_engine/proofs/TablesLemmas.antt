@@ -45,7 +45,7 @@ use Rattle.std.proofs.lemmas.Slice.Eq.{bytes_eq-Decides}
 use Rattle.std.proofs.lemmas.List.Sums.{sum_by-cons}
 use Rattle.desk_rules.specs.declared.reply.Kept.{Kept}
 use Rattle.desk_rules.specs.declared.reply.Reply.{Reply}
-use Rattle.desk_register.specs.Changes.{appended, cash_after, first_standing, positions_after, requests_noted, moved_to, CanAppend}
+use Rattle.desk_register.specs.Changes.{appended, cash_after, first_standing, positions_after, requests_noted, moved_to, BalancesAllow}
 use Rattle.desk_rules.specs.Facts.{owner_of, accounts_of}
 use Rattle.desk_rules.specs.declared.limits.TheConstants.{MOST_QUANTITY}
 use Rattle.desk_rules.specs.Balances.{cash_credits, cash_debits, issued_by, redeemed_by, movement_on, paid_in_by, paid_out_by, payment_of, quantity_if}
@@ -414,7 +414,7 @@ position_within limit books content account isin tables member =
     let here : content.position account isin + debits h ss account isin ≡ credits h ss account isin = tables.position account isin in
     omega arith
 
-issue_fits : (limit : ℕ) (books : Books) (content : Content) (movement : Movement) → Tables limit books content → IsVerdict limit books (Issue movement) Accept → CanAppend (Issue movement) content
+issue_fits : (limit : ℕ) (books : Books) (content : Content) (movement : Movement) → Tables limit books content → IsVerdict limit books (Issue movement) Accept → BalancesAllow (Issue movement) content
 issue_fits limit books content movement tables verdict =
     let h = books.history in
     let p = passes limit books (Issue movement) verdict in
@@ -429,17 +429,17 @@ issue_fits limit books content movement tables verdict =
     let counted : content.position movement.account movement.isin + movement.quantity < 2 ^ 63 = omega arith in
     (counted, rw tables.history within)
 
-pub can_register : (limit : ℕ) (content : Content) (e : Entry) → is_registration e ≡ true → IsAccepted limit e content → CanAppend e content
-can_register limit content (Participant reference bic) is accepted = tt
-can_register limit content (Account reference bic account) is accepted = tt
-can_register limit content (Security reference isin kind) is accepted = tt
-can_register limit content (Issue movement) is accepted = issue_fits limit accepted.books content movement accepted.tables accepted.verdict
-can_register limit content (Redeem movement) is accepted = absurd (cc)
-can_register limit content (PayIn payment) is accepted = absurd (cc)
-can_register limit content (PayOut payment) is accepted = absurd (cc)
-can_register limit content (Instruct sender instruction) is accepted = absurd (cc)
-can_register limit content (Cancel sender order) is accepted = absurd (cc)
-can_register limit content (Run reference day rule) is accepted = absurd (cc)
+pub registration_allowed : (limit : ℕ) (content : Content) (e : Entry) → is_registration e ≡ true → IsAccepted limit e content → BalancesAllow e content
+registration_allowed limit content (Participant reference bic) is accepted = tt
+registration_allowed limit content (Account reference bic account) is accepted = tt
+registration_allowed limit content (Security reference isin kind) is accepted = tt
+registration_allowed limit content (Issue movement) is accepted = issue_fits limit accepted.books content movement accepted.tables accepted.verdict
+registration_allowed limit content (Redeem movement) is accepted = absurd (cc)
+registration_allowed limit content (PayIn payment) is accepted = absurd (cc)
+registration_allowed limit content (PayOut payment) is accepted = absurd (cc)
+registration_allowed limit content (Instruct sender instruction) is accepted = absurd (cc)
+registration_allowed limit content (Cancel sender order) is accepted = absurd (cc)
+registration_allowed limit content (Run reference day rule) is accepted = absurd (cc)
 
 -- the verdict on the entry, in any books that the content is the tables of
 pub accepted_in : (limit : ℕ) (books : Books) (content : Content) (e : Entry) → Tables limit books content → IsAccepted limit e content → IsVerdict limit books e Accept

@@ -37,6 +37,7 @@ pub fn add_registration<R: Register>(
 ) -> Result<(), Fault>
     requires stage { (R.view register.old).stage ≡ Stage.Begun }
     requires kind { IsTrue (is_registration entry) }
+    requires status { reply.status ≡ 200 }
     requires accepted { IfTrusted (R.view register.old) (R.view register.old) (IsAccepted (R.view register.old).room entry (R.view register.old).content) }
     ensures added { IfTrusted (R.view register.old) (R.view register.new) (OnOk result ((R.view register.new).content ≡ appended entry reply (R.view register.old).content)) }
     ensures tables { (books : Books) → IfTrusted (R.view register.old) (R.view register.new) (Tables (R.view register.old).room books (R.view register.old).content
@@ -58,6 +59,7 @@ pub fn add_instruction<R: Register>(
 ) -> Result<(), Fault>
     requires stage { (R.view register.old).stage ≡ Stage.Begun }
     requires accepted { IfTrusted (R.view register.old) (R.view register.old) (IsAccepted (R.view register.old).room (Entry.Instruct sender instruction) (R.view register.old).content) }
+    requires status { reply.status ≡ 200 }
     requires number { IfTrusted (R.view register.old) (R.view register.old) (number ≡ length (R.view register.old).content.register + 1) }
     requires mate { IfTrusted (R.view register.old) (R.view register.old) (IsFirstOpposite (R.view register.old).content (record { sender = sender; instruction = instruction }) mate) }
     ensures added { IfTrusted (R.view register.old) (R.view register.new) (OnOk result ((R.view register.new).content ≡ mated number mate (appended (Entry.Instruct sender instruction) reply (R.view register.old).content))) }

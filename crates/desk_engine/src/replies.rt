@@ -23,7 +23,8 @@ fn first_case(mate: Option<u64>) -> Case
 
 /// The reply to an accepted entry that fared so. The only fault is want of memory.
 fn reply_of(alloc: Global, entry: &Entry, applied: &Applied) -> Result<Reply, AllocError>
-    ensures { (books : Books) → IsApplied books entry.now applied.now → IfOk result (λ reply. reply ≡ reply_to books entry.now) }
+    ensures reply { (books : Books) → IsApplied books entry.now applied.now → IfOk result (λ reply. reply ≡ reply_to books entry.now) }
+    ensures status { IfOk result (λ reply. reply.status ≡ 200) }
 {
     let number = applied.number;
     match entry {
@@ -49,6 +50,7 @@ fn reply_of(alloc: Global, entry: &Entry, applied: &Applied) -> Result<Reply, Al
 /// The reply to an accepted entry that fared so. The only fault is want of memory.
 pub fn accepted_reply(alloc: Global, entry: &Entry, applied: &Applied) -> Result<Reply, Fault>
     ensures reply { (books : Books) → IsApplied books entry.now applied.now → IfOk result (λ reply. reply ≡ reply_to books entry.now) }
+    ensures status { IfOk result (λ reply. reply.status ≡ 200) }
     ensures memory { IfErr result (λ fault. fault ≡ Fault.Memory) }
 {
     match reply_of(alloc, entry, applied) {

@@ -165,6 +165,7 @@ pub fn add_run<R: Register>(
     reply: Reply,
 ) -> Result<(), Fault>
     requires stage { (R.view register.old).stage ≡ Stage.Begun }
+    requires status { reply.status ≡ 200 }
     requires passed { IfTrusted (R.view register.old) (R.view register.old) (IsPassed (R.view register.old).room (Entry.Run reference day rule) (R.view register.old).content) }
     ensures added { IfTrusted (R.view register.old) (R.view register.new) (OnOk result ((R.view register.new).content ≡ appended (Entry.Run reference day rule) reply (R.view register.old).content)) }
     ensures tables { IfTrusted (R.view register.old) (R.view register.new)

@@ -17,7 +17,7 @@ use Rattle.desk_rules.proofs.Deciding.{same_ccy-true}
 use Rattle.desk_lists.specs.declared.lists.BalanceKey.{BalanceKey}
 use Rattle.desk_lists.specs.declared.lists.BalanceKey.TheVariants.{Cash, Outstanding, Paid, Position}
 use Rattle.desk_rules.specs.Content.{Content, history_of}
-use Rattle.desk_register.specs.Changes.{CanAppend, appended, cash_after, positions_after, requests_noted, standing_at, standing_both, first_standing}
+use Rattle.desk_register.specs.Changes.{BalancesAllow, appended, cash_after, positions_after, requests_noted, standing_at, standing_both, first_standing}
 use Rattle.desk_rules.specs.Standing.{no_standing}
 use Rattle.desk_lists.specs.Lists.{TotalsAreKept, Listed, SameBooks, amount_at, balance_in, balances_after, content_in, standing_in}
 use Rattle.desk_register.proofs.CaseLemmas.{by_bool, same_bytes}
@@ -92,7 +92,7 @@ module _ {K : Type 0} (total : K → ℕ) (same : K → K → Bool) (decides : (
       (λ f. rw f (omega arith))
 
 module _ (content : Content) (balance : BalanceKey → ℕ) where
-  outstanding_more : (entry : Entry) → CanAppend entry content → ((i : List ℕ) → redeemed (history_of content) i + balance (Outstanding i) ≡ issued (history_of content) i)
+  outstanding_more : (entry : Entry) → BalancesAllow entry content → ((i : List ℕ) → redeemed (history_of content) i + balance (Outstanding i) ≡ issued (history_of content) i)
       → (i : List ℕ) → (redeemed (history_of content) i + redeemed_by (movement_of i) entry) + balances_after entry balance (Outstanding i) ≡ issued (history_of content) i + issued_by (movement_of i) entry
   outstanding_more (Participant reference bic) fits each i = omega (arith, each i)
   outstanding_more (Account reference bic account) fits each i = omega (arith, each i)
@@ -108,7 +108,7 @@ module _ (content : Content) (balance : BalanceKey → ℕ) where
   outstanding_more (Cancel sender order) fits each i = omega (arith, each i)
   outstanding_more (Run reference day rule) fits each i = omega (arith, each i)
 
-  paid_more : (entry : Entry) → CanAppend entry content → ((c : Ccy) → paid_out (history_of content) c + balance (Paid c) ≡ paid_in (history_of content) c)
+  paid_more : (entry : Entry) → BalancesAllow entry content → ((c : Ccy) → paid_out (history_of content) c + balance (Paid c) ≡ paid_in (history_of content) c)
       → (c : Ccy) → (paid_out (history_of content) c + paid_out_by (payment_in c) entry) + balances_after entry balance (Paid c) ≡ paid_in (history_of content) c + paid_in_by (payment_in c) entry
   paid_more (Participant reference bic) fits each c = omega (arith, each c)
   paid_more (Account reference bic account) fits each c = omega (arith, each c)
@@ -127,7 +127,7 @@ module _ (content : Content) (balance : BalanceKey → ℕ) where
 sum_push : (f : Entry → ℕ) (kept : List Kept) (k : Kept) → sum_by f (map (λ k. k.entry) (kept ++ k ∷ [])) ≡ sum_by f (map (λ k. k.entry) kept) + f k.entry
 sum_push f kept k = ap (sum_by f) (map-append (λ k. k.entry) kept (k ∷ [])) ∙ sum_by-append f (map (λ k. k.entry) kept) (k.entry ∷ []) ∙ omega arith
 
-pub totals_well : {T E : Type 0} (r : Result T E) (old noted new : Listed) (entry : Entry) (reply : Reply) → TotalsAreKept old → CanAppend entry (content_in old)
+pub totals_well : {T E : Type 0} (r : Result T E) (old noted new : Listed) (entry : Entry) (reply : Reply) → TotalsAreKept old → BalancesAllow entry (content_in old)
     → noted.kept ≡ old.kept → balance_in noted ≡ balances_after entry (balance_in old)
     → OnOk r (new ≡ record noted { kept = noted.kept ++ record { entry = entry; reply = reply } ∷ []; standings = noted.standings ++ first_standing entry ∷ [] })
     → OnOk r (TotalsAreKept new)

@@ -1,6 +1,6 @@
 //! An entry, added to the lists.
 ghost use Rattle.std.specs.Prelude.{◌≡◌, ◌+◌, ◌<◌, ◌≤◌, ◌^◌, false, OnOk};
-ghost use Rattle.desk_register.specs.Changes.{CanAppend, appended};
+ghost use Rattle.desk_register.specs.Changes.{BalancesAllow, appended};
 ghost use Rattle.desk_lists.specs.Lists.{TotalsAreKept, balance_in, balances_after, content_in, is_key, listed, undone, with_less, with_more, SameEntries};
 
 use crate::balances::{add_to, take_from};
@@ -76,7 +76,7 @@ fn move_balances(
     changes: &mut Vec<Change>,
     entry: &Entry,
 ) -> Result<(), AllocError>
-    requires fits { CanAppend entry.now (content_in (listed lists.old)) }
+    requires fits { BalancesAllow entry.now (content_in (listed lists.old)) }
     requires totals { TotalsAreKept (listed lists.old) }
     ensures moved { OnOk result (balance_in (listed lists.new) ≡ balances_after entry.now (balance_in (listed lists.old))) }
     ensures rest { OnOk result (SameEntries (listed lists.old) (listed lists.new)) }
@@ -111,7 +111,7 @@ pub fn append_entry(
     entry: Entry,
     reply: Reply,
 ) -> Result<(), AllocError>
-    requires fits { CanAppend entry (content_in (listed lists.old)) }
+    requires fits { BalancesAllow entry (content_in (listed lists.old)) }
     requires totals { TotalsAreKept (listed lists.old) }
     ensures added { OnOk result (content_in (listed lists.new) ≡ appended entry reply (content_in (listed lists.old))) }
     ensures totals { OnOk result (TotalsAreKept (listed lists.new)) }

@@ -16,7 +16,7 @@ use Rattle.desk_rules.specs.declared.reply.Sent.{Sent}
 use Rattle.desk_rules.specs.declared.standing.State.{State}
 use Rattle.desk_rules.specs.declared.standing.State.TheVariants.{Cancelled, Matched, Settled, Unmatched}
 use Rattle.desk_rules.specs.declared.standing.Standing.{Standing}
-use Rattle.desk_rules.specs.History.{instruction_at}
+use Rattle.desk_rules.specs.History.{instruction_at, number_of_key, reference_of, sender_of}
 use Rattle.desk_rules.specs.Opposite.{AreOpposite}
 use Rattle.desk_rules.specs.Balances.{delivering, issued, paid_in, paid_out, receiving, redeemed, same_ccy}
 use Rattle.desk_rules.specs.Content.{CashBalances, Content, Positions, history_of}
@@ -59,19 +59,27 @@ cash_after (PayIn payment) cash = cash_at cash payment.bic payment.ccy (cash pay
 cash_after (PayOut payment) cash = cash_at cash payment.bic payment.ccy (cash payment.bic payment.ccy - payment.amount)
 cash_after entry cash = cash
 
--- what the content must allow: what is issued or paid in can be counted, and what is redeemed or paid out is there
-abbrev pub CanAppend : Entry → Content → Type 0
-CanAppend (Issue movement) content =
+-- what the balances must allow: what is issued or paid in can be counted, and what is redeemed or paid out is there
+abbrev pub BalancesAllow : Entry → Content → Type 0
+BalancesAllow (Issue movement) content =
     (content.position movement.account movement.isin + movement.quantity < 2 ^ 63)
     × (issued (history_of content) movement.isin + movement.quantity ≤ redeemed (history_of content) movement.isin + MOST_QUANTITY)
-CanAppend (Redeem movement) content =
+BalancesAllow (Redeem movement) content =
     (movement.quantity ≤ content.position movement.account movement.isin) × (redeemed (history_of content) movement.isin + movement.quantity ≤ issued (history_of content) movement.isin)
-CanAppend (PayIn payment) content =
+BalancesAllow (PayIn payment) content =
     (content.cash payment.bic payment.ccy + payment.amount < 2 ^ 63)
     × (paid_in (history_of content) payment.ccy + payment.amount ≤ paid_out (history_of content) payment.ccy + MOST_PAID)
-CanAppend (PayOut payment) content =
+BalancesAllow (PayOut payment) content =
     (payment.amount ≤ content.cash payment.bic payment.ccy) × (paid_out (history_of content) payment.ccy + payment.amount ≤ paid_in (history_of content) payment.ccy)
-CanAppend entry content = Unit {0}
+BalancesAllow entry content = Unit {0}
+
+-- An entry can be added with its reply, where at most `room` entries fit: its sender has used its reference for none
+-- before, there is room for it, the reply tells that it was accepted, and the balances allow it.
+pub record CanAppend (room : ℕ) (entry : Entry) (reply : Reply) (content : Content) : Type 0 where
+  pub new_key : number_of_key (history_of content) (sender_of entry) (reference_of entry) ≡ None
+  pub has_room : length content.register < room
+  pub accepted : reply.status ≡ 200
+  pub balances : BalancesAllow entry content
 
 -- the cancellation of an instruction, if one is named, is requested
 abbrev pub with_request : Option ℕ → (ℕ → Standing) → ℕ → Standing

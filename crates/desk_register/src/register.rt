@@ -241,7 +241,7 @@ pub trait Register {
     /// Adds an entry with its reply. A cancellation is noted where the instruction stands that it names.
     fn append(&mut self, alloc: Global, entry: Entry, reply: Reply) -> Result<(), Fault>
         requires stage { (view self.old).stage ≡ Stage.Begun }
-        requires fits { IfTrusted (view self.old) (view self.old) (CanAppend entry (view self.old).content) }
+        requires fits { IfTrusted (view self.old) (view self.old) (CanAppend (view self.old).room entry reply (view self.old).content) }
         ensures added { IfTrusted (view self.old) (view self.new) (OnOk result ((view self.new).content ≡ appended entry reply (view self.old).content)) }
         ensures change { IsChange result (view self.old) (view self.new) };
 

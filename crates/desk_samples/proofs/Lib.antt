@@ -1,4 +1,4 @@
 pub mod LedgerLemmas
 pub mod MessageLemmas
+mod AddingLemmas
 mod PairingLemmas
-mod PayingLemmas

@@ -2,12 +2,12 @@
 //! of the desk stands on it.
 //!
 //! `entries` makes codes, entries and instructions from the texts that name them. `Ledger`, in `ledger`, is a register
-//! in plain lists that takes in what the desk accepts; `pairing` pairs two instructions of any register, and `paying`
-//! pays cash in and out; `cancelling` cancels.
+//! in plain lists that takes in what the desk accepts. Of any register `adding` adds entries, `pairing` pairs two
+//! instructions, and `cancelling` cancels.
 #![tactic(auto)]
 
+pub mod adding;
 pub mod cancelling;
 pub mod entries;
 pub mod ledger;
 pub mod pairing;
-pub mod paying;

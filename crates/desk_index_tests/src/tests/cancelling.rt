@@ -3,25 +3,19 @@ use desk_index::IndexedRegister;
 use desk_msg::CancelOrder;
 use desk_register::Register;
 use desk_rules::{Entry, State};
+use desk_samples::adding::add;
 use desk_samples::cancelling::{cancel_unmatched, pair_and_cancel};
-use desk_samples::entries::{bic, day, delivery, instruction, receipt, reference};
-use desk_samples::pairing::{add_instruction, no_text};
+use desk_samples::entries::{bic, day, delivery, instruct, instruction, receipt, reference};
 use std::test::Fail;
 
 #[test]
 fn one_of_no_pair(rt: HostRuntime) -> Result<(), Fail> {
     let alloc = rt.alloc();
-    let alpha = bic("ALPHDEFF")?;
     let beta = bic("BETADEFF")?;
     let wanted = instruction(alloc, receipt("B1"))?;
     let mut register = IndexedRegister::new(alloc, 10);
     register.begin(alloc)?;
-    add_instruction(
-        alloc,
-        &mut register,
-        alpha,
-        instruction(alloc, delivery("A1"))?,
-    )?;
+    assert!(rt; add(alloc, &mut register, instruct(alloc, delivery("A1"))?)?);
     register.commit(alloc)?;
     register.begin(alloc)?;
     assert!(rt; cancel_unmatched(alloc, &mut register, 1)?);
@@ -37,23 +31,11 @@ fn one_of_no_pair(rt: HostRuntime) -> Result<(), Fail> {
 #[test]
 fn both_of_a_pair(rt: HostRuntime) -> Result<(), Fail> {
     let alloc = rt.alloc();
-    let alpha = bic("ALPHDEFF")?;
-    let beta = bic("BETADEFF")?;
     let end = day(b"20991231")?;
     let mut register = IndexedRegister::new(alloc, 10);
     register.begin(alloc)?;
-    add_instruction(
-        alloc,
-        &mut register,
-        alpha,
-        instruction(alloc, delivery("A1"))?,
-    )?;
-    add_instruction(
-        alloc,
-        &mut register,
-        beta,
-        instruction(alloc, receipt("B1"))?,
-    )?;
+    assert!(rt; add(alloc, &mut register, instruct(alloc, delivery("A1"))?)?);
+    assert!(rt; add(alloc, &mut register, instruct(alloc, receipt("B1"))?)?);
     assert!(rt; pair_and_cancel(alloc, &mut register, 1, 2)?);
     let first = register.standing(alloc, 1)?;
     let second = register.standing(alloc, 2)?;
@@ -76,9 +58,9 @@ fn a_request(rt: HostRuntime) -> Result<(), Fail> {
     };
     let mut register = IndexedRegister::new(alloc, 10);
     register.begin(alloc)?;
-    add_instruction(alloc, &mut register, sender, given)?;
+    assert!(rt; add(alloc, &mut register, instruct(alloc, delivery("A1"))?)?);
     assert!(rt; !register.standing(alloc, 1)?.cancel_requested);
-    register.append(alloc, Entry::Cancel { sender, order }, no_text(alloc))?;
+    assert!(rt; add(alloc, &mut register, Entry::Cancel { sender, order })?);
     assert!(rt; register.standing(alloc, 1)?.cancel_requested);
     assert_eq!(rt; register.standing(alloc, 1)?.state, State::Unmatched);
     assert!(rt; !register.standing(alloc, 2)?.cancel_requested);

@@ -6,9 +6,9 @@ ghost use Rattle.desk_rules.specs.declared.limits.TheConstants.{MOST_PAID};
 use desk_codes::{Bic, Ccy};
 use desk_index::IndexedRegister;
 use desk_register::Register;
-use desk_rules::{MOST_PAID, Payment};
+use desk_rules::{Entry, MOST_PAID, Payment};
+use desk_samples::adding::add;
 use desk_samples::entries::{bic, reference};
-use desk_samples::paying::{pay_in, pay_out};
 use std::test::Fail;
 
 fn payment(key: &str, bic: Bic, ccy: Ccy, amount: u64) -> Result<Payment, Fail>
@@ -23,6 +23,20 @@ fn payment(key: &str, bic: Bic, ccy: Ccy, amount: u64) -> Result<Payment, Fail>
     })
 }
 
+fn pay_in(key: &str, bic: Bic, ccy: Ccy, amount: u64) -> Result<Entry, Fail>
+    requires some { 0 < amount }
+    requires within { amount ≤ MOST_PAID }
+{
+    Ok(Entry::PayIn(payment(key, bic, ccy, amount)?))
+}
+
+fn pay_out(key: &str, bic: Bic, ccy: Ccy, amount: u64) -> Result<Entry, Fail>
+    requires some { 0 < amount }
+    requires within { amount ≤ MOST_PAID }
+{
+    Ok(Entry::PayOut(payment(key, bic, ccy, amount)?))
+}
+
 #[test]
 fn pays_in_and_out(rt: HostRuntime) -> Result<(), Fail> {
     let alloc = rt.alloc();
@@ -32,9 +46,9 @@ fn pays_in_and_out(rt: HostRuntime) -> Result<(), Fail> {
     assert_eq!(rt; register.held_cash(alloc, Ccy::Eur)?, 0);
     assert_eq!(rt; register.paid(alloc, Ccy::Eur)?, None);
     register.begin(alloc)?;
-    assert!(rt; pay_in(alloc, &mut register, payment("C1", alpha, Ccy::Eur, 700)?)?);
-    assert!(rt; pay_in(alloc, &mut register, payment("C2", beta, Ccy::Eur, 50)?)?);
-    assert!(rt; pay_out(alloc, &mut register, payment("C3", alpha, Ccy::Eur, 300)?)?);
+    assert!(rt; add(alloc, &mut register, pay_in("C1", alpha, Ccy::Eur, 700)?)?);
+    assert!(rt; add(alloc, &mut register, pay_in("C2", beta, Ccy::Eur, 50)?)?);
+    assert!(rt; add(alloc, &mut register, pay_out("C3", alpha, Ccy::Eur, 300)?)?);
     assert_eq!(rt; register.cash(alloc, alpha, Ccy::Eur)?, 400);
     assert_eq!(rt; register.cash(alloc, beta, Ccy::Eur)?, 50);
     assert_eq!(rt; register.paid(alloc, Ccy::Eur)?, Some(450));
@@ -50,22 +64,22 @@ fn goes_back(rt: HostRuntime) -> Result<(), Fail> {
     let alpha = bic("ALPHDEFF")?;
     let mut register = IndexedRegister::new(alloc, 10);
     register.begin(alloc)?;
-    assert!(rt; pay_in(alloc, &mut register, payment("C1", alpha, Ccy::Eur, 700)?)?);
+    assert!(rt; add(alloc, &mut register, pay_in("C1", alpha, Ccy::Eur, 700)?)?);
     register.commit(alloc)?;
     register.begin(alloc)?;
     // all of it, and no more
-    assert!(rt; !pay_out(alloc, &mut register, payment("C2", alpha, Ccy::Eur, 701)?)?);
-    assert!(rt; pay_out(alloc, &mut register, payment("C2", alpha, Ccy::Eur, 700)?)?);
+    assert!(rt; !add(alloc, &mut register, pay_out("C2", alpha, Ccy::Eur, 701)?)?);
+    assert!(rt; add(alloc, &mut register, pay_out("C2", alpha, Ccy::Eur, 700)?)?);
     assert_eq!(rt; register.paid(alloc, Ccy::Eur)?, Some(0));
     // up to the most, and no more
     assert!(rt;
-        pay_in(
+        add(
             alloc,
             &mut register,
-            payment("C3", alpha, Ccy::Eur, MOST_PAID)?
+            pay_in("C3", alpha, Ccy::Eur, MOST_PAID)?
         )?
     );
-    assert!(rt; !pay_in(alloc, &mut register, payment("C4", alpha, Ccy::Eur, 1)?)?);
+    assert!(rt; !add(alloc, &mut register, pay_in("C4", alpha, Ccy::Eur, 1)?)?);
     register.back(alloc)?;
     assert_eq!(rt; register.cash(alloc, alpha, Ccy::Eur)?, 700);
     assert_eq!(rt; register.paid(alloc, Ccy::Eur)?, Some(700));

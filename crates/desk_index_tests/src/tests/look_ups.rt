@@ -4,8 +4,9 @@ use desk_codes::{Bic, Day, Reference};
 use desk_index::IndexedRegister;
 use desk_msg::{Instruction, Message, Mt, read_instruction_text};
 use desk_register::{Register, Stage};
-use desk_rules::{Place, Sender};
-use desk_samples::pairing::{add_instruction, pair_opposites};
+use desk_rules::{Entry, Place, Sender};
+use desk_samples::adding::add;
+use desk_samples::pairing::pair_opposites;
 use std::alloc::Global;
 use std::test::Fail;
 
@@ -28,6 +29,13 @@ fn instruction(alloc: Global, mt: Mt, text: &str) -> Result<Instruction, Fail> {
     }
 }
 
+fn instructed(sender: Bic, instruction: Instruction) -> Entry {
+    Entry::Instruct {
+        sender,
+        instruction,
+    }
+}
+
 fn reference(text: &str) -> Result<Reference, Fail> {
     Ok(Reference::read(text.as_bytes()).ok_or("no reference")?)
 }
@@ -47,11 +55,10 @@ fn keys(rt: HostRuntime) -> Result<(), Fail> {
     let sender = Sender::Participant(alpha);
     assert_eq!(rt; register.number_of(alloc, sender, a_1)?, None);
     register.begin(alloc)?;
-    add_instruction(alloc, &mut register, alpha, delivery)?;
+    assert!(rt; add(alloc, &mut register, instructed(alpha, delivery))?);
     assert_eq!(rt; register.number_of(alloc, sender, a_1)?, Some(1));
-    // the first of the key, and no other sender's
-    add_instruction(alloc, &mut register, alpha, delivery)?;
-    assert_eq!(rt; register.number_of(alloc, sender, a_1)?, Some(1));
+    // a key serves once, and is no other sender's
+    assert!(rt; !add(alloc, &mut register, instructed(alpha, delivery))?);
     assert_eq!(rt; register.number_of(alloc, beta, a_1)?, None);
     assert_eq!(rt; register.number_of(alloc, Sender::Operator, a_1)?, None);
     register.back(alloc)?;
@@ -69,10 +76,10 @@ fn opposites(rt: HostRuntime) -> Result<(), Fail> {
     let receipt = instruction(alloc, Mt::Mt540, RECEIPT)?;
     let mut register = IndexedRegister::new(alloc, 10);
     register.begin(alloc)?;
-    add_instruction(alloc, &mut register, alpha, delivery)?;
+    assert!(rt; add(alloc, &mut register, instructed(alpha, delivery))?);
     assert_eq!(rt; register.first_opposite(alloc, beta, &receipt)?, Some(1));
     assert_eq!(rt; register.first_opposite(alloc, alpha, &delivery)?, None);
-    add_instruction(alloc, &mut register, beta, receipt)?;
+    assert!(rt; add(alloc, &mut register, instructed(beta, receipt))?);
     assert_eq!(rt; register.first_opposite(alloc, alpha, &delivery)?, Some(2));
     register.commit(alloc)?;
     register.begin(alloc)?;
@@ -99,8 +106,8 @@ fn due_pairs(rt: HostRuntime) -> Result<(), Fail> {
     let receipt = instruction(alloc, Mt::Mt540, RECEIPT)?;
     let mut register = IndexedRegister::new(alloc, 10);
     register.begin(alloc)?;
-    add_instruction(alloc, &mut register, alpha, delivery)?;
-    add_instruction(alloc, &mut register, beta, receipt)?;
+    assert!(rt; add(alloc, &mut register, instructed(alpha, delivery))?);
+    assert!(rt; add(alloc, &mut register, instructed(beta, receipt))?);
     assert_eq!(rt; register.due_pair_after(alloc, leap, None)?, None);
     assert!(rt; pair_opposites(alloc, &mut register, 1, 2)?);
     assert_eq!(rt; register.due_pair_after(alloc, eve, None)?, None);

@@ -3,17 +3,18 @@
 ghost use Rattle.std.specs.Prelude.{◌≡◌, ◌≤◌, IfOk, OnOk};
 ghost use Rattle.desk_lists.specs.ListView.{view_of_lists};
 
-use desk_codes::{AccountId, Bic, Day, Isin, Reference};
+use desk_codes::{AccountId, Bic, Day, Isin};
 use desk_lists::ListRegister;
 use desk_msg::{Kind, Reason};
 use desk_register::{Fault, Holding, Outcome, Register, Stage};
-use desk_rules::{Entry, Lack, Place, Reply, Sender, Standing, State, Text};
+use desk_rules::{Lack, Place, Sender, Standing, State};
+use desk_samples::adding::add;
 use desk_samples::entries::{
     BOND, InstructionTexts, SHARE, UNKNOWN, account, bic, day, delivery, instruct, instruction,
     isin, issue, new_account, participant, receipt, reference, run, security,
 };
 use desk_samples::ledger::Ledger;
-use desk_samples::pairing::{add_instruction, pair_opposites};
+use desk_samples::pairing::pair_opposites;
 use std::alloc::Global;
 use std::process::Abort;
 use std::test::Fail;
@@ -315,24 +316,6 @@ fn due_pairs(rt: HostRuntime) -> Result<(), Fail> {
     Ok(())
 }
 
-/// Adds a participant with a reply of no text.
-fn add(
-    alloc: Global,
-    register: &mut ListRegister,
-    reference: Reference,
-    bic: Bic,
-) -> Result<(), Fault>
-    requires stage { (view_of_lists register.old).stage ≡ Stage.Begun }
-    ensures stage { OnOk result ((view_of_lists register.new).stage ≡ Stage.Begun) }
-{
-    let reply = Reply {
-        status: 200,
-        mt: None,
-        text: Text::new(Vec::new(alloc)),
-    };
-    register.append(alloc, Entry::Participant { reference, bic }, reply)
-}
-
 /// What is kept stays: the next `back` goes no further than its own `begin`.
 #[test]
 fn commits(rt: HostRuntime) -> Result<(), Fail> {
@@ -342,7 +325,7 @@ fn commits(rt: HostRuntime) -> Result<(), Fail> {
     let mut register = filled(alloc)?.into_register();
     register.begin(alloc)?;
     assert_eq!(rt; register.stage(), Stage::Begun);
-    add(alloc, &mut register, key, gamma)?;
+    assert!(rt; add(alloc, &mut register, participant("P3", "GAMMDEFF")?)?);
     register.commit(alloc)?;
     assert_eq!(rt; register.stage(), Stage::Idle);
     register.begin(alloc)?;
@@ -360,8 +343,10 @@ fn goes_back(rt: HostRuntime) -> Result<(), Fail> {
     let gamma = bic("GAMMDEFF")?;
     let mut register = filled(alloc)?.into_register();
     register.begin(alloc)?;
-    add(alloc, &mut register, key, gamma)?;
-    add(alloc, &mut register, key, gamma)?;
+    assert!(rt; add(alloc, &mut register, participant("P3", "GAMMDEFF")?)?);
+    // a key serves once
+    assert!(rt; !add(alloc, &mut register, participant("P3", "DELTDEFF")?)?);
+    assert!(rt; add(alloc, &mut register, participant("P4", "DELTDEFF")?)?);
     assert_eq!(rt; register.count(alloc)?, 14);
     register.back(alloc)?;
     assert_eq!(rt; register.stage(), Stage::Idle);
@@ -376,11 +361,10 @@ fn goes_back(rt: HostRuntime) -> Result<(), Fail> {
 fn pairs(rt: HostRuntime) -> Result<(), Fail> {
     let alloc = rt.alloc();
     let future = State::Matched(Reason::Future);
-    let beta = bic("BETADEFF")?;
-    let taken = instruction(alloc, more(receipt("B2")))?;
+    let taken = instruct(alloc, more(receipt("B2")))?;
     let mut register = filled(alloc)?.into_register();
     register.begin(alloc)?;
-    add_instruction(alloc, &mut register, beta, taken)?;
+    assert!(rt; add(alloc, &mut register, taken)?);
     // a run is no instruction, and what is matched is not paired again
     assert!(rt; !pair_opposites(alloc, &mut register, 11, 12)?);
     assert!(rt; !pair_opposites(alloc, &mut register, 9, 13)?);

@@ -1,6 +1,13 @@
 use Rattle.desk_register.proofs.ViewLemmas.{change_then}
+use Rattle.desk_rules.specs.declared.entry.Entry.TheVariants.{Instruct}
 use Rattle.desk_engine.proofs.InstructLemmas.{can_pair, instructed_alone, instructed_paired}
+use Rattle.desk_engine.proofs.AppendLemmas.{can_add}
 use Rattle.desk_engine.proofs.adding.add_instruction.Goals as goal
+
+pub append-requires-clause-fits : goal.append-requires-clause-fits
+append-requires-clause-fits g c = λ honest sure.
+    let v0 = g.R.Register.view c.args.register.now in
+    can_add v0.room (Instruct c.args.sender c.args.instruction) c.args.reply v0.content (c.requires.accepted honest sure) c.requires.status tt
 
 pub pair-requires-clause-fits : goal.pair-requires-clause-fits
 pair-requires-clause-fits g c = λ honest sure.

@@ -1,9 +1,12 @@
-use Rattle.desk_engine.proofs.TablesLemmas.{can_register, registered_ok}
+use Rattle.desk_engine.proofs.AppendLemmas.{can_add}
+use Rattle.desk_engine.proofs.TablesLemmas.{registered_ok, registration_allowed}
 use Rattle.desk_engine.proofs.adding.add_registration.Goals as goal
 
 pub append-requires-clause-fits : goal.append-requires-clause-fits
 append-requires-clause-fits g c = λ honest sure.
-    can_register (g.R.Register.view c.args.register.now).room (g.R.Register.view c.args.register.now).content c.args.entry c.requires.kind (c.requires.accepted honest sure)
+    let v0 = g.R.Register.view c.args.register.now in
+    let accepted = c.requires.accepted honest sure in
+    can_add v0.room c.args.entry c.args.reply v0.content accepted c.requires.status (registration_allowed v0.room v0.content c.args.entry c.requires.kind accepted)
 
 pub returns-clause-tables : goal.returns-clause-tables
 returns-clause-tables g c = λ books honest sure tables.

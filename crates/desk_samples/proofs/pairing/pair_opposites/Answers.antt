@@ -1,4 +1,4 @@
-use Rattle.std.proofs.Common.{◌≡◌, sym, subst, ap, ◌∙◌}
+use Rattle.std.proofs.Common.{sym, subst, ap, ◌∙◌}
 use Rattle.desk_rules.specs.Content.{Content}
 use Rattle.desk_register.specs.Changes.{CanPair, paired}
 use Rattle.desk_register.proofs.ViewLemmas.{begun_goes}

@@ -1,4 +1,4 @@
--- What may be paid in and out, by what was paid.
+-- What the balances allow, by what is held and outstanding, and by what is there and was paid.
 use Rattle.std.proofs.Common.{◌≡◌, ℕ, ◌+◌, ◌-◌, ◌<◌, ◌≤◌, ◌^◌, false, List, [], ◌∷◌, Option, Some, None, refl, arith, lit<}
 use Rattle.std.specs.Prelude.{unwrap_or}
 use Rattle.std.specs.List.{list_any}
@@ -6,11 +6,12 @@ use Rattle.std.proofs.lemmas.List.Sums.{sum_by-cons}
 use Rattle.desk_codes.specs.declared.currency.Ccy.{Ccy}
 use Rattle.desk_rules.specs.declared.entry.Entry.{Entry}
 use Rattle.desk_rules.specs.declared.entry.Entry.TheVariants.{Participant, Account, Security, Issue, Redeem, PayIn, PayOut, Instruct, Cancel, Run}
+use Rattle.desk_rules.specs.declared.entry.Movement.{Movement}
 use Rattle.desk_rules.specs.declared.entry.Payment.{Payment}
-use Rattle.desk_rules.specs.declared.limits.TheConstants.{MOST_PAID}
-use Rattle.desk_rules.specs.Balances.{paid_in, paid_out, paid_in_by, payment_in}
+use Rattle.desk_rules.specs.declared.limits.TheConstants.{MOST_PAID, MOST_QUANTITY}
+use Rattle.desk_rules.specs.Balances.{issued, paid_in, paid_in_by, paid_out, payment_in, redeemed}
 use Rattle.desk_rules.specs.Content.{Content, history_of}
-use Rattle.desk_register.specs.Changes.{CanAppend}
+use Rattle.desk_register.specs.Changes.{BalancesAllow}
 use Rattle.desk_register.specs.Looked.{pays_in, IsPaid}
 use Rattle.desk_register.proofs.CaseLemmas.{by_bool}
 
@@ -43,7 +44,7 @@ paid_more ccy entries None some is = absurd (omega arith)
 paid_more ccy entries (Some p) some is = is.1
 
 pub can_pay_in : (content : Content) (p : Payment) (cash : ℕ) (paid : Option ℕ) → cash ≡ content.cash p.bic p.ccy → IsPaid (history_of content) p.ccy paid
-    → cash ≤ MOST_PAID - p.amount → unwrap_or paid 0 ≤ MOST_PAID - p.amount → CanAppend (PayIn p) content
+    → cash ≤ MOST_PAID - p.amount → unwrap_or paid 0 ≤ MOST_PAID - p.amount → BalancesAllow (PayIn p) content
 can_pay_in content p cash paid is_cash is_paid fits total_fits =
     let within = p.within in
     let less = paid_less p.ccy (history_of content) paid is_paid in
@@ -51,8 +52,19 @@ can_pay_in content p cash paid is_cash is_paid fits total_fits =
     (omega arith, omega arith)
 
 pub can_pay_out : (content : Content) (p : Payment) (cash : ℕ) (paid : Option ℕ) → cash ≡ content.cash p.bic p.ccy → IsPaid (history_of content) p.ccy paid
-    → p.amount ≤ cash → p.amount ≤ unwrap_or paid 0 → CanAppend (PayOut p) content
+    → p.amount ≤ cash → p.amount ≤ unwrap_or paid 0 → BalancesAllow (PayOut p) content
 can_pay_out content p cash paid is_cash is_paid held total_held =
     let some = p.some in
     let more = paid_more p.ccy (history_of content) paid (omega arith) is_paid in
     (omega arith, omega arith)
+
+pub can_issue : (content : Content) (m : Movement) (position outstanding : ℕ) → position ≡ content.position m.account m.isin → redeemed (history_of content) m.isin + outstanding ≡ issued (history_of content) m.isin
+    → position ≤ MOST_QUANTITY - m.quantity → outstanding ≤ MOST_QUANTITY - m.quantity → BalancesAllow (Issue m) content
+can_issue content m position outstanding held total fits total_fits =
+    let within = m.within in
+    let most : MOST_QUANTITY < 2 ^ 63 = lit< tt in
+    (omega arith, omega arith)
+
+pub can_redeem : (content : Content) (m : Movement) (position outstanding : ℕ) → position ≡ content.position m.account m.isin → redeemed (history_of content) m.isin + outstanding ≡ issued (history_of content) m.isin
+    → m.quantity ≤ position → m.quantity ≤ outstanding → BalancesAllow (Redeem m) content
+can_redeem content m position outstanding held total there total_there = (omega arith, omega arith)
