@@ -77,10 +77,3 @@ pub record SpellsCommand (bytes : List ℕ) (entry : Entry) : Type 0 where
   pub value : Data
   pub reads : read bytes ≡ Some value
   pub command : IsSupportedCommand value entry
-
--- the text, and the whole number, at a name
-abbrev pub text_at : List ℕ → Data → Option (List ℕ)
-text_at name d = option_and_then as_str (get name d)
-
-abbrev pub number_at : List ℕ → Data → Option ℕ
-number_at name d = option_and_then as_u64 (option_and_then as_number (get name d))

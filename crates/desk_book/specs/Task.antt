@@ -54,19 +54,15 @@ IsCommandTask text (Answer reply) = ((entry : Entry) → ¬ SpellsCommand text e
 abbrev pub IsTask : Asked → Task → Type 0
 IsTask (message sender mt text) task = MatchBool (is_supported_type mt) (IsMessageTask sender mt text task) (task ≡ Answer unknown_form)
 IsTask (operator text) task = IsCommandTask text task
-IsTask (status sender reference) task = task ≡ Answer unknown_form
-IsTask (sent receiver number) task = task ≡ Answer unknown_form
-IsTask (holdings owner account) task = task ≡ Answer unknown_form
 IsTask sums task = task ≡ Totals
+IsTask asked task = task ≡ Answer unknown_form
 
 -- a command to decide on is one that the desk takes
 abbrev pub IsSupported : Task → Type 0
 IsSupported (Decide entry) = is_supported entry ≡ true
-IsSupported Totals = Unit {0}
-IsSupported (Answer reply) = Unit {0}
+IsSupported task = Unit {0}
 
 -- a command to decide on is well formed
 abbrev pub IsFormed : Task → Type 0
 IsFormed (Decide entry) = IsWellFormed entry
-IsFormed Totals = Unit {0}
-IsFormed (Answer reply) = Unit {0}
+IsFormed task = Unit {0}

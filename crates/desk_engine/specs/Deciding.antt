@@ -28,7 +28,3 @@ pub record IsVerdictOnKey (history : List Entry) (entry : Entry) (verdict : Verd
 abbrev pub IsVerdictIfKnown : List Entry → Entry → Option Verdict → Type 0
 IsVerdictIfKnown history entry None = number_of_key history (sender_of entry) (reference_of entry) ≡ None
 IsVerdictIfKnown history entry (Some verdict) = IsVerdictOnKey history entry verdict
-
--- Over a reading call this holds of the history.
-abbrev pub Reading : View → View → (List Entry → Type 0) → Type 0
-Reading old new says = IfRead old new (says (history_of old.content))
