@@ -304,8 +304,8 @@ begins_at : (books : Books) (e : Entry) (k : ℕ) (o : Option Instructed) (st : 
 begins_at books e k None st x = x
 begins_at books e k (Some i) st x = record { so = begins_so books e k st.mate st.state x.so; requested = x.requested }
 
-pub pass_begins : (limit : ℕ) (books : Books) (reference day : List ℕ) (rule : RunRule) (content : Content) → Tables limit books content → IsUnderway books (Run reference day rule) 1 None books.settled content
-pass_begins limit books reference day rule content tables = record {
+pub first_begins : (limit : ℕ) (books : Books) (reference day : List ℕ) (rule : RunRule) (content : Content) → Tables limit books content → IsUnderway books (Run reference day rule) 1 None books.settled content
+first_begins limit books reference day rule content tables = record {
   passing = record {
     history = tables.history;
     standing = λ k. begins_at books (Run reference day rule) k (instruction_at books.history k) (content.standing k) (tables.standing k);

@@ -6,8 +6,6 @@ use Rattle.desk_rules.specs.declared.verdict.Verdict.{Verdict}
 use Rattle.desk_rules.specs.History.{number_of_key, sender_of, reference_of}
 use Rattle.desk_rules.specs.Books.{Books}
 use Rattle.desk_rules.specs.Verdict.{Check, IsVerdictAt}
-use Rattle.desk_rules.specs.Content.{history_of}
-use Rattle.desk_register.specs.View.{View, IfRead}
 
 -- the refusal of the first check that fails
 abbrev pub first_refusal : List Check → Option Refusal
