@@ -12,7 +12,7 @@ use Rattle.desk_book.specs.Task.{IsTask}
 use Rattle.desk_book.specs.Sums.{sums_text}
 use Rattle.desk_book.specs.Totals.{AreCashSums, AreSums}
 use Rattle.desk_book.specs.declared.fault.Fault.{Fault}
-use Rattle.desk_book.specs.declared.fault.Fault.TheVariants.{Memory, Storage, Closed}
+use Rattle.desk_book.specs.declared.fault.Fault.TheVariants.{Storage, Closed}
 use Rattle.desk_book.specs.declared.task.Task.{Task}
 use Rattle.desk_book.specs.declared.task.Task.TheVariants.{Decide, Totals, Answer}
 use Rattle.desk_book.specs.declared.total.CashTotal.{CashTotal}
