@@ -1,5 +1,5 @@
 -- A pair, settled in the lists.
-use Rattle.std.proofs.Common.{◌≡◌, ℕ, ◌+◌, ◌<◌, ◌^◌, List, [], Option, Some, None, refl, ap, ◌∙◌, arith}
+use Rattle.std.proofs.Common.{◌≡◌, ℕ, ◌+◌, ◌<◌, ◌^◌, List, Option, Some, None, refl, ap, ◌∙◌, arith}
 use Rattle.desk_codes.specs.declared.currency.Ccy.{Ccy}
 use Rattle.desk_msg.specs.declared.instruction.Cash.{Cash as Amount}
 use Rattle.desk_rules.specs.declared.reply.Kept.{Kept}

@@ -2,3 +2,4 @@ pub mod Lists
 pub mod ListView
 pub mod Search
 pub mod Moves
+pub mod Named
