@@ -1,8 +1,5 @@
 //! An entry, added to the lists.
 ghost use Rattle.std.specs.Prelude.{◌≡◌, ◌+◌, ◌<◌, ◌≤◌, ◌^◌, false, OnOk};
-<<<<<<< HEAD
-ghost use Rattle.desk_register.specs.Changes.{BalancesAllow, appended};
-=======
 ghost use Rattle.desk_register.specs.Changes.{BalancesAllow, appended};
 ghost use Rattle.desk_rules.specs.Content.{history_of};
 ghost use Rattle.desk_lists.specs.Named.{number_named};
