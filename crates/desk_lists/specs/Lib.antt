@@ -1,4 +1,5 @@
+pub mod BalanceKeys
 pub mod Lists
 pub mod ListView
-pub mod Search
 pub mod Moves
+pub mod Search

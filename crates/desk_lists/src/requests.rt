@@ -4,7 +4,8 @@ ghost use Rattle.desk_msg.specs.MessageType.{number_of_type};
 ghost use Rattle.desk_rules.specs.Content.{history_of};
 ghost use Rattle.desk_rules.specs.Verdict.{named_by};
 ghost use Rattle.desk_register.specs.Changes.{requested_by, requests_noted};
-ghost use Rattle.desk_lists.specs.Lists.{content_in, listed, standing_in, undone, SameBooks};
+ghost use Rattle.desk_lists.specs.Lists.{content_in, listed, standing_in, undone};
+ghost use Rattle.desk_lists.specs.Moves.{SameBooks};
 
 use crate::by_number::{instruction, standing};
 use crate::history::number_of_key;

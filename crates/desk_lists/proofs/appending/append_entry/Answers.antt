@@ -1,6 +1,6 @@
 use Rattle.std.proofs.Common.{◌≡◌, map, ◌∙◌}
 use Rattle.desk_register.specs.Changes.{requests_noted}
-use Rattle.desk_lists.specs.Lists.{listed, balance_in, balances_after, standing_in}
+use Rattle.desk_lists.specs.Lists.{listed, standing_in}
 use Rattle.desk_lists.proofs.AppendLemmas.{appended_well, same_balances, totals_well}
 use Rattle.desk_lists.proofs.appending.append_entry.Goals as goal
 

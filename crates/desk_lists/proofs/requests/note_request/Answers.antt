@@ -1,7 +1,7 @@
 use Rattle.std.proofs.Common.{true, ap, ◌∙◌}
 use Rattle.desk_rules.specs.declared.standing.Standing.{Standing}
 use Rattle.desk_register.specs.Changes.{standing_at, with_request}
-use Rattle.desk_lists.specs.Lists.{listed, standing_in}
+use Rattle.desk_lists.specs.Lists.{standing_in}
 use Rattle.desk_lists.proofs.BalanceLemmas.{on_ok}
 use Rattle.desk_lists.proofs.requests.note_request.Goals as goal
 
