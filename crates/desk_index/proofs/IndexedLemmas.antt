@@ -22,7 +22,7 @@ use Rattle.desk_rules.specs.declared.standing.Standing.{Standing}
 use Rattle.desk_index.specs.NumbersByKey.{numbered_cmp}
 use Rattle.desk_register.specs.declared.register.Stage.{Stage}
 use Rattle.desk_register.specs.declared.register.Stage.TheVariants.{Idle, Begun, Failed}
-use Rattle.desk_index.specs.declared.keys.Keys.{Keys}
+use Rattle.desk_index.specs.declared.known.Known.{Known}
 use Rattle.desk_index.specs.declared.match_key.MatchKey.{MatchKey}
 use Rattle.desk_rules.specs.declared.pair.Lack.TheVariants.{Securities, Money as LacksMoney}
 use Rattle.desk_register.specs.declared.outcome.Outcome.{Outcome}
@@ -32,7 +32,7 @@ use Rattle.desk_register.specs.Changes.{CanSettle, TriesPair, TriesSides, append
 use Rattle.desk_rules.specs.Content.{Content, history_of}
 use Rattle.desk_index.specs.DuePlaces.{HasDue, HoldsDue, PlacedAt, place_cmp}
 use Rattle.desk_index.specs.Indexed.{HoldsOn, IsIndexed}
-use Rattle.desk_index.specs.Keys.{AreKeysOf}
+use Rattle.desk_index.specs.Known.{AreKnown}
 use Rattle.desk_lists.specs.ListView.{view_of_lists}
 use Rattle.desk_index.specs.Open.{HasOpen, HoldsOpen, OpensAt, key_of, match_cmp}
 use Rattle.desk_register.specs.View.{View, Begins, Stays, Falls, IsRead, fallen}
@@ -65,12 +65,12 @@ append_nothing : {X : Type 0} (xs : List X) → xs ++ [] ≡ xs
 append_nothing [] = refl
 append_nothing (x ∷ xs) = ap (λ z. x ∷ z) (append_nothing xs)
 
-module _ (keys : Keys) (numbers : BTreeSet (MatchKey × ℕ)) (places : BTreeSet (ℕ × ℕ)) (noted : List Entry) (old new : View) (indexed : IsIndexed old keys numbers places noted) where
+module _ (known : Known) (numbers : BTreeSet (MatchKey × ℕ)) (places : BTreeSet (ℕ × ℕ)) (noted : List Entry) (old new : View) (indexed : IsIndexed old known numbers places noted) where
   -- after a call that failed
-  pub fell : new.stage ≡ fallen old.stage → new.mark ≡ old.mark → (old.stage ≡ Idle → new.content ≡ old.content) → IsIndexed new keys numbers places noted
+  pub fell : new.stage ≡ fallen old.stage → new.mark ≡ old.mark → (old.stage ≡ Idle → new.content ≡ old.content) → IsIndexed new known numbers places noted
   fell stage mark content = record {
     idle = λ idle. indexed.idle (fallen_idle old.stage new.stage stage idle);
-    keyed = subst (λ m. AreKeysOf keys (history_of m ++ noted)) (sym mark) indexed.keyed;
+    keyed = subst (λ m. AreKnown known (history_of m ++ noted)) (sym mark) indexed.keyed;
     grown = λ apart. let was = not_fallen old.stage new.stage stage apart in ap history_of (content was) ∙ indexed.grown (idle_is_not_failed old.stage was) ∙ ap (λ m. history_of m ++ noted) (sym mark);
     open_marked = subst (HasOpen numbers) (sym mark) indexed.open_marked;
     open_now = λ apart. let was = not_fallen old.stage new.stage stage apart in subst (HasOpen numbers) (sym (content was)) (indexed.open_now (idle_is_not_failed old.stage was));
@@ -79,10 +79,10 @@ module _ (keys : Keys) (numbers : BTreeSet (MatchKey × ℕ)) (places : BTreeSet
   }
 
   -- after a call that changed nothing
-  pub stayed : new.stage ≡ old.stage → new.mark ≡ old.mark → new.content ≡ old.content → IsIndexed new keys numbers places noted
+  pub stayed : new.stage ≡ old.stage → new.mark ≡ old.mark → new.content ≡ old.content → IsIndexed new known numbers places noted
   stayed stage mark content = record {
     idle = λ idle. indexed.idle (sym stage ∙ idle);
-    keyed = subst (λ m. AreKeysOf keys (history_of m ++ noted)) (sym mark) indexed.keyed;
+    keyed = subst (λ m. AreKnown known (history_of m ++ noted)) (sym mark) indexed.keyed;
     grown = λ apart. ap history_of content ∙ indexed.grown (λ failed. apart (stage ∙ failed)) ∙ ap (λ m. history_of m ++ noted) (sym mark);
     open_marked = subst (HasOpen numbers) (sym mark) indexed.open_marked;
     open_now = λ apart. subst (HasOpen numbers) (sym content) (indexed.open_now (λ failed. apart (stage ∙ failed)));
@@ -91,14 +91,14 @@ module _ (keys : Keys) (numbers : BTreeSet (MatchKey × ℕ)) (places : BTreeSet
   }
 
   -- what is held is marked
-  pub begun : old.stage ≡ Idle → new.stage ≡ Begun → new.mark ≡ old.content → new.content ≡ old.content → IsIndexed new keys numbers places noted
+  pub begun : old.stage ≡ Idle → new.stage ≡ Begun → new.mark ≡ old.content → new.content ≡ old.content → IsIndexed new known numbers places noted
   begun idle stage mark content =
       let none = indexed.idle idle in
       let whole = indexed.grown (idle_is_not_failed old.stage idle) in
       let same : history_of new.mark ++ noted ≡ history_of old.mark ++ noted = ap (λ m. history_of m ++ noted) mark ∙ ap (λ z. history_of old.content ++ z) none ∙ append_nothing (history_of old.content) ∙ whole in
       record {
         idle = λ is. absurd (begun_is_not_idle new.stage stage is);
-        keyed = subst (AreKeysOf keys) (sym same) indexed.keyed;
+        keyed = subst (AreKnown known) (sym same) indexed.keyed;
         grown = λ apart. ap history_of content ∙ whole ∙ sym same;
         open_marked = subst (HasOpen numbers) (sym mark) (indexed.open_now (idle_is_not_failed old.stage idle));
         open_now = λ apart. subst (HasOpen numbers) (sym content) (indexed.open_now (idle_is_not_failed old.stage idle));
@@ -106,18 +106,18 @@ module _ (keys : Keys) (numbers : BTreeSet (MatchKey × ℕ)) (places : BTreeSet
         due_now = λ apart. subst (HasDue places) (sym content) (indexed.due_now (idle_is_not_failed old.stage idle));
       }
 
-  -- what was changed is kept: the keys are those of what is held
-  pub kept_keys : old.stage ≡ Begun → new.content ≡ old.content → AreKeysOf keys (history_of new.content)
-  kept_keys stage content = subst (AreKeysOf keys) (sym (ap history_of content ∙ indexed.grown (begun_is_not_failed old.stage stage))) indexed.keyed
+  -- what was changed is kept: what is known is of what is held
+  pub kept_keys : old.stage ≡ Begun → new.content ≡ old.content → AreKnown known (history_of new.content)
+  kept_keys stage content = subst (AreKnown known) (sym (ap history_of content ∙ indexed.grown (begun_is_not_failed old.stage stage))) indexed.keyed
 
 -- with no `begin` open, by what is held alone
-pub idle_indexed : (keys : Keys) (numbers : BTreeSet (MatchKey × ℕ)) (places : BTreeSet (ℕ × ℕ)) (noted : List Entry) (new : View) → new.mark ≡ new.content → noted ≡ []
-    → AreKeysOf keys (history_of new.content) → HasOpen numbers new.content → HasDue places new.content → IsIndexed new keys numbers places noted
-idle_indexed keys numbers places noted new mark none keyed open_ones due_ones =
+pub idle_indexed : (known : Known) (numbers : BTreeSet (MatchKey × ℕ)) (places : BTreeSet (ℕ × ℕ)) (noted : List Entry) (new : View) → new.mark ≡ new.content → noted ≡ []
+    → AreKnown known (history_of new.content) → HasOpen numbers new.content → HasDue places new.content → IsIndexed new known numbers places noted
+idle_indexed known numbers places noted new mark none keyed open_ones due_ones =
     let same : history_of new.mark ++ noted ≡ history_of new.content = ap (λ m. history_of m ++ noted) mark ∙ ap (λ z. history_of new.content ++ z) none ∙ append_nothing (history_of new.content) in
     record {
       idle = λ is. none;
-      keyed = subst (AreKeysOf keys) (sym same) keyed;
+      keyed = subst (AreKnown known) (sym same) keyed;
       grown = λ apart. sym same;
       open_marked = subst (HasOpen numbers) (sym mark) open_ones;
       open_now = λ apart. open_ones;
@@ -127,23 +127,37 @@ idle_indexed keys numbers places noted new mark none keyed open_ones due_ones =
 
 -- By a call's result.
 
-module _ (keys : Keys) (numbers : BTreeSet (MatchKey × ℕ)) (places : BTreeSet (ℕ × ℕ)) (noted : List Entry) (old new : View) (honest : new.is_honest) (was_sure : old.is_sure) (sure : new.is_sure) where
-  pub after_begin : {T : Type 0} (r : Result T Fault) → old.stage ≡ Idle → OnOk r (Begins old new) → OnErr r (Falls old new) → IsIndexed old keys numbers places noted → IsIndexed new keys numbers places noted
-  after_begin (Ok x) idle ok err indexed = begun keys numbers places noted old new indexed idle ok.stage (ok.mark honest was_sure) (ok.content honest was_sure)
-  after_begin (Err f) idle ok err indexed = fell keys numbers places noted old new indexed err.stage (err.mark honest sure) (err.content honest sure)
+module _ (known : Known) (numbers : BTreeSet (MatchKey × ℕ)) (places : BTreeSet (ℕ × ℕ)) (noted : List Entry) (old new : View) (honest : new.is_honest) (was_sure : old.is_sure) (sure : new.is_sure) where
+  pub after_begin : {T : Type 0} (r : Result T Fault) → old.stage ≡ Idle → OnOk r (Begins old new) → OnErr r (Falls old new) → IsIndexed old known numbers places noted → IsIndexed new known numbers places noted
+  after_begin (Ok x) idle ok err indexed = begun known numbers places noted old new indexed idle ok.stage (ok.mark honest was_sure) (ok.content honest was_sure)
+  after_begin (Err f) idle ok err indexed = fell known numbers places noted old new indexed err.stage (err.mark honest sure) (err.content honest sure)
 
-  pub after_fall : Falls old new → IsIndexed old keys numbers places noted → IsIndexed new keys numbers places noted
-  after_fall falls indexed = fell keys numbers places noted old new indexed falls.stage (falls.mark honest sure) (falls.content honest sure)
+  pub after_fall : Falls old new → IsIndexed old known numbers places noted → IsIndexed new known numbers places noted
+  after_fall falls indexed = fell known numbers places noted old new indexed falls.stage (falls.mark honest sure) (falls.content honest sure)
 
   pub after_read : {T : Type 0} (r : Result T Fault) → (new.is_honest → old.is_sure → OnOk r (new.content ≡ old.content)) → OnOk r (Stays old new) → OnErr r (Falls old new)
-      → IsIndexed old keys numbers places noted → IsIndexed new keys numbers places noted
-  after_read (Ok x) same ok err indexed = stayed keys numbers places noted old new indexed ok.stage (ok.mark honest was_sure) (same honest was_sure)
+      → IsIndexed old known numbers places noted → IsIndexed new known numbers places noted
+  after_read (Ok x) same ok err indexed = stayed known numbers places noted old new indexed ok.stage (ok.mark honest was_sure) (same honest was_sure)
   after_read (Err f) same ok err indexed = after_fall err indexed
 
+-- what is known is of what is held, where no call has failed
+pub now_known : (known : Known) (numbers : BTreeSet (MatchKey × ℕ)) (places : BTreeSet (ℕ × ℕ)) (noted : List Entry) (view : View) → view.stage ≢ Failed → IsIndexed view known numbers places noted → AreKnown known (history_of view.content)
+now_known known numbers places noted view up indexed = subst (AreKnown known) (sym (indexed.grown up)) indexed.keyed
+
+-- a call that only read
+pub still_read : {X : Type 0} (x : X) (view : View) → IsRead {X = X} (Ok x) view view
+still_read x view = record {
+  same = λ honest sure. refl;
+  ok = record { stage = refl; sure = λ honest sure. sure; mark = λ honest sure. refl };
+  err = tt;
+  later = record { honest = λ honest. honest; sure = λ honest sure. sure; failures = omega arith; room = refl };
+  blame = tt;
+}
+
 -- a reading call keeps the look-ups
-pub read_keeps : {T : Type 0} (r : Result T Fault) (keys : Keys) (numbers : BTreeSet (MatchKey × ℕ)) (places : BTreeSet (ℕ × ℕ)) (noted : List Entry) (old new : ListRegister)
-    → IsRead r (view_of_lists old) (view_of_lists new) → IsIndexed (view_of_lists old) keys numbers places noted → IsIndexed (view_of_lists new) keys numbers places noted
-read_keeps r keys numbers places noted old new read = after_read keys numbers places noted (view_of_lists old) (view_of_lists new) tt tt tt r read.same read.ok read.err
+pub read_keeps : {T : Type 0} (r : Result T Fault) (known : Known) (numbers : BTreeSet (MatchKey × ℕ)) (places : BTreeSet (ℕ × ℕ)) (noted : List Entry) (old new : ListRegister)
+    → IsRead r (view_of_lists old) (view_of_lists new) → IsIndexed (view_of_lists old) known numbers places noted → IsIndexed (view_of_lists new) known numbers places noted
+read_keeps r known numbers places noted old new read = after_read known numbers places noted (view_of_lists old) (view_of_lists new) tt tt tt r read.same read.ok read.err
 
 -- One entry more.
 
@@ -323,12 +337,12 @@ module _ (old new : Content) (m n : ℕ) (s : State) (two : m < n) (apart : s �
 
 -- The calls that change.
 
-pub after_append : {T : Type 0} (r : Result T Fault) (keys keys' : Keys) (numbers numbers' : BTreeSet (MatchKey × ℕ)) (places : BTreeSet (ℕ × ℕ)) (noted noted' : List Entry) (old new : View) (n : ℕ) (entry : Entry) (reply : Reply)
-    → new.is_honest → old.is_sure → new.is_sure → old.stage ≡ Begun → n ≡ length old.content.register + 1 → IsIndexed old keys numbers places noted
+pub after_append : {T : Type 0} (r : Result T Fault) (known known' : Known) (numbers numbers' : BTreeSet (MatchKey × ℕ)) (places : BTreeSet (ℕ × ℕ)) (noted noted' : List Entry) (old new : View) (n : ℕ) (entry : Entry) (reply : Reply)
+    → new.is_honest → old.is_sure → new.is_sure → old.stage ≡ Begun → n ≡ length old.content.register + 1 → IsIndexed old known numbers places noted
     → HoldsOpen numbers numbers' → OpensAt numbers' (instructed entry) n → noted' ≡ noted ++ entry ∷ []
-    → ((history : List Entry) → AreKeysOf keys history → n ≡ length history + 1 → AreKeysOf keys' (history ++ entry ∷ []))
-    → (new.is_honest → old.is_sure → OnOk r (new.content ≡ appended entry reply old.content)) → OnOk r (Stays old new) → OnErr r (Falls old new) → IsIndexed new keys' numbers' places noted'
-after_append r keys keys' numbers numbers' places noted noted' old new n entry reply honest was_sure sure stage is indexed all opens more keyed added ok err =
+    → ((history : List Entry) → AreKnown known history → n ≡ length history + 1 → AreKnown known' (history ++ entry ∷ []))
+    → (new.is_honest → old.is_sure → OnOk r (new.content ≡ appended entry reply old.content)) → OnOk r (Stays old new) → OnErr r (Falls old new) → IsIndexed new known' numbers' places noted'
+after_append r known known' numbers numbers' places noted noted' old new n entry reply honest was_sure sure stage is indexed all opens more keyed added ok err =
     by_end r added ok err
   where
     apart : old.stage ≢ Failed
@@ -343,10 +357,10 @@ after_append r keys keys' numbers numbers' places noted noted' old new n entry r
     count : n ≡ length (history_of old.mark ++ noted) + 1
     count = is ∙ ap (λ z. z + 1) (sym (size_of old.content) ∙ ap length whole)
 
-    keys_now : (mark : Content) → mark ≡ old.mark → AreKeysOf keys' (history_of mark ++ noted')
-    keys_now mark same = subst (AreKeysOf keys') (sym (longer mark same)) (keyed (history_of old.mark ++ noted) indexed.keyed count)
+    keys_now : (mark : Content) → mark ≡ old.mark → AreKnown known' (history_of mark ++ noted')
+    keys_now mark same = subst (AreKnown known') (sym (longer mark same)) (keyed (history_of old.mark ++ noted) indexed.keyed count)
 
-    by_end : {T : Type 0} (r : Result T Fault) → (new.is_honest → old.is_sure → OnOk r (new.content ≡ appended entry reply old.content)) → OnOk r (Stays old new) → OnErr r (Falls old new) → IsIndexed new keys' numbers' places noted'
+    by_end : {T : Type 0} (r : Result T Fault) → (new.is_honest → old.is_sure → OnOk r (new.content ≡ appended entry reply old.content)) → OnOk r (Stays old new) → OnErr r (Falls old new) → IsIndexed new known' numbers' places noted'
     by_end (Ok x) added ok err =
         let mark = ok.mark honest was_sure in
         let content = added honest was_sure in
@@ -372,13 +386,18 @@ after_append r keys keys' numbers numbers' places noted noted' old new n entry r
           due_now = λ up. absurd (up failed);
         }
 
+-- the number of one entry more
+pub next_count : (known : Known) (numbers : BTreeSet (MatchKey × ℕ)) (places : BTreeSet (ℕ × ℕ)) (noted : List Entry) (view : View) (n : ℕ) → view.stage ≡ Begun → n ≡ length view.content.register → IsIndexed view known numbers places noted
+    → n + 1 ≡ length (history_of view.mark ++ noted) + 1
+next_count known numbers places noted view n stage is indexed = ap (λ z. z + 1) (is ∙ sym (size_of view.content) ∙ ap length (indexed.grown (begun_is_not_failed view.stage stage)))
+
 -- a failure before the call: what was found is found
-pub after_failure : (keys keys' : Keys) (numbers numbers' : BTreeSet (MatchKey × ℕ)) (places places' : BTreeSet (ℕ × ℕ)) (noted noted' : List Entry) (old new : View) → IsIndexed old keys numbers places noted
-    → new.stage ≡ Failed → new.mark ≡ old.mark → HoldsOpen numbers numbers' → HoldsDue places places' → noted' ≡ noted → ((history : List Entry) → AreKeysOf keys history → AreKeysOf keys' history)
-    → IsIndexed new keys' numbers' places' noted'
-after_failure keys keys' numbers numbers' places places' noted noted' old new indexed failed mark all_open all_due same keyed = record {
+pub after_failure : (known known' : Known) (numbers numbers' : BTreeSet (MatchKey × ℕ)) (places places' : BTreeSet (ℕ × ℕ)) (noted noted' : List Entry) (old new : View) → IsIndexed old known numbers places noted
+    → new.stage ≡ Failed → new.mark ≡ old.mark → HoldsOpen numbers numbers' → HoldsDue places places' → noted' ≡ noted → (AreKnown known (history_of old.mark ++ noted) → AreKnown known' (history_of old.mark ++ noted))
+    → IsIndexed new known' numbers' places' noted'
+after_failure known known' numbers numbers' places places' noted noted' old new indexed failed mark all_open all_due same keyed = record {
   idle = λ idle. let bad = sym failed ∙ idle in cc;
-  keyed = subst (AreKeysOf keys') (ap (λ z. history_of old.mark ++ z) (sym same) ∙ ap (λ m. history_of m ++ noted') (sym mark)) (keyed (history_of old.mark ++ noted) indexed.keyed);
+  keyed = subst (AreKnown known') (ap (λ z. history_of old.mark ++ z) (sym same) ∙ ap (λ m. history_of m ++ noted') (sym mark)) (keyed indexed.keyed);
   grown = λ up. absurd (up failed);
   open_marked = subst (HasOpen numbers') (sym mark) (found_more numbers numbers' old.mark all_open indexed.open_marked);
   open_now = λ up. absurd (up failed);
@@ -387,16 +406,16 @@ after_failure keys keys' numbers numbers' places places' noted noted' old new in
 }
 
 -- two instructions came to stand otherwise
-pub after_standing : (keys : Keys) (numbers : BTreeSet (MatchKey × ℕ)) (places places' : BTreeSet (ℕ × ℕ)) (noted : List Entry) (old new : View) (m n : ℕ) (s : State)
-    → new.is_honest → old.is_sure → old.stage ≡ Begun → IsIndexed old keys numbers places noted → Stays old new → m < n → s ≢ Unmatched
+pub after_standing : (known : Known) (numbers : BTreeSet (MatchKey × ℕ)) (places places' : BTreeSet (ℕ × ℕ)) (noted : List Entry) (old new : View) (m n : ℕ) (s : State)
+    → new.is_honest → old.is_sure → old.stage ≡ Begun → IsIndexed old known numbers places noted → Stays old new → m < n → s ≢ Unmatched
     → HoldsDue places places' → PlacedAt places' (instruction_at (history_of old.content) n) n → new.content.register ≡ old.content.register → new.content.standing ≡ standing_both old.content.standing m n s
-    → IsIndexed new keys numbers places' noted
-after_standing keys numbers places places' noted old new m n s honest was_sure stage indexed ok two other all placed register standing =
+    → IsIndexed new known numbers places' noted
+after_standing known numbers places places' noted old new m n s honest was_sure stage indexed ok two other all placed register standing =
     let apart = begun_is_not_failed old.stage stage in
     let mark = ok.mark honest was_sure in
     record {
       idle = λ idle. absurd (begun_is_not_idle old.stage stage (sym ok.stage ∙ idle));
-      keyed = subst (λ z. AreKeysOf keys (history_of z ++ noted)) (sym mark) indexed.keyed;
+      keyed = subst (λ z. AreKnown known (history_of z ++ noted)) (sym mark) indexed.keyed;
       grown = λ up. ap (λ r. map (λ k. k.entry) r) register ∙ indexed.grown apart ∙ ap (λ z. history_of z ++ noted) (sym mark);
       open_marked = subst (HasOpen numbers) (sym mark) indexed.open_marked;
       open_now = λ up. open_restood old.content new.content m n s two other register standing numbers (indexed.open_now apart);
@@ -405,10 +424,10 @@ after_standing keys numbers places places' noted old new m n s honest was_sure s
     }
 
 -- the call failed
-pub after_fault : (keys : Keys) (numbers : BTreeSet (MatchKey × ℕ)) (places places' : BTreeSet (ℕ × ℕ)) (noted : List Entry) (old new : View) → new.is_honest → new.is_sure → old.stage ≡ Begun → IsIndexed old keys numbers places noted
-    → HoldsDue places places' → Falls old new → IsIndexed new keys numbers places' noted
-after_fault keys numbers places places' noted old new honest sure stage indexed all falls =
-    after_failure keys keys numbers numbers places places' noted noted old new indexed (falls.stage ∙ ap fallen stage) (falls.mark honest sure) (λ q there. there) all refl (λ history k. k)
+pub after_fault : (known : Known) (numbers : BTreeSet (MatchKey × ℕ)) (places places' : BTreeSet (ℕ × ℕ)) (noted : List Entry) (old new : View) → new.is_honest → new.is_sure → old.stage ≡ Begun → IsIndexed old known numbers places noted
+    → HoldsDue places places' → Falls old new → IsIndexed new known numbers places' noted
+after_fault known numbers places places' noted old new honest sure stage indexed all falls =
+    after_failure known known numbers numbers places places' noted noted old new indexed (falls.stage ∙ ap fallen stage) (falls.mark honest sure) (λ q there. there) all refl (λ k. k)
 
 -- The calls of pairs, by their results.
 
@@ -420,38 +439,38 @@ pub where_it_went : {T E : Type 0} {P : Type 0} (r : Result T E) → false ≡ i
 where_it_went (Ok x) e p = p
 where_it_went (Err f) e p = absurd (cc)
 
-module _ (keys : Keys) (numbers : BTreeSet (MatchKey × ℕ)) (places places' : BTreeSet (ℕ × ℕ)) (noted : List Entry) (old new : View) (honest : new.is_honest) (was_sure : old.is_sure) (sure : new.is_sure)
-    (stage : old.stage ≡ Begun) (indexed : IsIndexed old keys numbers places noted) (all : HoldsDue places places') where
+module _ (known : Known) (numbers : BTreeSet (MatchKey × ℕ)) (places places' : BTreeSet (ℕ × ℕ)) (noted : List Entry) (old new : View) (honest : new.is_honest) (was_sure : old.is_sure) (sure : new.is_sure)
+    (stage : old.stage ≡ Begun) (indexed : IsIndexed old known numbers places noted) (all : HoldsDue places places') where
   pub after_pair : {T : Type 0} (r : Result T Fault) (m n : ℕ) → m < n → PlacedAt places' (instruction_at (history_of old.content) n) n
-      → (new.is_honest → old.is_sure → OnOk r (new.content ≡ paired m n old.content)) → OnOk r (Stays old new) → OnErr r (Falls old new) → IsIndexed new keys numbers places' noted
+      → (new.is_honest → old.is_sure → OnOk r (new.content ≡ paired m n old.content)) → OnOk r (Stays old new) → OnErr r (Falls old new) → IsIndexed new known numbers places' noted
   after_pair (Ok x) m n two placed added ok err =
       let content = added honest was_sure in
-      after_standing keys numbers places places' noted old new m n (Matched Future) honest was_sure stage indexed ok two (λ e. cc) all placed (ap (λ c. c.register) content) (ap (λ c. c.standing) content)
-  after_pair (Err f) m n two placed added ok err = after_fault keys numbers places places' noted old new honest sure stage indexed all err
+      after_standing known numbers places places' noted old new m n (Matched Future) honest was_sure stage indexed ok two (λ e. cc) all placed (ap (λ c. c.register) content) (ap (λ c. c.standing) content)
+  after_pair (Err f) m n two placed added ok err = after_fault known numbers places places' noted old new honest sure stage indexed all err
 
   settled_so : (n mate : ℕ) (earlier later : Instructed) (outcome : Outcome) → mate < n → PlacedAt places' (instruction_at (history_of old.content) n) n → Stays old new
-      → TriesSides old.content n mate earlier later outcome new.content → IsIndexed new keys numbers places' noted
+      → TriesSides old.content n mate earlier later outcome new.content → IsIndexed new known numbers places' noted
   settled_so n mate earlier later outcomes.Settled two placed ok ends =
-      after_standing keys numbers places places' noted old new mate n Settled honest was_sure stage indexed ok two (λ e. cc) all placed (ap (λ c. c.register) ends.2) (ap (λ c. c.standing) ends.2)
+      after_standing known numbers places places' noted old new mate n Settled honest was_sure stage indexed ok two (λ e. cc) all placed (ap (λ c. c.register) ends.2) (ap (λ c. c.standing) ends.2)
   settled_so n mate earlier later (Lacks Securities) two placed ok ends =
-      after_standing keys numbers places places' noted old new mate n (Matched Lack) honest was_sure stage indexed ok two (λ e. cc) all placed (ap (λ c. c.register) ends.1) (ap (λ c. c.standing) ends.1)
+      after_standing known numbers places places' noted old new mate n (Matched Lack) honest was_sure stage indexed ok two (λ e. cc) all placed (ap (λ c. c.register) ends.1) (ap (λ c. c.standing) ends.1)
   settled_so n mate earlier later (Lacks LacksMoney) two placed ok ends =
-      after_standing keys numbers places places' noted old new mate n (Matched LackOfMoney) honest was_sure stage indexed ok two (λ e. cc) all placed (ap (λ c. c.register) ends.2) (ap (λ c. c.standing) ends.2)
+      after_standing known numbers places places' noted old new mate n (Matched LackOfMoney) honest was_sure stage indexed ok two (λ e. cc) all placed (ap (λ c. c.register) ends.2) (ap (λ c. c.standing) ends.2)
 
   pub after_settle : (r : Result Outcome Fault) (n : ℕ) {day : ℕ} → CanSettle old.content n day → PlacedAt places' (instruction_at (history_of old.content) n) n
-      → (new.is_honest → old.is_sure → IfOk r (λ outcome. TriesPair old.content n outcome new.content)) → OnOk r (Stays old new) → OnErr r (Falls old new) → IsIndexed new keys numbers places' noted
+      → (new.is_honest → old.is_sure → IfOk r (λ outcome. TriesPair old.content n outcome new.content)) → OnOk r (Stays old new) → OnErr r (Falls old new) → IsIndexed new known numbers places' noted
   after_settle (Ok outcome) n can placed settles ok err =
       let s = settles honest was_sure in
       let mates : Some s.mate ≡ Some can.mate = sym s.pair.has_mate ∙ can.pair.has_mate in
       let mate : s.mate ≡ can.mate = cc in
       let less = can.two in
       settled_so n s.mate s.earlier s.later outcome (omega arith) placed ok s.ends
-  after_settle (Err f) n can placed settles ok err = after_fault keys numbers places places' noted old new honest sure stage indexed all err
+  after_settle (Err f) n can placed settles ok err = after_fault known numbers places places' noted old new honest sure stage indexed all err
 
 -- what was added since `begin` is tidied
-pub retidied : (keys : Keys) (numbers numbers' : BTreeSet (MatchKey × ℕ)) (places places' : BTreeSet (ℕ × ℕ)) (noted : List Entry) (count : ℕ) (view : View) → view.stage ≢ Failed → count ≡ length noted
-    → HoldsOn (HasOpen numbers) (HasOpen numbers') view.content count → HoldsOn (HasDue places) (HasDue places') view.content count → IsIndexed view keys numbers places noted → IsIndexed view keys numbers' places' noted
-retidied keys numbers numbers' places places' noted count view apart is open_on due_on indexed =
+pub retidied : (known : Known) (numbers numbers' : BTreeSet (MatchKey × ℕ)) (places places' : BTreeSet (ℕ × ℕ)) (noted : List Entry) (count : ℕ) (view : View) → view.stage ≢ Failed → count ≡ length noted
+    → HoldsOn (HasOpen numbers) (HasOpen numbers') view.content count → HoldsOn (HasDue places) (HasDue places') view.content count → IsIndexed view known numbers places noted → IsIndexed view known numbers' places' noted
+retidied known numbers numbers' places places' noted count view apart is open_on due_on indexed =
     let whole = ap length (indexed.grown apart) in
     let parts = length-append (history_of view.mark) noted in
     let held = size_of view.content in
@@ -535,15 +554,15 @@ pair_fewer m n old =
           a.1 was.0 was.1;
     }
 
-module _ (keys : Keys) (numbers : BTreeSet (MatchKey × ℕ)) (places : BTreeSet (ℕ × ℕ)) (noted : List Entry) (held new : ListRegister) (stage : (view_of_lists held).stage ≡ Begun) (indexed : IsIndexed (view_of_lists held) keys numbers places noted) where
-  fewer_keeps : StandsFewer (view_of_lists held).content (view_of_lists new).content → Stays (view_of_lists held) (view_of_lists new) → IsIndexed (view_of_lists new) keys numbers places noted
+module _ (known : Known) (numbers : BTreeSet (MatchKey × ℕ)) (places : BTreeSet (ℕ × ℕ)) (noted : List Entry) (held new : ListRegister) (stage : (view_of_lists held).stage ≡ Begun) (indexed : IsIndexed (view_of_lists held) known numbers places noted) where
+  fewer_keeps : StandsFewer (view_of_lists held).content (view_of_lists new).content → Stays (view_of_lists held) (view_of_lists new) → IsIndexed (view_of_lists new) known numbers places noted
   fewer_keeps fewer ok =
       let old = view_of_lists held in
       let apart = begun_is_not_failed old.stage stage in
       let mark = ok.mark tt tt in
       record {
         idle = λ idle. absurd (begun_is_not_idle old.stage stage (sym ok.stage ∙ idle));
-        keyed = subst (λ z. AreKeysOf keys (history_of z ++ noted)) (sym mark) indexed.keyed;
+        keyed = subst (λ z. AreKnown known (history_of z ++ noted)) (sym mark) indexed.keyed;
         grown = λ up. ap (λ r. map (λ (x : Kept). x.entry) r) fewer.register ∙ indexed.grown apart ∙ ap (λ z. history_of z ++ noted) (sym mark);
         open_marked = subst (HasOpen numbers) (sym mark) indexed.open_marked;
         open_now = λ up. open_fewer old.content (view_of_lists new).content numbers fewer (indexed.open_now apart);
@@ -551,20 +570,20 @@ module _ (keys : Keys) (numbers : BTreeSet (MatchKey × ℕ)) (places : BTreeSet
         due_now = λ up. due_fewer old.content (view_of_lists new).content places fewer (indexed.due_now apart);
       }
 
-  fallen_keeps : Falls (view_of_lists held) (view_of_lists new) → IsIndexed (view_of_lists new) keys numbers places noted
-  fallen_keeps falls = after_fault keys numbers places places noted (view_of_lists held) (view_of_lists new) tt tt stage indexed (λ q there. there) falls
+  fallen_keeps : Falls (view_of_lists held) (view_of_lists new) → IsIndexed (view_of_lists new) known numbers places noted
+  fallen_keeps falls = after_fault known numbers places places noted (view_of_lists held) (view_of_lists new) tt tt stage indexed (λ q there. there) falls
 
   pub after_cancel : {T : Type 0} (r : Result T Fault) (n : ℕ) → OnOk r ((view_of_lists new).content ≡ cancelled n (view_of_lists held).content) → OnOk r (Stays (view_of_lists held) (view_of_lists new)) → OnErr r (Falls (view_of_lists held) (view_of_lists new))
-      → IsIndexed (view_of_lists new) keys numbers places noted
+      → IsIndexed (view_of_lists new) known numbers places noted
   after_cancel (Ok x) n made ok err = fewer_keeps (subst (StandsFewer (view_of_lists held).content) (sym made) (cancelled_fewer n (view_of_lists held).content)) ok
   after_cancel (Err f) n made ok err = fallen_keeps err
 
   pub after_cancel_pair : {T : Type 0} (r : Result T Fault) (m n : ℕ) → OnOk r ((view_of_lists new).content ≡ pair_cancelled m n (view_of_lists held).content) → OnOk r (Stays (view_of_lists held) (view_of_lists new)) → OnErr r (Falls (view_of_lists held) (view_of_lists new))
-      → IsIndexed (view_of_lists new) keys numbers places noted
+      → IsIndexed (view_of_lists new) known numbers places noted
   after_cancel_pair (Ok x) m n made ok err = fewer_keeps (subst (StandsFewer (view_of_lists held).content) (sym made) (pair_fewer m n (view_of_lists held).content)) ok
   after_cancel_pair (Err f) m n made ok err = fallen_keeps err
 
   pub after_send : {T : Type 0} (r : Result T Fault) (message : Sent) → OnOk r ((view_of_lists new).content ≡ with_sent message (view_of_lists held).content) → OnOk r (Stays (view_of_lists held) (view_of_lists new)) → OnErr r (Falls (view_of_lists held) (view_of_lists new))
-      → IsIndexed (view_of_lists new) keys numbers places noted
+      → IsIndexed (view_of_lists new) known numbers places noted
   after_send (Ok x) message made ok err = fewer_keeps (subst (StandsFewer (view_of_lists held).content) (sym made) (record { register = refl; unmatched = λ k e. e; matched = λ k m reason mate e. (mate, e) })) ok
   after_send (Err f) message made ok err = fallen_keeps err

@@ -1,6 +1,9 @@
 mod DueLemmas
+mod FirstLemmas
 mod IndexedLemmas
 mod KeyIndexLemmas
+mod LookUpLemmas
 mod NumbersLemmas
 mod OpenLemmas
+mod RegisteredLemmas
 mod TidyLemmas

@@ -1,4 +1,4 @@
--- Where matched pairs are found: by their settlement day and number.
+-- Where matched pairs are found: by their settlement day and number. Only private contracts and proofs speak of it.
 use Rattle.std.specs.Prelude.{◌≡◌, ℕ, true, Option, Some, None}
 use Rattle.std.specs.BTreeSet.{BTreeSet, contains}
 use Rattle.std.specs.Ordering.{nat_cmp}

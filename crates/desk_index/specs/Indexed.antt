@@ -1,21 +1,21 @@
--- Look-ups kept beside a register in lists.
+-- Look-ups kept beside a register in lists. Only the invariant of the register, private contracts and proofs speak of it.
 use Rattle.std.specs.Prelude.{◌≡◌, ◌≢◌, ℕ, ◌+◌, List, [], ◌++◌, length}
 use Rattle.std.specs.BTreeSet.{BTreeSet}
 use Rattle.desk_rules.specs.declared.entry.Entry.{Entry}
 use Rattle.desk_register.specs.declared.register.Stage.TheVariants.{Idle, Failed}
-use Rattle.desk_index.specs.declared.keys.Keys.{Keys}
+use Rattle.desk_index.specs.declared.known.Known.{Known}
 use Rattle.desk_index.specs.declared.match_key.MatchKey.{MatchKey}
 use Rattle.desk_rules.specs.Content.{Content, history_of}
 use Rattle.desk_index.specs.DuePlaces.{HasDue}
-use Rattle.desk_index.specs.Keys.{AreKeysOf}
+use Rattle.desk_index.specs.Known.{AreKnown}
 use Rattle.desk_index.specs.Open.{HasOpen}
 use Rattle.desk_register.specs.View.{View}
 
 -- What is found by the look-ups is found in what is held, and in what `back` goes back to. After a call that failed nothing
 -- is said of what is held.
-pub record IsIndexed (view : View) (keys : Keys) (open_numbers : BTreeSet (MatchKey × ℕ)) (due_places : BTreeSet (ℕ × ℕ)) (noted : List Entry) : Type 0 where
+pub record IsIndexed (view : View) (known : Known) (open_numbers : BTreeSet (MatchKey × ℕ)) (due_places : BTreeSet (ℕ × ℕ)) (noted : List Entry) : Type 0 where
   pub idle : view.stage ≡ Idle → noted ≡ []
-  pub keyed : AreKeysOf keys (history_of view.mark ++ noted)
+  pub keyed : AreKnown known (history_of view.mark ++ noted)
   pub grown : view.stage ≢ Failed → history_of view.content ≡ history_of view.mark ++ noted
   pub open_marked : HasOpen open_numbers view.mark
   pub open_now : view.stage ≢ Failed → HasOpen open_numbers view.content

@@ -1,4 +1,4 @@
--- Where each key stands, kept beside the entries.
+-- Where each key stands, kept beside the entries. Only private contracts and proofs speak of it.
 use Rattle.std.specs.Prelude.{◌≡◌, ℕ, List}
 use Rattle.std.specs.BTreeMap.{get}
 use Rattle.std.specs.Cmp.Lexicographic.{slice_cmp}

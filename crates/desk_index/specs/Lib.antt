@@ -3,5 +3,7 @@ pub mod FirstNumbers
 pub mod IndexView
 pub mod Indexed
 pub mod Keys
+pub mod Known
 pub mod NumbersByKey
 pub mod Open
+pub mod Registered

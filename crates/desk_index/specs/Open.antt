@@ -1,4 +1,5 @@
--- Where unmatched instructions are found: by what two opposite instructions have in common.
+-- Where unmatched instructions are found: by what two opposite instructions have in common. Only private contracts and proofs
+-- speak of it.
 use Rattle.std.specs.Prelude.{◌≡◌, ℕ, true, not, Option, Some, None}
 use Rattle.std.specs.BTreeSet.{BTreeSet, contains}
 use Rattle.std.specs.declared.cmp.Ordering.{Ordering}

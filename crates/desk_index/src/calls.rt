@@ -6,9 +6,10 @@ ghost use Rattle.desk_index.specs.IndexView.{view_of_index};
 
 use crate::due_places::first_due;
 use crate::indexed_register::IndexedRegister;
-use crate::keys::Keys;
+use crate::known::Known;
 use crate::noting::{note_entry, note_pair};
 use crate::opposites::first_open_opposite;
+use crate::sums::{cash_of_all, held_on};
 use crate::tidying::{forget_all, tidy_all, tidy_new};
 use desk_codes::{AccountId, Bic, Ccy, Day, Isin, Reference};
 use desk_lists::ListRegister;
@@ -28,7 +29,7 @@ impl IndexedRegister {
     {
         IndexedRegister {
             held: ListRegister::new(alloc, limit),
-            keys: Keys::new(alloc),
+            known: Known::new(alloc),
             unmatched: BTreeSet::new(alloc),
             matched: BTreeSet::new(alloc),
             noted: Vec::new(alloc),
@@ -71,7 +72,7 @@ impl Register for IndexedRegister {
     fn back(&mut self, alloc: Global) -> Result<(), Fault> {
         self.held.back(alloc)?;
         let count = self.held.entry_count();
-        forget_all(&mut self.keys, &mut self.noted, count);
+        forget_all(&mut self.known, &mut self.noted, count);
         self.touched.truncate(0);
         Ok(())
     }
@@ -84,28 +85,31 @@ impl Register for IndexedRegister {
         self.held.count(alloc)
     }
 
-    fn participant(&mut self, alloc: Global, bic: Bic) -> Result<bool, Fault> {
-        self.held.participant(alloc, bic)
+    fn participant(&mut self, _alloc: Global, bic: Bic) -> Result<bool, Fault> {
+        Ok(self.known.registered.has_participant(&bic))
     }
 
-    fn owner(&mut self, alloc: Global, account: AccountId) -> Result<Option<Bic>, Fault> {
-        self.held.owner(alloc, account)
+    fn owner(&mut self, _alloc: Global, account: AccountId) -> Result<Option<Bic>, Fault> {
+        Ok(self.known.registered.owner(&self.held, &account))
     }
 
-    fn security(&mut self, alloc: Global, isin: Isin) -> Result<Option<Kind>, Fault> {
-        self.held.security(alloc, isin)
+    fn security(&mut self, _alloc: Global, isin: Isin) -> Result<Option<Kind>, Fault> {
+        Ok(self.known.registered.kind(&self.held, &isin))
     }
 
     fn outstanding(&mut self, alloc: Global, isin: Isin) -> Result<u64, Fault> {
         self.held.outstanding(alloc, isin)
     }
 
-    fn paid(&mut self, alloc: Global, ccy: Ccy) -> Result<Option<u64>, Fault> {
-        self.held.paid(alloc, ccy)
+    fn paid(&mut self, _alloc: Global, ccy: Ccy) -> Result<Option<u64>, Fault> {
+        if !self.known.registered.has_currency(&ccy) {
+            return Ok(None);
+        }
+        Ok(Some(self.held.total_paid(ccy)))
     }
 
-    fn last_run(&mut self, alloc: Global) -> Result<Option<Day>, Fault> {
-        self.held.last_run(alloc)
+    fn last_run(&mut self, _alloc: Global) -> Result<Option<Day>, Fault> {
+        Ok(self.known.registered.last_run())
     }
 
     fn position(&mut self, alloc: Global, account: AccountId, isin: Isin) -> Result<u64, Fault> {
@@ -122,7 +126,7 @@ impl Register for IndexedRegister {
         sender: Sender,
         reference: Reference,
     ) -> Result<Option<u64>, Fault> {
-        Ok(self.keys.number(&sender, &reference))
+        Ok(self.known.keys.number(&sender, &reference))
     }
 
     fn entry(&mut self, alloc: Global, number: u64) -> Result<Option<Entry>, Fault> {
@@ -165,8 +169,12 @@ impl Register for IndexedRegister {
         Ok(first_due(&self.held, &self.matched, day.yyyymmdd(), &place))
     }
 
-    fn security_after(&mut self, alloc: Global, isin: Option<Isin>) -> Result<Option<Isin>, Fault> {
-        self.held.security_after(alloc, isin)
+    fn security_after(
+        &mut self,
+        _alloc: Global,
+        isin: Option<Isin>,
+    ) -> Result<Option<Isin>, Fault> {
+        Ok(self.known.registered.security_after(&isin))
     }
 
     fn holding_after(
@@ -178,18 +186,26 @@ impl Register for IndexedRegister {
         self.held.holding_after(alloc, account, isin)
     }
 
-    fn held(&mut self, alloc: Global, isin: Isin) -> Result<u64, Fault> {
-        self.held.held(alloc, isin)
+    fn held(&mut self, _alloc: Global, isin: Isin) -> Result<u64, Fault> {
+        if let Stage::Failed = self.held.stage() {
+            return Ok(0);
+        }
+        let accounts = &self.known.registered.each_account;
+        Ok(held_on(&self.held, accounts, isin))
     }
 
-    fn held_cash(&mut self, alloc: Global, ccy: Ccy) -> Result<u64, Fault> {
-        self.held.held_cash(alloc, ccy)
+    fn held_cash(&mut self, _alloc: Global, ccy: Ccy) -> Result<u64, Fault> {
+        if let Stage::Failed = self.held.stage() {
+            return Ok(0);
+        }
+        let participants = &self.known.registered.each_participant;
+        Ok(cash_of_all(&self.held, participants, ccy))
     }
 
     fn append(&mut self, alloc: Global, entry: Entry, reply: Reply) -> Result<(), Fault> {
         let number = self.held.entry_count() + 1;
         if note_entry(
-            &mut self.keys,
+            &mut self.known,
             &mut self.unmatched,
             &mut self.noted,
             &entry,

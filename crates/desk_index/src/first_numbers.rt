@@ -1,11 +1,13 @@
 //! The number of the first entry that has each key.
-ghost use Rattle.std.specs.Prelude.{◌≡◌, if◌then◌else◌, OnOk, OnErr};
+ghost use Rattle.std.specs.Prelude.{◌≡◌, ◌++◌, ◌∷◌, [], if◌then◌else◌, is_some, true, IfSome, IfNone, OnOk, OnErr, List};
 ghost use Rattle.std.specs.BTreeMap.{get};
+ghost use Rattle.std.specs.BTreeMap.Range.{IsLeBy};
 ghost use Rattle.std.specs.Ordering.{is_eq};
-ghost use Rattle.desk_index.specs.FirstNumbers.{number_if, or_number, without};
+ghost use Rattle.desk_index.specs.FirstNumbers.{IsAbove, number_if, or_number, without};
 
 use std::alloc::AllocError;
 use std::collections::BTreeMap;
+use std::ops::Bound;
 
 /// Puts a number at a key that has none.
 pub fn put_first<K: Ord + Copy>(
@@ -29,4 +31,46 @@ pub fn take_number<K: Ord + Copy>(numbers: &mut BTreeMap<K, u64>, key: K, number
     if numbers.get(&key).copied() == Some(number) {
         let _ = numbers.remove(&key);
     }
+}
+
+/// Puts a number at a key that has none, and the key behind all others.
+pub fn name_first<K: Ord + Copy>(
+    numbers: &mut BTreeMap<K, u64>,
+    each: &mut Vec<K>,
+    key: K,
+    number: u64,
+) -> Result<(), AllocError>
+    ensures put { OnOk result ((q : K) → get K.cmp numbers.new q ≡ or_number (get K.cmp numbers.old q) (number_if (is_eq (K.cmp key q)) number)) }
+    ensures more { OnOk result (each.new.items ≡ each.old.items ++ key ∷ []) }
+    ensures err { OnErr result ((q : K) → get K.cmp numbers.new q ≡ get K.cmp numbers.old q) }
+    ensures err_each { OnErr result (each.new.items ≡ each.old.items) }
+{
+    each.reserve(1)?;
+    put_first(numbers, key, number)?;
+    each.push(key).unwrap();
+    Ok(())
+}
+
+/// Takes a key's number away, where it is this one, and the last key.
+pub fn unname<K: Ord + Copy>(numbers: &mut BTreeMap<K, u64>, each: &mut Vec<K>, key: K, number: u64)
+    ensures taken { (q : K) → get K.cmp numbers.new q ≡ (if is_eq (K.cmp key q) then without number (get K.cmp numbers.old q) else get K.cmp numbers.old q) }
+    ensures less { (keys : List K) → each.old.items ≡ keys ++ key ∷ [] → each.new.items ≡ keys }
+{
+    take_number(numbers, key, number);
+    let _ = each.pop();
+}
+
+/// The least key above one, or above none.
+pub fn next_above<K: Ord + Copy>(numbers: &BTreeMap<K, u64>, above: &Option<K>) -> Option<K>
+    ensures above { IfSome result (IsAbove K.cmp above.now) }
+    ensures there { IfSome result (λ k. is_some (get K.cmp numbers.now k) ≡ true) }
+    ensures least { IfSome result (λ k. (q : K) → IsAbove K.cmp above.now q → is_some (get K.cmp numbers.now q) ≡ true → IsLeBy K.cmp k q) }
+    ensures none { IfNone result ((q : K) → IsAbove K.cmp above.now q → is_some (get K.cmp numbers.now q) ≡ true → ⊥) }
+{
+    let start = match above {
+        Some(key) => Bound::Excluded(*key),
+        None => Bound::Unbounded,
+    };
+    let (key, _) = numbers.range((start, Bound::Unbounded)).next()?;
+    Some(*key)
 }

@@ -2,19 +2,19 @@
 ghost use Rattle.desk_lists.specs.ListView.{view_of_lists};
 ghost use Rattle.desk_index.specs.Indexed.{IsIndexed};
 
-use crate::keys::Keys;
+use crate::known::Known;
 use crate::match_key::MatchKey;
 use desk_lists::ListRegister;
 use desk_rules::Entry;
 use std::collections::BTreeSet;
 
 /// A register in lists, with look-ups beside them: what it holds is what the lists hold. Contracts see it by
-/// `view_of_index`. The keys are exact. The two sets may have too much, never too little: what they find is looked at
+/// `view_of_index`. What is known by keys is exact. The two sets may have too much, never too little: what they find is looked at
 /// in the lists.
 #[derive(Drop)]
 pub struct IndexedRegister {
     pub(crate) held: ListRegister,
-    pub(crate) keys: Keys,
+    pub(crate) known: Known,
     /// The unmatched instructions by their match keys, and some that are matched since `begin` or were taken back
     pub(crate) unmatched: BTreeSet<(MatchKey, u64)>,
     /// The matched pairs by their days and numbers, and some that are settled since `begin` or were taken back
@@ -23,5 +23,5 @@ pub struct IndexedRegister {
     pub(crate) noted: Vec<Entry>,
     /// The numbers that came to stand otherwise since `begin`
     pub(crate) touched: Vec<u64>,
-    ghost indexed: { IsIndexed (view_of_lists held) keys unmatched matched noted.items },
+    ghost indexed: { IsIndexed (view_of_lists held) known unmatched matched noted.items },
 }

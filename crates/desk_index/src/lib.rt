@@ -1,11 +1,12 @@
 //! The register in lists with look-ups beside them, so that no request walks the entries.
 //!
 //! `IndexedRegister`, in `indexed_register.rt`, wraps the `ListRegister` of `desk_lists` and meets the law of
-//! `desk_register`; contracts see it by the view of the lists that it wraps. `calls.rt` has its calls. There are three
-//! look-ups: `keys` has the number of the first entry with each key, `opposites` finds unmatched instructions by what
-//! opposite ones have in common (`match_key`), and `due_places` matched pairs by their days. `noting` puts into them
-//! what a call adds, `tidying` takes out what a call or `back` ends. `first_numbers`, `numbers_by_key` and `ordered`
-//! have the maps and sets beneath. Begin with specs/Indexed.antt, then `calls.rt`.
+//! `desk_register`; contracts see it by the view of the lists that it wraps. `calls.rt` has its calls. `known` has what
+//! is found by a key: `keys` the number of the first entry with each key, and `registered` the participants, accounts,
+//! securities, currencies and runs. `opposites` finds unmatched instructions by what opposite ones have in common
+//! (`match_key`), and `due_places` matched pairs by their days. `sums` adds up what accounts and participants hold.
+//! `noting` puts into the look-ups what a call adds, `tidying` takes out what a call or `back` ends. `first_numbers`,
+//! `numbers_by_key` and `ordered` have the maps and sets beneath. Begin with specs/Indexed.antt, then `calls.rt`.
 #![tactic(auto)]
 
 mod calls;
@@ -13,11 +14,14 @@ mod due_places;
 mod first_numbers;
 mod indexed_register;
 mod keys;
+mod known;
 mod match_key;
 mod noting;
 mod numbers_by_key;
 mod opposites;
 mod ordered;
+mod registered;
+mod sums;
 mod tidying;
 
 pub use indexed_register::IndexedRegister;

@@ -6,10 +6,10 @@ ghost use Rattle.desk_rules.specs.History.{instructed, instruction_at};
 ghost use Rattle.desk_rules.specs.Content.{history_of};
 ghost use Rattle.desk_lists.specs.ListView.{view_of_lists};
 ghost use Rattle.desk_index.specs.DuePlaces.{HoldsDue, PlacedAt, place_cmp};
-ghost use Rattle.desk_index.specs.Keys.{AreKeysOf};
+ghost use Rattle.desk_index.specs.Known.{AreKnown};
 ghost use Rattle.desk_index.specs.Open.{HoldsOpen, OpensAt};
 
-use crate::keys::Keys;
+use crate::known::Known;
 use crate::match_key::{MatchKey, key_of};
 use crate::ordered::put_key;
 use desk_lists::ListRegister;
@@ -54,7 +54,7 @@ fn open_place(places: &mut BTreeSet<(u64, u64)>, day: u64, number: u64) -> Resul
 
 /// Notes an entry in all look-ups, and the entry itself.
 pub fn note_entry(
-    keys: &mut Keys,
+    known: &mut Known,
     numbers: &mut BTreeSet<(MatchKey, u64)>,
     noted: &mut Vec<Entry>,
     entry: &Entry,
@@ -62,14 +62,14 @@ pub fn note_entry(
 ) -> Result<(), AllocError>
     ensures all { HoldsOpen numbers.old numbers.new }
     ensures opened { OnOk result (OpensAt numbers.new (instructed entry.now) number) }
-    ensures keyed { (history : List EntryValue) → AreKeysOf keys.old history → number ≡ length history + 1 → OnOk result (AreKeysOf keys.new (history ++ entry.now ∷ [])) }
+    ensures keyed { (history : List EntryValue) → AreKnown known.old history → number ≡ length history + 1 → OnOk result (AreKnown known.new (history ++ entry.now ∷ [])) }
     ensures more { OnOk result (noted.new.items ≡ noted.old.items ++ entry.now ∷ []) }
-    ensures err_keys { (history : List EntryValue) → AreKeysOf keys.old history → OnErr result (AreKeysOf keys.new history) }
+    ensures err_known { (history : List EntryValue) → AreKnown known.old history → number ≡ length history + 1 → OnErr result (AreKnown known.new history) }
     ensures err { OnErr result (noted.new.items ≡ noted.old.items) }
 {
     noted.reserve(1)?;
     open_entry(numbers, entry, number)?;
-    keys.note(entry, number)?;
+    known.note(entry, number)?;
     noted.push(*entry).unwrap();
     Ok(())
 }

@@ -5,24 +5,24 @@ ghost use Rattle.desk_rules.specs.Content.{Content};
 ghost use Rattle.desk_lists.specs.ListView.{view_of_lists};
 ghost use Rattle.desk_index.specs.DuePlaces.{HasDue};
 ghost use Rattle.desk_index.specs.Indexed.{HoldsOn};
-ghost use Rattle.desk_index.specs.Keys.{AreKeysOf};
+ghost use Rattle.desk_index.specs.Known.{AreKnown};
 ghost use Rattle.desk_index.specs.Open.{HasOpen};
 
-use crate::keys::Keys;
+use crate::known::Known;
 use crate::match_key::{MatchKey, key_of};
 use crate::ordered::drop_key;
 use desk_lists::ListRegister;
 use desk_rules::{Entry, State};
 use std::collections::BTreeSet;
 
-/// Forgets the keys of all entries that were noted, behind so many others.
-pub fn forget_all(keys: &mut Keys, noted: &mut Vec<Entry>, count: u64)
+/// Forgets all entries that were noted, behind so many others.
+pub fn forget_all(known: &mut Known, noted: &mut Vec<Entry>, count: u64)
     requires { count < 2 ^ 63 }
-    ensures forgot { (history : List EntryValue) → AreKeysOf keys.old (history ++ noted.old.items) → count ≡ length history → AreKeysOf keys.new history }
+    ensures forgot { (history : List EntryValue) → AreKnown known.old (history ++ noted.old.items) → count ≡ length history → AreKnown known.new history }
     ensures none { noted.new.items ≡ [] }
 {
     while let Some(entry) = noted.pop() {
-        keys.forget(&entry, count + noted.len() as u64 + 1);
+        known.forget(&entry, count + noted.len() as u64 + 1);
     }
 }
 

@@ -1,16 +1,22 @@
 //! What a register that keeps look-ups beside the lists asks of them. All but `fail` only reads.
-ghost use Rattle.std.specs.Prelude.{◌≡◌, ◌↔◌, IsTrue, IfSome, IfNone, length};
+ghost use Rattle.std.specs.Prelude.{◌≡◌, ◌≢◌, ◌↔◌, ◌+◌, IsTrue, IfSome, IfNone, length, option_and_then};
 ghost use Rattle.desk_rules.specs.declared.pair.Place.{Place};
-ghost use Rattle.desk_rules.specs.History.{instruction_at};
+ghost use Rattle.desk_rules.specs.Balances.{paid_in, paid_out};
+ghost use Rattle.desk_rules.specs.Facts.{kind_by, owner_by};
+ghost use Rattle.desk_rules.specs.History.{entry_at, instruction_at};
 ghost use Rattle.desk_rules.specs.Content.{history_of};
 ghost use Rattle.desk_register.specs.Looked.{IsDue, IsOppositeAt};
 ghost use Rattle.desk_register.specs.View.{Falls, IsLater};
 ghost use Rattle.desk_lists.specs.ListView.{view_of_lists};
 
+use crate::balances::balance_of;
 use crate::list_register::ListRegister;
-use crate::{by_number, due_pairs, opposites};
+use crate::lists::BalanceKey;
+use crate::{by_number, due_pairs, entries, opposites};
+use desk_codes::{AccountId, Bic, Ccy, Isin};
+use desk_msg::Kind;
 use desk_register::{Fault, Stage};
-use desk_rules::{Instructed, Place, Standing};
+use desk_rules::{Entry, Instructed, Place, Standing};
 
 impl ListRegister {
     /// How many entries there are.
@@ -18,6 +24,13 @@ impl ListRegister {
         ensures { result ≡ length (view_of_lists self.now).content.register }
     {
         self.lists.kept.len() as u64
+    }
+
+    /// The entry of a number; None where there is none.
+    pub fn entry_at(&self, number: u64) -> Option<Entry>
+        ensures { result ≡ entry_at (history_of (view_of_lists self.now).content) number }
+    {
+        by_number::entry(&self.lists, number)
     }
 
     /// The instruction of a number; None where there is none.
@@ -47,6 +60,42 @@ impl ListRegister {
         ensures none { IfNone result ((p : Place) → p.number ≡ number → IsDue (view_of_lists self.now).content day above.now p → ⊥) }
     {
         due_pairs::due_place(&self.lists, number, day, above)
+    }
+
+    /// The owner that the entry of a number gives an account.
+    pub fn owner_at(&self, number: u64, account: &AccountId) -> Option<Bic>
+        ensures { result ≡ option_and_then (owner_by account.now) (entry_at (history_of (view_of_lists self.now).content) number) }
+    {
+        entries::owner_by(&self.entry_at(number)?, account)
+    }
+
+    /// The kind that the entry of a number gives a security.
+    pub fn kind_at(&self, number: u64, isin: &Isin) -> Option<Kind>
+        ensures { result ≡ option_and_then (kind_by isin.now) (entry_at (history_of (view_of_lists self.now).content) number) }
+    {
+        entries::kind_by(&self.entry_at(number)?, isin)
+    }
+
+    /// What an account holds of a security.
+    pub fn position_of(&self, account: AccountId, isin: Isin) -> u64
+        ensures { result ≡ (view_of_lists self.now).content.position account isin }
+    {
+        balance_of(&self.lists, &BalanceKey::Position { account, isin })
+    }
+
+    /// What a participant has of a currency.
+    pub fn cash_of(&self, bic: Bic, ccy: Ccy) -> u64
+        ensures { result ≡ (view_of_lists self.now).content.cash bic ccy }
+    {
+        balance_of(&self.lists, &BalanceKey::Cash { bic, ccy })
+    }
+
+    /// What was paid in of a currency less what was paid out; 0 before any pay in.
+    pub fn total_paid(&self, ccy: Ccy) -> u64
+        ensures { (view_of_lists self.now).stage ≢ Stage.Failed
+            → paid_out (history_of (view_of_lists self.now).content) ccy + result ≡ paid_in (history_of (view_of_lists self.now).content) ccy }
+    {
+        balance_of(&self.lists, &BalanceKey::Paid { ccy })
     }
 
     /// Lets what was begun fail, where a look-up beside the lists wants memory.

@@ -1,10 +1,10 @@
 use Rattle.std.proofs.Common.{◌≡◌, ◌++◌, List, length, vec_len}
 use Rattle.desk_rules.specs.declared.entry.Entry.{Entry}
-use Rattle.desk_index.specs.Keys.{AreKeysOf}
+use Rattle.desk_index.specs.Known.{AreKnown}
 use Rattle.desk_index.proofs.tidying.forget_all.Given as goal
 
 abbrev pub invariant-loop-entry : goal.invariant-loop-entry
-invariant-loop-entry l = (history : List Entry) → AreKeysOf l.fn.keys (history ++ l.fn.noted.items) → l.count ≡ length history → AreKeysOf l.keys (history ++ l.noted.items)
+invariant-loop-entry l = (history : List Entry) → AreKnown l.fn.known (history ++ l.fn.noted.items) → l.count ≡ length history → AreKnown l.known (history ++ l.noted.items)
 
 abbrev pub decreases-loop-entry : goal.decreases-loop-entry
 decreases-loop-entry l = vec_len l.noted

@@ -1,6 +1,7 @@
-use Rattle.std.proofs.Common.{sym, ap, ◌∙◌, ◌+◌}
+use Rattle.std.proofs.Common.{sym, ap, ◌∙◌, ◌+◌, ◌++◌}
+use Rattle.desk_rules.specs.Content.{history_of}
 use Rattle.desk_lists.specs.ListView.{view_of_lists}
-use Rattle.desk_index.proofs.IndexedLemmas.{after_append, after_failure, where_it_failed, where_it_went}
+use Rattle.desk_index.proofs.IndexedLemmas.{after_append, after_failure, next_count, where_it_failed, where_it_went}
 use Rattle.desk_index.proofs.calls.IndexedRegisterRegister.append.Goals as goal
 
 pub invariant_of-self : goal.invariant_of-self
@@ -8,9 +9,12 @@ invariant_of-self c =
     let r = c.args.self.now in
     let noting = c.note_entry in
     record {
-      indexed = after_failure r.keys noting.new.keys r.unmatched noting.new.numbers r.matched r.matched r.noted.items noting.new.noted.items (view_of_lists r.held) (view_of_lists c.fail.new.self) r.indexed
+      indexed = after_failure r.known noting.new.known r.unmatched noting.new.numbers r.matched r.matched r.noted.items noting.new.noted.items (view_of_lists r.held) (view_of_lists c.fail.new.self) r.indexed
           c.fail.ensures.stage c.fail.ensures.mark noting.ensures.all (λ q there. there) (where_it_failed noting.result c.if-is_err.ensures.value noting.ensures.err)
-          (λ history keyed. where_it_failed noting.result c.if-is_err.ensures.value (noting.ensures.err_keys history keyed));
+          (λ keyed.
+          where_it_failed noting.result c.if-is_err.ensures.value
+          (noting.ensures.err_known (history_of (view_of_lists r.held).mark ++ r.noted.items) keyed
+          (next_count r.known r.unmatched r.matched r.noted.items (view_of_lists r.held) c.entry_count-number.result c.requires.stage c.entry_count-number.ensures r.indexed)));
     }
 
 pub returns-then-is_err-clause-change : goal.returns-then-is_err-clause-change
@@ -23,7 +27,7 @@ invariant_of-self-2 c =
     let went = c.if-is_err.ensures.value in
     let change = c.append.ensures.change in
     record {
-      indexed = after_append c.append.result r.keys noting.new.keys r.unmatched noting.new.numbers r.matched r.noted.items noting.new.noted.items (view_of_lists r.held) (view_of_lists c.append.new.self) (c.entry_count-number.result + 1)
+      indexed = after_append c.append.result r.known noting.new.known r.unmatched noting.new.numbers r.matched r.noted.items noting.new.noted.items (view_of_lists r.held) (view_of_lists c.append.new.self) (c.entry_count-number.result + 1)
           c.args.entry c.args.reply tt tt tt c.requires.stage (ap (λ n. n + 1) c.entry_count-number.ensures) r.indexed noting.ensures.all
           (where_it_went noting.result went noting.ensures.opened) (where_it_went noting.result went noting.ensures.more)
           (λ history keyed is. where_it_went noting.result went (noting.ensures.keyed history keyed is))

@@ -1,7 +1,7 @@
 use Rattle.std.proofs.Common.{sym, subst, ◌++◌, ◌∙◌}
 use Rattle.desk_rules.specs.Content.{history_of}
 use Rattle.desk_index.specs.DuePlaces.{HasDue}
-use Rattle.desk_index.specs.Keys.{AreKeysOf}
+use Rattle.desk_index.specs.Known.{AreKnown}
 use Rattle.desk_lists.specs.ListView.{view_of_lists}
 use Rattle.desk_index.specs.Open.{HasOpen}
 use Rattle.desk_index.proofs.IndexedLemmas.{idle_indexed, idle_mark, size_of}
@@ -14,8 +14,8 @@ invariant_of-self-2 c =
     let goes = c.in_ok-back.ensures.ok in
     let same = goes.content tt in
     record {
-      indexed = idle_indexed c.forget_all.new.keys r.unmatched r.matched c.forget_all.new.noted.items new (idle_mark c.back.new.self goes.stage) c.forget_all.ensures.none
-          (c.forget_all.ensures.forgot (history_of new.content) (subst (λ m. AreKeysOf r.keys (history_of m ++ r.noted.items)) (sym same) r.indexed.keyed) (c.entry_count-count.ensures ∙ sym (size_of new.content)))
+      indexed = idle_indexed c.forget_all.new.known r.unmatched r.matched c.forget_all.new.noted.items new (idle_mark c.back.new.self goes.stage) c.forget_all.ensures.none
+          (c.forget_all.ensures.forgot (history_of new.content) (subst (λ m. AreKnown r.known (history_of m ++ r.noted.items)) (sym same) r.indexed.keyed) (c.entry_count-count.ensures ∙ sym (size_of new.content)))
           (subst (HasOpen r.unmatched) (sym same) r.indexed.open_marked)
           (subst (HasDue r.matched) (sym same) r.indexed.due_marked);
     }

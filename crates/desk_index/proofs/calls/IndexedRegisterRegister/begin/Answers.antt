@@ -5,4 +5,4 @@ use Rattle.desk_index.proofs.calls.IndexedRegisterRegister.begin.Goals as goal
 pub invariant_of-self : goal.invariant_of-self
 invariant_of-self c =
     let r = c.args.self.now in
-    record { indexed = after_begin r.keys r.unmatched r.matched r.noted.items (view_of_lists r.held) (view_of_lists c.begin.new.self) tt tt tt c.begin.result c.requires c.begin.ensures.ok c.begin.ensures.err r.indexed }
+    record { indexed = after_begin r.known r.unmatched r.matched r.noted.items (view_of_lists r.held) (view_of_lists c.begin.new.self) tt tt tt c.begin.result c.requires c.begin.ensures.ok c.begin.ensures.err r.indexed }

@@ -5,4 +5,4 @@ pub invariant_of-self : goal.invariant_of-self
 invariant_of-self c =
     let r = c.args.self.now in
     let change = c.cancel.ensures.change in
-    record { indexed = after_cancel r.keys r.unmatched r.matched r.noted.items r.held c.cancel.new.self c.requires.stage r.indexed c.cancel.result c.args.number (c.cancel.ensures.cancelled tt tt) change.ok change.err }
+    record { indexed = after_cancel r.known r.unmatched r.matched r.noted.items r.held c.cancel.new.self c.requires.stage r.indexed c.cancel.result c.args.number (c.cancel.ensures.cancelled tt tt) change.ok change.err }

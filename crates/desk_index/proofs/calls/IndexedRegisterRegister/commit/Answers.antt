@@ -14,8 +14,8 @@ invariant_of-self-2 c =
     let same = commits.content tt tt in
     let apart = begun_is_not_failed old.stage c.requires in
     record {
-      indexed = idle_indexed r.keys c.tidy_all.new.numbers c.tidy_all.new.places c.truncate.new.self.items new (idle_mark c.commit.new.self commits.stage) c.truncate.ensures.items
-          (kept_keys r.keys r.unmatched r.matched r.noted.items old new r.indexed c.requires same)
+      indexed = idle_indexed r.known c.tidy_all.new.numbers c.tidy_all.new.places c.truncate.new.self.items new (idle_mark c.commit.new.self commits.stage) c.truncate.ensures.items
+          (kept_keys r.known r.unmatched r.matched r.noted.items old new r.indexed c.requires same)
           (c.tidy_all.ensures.unmatched (subst (HasOpen r.unmatched) (sym same) (r.indexed.open_now apart)))
           (c.tidy_all.ensures.matched (subst (HasDue r.matched) (sym same) (r.indexed.due_now apart)));
     }

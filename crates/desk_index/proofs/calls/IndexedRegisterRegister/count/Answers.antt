@@ -4,4 +4,4 @@ use Rattle.desk_index.proofs.calls.IndexedRegisterRegister.count.Goals as goal
 pub invariant_of-self : goal.invariant_of-self
 invariant_of-self c =
     let r = c.args.self.now in
-    record { indexed = read_keeps c.count.result r.keys r.unmatched r.matched r.noted.items r.held c.count.new.self c.count.ensures.read r.indexed }
+    record { indexed = read_keeps c.count.result r.known r.unmatched r.matched r.noted.items r.held c.count.new.self c.count.ensures.read r.indexed }

@@ -4,4 +4,4 @@ use Rattle.desk_index.proofs.calls.IndexedRegisterRegister.holding_after.Goals a
 pub invariant_of-self : goal.invariant_of-self
 invariant_of-self c =
     let r = c.args.self.now in
-    record { indexed = read_keeps c.holding_after.result r.keys r.unmatched r.matched r.noted.items r.held c.holding_after.new.self c.holding_after.ensures.read r.indexed }
+    record { indexed = read_keeps c.holding_after.result r.known r.unmatched r.matched r.noted.items r.held c.holding_after.new.self c.holding_after.ensures.read r.indexed }

@@ -4,4 +4,4 @@ use Rattle.desk_index.proofs.calls.IndexedRegisterRegister.outstanding.Goals as 
 pub invariant_of-self : goal.invariant_of-self
 invariant_of-self c =
     let r = c.args.self.now in
-    record { indexed = read_keeps c.outstanding.result r.keys r.unmatched r.matched r.noted.items r.held c.outstanding.new.self c.outstanding.ensures.read r.indexed }
+    record { indexed = read_keeps c.outstanding.result r.known r.unmatched r.matched r.noted.items r.held c.outstanding.new.self c.outstanding.ensures.read r.indexed }

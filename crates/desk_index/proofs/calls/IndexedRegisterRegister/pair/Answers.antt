@@ -8,8 +8,8 @@ invariant_of-self c =
     let r = c.args.self.now in
     let noting = c.note_pair in
     record {
-      indexed = after_failure r.keys r.keys r.unmatched r.unmatched r.matched noting.new.places r.noted.items r.noted.items (view_of_lists r.held) (view_of_lists c.fail.new.self) r.indexed
-          c.fail.ensures.stage c.fail.ensures.mark (λ q there. there) noting.ensures.all refl (λ history keyed. keyed);
+      indexed = after_failure r.known r.known r.unmatched r.unmatched r.matched noting.new.places r.noted.items r.noted.items (view_of_lists r.held) (view_of_lists c.fail.new.self) r.indexed
+          c.fail.ensures.stage c.fail.ensures.mark (λ q there. there) noting.ensures.all refl (λ keyed. keyed);
     }
 
 pub returns-then-is_err-clause-change : goal.returns-then-is_err-clause-change
@@ -21,10 +21,10 @@ invariant_of-self-in-Ok c =
     let noting = c.note_pair in
     let change = c.pair.ensures.change in
     let held = view_of_lists c.pair.new.self in
-    let indexed = after_pair r.keys r.unmatched r.matched noting.new.places r.noted.items (view_of_lists r.held) (view_of_lists c.pair.new.self) tt tt tt c.requires.stage r.indexed noting.ensures.all
+    let indexed = after_pair r.known r.unmatched r.matched noting.new.places r.noted.items (view_of_lists r.held) (view_of_lists c.pair.new.self) tt tt tt c.requires.stage r.indexed noting.ensures.all
     c.pair.result c.args.earlier c.args.later (c.requires.fits tt tt).two (where_it_went noting.result c.if-is_err.ensures.value noting.ensures.opened) c.pair.ensures.paired change.ok change.err in
     record {
-      indexed = retidied r.keys r.unmatched c.tidy_new.new.numbers noting.new.places c.tidy_new.new.places r.noted.items c.noted_count-noted.result held
+      indexed = retidied r.known r.unmatched c.tidy_new.new.numbers noting.new.places c.tidy_new.new.places r.noted.items c.noted_count-noted.result held
           (still_begun (view_of_lists r.held) held c.requires.stage c.in-Ok.ensures.change.ok) c.noted_count-noted.ensures c.tidy_new.ensures.unmatched c.tidy_new.ensures.matched indexed;
     }
 
@@ -34,6 +34,6 @@ invariant_of-self-in-Err-1 c =
     let noting = c.note_pair in
     let change = c.pair.ensures.change in
     record {
-      indexed = after_pair r.keys r.unmatched r.matched noting.new.places r.noted.items (view_of_lists r.held) (view_of_lists c.pair.new.self) tt tt tt c.requires.stage r.indexed noting.ensures.all
+      indexed = after_pair r.known r.unmatched r.matched noting.new.places r.noted.items (view_of_lists r.held) (view_of_lists c.pair.new.self) tt tt tt c.requires.stage r.indexed noting.ensures.all
           c.pair.result c.args.earlier c.args.later (c.requires.fits tt tt).two (where_it_went noting.result c.if-is_err.ensures.value noting.ensures.opened) c.pair.ensures.paired change.ok change.err;
     }

@@ -1,7 +1,8 @@
-use Rattle.desk_index.proofs.IndexedLemmas.{read_keeps}
+use Rattle.desk_lists.specs.ListView.{view_of_lists}
+use Rattle.desk_index.proofs.IndexedLemmas.{now_known}
 use Rattle.desk_index.proofs.calls.IndexedRegisterRegister.security.Goals as goal
 
-pub invariant_of-self : goal.invariant_of-self
-invariant_of-self c =
+pub returns-clause-value : goal.returns-clause-value
+returns-clause-value c honest sure up =
     let r = c.args.self.now in
-    record { indexed = read_keeps c.security.result r.keys r.unmatched r.matched r.noted.items r.held c.security.new.self c.security.ensures.read r.indexed }
+    c.kind.ensures (now_known r.known r.unmatched r.matched r.noted.items (view_of_lists r.held) up r.indexed).registered

@@ -1,7 +1,10 @@
-use Rattle.desk_index.proofs.IndexedLemmas.{read_keeps}
+use Rattle.desk_rules.specs.Content.{history_of}
+use Rattle.desk_lists.specs.ListView.{view_of_lists}
+use Rattle.desk_index.proofs.IndexedLemmas.{now_known}
 use Rattle.desk_index.proofs.calls.IndexedRegisterRegister.security_after.Goals as goal
 
-pub invariant_of-self : goal.invariant_of-self
-invariant_of-self c =
+pub returns-clause-value : goal.returns-clause-value
+returns-clause-value c honest sure up =
     let r = c.args.self.now in
-    record { indexed = read_keeps c.security_after.result r.keys r.unmatched r.matched r.noted.items r.held c.security_after.new.self c.security_after.ensures.read r.indexed }
+    let view = view_of_lists r.held in
+    c.security_after.ensures (history_of view.content) (now_known r.known r.unmatched r.matched r.noted.items view up r.indexed).registered

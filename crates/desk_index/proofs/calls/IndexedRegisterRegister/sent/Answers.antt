@@ -4,4 +4,4 @@ use Rattle.desk_index.proofs.calls.IndexedRegisterRegister.sent.Goals as goal
 pub invariant_of-self : goal.invariant_of-self
 invariant_of-self c =
     let r = c.args.self.now in
-    record { indexed = read_keeps c.sent.result r.keys r.unmatched r.matched r.noted.items r.held c.sent.new.self c.sent.ensures.read r.indexed }
+    record { indexed = read_keeps c.sent.result r.known r.unmatched r.matched r.noted.items r.held c.sent.new.self c.sent.ensures.read r.indexed }

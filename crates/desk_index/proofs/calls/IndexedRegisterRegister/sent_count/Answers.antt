@@ -4,4 +4,4 @@ use Rattle.desk_index.proofs.calls.IndexedRegisterRegister.sent_count.Goals as g
 pub invariant_of-self : goal.invariant_of-self
 invariant_of-self c =
     let r = c.args.self.now in
-    record { indexed = read_keeps c.sent_count.result r.keys r.unmatched r.matched r.noted.items r.held c.sent_count.new.self c.sent_count.ensures.read r.indexed }
+    record { indexed = read_keeps c.sent_count.result r.known r.unmatched r.matched r.noted.items r.held c.sent_count.new.self c.sent_count.ensures.read r.indexed }

@@ -4,8 +4,9 @@ use Rattle.desk_index.proofs.keys.Keys.forget.Goals as goal
 
 pub returns-in-Operator : goal.returns-in-Operator
 returns-in-Operator c history keys is =
-    forgot_command c.args.self.now c.take_number.new.numbers history c.args.entry.now c.reference-reference.result c.args.number keys is (sym c.sender.ensures ∙ c.in-Operator.is) c.reference-reference.ensures c.take_number.ensures
+    forgot_command c.args.self.now history c.args.entry.now c.args.number is c.reference-reference.result c.take_number.new.numbers (sym c.sender.ensures ∙ c.in-Operator.is) c.reference-reference.ensures keys c.take_number.ensures
 
 pub returns-in-Participant : goal.returns-in-Participant
 returns-in-Participant c history keys is =
-    forgot_message c.args.self.now c.take_number-in-Participant.new.numbers history c.args.entry.now c.in-Participant.bic c.reference-reference.result c.args.number keys is (sym c.sender.ensures ∙ c.in-Participant.is) c.reference-reference.ensures c.take_number-in-Participant.ensures
+    forgot_message c.args.self.now history c.args.entry.now c.args.number is c.in-Participant.bic c.reference-reference.result c.take_number-in-Participant.new.numbers (sym c.sender.ensures ∙ c.in-Participant.is) c.reference-reference.ensures keys
+    c.take_number-in-Participant.ensures

@@ -4,7 +4,9 @@ use Rattle.desk_index.proofs.keys.Keys.note.Goals as goal
 
 pub returns-in-Operator-clause-noted : goal.returns-in-Operator-clause-noted
 returns-in-Operator-clause-noted c history keys is =
-    on_ok c.put_first.result (noted_command c.args.self.now c.put_first.new.numbers history c.args.entry.now c.reference-reference.result c.args.number keys is (sym c.sender.ensures ∙ c.in-Operator.is) c.reference-reference.ensures) c.put_first.ensures.put
+    on_ok c.put_first.result
+    (noted_command c.args.self.now history c.args.entry.now c.args.number is c.reference-reference.result c.put_first.new.numbers (sym c.sender.ensures ∙ c.in-Operator.is) c.reference-reference.ensures keys)
+    c.put_first.ensures.put
 
 pub returns-in-Operator-clause-err : goal.returns-in-Operator-clause-err
 returns-in-Operator-clause-err c history keys =
@@ -12,7 +14,9 @@ returns-in-Operator-clause-err c history keys =
 
 pub returns-in-Participant-clause-noted : goal.returns-in-Participant-clause-noted
 returns-in-Participant-clause-noted c history keys is =
-    on_ok c.put_first-in-Participant.result (noted_message c.args.self.now c.put_first-in-Participant.new.numbers history c.args.entry.now c.in-Participant.bic c.reference-reference.result c.args.number keys is (sym c.sender.ensures ∙ c.in-Participant.is) c.reference-reference.ensures) c.put_first-in-Participant.ensures.put
+    on_ok c.put_first-in-Participant.result
+    (noted_message c.args.self.now history c.args.entry.now c.args.number is c.in-Participant.bic c.reference-reference.result c.put_first-in-Participant.new.numbers (sym c.sender.ensures ∙ c.in-Participant.is) c.reference-reference.ensures keys)
+    c.put_first-in-Participant.ensures.put
 
 pub returns-in-Participant-clause-err : goal.returns-in-Participant-clause-err
 returns-in-Participant-clause-err c history keys =

@@ -1,7 +1,0 @@
-use Rattle.desk_index.proofs.IndexedLemmas.{read_keeps}
-use Rattle.desk_index.proofs.calls.IndexedRegisterRegister.held_cash.Goals as goal
-
-pub invariant_of-self : goal.invariant_of-self
-invariant_of-self c =
-    let r = c.args.self.now in
-    record { indexed = read_keeps c.held_cash.result r.keys r.unmatched r.matched r.noted.items r.held c.held_cash.new.self c.held_cash.ensures.read r.indexed }

@@ -1,7 +1,0 @@
-use Rattle.desk_index.proofs.IndexedLemmas.{read_keeps}
-use Rattle.desk_index.proofs.calls.IndexedRegisterRegister.paid.Goals as goal
-
-pub invariant_of-self : goal.invariant_of-self
-invariant_of-self c =
-    let r = c.args.self.now in
-    record { indexed = read_keeps c.paid.result r.keys r.unmatched r.matched r.noted.items r.held c.paid.new.self c.paid.ensures.read r.indexed }

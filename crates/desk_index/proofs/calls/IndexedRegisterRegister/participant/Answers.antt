@@ -1,7 +1,0 @@
-use Rattle.desk_index.proofs.IndexedLemmas.{read_keeps}
-use Rattle.desk_index.proofs.calls.IndexedRegisterRegister.participant.Goals as goal
-
-pub invariant_of-self : goal.invariant_of-self
-invariant_of-self c =
-    let r = c.args.self.now in
-    record { indexed = read_keeps c.participant.result r.keys r.unmatched r.matched r.noted.items r.held c.participant.new.self c.participant.ensures.read r.indexed }

@@ -1,0 +1,11 @@
+-- What is known of the entries by a key. Only private contracts and proofs speak of it.
+use Rattle.std.specs.Prelude.{List}
+use Rattle.desk_rules.specs.declared.entry.Entry.{Entry}
+use Rattle.desk_index.specs.declared.known.Known.{Known}
+use Rattle.desk_index.specs.Keys.{AreKeysOf}
+use Rattle.desk_index.specs.Registered.{AreRegistered}
+
+-- the keys are those of these entries, and so is what is registered
+pub record AreKnown (known : Known) (history : List Entry) : Type 0 where
+  pub keys : AreKeysOf known.keys history
+  pub registered : AreRegistered known.registered history
