@@ -17,7 +17,7 @@ use Rattle.desk_book.proofs.FormedLemmas.{empty_formed}
 use Rattle.desk_book.proofs.RunLemmas.{open_all_along}
 use Rattle.desk_book.specs.declared.fault.Fault.{Fault}
 use Rattle.desk_book.specs.declared.fault.Fault.TheVariants.{Memory, Storage, Closed}
-use Rattle.desk_book.specs.Answered.{Run, says_closed, says_storage}
+use Rattle.desk_book.specs.Answered.{AnsweredInTurn, says_closed, says_storage}
 use Rattle.desk_book.specs.Held.{Holds, KeepsFormed}
 use Rattle.desk_book.specs.Played.{PlaysScript, asked_in}
 use Rattle.desk.specs.PlayAnswer.{IsReplyOrMemory, IsPlayAnswer, told_answers, told_memory, told_input}
@@ -52,10 +52,10 @@ pub told : (r : Option (List ℕ)) (before after : Option (List ℕ)) (was is : 
 told r before after was is v0 v1 most not_closed stays sound honest holds played =
     let p = played no_books honest holds in
     let s = p.3 in
-    let P : ℕ → Type 0 = λ k. Run k was no_books (asked_in s.items) s.answers is s.played.last in
-    let Q : Bool → Type 0 = λ b. Run MOST_ENTRIES b no_books (asked_in s.items) s.answers is s.played.last in
-    let R : Bool → Type 0 = λ b. Run MOST_ENTRIES false no_books (asked_in s.items) s.answers b s.played.last in
-    let run : Run MOST_ENTRIES false no_books (asked_in s.items) s.answers false s.played.last = subst R stays (subst Q not_closed (subst P most s.played.run)) in
+    let P : ℕ → Type 0 = λ k. AnsweredInTurn k was no_books (asked_in s.items) s.answers is s.played.last in
+    let Q : Bool → Type 0 = λ b. AnsweredInTurn MOST_ENTRIES b no_books (asked_in s.items) s.answers is s.played.last in
+    let R : Bool → Type 0 = λ b. AnsweredInTurn MOST_ENTRIES false no_books (asked_in s.items) s.answers b s.played.last in
+    let run : AnsweredInTurn MOST_ENTRIES false no_books (asked_in s.items) s.answers false s.played.last = subst R stays (subst Q not_closed (subst P most s.played.in_turn)) in
     let blame = s.played.blame in
     let none : count_by says_storage s.answers ≡ 0 = omega (arith, blame, sound) in (
       p.0,

@@ -11,10 +11,10 @@ use Rattle.desk.specs.declared.status.Status.{Status}
 use Rattle.desk.specs.declared.status.Status.TheVariants as exit
 
 -- what was told, where these bytes came, if that is known, and what the writer held before and after
-abbrev pub IsAnswer : CallValue → Option (List ℕ) → Status → Option (List ℕ) → Option (List ℕ) → Type 0
-IsAnswer (isin code) given status before after = IsIsinAnswer code status (Appends before after)
-IsAnswer (read mt) given status before after = IfSome given (λ input. IsReadAnswer mt input status (Appends before after))
-IsAnswer play given status before after = (input : List ℕ) × IfSome given (λ known. known ≡ input) × IsPlayAnswer input status before after
+abbrev pub IsCallAnswer : CallValue → Option (List ℕ) → Status → Option (List ℕ) → Option (List ℕ) → Type 0
+IsCallAnswer (isin code) given status before after = IsIsinAnswer code status (Appends before after)
+IsCallAnswer (read mt) given status before after = IfSome given (λ input. IsReadAnswer mt input status (Appends before after))
+IsCallAnswer play given status before after = (input : List ℕ) × IfSome given (λ known. known ≡ input) × IsPlayAnswer input status before after
 
 -- want of memory was told alone, as a fault
 abbrev pub IsMemoryTold : Status → Option (List ℕ) → Option (List ℕ) → Type 0

@@ -8,7 +8,7 @@ use Rattle.desk_rules.specs.declared.limits.TheConstants.{MOST_ENTRIES}
 use Rattle.desk_engine.specs.Applied.{no_books}
 use Rattle.desk_book.specs.declared.fault.Fault.{Fault}
 use Rattle.desk_book.specs.declared.fault.Fault.TheVariants as desk_fault
-use Rattle.desk_book.specs.Answered.{Run}
+use Rattle.desk_book.specs.Answered.{AnsweredInTurn}
 use Rattle.desk_book.specs.Played.{answers_text, asked_in}
 use Rattle.desk_book.specs.Script.{Item, Script}
 use Rattle.desk.specs.Status.{failure_line}
@@ -25,6 +25,6 @@ IsReplyOrMemory (Err fault) = fault ≡ desk_fault.Memory
 -- the status done; or a failure is told alone, as a fault. A desk in memory is never closed.
 pub data IsPlayAnswer (input : List ℕ) (status : Status) (before after : Option (List ℕ)) : Type 0 where
   told_answers : (items : List Item) (answers : List (Result Reply Fault)) (last : Books) → length input ≤ LONGEST_SCRIPT → Script input items
-      → Run MOST_ENTRIES false no_books (asked_in items) answers false last → All IsReplyOrMemory answers → Appends before after (answers_text items answers) → status ≡ exit.Done → IsPlayAnswer input status before after
+      → AnsweredInTurn MOST_ENTRIES false no_books (asked_in items) answers false last → All IsReplyOrMemory answers → Appends before after (answers_text items answers) → status ≡ exit.Done → IsPlayAnswer input status before after
   told_memory : status ≡ exit.Fault → Appends before after (failure_line Memory ++ codes "\n") → IsPlayAnswer input status before after
   told_input : status ≡ exit.Fault → Appends before after (failure_line Input ++ codes "\n") → IsPlayAnswer input status before after

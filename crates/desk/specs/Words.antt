@@ -21,10 +21,9 @@ value_of_call (Read mt) = read mt
 value_of_call Play = play
 
 -- a message that is read is an instruction
-abbrev pub IsReadable : Call → Type 0
-IsReadable (Isin code) = Unit {0}
-IsReadable (Read mt) = is_instruction mt ≡ true
-IsReadable Play = Unit {0}
+abbrev pub ReadsOnlyInstructions : Call → Type 0
+ReadsOnlyInstructions (Read mt) = is_instruction mt ≡ true
+ReadsOnlyInstructions call = Unit {0}
 
 -- the words behind the program's name that ask for it
 abbrev pub words_for : CallValue → List (List ℕ)

@@ -4,9 +4,9 @@ ghost use Rattle.std.specs.Io.KnownBytes.{Appends};
 ghost use Rattle.std.specs.IoError.{error_kind};
 ghost use Rattle.std.specs.declared.io.ErrorKind.TheVariants as io_kind;
 ghost use Rattle.clap.specs.Words.{kind_of};
-ghost use Rattle.desk.specs.CallAnswer.{IsAnswer, IsMemoryTold};
+ghost use Rattle.desk.specs.CallAnswer.{IsCallAnswer, IsMemoryTold};
 ghost use Rattle.desk.specs.Status.{failure_line, status_of_error};
-ghost use Rattle.desk.specs.Words.{CallValue, IsAskable, IsReadable, IsSaidBy, value_of_call, words_for};
+ghost use Rattle.desk.specs.Words.{CallValue, IsAskable, ReadsOnlyInstructions, IsSaidBy, value_of_call, words_for};
 
 use crate::isin::answer_isin;
 use crate::play::answer_play;
@@ -26,11 +26,11 @@ pub fn run<S: AsStr, R: Read, W: Write>(
     writer: &mut W,
 ) -> Status
     ensures asked { (program : List ℕ) (asked : CallValue) → IsAskable asked → map S.text words.now ≡ program ∷ words_for asked
-        → (result ≡ Status.Fault) ⊎ IsAnswer asked (R.remaining reader.old) result (W.contents writer.old) (W.contents writer.new) }
+        → (result ≡ Status.Fault) ⊎ IsCallAnswer asked (R.remaining reader.old) result (W.contents writer.old) (W.contents writer.new) }
     ensures nothing { (program : List ℕ) → map S.text words.now ≡ program ∷ []
-        → (result ≡ Status.Fault) ⊎ IsAnswer CallValue.play (R.remaining reader.old) result (W.contents writer.old) (W.contents writer.new) }
+        → (result ≡ Status.Fault) ⊎ IsCallAnswer CallValue.play (R.remaining reader.old) result (W.contents writer.old) (W.contents writer.new) }
     ensures refused { result ≡ Status.Refused
-        → (asked : CallValue) × IsSaidBy asked (map S.text words.now) × IsAnswer asked (R.remaining reader.old) result (W.contents writer.old) (W.contents writer.new) }
+        → (asked : CallValue) × IsSaidBy asked (map S.text words.now) × IsCallAnswer asked (R.remaining reader.old) result (W.contents writer.old) (W.contents writer.new) }
 {
     answer_words(alloc, words, reader, writer).unwrap_or(Status::Fault)
 }
@@ -43,11 +43,11 @@ fn answer_words<S: AsStr, R: Read, W: Write>(
     writer: &mut W,
 ) -> io::Result<Status>
     ensures asked { (program : List ℕ) (asked : CallValue) → IsAskable asked → map S.text words.now ≡ program ∷ words_for asked
-        → IfOk result (λ status. IsMemoryTold status (W.contents writer.old) (W.contents writer.new) ⊎ IsAnswer asked (R.remaining reader.old) status (W.contents writer.old) (W.contents writer.new)) }
+        → IfOk result (λ status. IsMemoryTold status (W.contents writer.old) (W.contents writer.new) ⊎ IsCallAnswer asked (R.remaining reader.old) status (W.contents writer.old) (W.contents writer.new)) }
     ensures nothing { (program : List ℕ) → map S.text words.now ≡ program ∷ []
-        → IfOk result (λ status. IsMemoryTold status (W.contents writer.old) (W.contents writer.new) ⊎ IsAnswer CallValue.play (R.remaining reader.old) status (W.contents writer.old) (W.contents writer.new)) }
+        → IfOk result (λ status. IsMemoryTold status (W.contents writer.old) (W.contents writer.new) ⊎ IsCallAnswer CallValue.play (R.remaining reader.old) status (W.contents writer.old) (W.contents writer.new)) }
     ensures refused { IfOk result (λ status. status ≡ Status.Refused
-        → (asked : CallValue) × IsSaidBy asked (map S.text words.now) × IsAnswer asked (R.remaining reader.old) status (W.contents writer.old) (W.contents writer.new)) }
+        → (asked : CallValue) × IsSaidBy asked (map S.text words.now) × IsCallAnswer asked (R.remaining reader.old) status (W.contents writer.old) (W.contents writer.new)) }
 {
     match call_of(alloc, words) {
         Ok(call) => answer(alloc, call, reader, writer),
@@ -62,8 +62,8 @@ fn answer<R: Read, W: Write>(
     reader: &mut R,
     writer: &mut W,
 ) -> io::Result<Status>
-    requires { IsReadable call }
-    ensures { IfOk result (λ status. IsAnswer (value_of_call call.entry) (R.remaining reader.old) status (W.contents writer.old) (W.contents writer.new)) }
+    requires { ReadsOnlyInstructions call }
+    ensures { IfOk result (λ status. IsCallAnswer (value_of_call call.entry) (R.remaining reader.old) status (W.contents writer.old) (W.contents writer.new)) }
 {
     match call {
         Call::Isin(code) => answer_isin(code.as_bytes(), writer),

@@ -4,7 +4,7 @@ ghost use Rattle.clap.specs.Words.{app_of, found_of, kind_of, one_text, rows_of,
 ghost use Rattle.clap.specs.declared.builder.command.Command.TheViews.{out-Command};
 ghost use Rattle.desk_msg.specs.MessageType.{digits_of_type, is_instruction, number_of_type};
 ghost use Rattle.desk_msg.specs.declared.mt.Mt.{Mt};
-ghost use Rattle.desk.specs.Words.{CallValue, IsAskable, IsSpelledOut, IsReadable, IsSaid, IsSaidBy, IsSaidIn, IsTypeText, value_of_call, desk_app, isin_app, play_app, read_app, words_for};
+ghost use Rattle.desk.specs.Words.{CallValue, IsAskable, IsSpelledOut, ReadsOnlyInstructions, IsSaid, IsSaidBy, IsSaidIn, IsTypeText, value_of_call, desk_app, isin_app, play_app, read_app, words_for};
 
 use clap::error::{Error, ErrorKind};
 use clap::{Arg, ArgMatches, Command, value_parser};
@@ -34,7 +34,7 @@ Exit status:
 /// Reads the words, the program's own name first. An error is help that was asked for, words that fit no
 /// subcommand, or want of memory.
 pub fn call_of<'a, S: AsStr>(alloc: Global, words: &'a [S]) -> Result<Call<'a>, Error>
-    ensures readable { IfOk result IsReadable }
+    ensures readable { IfOk result ReadsOnlyInstructions }
     ensures said { IfOk result (λ call. IsSaidBy (value_of_call call) (map S.text words.entry.now)) }
     ensures asked { (program : List ℕ) (asked : CallValue) → IsAskable asked → map S.text words.entry.now ≡ program ∷ words_for asked
         → MatchResult result (λ call. value_of_call call ≡ asked) (λ error. kind_of error ≡ ErrorKind.OutOfMemory) }
@@ -58,7 +58,7 @@ pub fn usage_error(alloc: Global, message: &str) -> Result<Error, AllocError>
 
 /// What the matches ask for; no subcommand asks for a script's answers.
 fn call_in<'a>(matches: &ArgMatches<'a>) -> Option<Call<'a>>
-    ensures readable { IfSome result IsReadable }
+    ensures readable { IfSome result ReadsOnlyInstructions }
     ensures said { IfSome result (λ call. IsSaidIn (value_of_call call) (subcommand_rows_of matches.now)) }
     ensures asked { (asked : CallValue) → IsSomeAnd (subcommand_rows_of matches.now) (λ found. IsSpelledOut asked found.0 found.1)
         → IsSomeAnd result (λ call. value_of_call call ≡ asked) }
@@ -72,7 +72,7 @@ fn call_in<'a>(matches: &ArgMatches<'a>) -> Option<Call<'a>>
 
 /// What a subcommand with these matches asks for.
 fn subcommand_call<'a>(name: &str, inner: &ArgMatches<'a>) -> Option<Call<'a>>
-    ensures readable { IfSome result IsReadable }
+    ensures readable { IfSome result ReadsOnlyInstructions }
     ensures said { IfSome result (λ call. IsSaid (value_of_call call) name.now (rows_of (found_of inner.now))) }
     ensures asked { (asked : CallValue) → IsSpelledOut asked name.now (rows_of (found_of inner.now))
         → IsSomeAnd result (λ call. value_of_call call ≡ asked) }
@@ -151,6 +151,6 @@ fn instruction_type(number: u16) -> Option<Mt>
 {
     match Mt::try_from(number) {
         Ok(mt) if mt.is_instruction() => Some(mt),
-        Ok(_) | Err(_) => None,
+        _ => None,
     }
 }

@@ -5,7 +5,8 @@ use Rattle.serde_json.specs.Read.{read}
 use Rattle.serde_json.proofs.OnLiterals.{serde_json_on_literals}
 use Rattle.serde_json.specs.Events.{members_len}
 use Rattle.serde_json.specs.Find.{get, get_member, as_object, as_str, as_number, as_u64}
-use Rattle.desk_book.specs.Command.{text_at, number_at, text_member, number_member, participant_object, account_object, security_object, movement_object, run_object}
+use Rattle.desk_book.specs.Command.{text_member, number_member, participant_object, account_object, security_object, movement_object, run_object}
+use Rattle.desk_book.specs.Members.{text_at, number_at}
 use Rattle.desk_book.specs.Command.{IsCommand, IsSupportedCommand}
 use Rattle.desk_msg.specs.declared.instruction.Kind.{Kind}
 use Rattle.desk_rules.specs.declared.entry.Movement.{Movement}

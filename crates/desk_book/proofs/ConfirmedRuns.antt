@@ -20,7 +20,7 @@ use Rattle.desk_engine.proofs.TablesLemmas.{accepted_more}
 use Rattle.desk_book.specs.declared.fault.Fault.{Fault}
 use Rattle.desk_book.specs.declared.task.Task.{Task}
 use Rattle.desk_book.specs.declared.task.Task.TheVariants.{Decide, Totals, Answer}
-use Rattle.desk_book.specs.Answered.{Grows, IsAnswer, Run, Step, says_closed}
+use Rattle.desk_book.specs.Answered.{Grows, IsAnswer, AnsweredInTurn, Step, says_closed}
 use Rattle.desk_book.specs.Asked.{Asked}
 use Rattle.desk_book.specs.Task.{IsTask}
 use Rattle.desk_book.proofs.FormedLemmas.{formed_after, formed_by}
@@ -44,7 +44,7 @@ stepped : (limit : ℕ) (books after : Books) (asked : Asked) (answer : Result R
 stepped limit books after asked (Ok reply) was step = replied limit books after asked step.0 reply step.1 was step.2
 stepped limit books after asked (Err fault) was step = subst (AreAccepted limit) (sym step) was
 
-pub ran : (limit : ℕ) (was is : Bool) (books last : Books) (requests : List Asked) (answers : List (Result Reply Fault)) → AreAccepted limit books → Run limit was books requests answers is last → AreAccepted limit last
+pub ran : (limit : ℕ) (was is : Bool) (books last : Books) (requests : List Asked) (answers : List (Result Reply Fault)) → AreAccepted limit books → AnsweredInTurn limit was books requests answers is last → AreAccepted limit last
 ran limit was is books last [] [] start run = subst (AreAccepted limit) (sym run.1) start
 ran limit was is books last [] (answer ∷ answers) start run = absurd run
 ran limit was is books last (asked ∷ more) [] start run = absurd run
@@ -59,6 +59,6 @@ none_accepted limit = record {
   formed = formed_none;
 }
 
-pub changes_are_confirmed : (limit : ℕ) (was is : Bool) (books last : Books) (requests : List Asked) (answers : List (Result Reply Fault)) → AreAccepted limit books → Run limit was books requests answers is last
+pub changes_are_confirmed : (limit : ℕ) (was is : Bool) (books last : Books) (requests : List Asked) (answers : List (Result Reply Fault)) → AreAccepted limit books → AnsweredInTurn limit was books requests answers is last
     → (confirmations : List Confirmation) × SayConfirmations (sent_of last) confirmations × AccountFor last confirmations
 changes_are_confirmed limit was is books last requests answers start run = let all = ran limit was is books last requests answers start run in confirmed last all.are all.formed

@@ -16,7 +16,7 @@ use Rattle.desk_book.specs.declared.task.Task.{Task}
 use Rattle.desk_book.specs.declared.task.Task.TheVariants.{Decide, Totals, Answer}
 use Rattle.desk_book.specs.declared.total.CashTotal.{CashTotal}
 use Rattle.desk_book.specs.declared.total.SecurityTotal.{SecurityTotal}
-use Rattle.desk_book.specs.Answered.{IsAnswer, IsToldSums, Run, Step}
+use Rattle.desk_book.specs.Answered.{IsAnswer, IsToldSums, AnsweredInTurn, Step}
 use Rattle.desk_book.specs.Asked.{Asked, message, operator, status, sent, holdings, sums}
 use Rattle.desk_book.specs.Known.{Agree, IsKnown, TellsUnread, done, refused, unread}
 use Rattle.desk_book.specs.Totals.{AreCashSums, AreSums}
@@ -90,6 +90,6 @@ told limit books after Totals reply is was answer = (answer, agreeing limit book
 told limit books after (Answer given) reply is was answer = let no : Answer given ≡ Totals = is in cc
 
 pub sums_agree : (limit : ℕ) (was is : Bool) (books last next : Books) (requests : List Asked) (answers : List (Result Reply Fault)) (reply : Reply)
-    → AreAccepted limit books → Run limit was books requests answers is last → Step limit last sums (Ok reply) next
+    → AreAccepted limit books → AnsweredInTurn limit was books requests answers is last → Step limit last sums (Ok reply) next
     → (told : IsToldSums last reply next) × Agree told.cash told.securities
 sums_agree limit was is books last next requests answers reply start run step = told limit last next step.0 reply step.1 (ran limit was is books last requests answers start run) step.2

@@ -13,7 +13,7 @@ use Rattle.desk_rules.specs.Verdict.{IsVerdict}
 use Rattle.desk_book.specs.declared.fault.Fault.{Fault}
 use Rattle.desk_book.specs.declared.task.Task.{Task}
 use Rattle.desk_book.specs.declared.task.Task.TheVariants.{Decide, Totals, Answer}
-use Rattle.desk_book.specs.Answered.{ActsOnce, Grows, IsAnswer, IsRepeat, Run, Step, WithoutRepeats, answered, ended, failed, repeated, says_closed}
+use Rattle.desk_book.specs.Answered.{ActsOnce, Grows, IsAnswer, IsRepeat, AnsweredInTurn, Step, WithoutRepeats, answered, ended, failed, repeated, says_closed}
 use Rattle.desk_book.specs.Asked.{Asked}
 use Rattle.desk_book.specs.Task.{IsTask}
 use Rattle.desk_book.proofs.OneTask.{one_task}
@@ -40,7 +40,7 @@ stay limit books next last asked more reply answers fresh step rest =
       kept = asked ∷ rest.kept;
       others = Ok reply ∷ rest.others;
       without = answered fresh step rest.without;
-      run = (never, (next, step, rest.run));
+      in_turn = (never, (next, step, rest.in_turn));
     }
 
 one_decided : (limit : ℕ) (books next last : Books) (asked : Asked) (more : List Asked) (entry : Entry) (reply : Reply) (answers : List (Result Reply Fault)) (verdict : Verdict)
@@ -55,12 +55,12 @@ one_decided limit books next last asked more entry reply answers (Refuse refusal
 one_decided limit books next last asked more entry reply answers (Repeat n) is decided grows replied step rest =
     let again : IsRepeat limit books asked = record { entry = entry; number = n; reads = is; repeats = decided } in
     let P : Books → Type 0 = λ b. WithoutRepeats limit b more answers rest.kept rest.others last in
-    let Q : Books → Type 0 = λ b. Run limit false b rest.kept rest.others false last in
+    let Q : Books → Type 0 = λ b. AnsweredInTurn limit false b rest.kept rest.others false last in
     record {
       kept = rest.kept;
       others = rest.others;
       without = repeated again replied.1 (subst P grows rest.without);
-      run = subst Q grows rest.run;
+      in_turn = subst Q grows rest.in_turn;
     }
 
 one_step : (limit : ℕ) (books next last : Books) (asked : Asked) (more : List Asked) (reply : Reply) (answers : List (Result Reply Fault)) (task : Task)
@@ -75,19 +75,19 @@ one_step limit books next last asked more reply answers (Answer given) is answer
     stay limit books next last asked more reply answers (other_task limit books asked (Answer given) is never) (Answer given, is, answer) rest
 
 pub act_once : (limit : ℕ) (was : Bool) (books last : Books) (requests : List Asked) (answers : List (Result Reply Fault)) (is : Bool)
-    → Run limit was books requests answers is last → ActsOnce limit books requests answers last
+    → AnsweredInTurn limit was books requests answers is last → ActsOnce limit books requests answers last
 act_once limit was books last [] [] is run =
     let P : Books → Type 0 = λ b. ActsOnce limit b [] [] last in
-    subst P run.1 (record { kept = []; others = []; without = ended; run = (refl, refl) })
+    subst P run.1 (record { kept = []; others = []; without = ended; in_turn = (refl, refl) })
 act_once limit was books last [] (answer ∷ answers) is run = absurd run
 act_once limit was books last (asked ∷ more) [] is run = absurd run
 act_once limit was books last (asked ∷ more) (Ok reply ∷ answers) is run =
     let rest = act_once limit false run.1.0 last more answers is run.1.2 in
     one_step limit books run.1.0 last asked more reply answers run.1.1.0 run.1.1.1 run.1.1.2 rest
 act_once limit was books last (asked ∷ more) (Err fault ∷ answers) is run =
-    let P : Books → Type 0 = λ b. Run limit (says_closed (Err fault)) b more answers is last in
+    let P : Books → Type 0 = λ b. AnsweredInTurn limit (says_closed (Err fault)) b more answers is last in
     let rest = act_once limit (says_closed (Err fault)) books last more answers is (subst P run.1.1 run.1.2) in
-    record { kept = rest.kept; others = rest.others; without = failed rest.without; run = rest.run }
+    record { kept = rest.kept; others = rest.others; without = failed rest.without; in_turn = rest.in_turn }
 
 -- A history only grows.
 
@@ -118,7 +118,7 @@ grown_then a b c first second = record {
   history = second.history ∙ ap (λ h. h ++ second.more) first.history ∙ append_assoc a.history first.more second.more;
 }
 
-run_grows : (limit : ℕ) (was is : Bool) (books last : Books) (requests : List Asked) (answers : List (Result Reply Fault)) → Run limit was books requests answers is last → Grown books last
+run_grows : (limit : ℕ) (was is : Bool) (books last : Books) (requests : List Asked) (answers : List (Result Reply Fault)) → AnsweredInTurn limit was books requests answers is last → Grown books last
 run_grows limit was is books last [] [] run = same_books books last run.1
 run_grows limit was is books last [] (answer ∷ answers) run = absurd run
 run_grows limit was is books last (asked ∷ more) [] run = absurd run
@@ -127,7 +127,7 @@ run_grows limit was is books last (asked ∷ more) (answer ∷ answers) run =
 
 -- what was accepted is a repeat when it is asked again
 pub accepted_again : (limit : ℕ) (was is : Bool) (books next last : Books) (asked : Asked) (entry : Entry) (requests : List Asked) (answers : List (Result Reply Fault)) → IsTask asked (Decide entry)
-    → IsVerdict limit books entry Accept → AreNext books entry next → Run limit was next requests answers is last → IsRepeat limit last asked
+    → IsVerdict limit books entry Accept → AreNext books entry next → AnsweredInTurn limit was next requests answers is last → IsRepeat limit last asked
 accepted_again limit was is books next last asked entry requests answers reads accepted next_is run =
     let g = run_grows limit was is next last requests answers run in
     let grown : last.history ≡ books.history ++ entry ∷ g.more = g.history ∙ ap (λ h. h ++ g.more) next_is.history ∙ append_assoc books.history (entry ∷ []) g.more in

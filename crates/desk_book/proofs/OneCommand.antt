@@ -11,7 +11,8 @@ use Rattle.desk_rules.specs.declared.entry.Entry.{Entry}
 use Rattle.desk_rules.specs.declared.entry.Entry.TheVariants.{Participant, Account, Security, Issue, Redeem, PayIn, PayOut, Instruct, Cancel, Run}
 use Rattle.desk_msg.specs.Profile.{code_of_kind}
 use Rattle.desk_rules.proofs.SameContent.{movement_same, payment_same}
-use Rattle.desk_book.specs.Command.{IsCommand, SpellsCommand, text_at, number_at}
+use Rattle.desk_book.specs.Command.{IsCommand, SpellsCommand}
+use Rattle.desk_book.specs.Members.{text_at, number_at}
 
 kind_of : List ℕ → Kind
 kind_of word = cond (eqb (get_or word 0 0) 85) Units FaceAmount

@@ -9,7 +9,7 @@ use Rattle.desk_msg.specs.declared.mt.Mt.TheVariants.{Mt540, Mt541, Mt542, Mt543
 use Rattle.desk_book.specs.Asked.{Asked, message, operator, status, sent, holdings, sums}
 use Rattle.desk_msg.specs.MessageType.{digits_of_type}
 use Rattle.desk_book.specs.Forms.{IsLineOf, Asks}
-use Rattle.desk_book.specs.Lines.{lines_of, said_by, is_skipped, has_body, is_stop}
+use Rattle.desk_book.specs.Lines.{script_lines, said_by, is_skipped, has_body, is_stop}
 use Rattle.desk_book.specs.Script.{Item, ask, bad_line, Asking, ended, skipped, bodiless, posted, cut, Means, Script, HasNoStop, posted_text, BeginsWith, SpellsOnly}
 use Rattle.desk_book.proofs.FormLemmas.{bic_no_space, same_split}
 
@@ -162,11 +162,11 @@ count_none script = record { before = []; asks = λ items h. h; counted = refl; 
 
 -- a script whose front asks these items asks the next one behind them
 pub asks_more : (script rest after : List ℕ) (before : List Item) (item : Item) → ((items : List Item) → Script rest items → Script script (before ++ items))
-    → BeginsWith (lines_of rest) item after → (items : List Item) → Script after items → Script script ((before ++ item ∷ []) ++ items)
+    → BeginsWith (script_lines rest) item after → (items : List Item) → Script after items → Script script ((before ++ item ∷ []) ++ items)
 asks_more script rest after before item asks begins items h =
     subst (λ x. Script script x) (sym (append_assoc before (item ∷ []) items)) (asks (item ∷ items) (begins.then items h))
 
-pub count_more : (script rest after : List ℕ) (count : ℕ) (item : Item) → IsCountedTo script rest count → BeginsWith (lines_of rest) item after → length after < length rest
+pub count_more : (script rest after : List ℕ) (count : ℕ) (item : Item) → IsCountedTo script rest count → BeginsWith (script_lines rest) item after → length after < length rest
     → IsCountedTo script after (count + 1)
 count_more script rest after count item so_far begins shorter = record {
   before = so_far.before ++ item ∷ [];
@@ -175,7 +175,7 @@ count_more script rest after count item so_far begins shorter = record {
   short = omega (arith, so_far.short);
 }
 
-pub count_all : (script rest : List ℕ) (count : ℕ) → IsCountedTo script rest count → Asking (lines_of rest) [] → SpellsOnly script count
+pub count_all : (script rest : List ℕ) (count : ℕ) → IsCountedTo script rest count → Asking (script_lines rest) [] → SpellsOnly script count
 count_all script rest count so_far none =
     let all : Script script so_far.before = subst (λ x. Script script x) (append-nil so_far.before) (so_far.asks [] none) in
     record { items = so_far.before; spells = all; counted = so_far.counted; alone = λ others h. one_list all h refl }

@@ -8,12 +8,13 @@ use Rattle.desk_rules.specs.Books.{Books}
 use Rattle.desk_register.specs.View.{View, IsLater}
 use Rattle.desk_book.specs.declared.fault.Fault.{Fault}
 use Rattle.desk_book.specs.declared.fault.Fault.TheVariants.{Storage}
-use Rattle.desk_book.specs.Answered.{Run, says_closed, says_storage}
+use Rattle.desk_book.specs.Answered.{AnsweredInTurn, says_closed, says_storage}
 use Rattle.desk_book.specs.Asked.{Asked, asked_by}
 use Rattle.desk_book.specs.declared.request.Request.{Request}
 use Rattle.desk_book.specs.Held.{Holds, Steps}
-use Rattle.desk_book.specs.Played.{HasPlayed, PlaysFront, PlaysItem, PlaysScript, answers_text, asked_in, answer_text}
-use Rattle.desk_book.specs.Lines.{lines_of}
+use Rattle.desk_book.specs.Played.{HasPlayed, PlaysFront, PlaysScript, answers_text, asked_in, answer_text}
+use Rattle.desk_book.specs.Items.{PlaysItem}
+use Rattle.desk_book.specs.Lines.{script_lines}
 use Rattle.desk_book.specs.Script.{Asking, BeginsWith, Item, Script, ask, bad_line, item_of}
 use Rattle.desk_book.specs.declared.script.Item.{Item as ScriptItem}
 use Rattle.desk_book.specs.declared.script.Item.TheVariants.{Ask}
@@ -27,7 +28,7 @@ pub one_played : (was : Bool) (books : Books) (asked : Asked) (answer : Result R
     → HasPlayed was books (ask asked ∷ []) (answer ∷ []) is old new
 one_played was books asked answer is old new closed later stays blame s = record {
   last = s.next;
-  run = (stays, (s.next, s.step, (closed, refl)));
+  in_turn = (stays, (s.next, s.step, (closed, refl)));
   holds = s.holds;
   blame = counted_one answer old.failures new.failures later.failures blame;
 }
@@ -47,7 +48,7 @@ none_counted view = omega arith
 pub bad_line_played : (was : Bool) (books : Books) (view : View) → Holds was view books → HasPlayed was books (bad_line ∷ []) [] was view view
 bad_line_played was books view holds = record {
   last = books;
-  run = (refl, refl);
+  in_turn = (refl, refl);
   holds = holds;
   blame = none_counted view;
 }
@@ -59,7 +60,7 @@ asked_then [] more = refl
 asked_then (bad_line ∷ items) more = asked_then items more
 asked_then (ask asked ∷ items) more = ap (λ rest. asked ∷ rest) (asked_then items more)
 
-text_then : (limit : ℕ) (was : Bool) (books : Books) (items more : List Item) (answers others : List (Result Reply Fault)) (is : Bool) (last : Books) → Run limit was books (asked_in items) answers is last
+text_then : (limit : ℕ) (was : Bool) (books : Books) (items more : List Item) (answers others : List (Result Reply Fault)) (is : Bool) (last : Books) → AnsweredInTurn limit was books (asked_in items) answers is last
     → answers_text (items ++ more) (answers ++ others) ≡ answers_text items answers ++ answers_text more others
 text_then limit was books [] more [] others is last run = refl
 text_then limit was books [] more (answer ∷ answers) others is last run = absurd run
@@ -73,12 +74,12 @@ text_then limit was books (ask asked ∷ items) more (answer ∷ answers) others
 play_then : (was is next : Bool) (books : Books) (front items : List Item) (answers others : List (Result Reply Fault)) (v0 v1 v2 : View) → IsLater v0 v1
     → (first : HasPlayed was books front answers is v0 v1) → HasPlayed is first.last items others next v1 v2 → HasPlayed was books (front ++ items) (answers ++ others) next v0 v2
 play_then was is next books front items answers others v0 v1 v2 soon first second =
-    let P : ℕ → Type 0 = λ k. Run k is first.last (asked_in items) others next second.last in
-    let Q : List Asked → Type 0 = λ requests. Run v0.room was books requests (answers ++ others) next second.last in
-    let run = run_then v0.room was books (asked_in front) (asked_in items) answers others is next first.last second.last first.run (subst P soon.room second.run) in
+    let P : ℕ → Type 0 = λ k. AnsweredInTurn k is first.last (asked_in items) others next second.last in
+    let Q : List Asked → Type 0 = λ requests. AnsweredInTurn v0.room was books requests (answers ++ others) next second.last in
+    let run = run_then v0.room was books (asked_in front) (asked_in items) answers others is next first.last second.last first.in_turn (subst P soon.room second.in_turn) in
     record {
       last = second.last;
-      run = subst Q (sym (asked_then front items)) run;
+      in_turn = subst Q (sym (asked_then front items)) run;
       holds = second.holds;
       blame = counted_then answers others v0.failures v1.failures v2.failures first.blame second.blame;
     }
@@ -98,18 +99,18 @@ none_so_far was books script before view holds = record {
   front = [];
   spells = λ items is. is;
   answers = [];
-  played = record { last = books; run = (refl, refl); holds = holds; blame = none_counted view };
+  played = record { last = books; in_turn = (refl, refl); holds = holds; blame = none_counted view };
   written = Appends-nil before;
 }
 
-spells_more : (script behind after : List ℕ) (front : List Item) (item : Item) → ((items : List Item) → Script behind items → Script script (front ++ items)) → BeginsWith (lines_of behind) item after
+spells_more : (script behind after : List ℕ) (front : List Item) (item : Item) → ((items : List Item) → Script behind items → Script script (front ++ items)) → BeginsWith (script_lines behind) item after
     → (items : List Item) → Script after items → Script script ((front ++ item ∷ []) ++ items)
 spells_more script behind after front item spells first items is =
     let P : List Item → Type 0 = λ xs. Script script xs in
     subst P (sym (append_assoc front (item ∷ []) items)) (spells (item ∷ items) (first.then items is))
 
 pub more_so_far : (v0 v1 v2 : View) (was is next : Bool) (books : Books) (script behind rest : List ℕ) (a b c : Option (List ℕ)) (item : Item) → IsLater v0 v1
-    → (s : SoFar was books script behind a b is v0 v1) → BeginsWith (lines_of behind) item rest → PlaysItem is s.played.last item b c next v1 v2 → SoFar was books script rest a c next v0 v2
+    → (s : SoFar was books script behind a b is v0 v1) → BeginsWith (script_lines behind) item rest → PlaysItem is s.played.last item b c next v1 v2 → SoFar was books script rest a c next v0 v2
 more_so_far v0 v1 v2 was is next books script behind rest a b c item soon s first p =
     let P : List ℕ → Type 0 = λ text. Appends a c text in
     record {
@@ -117,11 +118,11 @@ more_so_far v0 v1 v2 was is next books script behind rest a b c item soon s firs
       spells = spells_more script behind rest s.front item s.spells first;
       answers = s.answers ++ p.answers;
       played = play_then was is next books s.front (item ∷ []) s.answers p.answers v0 v1 v2 soon s.played p.played;
-      written = subst P (sym (text_then v0.room was books s.front (item ∷ []) s.answers p.answers is s.played.last s.played.run))
+      written = subst P (sym (text_then v0.room was books s.front (item ∷ []) s.answers p.answers is s.played.last s.played.in_turn))
           (Appends-trans a b c (answers_text s.front s.answers) (answers_text (item ∷ []) p.answers) s.written p.written);
     }
 
-pub script_played : (was is : Bool) (books : Books) (script behind : List ℕ) (a b : Option (List ℕ)) (old new : View) → SoFar was books script behind a b is old new → Asking (lines_of behind) []
+pub script_played : (was is : Bool) (books : Books) (script behind : List ℕ) (a b : Option (List ℕ)) (old new : View) → SoFar was books script behind a b is old new → Asking (script_lines behind) []
     → PlaysScript was books script a b is old new
 script_played was is books script behind a b old new s none = record {
   items = s.front;
@@ -135,7 +136,7 @@ pub front_played : (was is : Bool) (books : Books) (script behind : List ℕ) (a
 front_played was is books script behind a b old new s = record { front = s.front; behind = behind; spells = s.spells; answers = s.answers; played = s.played }
 
 pub front_and_one : (v0 v1 v2 : View) (was is next : Bool) (books : Books) (script behind rest : List ℕ) (a b : Option (List ℕ)) (item : Item) → IsLater v0 v1
-    → (s : SoFar was books script behind a b is v0 v1) → BeginsWith (lines_of behind) item rest → (answers : List (Result Reply Fault)) × HasPlayed is s.played.last (item ∷ []) answers next v1 v2
+    → (s : SoFar was books script behind a b is v0 v1) → BeginsWith (script_lines behind) item rest → (answers : List (Result Reply Fault)) × HasPlayed is s.played.last (item ∷ []) answers next v1 v2
     → PlaysFront was books script next v0 v2
 front_and_one v0 v1 v2 was is next books script behind rest a b item soon s first p = record {
   front = s.front ++ item ∷ [];

@@ -11,7 +11,7 @@ use Rattle.desk_register.specs.View.{View, IsLater}
 use Rattle.desk_book.specs.declared.fault.Fault.{Fault}
 use Rattle.desk_book.specs.declared.fault.Fault.TheVariants.{Memory, Storage, Closed}
 use Rattle.desk_book.specs.declared.task.Task.{Task}
-use Rattle.desk_book.specs.Answered.{Run, Step, says_closed, says_storage}
+use Rattle.desk_book.specs.Answered.{AnsweredInTurn, Step, says_closed, says_storage}
 use Rattle.desk_book.specs.Asked.{Asked, asked_by}
 use Rattle.desk_book.specs.declared.request.Request.{Request}
 use Rattle.desk_book.specs.Held.{Holds, Steps}
@@ -27,11 +27,11 @@ step_of limit books asked (Err want) (Ok reply) closed view is performed = absur
 step_of limit books asked (Err want) (Err fault) closed view is performed = record { next = performed.next; step = performed.answer; holds = performed.holds }
 
 -- a run goes on by another
-pub run_then : (limit : ℕ) (was : Bool) (books : Books) (front rest : List Asked) (answers more : List (Result Reply Fault)) (is next : Bool) (between last : Books) → Run limit was books front answers is between
-    → Run limit is between rest more next last → Run limit was books (front ++ rest) (answers ++ more) next last
+pub run_then : (limit : ℕ) (was : Bool) (books : Books) (front rest : List Asked) (answers more : List (Result Reply Fault)) (is next : Bool) (between last : Books) → AnsweredInTurn limit was books front answers is between
+    → AnsweredInTurn limit is between rest more next last → AnsweredInTurn limit was books (front ++ rest) (answers ++ more) next last
 run_then limit was books [] rest [] more is next between last first second =
-    let P : Bool → Type 0 = λ b. Run limit b books rest more next last in
-    let Q : Books → Type 0 = λ b. Run limit is b rest more next last in
+    let P : Bool → Type 0 = λ b. AnsweredInTurn limit b books rest more next last in
+    let Q : Books → Type 0 = λ b. AnsweredInTurn limit is b rest more next last in
     subst P first.0 (subst Q first.1 second)
 run_then limit was books [] rest (a ∷ answers) more is next between last first second = absurd first
 run_then limit was books (r ∷ front) rest [] more is next between last first second = absurd first
@@ -40,8 +40,8 @@ run_then limit was books (r ∷ front) rest (a ∷ answers) more is next between
 
 -- a run goes on by one request
 pub run_more : (limit : ℕ) (was : Bool) (books : Books) (requests : List Asked) (answers : List (Result Reply Fault)) (is : Bool) (last next : Books) (asked : Asked) (answer : Result Reply Fault)
-    → Run limit was books requests answers is last → (is ≡ true → says_closed answer ≡ true) → Step limit last asked answer next
-    → Run limit was books (requests ++ asked ∷ []) (answers ++ answer ∷ []) (says_closed answer) next
+    → AnsweredInTurn limit was books requests answers is last → (is ≡ true → says_closed answer ≡ true) → Step limit last asked answer next
+    → AnsweredInTurn limit was books (requests ++ asked ∷ []) (answers ++ answer ∷ []) (says_closed answer) next
 run_more limit was books requests answers is last next asked answer run stays step =
     run_then limit was books requests (asked ∷ []) answers (answer ∷ []) is (says_closed answer) last next run (stays, (next, step, (refl, refl)))
 
@@ -65,42 +65,42 @@ next_asked requests i request lt is =
 
 pub run_steps : (v0 v1 v2 : View) (was is next : Bool) (books : Books) (requests : List Request) (i : ℕ) (request : Request) (answers more : List (Result Reply Fault)) (answer : Result Reply Fault) → i < length requests
     → request ≡ get_or requests i request → more ≡ answers ++ answer ∷ [] → IsLater v0 v1 → IsLater v1 v2 → next ≡ says_closed answer → (is ≡ true → says_closed answer ≡ true)
-    → (last : Books) × Run v0.room was books (map asked_by (take i requests)) answers is last × Holds is v1 last
+    → (last : Books) × AnsweredInTurn v0.room was books (map asked_by (take i requests)) answers is last × Holds is v1 last
     → ((b : Books) → Holds is v1 b → Steps v1.room b (asked_by request) answer next v2)
-    → (last : Books) × Run v0.room was books (map asked_by (take (i + 1) requests)) more next last × Holds next v2 last
+    → (last : Books) × AnsweredInTurn v0.room was books (map asked_by (take (i + 1) requests)) more next last × Holds next v2 last
 run_steps v0 v1 v2 was is next books requests i request answers more answer lt item grown first second closed stays so_far step =
     let s = step so_far.0 so_far.2 in
     let P : ℕ → Type 0 = λ k. Step k so_far.0 (asked_by request) answer s.next in
     let run = run_more v0.room was books (map asked_by (take i requests)) answers is so_far.0 s.next (asked_by request) answer so_far.1 stays (subst P first.room s.step) in
-    let A : List Asked → Type 0 = λ xs. Run v0.room was books xs (answers ++ answer ∷ []) (says_closed answer) s.next in
-    let B : List (Result Reply Fault) → Type 0 = λ xs. Run v0.room was books (map asked_by (take (i + 1) requests)) xs (says_closed answer) s.next in
-    let C : Bool → Type 0 = λ b. Run v0.room was books (map asked_by (take (i + 1) requests)) more b s.next in
+    let A : List Asked → Type 0 = λ xs. AnsweredInTurn v0.room was books xs (answers ++ answer ∷ []) (says_closed answer) s.next in
+    let B : List (Result Reply Fault) → Type 0 = λ xs. AnsweredInTurn v0.room was books (map asked_by (take (i + 1) requests)) xs (says_closed answer) s.next in
+    let C : Bool → Type 0 = λ b. AnsweredInTurn v0.room was books (map asked_by (take (i + 1) requests)) more b s.next in
     (s.next, subst C (sym closed) (subst B (sym grown) (subst A (sym (next_asked requests i request lt item)) run)), s.holds)
 
 pub run_all : (v0 v1 : View) (was is : Bool) (books : Books) (requests : List Request) (i : ℕ) (answers : List (Result Reply Fault)) → length requests ≤ i
-    → (last : Books) × Run v0.room was books (map asked_by (take i requests)) answers is last × Holds is v1 last
-    → (last : Books) × Run v0.room was books (map asked_by requests) answers is last × Holds is v1 last
+    → (last : Books) × AnsweredInTurn v0.room was books (map asked_by (take i requests)) answers is last × Holds is v1 last
+    → (last : Books) × AnsweredInTurn v0.room was books (map asked_by requests) answers is last × Holds is v1 last
 run_all v0 v1 was is books requests i answers all so_far =
-    let A : List Request → Type 0 = λ xs. Run v0.room was books (map asked_by xs) answers is so_far.0 in
+    let A : List Request → Type 0 = λ xs. AnsweredInTurn v0.room was books (map asked_by xs) answers is so_far.0 in
     (so_far.0, subst A (take_all i requests all) so_far.1, so_far.2)
 
 -- Once closed, a desk stays so.
 
-closed_for_good : (limit : ℕ) (books last : Books) (requests : List Asked) (answers : List (Result Reply Fault)) → Run limit true books requests answers false last → ⊥
+closed_for_good : (limit : ℕ) (books last : Books) (requests : List Asked) (answers : List (Result Reply Fault)) → AnsweredInTurn limit true books requests answers false last → ⊥
 closed_for_good limit books last [] [] run = cc
 closed_for_good limit books last [] (answer ∷ answers) run = run
 closed_for_good limit books last (asked ∷ more) [] run = run
 closed_for_good limit books last (asked ∷ more) (answer ∷ answers) run =
-    let P : Bool → Type 0 = λ b. Run limit b run.1.0 more answers false last in
+    let P : Bool → Type 0 = λ b. AnsweredInTurn limit b run.1.0 more answers false last in
     closed_for_good limit run.1.0 last more answers (subst P (run.0 refl) run.1.2)
 
-pub open_all_along : (limit : ℕ) (was : Bool) (books last : Books) (requests : List Asked) (answers : List (Result Reply Fault)) → Run limit was books requests answers false last
+pub open_all_along : (limit : ℕ) (was : Bool) (books last : Books) (requests : List Asked) (answers : List (Result Reply Fault)) → AnsweredInTurn limit was books requests answers false last
     → All (λ answer. says_closed answer ≡ false) answers
 open_all_along limit was books last [] [] run = All-nil (λ answer. says_closed answer ≡ false)
 open_all_along limit was books last [] (answer ∷ answers) run = absurd run
 open_all_along limit was books last (asked ∷ more) [] run = absurd run
 open_all_along limit was books last (asked ∷ more) (answer ∷ answers) run =
-    let P : Bool → Type 0 = λ b. Run limit b run.1.0 more answers false last in
+    let P : Bool → Type 0 = λ b. AnsweredInTurn limit b run.1.0 more answers false last in
     let never : says_closed answer ≡ true → ⊥ = λ closed. closed_for_good limit run.1.0 last more answers (subst P closed run.1.2) in
     All-cons (λ a. says_closed a ≡ false) answer answers (false_from_ne_true (says_closed answer) never) (open_all_along limit (says_closed answer) run.1.0 last more answers run.1.2)
 

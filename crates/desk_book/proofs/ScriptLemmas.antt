@@ -7,8 +7,9 @@ use Rattle.std.proofs.lemmas.List.Folds.{concat-append}
 use Rattle.std.proofs.lemmas.List.Elements.{All-push}
 use Rattle.std.proofs.Math.Nat.{min_comm}
 use Rattle.desk_text.specs.declared.limits.TheConstants.{LONGEST_TEXT}
-use Rattle.desk_book.specs.Lines.{lines_of, said_by, is_skipped, has_body, is_stop}
-use Rattle.desk_book.specs.Script.{Item, bad_line, Asking, ended, skipped, bodiless, posted, cut, Means, Script, HasNoStop, BeginsWith, BeginsWithBody, posted_text}
+use Rattle.desk_book.specs.Lines.{script_lines, said_by, is_skipped, has_body, is_stop}
+use Rattle.desk_book.specs.Script.{Item, bad_line, Asking, ended, skipped, bodiless, posted, cut, Means, Script, HasNoStop, BeginsWith, posted_text}
+use Rattle.desk_book.specs.Items.{BeginsWithBody}
 
 none_left : {lines : List (List ℕ)} {items : List Item} → Asking lines items → lines ≡ [] → items ≡ []
 none_left ended e = refl
@@ -18,7 +19,7 @@ none_left (posted body stop b o s m h) e = cc
 none_left (cut b o) e = cc
 
 pub bodiless_begins : (line after said : List ℕ) (item : Item) → said ≡ said_by line → is_skipped (said_by line) ≡ false → has_body said ≡ false → Means said None item
-    → BeginsWith (line ∷ lines_of after) item after
+    → BeginsWith (line ∷ script_lines after) item after
 bodiless_begins line after said item is some no_body means = record {
   then = λ items h. bodiless some (ap has_body (sym is) ∙ no_body) (subst (λ x. Means x None item) is means) h;
 }
@@ -26,8 +27,8 @@ bodiless_begins line after said item is some no_body means = record {
 first_bytes : (n : ℕ) (text : List ℕ) → take (min (length text) n) text ≡ take n text
 first_bytes n text = rw (min_comm (length text) n) (take_min n text)
 
-pub posted_begins : (line after said text rest : List ℕ) (item : Item) → said ≡ said_by line → has_body said ≡ true → BeginsWithBody (lines_of after) text rest
-    → Means said (Some (take (min (length text) (LONGEST_TEXT + 1)) text)) item → BeginsWith (line ∷ lines_of after) item rest
+pub posted_begins : (line after said text rest : List ℕ) (item : Item) → said ≡ said_by line → has_body said ≡ true → BeginsWithBody (script_lines after) text rest
+    → Means said (Some (take (min (length text) (LONGEST_TEXT + 1)) text)) item → BeginsWith (line ∷ script_lines after) item rest
 posted_begins line after said text rest item is body begins means = record {
   then = λ items h.
       let counted : take (min (length text) (LONGEST_TEXT + 1)) text ≡ posted_text begins.body = first_bytes (LONGEST_TEXT + 1) text ∙ ap (take (LONGEST_TEXT + 1)) begins.is in
@@ -36,7 +37,7 @@ posted_begins line after said text rest item is body begins means = record {
       rw begins.split (posted {line = line} begins.body begins.stop same begins.inside begins.stops asked h);
 }
 
-pub cut_begins : (line after said : List ℕ) → said ≡ said_by line → has_body said ≡ true → HasNoStop (lines_of after) → BeginsWith (line ∷ lines_of after) bad_line []
+pub cut_begins : (line after said : List ℕ) → said ≡ said_by line → has_body said ≡ true → HasNoStop (script_lines after) → BeginsWith (line ∷ script_lines after) bad_line []
 cut_begins line after said is body inside = record {
   then = λ items h.
       let same : has_body (said_by line) ≡ true = ap has_body (sym is) ∙ body in
@@ -46,14 +47,14 @@ cut_begins line after said is body inside = record {
 -- the lines of a text as far as the rest: none of them ends a body
 pub record IsReadTo (text rest : List ℕ) : Type 0 where
   pub before : List (List ℕ)
-  pub split : lines_of text ≡ before ++ lines_of rest
+  pub split : script_lines text ≡ before ++ script_lines rest
   pub bytes : text ≡ concat before ++ rest
   pub inside : HasNoStop before
 
-pub line_more : (text rest line after : List ℕ) → IsReadTo text rest → lines_of rest ≡ line ∷ lines_of after → rest ≡ line ++ after → is_stop line ≡ false → IsReadTo text after
+pub line_more : (text rest line after : List ℕ) → IsReadTo text rest → script_lines rest ≡ line ∷ script_lines after → rest ≡ line ++ after → is_stop line ≡ false → IsReadTo text after
 line_more text rest line after read first split open_line = record {
   before = read.before ++ line ∷ [];
-  split = read.split ∙ ap (λ x. read.before ++ x) first ∙ sym (append_assoc read.before (line ∷ []) (lines_of after));
+  split = read.split ∙ ap (λ x. read.before ++ x) first ∙ sym (append_assoc read.before (line ∷ []) (script_lines after));
   bytes =
       let joined : concat (read.before ++ line ∷ []) ++ after ≡ concat read.before ++ (line ++ after) = simp (concat-append, append-nil, append_assoc) in
       read.bytes ∙ ap (λ x. concat read.before ++ x) split ∙ sym joined;
@@ -65,7 +66,7 @@ pub record IsSkippedTo (script rest : List ℕ) : Type 0 where
   pub asks : (items : List Item) → Script rest items → Script script items
   pub shorter : length rest ≤ length script
 
-pub skip_more : (script rest line after : List ℕ) → IsSkippedTo script rest → lines_of rest ≡ line ∷ lines_of after → length after < length rest → is_skipped (said_by line) ≡ true → IsSkippedTo script after
+pub skip_more : (script rest line after : List ℕ) → IsSkippedTo script rest → script_lines rest ≡ line ∷ script_lines after → length after < length rest → is_skipped (said_by line) ≡ true → IsSkippedTo script after
 skip_more script rest line after skips first shorter skip = record {
   asks = λ items h. skips.asks items (subst (λ x. Asking x items) (sym first) (skipped {line = line} skip h));
   shorter = omega (arith, skips.shorter);

@@ -12,7 +12,7 @@ use Rattle.desk_book.specs.Task.{IsTask}
 use Rattle.desk_book.specs.Sums.{sums_text}
 use Rattle.desk_book.specs.Totals.{AreCashSums, AreSums}
 use Rattle.desk_book.specs.declared.fault.Fault.{Fault}
-use Rattle.desk_book.specs.declared.fault.Fault.TheVariants.{Memory, Storage, Closed}
+use Rattle.desk_book.specs.declared.fault.Fault.TheVariants.{Storage, Closed}
 use Rattle.desk_book.specs.declared.task.Task.{Task}
 use Rattle.desk_book.specs.declared.task.Task.TheVariants.{Decide, Totals, Answer}
 use Rattle.desk_book.specs.declared.total.CashTotal.{CashTotal}
@@ -54,26 +54,21 @@ Step limit books asked (Err fault) after = after ≡ books
 
 -- the desk answered that it is closed
 abbrev pub says_closed : Result Reply Fault → Bool
-says_closed (Ok reply) = false
-says_closed (Err Memory) = false
-says_closed (Err Storage) = false
 says_closed (Err Closed) = true
+says_closed answer = false
 
 -- the desk answered that the device failed
 abbrev pub says_storage : Result Reply Fault → Bool
-says_storage (Ok reply) = false
-says_storage (Err Memory) = false
 says_storage (Err Storage) = true
-says_storage (Err Closed) = false
+says_storage answer = false
 
--- Requests one after another, from one state and books to another. Once closed, a desk answers nothing else.
-abbrev pub Run : ℕ → Bool → Books → List Asked → List (Result Reply Fault) → Bool → Books → Type 0
-Run limit was books [] [] is last = (is ≡ was) × (last ≡ books)
-Run limit was books (asked ∷ more) (answer ∷ answers) is last =
+-- Requests were answered one after another, from one state and books to another. Once closed, a desk answers nothing else.
+abbrev pub AnsweredInTurn : ℕ → Bool → Books → List Asked → List (Result Reply Fault) → Bool → Books → Type 0
+AnsweredInTurn limit was books [] [] is last = (is ≡ was) × (last ≡ books)
+AnsweredInTurn limit was books (asked ∷ more) (answer ∷ answers) is last =
     (was ≡ true → says_closed answer ≡ true)
-    × ((next : Books) × Step limit books asked answer next × Run limit (says_closed answer) next more answers is last)
-Run limit was books [] (answer ∷ answers) is last = ⊥
-Run limit was books (asked ∷ more) [] is last = ⊥
+    × ((next : Books) × Step limit books asked answer next × AnsweredInTurn limit (says_closed answer) next more answers is last)
+AnsweredInTurn limit was books requests answers is last = ⊥
 
 -- What is asked is a command that was accepted before: these books have an entry of its key, type and content.
 pub record IsRepeat (limit : ℕ) (books : Books) (asked : Asked) : Type 0 where
@@ -95,10 +90,10 @@ pub data WithoutRepeats (limit : ℕ) : Books → List Asked → List (Result Re
       → Step limit books asked (Ok reply) next → WithoutRepeats limit next more answers kept others last
       → WithoutRepeats limit books (asked ∷ more) (Ok reply ∷ answers) (asked ∷ kept) (Ok reply ∷ others) last
 
--- Repeats act once: the requests without them, and without those that a fault answered, are a run too, with the same
--- answers, to the same last books.
+-- Repeats act once: the requests without them, and without those that a fault answered, are answered in turn too,
+-- the same, to the same last books.
 pub record ActsOnce (limit : ℕ) (books : Books) (requests : List Asked) (answers : List (Result Reply Fault)) (last : Books) : Type 0 where
   pub kept : List Asked
   pub others : List (Result Reply Fault)
   pub without : WithoutRepeats limit books requests answers kept others last
-  pub run : Run limit false books kept others false last
+  pub in_turn : AnsweredInTurn limit false books kept others false last

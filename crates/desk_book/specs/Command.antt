@@ -1,8 +1,7 @@
 -- Which bytes are an operator's command.
-use Rattle.std.specs.Prelude.{◌≡◌, ℕ, ◌≤◌, true, List, length, Option, Some, codes, IsUtf8, option_and_then}
+use Rattle.std.specs.Prelude.{◌≡◌, ℕ, ◌≤◌, true, List, length, Some, codes, IsUtf8}
 use Rattle.desk_text.specs.declared.limits.TheConstants.{LONGEST_TEXT}
 use Rattle.serde_json.specs.Data.{Data, object, Members, no_members, member, string, number, unsigned}
-use Rattle.serde_json.specs.Find.{get, as_str, as_number, as_u64}
 use Rattle.serde_json.specs.Read.{read}
 use Rattle.desk_codes.specs.Account.{IsAccount}
 use Rattle.desk_codes.specs.CheckDigit.{IsIsin}
@@ -77,10 +76,3 @@ pub record SpellsCommand (bytes : List ℕ) (entry : Entry) : Type 0 where
   pub value : Data
   pub reads : read bytes ≡ Some value
   pub command : IsSupportedCommand value entry
-
--- the text, and the whole number, at a name
-abbrev pub text_at : List ℕ → Data → Option (List ℕ)
-text_at name d = option_and_then as_str (get name d)
-
-abbrev pub number_at : List ℕ → Data → Option ℕ
-number_at name d = option_and_then as_u64 (option_and_then as_number (get name d))

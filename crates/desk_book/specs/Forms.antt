@@ -33,19 +33,14 @@ IsLineOf sums line = line ≡ codes "sums"
 abbrev pub body_of : Asked → Option (List ℕ)
 body_of (message sender mt text) = Some text
 body_of (operator text) = Some text
-body_of (status sender reference) = None
-body_of (sent receiver number) = None
-body_of (holdings owner account) = None
-body_of sums = None
+body_of asked = None
 
 -- The requests that the desk answers today: messages of free instructions, operator commands, and sums.
 abbrev pub is_supported_request : Asked → Bool
 is_supported_request (message sender mt text) = not (is_against_payment mt)
 is_supported_request (operator text) = true
-is_supported_request (status sender reference) = false
-is_supported_request (sent receiver number) = false
-is_supported_request (holdings owner account) = false
 is_supported_request sums = true
+is_supported_request asked = false
 
 -- A line that says this, with this body behind it or none, asks the request. (The forms of today are all shorter than the
 -- longest line.)

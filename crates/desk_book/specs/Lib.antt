@@ -14,3 +14,4 @@ pub mod Held
 pub mod Answering
 pub mod DeskValue
 pub mod Played
+pub mod Items

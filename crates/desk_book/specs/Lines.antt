@@ -4,9 +4,9 @@ use Rattle.std.specs.List.{before_first, onto_first}
 use Rattle.std.specs.Str.{byte, bytes_eq}
 
 -- each line with its line feed; the last may have none
-abbrev pub lines_of : List ℕ → List (List ℕ)
-lines_of [] = []
-lines_of (c ∷ text) = if c == byte "\n" then (c ∷ []) ∷ lines_of text else onto_first c (lines_of text)
+abbrev pub script_lines : List ℕ → List (List ℕ)
+script_lines [] = []
+script_lines (c ∷ text) = if c == byte "\n" then (c ∷ []) ∷ script_lines text else onto_first c (script_lines text)
 
 -- the line ends so
 abbrev pub has_end : List ℕ → List ℕ → Bool

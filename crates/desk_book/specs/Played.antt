@@ -9,7 +9,7 @@ use Rattle.desk_book.specs.declared.fault.InputFault.{InputFault}
 use Rattle.desk_book.specs.declared.fault.InputFault.TheVariants.{Memory, ReadFailed, TooLong}
 use Rattle.desk_book.specs.declared.fault.PlayFault.{PlayFault}
 use Rattle.desk_book.specs.declared.fault.PlayFault.TheVariants as plays
-use Rattle.desk_book.specs.Answered.{Run, says_storage}
+use Rattle.desk_book.specs.Answered.{AnsweredInTurn, says_storage}
 use Rattle.desk_book.specs.Asked.{Asked}
 use Rattle.desk_book.specs.Held.{Holds}
 use Rattle.desk_book.specs.Script.{Item, ask, bad_line, Script}
@@ -40,19 +40,13 @@ answers_text (bad_line ∷ items) answers = written_bad_line ++ answers_text ite
 answers_text (ask asked ∷ items) [] = []
 answers_text (ask asked ∷ items) (answer ∷ answers) = answer_text answer ++ answers_text items answers
 
--- Items were played from these books, and their requests got these answers: those of a run to the books that the desk
--- holds then. No more answers name the device than it failed.
+-- Items were played from these books, and their requests got these answers in turn, to the books that the desk holds
+-- then. No more answers name the device than it failed.
 pub record HasPlayed (was : Bool) (books : Books) (items : List Item) (answers : List (Result Reply Fault)) (is : Bool) (old new : View) : Type 0 where
   pub last : Books
-  pub run : Run old.room was books (asked_in items) answers is last
+  pub in_turn : AnsweredInTurn old.room was books (asked_in items) answers is last
   pub holds : Holds is new last
   pub blame : count_by says_storage answers + old.failures ≤ new.failures
-
--- one item was played, and its answer written
-pub record PlaysItem (was : Bool) (books : Books) (item : Item) (before after : Option (List ℕ)) (is : Bool) (old new : View) : Type 0 where
-  pub answers : List (Result Reply Fault)
-  pub played : HasPlayed was books (item ∷ []) answers is old new
-  pub written : Appends before after (answers_text (item ∷ []) answers)
 
 -- a whole script was played, and its answers written
 pub record PlaysScript (was : Bool) (books : Books) (script : List ℕ) (before after : Option (List ℕ)) (is : Bool) (old new : View) : Type 0 where

@@ -3,7 +3,7 @@ use Rattle.std.specs.Prelude.{◌≡◌, ℕ, ◌+◌, true, false, List, [], �
 use Rattle.std.specs.List.{concat}
 use Rattle.desk_text.specs.declared.limits.TheConstants.{LONGEST_TEXT}
 use Rattle.desk_book.specs.Asked.{Asked, asked_by}
-use Rattle.desk_book.specs.Lines.{lines_of, said_by, is_skipped, has_body, is_stop}
+use Rattle.desk_book.specs.Lines.{script_lines, said_by, is_skipped, has_body, is_stop}
 use Rattle.desk_book.specs.Forms.{Asks}
 use Rattle.desk_book.specs.declared.script.Item.{Item as ScriptItem}
 use Rattle.desk_book.specs.declared.script.Item.TheVariants.{Ask, BadLine}
@@ -42,7 +42,7 @@ pub data Asking : List (List ℕ) → List Item → Type 0 where
 
 -- the items that a script's bytes spell
 abbrev pub Script : List ℕ → List Item → Type 0
-Script bytes items = Asking (lines_of bytes) items
+Script bytes items = Asking (script_lines bytes) items
 
 -- the item of the code
 abbrev pub item_of : ScriptItem → Item
@@ -52,15 +52,6 @@ item_of BadLine = bad_line
 -- these lines begin with an item, and the bytes behind it spell the items that follow
 pub record BeginsWith (lines : List (List ℕ)) (item : Item) (rest : List ℕ) : Type 0 where
   pub then : (items : List Item) → Script rest items → Asking lines (item ∷ items)
-
--- these lines begin with a body and the line that ends it, and the bytes behind that are the rest
-pub record BeginsWithBody (lines : List (List ℕ)) (text : List ℕ) (rest : List ℕ) : Type 0 where
-  pub body : List (List ℕ)
-  pub stop : List ℕ
-  pub split : lines ≡ body ++ stop ∷ lines_of rest
-  pub inside : HasNoStop body
-  pub stops : is_stop stop ≡ true
-  pub is : text ≡ concat body
 
 -- the bytes spell so many items, and no other list of items
 pub record SpellsOnly (bytes : List ℕ) (count : ℕ) : Type 0 where

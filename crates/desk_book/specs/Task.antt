@@ -17,7 +17,7 @@ use Rattle.desk_rules.specs.declared.reply.Reply.{Reply}
 use Rattle.desk_rules.specs.Reply.{untyped_reply}
 use Rattle.desk_rules.specs.WellFormed.{IsWellFormed}
 use Rattle.desk_engine.specs.Decision.{is_supported}
-use Rattle.desk_book.specs.Asked.{Asked, message, operator, status, sent, holdings, sums}
+use Rattle.desk_book.specs.Asked.{Asked, message, operator, sums}
 use Rattle.desk_book.specs.Command.{SpellsCommand}
 use Rattle.desk_book.specs.WrittenAnswers.{bad_line_text}
 use Rattle.desk_book.specs.declared.task.Task.{Task}
@@ -54,19 +54,15 @@ IsCommandTask text (Answer reply) = ((entry : Entry) → ¬ SpellsCommand text e
 abbrev pub IsTask : Asked → Task → Type 0
 IsTask (message sender mt text) task = MatchBool (is_supported_type mt) (IsMessageTask sender mt text task) (task ≡ Answer unknown_form)
 IsTask (operator text) task = IsCommandTask text task
-IsTask (status sender reference) task = task ≡ Answer unknown_form
-IsTask (sent receiver number) task = task ≡ Answer unknown_form
-IsTask (holdings owner account) task = task ≡ Answer unknown_form
 IsTask sums task = task ≡ Totals
+IsTask asked task = task ≡ Answer unknown_form
 
 -- a command to decide on is one that the desk takes
 abbrev pub IsSupported : Task → Type 0
 IsSupported (Decide entry) = is_supported entry ≡ true
-IsSupported Totals = Unit {0}
-IsSupported (Answer reply) = Unit {0}
+IsSupported task = Unit {0}
 
 -- a command to decide on is well formed
 abbrev pub IsFormed : Task → Type 0
 IsFormed (Decide entry) = IsWellFormed entry
-IsFormed Totals = Unit {0}
-IsFormed (Answer reply) = Unit {0}
+IsFormed task = Unit {0}

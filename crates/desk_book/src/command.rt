@@ -5,7 +5,8 @@ ghost use Rattle.serde_json.specs.Find.{as_object};
 ghost use Rattle.serde_json.specs.View.{view};
 ghost use Rattle.desk_rules.specs.declared.entry.Entry.{Entry as EntryValue};
 ghost use Rattle.desk_rules.specs.declared.entry.Entry.TheVariants.{Participant as ParticipantValue};
-ghost use Rattle.desk_book.specs.Command.{SpellsCommand, IsCommand, IsSupportedCommand, text_at, number_at};
+ghost use Rattle.desk_book.specs.Command.{SpellsCommand, IsCommand, IsSupportedCommand};
+ghost use Rattle.desk_book.specs.Members.{text_at, number_at};
 ghost use Rattle.desk_book.specs.Members.{IsOrderedObject};
 
 use crate::member::{member_count, text};

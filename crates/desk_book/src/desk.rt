@@ -2,7 +2,7 @@
 ghost use Rattle.std.specs.Prelude.{◌≡◌, ◌+◌, ◌<◌, ◌≤◌, true, false, map, All, count_by, Err, IfErr, IfOk, OnErr};
 ghost use Rattle.desk_rules.specs.Books.{Books};
 ghost use Rattle.desk_register.specs.View.{IsLater};
-ghost use Rattle.desk_book.specs.Answered.{ActsOnce, Run, says_closed, says_storage};
+ghost use Rattle.desk_book.specs.Answered.{ActsOnce, AnsweredInTurn, says_closed, says_storage};
 ghost use Rattle.desk_book.specs.Asked.{asked_by};
 ghost use Rattle.desk_book.specs.Held.{Holds, IsReady, Steps};
 ghost use Rattle.desk_book.specs.Answering.{IsPerformed};
@@ -80,8 +80,8 @@ impl<R: Register> Desk<R> {
         alloc: Global,
         requests: &[Request<'_>],
     ) -> Result<Vec<Result<Reply, Fault>>, Fault>
-        ensures run { IfOk result (λ answers. (books : Books) → (R.view self.new.register).is_honest → Holds self.old.is_closed (R.view self.old.register) books
-            → (last : Books) × Run (R.view self.old.register).room self.old.is_closed books (map asked_by requests.now) answers.items self.new.is_closed last
+        ensures in_turn { IfOk result (λ answers. (books : Books) → (R.view self.new.register).is_honest → Holds self.old.is_closed (R.view self.old.register) books
+            → (last : Books) × AnsweredInTurn (R.view self.old.register).room self.old.is_closed books (map asked_by requests.now) answers.items self.new.is_closed last
             × Holds self.new.is_closed (R.view self.new.register) last
             × ActsOnce (R.view self.old.register).room books (map asked_by requests.now) answers.items last) }
         ensures err { OnErr result (self.new ≡ self.old) }
@@ -132,6 +132,6 @@ fn is_closed_by(answer: &Result<Reply, Fault>) -> bool
 {
     match answer {
         Err(Fault::Closed) => true,
-        Ok(_) | Err(Fault::Memory | Fault::Storage) => false,
+        _ => false,
     }
 }

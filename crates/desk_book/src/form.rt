@@ -69,6 +69,6 @@ fn free_type(digits: &[u8]) -> Option<Mt>
 {
     match Mt::try_from(digits) {
         Ok(mt) if mt.is_instruction() && !mt.is_against_payment() => Some(mt),
-        Ok(_) | Err(_) => None,
+        _ => None,
     }
 }

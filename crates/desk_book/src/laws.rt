@@ -19,7 +19,7 @@ ghost use Rattle.desk_engine.specs.Applied.{no_books};
 ghost use Rattle.desk_book.specs.declared.fault.Fault.{Fault};
 ghost use Rattle.desk_book.specs.declared.task.Task.{Task};
 ghost use Rattle.desk_book.specs.declared.task.Task.TheVariants.{Decide};
-ghost use Rattle.desk_book.specs.Answered.{ActsOnce, IsRepeat, IsToldSums, Run, Step, says_closed};
+ghost use Rattle.desk_book.specs.Answered.{ActsOnce, IsRepeat, IsToldSums, AnsweredInTurn, Step, says_closed};
 ghost use Rattle.desk_book.specs.Known.{Agree, IsKnown};
 ghost use Rattle.desk_book.specs.Sums.{sums_text};
 ghost use Rattle.desk_book.specs.declared.total.SecurityTotal.{SecurityTotal};
@@ -53,23 +53,24 @@ pub fn one_task()
     ensures { (asked : Asked) (a b : Task) → IsTask asked a → IsTask asked b → a ≡ b }
 {}
 
-/// Once closed, a desk stays so: one that is open at the end of a run answered no request of it that it is closed.
+/// Once closed, a desk stays so: one that is open after its answers in turn said in none of them that it is closed.
 pub fn closed_for_good()
     ensures { (limit : ℕ) (was : Bool) (books last : Books) (requests : List Asked) (answers : List (Result Reply Fault))
-        → Run limit was books requests answers false last → All (λ answer. says_closed answer ≡ false) answers }
+        → AnsweredInTurn limit was books requests answers false last → All (λ answer. says_closed answer ≡ false) answers }
 {}
 
-/// Repeats act once: of any run every repeat may be taken out, and with it every request that a fault answered. What
-/// is left is a run with the same answers to the same last books. Each repeat got the first reply of its entry.
+/// Repeats act once: of requests that are answered in turn every repeat may be taken out, and with it every request
+/// that a fault answered. What is left is answered in turn too, the same, to the same last books. Each repeat got the
+/// first reply of its entry.
 pub fn repeats_act_once()
     ensures { (limit : ℕ) (was : Bool) (books last : Books) (requests : List Asked) (answers : List (Result Reply Fault)) (is : Bool)
-        → Run limit was books requests answers is last → ActsOnce limit books requests answers last }
+        → AnsweredInTurn limit was books requests answers is last → ActsOnce limit books requests answers last }
 {}
 
 /// A request that was accepted is a repeat when it is asked again, however many requests later.
 pub fn accepted_again()
     ensures { (limit : ℕ) (was is : Bool) (books next last : Books) (asked : Asked) (entry : Entry) (requests : List Asked) (answers : List (Result Reply Fault))
-        → IsTask asked (Decide entry) → IsVerdict limit books entry Accept → AreNext books entry next → Run limit was next requests answers is last → IsRepeat limit last asked }
+        → IsTask asked (Decide entry) → IsVerdict limit books entry Accept → AreNext books entry next → AnsweredInTurn limit was next requests answers is last → IsRepeat limit last asked }
 {}
 
 /// The abstract desk has one answer to a request: where two are given that are no faults, they are the same reply, and
@@ -89,7 +90,7 @@ pub fn known_replies()
 pub fn accepted_stays()
     ensures none { (limit : ℕ) → AreAccepted limit no_books }
     ensures stays { (limit : ℕ) (was is : Bool) (books last : Books) (requests : List Asked) (answers : List (Result Reply Fault))
-        → AreAccepted limit books → Run limit was books requests answers is last → AreAccepted limit last }
+        → AreAccepted limit books → AnsweredInTurn limit was books requests answers is last → AreAccepted limit last }
 {}
 
 /// Where the totals are asked for, after any list of requests to a desk whose entries were accepted in their turn and are
@@ -97,7 +98,7 @@ pub fn accepted_stays()
 /// participants just what was paid in less what was paid out.
 pub fn sums_agree()
     ensures { (limit : ℕ) (was is : Bool) (books last next : Books) (requests : List Asked) (answers : List (Result Reply Fault)) (reply : Reply)
-        → AreAccepted limit books → Run limit was books requests answers is last → Step limit last sums (Ok reply) next
+        → AreAccepted limit books → AnsweredInTurn limit was books requests answers is last → Step limit last sums (Ok reply) next
         → (told : IsToldSums last reply next) × Agree told.cash told.securities }
 {}
 
@@ -106,5 +107,5 @@ pub fn sums_agree()
 /// balance. (What is accepted is read from messages and commands, so nothing is left to assume of it.)
 pub fn changes_are_confirmed()
     ensures { (limit : ℕ) (was is : Bool) (books last : Books) (requests : List Asked) (answers : List (Result Reply Fault))
-        → AreAccepted limit books → Run limit was books requests answers is last → (confirmations : List Confirmation) × SayConfirmations (sent_of last) confirmations × AccountFor last confirmations }
+        → AreAccepted limit books → AnsweredInTurn limit was books requests answers is last → (confirmations : List Confirmation) × SayConfirmations (sent_of last) confirmations × AccountFor last confirmations }
 {}

@@ -1,7 +1,7 @@
 //! The lines of a script.
 ghost use Rattle.std.specs.Prelude.{◌≡◌, ◌<◌, ◌≤◌, ◌==◌, ◌++◌, ◌∷◌, [], length, IfSome, IfNone};
 ghost use Rattle.std.specs.List.{position_or_len};
-ghost use Rattle.desk_book.specs.Lines.{lines_of, said_by as said_of, is_skipped as skips, has_body as posts, is_stop as stops, first_word as word_of};
+ghost use Rattle.desk_book.specs.Lines.{script_lines, said_by as said_of, is_skipped as skips, has_body as posts, is_stop as stops, first_word as word_of};
 
 /// The first word of a line that a participant's message follows.
 pub const MESSAGE: &[u8] = b"in";
@@ -14,7 +14,7 @@ const STOP: &[u8] = b".";
 
 /// The first line with its line end, and what stands behind it; None of an empty text.
 pub fn first_line(text: &[u8]) -> Option<(&[u8], &[u8])>
-    ensures first { IfSome result (λ parts. lines_of text.now ≡ parts.0.now ∷ lines_of parts.1.now) }
+    ensures first { IfSome result (λ parts. script_lines text.now ≡ parts.0.now ∷ script_lines parts.1.now) }
     ensures split { IfSome result (λ parts. text.now ≡ parts.0.now ++ parts.1.now) }
     ensures shorter { IfSome result (λ parts. length parts.1.now < length text.now) }
     ensures none { IfNone result (text.now ≡ []) }

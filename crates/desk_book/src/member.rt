@@ -9,7 +9,7 @@ ghost use Rattle.desk_codes.specs.Day.{IsDay};
 ghost use Rattle.desk_codes.specs.Reference.{IsReference};
 ghost use Rattle.desk_msg.specs.declared.instruction.Kind.{Kind as KindValue};
 ghost use Rattle.desk_msg.specs.Profile.{code_of_kind};
-ghost use Rattle.desk_book.specs.Command.{text_at, number_at};
+ghost use Rattle.desk_book.specs.Members.{text_at, number_at};
 ghost use Rattle.desk_book.specs.Forms.{SpellsBic};
 ghost use Rattle.desk_book.specs.Members.{IsOrderedObject};
 

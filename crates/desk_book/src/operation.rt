@@ -5,7 +5,8 @@ ghost use Rattle.desk_msg.specs.declared.instruction.Kind.{Kind};
 ghost use Rattle.desk_rules.specs.declared.entry.Movement.{Movement as MovementValue};
 ghost use Rattle.desk_rules.specs.declared.entry.Entry.TheVariants.{Participant, Account, Security, Issue, Run};
 ghost use Rattle.desk_rules.specs.declared.entry.RunRule.TheVariants.{Passes};
-ghost use Rattle.desk_book.specs.Command.{IsCommand, IsSupportedCommand, text_at};
+ghost use Rattle.desk_book.specs.Command.{IsCommand, IsSupportedCommand};
+ghost use Rattle.desk_book.specs.Members.{text_at};
 
 use crate::member::{
     account_in, day_in, isin_in, kind_in, member_count, party_in, quantity_in, reference_in,

@@ -6,7 +6,8 @@ ghost use Rattle.desk_rules.specs.Books.{Books};
 ghost use Rattle.desk_register.specs.View.{IsLater};
 ghost use Rattle.desk_book.specs.declared.fault.Fault.{Fault};
 ghost use Rattle.desk_book.specs.Held.{Holds};
-ghost use Rattle.desk_book.specs.Played.{HasPlayed, PlaysFront, PlaysItem, PlaysScript};
+ghost use Rattle.desk_book.specs.Played.{HasPlayed, PlaysFront, PlaysScript};
+ghost use Rattle.desk_book.specs.Items.{PlaysItem};
 ghost use Rattle.desk_book.specs.Script.{item_of};
 
 use crate::desk::Desk;

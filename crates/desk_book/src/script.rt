@@ -1,7 +1,8 @@
 //! Scripts: requests as lines of text, with bodies.
 ghost use Rattle.std.specs.Prelude.{◌≡◌, ℕ, ◌<◌, ◌≤◌, [], ◌∷◌, List, Some, None, false, true, length, All, IfSome, IfNone};
-ghost use Rattle.desk_book.specs.Lines.{lines_of, said_by as said_of, is_skipped as skips, has_body as posts, is_stop as stops};
-ghost use Rattle.desk_book.specs.Script.{Asking, Means, BeginsWith, BeginsWithBody, HasNoStop, SpellsOnly, item_of};
+ghost use Rattle.desk_book.specs.Lines.{script_lines, said_by as said_of, is_skipped as skips, has_body as posts, is_stop as stops};
+ghost use Rattle.desk_book.specs.Script.{Asking, Means, BeginsWith, HasNoStop, SpellsOnly, item_of};
+ghost use Rattle.desk_book.specs.Items.{BeginsWithBody};
 
 use crate::form::{bodiless, posted};
 use crate::line::{first_line, has_body, is_skipped, is_stop, said_by};
@@ -23,9 +24,9 @@ pub enum Item<'a> {
 /// The first item of a script, and the bytes behind it; None where nothing is asked. No memory is taken, and
 /// the item's texts lie in the script.
 pub fn first_item(script: &[u8]) -> Option<(Item<'_>, &[u8])>
-    ensures first { IfSome result (λ first. BeginsWith (lines_of script.now) (item_of first.0) first.1.now) }
+    ensures first { IfSome result (λ first. BeginsWith (script_lines script.now) (item_of first.0) first.1.now) }
     ensures shorter { IfSome result (λ first. length first.1.now < length script.now) }
-    ensures none { IfNone result (Asking (lines_of script.now) []) }
+    ensures none { IfNone result (Asking (script_lines script.now) []) }
 {
     let mut rest = script;
     while let Some((line, after)) = first_line(rest) {
@@ -53,7 +54,7 @@ pub fn item_count(script: &[u8]) -> usize
 /// The item that begins with this line, and the bytes behind it.
 fn item_at<'a>(line: &'a [u8], after: &'a [u8]) -> (Item<'a>, &'a [u8])
     requires { skips (said_of line.now) ≡ false }
-    ensures first { BeginsWith (line.now ∷ lines_of after.now) (item_of result.0) result.1.now }
+    ensures first { BeginsWith (line.now ∷ script_lines after.now) (item_of result.0) result.1.now }
     ensures shorter { length result.1.now ≤ length after.now }
 {
     let said = said_by(line);
@@ -68,9 +69,9 @@ fn item_at<'a>(line: &'a [u8], after: &'a [u8]) -> (Item<'a>, &'a [u8])
 
 /// The text up to the line that ends the body, and what stands behind that line; None where none ends it.
 fn split_body(text: &[u8]) -> Option<(&[u8], &[u8])>
-    ensures body { IfSome result (λ parts. BeginsWithBody (lines_of text.now) parts.0.now parts.1.now) }
+    ensures body { IfSome result (λ parts. BeginsWithBody (script_lines text.now) parts.0.now parts.1.now) }
     ensures shorter { IfSome result (λ parts. length parts.1.now ≤ length text.now) }
-    ensures none { IfNone result (HasNoStop (lines_of text.now)) }
+    ensures none { IfNone result (HasNoStop (script_lines text.now)) }
 {
     let mut rest = text;
     while let Some((line, after)) = first_line(rest) {

@@ -34,9 +34,7 @@ pub fn task_of(alloc: Global, request: &Request<'_>) -> Result<Task, AllocError>
         }
         Request::Operator(text) => command_task(alloc, text),
         Request::Sums => Ok(Task::Totals),
-        Request::Message(..) | Request::Status(..) | Request::Sent(..) | Request::Holdings(..) => {
-            Ok(Task::Answer(unknown(alloc)?))
-        }
+        _ => Ok(Task::Answer(unknown(alloc)?)),
     }
 }
 

@@ -25,7 +25,7 @@ use Rattle.desk_rules.specs.Cancelled.{is_cancel_requested, is_cancelled_pair}
 use Rattle.desk_rules.specs.Balances.{credits, debits, cash_credits, cash_debits}
 use Rattle.desk_rules.specs.Covered.{lack_of}
 use Rattle.desk_rules.specs.Pairing.{IsPairing}
-use Rattle.desk_rules.specs.Settlement.{IsSettlement, is_due, precedes, settled_before, begins, is_in_passes, last_pass, passes_of}
+use Rattle.desk_rules.specs.Settlement.{IsSettlement, is_due, precedes, settled_before, pass_begins, is_in_passes, last_pass, passes_of}
 use Rattle.desk_rules.specs.Books.{Books, AreBooks}
 use Rattle.desk_rules.specs.Standing.{reason_of_lack}
 use Rattle.desk_rules.specs.Verdict.{WasAccepted, IsVerdict}
@@ -62,7 +62,7 @@ module _ (books : Books) (reference day : List ℕ) (rule : RunRule) (pass : ℕ
   longer = length-append books.history (Run reference day rule ∷ [])
 
   -- the next pass begins
-  pub next_begins : begins (books.history ++ Run reference day rule ∷ []) settled (length books.history + 1) (pass + 1) ≡ true → IsUnderway books (Run reference day rule) (pass + 1) None settled content
+  pub next_begins : pass_begins (books.history ++ Run reference day rule ∷ []) settled (length books.history + 1) (pass + 1) ≡ true → IsUnderway books (Run reference day rule) (pass + 1) None settled content
   next_begins begun = record {
     passing = record {
       history = over.passing.history;
@@ -89,7 +89,7 @@ module _ (books : Books) (reference day : List ℕ) (rule : RunRule) (pass : ℕ
       again k (Some i) st x = record { so = again_so k st.mate st.state x.so; requested = x.requested }
 
   -- The run has made its passes, where the next does not begin.
-  module _ (last : begins (books.history ++ Run reference day rule ∷ []) settled (length books.history + 1) (pass + 1) ≡ false) where
+  module _ (last : pass_begins (books.history ++ Run reference day rule ∷ []) settled (length books.history + 1) (pass + 1) ≡ false) where
     settlement : IsSettlement (books.history ++ Run reference day rule ∷ []) books.pairs settled
     settlement = run_ends (books.history ++ Run reference day rule ∷ []) books.pairs settled (length books.history + 1) (pass + 1) (sym longer) (omega arith) (decided_as_far over.reached) last
 
@@ -304,8 +304,8 @@ begins_at : (books : Books) (e : Entry) (k : ℕ) (o : Option Instructed) (st : 
 begins_at books e k None st x = x
 begins_at books e k (Some i) st x = record { so = begins_so books e k st.mate st.state x.so; requested = x.requested }
 
-pub pass_begins : (limit : ℕ) (books : Books) (reference day : List ℕ) (rule : RunRule) (content : Content) → Tables limit books content → IsUnderway books (Run reference day rule) 1 None books.settled content
-pass_begins limit books reference day rule content tables = record {
+pub first_begins : (limit : ℕ) (books : Books) (reference day : List ℕ) (rule : RunRule) (content : Content) → Tables limit books content → IsUnderway books (Run reference day rule) 1 None books.settled content
+first_begins limit books reference day rule content tables = record {
   passing = record {
     history = tables.history;
     standing = λ k. begins_at books (Run reference day rule) k (instruction_at books.history k) (content.standing k) (tables.standing k);

@@ -25,7 +25,7 @@ use Rattle.desk_engine.specs.Pass.{CanPass, CanRun, IsAtPass, IsTaken, PassEnds,
 use Rattle.desk_engine.specs.Decision.{AreSupported}
 use Rattle.desk_engine.proofs.TablesLemmas.{length_is}
 use Rattle.desk_register.proofs.ViewLemmas.{later_then, stays_then}
-use Rattle.desk_engine.proofs.FinishLemmas.{pass_begins}
+use Rattle.desk_engine.proofs.FinishLemmas.{first_begins}
 use Rattle.desk_engine.proofs.KeepsLemmas.{tables_of}
 use Rattle.desk_engine.proofs.UnderwayLemmas.{Underway, starts, can_settle, goes_on, ends_none, ends_all, Ran, goes_again, run_over, enough, settled_few, first_over, again_over}
 
@@ -126,7 +126,7 @@ at_first room books reference day rule content tables supported = record {
   are_books = tables.are_books;
   accepted = tables.accepted;
   supported = supported;
-  underway = pass_begins room books reference day rule content tables;
+  underway = first_begins room books reference day rule content tables;
 }
 
 -- The first due pair can be tried where the tables of books are kept, whatever run may come.

@@ -16,7 +16,7 @@ use Rattle.desk_rules.specs.declared.standing.State.TheVariants.{NoInstruction, 
 use Rattle.desk_rules.specs.declared.standing.Standing.{Standing}
 use Rattle.desk_engine.specs.declared.settlement_run.Taken.{Taken}
 use Rattle.desk_rules.specs.History.{instruction_at, run_rule}
-use Rattle.desk_rules.specs.Settlement.{settled_count, begins, is_in_passes, allows_more}
+use Rattle.desk_rules.specs.Settlement.{settled_count, pass_begins, is_in_passes, allows_more}
 use Rattle.desk_rules.specs.Underway.{is_above}
 use Rattle.desk_rules.specs.Underway.{IsOpen}
 use Rattle.desk_rules.specs.Books.{Books, AreBooks}
@@ -233,12 +233,12 @@ module _ (books : Books) (reference day : List ℕ) (rule : RunRule) (again sett
       (begins_further g ran.settled n (ran.pass + 1) (record { allowed = allowed; member = found.0; inside = inside; run_is = at.0; pass_is = ap (λ k. k + 1) at.1 }))
 
   -- no further pass begins, by the rule, or where the last settled nothing
-  not_again : (rule ≡ OnePass) ⊎ (last ≡ 0) → begins (books.history ++ Run reference day rule ∷ []) ran.settled (length books.history + 1) (ran.pass + 1) ≡ false
+  not_again : (rule ≡ OnePass) ⊎ (last ≡ 0) → pass_begins (books.history ++ Run reference day rule ∷ []) ran.settled (length books.history + 1) (ran.pass + 1) ≡ false
   not_again why =
       let g = books.history ++ Run reference day rule ∷ [] in
       let n = length books.history + 1 in
       let o = ran.over in
-      false_from_ne_true (begins g ran.settled n (ran.pass + 1)) (λ e. elim (begins_true g ran.settled n (ran.pass + 1) e) [
+      false_from_ne_true (pass_begins g ran.settled n (ran.pass + 1)) (λ e. elim (begins_true g ran.settled n (ran.pass + 1) e) [
         | inl first ↦ elim (begins_true g ran.settled n ran.pass o.begun) [
           | inl one ↦ omega arith
           | inr f ↦ (let is : f.member.pass + 1 ≡ ran.pass = f.pass_is in omega arith)

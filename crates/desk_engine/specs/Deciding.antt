@@ -6,8 +6,6 @@ use Rattle.desk_rules.specs.declared.verdict.Verdict.{Verdict}
 use Rattle.desk_rules.specs.History.{number_of_key, sender_of, reference_of}
 use Rattle.desk_rules.specs.Books.{Books}
 use Rattle.desk_rules.specs.Verdict.{Check, IsVerdictAt}
-use Rattle.desk_rules.specs.Content.{history_of}
-use Rattle.desk_register.specs.View.{View, IfRead}
 
 -- the refusal of the first check that fails
 abbrev pub first_refusal : List Check → Option Refusal
@@ -28,7 +26,3 @@ pub record IsVerdictOnKey (history : List Entry) (entry : Entry) (verdict : Verd
 abbrev pub IsVerdictIfKnown : List Entry → Entry → Option Verdict → Type 0
 IsVerdictIfKnown history entry None = number_of_key history (sender_of entry) (reference_of entry) ≡ None
 IsVerdictIfKnown history entry (Some verdict) = IsVerdictOnKey history entry verdict
-
--- Over a reading call this holds of the history.
-abbrev pub Reading : View → View → (List Entry → Type 0) → Type 0
-Reading old new says = IfRead old new (says (history_of old.content))

@@ -17,7 +17,7 @@ use Rattle.desk_rules.specs.declared.verdict.Verdict.TheVariants.{Accept}
 use Rattle.desk_rules.specs.History.{instruction_at}
 use Rattle.desk_rules.specs.Cancelled.{is_cancel_requested}
 use Rattle.desk_rules.specs.Covered.{lack_of}
-use Rattle.desk_rules.specs.Settlement.{is_due, settled_before, begins, settled_count, IsSettlement}
+use Rattle.desk_rules.specs.Settlement.{is_due, settled_before, pass_begins, settled_count, IsSettlement}
 use Rattle.desk_rules.specs.Underway.{is_above}
 use Rattle.desk_rules.specs.Books.{Books, AreBooks}
 use Rattle.desk_rules.specs.Standing.{no_standing, reason_of_lack}
@@ -127,14 +127,14 @@ module _ (books : Books) (run : Entry) where
   pub record IsUnderway (pass : ℕ) (place : Option Place) (settled : List Settled) (content : Content) : Type 0 where
     pub passing : IsPassing pass (is_below place) settled content
     pub reached : IsSettledAsFar with_run books.pairs run_number pass place settled
-    pub begun : begins with_run settled run_number pass ≡ true
+    pub begun : pass_begins with_run settled run_number pass ≡ true
     pub further : IsFurther settled
 
   -- A pass is over: it has tried all due pairs, so many settled in it, and so many that are due are not settled.
   pub record IsOver (pass : ℕ) (before settled : List Settled) (settled_so waiting_so : ℕ) (content : Content) : Type 0 where
     pub passing : IsPassing pass (λ p. true) settled content
     pub reached : IsSettledAsFar with_run books.pairs run_number (pass + 1) None settled
-    pub begun : begins with_run settled run_number pass ≡ true
+    pub begun : pass_begins with_run settled run_number pass ≡ true
     pub further : IsFurther settled
     pub here : List Settled
     pub is_here : settled ≡ before ++ here

@@ -41,8 +41,7 @@ pub fn apply<R: Register>(alloc: Global, register: &mut R, entry: Entry) -> Resu
         | Entry::Account { .. }
         | Entry::Security { .. }
         | Entry::Issue(_) => apply_registration(alloc, register, entry),
-        Entry::Redeem(_) | Entry::PayIn(_) | Entry::PayOut(_) | Entry::Cancel { .. } =>
-            unreachable!(),
+        _ => unreachable!(),
     }
 }
 

@@ -3,7 +3,8 @@ ghost use Rattle.std.specs.Prelude.{◌≡◌, not, is_none, is_some, [], ◌∷
 ghost use Rattle.desk_codes.specs.Number.{number_of};
 ghost use Rattle.desk_register.specs.View.{IsRead};
 ghost use Rattle.desk_engine.specs.Decision.{is_supported};
-ghost use Rattle.desk_engine.specs.Deciding.{first_refusal, Reading, with_history};
+ghost use Rattle.desk_engine.specs.Deciding.{first_refusal, with_history};
+ghost use Rattle.desk_engine.specs.Decision.{Reading};
 ghost use Rattle.desk_msg.specs.Depository.{desk_bic};
 ghost use Rattle.desk_rules.specs.Verdict.{check, checks_of};
 ghost use Rattle.desk_rules.specs.Facts.{is_after, is_of_kind, is_owner, is_participant, kind_of, last_run, owner_of};
@@ -189,7 +190,6 @@ pub fn refuse<R: Register>(
             instruction,
         } => refuse_instruction(alloc, register, sender, instruction),
         Entry::Run { day, .. } => refuse_run(alloc, register, *day),
-        Entry::Redeem(_) | Entry::PayIn(_) | Entry::PayOut(_) | Entry::Cancel { .. } =>
-            unreachable!(),
+        _ => unreachable!(),
     }
 }

@@ -3,7 +3,8 @@ ghost use Rattle.std.specs.Prelude.{◌≡◌, ◌↔◌, nat_le, length, option
 ghost use Rattle.desk_register.specs.View.{IsRead};
 ghost use Rattle.desk_rules.specs.History.{as_asked, sender_of};
 ghost use Rattle.desk_engine.specs.Decision.{is_supported};
-ghost use Rattle.desk_engine.specs.Deciding.{IsVerdictIfKnown, Reading, with_history};
+ghost use Rattle.desk_engine.specs.Deciding.{IsVerdictIfKnown, with_history};
+ghost use Rattle.desk_engine.specs.Decision.{Reading};
 ghost use Rattle.desk_rules.specs.Books.{Books};
 ghost use Rattle.desk_rules.specs.Verdict.{checks_of, first_failing, is_from_stranger, IsVerdict, reused_by};
 

@@ -36,13 +36,7 @@ fn reply_of(alloc: Global, entry: &Entry, applied: &Applied) -> Result<Reply, Al
             let about = applied.named.cancellation_case();
             message_reply(alloc, number, order.mt, &order.reference, about)
         }
-        Entry::Participant { .. }
-        | Entry::Account { .. }
-        | Entry::Security { .. }
-        | Entry::Issue(_)
-        | Entry::Redeem(_)
-        | Entry::PayIn(_)
-        | Entry::PayOut(_) => command_reply(alloc, number),
+        _ => command_reply(alloc, number),
     }
 }
 

@@ -10,12 +10,8 @@ pub fn is_supported(entry: &Entry) -> bool
     ensures { result ≡ is_supported entry.now }
 {
     match entry {
-        Entry::Participant { .. }
-        | Entry::Account { .. }
-        | Entry::Security { .. }
-        | Entry::Issue(_)
-        | Entry::Run { .. } => true,
-        Entry::Instruct { instruction, .. } => !instruction.mt.is_against_payment(),
         Entry::Redeem(_) | Entry::PayIn(_) | Entry::PayOut(_) | Entry::Cancel { .. } => false,
+        Entry::Instruct { instruction, .. } => !instruction.mt.is_against_payment(),
+        _ => true,
     }
 }

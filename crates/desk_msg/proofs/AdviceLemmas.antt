@@ -14,20 +14,20 @@ use Rattle.desk_msg.specs.OwnText.{last_digits, own_reference}
 use Rattle.std.proofs.lemmas.List.{append-nil}
 use Rattle.desk_msg.specs.MessageType.{digits_of_type}
 use Rattle.desk_msg.specs.StatusText.{code_of_reason, statuses_of, function_of_advice, advice_parts}
-use Rattle.desk_msg.specs.AdviceParts.{status_of, reason_of, parts_of}
+use Rattle.desk_msg.specs.AdviceParts.{status_with, reason_with, parts_of}
 use Rattle.desk_msg.proofs.PrintableLemmas.{digits-printable, printable_text}
 
 -- the sequence that an advice is in
 abbrev general : List (List ℕ)
 general = codes "GENL" ∷ []
 
-status_right : (status : List ℕ) (rest : List Part) → IsTrue (is_value status) → AreParts general rest → AreParts general (status_of status [] ++ rest)
+status_right : (status : List ℕ) (rest : List Part) → IsTrue (is_value status) → AreParts general rest → AreParts general (status_with status [] ++ rest)
 status_right status rest v h = (refl, lit< tt, (refl, v, (refl, h)))
 
-reasoned_right : (status reason : List ℕ) (rest : List Part) → IsTrue (is_value status) → IsTrue (is_value reason) → AreParts general rest → AreParts general (status_of status (reason_of reason []) ++ rest)
+reasoned_right : (status reason : List ℕ) (rest : List Part) → IsTrue (is_value status) → IsTrue (is_value reason) → AreParts general rest → AreParts general (status_with status (reason_with reason []) ++ rest)
 reasoned_right status reason rest v w h = (refl, lit< tt, (refl, v, (refl, lit< tt, (refl, w, (refl, (refl, h))))))
 
-refusal_right : (status : List ℕ) (number : ℕ) (rest : List Part) → IsTrue (is_value status) → AreParts general rest → AreParts general (status_of status (reason_of (codes ":REJT//NARR") (field_part (codes "70D") (codes ":REAS//DESK " ++ last_digits 2 number) ∷ [])) ++ rest)
+refusal_right : (status : List ℕ) (number : ℕ) (rest : List Part) → IsTrue (is_value status) → AreParts general rest → AreParts general (status_with status (reason_with (codes ":REJT//NARR") (field_part (codes "70D") (codes ":REAS//DESK " ++ last_digits 2 number) ∷ [])) ++ rest)
 refusal_right status number rest v h =
     (refl, lit< tt, (refl, v, (refl, lit< tt, (refl, refl, (refl, value-right (codes ":REAS//DESK " ++ last_digits 2 number) (digits-printable 2 number), (refl, (refl, h)))))))
 
@@ -46,11 +46,11 @@ last = close_part (codes "GENL") ∷ []
 pub statuses_right : (about : Case) → AreParts general (statuses_of about ++ close_part (codes "GENL") ∷ [])
 unfolding last
 statuses_right Unmatched =
-    status_right (codes ":IPRC//PACK") (status_of (codes ":MTCH//NMAT") (reason_of (codes ":NMAT//CMIS") []) ++ last) refl
+    status_right (codes ":IPRC//PACK") (status_with (codes ":MTCH//NMAT") (reason_with (codes ":NMAT//CMIS") []) ++ last) refl
     (reasoned_right (codes ":MTCH//NMAT") (codes ":NMAT//CMIS") last refl refl closed)
 statuses_right (Matched reason) =
-    let pending : List Part = status_of (codes ":SETT//PEND") (reason_of (codes ":PEND//" ++ code_of_reason reason) []) ++ last in
-    status_right (codes ":IPRC//PACK") (status_of (codes ":MTCH//MACH") [] ++ pending) refl
+    let pending : List Part = status_with (codes ":SETT//PEND") (reason_with (codes ":PEND//" ++ code_of_reason reason) []) ++ last in
+    status_right (codes ":IPRC//PACK") (status_with (codes ":MTCH//MACH") [] ++ pending) refl
     (status_right (codes ":MTCH//MACH") pending refl (reasoned_right (codes ":SETT//PEND") (codes ":PEND//" ++ code_of_reason reason) last refl (pending_right reason) closed))
 statuses_right Cancelled = status_right (codes ":IPRC//CAND") last refl closed
 statuses_right CancelDone = status_right (codes ":CPRC//CAND") last refl closed

@@ -29,7 +29,7 @@ use Rattle.desk_msg.specs.declared.instruction.Message.TheVariants.{New}
 use Rattle.desk_msg.specs.MessageType.{is_delivery, is_against_payment}
 use Rattle.desk_msg.specs.OwnText.{own_reference}
 use Rattle.desk_msg.specs.Profile.{Said, code_of_kind, amount_row, reag_row, deag_row, amount_said}
-use Rattle.desk_msg.specs.Reads.{Reads, Gives, GiveAll, cash_said, instructed}
+use Rattle.desk_msg.specs.Reads.{ReadsFields, Gives, GiveAll, cash_said, instruction_said}
 use Rattle.desk_msg.specs.ConfirmationText.{confirmation, confirmation_parts, confirming_type}
 use Rattle.desk_msg.specs.Confirms.{Confirms, confirmed_of, paid_row, paid_by, paid_said}
 use Rattle.desk_msg.proofs.PrintableLemmas.{digits-printable, printable_text}
@@ -54,7 +54,7 @@ printed_cash : (cash : Option Cash) → IsReadCash cash → IsPrintedCash cash
 printed_cash None read = tt
 printed_cash (Some cash) read = amount_printable cash.ccy (written_number cash.amount (decimals_of cash.ccy)) (number_text cash.amount (decimals_of cash.ccy) read)
 
-party_given : (delivers : Bool) (fields : List Found) (i : Instruction) → Gives fields (if delivers then reag_row else deag_row) (instructed i (if delivers then reag_row else deag_row).word) → list_all is_printable i.counterparty ≡ true
+party_given : (delivers : Bool) (fields : List Found) (i : Instruction) → Gives fields (if delivers then reag_row else deag_row) (instruction_said i (if delivers then reag_row else deag_row).word) → list_all is_printable i.counterparty ≡ true
 party_given true fields i given = party_text given.says.0 i.counterparty given.says.2
 party_given false fields i given = party_text given.says.0 i.counterparty given.says.2
 
@@ -153,7 +153,7 @@ said_back n i day back =
       ),
     )
 
-pub confirms : (n : ℕ) (i : Instruction) (day : List ℕ) (fields : List Found) → Reads i.mt fields (Ok (New i)) → IsDay day → (said : List Found) × IsBlock (confirmation n i day) said × Confirms (confirming_type i.mt) said (Ok (confirmed_of i day))
+pub confirms : (n : ℕ) (i : Instruction) (day : List ℕ) (fields : List Found) → ReadsFields i.mt fields (Ok (New i)) → IsDay day → (said : List Found) × IsBlock (confirmation n i day) said × Confirms (confirming_type i.mt) said (Ok (confirmed_of i day))
 confirms n i day fields reads is_day =
     let quantity = reads.1.1.1.1.1.0.says.1.2 in
     said_back n i day record {
@@ -164,7 +164,7 @@ confirms n i day fields reads is_day =
       account = reads.1.1.1.1.1.1.0.says.2.0;
       settlement = reads.1.1.1.1.1.1.1.0.says.2.0.1;
       counterparty = party_given (is_delivery i.mt) fields i reads.1.1.1.1.1.1.1.1.1.0;
-      cash = read_cash fields (is_against_payment i.mt) i.cash (instructed i) i.paid refl reads.1.1.1.1.1.1.1.1.1.1;
+      cash = read_cash fields (is_against_payment i.mt) i.cash (instruction_said i) i.paid refl reads.1.1.1.1.1.1.1.1.1.1;
     }
 
 -- a number with a short written form is read back

@@ -14,7 +14,7 @@ use Rattle.desk_codes.specs.Day.{IsDay}
 use Rattle.desk_msg.specs.declared.instruction.Kind.{Kind}
 use Rattle.desk_msg.specs.declared.instruction.Kind.TheVariants.{Unit as Units, FaceAmount}
 use Rattle.desk_msg.specs.Profile.{IsCode, IsFunctionText, IsTimed, IsAmountText, IsQuantityText, code_of_kind}
-use Rattle.desk_msg.specs.Finding.{IsFound, code_itself}
+use Rattle.desk_msg.specs.Named.{IsFound, code_itself}
 
 -- two splits of a text whose fronts are equally long are one
 pub one_cut : (a b s t : List ℕ) → length a ≡ length b → a ++ s ≡ b ++ t → (a ≡ b) × (s ≡ t)

@@ -2,7 +2,8 @@
 use Rattle.std.proofs.Common.{◌≡◌, ℕ, List, [], ◌∷◌, ◌++◌, append_assoc, sym, ◌∙◌, ap, refl, arith}
 use Rattle.std.specs.List.{join_with_byte}
 use Rattle.std.proofs.lemmas.Grind.{common_steps}
-use Rattle.desk_msg.specs.FieldsText.{fed, named}
+use Rattle.desk_msg.specs.FieldsText.{named}
+use Rattle.desk_msg.specs.FedLines.{fed}
 
 pub append_nil : (a : List ℕ) → a ++ [] ≡ a
 append_nil a = grind (arith, common_steps)

@@ -12,7 +12,7 @@ use Rattle.desk_msg.specs.MessageType.{is_against_payment}
 use Rattle.desk_msg.specs.Profile.{Row, Said, text_said, function_row, security_row, safe_row, amount_said}
 use Rattle.desk_msg.specs.Reads.{Gives, Fails, GiveAll}
 use Rattle.desk_msg.specs.declared.confirmed.Confirmed.{Confirmed}
-use Rattle.desk_msg.specs.Confirms.{Confirms, FailsConfirming, confirmed, confirmation_rows, rela_row, eset_row, settled_row, paid_row, paid_said}
+use Rattle.desk_msg.specs.Confirms.{Confirms, FailsConfirming, confirmation_said, confirmation_rows, rela_row, eset_row, settled_row, paid_row, paid_said}
 use Rattle.desk_msg.proofs.ReadingLaws.{one_given, one_failure, one_first, given_not_first, ArePlain, none_one, many_one, bad_gives}
 use Rattle.desk_msg.proofs.MessageLaws.{one_text, quantity_parts, amount_parts}
 
@@ -54,7 +54,7 @@ one_settlement mt fields a b x y =
     (one_text fields security_row a.isin b.isin x.1.1.1.1.0 y.1.1.1.1.0)
     quantity.0 quantity.1
     (one_text fields safe_row a.account b.account x.1.1.1.1.1.1.0 y.1.1.1.1.1.1.0)
-    (one_cash fields (is_against_payment mt) a.cash b.cash (confirmed a) (confirmed b) x.0 y.0 refl refl x.1.1.1.1.1.1.1 y.1.1.1.1.1.1.1)
+    (one_cash fields (is_against_payment mt) a.cash b.cash (confirmation_said a) (confirmation_said b) x.0 y.0 refl refl x.1.1.1.1.1.1.1 y.1.1.1.1.1.1.1)
 
 -- the function is another than NEWM
 IsOther : List Found → Type 0
@@ -104,7 +104,7 @@ one_fault mt fields e f (inr x) (inr y) = one_first fields (confirmation_rows mt
 
 settlement_no_fault : (mt : Mt) (fields : List Found) (c : Confirmed) (fault : MsgFault) → Confirms mt fields (Ok c) → Confirms mt fields (Err fault) → ⊥
 settlement_no_fault mt fields c fault x (inl y) = newm_not_failing fields fault x.1.0 (ways fields fault y)
-settlement_no_fault mt fields c fault x (inr y) = given_not_first fields (confirmation_rows mt) (confirmed c) fault (plain_rows mt) x.1.1 y.1
+settlement_no_fault mt fields c fault x (inr y) = given_not_first fields (confirmation_rows mt) (confirmation_said c) fault (plain_rows mt) x.1.1 y.1
 
 pub one_confirmation : (mt : Mt) (fields : List Found) (a b : Result Confirmed MsgFault) → Confirms mt fields a → Confirms mt fields b → a ≡ b
 one_confirmation mt fields (Ok a) (Ok b) x y = ap Ok (one_settlement mt fields a b x y)

@@ -12,7 +12,7 @@ use Rattle.desk_msg.specs.declared.fault.MsgFault.TheVariants.{Missing, Repeated
 use Rattle.desk_msg.specs.declared.instruction.Message.{Message}
 use Rattle.desk_msg.specs.declared.instruction.Message.TheVariants.{New, Cancel}
 use Rattle.desk_msg.specs.Profile.{Row, Said, Says, text_said, function_row, rows_of}
-use Rattle.desk_msg.specs.Reads.{belonging, Gives, IsBad, Fails, FailsFirst, GiveAll, code_of_function, instructed, cancelled, Reads}
+use Rattle.desk_msg.specs.Reads.{belonging, Gives, IsBad, Fails, FailsFirst, GiveAll, code_of_function, instruction_said, cancellation_said, ReadsFields}
 use Rattle.desk_msg.proofs.SaidLaws.{one_said}
 
 one_found : (f g : Found) (fs gs : List Found) → f ∷ fs ≡ g ∷ gs → f ≡ g
@@ -122,7 +122,7 @@ function_not_fails fields Canc Function gives fails =
     fails.1.other.1 (sym (one_text_code (codes "CANC") fails.1.function (one_given fields function_row (text_said (codes "CANC")) (text_said fails.1.function) gives fails.1.gives)))
 
 -- the fault is one
-pub one_fault : (mt : Mt) (fields : List Found) (e f : MsgFault) → Reads mt fields (Err e) → Reads mt fields (Err f) → e ≡ f
+pub one_fault : (mt : Mt) (fields : List Found) (e f : MsgFault) → ReadsFields mt fields (Err e) → ReadsFields mt fields (Err f) → e ≡ f
 one_fault mt fields e f (inl x) (inl y) = one_failure fields function_row e f x y
 one_fault mt fields e f (inl x) (inr y) = absurd (function_not_fails fields y.0 e y.1 x)
 one_fault mt fields e f (inr x) (inl y) = absurd (function_not_fails fields x.0 f x.1 y)
@@ -131,12 +131,12 @@ one_fault mt fields e f (inr x) (inr y) =
     one_first fields (rows_of mt x.0) e f (plain_rows mt x.0) x.2 (subst P (one_function fields y.0 x.0 y.1 x.1) y.2)
 
 -- a message and a fault exclude each other
-pub message_no_fault : (mt : Mt) (fields : List Found) (message : Message) (fault : MsgFault) → Reads mt fields (Ok message) → Reads mt fields (Err fault) → ⊥
+pub message_no_fault : (mt : Mt) (fields : List Found) (message : Message) (fault : MsgFault) → ReadsFields mt fields (Ok message) → ReadsFields mt fields (Err fault) → ⊥
 message_no_fault mt fields (New i) fault reads (inl x) = function_not_fails fields Newm fault reads.1.0 x
 message_no_fault mt fields (New i) fault reads (inr x) =
     let P : FunctionCode → Type 0 = λ function. FailsFirst fields (rows_of mt function) fault in
-    given_not_first fields (rows_of mt Newm) (instructed i) fault (plain_rows mt Newm) reads.1.1 (subst P (one_function fields x.0 Newm x.1 reads.1.0) x.2)
+    given_not_first fields (rows_of mt Newm) (instruction_said i) fault (plain_rows mt Newm) reads.1.1 (subst P (one_function fields x.0 Newm x.1 reads.1.0) x.2)
 message_no_fault mt fields (Cancel c) fault reads (inl x) = function_not_fails fields Canc fault reads.1.0 x
 message_no_fault mt fields (Cancel c) fault reads (inr x) =
     let P : FunctionCode → Type 0 = λ function. FailsFirst fields (rows_of mt function) fault in
-    given_not_first fields (rows_of mt Canc) (cancelled c) fault (plain_rows mt Canc) reads.1.1 (subst P (one_function fields x.0 Canc x.1 reads.1.0) x.2)
+    given_not_first fields (rows_of mt Canc) (cancellation_said c) fault (plain_rows mt Canc) reads.1.1 (subst P (one_function fields x.0 Canc x.1 reads.1.0) x.2)

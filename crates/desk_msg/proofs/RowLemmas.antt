@@ -10,7 +10,8 @@ use Rattle.desk_msg.specs.declared.fault.MsgFault.TheVariants.{BadValue}
 use Rattle.desk_msg.specs.declared.profile.Row.{Row as TableRow}
 use Rattle.desk_msg.specs.Profile.{Row, Form, quantity_form, amount_form, Said, text_said, quantity_said, amount_said, unsaid, Says, SaysText, Bears, Behind, slashed, IsQuantityText, IsAmountText, IsSecurityText, function_form, security_form, function_row}
 use Rattle.desk_msg.specs.Reads.{belonging, Gives, IsBad}
-use Rattle.desk_msg.specs.Finding.{IsFound, ReadsRow, code_itself, row_seen}
+use Rattle.desk_msg.specs.Finding.{ReadsRow, row_seen}
+use Rattle.desk_msg.specs.Named.{IsFound, code_itself}
 use Rattle.desk_msg.proofs.ValueLemmas.{one_behind, one_head}
 
 -- what the text of a value says is what its row says, where the row says just what P makes of the text behind a beginning

@@ -12,7 +12,7 @@ use Rattle.desk_msg.specs.declared.mt.Mt.{Mt}
 use Rattle.desk_msg.specs.declared.refusal.TextRefusal.{TextRefusal}
 use Rattle.desk_msg.specs.declared.refusal.TextRefusal.TheVariants.{NotBlock, BadLine, BadNesting, TooLong, Fields}
 use Rattle.desk_msg.specs.declared.refusal.ReadFault.TheVariants.{Refused}
-use Rattle.desk_msg.specs.Reads.{Reads}
+use Rattle.desk_msg.specs.Reads.{ReadsFields}
 use Rattle.desk_msg.specs.Refused.{ReadsBlock, ReadsText}
 use Rattle.desk_msg.proofs.MessageLaws.{one_reading}
 
@@ -20,7 +20,7 @@ use Rattle.desk_msg.proofs.MessageLaws.{one_reading}
 
 one_block : (mt : Mt) (text : List ℕ) (a b : Result Message MsgFault) → ReadsBlock mt text a → ReadsBlock mt text b → a ≡ b
 one_block mt text a b x y =
-    let P : List Found → Type 0 = λ fields. Reads mt fields b in
+    let P : List Found → Type 0 = λ fields. ReadsFields mt fields b in
     one_reading mt x.fields a b x.reads (subst P (one-fields text y.fields x.fields y.block x.block) y.reads)
 
 -- the fault of a text that is no block, and back

@@ -6,7 +6,8 @@ use Rattle.std.proofs.Math.Seq.{take-append_seam}
 use Rattle.std.specs.Cmp.Lexicographic.{pointwise, same_text, other_text}
 use Rattle.desk_text.specs.Fields.{Found}
 use Rattle.desk_msg.specs.Profile.{Bears, Behind, slashed}
-use Rattle.desk_msg.specs.Finding.{IsFound, text_in}
+use Rattle.desk_msg.specs.Finding.{text_in}
+use Rattle.desk_msg.specs.Named.{IsFound}
 
 -- a text that begins so
 pub begins_so : (text begins : List ℕ) → pointwise nat_eq begins (take (length begins) text) ≡ true → text ≡ begins ++ drop (length begins) text

@@ -1,5 +1,5 @@
--- The parts of a confirmation by their values: what ConfirmationText.antt defines, as the private contracts of the writer
--- speak of it.
+-- The parts of a confirmation by their values: what ConfirmationText.antt defines, in the words of the writer. Only proofs
+-- and private contracts speak of it.
 use Rattle.std.specs.Prelude.{ℕ, List, [], ◌∷◌, ◌++◌, codes}
 use Rattle.desk_text.specs.Written.{Part, open_part, field_part, close_part}
 use Rattle.desk_msg.specs.declared.confirmation.Values.{Values}

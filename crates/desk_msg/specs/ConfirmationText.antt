@@ -20,10 +20,7 @@ confirming_type Mt540 = Mt544
 confirming_type Mt541 = Mt545
 confirming_type Mt542 = Mt546
 confirming_type Mt543 = Mt547
-confirming_type Mt544 = Mt544
-confirming_type Mt545 = Mt545
-confirming_type Mt546 = Mt546
-confirming_type Mt547 = Mt547
+confirming_type mt = mt
 
 -- a party
 abbrev pub party_parts : List ℕ → List ℕ → List Part

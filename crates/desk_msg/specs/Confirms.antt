@@ -4,9 +4,9 @@ use Rattle.desk_codes.specs.declared.currency.Ccy.{Ccy}
 use Rattle.desk_text.specs.Fields.{Found}
 use Rattle.desk_msg.specs.declared.mt.Mt.{Mt}
 use Rattle.desk_msg.specs.declared.fault.Word.{Word}
-use Rattle.desk_msg.specs.declared.fault.Word.TheVariants.{Field23G, Seme, Prev, Date, Field35B, Field36B, Safe, Setr, Pset, Deag, Reag, Field19A, Rela, Eset}
+use Rattle.desk_msg.specs.declared.fault.Word.TheVariants.{Field23G, Field35B, Field36B, Safe, Field19A, Rela, Eset}
 use Rattle.desk_msg.specs.declared.fault.MsgFault.{MsgFault}
-use Rattle.desk_msg.specs.declared.fault.MsgFault.TheVariants.{Missing, Repeated, BadValue, Function}
+use Rattle.desk_msg.specs.declared.fault.MsgFault.TheVariants.{Function}
 use Rattle.desk_msg.specs.declared.instruction.Cash.{Cash}
 use Rattle.desk_msg.specs.declared.instruction.Instruction.{Instruction}
 use Rattle.desk_msg.specs.MessageType.{is_against_payment}
@@ -44,30 +44,22 @@ paid_said None = unsaid
 paid_said (Some cash) = amount_said cash.0 cash.1
 
 -- what was settled has under each word
-abbrev pub confirmed : Confirmed → Word → Said
-confirmed c Field23G = text_said (codes "NEWM")
-confirmed c Rela = text_said c.related
-confirmed c Eset = text_said c.day
-confirmed c Field35B = text_said c.isin
-confirmed c Field36B = quantity_said c.kind c.quantity
-confirmed c Safe = text_said c.account
-confirmed c Field19A = paid_said c.cash
-confirmed c Seme = unsaid
-confirmed c Prev = unsaid
-confirmed c Date = unsaid
-confirmed c Setr = unsaid
-confirmed c Pset = unsaid
-confirmed c Deag = unsaid
-confirmed c Reag = unsaid
+abbrev pub confirmation_said : Confirmed → Word → Said
+confirmation_said c Field23G = text_said (codes "NEWM")
+confirmation_said c Rela = text_said c.related
+confirmation_said c Eset = text_said c.day
+confirmation_said c Field35B = text_said c.isin
+confirmation_said c Field36B = quantity_said c.kind c.quantity
+confirmation_said c Safe = text_said c.account
+confirmation_said c Field19A = paid_said c.cash
+confirmation_said c word = unsaid
 
 -- how the function of a confirmation fails: as a row does, or it is another than NEWM
 abbrev pub FailsConfirming : List Found → MsgFault → Type 0
 FailsConfirming fields Function = (function : List ℕ) × Gives fields function_row (text_said function) × (function ≢ codes "NEWM")
-FailsConfirming fields (Missing word) = Fails fields function_row (Missing word)
-FailsConfirming fields (Repeated word) = Fails fields function_row (Repeated word)
-FailsConfirming fields (BadValue word) = Fails fields function_row (BadValue word)
+FailsConfirming fields fault = Fails fields function_row fault
 
 -- What fields of a confirmation's type say: what was settled, where each row has exactly one field whose value gives the part, and nothing is asked of other fields. Free of payment there is no amount. Else the fault is that of the first row that fails.
 abbrev pub Confirms : Mt → List Found → Result Confirmed MsgFault → Type 0
-Confirms mt fields (Ok c) = (is_some c.cash ≡ is_against_payment mt) × GiveAll fields (function_row ∷ confirmation_rows mt) (confirmed c)
+Confirms mt fields (Ok c) = (is_some c.cash ≡ is_against_payment mt) × GiveAll fields (function_row ∷ confirmation_rows mt) (confirmation_said c)
 Confirms mt fields (Err fault) = FailsConfirming fields fault ⊎ (Gives fields function_row (text_said (codes "NEWM")) × FailsFirst fields (confirmation_rows mt) fault)

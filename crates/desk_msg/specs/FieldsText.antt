@@ -1,7 +1,7 @@
 -- What a message says, line by line.
 use Rattle.std.specs.Prelude.{ℕ, List, [], ◌∷◌, ◌++◌, codes, Option, Some, None}
 use Rattle.std.specs.Str.{byte}
-use Rattle.std.specs.List.{join_with_byte, flat_map}
+use Rattle.std.specs.List.{join_with_byte}
 use Rattle.desk_codes.specs.Number.{written_number}
 use Rattle.desk_codes.specs.Currency.{letters_of, decimals_of}
 use Rattle.desk_msg.specs.declared.instruction.Cash.{Cash}
@@ -47,10 +47,6 @@ lines_of_cancellation c =
     ∷ named (codes "reference") c.reference
     ∷ named (codes "previous") c.previous
     ∷ []
-
--- lines, each behind a line feed
-abbrev pub fed : List (List ℕ) → List ℕ
-fed lines = flat_map (λ line. codes "\n" ++ line) lines
 
 -- the lines of a message, with a line feed between them and none at the end
 unfoldable pub message_text : Message → List ℕ

@@ -7,7 +7,7 @@ use Rattle.desk_text.specs.Fields.{Found}
 use Rattle.desk_text.specs.Seen.{texts, found_of}
 use Rattle.desk_msg.specs.declared.fault.Word.{Word}
 use Rattle.desk_msg.specs.declared.fault.MsgFault.{MsgFault}
-use Rattle.desk_msg.specs.declared.fault.MsgFault.TheVariants.{Missing, Repeated, BadValue, Function}
+use Rattle.desk_msg.specs.declared.fault.MsgFault.TheVariants.{Missing, Repeated}
 use Rattle.desk_codes.specs.declared.currency.Ccy.{Ccy}
 use Rattle.desk_msg.specs.declared.instruction.Kind.{Kind}
 use Rattle.desk_msg.specs.declared.instruction.Cash.{Cash}
@@ -19,8 +19,8 @@ use Rattle.desk_msg.specs.MessageType.{is_against_payment}
 use Rattle.desk_msg.specs.declared.profile.Row.{Row as TableRow}
 use Rattle.desk_msg.specs.Profile.{Row, Form, Said, text_said, amount_said, function_row, rows_of}
 use Rattle.desk_msg.specs.declared.confirmed.Confirmed.{Confirmed}
-use Rattle.desk_msg.specs.Confirms.{confirmation_rows, confirmed, FailsConfirming}
-use Rattle.desk_msg.specs.Reads.{belongs, Gives, Fails, FailsFirst, GiveAll, instructed, cancelled}
+use Rattle.desk_msg.specs.Confirms.{confirmation_rows, confirmation_said, FailsConfirming}
+use Rattle.desk_msg.specs.Reads.{belongs, Gives, Fails, FailsFirst, GiveAll, instruction_said, cancellation_said}
 
 -- the fields without where they lie in memory
 abbrev pub found_all : List Field → List Found
@@ -39,26 +39,16 @@ abbrev pub IsOne : Word → List Found → Result (Bor Field) MsgFault → Type 
 IsOne word found (Ok field) = found ≡ found_of field.now ∷ []
 IsOne word found (Err (Missing w)) = (w ≡ word) × (found ≡ [])
 IsOne word found (Err (Repeated w)) = (w ≡ word) × (1 < length found)
-IsOne word found (Err (BadValue w)) = ⊥
-IsOne word found (Err Function) = ⊥
+IsOne word found (Err fault) = ⊥
 
 -- what reading a row gives: what its value says, or how it fails
 abbrev pub ReadsRow : {X : Type 0} → List Found → Row → (X → Said) → Result X MsgFault → Type 0
 ReadsRow fields row said (Ok x) = Gives fields row (said x)
 ReadsRow fields row said (Err fault) = Fails fields row fault
 
--- P holds of what was found, as `view` shows it; or nothing was found, and P holds of nothing
-abbrev pub IsFound : {X Y : Type 0} → (X → Y) → (Y → Type 0) → Option X → Type 0
-IsFound view P (Some x) = P (view x)
-IsFound view P None = (y : _) → P y → ⊥
-
 -- the text that a slice holds
 abbrev pub text_in : Bor (List ℕ) → List ℕ
 text_in slice = slice.now
-
--- the text itself, as a contract sees a code
-abbrev pub code_itself : List ℕ → List ℕ
-code_itself text = text
 
 -- how a security is counted, and the number
 abbrev pub kinded : Kind × Bor (List ℕ) → Kind × List ℕ
@@ -78,11 +68,11 @@ ReadsPayment mt fields row (Err fault) = (is_against_payment mt ≡ true) × Fai
 
 -- the rows behind the function that a new instruction has, and those that a cancellation has
 abbrev pub ReadsInstruction : Mt → List Found → Result Instruction MsgFault → Type 0
-ReadsInstruction mt fields (Ok i) = (i.mt ≡ mt) × GiveAll fields (rows_of mt Newm) (instructed i)
+ReadsInstruction mt fields (Ok i) = (i.mt ≡ mt) × GiveAll fields (rows_of mt Newm) (instruction_said i)
 ReadsInstruction mt fields (Err fault) = FailsFirst fields (rows_of mt Newm) fault
 
 abbrev pub ReadsCancellation : Mt → List Found → Result CancelOrder MsgFault → Type 0
-ReadsCancellation mt fields (Ok c) = (c.mt ≡ mt) × GiveAll fields (rows_of mt Canc) (cancelled c)
+ReadsCancellation mt fields (Ok c) = (c.mt ≡ mt) × GiveAll fields (rows_of mt Canc) (cancellation_said c)
 ReadsCancellation mt fields (Err fault) = FailsFirst fields (rows_of mt Canc) fault
 
 -- the function of a confirmation, and the rows behind it
@@ -91,5 +81,5 @@ ReadsNew fields (Ok done) = Gives fields function_row (text_said (codes "NEWM"))
 ReadsNew fields (Err fault) = FailsConfirming fields fault
 
 abbrev pub ReadsSettlement : Mt → List Found → Result Confirmed MsgFault → Type 0
-ReadsSettlement mt fields (Ok c) = (is_some c.cash ≡ is_against_payment mt) × GiveAll fields (confirmation_rows mt) (confirmed c)
+ReadsSettlement mt fields (Ok c) = (is_some c.cash ≡ is_against_payment mt) × GiveAll fields (confirmation_rows mt) (confirmation_said c)
 ReadsSettlement mt fields (Err fault) = FailsFirst fields (confirmation_rows mt) fault

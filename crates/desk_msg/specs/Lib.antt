@@ -7,6 +7,7 @@ pub mod Named
 pub mod Reads
 pub mod Finding
 pub mod FieldsText
+pub mod FedLines
 pub mod AdviceParts
 pub mod Refused
 pub mod Depository

@@ -30,29 +30,20 @@ is_instruction Mt540 = true
 is_instruction Mt541 = true
 is_instruction Mt542 = true
 is_instruction Mt543 = true
-is_instruction Mt544 = false
-is_instruction Mt545 = false
-is_instruction Mt546 = false
-is_instruction Mt547 = false
+is_instruction mt = false
 
 -- cash moves with the securities
 abbrev pub is_against_payment : Mt → Bool
-is_against_payment Mt540 = false
 is_against_payment Mt541 = true
-is_against_payment Mt542 = false
 is_against_payment Mt543 = true
-is_against_payment Mt544 = false
 is_against_payment Mt545 = true
-is_against_payment Mt546 = false
 is_against_payment Mt547 = true
+is_against_payment mt = false
 
 -- its sender, or the one it is sent to, delivers the securities
 abbrev pub is_delivery : Mt → Bool
-is_delivery Mt540 = false
-is_delivery Mt541 = false
 is_delivery Mt542 = true
 is_delivery Mt543 = true
-is_delivery Mt544 = false
-is_delivery Mt545 = false
 is_delivery Mt546 = true
 is_delivery Mt547 = true
+is_delivery mt = false

@@ -175,8 +175,7 @@ SaysText security_form begins field said = (line : List ℕ) × (further : List 
 SaysText account_form begins field said = Behind (slashed begins) field (λ text. IsAccountText text said)
 SaysText settlement_form begins field said = Behind begins field (λ text. IsSettlementText text said)
 SaysText party_form begins field said = Behind (slashed begins) field (λ text. IsPartyText text said)
-SaysText quantity_form begins field said = ⊥
-SaysText amount_form begins field said = ⊥
+SaysText form begins field said = ⊥
 
 -- the value of a field says this
 abbrev pub Says : Row → Found → Said → Type 0

@@ -8,7 +8,7 @@ use Rattle.desk_msg.specs.declared.mt.Mt.{Mt}
 use Rattle.desk_msg.specs.declared.function.FunctionCode.{FunctionCode}
 use Rattle.desk_msg.specs.declared.function.FunctionCode.TheVariants.{Newm, Canc}
 use Rattle.desk_msg.specs.declared.fault.Word.{Word}
-use Rattle.desk_msg.specs.declared.fault.Word.TheVariants.{Field23G, Seme, Prev, Date, Field35B, Field36B, Safe, Setr, Pset, Deag, Reag, Field19A, Rela, Eset}
+use Rattle.desk_msg.specs.declared.fault.Word.TheVariants.{Field23G, Seme, Prev, Date, Field35B, Field36B, Safe, Setr, Pset, Deag, Reag, Field19A}
 use Rattle.desk_msg.specs.declared.fault.MsgFault.{MsgFault}
 use Rattle.desk_msg.specs.declared.fault.MsgFault.TheVariants.{Missing, Repeated, BadValue, Function}
 use Rattle.desk_msg.specs.declared.instruction.Cash.{Cash}
@@ -72,38 +72,26 @@ cash_said None = unsaid
 cash_said (Some cash) = amount_said cash.ccy cash.amount
 
 -- what an instruction has under each word
-abbrev pub instructed : Instruction → Word → Said
-instructed i Field23G = text_said (codes "NEWM")
-instructed i Seme = text_said i.reference
-instructed i Prev = unsaid
-instructed i Date = text_said i.day
-instructed i Field35B = text_said i.isin
-instructed i Field36B = quantity_said i.kind i.quantity
-instructed i Safe = text_said i.account
-instructed i Setr = text_said i.settlement
-instructed i Pset = text_said i.place
-instructed i Deag = text_said i.counterparty
-instructed i Reag = text_said i.counterparty
-instructed i Field19A = cash_said i.cash
-instructed i Rela = unsaid
-instructed i Eset = unsaid
+abbrev pub instruction_said : Instruction → Word → Said
+instruction_said i Field23G = text_said (codes "NEWM")
+instruction_said i Seme = text_said i.reference
+instruction_said i Date = text_said i.day
+instruction_said i Field35B = text_said i.isin
+instruction_said i Field36B = quantity_said i.kind i.quantity
+instruction_said i Safe = text_said i.account
+instruction_said i Setr = text_said i.settlement
+instruction_said i Pset = text_said i.place
+instruction_said i Deag = text_said i.counterparty
+instruction_said i Reag = text_said i.counterparty
+instruction_said i Field19A = cash_said i.cash
+instruction_said i word = unsaid
 
 -- what a cancellation has under each word
-abbrev pub cancelled : CancelOrder → Word → Said
-cancelled c Field23G = text_said (codes "CANC")
-cancelled c Seme = text_said c.reference
-cancelled c Prev = text_said c.previous
-cancelled c Date = unsaid
-cancelled c Field35B = unsaid
-cancelled c Field36B = unsaid
-cancelled c Safe = unsaid
-cancelled c Setr = unsaid
-cancelled c Pset = unsaid
-cancelled c Deag = unsaid
-cancelled c Reag = unsaid
-cancelled c Field19A = unsaid
-cancelled c Rela = unsaid
-cancelled c Eset = unsaid
+abbrev pub cancellation_said : CancelOrder → Word → Said
+cancellation_said c Field23G = text_said (codes "CANC")
+cancellation_said c Seme = text_said c.reference
+cancellation_said c Prev = text_said c.previous
+cancellation_said c word = unsaid
 
 -- each of the rows gives what stands under its word
 abbrev pub GiveAll : List Found → List Row → (Word → Said) → Type 0
@@ -111,9 +99,9 @@ GiveAll fields [] part = Unit {0}
 GiveAll fields (row ∷ rows) part = Gives fields row (part row.word) × GiveAll fields rows part
 
 -- What fields read as, for a type: a message where each row that applies to the type and the function has exactly one field, whose value gives the message's part, and nothing is asked of other fields. Else the fault is that of the first row that fails: that of the function, or after it one of the function's rows.
-abbrev pub Reads : Mt → List Found → Result Message MsgFault → Type 0
-Reads mt fields (Ok (New i)) = (i.mt ≡ mt) × GiveAll fields (function_row ∷ rows_of mt Newm) (instructed i)
-Reads mt fields (Ok (Cancel c)) = (c.mt ≡ mt) × GiveAll fields (function_row ∷ rows_of mt Canc) (cancelled c)
-Reads mt fields (Err fault) =
+abbrev pub ReadsFields : Mt → List Found → Result Message MsgFault → Type 0
+ReadsFields mt fields (Ok (New i)) = (i.mt ≡ mt) × GiveAll fields (function_row ∷ rows_of mt Newm) (instruction_said i)
+ReadsFields mt fields (Ok (Cancel c)) = (c.mt ≡ mt) × GiveAll fields (function_row ∷ rows_of mt Canc) (cancellation_said c)
+ReadsFields mt fields (Err fault) =
     Fails fields function_row fault
     ⊎ ((function : FunctionCode) × Gives fields function_row (text_said (code_of_function function)) × FailsFirst fields (rows_of mt function) fault)

@@ -16,14 +16,14 @@ use Rattle.desk_msg.specs.declared.refusal.TextRefusal.TheVariants.{NotBlock, Ba
 use Rattle.desk_msg.specs.declared.refusal.ReadFault.{ReadFault}
 use Rattle.desk_msg.specs.declared.refusal.ReadFault.TheVariants.{Refused, Memory}
 use Rattle.desk_msg.specs.Words.{letters_of_word}
-use Rattle.desk_msg.specs.Reads.{Reads}
+use Rattle.desk_msg.specs.Reads.{ReadsFields}
 
 -- the text is a block that is not too long, and its fields read so
 pub record ReadsBlock (mt : Mt) (text : List ℕ) (read : Result Message MsgFault) : Type 0 where
   pub short : length text ≤ LONGEST_TEXT
   pub fields : List Found
   pub block : IsBlock text fields
-  pub reads : Reads mt fields read
+  pub reads : ReadsFields mt fields read
 
 -- What a text of a type is: the message that the fields of its block read as, or the one refusal. Memory is wanted only of a text that may be a block.
 abbrev pub ReadsText : Mt → List ℕ → Result Message ReadFault → Type 0

@@ -13,13 +13,10 @@ use Rattle.desk_msg.specs.OwnText.{last_digits, own_reference, generic_part, seq
 
 -- INST where the advice is about an instruction, CAST where it is about a cancellation
 abbrev pub function_of_advice : Case → List ℕ
-function_of_advice Unmatched = codes "INST"
-function_of_advice (Matched reason) = codes "INST"
-function_of_advice Cancelled = codes "INST"
-function_of_advice (NewRefused number) = codes "INST"
 function_of_advice CancelDone = codes "CAST"
 function_of_advice CancelWaits = codes "CAST"
 function_of_advice (CancelRefused number) = codes "CAST"
+function_of_advice about = codes "INST"
 
 abbrev pub code_of_reason : Reason → List ℕ
 code_of_reason Future = codes "FUTU"
@@ -82,18 +79,4 @@ IsOwn (Sent n) = n < 10 ^ 15
 abbrev pub IsCase : Case → Type 0
 IsCase (NewRefused number) = number ≤ 99
 IsCase (CancelRefused number) = number ≤ 99
-IsCase Unmatched = Unit {0}
-IsCase (Matched reason) = Unit {0}
-IsCase Cancelled = Unit {0}
-IsCase CancelDone = Unit {0}
-IsCase CancelWaits = Unit {0}
-
--- the number of a refusal; 0 in another case
-abbrev pub refused_number : Case → ℕ
-refused_number (NewRefused number) = number
-refused_number (CancelRefused number) = number
-refused_number Unmatched = 0
-refused_number (Matched reason) = 0
-refused_number Cancelled = 0
-refused_number CancelDone = 0
-refused_number CancelWaits = 0
+IsCase about = Unit {0}

@@ -77,7 +77,7 @@ impl Model for SettlementType {
 
 impl SettlementType {
     ghost use Rattle.desk_msg.specs.Profile.{IsCode};
-    ghost use Rattle.desk_msg.specs.Finding.{IsFound, code_itself};
+    ghost use Rattle.desk_msg.specs.Named.{IsFound, code_itself};
 
     /// The type that four letters or digits name; None for any other text.
     pub fn read(text: &[u8]) -> Option<SettlementType>

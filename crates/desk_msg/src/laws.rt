@@ -9,14 +9,14 @@ ghost use Rattle.desk_msg.specs.declared.instruction.Message.{Message};
 ghost use Rattle.desk_msg.specs.ConfirmationText.{confirmation, confirming_type};
 ghost use Rattle.desk_msg.specs.declared.confirmed.Confirmed.{Confirmed};
 ghost use Rattle.desk_msg.specs.Confirms.{Confirms, confirmed_of};
-ghost use Rattle.desk_msg.specs.Reads.{Reads};
+ghost use Rattle.desk_msg.specs.Reads.{ReadsFields};
 ghost use Rattle.desk_msg.specs.Refused.{ReadsText};
 ghost use Rattle.desk_msg.specs.declared.refusal.ReadFault.{ReadFault};
 ghost use Rattle.desk_msg.specs.declared.refusal.TextRefusal.{TextRefusal};
 
 /// Fields read as one message or have one fault, and never both.
 pub fn one_reading()
-    ensures { (mt : Mt) (fields : List Found) (a b : Result Message MsgFault) → Reads mt fields a → Reads mt fields b → a ≡ b }
+    ensures { (mt : Mt) (fields : List Found) (a b : Result Message MsgFault) → ReadsFields mt fields a → ReadsFields mt fields b → a ≡ b }
 {}
 
 /// A text reads as one message or has one refusal, and never both.
@@ -30,7 +30,7 @@ pub fn one_answer()
 /// of the block say the reference, the day, the security, the quantity, the account and the amount, for each instruction
 /// that was read.
 pub fn confirmation_says()
-    ensures { (n : ℕ) (i : Instruction) (day : List ℕ) (fields : List Found) → Reads i.mt fields (Ok (Message.New i)) → IsDay day
+    ensures { (n : ℕ) (i : Instruction) (day : List ℕ) (fields : List Found) → ReadsFields i.mt fields (Ok (Message.New i)) → IsDay day
         → (said : List Found) × IsBlock (confirmation n i day) said × Confirms (confirming_type i.mt) said (Ok (confirmed_of i day)) }
 {}
 

@@ -2,7 +2,8 @@
 ghost use Rattle.std.specs.Prelude.{◌≡◌, ◌∷◌, ◌++◌, ◌≤◌, IfOk, OnOk};
 ghost use Rattle.std.specs.Str.{byte};
 ghost use Rattle.desk_codes.specs.Number.{written_number};
-ghost use Rattle.desk_msg.specs.FieldsText.{message_text, named, fed, trade_lines, settlement_lines, cash_lines};
+ghost use Rattle.desk_msg.specs.FieldsText.{message_text, named, trade_lines, settlement_lines, cash_lines};
+ghost use Rattle.desk_msg.specs.FedLines.{fed};
 
 use crate::instruction::{CancelOrder, Cash, Instruction, Message};
 use desk_codes::write_number;

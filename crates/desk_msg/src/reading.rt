@@ -3,7 +3,7 @@ ghost use Rattle.std.specs.Prelude.{◌≡◌, true, if◌then◌else◌};
 ghost use Rattle.desk_text.specs.Seen.{found_in};
 ghost use Rattle.desk_msg.specs.MessageType.{is_instruction};
 ghost use Rattle.desk_msg.specs.Profile.{text_said, counterparty_row};
-ghost use Rattle.desk_msg.specs.Reads.{Reads};
+ghost use Rattle.desk_msg.specs.Reads.{ReadsFields};
 ghost use Rattle.desk_msg.specs.Finding.{found_all, ReadsRow, ReadsInstruction, ReadsCancellation};
 
 use crate::fault::MsgFault;
@@ -69,7 +69,7 @@ fn read_cancellation(mt: Mt, fields: &[Field]) -> Result<CancelOrder, MsgFault>
 /// A message.
 fn read_fields(mt: Mt, fields: &[Field]) -> Result<Message, MsgFault>
     requires { is_instruction mt ≡ true }
-    ensures { Reads mt (found_all fields.now) result }
+    ensures { ReadsFields mt (found_all fields.now) result }
 {
     match read_function(fields)? {
         FunctionCode::Newm => {
@@ -90,7 +90,7 @@ fn read_fields(mt: Mt, fields: &[Field]) -> Result<Message, MsgFault>
 /// sequences are not looked at.
 pub fn read_message(mt: Mt, block: &Block) -> Result<Message, MsgFault>
     requires { is_instruction mt ≡ true }
-    ensures { Reads mt (found_in block.now) result }
+    ensures { ReadsFields mt (found_in block.now) result }
 {
     read_fields(mt, block.fields())
 }

@@ -5,8 +5,9 @@ ghost use Rattle.desk_text.specs.Written.{AreParts, block_text, fields_written, 
 ghost use Rattle.desk_text.specs.PartsSeen.{part_seen};
 ghost use Rattle.desk_msg.specs.MessageType.{digits_of_type};
 ghost use Rattle.desk_msg.specs.OwnText.{last_digits, own_reference, sequence_parts};
-ghost use Rattle.desk_msg.specs.StatusText.{advice, advice_parts, code_of_reason, statuses_of, function_of_advice, refused_number, IsOwn, IsCase};
-ghost use Rattle.desk_msg.specs.AdviceParts.{parts_seen, header_of, status_of, reason_of, parts_of};
+ghost use Rattle.desk_msg.specs.StatusText.{advice, advice_parts, code_of_reason, statuses_of, function_of_advice, IsOwn, IsCase};
+ghost use Rattle.desk_msg.specs.AdviceParts.{refused_number};
+ghost use Rattle.desk_msg.specs.AdviceParts.{parts_seen, header_of, status_with, reason_with, parts_of};
 
 use crate::digits::fifteen_digits;
 use crate::mt::Mt;
@@ -94,7 +95,7 @@ fn pending_value(reason: Reason) -> &'static [u8]
 
 /// A status.
 fn status(status: &[u8]) -> [BlockPart<'_>; 3]
-    ensures { parts_seen result ≡ status_of status.now [] }
+    ensures { parts_seen result ≡ status_with status.now [] }
 {
     [
         BlockPart::Open(b"STAT"),
@@ -105,7 +106,7 @@ fn status(status: &[u8]) -> [BlockPart<'_>; 3]
 
 /// A status with its reason.
 fn reasoned<'a>(status: &'a [u8], reason: &'a [u8]) -> [BlockPart<'a>; 6]
-    ensures { parts_seen result ≡ status_of status.now (reason_of reason.now []) }
+    ensures { parts_seen result ≡ status_with status.now (reason_with reason.now []) }
 {
     [
         BlockPart::Open(b"STAT"),
@@ -119,7 +120,7 @@ fn reasoned<'a>(status: &'a [u8], reason: &'a [u8]) -> [BlockPart<'a>; 6]
 
 /// A refusal with its narrative.
 fn refused<'a>(status: &'a [u8], narrative: &'a [u8]) -> [BlockPart<'a>; 7]
-    ensures { parts_seen result ≡ status_of status.now (reason_of (codes ":REJT//NARR") (field_part (codes "70D") narrative.now ∷ [])) }
+    ensures { parts_seen result ≡ status_with status.now (reason_with (codes ":REJT//NARR") (field_part (codes "70D") narrative.now ∷ [])) }
 {
     [
         BlockPart::Open(b"STAT"),
@@ -166,8 +167,8 @@ fn function_value(about: Case) -> &'static [u8]
     ensures right { IsTrue (is_value result.now) }
 {
     match about {
-        Case::Unmatched | Case::Matched(_) | Case::Cancelled | Case::NewRefused(_) => b"INST",
         Case::CancelDone | Case::CancelWaits | Case::CancelRefused(_) => b"CAST",
+        _ => b"INST",
     }
 }
 
@@ -179,11 +180,7 @@ fn refusal_number(about: Case) -> u8
 {
     match about {
         Case::NewRefused(number) | Case::CancelRefused(number) => number,
-        Case::Unmatched
-        | Case::Matched(_)
-        | Case::Cancelled
-        | Case::CancelDone
-        | Case::CancelWaits => 0,
+        _ => 0,
     }
 }
 

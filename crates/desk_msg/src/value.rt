@@ -5,7 +5,8 @@ ghost use Rattle.std.specs.Str.{byte};
 ghost use Rattle.desk_codes.specs.Day.{IsDay};
 ghost use Rattle.desk_text.specs.Seen.{found_of};
 ghost use Rattle.desk_msg.specs.Profile.{Bears, IsCode, IsFunctionText, IsReferenceText, IsDayText, IsTimed, IsQuantityText, IsAccountText, IsSettlementText, IsPartyText, IsSecurityText, IsAmountText, slashed, SaysText, function_form, reference_form, day_form, security_form, quantity_form, account_form, settlement_form, party_form, amount_form, text_said, quantity_said, amount_said, code_of_kind};
-ghost use Rattle.desk_msg.specs.Finding.{IsFound, text_in, code_itself, kinded, quantity_itself, amount_of_cash};
+ghost use Rattle.desk_msg.specs.Finding.{text_in, kinded, quantity_itself, amount_of_cash};
+ghost use Rattle.desk_msg.specs.Named.{IsFound, code_itself};
 
 use crate::instruction::{Cash, Kind, SettlementType};
 use crate::profile::Row;
@@ -220,7 +221,8 @@ fn party_of(text: &[u8]) -> Option<Bic>
 pub trait Value: Sized {
     ghost use Rattle.desk_text.specs.Seen.{found_of};
     ghost use Rattle.desk_msg.specs.Profile.{Form, Said, Says};
-    ghost use Rattle.desk_msg.specs.Finding.{IsFound, row_seen};
+    ghost use Rattle.desk_msg.specs.Finding.{row_seen};
+    ghost use Rattle.desk_msg.specs.Named.{IsFound};
 
     ghost form: { Form };
 

@@ -10,7 +10,7 @@ use Rattle.desk_rules.specs.declared.pair.Settled.{Settled}
 use Rattle.desk_rules.specs.declared.pair.Place.{Place}
 use Rattle.desk_rules.specs.History.{before}
 use Rattle.desk_rules.specs.Pairing.{IsCandidate, IsMate, IsPairing}
-use Rattle.desk_rules.specs.Settlement.{is_sooner, place_of, begins, IsUnsettled, IsSettlement}
+use Rattle.desk_rules.specs.Settlement.{is_sooner, place_of, pass_begins, IsUnsettled, IsSettlement}
 use Rattle.desk_rules.specs.Underway.{is_above}
 use Rattle.desk_rules.specs.Underway.{IsOpen, IsNext}
 use Rattle.desk_rules.proofs.Decided.{In, In-from_Contains, In-left, In-push_cases, Ordered, Ordered-from_AllPairs}
@@ -171,14 +171,14 @@ best_is h ps settled run place qs a b e is = let P : Option Pair → Type 0 = Is
 -- Within a pass that began with the settlements `from`: how far it is, for the lists that the code has.
 pub record IsPassing (h : List Entry) (ps : List Pair) (from : List Settled) (k : ℕ) (place : Option Place) (settled : List Settled) : Type 0 where
   pub reached : IsSettledTo h ps (length h) k place settled
-  pub begun : begins h settled (length h) k ≡ true
+  pub begun : pass_begins h settled (length h) k ≡ true
   pub more : List Settled
   pub grown : settled ≡ from ++ more
 
-pub pass_starts : (h : List Entry) (ps : List Pair) (from seen : List Settled) (k : ℕ) → IsSettledTo h ps (length h) k None from → seen ≡ from → begins h seen (length h) k ≡ true → IsPassing h ps from k None from
+pub pass_starts : (h : List Entry) (ps : List Pair) (from seen : List Settled) (k : ℕ) → IsSettledTo h ps (length h) k None from → seen ≡ from → pass_begins h seen (length h) k ≡ true → IsPassing h ps from k None from
 pass_starts h ps from seen k d same begun = record {
   reached = d;
-  begun = ap (λ z. begins h z (length h) k) (sym same) ∙ begun;
+  begun = ap (λ z. pass_begins h z (length h) k) (sym same) ∙ begun;
   more = [];
   grown = sym (append-nil from);
 }
@@ -224,7 +224,7 @@ one_if true = 1
 one_if false = 0
 
 abbrev pub steps_left : List Entry → List Pair → List Settled → ℕ → ℕ
-steps_left h ps settled k = length (filter (is_left settled) ps) + one_if (begins h settled (length h) k)
+steps_left h ps settled k = length (filter (is_left settled) ps) + one_if (pass_begins h settled (length h) k)
 
 -- between passes
 pub record IsBetween (h : List Entry) (ps : List Pair) (k : ℕ) (settled : List Settled) : Type 0 where
@@ -234,7 +234,7 @@ pub record IsBetween (h : List Entry) (ps : List Pair) (k : ℕ) (settled : List
 
 pub between_first : (h : List Entry) (ps : List Pair) (settled : List Settled) → IsSettledTo h ps (length h) 1 None settled → IsBetween h ps 1 settled
 between_first h ps settled d =
-    let e : one_if (begins h settled (length h) 1) ≡ 1 = ap one_if (begins_first h settled (length h) 1 refl) in
+    let e : one_if (pass_begins h settled (length h) 1) ≡ 1 = ap one_if (begins_first h settled (length h) 1 refl) in
     let same = length-filter (is_left settled) ps in
     let most = count_by-le-length (is_left settled) ps in
     record { reached = d; some = omega arith; fits = omega arith }
@@ -245,27 +245,27 @@ pass_over h ps from settled seen k place d same none =
     let P : List Settled → Type 0 = λ z. (p : Pair) → IsOpen h ps z (length h) place p → ⊥ in
     pass_ends h ps settled (length h) k place d.reached (subst P same none)
 
-pub pass_smaller : (h : List Entry) (ps : List Pair) (from settled seen : List Settled) (k : ℕ) (place : Option Place) → AllPairs (λ p r. p.later < r.later) ps → IsBetween h ps k from → begins h from (length h) k ≡ true
+pub pass_smaller : (h : List Entry) (ps : List Pair) (from settled seen : List Settled) (k : ℕ) (place : Option Place) → AllPairs (λ p r. p.later < r.later) ps → IsBetween h ps k from → pass_begins h from (length h) k ≡ true
     → IsPassing h ps from k place settled → seen ≡ settled → ((p : Pair) → IsOpen h ps seen (length h) place p → ⊥)
     → steps_left h ps settled (k + 1) < steps_left h ps from k
 pass_smaller h ps from settled seen k place rising b begun d same none =
     let over = pass_over h ps from settled seen k place d same none in
-    let before_this : one_if (begins h from (length h) k) ≡ 1 = ap one_if begun in
-    elim (cases_Bool (begins h settled (length h) (k + 1))) [
+    let before_this : one_if (pass_begins h from (length h) k) ≡ 1 = ap one_if begun in
+    elim (cases_Bool (pass_begins h settled (length h) (k + 1))) [
       | inr no_more ↦
-          let last : one_if (begins h settled (length h) (k + 1)) ≡ 0 = ap one_if no_more in
+          let last : one_if (pass_begins h settled (length h) (k + 1)) ≡ 0 = ap one_if no_more in
           let narrower = filter_most (is_left from) (is_left settled) ps (λ p e. let P : List Settled → Type 0 = λ z. is_left z p ≡ true in left_narrower from d.more p (subst P d.grown e)) in
           omega arith
       | inl again ↦
-          let next : one_if (begins h settled (length h) (k + 1)) ≡ 1 = ap one_if again in
+          let next : one_if (pass_begins h settled (length h) (k + 1)) ≡ 1 = ap one_if again in
           let P : List Settled → Type 0 = λ z. IsSettledTo h ps (length h) (k + 1) None z in
-          let Q : List Settled → Type 0 = λ z. begins h z (length h) (k + 1) ≡ true in
+          let Q : List Settled → Type 0 = λ z. pass_begins h z (length h) (k + 1) ≡ true in
           let R : List Settled → Type 0 = λ z. length (filter (is_left z) ps) < length (filter (is_left from) ps) in
           let fewer = subst R (sym d.grown) (fewer_left h ps (rising_ordered ps rising) from d.more (length h) k b.some b.reached (subst P d.grown over) (subst Q d.grown again)) in
           omega arith
     ]
 
-pub between_next : (h : List Entry) (ps : List Pair) (from settled seen : List Settled) (k : ℕ) (place : Option Place) → AllPairs (λ p r. p.later < r.later) ps → IsBetween h ps k from → begins h from (length h) k ≡ true
+pub between_next : (h : List Entry) (ps : List Pair) (from settled seen : List Settled) (k : ℕ) (place : Option Place) → AllPairs (λ p r. p.later < r.later) ps → IsBetween h ps k from → pass_begins h from (length h) k ≡ true
     → IsPassing h ps from k place settled → seen ≡ settled → ((p : Pair) → IsOpen h ps seen (length h) place p → ⊥)
     → IsBetween h ps (k + 1) settled
 between_next h ps from settled seen k place rising b begun d same none =
@@ -273,8 +273,8 @@ between_next h ps from settled seen k place rising b begun d same none =
     let fits = b.fits in
     record { reached = pass_over h ps from settled seen k place d same none; some = omega arith; fits = omega arith }
 
-pub run_over : (h : List Entry) (ps : List Pair) (settled seen : List Settled) (k : ℕ) → IsBetween h ps k settled → seen ≡ settled → begins h seen (length h) k ≡ false → IsSettlement h ps settled
-run_over h ps settled seen k b same over = run_ends h ps settled (length h) k refl b.some b.reached (ap (λ z. begins h z (length h) k) (sym same) ∙ over)
+pub run_over : (h : List Entry) (ps : List Pair) (settled seen : List Settled) (k : ℕ) → IsBetween h ps k settled → seen ≡ settled → pass_begins h seen (length h) k ≡ false → IsSettlement h ps settled
+run_over h ps settled seen k b same over = run_ends h ps settled (length h) k refl b.some b.reached (ap (λ z. pass_begins h z (length h) k) (sym same) ∙ over)
 
 pub step_smaller : (h : List Entry) (ps : List Pair) (seen : List Settled) (place : Option Place) (q : Pair) (next : Place) → IsNext h ps seen (length h) place q → next ≡ place_of h q
     → length (filter (is_above h (Some next)) ps) < length (filter (is_above h place) ps)

@@ -17,7 +17,7 @@ use Rattle.desk_rules.specs.Balances.{deliverer_of, receiver_of}
 use Rattle.desk_rules.specs.Settlement.{is_by}
 use Rattle.desk_rules.specs.History.{instruction_at}
 use Rattle.desk_rules.specs.Books.{AreBooks, Books}
-use Rattle.desk_rules.specs.Sent.{notices_of, sent_from, sent_of, told_by, told_of_pair, told_of_settled, told_to}
+use Rattle.desk_rules.specs.Sent.{notices_of, sent_from, told_by, told_of_pair, told_of_settled, told_to}
 use Rattle.desk_rules.proofs.ConfirmedSums.{legs_of}
 use Rattle.desk_rules.proofs.Decided.{In, Contains-from_In}
 use Rattle.desk_rules.proofs.SettlementLemmas.{due_facts}

@@ -30,7 +30,7 @@ pub use pairing::pairing_of;
 pub use questions::{sent_reply, status_reply};
 pub use replies::reply_to;
 pub use sent::sent_of;
-pub use settlement::{begins, is_due, passes_of, settled_count, settlement_of, waiting_count};
+pub use settlement::{is_due, pass_begins, passes_of, settled_count, settlement_of, waiting_count};
 pub use standing::{
     cancellation_case, is_cancelled, is_settled, mate_of, pair_of, reason_below, standing_of,
     state_of,

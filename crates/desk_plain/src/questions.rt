@@ -133,14 +133,7 @@ fn answer_message(
             let count = books.history.len() as u64;
             message_reply(alloc, count, order.mt, &order.reference, about)
         }
-        Entry::Participant { .. }
-        | Entry::Account { .. }
-        | Entry::Security { .. }
-        | Entry::Issue(_)
-        | Entry::Redeem(_)
-        | Entry::PayIn(_)
-        | Entry::PayOut(_)
-        | Entry::Run { .. } => question_refused(alloc, Refusal::NoSuchInstruction.number()),
+        _ => question_refused(alloc, Refusal::NoSuchInstruction.number()),
     }
 }
 

@@ -52,12 +52,6 @@ pub fn reply_to(alloc: Global, books: Books, entry: &Entry) -> Result<Reply, All
             let waiting = waiting_count(books, number) as u64;
             run_reply(alloc, number, settled, waiting)
         }
-        Entry::Participant { .. }
-        | Entry::Account { .. }
-        | Entry::Security { .. }
-        | Entry::Issue(_)
-        | Entry::Redeem(_)
-        | Entry::PayIn(_)
-        | Entry::PayOut(_) => command_reply(alloc, number),
+        _ => command_reply(alloc, number),
     }
 }

@@ -3,7 +3,7 @@ ghost use Rattle.std.specs.Prelude.{◌≡◌, ◌≢◌, ◌↔◌, ◌==◌, �
 ghost use Rattle.std.specs.List.{list_any};
 ghost use Rattle.desk_rules.specs.History.{before, entry_at, run_day};
 ghost use Rattle.desk_rules.specs.Pairing.{IsPairing};
-ghost use Rattle.desk_rules.specs.Settlement.{day_of, is_sooner, is_by, is_due, place_of, is_in_passes, begins, IsUnsettled, IsSettlement, last_pass, passes_of, settled_count, precedes, settled_before};
+ghost use Rattle.desk_rules.specs.Settlement.{day_of, is_sooner, is_by, is_due, place_of, is_in_passes, pass_begins, IsUnsettled, IsSettlement, last_pass, passes_of, settled_count, precedes, settled_before};
 ghost use Rattle.desk_rules.specs.Underway.{is_above};
 ghost use Rattle.desk_rules.specs.Underway.{IsOpen, IsNext};
 ghost use Rattle.desk_rules.specs.Reply.{is_settled_pair, waiting_count};
@@ -121,8 +121,8 @@ fn follows(settled: &[Settled], run: u64, pass: u64) -> bool
 
 /// Whether a pass of a run begins: it is the first, or the run makes further passes and the one before it settled
 /// some pair.
-pub fn begins(entries: &[Entry], settled: &[Settled], run: u64, pass: u64) -> bool
-    ensures { result ≡ begins entries.now settled.now run pass }
+pub fn pass_begins(entries: &[Entry], settled: &[Settled], run: u64, pass: u64) -> bool
+    ensures { result ≡ pass_begins entries.now settled.now run pass }
 {
     pass == 1 || (is_in_passes(entries, run) && follows(settled, run, pass))
 }
@@ -188,7 +188,7 @@ fn settle_last(
 {
     let run = entries.len() as u64;
     let mut pass: u64 = 1;
-    while begins(entries, settled, run, pass) {
+    while pass_begins(entries, settled, run, pass) {
         let mut place: Option<Place> = None;
         while let Some(pair) = next_pair(entries, pairs, settled, run, place) {
             if is_covered(before(run, entries), settled, pair) {

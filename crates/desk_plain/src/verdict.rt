@@ -7,7 +7,8 @@ ghost use Rattle.desk_rules.specs.Facts.{is_after, is_of_kind, is_owner};
 ghost use Rattle.desk_rules.specs.History.{sender_of};
 ghost use Rattle.desk_rules.specs.Verdict.{checks_of, first_failing, if_of_type, is_from_stranger, IsVerdict, IsVerdictAt, named_by, reused_by};
 ghost use Rattle.desk_rules.specs.declared.entry.Entry.TheVariants as Entry;
-ghost use Rattle.desk_plain.specs.Books.{seen, verdict_for};
+ghost use Rattle.desk_plain.specs.Books.{seen};
+ghost use Rattle.desk_plain.specs.Deciding.{verdict_for};
 
 use crate::balances::{cash_credits, cash_debits, credits, debits};
 use crate::books::Books;

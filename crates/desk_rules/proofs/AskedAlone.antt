@@ -17,7 +17,7 @@ use Rattle.desk_rules.specs.Cancelled.{is_cancelled_pair, is_cancel_requested}
 use Rattle.desk_rules.specs.Pairing.{pairs_below, pair_of, has_side, IsFree, IsCandidate, IsMate, IsPairing, IsSide}
 use Rattle.desk_rules.specs.Balances.{is_delivered_by, delivery_of, receipt_of, issued_by, redeemed_by, paid_in_by, paid_out_by, movement_on, payment_of, quantity_on, amount_of}
 use Rattle.desk_rules.specs.Covered.{can_deliver, can_pay, has_securities, has_cash, is_covered}
-use Rattle.desk_rules.specs.Settlement.{instructed_day, day_of, is_sooner, precedes, settled_before, is_by, is_due, allows_more, begins, Settles, IsSettlement}
+use Rattle.desk_rules.specs.Settlement.{instructed_day, day_of, is_sooner, precedes, settled_before, is_by, is_due, allows_more, pass_begins, Settles, IsSettlement}
 use Rattle.desk_rules.specs.Books.{Books, AreBooks}
 use Rattle.desk_rules.specs.Standing.{is_called_off}
 use Rattle.desk_rules.specs.Laws.{but_cancellation, AreSameButCancellations, CallOffTheSame}
@@ -120,7 +120,7 @@ module _ (g h : List Entry) (alike : AreSameButCancellations g h) where
   precedes_alike : (s t : Settled) → precedes g s t ≡ precedes h s t
   precedes_alike s t = ap (λ v. nat_lt s.run t.run || (s.run == t.run && (nat_lt s.pass t.pass || (s.pass == t.pass && v)))) (sooner_alike s.pair t.pair)
 
-  begins_alike : (settled : List Settled) (run pass : ℕ) → begins g settled run pass ≡ begins h settled run pass
+  begins_alike : (settled : List Settled) (run pass : ℕ) → pass_begins g settled run pass ≡ pass_begins h settled run pass
   begins_alike settled run pass =
       ap (λ o. pass == 1 || (allows_more o && list_any (λ (t : Settled). t.run == run && t.pass + 1 == pass) settled)) (said_alike run_rule (λ sender order. refl) run)
 

@@ -24,7 +24,7 @@ use Rattle.desk_rules.specs.Balances.{delivery_of, receipt_of, quantity_if, quan
 use Rattle.desk_rules.specs.Settlement.{is_by, day_of}
 use Rattle.desk_rules.specs.Sent.{Notice, told_of_pair, told_of_settled, told_by, notices_of, date_in, sent_of}
 use Rattle.desk_rules.specs.Books.{Books, AreBooks}
-use Rattle.desk_rules.specs.Confirmations.{Confirmation, SaysConfirmation, SayConfirmations, confirmation_by, is_confirmation, quantity_said, amount_in, amount_said, AccountFor}
+use Rattle.desk_rules.specs.Confirmations.{Confirmation, SaysConfirmation, SayConfirmations, confirmation_by, is_confirmation, quantity_confirmed, amount_in, amount_confirmed, AccountFor}
 use Rattle.desk_rules.specs.WellFormed.{AreWellFormed}
 use Rattle.desk_rules.proofs.WellFormedLemmas.{day_at}
 use Rattle.desk_rules.proofs.Decided.{In, Contains-from_In}
@@ -136,10 +136,10 @@ module _ (books : Books) (are : AreBooks books) (read : AreWellFormed books.hist
 
   account : AccountFor books confirmations
   account = record {
-    credited = λ account isin. let said = from_receipts (λ confirmation. quantity_if (not (is_delivery confirmation.mt)) (quantity_said account isin confirmation)) (quantity_on account isin) (λ i day. refl) in omega (arith, said);
-    debited = λ account isin. let said = from_deliveries (λ confirmation. quantity_if (is_delivery confirmation.mt) (quantity_said account isin confirmation)) (quantity_on account isin) (λ i day. refl) in omega (arith, said);
-    paid = λ bic ccy. let said = from_deliveries (λ confirmation. quantity_if (is_delivery confirmation.mt) (amount_said bic ccy confirmation)) (amount_of bic ccy) (λ i day. ap (λ n. quantity_if (is_delivery (confirming_type i.instruction.mt)) (quantity_if (bytes_eq i.sender bic) n)) (same_cash ccy i.instruction.cash)) in omega (arith, said);
-    paying = λ bic ccy. let said = from_receipts (λ confirmation. quantity_if (not (is_delivery confirmation.mt)) (amount_said bic ccy confirmation)) (amount_of bic ccy) (λ i day. ap (λ n. quantity_if (not (is_delivery (confirming_type i.instruction.mt))) (quantity_if (bytes_eq i.sender bic) n)) (same_cash ccy i.instruction.cash)) in omega (arith, said);
+    credited = λ account isin. let said = from_receipts (λ confirmation. quantity_if (not (is_delivery confirmation.mt)) (quantity_confirmed account isin confirmation)) (quantity_on account isin) (λ i day. refl) in omega (arith, said);
+    debited = λ account isin. let said = from_deliveries (λ confirmation. quantity_if (is_delivery confirmation.mt) (quantity_confirmed account isin confirmation)) (quantity_on account isin) (λ i day. refl) in omega (arith, said);
+    paid = λ bic ccy. let said = from_deliveries (λ confirmation. quantity_if (is_delivery confirmation.mt) (amount_confirmed bic ccy confirmation)) (amount_of bic ccy) (λ i day. ap (λ n. quantity_if (is_delivery (confirming_type i.instruction.mt)) (quantity_if (bytes_eq i.sender bic) n)) (same_cash ccy i.instruction.cash)) in omega (arith, said);
+    paying = λ bic ccy. let said = from_receipts (λ confirmation. quantity_if (not (is_delivery confirmation.mt)) (amount_confirmed bic ccy confirmation)) (amount_of bic ccy) (λ i day. ap (λ n. quantity_if (not (is_delivery (confirming_type i.instruction.mt))) (quantity_if (bytes_eq i.sender bic) n)) (same_cash ccy i.instruction.cash)) in omega (arith, said);
   }
 
   pub confirmed : (ms : List Confirmation) × SayConfirmations (sent_of books) ms × AccountFor books ms

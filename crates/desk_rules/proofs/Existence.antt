@@ -11,7 +11,7 @@ use Rattle.desk_rules.specs.declared.pair.Place.{Place}
 use Rattle.desk_rules.specs.History.{Instructed, instructed, before, instruction_at, run_day}
 use Rattle.desk_rules.specs.Pairing.{IsCandidate, IsPairing}
 use Rattle.desk_rules.specs.Covered.{is_covered}
-use Rattle.desk_rules.specs.Settlement.{is_sooner, precedes, settled_before, is_due, IsUnsettled, begins, Settles, IsSettlement, place_of}
+use Rattle.desk_rules.specs.Settlement.{is_sooner, precedes, settled_before, is_due, IsUnsettled, pass_begins, Settles, IsSettlement, place_of}
 use Rattle.desk_rules.specs.Underway.{is_above}
 use Rattle.desk_rules.specs.Underway.{IsOpen, IsNext}
 use Rattle.desk_rules.proofs.Decided.{In, In-from_Contains, Contains-from_In, In-left, filter-In, Ordered, filter_yes, filter_no}
@@ -151,7 +151,7 @@ pub record PassFrom (h : List Entry) (ps : List Pair) (settled : List Settled) (
   pub is : IsSettledTo h ps n (k + 1) None (settled ++ more)
 
 pass_exists : (h : List Entry) (ps : List Pair) → Ordered lower ps → (fuel n k : ℕ) (settled : List Settled) (place : Option Place)
-    → length (filter (is_above h place) ps) < fuel → IsSettledTo h ps n k place settled → begins h settled n k ≡ true
+    → length (filter (is_above h place) ps) < fuel → IsSettledTo h ps n k place settled → pass_begins h settled n k ≡ true
     → PassFrom h ps settled n k
 pass_exists h ps o zero n k settled place room d begun = absurd (omega arith)
 pass_exists h ps o (suc fuel) n k settled place room d begun =
@@ -195,7 +195,7 @@ left_narrower settled more p e = left_yes settled p (λ t i same.
 
 -- where a further pass begins, the pass before it leaves fewer
 pub fewer_left : (h : List Entry) (ps : List Pair) → Ordered lower ps → (settled more : List Settled) (n k : ℕ) → 0 < k
-    → IsSettledTo h ps n k None settled → IsSettledTo h ps n (k + 1) None (settled ++ more) → begins h (settled ++ more) n (k + 1) ≡ true
+    → IsSettledTo h ps n k None settled → IsSettledTo h ps n (k + 1) None (settled ++ more) → pass_begins h (settled ++ more) n (k + 1) ≡ true
     → length (filter (is_left (settled ++ more)) ps) < length (filter (is_left settled) ps)
 fewer_left h ps o settled more n k some d e begun = elim (begins_true h (settled ++ more) n (k + 1) begun) [
   | inl first ↦ absurd (omega arith)
@@ -221,12 +221,12 @@ joined h ps settled more rest is = let P : List Settled → Type 0 = IsSettlemen
 
 -- A run from the begin of a pass on.
 run_exists : (h : List Entry) (ps : List Pair) → Ordered lower ps → (fuel k : ℕ) (settled : List Settled)
-    → length (filter (is_left settled) ps) < fuel → 0 < k → IsSettledTo h ps (length h) k None settled → begins h settled (length h) k ≡ true
+    → length (filter (is_left settled) ps) < fuel → 0 < k → IsSettledTo h ps (length h) k None settled → pass_begins h settled (length h) k ≡ true
     → (more : List Settled) × IsSettlement h ps (settled ++ more)
 run_exists h ps o zero k settled room some d begun = absurd (omega arith)
 run_exists h ps o (suc fuel) k settled room some d begun =
     let this = pass_exists h ps o (length (filter (is_above h None) ps) + 1) (length h) k settled None (omega arith) d begun in
-    elim (cases_Bool (begins h (settled ++ this.more) (length h) (k + 1))) [
+    elim (cases_Bool (pass_begins h (settled ++ this.more) (length h) (k + 1))) [
       | inr over ↦ (this.more, run_ends h ps (settled ++ this.more) (length h) (k + 1) refl (omega arith) this.is over)
       | inl again ↦
           let fewer = fewer_left h ps o settled this.more (length h) k some d this.is again in

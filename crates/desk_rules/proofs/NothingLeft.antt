@@ -15,7 +15,7 @@ use Rattle.desk_rules.specs.History.{Instructed, before, entry_at, run_rule}
 use Rattle.desk_rules.specs.Balances.{delivery_of, receipt_of, credits, debits, cash_credits, cash_debits}
 use Rattle.desk_rules.specs.Covered.{can_deliver, can_pay_cash, can_pay, has_securities, has_cash, is_covered}
 use Rattle.desk_rules.specs.Books.{Books, AreBooks}
-use Rattle.desk_rules.specs.Settlement.{begins, precedes, settled_before, is_due, IsUnsettled, allows_more, is_in_passes, Settles, IsSettlement, last_pass, passes_of, settled_count}
+use Rattle.desk_rules.specs.Settlement.{pass_begins, precedes, settled_before, is_due, IsUnsettled, allows_more, is_in_passes, Settles, IsSettlement, last_pass, passes_of, settled_count}
 use Rattle.desk_rules.proofs.Decided.{In, Contains-from_In, In-filter, filter-front, filter_yes, filter_no}
 use Rattle.desk_rules.proofs.HistoryLemmas.{entry_at-end, before-all}
 use Rattle.desk_rules.proofs.BalanceLemmas.{IsIn, delivery_of-front, receipt_of-front, credits-entry, debits-entry, cash_credits-entry, cash_debits-entry}
@@ -86,7 +86,7 @@ module _ (h : List Entry) (ps : List Pair) (settled : List Settled) (is : IsSett
   pass_some s i = elim (earlier_pass s i) [ inl first ↦ omega arith | inr t ↦ (let before : t.0.pass + 1 ≡ s.pass = t.3 in omega arith) ]
 
   -- a pass begins exactly when it is one of those that are counted
-  pub begins_counted : (run pass : ℕ) → begins h settled run pass ≡ true → (0 < pass) × (pass ≤ passes_of h settled run)
+  pub begins_counted : (run pass : ℕ) → pass_begins h settled run pass ≡ true → (0 < pass) × (pass ≤ passes_of h settled run)
   begins_counted run pass b = elim (begins_true h settled run pass b) [
     | inl first ↦ (omega arith, at_least_one pass first)
     | inr f ↦
@@ -102,7 +102,7 @@ module _ (h : List Entry) (ps : List Pair) (settled : List Settled) (is : IsSett
         | inr f ↦ (let count : passes_of h settled run ≡ 1 = ap (λ b. if b then last_pass settled run + 1 else 1) f in omega arith)
       ]
 
-  pub counted_begins : (run pass : ℕ) → 0 < pass → pass ≤ passes_of h settled run → begins h settled run pass ≡ true
+  pub counted_begins : (run pass : ℕ) → 0 < pass → pass ≤ passes_of h settled run → pass_begins h settled run pass ≡ true
   counted_begins run pass some most = elim (cases_lt 1 pass) [
     | inr le ↦ begins_first h settled run pass (omega arith)
     | inl further ↦ elim (cases_Bool (is_in_passes h run)) [
@@ -272,7 +272,7 @@ nothing_left front reference day books p are last paired due unsettled =
       | inr ge ↦ let same : t.run ≡ n = omega arith in precedes_pass h t s same (let most = below_last books.settled n t i same in omega arith)
     ]) (λ x i. absurd i) in
     let counted : passes_of h books.settled n ≡ last_pass books.settled n + 1 = ap (λ b. if b then last_pass books.settled n + 1 else 1) passes in
-    let begun : begins h books.settled n (last_pass books.settled n + 1) ≡ true = counted_begins h books.pairs books.settled are.settlement n (last_pass books.settled n + 1) (omega arith) (omega arith) in
+    let begun : pass_begins h books.settled n (last_pass books.settled n + 1) ≡ true = counted_begins h books.pairs books.settled are.settlement n (last_pass books.settled n + 1) (omega arith) (omega arith) in
     let front_is : before n h ≡ front = ap (before n) last ∙ before-all front (run ∷ []) n long in
     let is_in : (q : Pair) → Contains books.pairs q → q.later < n → IsIn front q = λ q c lt.
     let mate = (are.pairing.exact q).0 c in

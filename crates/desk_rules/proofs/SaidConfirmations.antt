@@ -8,7 +8,7 @@ use Rattle.desk_msg.specs.declared.mt.Mt.TheVariants.{Mt540, Mt541, Mt542, Mt543
 use Rattle.desk_msg.specs.declared.instruction.Message.TheVariants.{New}
 use Rattle.desk_msg.specs.MessageType.{number_of_type}
 use Rattle.desk_msg.specs.ConfirmationText.{confirming_type}
-use Rattle.desk_msg.specs.Reads.{Reads}
+use Rattle.desk_msg.specs.Reads.{ReadsFields}
 use Rattle.desk_msg.proofs.ConfirmationLaws.{confirms}
 use Rattle.desk_rules.specs.declared.entry.Entry.{Entry}
 use Rattle.desk_rules.specs.declared.reply.Sent.{Sent}
@@ -60,7 +60,7 @@ module _ (h : List Entry) where
   HaveDays [] = Unit {0}
   HaveDays (n ∷ ns) = HasDay n.run × HaveDays ns
 
-  told_says : (k about : ℕ) (run : Option ℕ) (i : Instructed) (fields : List Found) → Reads i.instruction.mt fields (Ok (New i.instruction)) → HasDay run → (messages : List Sent) (confirmations : List Confirmation) → SayConfirmations messages confirmations
+  told_says : (k about : ℕ) (run : Option ℕ) (i : Instructed) (fields : List Found) → ReadsFields i.instruction.mt fields (Ok (New i.instruction)) → HasDay run → (messages : List Sent) (confirmations : List Confirmation) → SayConfirmations messages confirmations
       → SayConfirmations (told h k about run i ∷ messages) (confirmations_to run (Some i) ++ confirmations)
   told_says k about None i fields reads day messages confirmations says = skipped (told h k about None i) messages confirmations refl says
   told_says k about (Some run) i fields reads day messages confirmations says =
@@ -68,7 +68,7 @@ module _ (h : List Entry) where
       one_said (told h k about (Some run) i) messages (confirmation_by i (date_in (entry_at h run))) confirmations (confirming i.instruction.mt)
       (record { fields = c.0; type = refl; addressee = refl; block = c.1; says = c.2 }) says
 
-  notice_says : (k : ℕ) (n : Notice) (o : Option Instructed) → ((i : Instructed) → o ≡ Some i → (fields : List Found) × Reads i.instruction.mt fields (Ok (New i.instruction))) → HasDay n.run → (messages : List Sent) (confirmations : List Confirmation) → SayConfirmations messages confirmations
+  notice_says : (k : ℕ) (n : Notice) (o : Option Instructed) → ((i : Instructed) → o ≡ Some i → (fields : List Found) × ReadsFields i.instruction.mt fields (Ok (New i.instruction))) → HasDay n.run → (messages : List Sent) (confirmations : List Confirmation) → SayConfirmations messages confirmations
       → SayConfirmations (told_to h k n o ++ messages) (confirmations_to n.run o ++ confirmations)
   notice_says k n None read day messages confirmations says = nothing n.run
     where

@@ -9,7 +9,7 @@ use Rattle.desk_rules.specs.declared.pair.Settled.{Settled}
 use Rattle.desk_rules.specs.declared.pair.Place.{Place}
 use Rattle.desk_rules.specs.History.{entry_at, before, run_day, run_rule}
 use Rattle.desk_rules.specs.Covered.{is_covered}
-use Rattle.desk_rules.specs.Settlement.{instructed_day, day_of, is_sooner, precedes, settled_before, is_by, is_due, allows_more, is_in_passes, begins, Settles, IsSettlement}
+use Rattle.desk_rules.specs.Settlement.{instructed_day, day_of, is_sooner, precedes, settled_before, is_by, is_due, allows_more, is_in_passes, pass_begins, Settles, IsSettlement}
 use Rattle.desk_rules.specs.Underway.{is_above}
 use Rattle.desk_rules.specs.Underway.{IsOpen, IsNext}
 use Rattle.desk_rules.specs.Underway.{IsReached, IsSettledAsFar}
@@ -35,7 +35,7 @@ precedes-front h g s t a b = ap (λ v. nat_lt s.run t.run || (s.run == t.run && 
 pub in_passes-front : (h g : List Entry) (run : ℕ) → run ≤ length h → is_in_passes (h ++ g) run ≡ is_in_passes h run
 in_passes-front h g run le = ap (λ o. allows_more (option_and_then run_rule o)) (entry_at-front h g run le)
 
-pub begins-front : (h g : List Entry) (settled : List Settled) (run pass : ℕ) → run ≤ length h → begins (h ++ g) settled run pass ≡ begins h settled run pass
+pub begins-front : (h g : List Entry) (settled : List Settled) (run pass : ℕ) → run ≤ length h → pass_begins (h ++ g) settled run pass ≡ pass_begins h settled run pass
 begins-front h g settled run pass le = ap (λ b. pass == 1 || (b && list_any (λ t. t.run == run && t.pass + 1 == pass) settled)) (in_passes-front h g run le)
 
 -- two lists have the same pairs up to a number
@@ -56,7 +56,7 @@ settles_front h g ps qs settled s same r =
     let numbered : s.pair.later < s.run = r.numbered in
     let known : s.run ≤ length h = r.run in
     let due : is_due (h ++ g) s.run s.pair ≡ is_due h s.run s.pair = is_due-front h g s.run s.pair known numbered in
-    let begun : begins (h ++ g) settled s.run s.pass ≡ begins h settled s.run s.pass = begins-front h g settled s.run s.pass known in
+    let begun : pass_begins (h ++ g) settled s.run s.pass ≡ pass_begins h settled s.run s.pass = begins-front h g settled s.run s.pass known in
     let front : before s.run (h ++ g) ≡ before s.run h = before-front h g s.run (omega arith) in (
       λ c. record {
         paired = (same s.pair (omega arith)).0 c.paired;
@@ -129,7 +129,7 @@ as_far_decided {settled = settled} d = record {
   in_order = AllPairs-from_Ordered _ settled d.order;
 }
 
-no_pass_zero : (h : List Entry) (settled : List Settled) (run pass : ℕ) → pass < 1 → begins h settled run pass ≡ true → ⊥
+no_pass_zero : (h : List Entry) (settled : List Settled) (run pass : ℕ) → pass < 1 → pass_begins h settled run pass ≡ true → ⊥
 no_pass_zero h settled run pass lt e = elim (begins_true h settled run pass e) [ inl first ↦ omega arith | inr f ↦ (let is : f.member.pass + 1 ≡ pass = f.pass_is in omega arith) ]
 
 pub run_begins : (h : List Entry) (e : Entry) (ps : List Pair) (settled : List Settled) → IsSettlement h ps settled → IsSettledTo (h ++ e ∷ []) ps (length h + 1) 1 None settled
@@ -259,7 +259,7 @@ reached_further h ps settled n k place q next is at s r = record {
 
 -- The next pair is covered, and settles.
 pub run_settles : (h : List Entry) (ps : List Pair) (settled : List Settled) (n k : ℕ) (place : Option Place) (q : Pair) (next : Place)
-    → Ordered lower ps → IsSettledTo h ps n k place settled → begins h settled n k ≡ true → IsNext h ps settled n place q → IsPlaceOf h next q
+    → Ordered lower ps → IsSettledTo h ps n k place settled → pass_begins h settled n k ≡ true → IsNext h ps settled n place q → IsPlaceOf h next q
     → is_covered (before n h) settled q ≡ true
     → IsSettledTo h ps n k (Some next) (settled ++ record { run = n; pass = k; pair = q } ∷ [])
 run_settles h ps settled n k place q next o d begun is at covered =
@@ -352,7 +352,7 @@ pass_ends h ps settled n k place d none =
 
 -- The next pass does not begin: the settlement is whole.
 pub run_ends : (h : List Entry) (ps : List Pair) (settled : List Settled) (n k : ℕ)
-    → n ≡ length h → 0 < k → IsSettledTo h ps n k None settled → begins h settled n k ≡ false
+    → n ≡ length h → 0 < k → IsSettledTo h ps n k None settled → pass_begins h settled n k ≡ false
     → IsSettlement h ps settled
 run_ends h ps settled n k last some d over =
     settlement_decided h ps settled (grow_out (precedes h) (precedes_strict h) (IsReached h n k None) (IsRanged (length h)) (Settles h ps) (Settles h ps) settled d
@@ -375,18 +375,18 @@ run_ends h ps settled n k last some d over =
       | inr both ↦ elim both.1 [ inl lt ↦ lt | inr inner ↦ (let never : true ≡ false = inner.1 in absurd (cc)) ]
     ]
 
-    at_k : (pass : ℕ) → pass ≡ k → begins h settled n pass ≡ true → ⊥
-    at_k pass same e = let P : ℕ → Type 0 = λ z. begins h settled n z ≡ true in both_ways _ over (subst P same e)
+    at_k : (pass : ℕ) → pass ≡ k → pass_begins h settled n pass ≡ true → ⊥
+    at_k pass same e = let P : ℕ → Type 0 = λ z. pass_begins h settled n z ≡ true in both_ways _ over (subst P same e)
 
-    begun_by : (run pass : ℕ) → run ≡ n → k ≤ pass → begins h settled run pass ≡ true → ⊥
+    begun_by : (run pass : ℕ) → run ≡ n → k ≤ pass → pass_begins h settled run pass ≡ true → ⊥
     begun_by run pass same late e = elim (begins_true h settled run pass e) [
       | inl first ↦ at_k pass (omega arith) (begins_first h settled n pass first)
       | inr f ↦
           let below = all_below f.member f.inside (f.run_is ∙ same) in
           let is : f.member.pass + 1 ≡ pass = f.pass_is in
-          let P : ℕ → Type 0 = λ z. begins h settled z pass ≡ true in
+          let P : ℕ → Type 0 = λ z. pass_begins h settled z pass ≡ true in
           at_k pass (omega arith) (subst P same e)
     ]
 
-    no_more : (s : Settled) → s.run ≡ n → k ≤ s.pass → begins h (settled_before h s settled) s.run s.pass ≡ true → ⊥
+    no_more : (s : Settled) → s.run ≡ n → k ≤ s.pass → pass_begins h (settled_before h s settled) s.run s.pass ≡ true → ⊥
     no_more s same late e = begun_by s.run s.pass same late (begins_wider h (settled_before h s settled) settled s.run s.pass (λ t i. let both = In-filter (λ x. precedes h x s) settled t i in both.0) e)

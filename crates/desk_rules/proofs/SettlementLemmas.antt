@@ -9,7 +9,7 @@ use Rattle.desk_rules.specs.declared.pair.Settled.{Settled}
 use Rattle.desk_rules.specs.declared.pair.Place.{Place}
 use Rattle.desk_rules.specs.History.{entry_at, before, run_day}
 use Rattle.desk_rules.specs.Pairing.{IsPairing}
-use Rattle.desk_rules.specs.Settlement.{day_of, place_of, is_sooner, is_passed_sooner, precedes, settled_before, is_by, is_not_cancelled, is_due, is_in_passes, begins, Settles, IsSettlement}
+use Rattle.desk_rules.specs.Settlement.{day_of, place_of, is_sooner, is_passed_sooner, precedes, settled_before, is_by, is_not_cancelled, is_due, is_in_passes, pass_begins, Settles, IsSettlement}
 use Rattle.desk_rules.specs.Underway.{is_above}
 use Rattle.desk_rules.proofs.Decided.{In, In-from_Contains, Contains-from_In, Ordered, Ordered-from_AllPairs, AllPairs-from_Ordered, IsStrict, IsTotalOn, Decided, one_list}
 use Rattle.desk_rules.proofs.HistoryLemmas.{entry_at-known}
@@ -98,7 +98,7 @@ pub record Follows (h : List Entry) (settled : List Settled) (run pass : ℕ) : 
   pub run_is : member.run ≡ run
   pub pass_is : member.pass + 1 ≡ pass
 
-pub begins_true : (h : List Entry) (settled : List Settled) (run pass : ℕ) → begins h settled run pass ≡ true → (pass ≡ 1) ⊎ Follows h settled run pass
+pub begins_true : (h : List Entry) (settled : List Settled) (run pass : ℕ) → pass_begins h settled run pass ≡ true → (pass ≡ 1) ⊎ Follows h settled run pass
 begins_true h settled run pass e = elim (or_cases (pass == 1) (is_in_passes h run && list_any (λ t. t.run == run && t.pass + 1 == pass) settled) e) [
   | inl first ↦ inl (eqb-true pass 1 first)
   | inr further ↦
@@ -109,14 +109,14 @@ begins_true h settled run pass e = elim (or_cases (pass == 1) (is_in_passes h ru
       inr (record { allowed = parts.0; member = t; inside = found.1; run_is = eqb-true t.run run these.0; pass_is = eqb-true (t.pass + 1) pass these.1 })
 ]
 
-pub begins_first : (h : List Entry) (settled : List Settled) (run pass : ℕ) → pass ≡ 1 → begins h settled run pass ≡ true
+pub begins_first : (h : List Entry) (settled : List Settled) (run pass : ℕ) → pass ≡ 1 → pass_begins h settled run pass ≡ true
 begins_first h settled run pass first = or_left (pass == 1) _ (eq-eqb pass 1 first)
 
-pub begins_further : (h : List Entry) (settled : List Settled) (run pass : ℕ) → Follows h settled run pass → begins h settled run pass ≡ true
+pub begins_further : (h : List Entry) (settled : List Settled) (run pass : ℕ) → Follows h settled run pass → pass_begins h settled run pass ≡ true
 begins_further h settled run pass f = or_right (pass == 1) _ (and_from _ _ f.allowed (any-In (λ t. t.run == run && t.pass + 1 == pass) settled f.member f.inside (and_from _ _ (eq-eqb f.member.run run f.run_is) (eq-eqb (f.member.pass + 1) pass f.pass_is))))
 
 -- a pass that begins after some settlements begins after others that have all of those
-pub begins_wider : (h : List Entry) (settled wider : List Settled) (run pass : ℕ) → ((s : Settled) → In settled s → In wider s) → begins h settled run pass ≡ true → begins h wider run pass ≡ true
+pub begins_wider : (h : List Entry) (settled wider : List Settled) (run pass : ℕ) → ((s : Settled) → In settled s → In wider s) → pass_begins h settled run pass ≡ true → pass_begins h wider run pass ≡ true
 begins_wider h settled wider run pass sub e = elim (begins_true h settled run pass e) [
   | inl first ↦ begins_first h wider run pass first
   | inr f ↦ begins_further h wider run pass (record { allowed = f.allowed; member = f.member; inside = sub f.member f.inside; run_is = f.run_is; pass_is = f.pass_is })

@@ -10,7 +10,7 @@ use Rattle.desk_msg.specs.declared.instruction.Instruction.{Instruction}
 use Rattle.desk_msg.specs.declared.instruction.CancelOrder.{CancelOrder}
 use Rattle.desk_msg.specs.declared.instruction.Message.TheVariants.{New, Cancel as Cancellation}
 use Rattle.desk_msg.specs.declared.mt.Mt.{Mt}
-use Rattle.desk_msg.specs.Reads.{Reads}
+use Rattle.desk_msg.specs.Reads.{ReadsFields}
 use Rattle.desk_msg.specs.Refused.{ReadsText}
 use Rattle.desk_rules.specs.declared.entry.Entry.{Entry}
 use Rattle.desk_rules.specs.declared.entry.Entry.TheVariants.{Participant, Account, Security, Issue, Redeem, PayIn, PayOut, Instruct, Cancel, Run}
@@ -31,12 +31,12 @@ spelled_bic name bic s = elim (cases_Bool (pointwise nat_eq (drop 8 name) (codes
 pub readable : (mt : Mt) (text : List ℕ) (i : Instruction) → ReadsText mt text (Ok (New i)) → IsReadable i.mt (New i)
 readable mt text i r =
     let type : i.mt ≡ mt = r.reads.0 in
-    (r.fields, subst (λ (m : Mt). Reads m r.fields (Ok (New i))) (sym type) r.reads)
+    (r.fields, subst (λ (m : Mt). ReadsFields m r.fields (Ok (New i))) (sym type) r.reads)
 
 pub readable_cancellation : (mt : Mt) (text : List ℕ) (order : CancelOrder) → ReadsText mt text (Ok (Cancellation order)) → IsReadable order.mt (Cancellation order)
 readable_cancellation mt text order r =
     let type : order.mt ≡ mt = r.reads.0 in
-    (r.fields, subst (λ (m : Mt). Reads m r.fields (Ok (Cancellation order))) (sym type) r.reads)
+    (r.fields, subst (λ (m : Mt). ReadsFields m r.fields (Ok (Cancellation order))) (sym type) r.reads)
 
 pub got_In : {X : Type 0} (xs : List X) (n : ℕ) (x : X) → slice_get xs n ≡ Some x → In xs x
 got_In [] n x e = absurd (cc)

@@ -43,30 +43,30 @@ SayConfirmations (message ∷ messages) [] = (is_confirmation message ≡ false)
 SayConfirmations (message ∷ messages) (confirmation ∷ confirmations) =
     MatchBool (is_confirmation message) (SaysConfirmation message confirmation × SayConfirmations messages confirmations) (SayConfirmations messages (confirmation ∷ confirmations))
 
-abbrev pub quantity_said : List ℕ → List ℕ → Confirmation → ℕ
-quantity_said account isin confirmation =
+abbrev pub quantity_confirmed : List ℕ → List ℕ → Confirmation → ℕ
+quantity_confirmed account isin confirmation =
     quantity_if (bytes_eq confirmation.confirmed.account account) (quantity_if (bytes_eq confirmation.confirmed.isin isin) confirmation.confirmed.quantity)
 
 abbrev pub amount_in : Ccy → Option (Ccy × ℕ) → ℕ
 amount_in ccy None = 0
 amount_in ccy (Some cash) = quantity_if (same_ccy cash.0 ccy) cash.1
 
-abbrev pub amount_said : List ℕ → Ccy → Confirmation → ℕ
-amount_said bic ccy confirmation = quantity_if (bytes_eq confirmation.bic bic) (amount_in ccy confirmation.confirmed.cash)
+abbrev pub amount_confirmed : List ℕ → Ccy → Confirmation → ℕ
+amount_confirmed bic ccy confirmation = quantity_if (bytes_eq confirmation.bic bic) (amount_in ccy confirmation.confirmed.cash)
 
 -- What confirmations bring to an account, and take from it; what they bring to a participant's cash, and take from it.
 -- Receipts (544 and 545) bring securities, deliveries (546 and 547) take them; cash goes the other way.
 abbrev pub brought : List Confirmation → List ℕ → List ℕ → ℕ
-brought confirmations account isin = sum_by (λ confirmation. quantity_if (not (is_delivery confirmation.mt)) (quantity_said account isin confirmation)) confirmations
+brought confirmations account isin = sum_by (λ confirmation. quantity_if (not (is_delivery confirmation.mt)) (quantity_confirmed account isin confirmation)) confirmations
 
 abbrev pub taken : List Confirmation → List ℕ → List ℕ → ℕ
-taken confirmations account isin = sum_by (λ confirmation. quantity_if (is_delivery confirmation.mt) (quantity_said account isin confirmation)) confirmations
+taken confirmations account isin = sum_by (λ confirmation. quantity_if (is_delivery confirmation.mt) (quantity_confirmed account isin confirmation)) confirmations
 
 abbrev pub cash_brought : List Confirmation → List ℕ → Ccy → ℕ
-cash_brought confirmations bic ccy = sum_by (λ confirmation. quantity_if (is_delivery confirmation.mt) (amount_said bic ccy confirmation)) confirmations
+cash_brought confirmations bic ccy = sum_by (λ confirmation. quantity_if (is_delivery confirmation.mt) (amount_confirmed bic ccy confirmation)) confirmations
 
 abbrev pub cash_taken : List Confirmation → List ℕ → Ccy → ℕ
-cash_taken confirmations bic ccy = sum_by (λ confirmation. quantity_if (not (is_delivery confirmation.mt)) (amount_said bic ccy confirmation)) confirmations
+cash_taken confirmations bic ccy = sum_by (λ confirmation. quantity_if (not (is_delivery confirmation.mt)) (amount_confirmed bic ccy confirmation)) confirmations
 
 -- Confirmations account for all balances: to what the operator books (issues, redemptions, what is paid in and paid out) they
 -- bring and take the whole change of each account and of each participant's cash, and nothing else does.

@@ -70,15 +70,15 @@ is_in_passes history run = allows_more (option_and_then run_rule (entry_at histo
 
 -- After these settlements a pass of a run begins: it is the first, or the run's rule lets it make further passes
 -- and the pass before it settled some pair.
-abbrev pub begins : List Entry → List Settled → ℕ → ℕ → Bool
-begins history settled run pass = pass == 1 || (is_in_passes history run && list_any (λ t. t.run == run && t.pass + 1 == pass) settled)
+abbrev pub pass_begins : List Entry → List Settled → ℕ → ℕ → Bool
+pass_begins history settled run pass = pass == 1 || (is_in_passes history run && list_any (λ t. t.run == run && t.pass + 1 == pass) settled)
 
 -- After these settlements a pass of a run settles a pair: the pass begins, and the pair is due, not yet settled, and
 -- covered by the entries before the run and by what is settled before it.
 pub record Settles (history : List Entry) (pairs : List Pair) (settled : List Settled) (s : Settled) : Type 0 where
   pub paired : Contains pairs s.pair
   pub due : is_due history s.run s.pair ≡ true
-  pub begun : begins history settled s.run s.pass ≡ true
+  pub begun : pass_begins history settled s.run s.pass ≡ true
   pub unsettled : IsUnsettled settled s.pair
   pub covered : is_covered (before s.run history) settled s.pair ≡ true
 

@@ -9,7 +9,7 @@ use Rattle.desk_text.specs.Fields.{Found}
 use Rattle.desk_msg.specs.declared.instruction.Message.{Message}
 use Rattle.desk_msg.specs.declared.instruction.Message.TheVariants.{New, Cancel as CancelMessage}
 use Rattle.desk_msg.specs.declared.mt.Mt.{Mt}
-use Rattle.desk_msg.specs.Reads.{Reads}
+use Rattle.desk_msg.specs.Reads.{ReadsFields}
 use Rattle.desk_rules.specs.declared.entry.Movement.{Movement}
 use Rattle.desk_rules.specs.declared.entry.Payment.{Payment}
 use Rattle.desk_rules.specs.declared.entry.Entry.{Entry}
@@ -20,7 +20,7 @@ use Rattle.desk_rules.specs.Verdict.{WasAccepted}
 
 -- the fields of some message of this type read as it
 abbrev pub IsReadable : Mt → Message → Type 0
-IsReadable mt message = (fields : List Found) × Reads mt fields (Ok message)
+IsReadable mt message = (fields : List Found) × ReadsFields mt fields (Ok message)
 
 pub record IsMovement (movement : Movement) : Type 0 where
   pub reference : IsReference movement.reference

@@ -28,7 +28,7 @@ ghost use Rattle.desk_rules.specs.declared.limits.TheConstants.{MOST_ENTRIES, MO
 ghost use Rattle.desk_rules.specs.Opposite.{AreOpposite};
 ghost use Rattle.desk_rules.specs.Pairing.{IsPairing, IsSide, mate_of};
 ghost use Rattle.desk_rules.specs.Covered.{is_covered};
-ghost use Rattle.desk_rules.specs.Settlement.{is_due, begins, IsUnsettled, IsSettlement, settled_before, passes_of, settled_count};
+ghost use Rattle.desk_rules.specs.Settlement.{is_due, pass_begins, IsUnsettled, IsSettlement, settled_before, passes_of, settled_count};
 ghost use Rattle.desk_rules.specs.declared.entry.Entry.TheVariants as Entry;
 ghost use Rattle.desk_rules.specs.declared.entry.RunRule.TheVariants.{Passes};
 ghost use Rattle.desk_rules.specs.declared.entry.Entry.{Entry};
@@ -89,7 +89,7 @@ pub fn nothing_left()
     ensures passes { (books : Books) (run : ℕ) → AreBooks books
         → passes_of books.history books.settled run ≤ settled_count books.settled run + 1 }
     ensures counted { (books : Books) (run pass : ℕ) → AreBooks books
-        → begins books.history books.settled run pass ≡ true ↔ (0 < pass) × (pass ≤ passes_of books.history books.settled run) }
+        → pass_begins books.history books.settled run pass ≡ true ↔ (0 < pass) × (pass ≤ passes_of books.history books.settled run) }
 {}
 
 /// Where each entry was accepted in its turn, nothing is made or lost: the positions of all accounts in a security

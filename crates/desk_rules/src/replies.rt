@@ -34,7 +34,7 @@ impl State {
         match self {
             State::Cancelled => Case::CancelDone,
             State::Settled => Case::CancelRefused(Refusal::AlreadySettled.number()),
-            State::NoInstruction | State::Unmatched | State::Matched(_) => Case::CancelWaits,
+            _ => Case::CancelWaits,
         }
     }
 }
@@ -143,13 +143,6 @@ pub fn refused_reply(
             let about = Case::CancelRefused(number);
             advising(alloc, REFUSED, count, order.mt, &order.reference, about)
         }
-        Entry::Participant { .. }
-        | Entry::Account { .. }
-        | Entry::Security { .. }
-        | Entry::Issue(_)
-        | Entry::Redeem(_)
-        | Entry::PayIn(_)
-        | Entry::PayOut(_)
-        | Entry::Run { .. } => question_refused(alloc, number),
+        _ => question_refused(alloc, number),
     }
 }

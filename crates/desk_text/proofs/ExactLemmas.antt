@@ -14,7 +14,8 @@ use Rattle.desk_text.specs.Lines.{lines_of}
 use Rattle.desk_text.specs.BlockGrammar.{Items, none, IsTree}
 use Rattle.desk_text.specs.Fields.{IsBlock}
 use Rattle.desk_text.specs.BlockFault.{Begins, IsFirstBad, IsRight, is_opening, is_closing, is_field, is_end, IsMisnested, IsFault}
-use Rattle.desk_text.specs.Reading.{Sign, opens, closes, begins, further, ends, strange, sign_of, Rest, read_from, read_lines, read_text}
+use Rattle.desk_text.specs.Reading.{Rest, read_from, read_lines, read_text}
+use Rattle.desk_text.specs.Signs.{Sign, opens, closes, starts, further, ends, strange, sign_of}
 use Rattle.desk_text.proofs.SignLemmas.{same_bytes, line_of, IsSigned, sign-sound, opening-sign, closing-sign, field-sign}
 use Rattle.desk_text.proofs.ReadingLemmas.{chosen, right-signs, read-tree, block-read}
 use Rattle.desk_text.proofs.FaultLemmas.{CanEnd, NoEnd, HasEnd, IsNest, nest_open, nest_close, nest_end, IsOdd, IsWhy, IsAt, IsLocated, located}
@@ -117,7 +118,7 @@ nest_right line (closes name) e nest_close =
     let s = subst (λ (z : Sign). IsSigned line z) e (sign-sound line) in (name ∷ [], is_closing name [] (s.is (λ h. let g = h in cc)) s.right refl)
 nest_right line ends e nest_end =
     let s = subst (λ (z : Sign). IsSigned line z) e (sign-sound line) in ([], is_end (s.is (λ h. let g = h in cc)) refl)
-nest_right line (begins tag first) e nest = elim nest [ ]
+nest_right line (starts tag first) e nest = elim nest [ ]
 nest_right line (further text) e nest = elim nest [ ]
 nest_right line strange e nest = elim nest [ ]
 
@@ -127,7 +128,7 @@ opens_even name odd = elim odd [ ]
 closes_even : (name : List ℕ) → IsOdd (closes name) → ⊥
 closes_even name odd = elim odd [ ]
 
-begins_even : (tag first : List ℕ) → IsOdd (begins tag first) → ⊥
+begins_even : (tag first : List ℕ) → IsOdd (starts tag first) → ⊥
 begins_even tag first odd = elim odd [ ]
 
 ends_even : IsOdd ends → ⊥

@@ -7,7 +7,8 @@ use Rattle.desk_text.specs.declared.faults.TextFault.{TextFault}
 use Rattle.desk_text.specs.declared.faults.TextFault.TheVariants.{NotBlock, BadLine, BadNesting, TooLong, Memory}
 use Rattle.desk_text.specs.BlockGrammar.{is_name, closing}
 use Rattle.desk_text.specs.Fields.{Found}
-use Rattle.desk_text.specs.Reading.{Sign, opens, closes, begins, further, ends, strange, sign_of, Rest, nothing, with_field, with_value, read_after, read_from}
+use Rattle.desk_text.specs.Reading.{Rest, nothing, with_field, with_value, read_after, read_from}
+use Rattle.desk_text.specs.Signs.{Sign, opens, closes, starts, further, ends, strange, sign_of}
 use Rattle.desk_text.proofs.SignLemmas.{closing-sign}
 use Rattle.desk_text.proofs.ReadingLemmas.{chosen, same_name, AreRight}
 
@@ -140,7 +141,7 @@ close_step name top within goes_on k same = record {
   unended = λ e. let h = e in cc;
 }
 
-pub field_step : (tag first : List ℕ) (within : List (List ℕ)) (goes_on : Bool) (k : ℕ) → IsStep (begins tag first) within goes_on k within true
+pub field_step : (tag first : List ℕ) (within : List (List ℕ)) (goes_on : Bool) (k : ℕ) → IsStep (starts tag first) within goes_on k within true
 field_step tag first within goes_on k = record {
   wrap = with_field (record { path = reverse within; tag = tag; values = first ∷ []; line = k });
   ok = λ rest. (record { values = []; fields = record { path = reverse within; tag = tag; values = (first ∷ []) ++ rest.values; line = k } ∷ rest.fields }, refl);
@@ -225,7 +226,7 @@ after_bad (further [] ∷ signs) k fault e =
 after_bad (further (c ∷ line) ∷ signs) k fault e = after_here (further (c ∷ line)) signs k fault (λ more. refl) e
 after_bad (opens name ∷ signs) k fault e = after_here (opens name) signs k fault (λ more. refl) e
 after_bad (closes name ∷ signs) k fault e = after_here (closes name) signs k fault (λ more. refl) e
-after_bad (begins tag first ∷ signs) k fault e = after_here (begins tag first) signs k fault (λ more. refl) e
+after_bad (starts tag first ∷ signs) k fault e = after_here (starts tag first) signs k fault (λ more. refl) e
 after_bad (ends ∷ signs) k fault e = after_here ends signs k fault (λ more. refl) e
 after_bad (strange ∷ signs) k fault e = after_here strange signs k fault (λ more. refl) e
 
@@ -261,9 +262,9 @@ located (closes name ∷ signs) (top ∷ within) goes_on k fault right names e =
   | inr (other, r) ↦ seen (λ f. IsLocated (closes name ∷ signs) (top ∷ within) goes_on k f) (BadNesting k) fault r
       (here (closes name) signs (top ∷ within) goes_on k (BadNesting k) names (λ more. ap (λ b. cond b (read_from more within false (k + 1)) (Err (BadNesting k))) other) (tt, nest_close))
 ]
-located (begins tag first ∷ signs) within goes_on k fault right names e =
+located (starts tag first ∷ signs) within goes_on k fault right names e =
     let x : Found = record { path = reverse within; tag = tag; values = first ∷ []; line = k } in
-    step-located (begins tag first) within goes_on k within true (field_step tag first within goes_on k) signs fault
+    step-located (starts tag first) within goes_on k within true (field_step tag first within goes_on k) signs fault
     (located signs within true (k + 1) fault right.1 names (with_field-err x (read_from signs within true (k + 1)) fault e))
 located (further line ∷ signs) within true k fault right names e =
     step-located (further line) within true k within true (value_step line within k) signs fault

@@ -12,7 +12,8 @@ use Rattle.desk_text.specs.BlockGrammar.{Items, none, field, sequence, lines_of_
 use Rattle.desk_text.specs.Fields.{Found, IsBlock, fields_of}
 use Rattle.desk_text.specs.BlockFault.{Begins, IsFirstBad, IsMisnested, IsFault}
 use Rattle.desk_text.specs.Written.{Part, AreParts, block_text, fields_written, is_value}
-use Rattle.desk_text.specs.Reading.{Sign, opens, closes, begins, further, ends, strange, sign_of, strip_return, Rest, read_text}
+use Rattle.desk_text.specs.Reading.{strip_return, Rest, read_text}
+use Rattle.desk_text.specs.Signs.{Sign, opens, closes, starts, further, ends, strange, sign_of}
 use Rattle.desk_text.proofs.LinesLemmas.{lines_of-line, lines_of-last, value_lines-last, value_one, not_return}
 use Rattle.desk_text.proofs.ReadingLemmas.{signs_of, IsStop, at_close, at_end, items-signs, blank-signs}
 use Rattle.desk_text.proofs.ExactLemmas.{begins-front, begins-from_tree, reads_exactly, IsExact}
@@ -24,7 +25,7 @@ abbrev pub NotFurther : List Sign → Type 0
 NotFurther [] = Unit {0}
 NotFurther (opens name ∷ signs) = Unit {0}
 NotFurther (closes name ∷ signs) = Unit {0}
-NotFurther (begins tag first ∷ signs) = Unit {0}
+NotFurther (starts tag first ∷ signs) = Unit {0}
 NotFurther (further line ∷ signs) = ⊥
 NotFurther (ends ∷ signs) = Unit {0}
 NotFurther (strange ∷ signs) = Unit {0}
@@ -33,7 +34,7 @@ stop-not_further : (signs : List Sign) → IsStop signs → NotFurther signs
 stop-not_further [] stop = tt
 stop-not_further (opens name ∷ signs) stop = tt
 stop-not_further (closes name ∷ signs) stop = tt
-stop-not_further (begins tag first ∷ signs) stop = tt
+stop-not_further (starts tag first ∷ signs) stop = tt
 stop-not_further (further line ∷ signs) stop = elim stop [ ]
 stop-not_further (ends ∷ signs) stop = tt
 stop-not_further (strange ∷ signs) stop = tt
@@ -53,7 +54,7 @@ same-further (line ∷ a) (other ∷ b) x y nx ny e =
     let s = same-further a b x y nx ny tails in
     (ap (λ z. z ∷ a) heads ∙ ap (λ z. other ∷ z) s.0, s.1)
 
-stop-begins : (tag first : List ℕ) (signs : List Sign) → IsStop (begins tag first ∷ signs) → ⊥
+stop-begins : (tag first : List ℕ) (signs : List Sign) → IsStop (starts tag first ∷ signs) → ⊥
 stop-begins tag first signs stop = elim stop [ ]
 
 stop-opens : (name : List ℕ) (signs : List Sign) → IsStop (opens name ∷ signs) → ⊥

@@ -7,7 +7,8 @@ use Rattle.std.proofs.Math.Bool.{and-true}
 use Rattle.std.specs.List.{list_all}
 use Rattle.desk_text.specs.BlockGrammar.{is_first, is_further}
 use Rattle.desk_text.specs.Written.{are_lines, is_value}
-use Rattle.desk_text.specs.Reading.{strip_return, split_tag}
+use Rattle.desk_text.specs.Reading.{strip_return}
+use Rattle.desk_text.specs.Signs.{split_tag}
 use Rattle.std.proofs.lemmas.List.{take_all}
 
 not_feed : (c : ℕ) → c ≢ 10 → eqb c 10 ≡ false

@@ -11,7 +11,8 @@ use Rattle.desk_text.specs.declared.faults.TextFault.TheVariants.{NotBlock, BadN
 use Rattle.desk_text.specs.BlockGrammar.{is_name, is_further, closing}
 use Rattle.desk_text.specs.Fields.{Found}
 use Rattle.desk_text.specs.BlockFault.{Begins, AreOpen, IsRight, is_opening, is_closing, is_field, is_end}
-use Rattle.desk_text.specs.Reading.{Sign, opens, closes, begins, further, ends, strange, sign_of, Rest, nothing, read_from, read_lines}
+use Rattle.desk_text.specs.Reading.{Rest, nothing, read_from, read_lines}
+use Rattle.desk_text.specs.Signs.{Sign, opens, closes, starts, further, ends, strange, sign_of}
 use Rattle.desk_text.proofs.SignLemmas.{same_bytes, IsSigned, sign-sound, opening-sign, closing-sign, field-sign}
 use Rattle.desk_text.proofs.ReadingLemmas.{chosen, same_name, AreRight, right-signs, after-ok, with_field-ok, with_value-ok, read-tree, block-read}
 use Rattle.desk_text.proofs.FaultLemmas.{AreNames, CanEnd, always_ends, NoEnd, HasEnd, IsStep, step-can, open_step, close_step, field_step, value_step}
@@ -80,11 +81,11 @@ run (closes name ∷ front) more (top ∷ within) goes_on k rest end right names
       (run front more within false (k + 1) rest (tail_end (closes name) front more end) right.1 names.1 r)
   | inr (_, r) ↦ absurd (let h = r in cc)
 ]
-run (begins tag first ∷ front) more within goes_on k rest end right names e =
+run (starts tag first ∷ front) more within goes_on k rest end right names e =
     let x : Found = record { path = reverse within; tag = tag; values = first ∷ []; line = k } in
     let f = with_field-ok x (read_from (front ++ more) within true (k + 1)) rest e in
-    more_run (begins tag first) front within goes_on k within true (field_step tag first within goes_on k)
-    (run front more within true (k + 1) f.before (tail_end (begins tag first) front more end) right.1 names f.is)
+    more_run (starts tag first) front within goes_on k within true (field_step tag first within goes_on k)
+    (run front more within true (k + 1) f.before (tail_end (starts tag first) front more end) right.1 names f.is)
 run (further line ∷ front) more within true k rest end right names e =
     let f = with_value-ok line (read_from (front ++ more) within true (k + 1)) rest e in
     more_run (further line) front within true k within true (value_step line within k)
@@ -193,7 +194,7 @@ end_or_not [] = inl tt
 end_or_not (ends ∷ signs) = inr (inl refl)
 end_or_not (opens name ∷ signs) = elim (end_or_not signs) [ inl n ↦ inl (λ e. let h = e in cc, n) | inr h ↦ inr (inr h) ]
 end_or_not (closes name ∷ signs) = elim (end_or_not signs) [ inl n ↦ inl (λ e. let h = e in cc, n) | inr h ↦ inr (inr h) ]
-end_or_not (begins tag first ∷ signs) = elim (end_or_not signs) [ inl n ↦ inl (λ e. let h = e in cc, n) | inr h ↦ inr (inr h) ]
+end_or_not (starts tag first ∷ signs) = elim (end_or_not signs) [ inl n ↦ inl (λ e. let h = e in cc, n) | inr h ↦ inr (inr h) ]
 end_or_not (further line ∷ signs) = elim (end_or_not signs) [ inl n ↦ inl (λ e. let h = e in cc, n) | inr h ↦ inr (inr h) ]
 end_or_not (strange ∷ signs) = elim (end_or_not signs) [ inl n ↦ inl (λ e. let h = e in cc, n) | inr h ↦ inr (inr h) ]
 
@@ -225,7 +226,7 @@ can-follow names goes_on k line right (is_closing name outer is n top) =
     subst (λ (z : List (List ℕ)). CanEnd z goes_on k (sign_of line ∷ [])) (sym top)
     (subst (λ (z : Sign). CanEnd (name ∷ outer) goes_on k (z ∷ [])) (sym (ap sign_of is ∙ closing-sign name n)) c)
 can-follow names goes_on k line right (is_field tag first is t f) =
-    let c = step-can (begins tag first) names goes_on k names true (field_step tag first names goes_on k) [] (always_ends names right true (k + 1)) in
+    let c = step-can (starts tag first) names goes_on k names true (field_step tag first names goes_on k) [] (always_ends names right true (k + 1)) in
     subst (λ (z : Sign). CanEnd names goes_on k (z ∷ [])) (sym (ap sign_of is ∙ field-sign tag first t f)) c
 can-follow names goes_on k line right (is_end is top) =
     let c : CanEnd [] goes_on k (ends ∷ []) = record { more = []; rest = nothing; reads = refl } in
@@ -250,7 +251,7 @@ follows (top ∷ names) goes_on k line (closes name) more rest s e = elim (chose
   | inl (same, r) ↦ inl (is_closing name names (s.is (λ h. let g = h in cc)) s.right (ap (λ z. z ∷ names) (same_bytes top name same)))
   | inr (_, r) ↦ absurd (let h = r in cc)
 ]
-follows names goes_on k line (begins tag first) more rest s e = inl (is_field tag first (s.is (λ h. let g = h in cc)) s.right.0 s.right.1)
+follows names goes_on k line (starts tag first) more rest s e = inl (is_field tag first (s.is (λ h. let g = h in cc)) s.right.0 s.right.1)
 follows names goes_on k line (further text) more rest s e = inr (subst (λ (z : List ℕ). IsTrue (is_further z)) (sym (s.is (λ h. let g = h in cc))) s.right)
 follows [] goes_on k line ends more rest s e = inl (is_end (s.is (λ h. let g = h in cc)) refl)
 follows (top ∷ names) goes_on k line ends more rest s e = absurd (let h = e in cc)

@@ -11,7 +11,8 @@ use Rattle.desk_text.specs.Lines.{lines_of, value_lines, ended, written}
 use Rattle.desk_text.specs.BlockGrammar.{is_printable, is_digit, is_capital, is_any_tag, is_name, is_tag, is_first, is_further, opening, closing, field_line}
 use Rattle.desk_text.specs.Fields.{Found, IsBlock}
 use Rattle.desk_text.specs.Written.{Part, open_part, field_part, close_part, tagged, lines_of_part, are_lines, AreParts, fields_of_parts, fields_written, block_text, finished}
-use Rattle.desk_text.specs.Reading.{sign_of, with_field, read_from, read_lines}
+use Rattle.desk_text.specs.Reading.{with_field, read_from, read_lines}
+use Rattle.desk_text.specs.Signs.{sign_of}
 use Rattle.desk_text.proofs.LinesLemmas.{lines_of-line, strip_return-at}
 use Rattle.desk_text.proofs.SignLemmas.{both, opening-sign, closing-sign, field-sign}
 use Rattle.desk_text.proofs.ReadingLemmas.{same_name, with_values, read-further, further-signs, block-read}

@@ -11,7 +11,8 @@ use Rattle.desk_text.specs.declared.faults.TextFault.{TextFault}
 use Rattle.desk_text.specs.declared.faults.TextFault.TheVariants.{NotBlock, BadNesting}
 use Rattle.desk_text.specs.BlockGrammar.{Items, none, field, sequence, lines_of_items, AreItems, IsTree, is_name, is_tag, is_first, is_further, opening, closing, field_line}
 use Rattle.desk_text.specs.Fields.{Found, fields_from, fields_of}
-use Rattle.desk_text.specs.Reading.{Sign, opens, closes, begins, further, ends, strange, sign_of, Rest, nothing, with_field, with_value, read_after, read_from, read_lines, after_found}
+use Rattle.desk_text.specs.Reading.{Rest, nothing, with_field, with_value, read_after, read_from, read_lines, after_found}
+use Rattle.desk_text.specs.Signs.{Sign, opens, closes, starts, further, ends, strange, sign_of}
 use Rattle.desk_text.proofs.SignLemmas.{both, same_bytes, line_of, IsRightSign, sign-sound, opening-sign, closing-sign, field-sign, further-sign}
 use Rattle.desk_text.proofs.StepLemmas.{read_from-values}
 
@@ -26,7 +27,7 @@ same_name name = nat_list_eq_equiv.refl name
 -- the signs of items
 abbrev pub signs_of : Items → List Sign
 signs_of none = []
-signs_of (field tag first more rest) = begins tag first ∷ (map further more ++ signs_of rest)
+signs_of (field tag first more rest) = starts tag first ∷ (map further more ++ signs_of rest)
 signs_of (sequence name inner rest) = opens name ∷ (signs_of inner ++ closes name ∷ signs_of rest)
 
 abbrev pub AreRight : List Sign → Type 0
@@ -45,11 +46,11 @@ Tail (name ∷ within) k signs found =
 
 Tail-field : (within : List (List ℕ)) (k : ℕ) (tag first : List ℕ) (more : List (List ℕ)) (signs : List Sign) (found : List Found) →
     IsTrue (is_tag tag) → IsTrue (is_first first) → IsTrue (list_all is_further more) → Tail within (k + 1 + length more) signs found
-    → Tail within k (begins tag first ∷ (map further more ++ signs)) (record { path = reverse within; tag = tag; values = first ∷ more; line = k } ∷ found)
+    → Tail within k (starts tag first ∷ (map further more ++ signs)) (record { path = reverse within; tag = tag; values = first ∷ more; line = k } ∷ found)
 Tail-field [] k tag first more signs found t f m (items, n, es, right, ef) = (
   field tag first more items,
   n,
-  ap (λ z. begins tag first ∷ (map further more ++ z)) es ∙ ap (λ z. begins tag first ∷ z) (sym (append_assoc (map further more) (signs_of items) (ends ∷ replicate n (further [])))),
+  ap (λ z. starts tag first ∷ (map further more ++ z)) es ∙ ap (λ z. starts tag first ∷ z) (sym (append_assoc (map further more) (signs_of items) (ends ∷ replicate n (further [])))),
   (t, f, m, right),
   ap (λ z. record { path = reverse []; tag = tag; values = first ∷ more; line = k } ∷ z) ef,
 )
@@ -58,7 +59,7 @@ Tail-field (name ∷ within) k tag first more signs found t f m (items, rest, ot
   rest,
   others,
   j,
-  ap (λ z. begins tag first ∷ (map further more ++ z)) es ∙ ap (λ z. begins tag first ∷ z) (sym (append_assoc (map further more) (signs_of items) (closes name ∷ rest))),
+  ap (λ z. starts tag first ∷ (map further more ++ z)) es ∙ ap (λ z. starts tag first ∷ z) (sym (append_assoc (map further more) (signs_of items) (closes name ∷ rest))),
   (t, f, m, right),
   ap (λ z. record { path = reverse (name ∷ within); tag = tag; values = first ∷ more; line = k } ∷ z) ef,
   omega (arith, length-append more (lines_of_items items)),
@@ -128,7 +129,7 @@ after-ok (further [] ∷ signs) k rest e =
 after-ok (further (c ∷ line) ∷ signs) k rest e = absurd (let h = e in cc)
 after-ok (opens name ∷ signs) k rest e = absurd (let h = e in cc)
 after-ok (closes name ∷ signs) k rest e = absurd (let h = e in cc)
-after-ok (begins tag first ∷ signs) k rest e = absurd (let h = e in cc)
+after-ok (starts tag first ∷ signs) k rest e = absurd (let h = e in cc)
 after-ok (ends ∷ signs) k rest e = absurd (let h = e in cc)
 after-ok (strange ∷ signs) k rest e = absurd (let h = e in cc)
 
@@ -175,15 +176,15 @@ reading-ok (closes name ∷ signs) (top ∷ within) goes_on k rest right e = eli
       subst P (same_bytes top name same) (Tail-close within k top signs rest.fields (fresh_tail within (k + 1) signs rest.values rest.fields b)))
   | inr (_, r) ↦ absurd (let h = r in cc)
 ]
-reading-ok (begins tag first ∷ signs) within goes_on k rest right e =
+reading-ok (starts tag first ∷ signs) within goes_on k rest right e =
     let x : Found = record { path = reverse within; tag = tag; values = first ∷ []; line = k } in
     let f = with_field-ok x (read_from signs within true (k + 1)) rest e in
     let b = reading-ok signs within true (k + 1) f.before right.1 f.is in
     let P : ℕ → Type 0 = λ z. Tail within z b.body f.before.fields in
     let tail = Tail-field within k tag first f.before.values b.body f.before.fields right.0.0 right.0.1 b.right (subst P b.at_is b.tail) in
-    let Q : List Found → Type 0 = λ z. Tail within k (begins tag first ∷ (map further f.before.values ++ b.body)) z in
-    let R : List Sign → Type 0 = λ z. Tail within k (begins tag first ∷ z) rest.fields in
-    with_none within goes_on k (begins tag first ∷ signs) rest.values rest.fields f.values_are (subst R (sym b.split) (subst Q (sym f.fields_are) tail))
+    let Q : List Found → Type 0 = λ z. Tail within k (starts tag first ∷ (map further f.before.values ++ b.body)) z in
+    let R : List Sign → Type 0 = λ z. Tail within k (starts tag first ∷ z) rest.fields in
+    with_none within goes_on k (starts tag first ∷ signs) rest.values rest.fields f.values_are (subst R (sym b.split) (subst Q (sym f.fields_are) tail))
 reading-ok (further line ∷ signs) within true k rest right e =
     let f = with_value-ok line (read_from signs within true (k + 1)) rest e in
     let b = reading-ok signs within true (k + 1) f.before right.1 f.is in
@@ -253,7 +254,7 @@ read-stop (ends ∷ signs) at_end [] goes_on k = read_from-values (ends ∷ sign
 read-stop (ends ∷ signs) at_end (top ∷ within) goes_on k = refl
 read-stop [] stop within goes_on k = elim stop [ ]
 read-stop (opens name ∷ signs) stop within goes_on k = elim stop [ ]
-read-stop (begins tag first ∷ signs) stop within goes_on k = elim stop [ ]
+read-stop (starts tag first ∷ signs) stop within goes_on k = elim stop [ ]
 read-stop (further line ∷ signs) stop within goes_on k = elim stop [ ]
 read-stop (strange ∷ signs) stop within goes_on k = elim stop [ ]
 
@@ -304,9 +305,9 @@ pub items-signs : (items : Items) (depth : ℕ) → AreItems depth items → map
 items-signs none depth right = refl
 items-signs (field tag first more items) depth right =
     ap (λ z. z ∷ map sign_of (more ++ lines_of_items items)) (field-sign tag first right.0 right.1)
-    ∙ ap (λ z. begins tag first ∷ z) (map-append sign_of more (lines_of_items items))
-    ∙ ap (λ z. begins tag first ∷ (z ++ map sign_of (lines_of_items items))) (further-signs more right.2)
-    ∙ ap (λ z. begins tag first ∷ (map further more ++ z)) (items-signs items depth right.3)
+    ∙ ap (λ z. starts tag first ∷ z) (map-append sign_of more (lines_of_items items))
+    ∙ ap (λ z. starts tag first ∷ (z ++ map sign_of (lines_of_items items))) (further-signs more right.2)
+    ∙ ap (λ z. starts tag first ∷ (map further more ++ z)) (items-signs items depth right.3)
 items-signs (sequence name inner items) depth right =
     ap (λ z. z ∷ map sign_of (lines_of_items inner ++ closing name ∷ lines_of_items items)) (opening-sign name right.1)
     ∙ ap (λ z. opens name ∷ z) (map-append sign_of (lines_of_items inner) (closing name ∷ lines_of_items items))

@@ -7,7 +7,7 @@ use Rattle.std.specs.Prelude.{IsTrue, nat_le}
 use Rattle.std.specs.List.{list_all}
 use Rattle.std.specs.Str.{bytes_eq}
 use Rattle.desk_text.specs.BlockGrammar.{is_printable, is_digit, is_capital, is_any_tag, is_name, is_tag, is_first, is_further, opening, closing, field_line}
-use Rattle.desk_text.specs.Reading.{Sign, opens, closes, begins, further, ends, strange, sign_of, sign_of_tag, sign_of_split, split_tag}
+use Rattle.desk_text.specs.Signs.{Sign, opens, closes, starts, further, ends, strange, sign_of, sign_of_tag, sign_of_split, split_tag}
 
 pub both : (a b : Bool) → (a && b) ≡ true → (a ≡ true) × (b ≡ true)
 both true b e = (refl, e)
@@ -24,7 +24,7 @@ same_bytes a b e = (bytes_eq-Decides a b).0 e
 abbrev pub line_of : Sign → List ℕ
 line_of (opens name) = opening name
 line_of (closes name) = closing name
-line_of (begins tag first) = field_line tag first
+line_of (starts tag first) = field_line tag first
 line_of (further line) = line
 line_of ends = codes "-}"
 line_of strange = []
@@ -33,7 +33,7 @@ line_of strange = []
 abbrev pub IsRightSign : Sign → Type 0
 IsRightSign (opens name) = IsTrue (is_name name)
 IsRightSign (closes name) = IsTrue (is_name name)
-IsRightSign (begins tag first) = IsTrue (is_tag tag) × IsTrue (is_first first)
+IsRightSign (starts tag first) = IsTrue (is_tag tag) × IsTrue (is_first first)
 IsRightSign (further line) = IsTrue (is_further line)
 IsRightSign ends = Unit {0}
 IsRightSign strange = Unit {0}
@@ -73,11 +73,11 @@ split-sound (a ∷ b ∷ c ∷ d ∷ rest) =
 tag-signed : (tag value : List ℕ) → IsSigned (field_line tag value) (sign_of_tag tag value)
 tag-signed tag value =
     let P : Sign → Type 0 = λ s. IsSigned (field_line tag value) s in
-    when_sign P (bytes_eq tag (codes "16R")) (cond (is_name value) (opens value) strange) (cond (bytes_eq tag (codes "16S")) (cond (is_name value) (closes value) strange) (cond (is_tag tag && is_first value) (begins tag value) strange))
+    when_sign P (bytes_eq tag (codes "16R")) (cond (is_name value) (opens value) strange) (cond (bytes_eq tag (codes "16S")) (cond (is_name value) (closes value) strange) (cond (is_tag tag && is_first value) (starts tag value) strange))
     (λ e. when_sign P (is_name value) (opens value) strange (λ n. record { is = λ _. ap (λ z. field_line z value) (same_bytes tag (codes "16R") e); right = n }) (λ _. strange-signed (field_line tag value)))
-    (λ _. when_sign P (bytes_eq tag (codes "16S")) (cond (is_name value) (closes value) strange) (cond (is_tag tag && is_first value) (begins tag value) strange)
+    (λ _. when_sign P (bytes_eq tag (codes "16S")) (cond (is_name value) (closes value) strange) (cond (is_tag tag && is_first value) (starts tag value) strange)
     (λ e. when_sign P (is_name value) (closes value) strange (λ n. record { is = λ _. ap (λ z. field_line z value) (same_bytes tag (codes "16S") e); right = n }) (λ _. strange-signed (field_line tag value)))
-    (λ _. when_sign P (is_tag tag && is_first value) (begins tag value) strange (λ e. record { is = λ _. refl; right = both (is_tag tag) (is_first value) e }) (λ _. strange-signed (field_line tag value))))
+    (λ _. when_sign P (is_tag tag && is_first value) (starts tag value) strange (λ e. record { is = λ _. refl; right = both (is_tag tag) (is_first value) e }) (λ _. strange-signed (field_line tag value))))
 
 split-signed : (line : List ℕ) (parts : Option (List ℕ × List ℕ)) → IsSplit line parts → IsSigned (58 ∷ line) (sign_of_split parts)
 split-signed line None e = strange-signed (58 ∷ line)
@@ -119,17 +119,17 @@ tag-split (a ∷ b ∷ []) first e = two-split a b first
 tag-split (a ∷ b ∷ c ∷ []) first e = three-split a b c first (both (is_digit a && is_digit b) (is_capital c) e).1
 tag-split (a ∷ b ∷ c ∷ d ∷ more) first e = absurd (let h = e in cc)
 
-pub field-sign : (tag first : List ℕ) → IsTrue (is_tag tag) → IsTrue (is_first first) → sign_of (field_line tag first) ≡ begins tag first
+pub field-sign : (tag first : List ℕ) → IsTrue (is_tag tag) → IsTrue (is_first first) → sign_of (field_line tag first) ≡ starts tag first
 field-sign tag first t f =
     let parts = both (is_any_tag tag && not (bytes_eq tag (codes "16R"))) (not (bytes_eq tag (codes "16S"))) t in
     let front = both (is_any_tag tag) (not (bytes_eq tag (codes "16R"))) parts.0 in
     let r : bytes_eq tag (codes "16R") ≡ false = not_so (bytes_eq tag (codes "16R")) front.1 in
     let s : bytes_eq tag (codes "16S") ≡ false = not_so (bytes_eq tag (codes "16S")) parts.1 in
     ap sign_of_split (tag-split tag first front.0)
-    ∙ ap (λ b. cond b (cond (is_name first) (opens first) strange) (cond (bytes_eq tag (codes "16S")) (cond (is_name first) (closes first) strange) (cond (is_tag tag && is_first first) (begins tag first) strange))) r
-    ∙ ap (λ b. cond b (cond (is_name first) (closes first) strange) (cond (is_tag tag && is_first first) (begins tag first) strange)) s
-    ∙ ap (λ b. cond (b && is_first first) (begins tag first) strange) t
-    ∙ ap (λ b. cond b (begins tag first) strange) f
+    ∙ ap (λ b. cond b (cond (is_name first) (opens first) strange) (cond (bytes_eq tag (codes "16S")) (cond (is_name first) (closes first) strange) (cond (is_tag tag && is_first first) (starts tag first) strange))) r
+    ∙ ap (λ b. cond b (cond (is_name first) (closes first) strange) (cond (is_tag tag && is_first first) (starts tag first) strange)) s
+    ∙ ap (λ b. cond (b && is_first first) (starts tag first) strange) t
+    ∙ ap (λ b. cond b (starts tag first) strange) f
 
 further-some : (c : ℕ) (line : List ℕ) → IsTrue (is_further (c ∷ line)) → sign_of (c ∷ line) ≡ further (c ∷ line)
 further-some c line e =

@@ -9,7 +9,8 @@ use Rattle.desk_text.specs.declared.faults.TextFault.TheVariants.{BadLine, BadNe
 use Rattle.desk_text.specs.Lines.{lines_of}
 use Rattle.desk_text.specs.BlockGrammar.{is_name, is_tag, is_first, is_further}
 use Rattle.desk_text.specs.Fields.{Found}
-use Rattle.desk_text.specs.Reading.{Sign, opens, closes, begins, further, ends, strange, sign_of, sign_of_tag, sign_of_split, split_tag, Rest, nothing, with_field, with_value, read_after, read_from, extend_last, after_found}
+use Rattle.desk_text.specs.Reading.{Rest, nothing, with_field, with_value, read_after, read_from, extend_last, after_found}
+use Rattle.desk_text.specs.Signs.{Sign, opens, closes, starts, further, ends, strange, sign_of, sign_of_tag, sign_of_split, split_tag}
 use Rattle.desk_text.specs.Seen.{found_of}
 
 -- the last field's value
@@ -62,7 +63,7 @@ read_after-values (further [] ∷ signs) k = read_after-values signs (k + 1)
 read_after-values (further (c ∷ line) ∷ signs) k = refl
 read_after-values (opens name ∷ signs) k = refl
 read_after-values (closes name ∷ signs) k = refl
-read_after-values (begins tag first ∷ signs) k = refl
+read_after-values (starts tag first ∷ signs) k = refl
 read_after-values (ends ∷ signs) k = refl
 read_after-values (strange ∷ signs) k = refl
 
@@ -82,7 +83,7 @@ read_from-values (opens name ∷ signs) within k =
 read_from-values (closes name ∷ signs) [] k = refl
 read_from-values (closes name ∷ signs) (top ∷ within) k =
     either (λ r. r ≡ after_found [] r) (bytes_eq top name) (read_from signs within false (k + 1)) (Err (BadNesting k)) (read_from-values signs within (k + 1)) refl
-read_from-values (begins tag first ∷ signs) within k = with_field-values (record { path = reverse within; tag = tag; values = first ∷ []; line = k }) (read_from signs within true (k + 1))
+read_from-values (starts tag first ∷ signs) within k = with_field-values (record { path = reverse within; tag = tag; values = first ∷ []; line = k }) (read_from signs within true (k + 1))
 read_from-values (further line ∷ signs) within k = refl
 read_from-values (ends ∷ signs) [] k = read_after-values signs (k + 1)
 read_from-values (ends ∷ signs) (top ∷ within) k = refl
@@ -102,11 +103,11 @@ strange-bad_after = record { at = λ signs k. refl }
 
 tag-bad_after : (tag value : List ℕ) → IsBadAfter (sign_of_tag tag value)
 tag-bad_after tag value =
-    let plain : IsBadAfter (cond (is_tag tag && is_first value) (begins tag value) strange) = either_sign IsBadAfter (is_tag tag && is_first value) (begins tag value) strange (record { at = λ signs k. refl }) strange-bad_after in
+    let plain : IsBadAfter (cond (is_tag tag && is_first value) (starts tag value) strange) = either_sign IsBadAfter (is_tag tag && is_first value) (starts tag value) strange (record { at = λ signs k. refl }) strange-bad_after in
     let close : IsBadAfter (cond (is_name value) (closes value) strange) = either_sign IsBadAfter (is_name value) (closes value) strange (record { at = λ signs k. refl }) strange-bad_after in
     let start : IsBadAfter (cond (is_name value) (opens value) strange) = either_sign IsBadAfter (is_name value) (opens value) strange (record { at = λ signs k. refl }) strange-bad_after in
-    let others = either_sign IsBadAfter (bytes_eq tag (codes "16S")) (cond (is_name value) (closes value) strange) (cond (is_tag tag && is_first value) (begins tag value) strange) close plain in
-    either_sign IsBadAfter (bytes_eq tag (codes "16R")) (cond (is_name value) (opens value) strange) (cond (bytes_eq tag (codes "16S")) (cond (is_name value) (closes value) strange) (cond (is_tag tag && is_first value) (begins tag value) strange)) start others
+    let others = either_sign IsBadAfter (bytes_eq tag (codes "16S")) (cond (is_name value) (closes value) strange) (cond (is_tag tag && is_first value) (starts tag value) strange) close plain in
+    either_sign IsBadAfter (bytes_eq tag (codes "16R")) (cond (is_name value) (opens value) strange) (cond (bytes_eq tag (codes "16S")) (cond (is_name value) (closes value) strange) (cond (is_tag tag && is_first value) (starts tag value) strange)) start others
 
 split-bad_after : (parts : Option (List ℕ × List ℕ)) → IsBadAfter (sign_of_split parts)
 split-bad_after None = strange-bad_after

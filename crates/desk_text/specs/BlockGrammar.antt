@@ -20,11 +20,9 @@ is_name name = nat_lt 0 (length name) && nat_le (length name) LONGEST_NAME && li
 
 -- two digits, and at most one letter A to Z
 abbrev pub is_any_tag : List ℕ → Bool
-is_any_tag [] = false
-is_any_tag (a ∷ []) = false
 is_any_tag (a ∷ b ∷ []) = is_digit a && is_digit b
 is_any_tag (a ∷ b ∷ c ∷ []) = is_digit a && is_digit b && is_capital c
-is_any_tag (a ∷ b ∷ c ∷ d ∷ more) = false
+is_any_tag tag = false
 
 -- a field's tag: 16R opens a sequence and 16S closes one, so they are no fields'
 abbrev pub is_tag : List ℕ → Bool

@@ -3,7 +3,9 @@ pub mod BlockGrammar
 pub mod Fields
 pub mod BlockFault
 pub mod Written
+pub mod Signs
 pub mod Reading
 pub mod Seen
 pub mod Steps
 pub mod PartsSeen
+pub mod Writing

@@ -1,55 +1,18 @@
--- Reading a block line by line, with a stack of open names.
-use Rattle.std.specs.Prelude.{ℕ, ◌+◌, nat_lt, Bool, true, false, ◌&&◌, ◌==◌, List, [], ◌∷◌, ◌++◌, length, map, reverse, codes, Option, Some, None, Result, Ok, Err, if◌then◌else◌}
+-- Reading a block line by line, with a stack of open names. Only proofs and private contracts speak of it.
+use Rattle.std.specs.Prelude.{ℕ, ◌+◌, nat_lt, Bool, true, false, ◌==◌, List, [], ◌∷◌, ◌++◌, length, map, reverse, codes, Result, Ok, Err, if◌then◌else◌}
 use Rattle.std.specs.Str.{byte, bytes_eq}
 use Rattle.desk_text.specs.declared.limits.TheConstants.{DEEPEST, LONGEST_TEXT}
 use Rattle.desk_text.specs.declared.faults.TextFault.{TextFault}
 use Rattle.desk_text.specs.declared.faults.TextFault.TheVariants.{NotBlock, BadLine, BadNesting, TooLong}
 use Rattle.desk_text.specs.Lines.{lines_of}
-use Rattle.desk_text.specs.BlockGrammar.{is_name, is_tag, is_first, is_further}
 use Rattle.desk_text.specs.Fields.{Found}
+use Rattle.desk_text.specs.Signs.{Sign, opens, closes, starts, further, ends, strange, sign_of}
 
 -- a line without the CR at its end, if it has one
 abbrev pub strip_return : List ℕ → List ℕ
 strip_return [] = []
 strip_return (c ∷ []) = if c == byte "\r" then [] else c ∷ []
 strip_return (c ∷ d ∷ line) = c ∷ strip_return (d ∷ line)
-
--- what a line after the first can be, by itself
-pub data Sign : Type 0 where
-  opens : (name : List ℕ) → Sign
-  closes : (name : List ℕ) → Sign
-  begins : (tag first : List ℕ) → Sign
-  further : (line : List ℕ) → Sign
-  ends : Sign
-  strange : Sign
-
--- a line `:tag:value`, by its tag
-abbrev pub sign_of_tag : List ℕ → List ℕ → Sign
-sign_of_tag tag value =
-    if bytes_eq tag (codes "16R") then (if is_name value then opens value else strange)
-    else if bytes_eq tag (codes "16S") then (if is_name value then closes value else strange)
-    else if is_tag tag && is_first value then begins tag value
-    else strange
-
--- the tag and the value behind the first colon of a line, where a tag of two or three characters stands there
-abbrev pub split_tag : List ℕ → Option (List ℕ × List ℕ)
-split_tag (a ∷ b ∷ c ∷ d ∷ rest) = if c == byte ":" then Some (a ∷ b ∷ [], d ∷ rest) else if d == byte ":" then Some (a ∷ b ∷ c ∷ [], rest) else None
-split_tag (a ∷ b ∷ c ∷ []) = if c == byte ":" then Some (a ∷ b ∷ [], []) else None
-split_tag (a ∷ b ∷ []) = None
-split_tag (a ∷ []) = None
-split_tag [] = None
-
-abbrev pub sign_of_split : Option (List ℕ × List ℕ) → Sign
-sign_of_split None = strange
-sign_of_split (Some (tag, value)) = sign_of_tag tag value
-
-abbrev pub sign_of : List ℕ → Sign
-sign_of [] = further []
-sign_of (c ∷ line) =
-    if c == byte ":" then sign_of_split (split_tag line)
-    else if bytes_eq (c ∷ line) (codes "-}") then ends
-    else if is_further (c ∷ line) then further (c ∷ line)
-    else strange
 
 -- what reading from a line on gives: the lines that go on the value before it, and the fields after these
 pub record Rest : Type 0 where
@@ -72,12 +35,7 @@ with_value line (Err fault) = Err fault
 abbrev pub read_after : List Sign → ℕ → Result Rest TextFault
 read_after [] k = Ok nothing
 read_after (further [] ∷ signs) k = read_after signs (k + 1)
-read_after (further (c ∷ line) ∷ signs) k = Err (BadLine k)
-read_after (opens name ∷ signs) k = Err (BadLine k)
-read_after (closes name ∷ signs) k = Err (BadLine k)
-read_after (begins tag first ∷ signs) k = Err (BadLine k)
-read_after (ends ∷ signs) k = Err (BadLine k)
-read_after (strange ∷ signs) k = Err (BadLine k)
+read_after (sign ∷ signs) k = Err (BadLine k)
 
 -- Before `-}`, from line k on, within open names, the innermost first; a value may go on or not.
 abbrev pub read_from : List Sign → List (List ℕ) → Bool → ℕ → Result Rest TextFault
@@ -85,7 +43,7 @@ read_from [] within goes_on k = Err NotBlock
 read_from (opens name ∷ signs) within goes_on k = if nat_lt (length within) DEEPEST then read_from signs (name ∷ within) false (k + 1) else Err (BadNesting k)
 read_from (closes name ∷ signs) [] goes_on k = Err (BadNesting k)
 read_from (closes name ∷ signs) (top ∷ within) goes_on k = if bytes_eq top name then read_from signs within false (k + 1) else Err (BadNesting k)
-read_from (begins tag first ∷ signs) within goes_on k =
+read_from (starts tag first ∷ signs) within goes_on k =
     with_field (record { path = reverse within; tag = tag; values = first ∷ []; line = k }) (read_from signs within true (k + 1))
 read_from (further line ∷ signs) within true k = with_value line (read_from signs within true (k + 1))
 read_from (further line ∷ signs) within false k = Err (BadLine k)

@@ -7,11 +7,11 @@ use Rattle.desk_text.specs.declared.lines.Line.TheVariants.{Opening, Closing, St
 use Rattle.desk_text.specs.declared.fields.Field.{Field}
 use Rattle.desk_text.specs.declared.fields.Block.{Block}
 use Rattle.desk_text.specs.declared.faults.TextFault.{TextFault}
-use Rattle.desk_text.specs.declared.faults.TextFault.TheVariants.{NotBlock, BadLine, BadNesting, TooLong, Memory}
+use Rattle.desk_text.specs.declared.faults.TextFault.TheVariants.{Memory}
 use Rattle.desk_text.specs.Fields.{Found, IsBlock}
 use Rattle.desk_text.specs.Lines.{lines_of}
 use Rattle.desk_text.specs.BlockFault.{IsFault}
-use Rattle.desk_text.specs.Reading.{Sign, opens, closes, begins, further, ends, strange}
+use Rattle.desk_text.specs.Signs.{Sign, opens, closes, starts, further, ends, strange}
 
 abbrev pub texts : List (Bor (List ℕ)) → List (List ℕ)
 texts lines = map (λ line. line.now) lines
@@ -19,7 +19,7 @@ texts lines = map (λ line. line.now) lines
 abbrev pub sign_seen : Line → Sign
 sign_seen (Opening name) = opens name.now
 sign_seen (Closing name) = closes name.now
-sign_seen (Start tag first) = begins tag.now first.now
+sign_seen (Start tag first) = starts tag.now first.now
 sign_seen (Further line) = further line.now
 sign_seen End = ends
 sign_seen Strange = strange
@@ -41,8 +41,5 @@ pub record MayBeBlock (text : List ℕ) : Type 0 where
 -- What reading a text gives: the fields of a block that is not too long, or the one fault. Memory is wanted only of a text that may be one.
 abbrev pub Reads : List ℕ → Result Block TextFault → Type 0
 Reads text (Ok block) = (length text ≤ LONGEST_TEXT) × IsBlock text (found_in block)
-Reads text (Err NotBlock) = IsFault text NotBlock
-Reads text (Err (BadLine k)) = IsFault text (BadLine k)
-Reads text (Err (BadNesting k)) = IsFault text (BadNesting k)
-Reads text (Err TooLong) = IsFault text TooLong
 Reads text (Err Memory) = MayBeBlock text
+Reads text (Err fault) = IsFault text fault

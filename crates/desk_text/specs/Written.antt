@@ -1,5 +1,5 @@
 -- What a writer writes, part by part.
-use Rattle.std.specs.Prelude.{◌≡◌, ℕ, ◌+◌, ◌<◌, Bool, false, ◌&&◌, List, [], ◌∷◌, ◌++◌, length, reverse, take, drop, codes, IsTrue}
+use Rattle.std.specs.Prelude.{◌≡◌, ℕ, ◌+◌, ◌<◌, Bool, false, ◌&&◌, List, [], ◌∷◌, ◌++◌, length, reverse, drop, codes, IsTrue}
 use Rattle.std.specs.List.{flat_map, list_all}
 use Rattle.desk_text.specs.declared.limits.TheConstants.{DEEPEST}
 use Rattle.desk_text.specs.Lines.{value_lines, written}
@@ -83,7 +83,3 @@ after part draft = record { text = draft.text ++ written (lines_of_part part); n
 abbrev pub innermost : List (List ℕ) → List ℕ
 innermost [] = []
 innermost (name ∷ names) = name
-
--- a buffer with the first line in front, where it holds anything
-pub record IsStarted (buffer : List ℕ) : Type 0 where
-  pub start : 0 < length buffer → take 5 buffer ≡ first_line

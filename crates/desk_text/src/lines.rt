@@ -2,7 +2,8 @@
 ghost use Rattle.std.specs.Prelude.{◌≡◌, ◌∷◌, ◌<◌, [], length, IfSome, IfNone};
 ghost use Rattle.std.specs.Option.{option_map};
 ghost use Rattle.desk_text.specs.Lines.{lines_of};
-ghost use Rattle.desk_text.specs.Reading.{sign_of, sign_of_tag, split_tag as tag_split, strip_return};
+ghost use Rattle.desk_text.specs.Reading.{strip_return};
+ghost use Rattle.desk_text.specs.Signs.{sign_of, sign_of_tag, split_tag as tag_split};
 ghost use Rattle.desk_text.specs.Seen.{sign_seen};
 
 use crate::spelling::{is_further_line, is_name, is_printable_line, is_tag, split_feed};

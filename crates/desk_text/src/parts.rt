@@ -2,7 +2,8 @@
 ghost use Rattle.std.specs.Prelude.{◌≡◌, [], map, OnOk, OnErr, IfOk};
 ghost use Rattle.desk_text.specs.Fields.{IsBlock};
 ghost use Rattle.desk_text.specs.Written.{AreParts, after, block_text, fields_written};
-ghost use Rattle.desk_text.specs.PartsSeen.{part_seen, CanFollow};
+ghost use Rattle.desk_text.specs.PartsSeen.{part_seen};
+ghost use Rattle.desk_text.specs.Writing.{CanFollow};
 
 use crate::writing::BlockWriter;
 use std::alloc::{AllocError, Global};

@@ -1,9 +1,10 @@
 //! Reading a block.
 ghost use Rattle.std.specs.Prelude.{◌≡◌, ◌+◌, ◌≤◌, ◌<◌, ◌^◌, [], ◌∷◌, OnOk, IsErrOf, false, length, map};
 ghost use Rattle.desk_text.specs.Lines.{lines_of};
-ghost use Rattle.desk_text.specs.Reading.{sign_of, read_from, read_text, extend_last};
+ghost use Rattle.desk_text.specs.Reading.{read_from, read_text, extend_last};
+ghost use Rattle.desk_text.specs.Signs.{sign_of};
 ghost use Rattle.desk_text.specs.Seen.{Reads, MayBeBlock, found_of, sign_seen};
-ghost use Rattle.desk_text.specs.Steps.{Takes, After, Gives};
+ghost use Rattle.desk_text.specs.Steps.{Takes, After, Returns};
 
 use crate::faults::TextFault;
 use crate::fields::{Block, Field};
@@ -104,7 +105,7 @@ fn only_line_ends(text: &[u8], number: usize) -> Result<(), TextFault>
 /// Reads the lines after the first.
 fn read_items<'a>(alloc: Global, text: &'a [u8]) -> Result<Block<'a>, TextFault>
     requires { length text.now ≤ LONGEST_TEXT }
-    ensures { Gives result (read_from (map sign_of (lines_of text.now)) [] false 2) }
+    ensures { Returns result (read_from (map sign_of (lines_of text.now)) [] false 2) }
 {
     let mut reader = Reader {
         names: Vec::new(alloc),
@@ -129,7 +130,7 @@ fn read_items<'a>(alloc: Global, text: &'a [u8]) -> Result<Block<'a>, TextFault>
 
 /// Reads line by line.
 fn scan<'a>(alloc: Global, text: &'a [u8]) -> Result<Block<'a>, TextFault>
-    ensures gives { Gives result (read_text text.now) }
+    ensures gives { Returns result (read_text text.now) }
     ensures memory { IsErrOf result TextFault.Memory → MayBeBlock text.now }
 {
     if text.len() > LONGEST_TEXT {

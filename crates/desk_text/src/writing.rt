@@ -4,7 +4,8 @@ ghost use Rattle.std.specs.List.{flat_map};
 ghost use Rattle.desk_text.specs.Lines.{value_lines, written};
 ghost use Rattle.desk_text.specs.BlockGrammar.{is_name, is_tag};
 ghost use Rattle.desk_text.specs.Fields.{IsBlock};
-ghost use Rattle.desk_text.specs.Written.{Part, open_part, field_part, close_part, is_value, AreParts, lines_of_part, fields_written, fresh, after, innermost, finished, first_line, IsStarted};
+ghost use Rattle.desk_text.specs.Written.{Part, open_part, field_part, close_part, is_value, AreParts, lines_of_part, fields_written, fresh, after, innermost, finished, first_line};
+ghost use Rattle.desk_text.specs.Writing.{IsStarted};
 
 use crate::spelling::split_feed;
 use std::alloc::{AllocError, Global};
@@ -116,7 +117,8 @@ pub struct BlockWriter {
 
 impl Model for BlockWriter {
     ghost use Rattle.std.specs.Prelude.{drop, map, reverse};
-    ghost use Rattle.desk_text.specs.Written.{Draft, IsStarted};
+    ghost use Rattle.desk_text.specs.Written.{Draft};
+    ghost use Rattle.desk_text.specs.Writing.{IsStarted};
 
     ghost Value = { Draft };
 

@@ -3,10 +3,10 @@ use super::steps::Step;
 use desk_codes::Ccy;
 use desk_msg::Case;
 use desk_plain::{
-    Books, before, begins, cancellation_case, cash_credits, cash_debits, credits, debits, entry_at,
+    Books, before, cancellation_case, cash_credits, cash_debits, credits, debits, entry_at,
     is_cancelled, is_cancelled_pair, issued, lack_of, mate_of, named_by, paid_in, paid_out,
-    pairing_of, passes_of, redeemed, reply_to, sent_of, sent_reply, settled_count, settlement_of,
-    standing_of, state_of, status_reply, verdict_on, waiting_count,
+    pairing_of, pass_begins, passes_of, redeemed, reply_to, sent_of, sent_reply, settled_count,
+    settlement_of, standing_of, state_of, status_reply, verdict_on, waiting_count,
 };
 use desk_rules::{
     Entry, Lack, MOST_ENTRIES, Pair, Reply, Sent, Settled, Standing, State, Verdict, refused_reply,
@@ -146,7 +146,7 @@ impl Fact {
                 Ok(is_cancelled(following.books(front), number))
             }
             Fact::CancelledPair(pair) => Ok(is_cancelled_pair(books.history, pair)),
-            Fact::Begins { run, pass } => Ok(begins(books.history, books.settled, run, pass)),
+            Fact::Begins { run, pass } => Ok(pass_begins(books.history, books.settled, run, pass)),
         }
     }
 }

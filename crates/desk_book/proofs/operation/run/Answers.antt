@@ -1,6 +1,6 @@
 -- The members that were found are all, and one that does not read is in no command.
 use Rattle.std.proofs.Common.{codes, sym, ap, refl}
-use Rattle.desk_book.specs.Command.{text_at}
+use Rattle.desk_book.specs.Members.{text_at}
 use Rattle.desk_book.proofs.CommandLemmas.{run_is}
 use Rattle.desk_book.proofs.FormLemmas.{even_none}
 use Rattle.desk_book.proofs.operation.run.Goals as goal

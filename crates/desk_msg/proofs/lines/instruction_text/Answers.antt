@@ -1,5 +1,6 @@
 use Rattle.std.proofs.Common.{◌∙◌, ap, ◌++◌, codes}
-use Rattle.desk_msg.specs.FieldsText.{message_text, trade_lines, settlement_lines, cash_lines, fed}
+use Rattle.desk_msg.specs.FieldsText.{message_text, trade_lines, settlement_lines, cash_lines}
+use Rattle.desk_msg.specs.FedLines.{fed}
 use Rattle.desk_msg.proofs.LineLemmas.{fed_thrice}
 use Rattle.desk_msg.proofs.lines.instruction_text.Goals as goal
 

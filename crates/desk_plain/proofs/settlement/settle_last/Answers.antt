@@ -1,5 +1,5 @@
 use Rattle.std.proofs.Common.{◌≡◌, true, length, ap, sym, ◌∙◌}
-use Rattle.desk_rules.specs.Settlement.{begins}
+use Rattle.desk_rules.specs.Settlement.{pass_begins}
 use Rattle.desk_plain.proofs.PlainLemmas.{last_begins, between_first, between_next, pass_smaller, run_over, step_settles, step_leaves, step_smaller}
 use Rattle.desk_plain.proofs.settlement.settle_last.Goals as goal
 use Rattle.desk_plain.proofs.settlement.settle_last.Goals.{then-is_covered+in_ok-push, else-is_covered}
@@ -24,17 +24,17 @@ loop-pair-preserved c = elim c.if-is_covered.branch [
 
 pub loop-place-smaller : goal.loop-place-smaller
 loop-place-smaller c =
-    let begun : begins c.args.entries.now c.loop-place.settled.items (length c.args.entries.now) c.loop-place.pass ≡ true =
-    ap (λ z. begins c.args.entries.now z (length c.args.entries.now) c.loop-place.pass) (sym c.deref.ensures.value) ∙ (sym c.begins.ensures ∙ c.loop-place-test.true) in
+    let begun : pass_begins c.args.entries.now c.loop-place.settled.items (length c.args.entries.now) c.loop-place.pass ≡ true =
+    ap (λ z. pass_begins c.args.entries.now z (length c.args.entries.now) c.loop-place.pass) (sym c.deref.ensures.value) ∙ (sym c.pass_begins.ensures ∙ c.loop-place-test.true) in
     pass_smaller c.args.entries.now c.args.pairs.now c.loop-place.settled.items c.loop-pair.settled.items c.deref-in-loop-pair.result.now c.loop-place.pass c.loop-pair.place
     c.requires.rising c.loop-place.invariant begun c.loop-pair.invariant c.deref-in-loop-pair.ensures.value c.in_default.ensures
 
 pub loop-place-preserved : goal.loop-place-preserved
 loop-place-preserved c =
-    let begun : begins c.args.entries.now c.loop-place.settled.items (length c.args.entries.now) c.loop-place.pass ≡ true =
-    ap (λ z. begins c.args.entries.now z (length c.args.entries.now) c.loop-place.pass) (sym c.deref.ensures.value) ∙ (sym c.begins.ensures ∙ c.loop-place-test.true) in
+    let begun : pass_begins c.args.entries.now c.loop-place.settled.items (length c.args.entries.now) c.loop-place.pass ≡ true =
+    ap (λ z. pass_begins c.args.entries.now z (length c.args.entries.now) c.loop-place.pass) (sym c.deref.ensures.value) ∙ (sym c.pass_begins.ensures ∙ c.loop-place-test.true) in
     between_next c.args.entries.now c.args.pairs.now c.loop-place.settled.items c.loop-pair.settled.items c.deref-in-loop-pair.result.now c.loop-place.pass c.loop-pair.place
     c.requires.rising c.loop-place.invariant begun c.loop-pair.invariant c.deref-in-loop-pair.ensures.value c.in_default.ensures
 
 pub returns : goal.returns
-returns c = run_over c.args.entries.now c.args.pairs.now c.loop-place.settled.items c.deref.result.now c.loop-place.pass c.loop-place.invariant c.deref.ensures.value (sym c.begins.ensures ∙ c.loop-place-test.false)
+returns c = run_over c.args.entries.now c.args.pairs.now c.loop-place.settled.items c.deref.result.now c.loop-place.pass c.loop-place.invariant c.deref.ensures.value (sym c.pass_begins.ensures ∙ c.loop-place-test.false)

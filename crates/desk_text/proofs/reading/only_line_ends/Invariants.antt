@@ -1,6 +1,7 @@
 use Rattle.std.proofs.Common.{◌≡◌, ◌<◌, ◌+◌, ◌^◌, length, map}
 use Rattle.desk_text.specs.Lines.{lines_of}
-use Rattle.desk_text.specs.Reading.{sign_of, read_after}
+use Rattle.desk_text.specs.Reading.{read_after}
+use Rattle.desk_text.specs.Signs.{sign_of}
 use Rattle.desk_text.proofs.reading.only_line_ends.Given as goal
 
 abbrev pub invariant-loop-line : goal.invariant-loop-line

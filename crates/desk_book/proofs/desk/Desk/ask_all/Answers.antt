@@ -21,15 +21,15 @@ requests-preserved g c =
       blame = rw items (blamed v0 v1 v2 c.requests.answers.items c.ask-answer.result a.later i.blame a.blame);
       in_memory = λ is not_closed. a.closed ∙ a.in_memory is (i.in_memory is not_closed);
       later = later_on v0 v1 v2 i.later a.later;
-      run = λ books honest holds.
+      in_turn = λ books honest holds.
           run_steps v0 v1 v2 c.args.self.now.is_closed c.requests.self.is_closed c.ask-answer.new.self.is_closed books c.args.requests.now c.requests.request-index c.request-item.result
-          c.requests.answers.items c.push.new.self.items c.ask-answer.result c.requests-test.true c.request-item.is items i.later a.later a.closed a.stays (i.run books (a.later.honest honest) holds)
+          c.requests.answers.items c.push.new.self.items c.ask-answer.result c.requests-test.true c.request-item.is items i.later a.later a.closed a.stays (i.in_turn books (a.later.honest honest) holds)
           (λ b h. a.step b honest h);
     }
 
-pub returns-clause-run : goal.returns-clause-run
-returns-clause-run g c = λ books honest holds.
+pub returns-clause-in_turn : goal.returns-clause-in_turn
+returns-clause-in_turn g c = λ books honest holds.
     let v0 = g.R.Register.view c.args.self.now.register in
     let run = run_all v0 (g.R.Register.view c.requests.self.register) c.args.self.now.is_closed c.requests.self.is_closed books c.args.requests.now c.requests.request-index c.requests.answers.items
-    c.requests-test.false (c.requests.invariant.run books honest holds) in
+    c.requests-test.false (c.requests.invariant.in_turn books honest holds) in
     (run.0, run.1, run.2, act_once v0.room c.args.self.now.is_closed books run.0 (map asked_by c.args.requests.now) c.requests.answers.items c.requests.self.is_closed run.1)

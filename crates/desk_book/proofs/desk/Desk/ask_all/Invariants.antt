@@ -2,7 +2,7 @@ use Rattle.std.proofs.Common.{◌≡◌, ◌+◌, ◌≤◌, true, false, All, c
 use Rattle.std.specs.Prelude.{vec_len, vec_capacity}
 use Rattle.desk_rules.specs.Books.{Books}
 use Rattle.desk_register.specs.View.{IsLater}
-use Rattle.desk_book.specs.Answered.{Run, says_closed, says_storage}
+use Rattle.desk_book.specs.Answered.{AnsweredInTurn, says_closed, says_storage}
 use Rattle.desk_book.specs.Asked.{asked_by}
 use Rattle.desk_book.specs.Held.{Holds}
 use Rattle.desk_book.proofs.desk.Desk.ask_all.Given as goal
@@ -15,7 +15,7 @@ invariant-requests g l = record {
   blame : count_by says_storage l.answers.items + (g.R.Register.view l.fn.self.register).failures ≤ (g.R.Register.view l.self.register).failures;
   in_memory : g.R.Register.in_memory ≡ true → l.fn.self.is_closed ≡ false → l.self.is_closed ≡ false;
   later : IsLater (g.R.Register.view l.fn.self.register) (g.R.Register.view l.self.register);
-  run : (books : Books) → (g.R.Register.view l.self.register).is_honest → Holds l.fn.self.is_closed (g.R.Register.view l.fn.self.register) books
-      → (last : Books) × Run (g.R.Register.view l.fn.self.register).room l.fn.self.is_closed books (map asked_by (take l.request-index l.requests)) l.answers.items l.self.is_closed last
+  in_turn : (books : Books) → (g.R.Register.view l.self.register).is_honest → Holds l.fn.self.is_closed (g.R.Register.view l.fn.self.register) books
+      → (last : Books) × AnsweredInTurn (g.R.Register.view l.fn.self.register).room l.fn.self.is_closed books (map asked_by (take l.request-index l.requests)) l.answers.items l.self.is_closed last
       × Holds l.self.is_closed (g.R.Register.view l.self.register) last;
 }

@@ -1,7 +1,7 @@
 use Rattle.std.proofs.Common.{rules, ◌≡◌, [], ◌∷◌}
 use Rattle.std.proofs.lemmas.List.{map_push, reverse-reverse}
 use Rattle.std.proofs.lemmas.List.Elements.{same_from_all_zip}
-use Rattle.desk_text.specs.Steps.{within, found_by}
+use Rattle.desk_text.specs.Steps.{open_names, found_by}
 use Rattle.desk_text.proofs.StepLemmas.{field_more, further_more}
 use Rattle.desk_text.proofs.reading.Reader.take.Goals as goal
 
@@ -14,4 +14,4 @@ returns-in_ok-push-in-Start c = λ rest.
 
 pub returns-in_ok-extend_value-in-Further : goal.returns-in_ok-extend_value-in-Further
 returns-in_ok-extend_value-in-Further c = λ rest.
-    rw (c.in-Further.is, c.in_ok-extend_value-in-Further.ensures) (further_more (found_by c.args.self.now) c.in-Further.further.now c.args.self.now.goes_on rest (within c.args.self.now) c.args.number c.if-not-self.false)
+    rw (c.in-Further.is, c.in_ok-extend_value-in-Further.ensures) (further_more (found_by c.args.self.now) c.in-Further.further.now c.args.self.now.goes_on rest (open_names c.args.self.now) c.args.number c.if-not-self.false)
