@@ -7,7 +7,7 @@ ghost use Rattle.desk_index.specs.IndexView.{view_of_index};
 use crate::due_places::first_due;
 use crate::indexed_register::IndexedRegister;
 use crate::known::Known;
-use crate::noting::{note_entry, note_pair};
+use crate::noting::{note_entry, note_pair, touch_both};
 use crate::opposites::first_open_opposite;
 use crate::sums::{cash_of_all, held_on};
 use crate::tidying::{forget_all, tidy_all, tidy_new};
@@ -202,7 +202,8 @@ impl Register for IndexedRegister {
         Ok(cash_of_all(&self.held, participants, ccy))
     }
 
-    fn append(&mut self, alloc: Global, entry: Entry, reply: Reply) -> Result<(), Fault> {
+    fn append(&mut self, _alloc: Global, entry: Entry, reply: Reply) -> Result<(), Fault> {
+        let named = self.known.keys.number_named(&entry);
         let number = self.held.entry_count() + 1;
         if note_entry(
             &mut self.known,
@@ -215,7 +216,7 @@ impl Register for IndexedRegister {
         {
             return Err(self.held.fail());
         }
-        self.held.append(alloc, entry, reply)
+        self.held.append_named(entry, reply, named)
     }
 
     fn pair(&mut self, alloc: Global, earlier: u64, later: u64) -> Result<(), Fault> {
@@ -278,10 +279,16 @@ impl Register for IndexedRegister {
     }
 
     fn cancel(&mut self, alloc: Global, number: u64) -> Result<(), Fault> {
+        if self.touched.push(number).is_err() {
+            return Err(self.held.fail());
+        }
         self.held.cancel(alloc, number)
     }
 
     fn cancel_pair(&mut self, alloc: Global, earlier: u64, later: u64) -> Result<(), Fault> {
+        if touch_both(&mut self.touched, earlier, later).is_err() {
+            return Err(self.held.fail());
+        }
         self.held.cancel_pair(alloc, earlier, later)
     }
 

@@ -2,6 +2,7 @@
 ghost use Rattle.std.specs.Prelude.{◌≡◌, ◌+◌, ◌++◌, ◌∷◌, [], ℕ, List, length, OnOk, OnErr};
 ghost use Rattle.desk_rules.specs.declared.entry.Entry.{Entry as EntryValue};
 ghost use Rattle.desk_rules.specs.History.{number_of_key};
+ghost use Rattle.desk_lists.specs.Named.{number_named};
 ghost use Rattle.desk_index.specs.Keys.{AreKeysOf};
 
 use crate::first_numbers::{put_first, take_number};
@@ -35,6 +36,18 @@ impl Keys {
         match sender {
             Sender::Operator => self.commands.get(reference).copied(),
             Sender::Participant(bic) => self.messages.get(&(*bic, *reference)).copied(),
+        }
+    }
+
+    /// The number of the entry with the key that a cancellation names.
+    pub fn number_named(&self, entry: &Entry) -> Option<u64>
+        ensures { (history : List EntryValue) → AreKeysOf self.now history → result ≡ number_named history entry.now }
+    {
+        match entry {
+            Entry::Cancel { sender, order } => {
+                self.number(&Sender::Participant(*sender), &order.previous)
+            }
+            _ => None,
         }
     }
 

@@ -85,8 +85,13 @@ pub fn note_pair(
     ensures all { HoldsDue places.old places.new }
     ensures opened { OnOk result (PlacedAt places.new (instruction_at (history_of (view_of_lists held.now).content) later) later) }
 {
-    touched.reserve(2)?;
     place_instruction(held, places, later)?;
+    touch_both(touched, earlier, later)
+}
+
+/// Notes that two instructions stand otherwise.
+pub fn touch_both(touched: &mut Vec<u64>, earlier: u64, later: u64) -> Result<(), AllocError> {
+    touched.reserve(2)?;
     touched.push(earlier).unwrap();
     touched.push(later).unwrap();
     Ok(())

@@ -2,4 +2,5 @@ pub mod BalanceKeys
 pub mod Lists
 pub mod ListView
 pub mod Moves
+pub mod Named
 pub mod Search

@@ -1,6 +1,8 @@
 //! An entry, added to the lists.
 ghost use Rattle.std.specs.Prelude.{◌≡◌, ◌+◌, ◌<◌, ◌≤◌, ◌^◌, false, OnOk};
 ghost use Rattle.desk_register.specs.Changes.{CanAppend, appended};
+ghost use Rattle.desk_rules.specs.Content.{history_of};
+ghost use Rattle.desk_lists.specs.Named.{number_named};
 ghost use Rattle.desk_lists.specs.Lists.{TotalsAreKept, balance_in, content_in, listed, undone};
 ghost use Rattle.desk_lists.specs.BalanceKeys.{is_key};
 ghost use Rattle.desk_lists.specs.Moves.{balances_after, with_less, with_more, SameEntries};
@@ -107,21 +109,24 @@ fn move_balances(
     }
 }
 
-/// Adds an entry with its reply, moves what it issues or redeems, pays in or out, and notes what it requests.
+/// Adds an entry with its reply, moves what it issues or redeems, pays in or out, and notes what it requests, by the
+/// number of the key that it names.
 pub fn append_entry(
     lists: &mut Lists,
     changes: &mut Vec<Change>,
     entry: Entry,
     reply: Reply,
+    named: Option<u64>,
 ) -> Result<(), AllocError>
     requires fits { CanAppend entry (content_in (listed lists.old)) }
+    requires named { named ≡ number_named (history_of (content_in (listed lists.old))) entry }
     requires totals { TotalsAreKept (listed lists.old) }
     ensures added { OnOk result (content_in (listed lists.new) ≡ appended entry reply (content_in (listed lists.old))) }
     ensures totals { OnOk result (TotalsAreKept (listed lists.new)) }
     ensures before { undone changes.new.items (listed lists.new) ≡ undone changes.old.items (listed lists.old) }
 {
     move_balances(lists, changes, &entry)?;
-    note_request(lists, changes, &entry)?;
+    note_request(lists, changes, &entry, named)?;
     let standing = first_standing(&entry);
     push_entry(lists, changes, Kept { entry, reply }, standing)
 }

@@ -1,8 +1,10 @@
 //! The calls of a register in plain lists.
-ghost use Rattle.std.specs.Prelude.{◌≡◌, ◌≤◌, ◌<◌, []};
+ghost use Rattle.std.specs.Prelude.{◌≡◌, ◌≤◌, ◌<◌, [], OnOk};
 ghost use Rattle.desk_lists.specs.ListView.{view_of_lists};
-ghost use Rattle.desk_register.specs.Changes.{empty_content};
-ghost use Rattle.desk_register.specs.View.{fallen};
+ghost use Rattle.desk_register.specs.Changes.{CanAppend, appended, empty_content};
+ghost use Rattle.desk_register.specs.View.{IsChange, fallen};
+ghost use Rattle.desk_rules.specs.Content.{history_of};
+ghost use Rattle.desk_lists.specs.Named.{number_named};
 
 use crate::appending::append_entry;
 use crate::balance_key::BalanceKey;
@@ -14,6 +16,7 @@ use crate::list_register::ListRegister;
 use crate::lists::Lists;
 use crate::next_holding::holding_after;
 use crate::opposites::first_opposite;
+use crate::requests::number_named;
 use crate::securities::security_after;
 use crate::settling::try_settle;
 use crate::standings::{cancel_both, cancel_entry, pair_entries};
@@ -51,6 +54,28 @@ impl ListRegister {
         ensures { result ≡ (view_of_lists self.now).stage }
     {
         self.stage
+    }
+
+    /// Adds an entry as `append` does, where the number of the key is known that a cancellation names.
+    pub fn append_named(
+        &mut self,
+        entry: Entry,
+        reply: Reply,
+        named: Option<u64>,
+    ) -> Result<(), Fault>
+        requires stage { (view_of_lists self.old).stage ≡ Stage.Begun }
+        requires fits { CanAppend entry (view_of_lists self.old).content }
+        requires named { named ≡ number_named (history_of (view_of_lists self.old).content) entry }
+        ensures added { OnOk result ((view_of_lists self.new).content ≡ appended entry reply (view_of_lists self.old).content) }
+        ensures change { IsChange result (view_of_lists self.old) (view_of_lists self.new) }
+    {
+        match append_entry(&mut self.lists, &mut self.changes, entry, reply, named) {
+            Ok(()) => Ok(()),
+            Err(_) => {
+                self.stage = Stage::Failed;
+                Err(Fault::Memory)
+            }
+        }
     }
 }
 
@@ -224,13 +249,8 @@ impl Register for ListRegister {
     }
 
     fn append(&mut self, _alloc: Global, entry: Entry, reply: Reply) -> Result<(), Fault> {
-        match append_entry(&mut self.lists, &mut self.changes, entry, reply) {
-            Ok(()) => Ok(()),
-            Err(_) => {
-                self.stage = Stage::Failed;
-                Err(Fault::Memory)
-            }
-        }
+        let named = number_named(&self.lists, &entry);
+        self.append_named(entry, reply, named)
     }
 
     fn pair(&mut self, _alloc: Global, earlier: u64, later: u64) -> Result<(), Fault> {

@@ -25,11 +25,11 @@ invariant_of-self-2 c =
     let r = c.args.self.now in
     let noting = c.note_entry in
     let went = c.if-is_err.ensures.value in
-    let change = c.append.ensures.change in
+    let change = c.append_named.ensures.change in
     record {
-      indexed = after_append c.append.result r.known noting.new.known r.unmatched noting.new.numbers r.matched r.noted.items noting.new.noted.items (view_of_lists r.held) (view_of_lists c.append.new.self) (c.entry_count-number.result + 1)
+      indexed = after_append c.append_named.result r.known noting.new.known r.unmatched noting.new.numbers r.matched r.noted.items noting.new.noted.items (view_of_lists r.held) (view_of_lists c.append_named.new.self) (c.entry_count-number.result + 1)
           c.args.entry c.args.reply tt tt tt c.requires.stage (ap (λ n. n + 1) c.entry_count-number.ensures) r.indexed noting.ensures.all
           (where_it_went noting.result went noting.ensures.opened) (where_it_went noting.result went noting.ensures.more)
           (λ history keyed is. where_it_went noting.result went (noting.ensures.keyed history keyed is))
-          c.append.ensures.added change.ok change.err;
+          (λ honest sure. c.append_named.ensures.added) change.ok change.err;
     }

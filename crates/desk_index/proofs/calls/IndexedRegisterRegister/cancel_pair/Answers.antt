@@ -1,8 +1,21 @@
-use Rattle.desk_index.proofs.IndexedLemmas.{after_cancel_pair}
+use Rattle.std.proofs.Common.{sym, ◌∙◌, refl}
+use Rattle.desk_lists.specs.ListView.{view_of_lists}
+use Rattle.desk_index.proofs.IndexedLemmas.{after_cancel_pair, after_failure}
 use Rattle.desk_index.proofs.calls.IndexedRegisterRegister.cancel_pair.Goals as goal
 
 pub invariant_of-self : goal.invariant_of-self
 invariant_of-self c =
+    let r = c.args.self.now in
+    record {
+      indexed = after_failure r.known r.known r.unmatched r.unmatched r.matched r.matched r.noted.items r.noted.items (view_of_lists r.held) (view_of_lists c.fail.new.self) r.indexed
+          c.fail.ensures.stage c.fail.ensures.mark (λ q there. there) (λ q there. there) refl (λ known. known);
+    }
+
+pub returns-then-is_err-clause-change : goal.returns-then-is_err-clause-change
+returns-then-is_err-clause-change c = record { ok = tt; err = c.fail.ensures.falls; later = c.fail.ensures.later; blame = λ is. let bad = sym c.fail.ensures.fault ∙ is in cc }
+
+pub invariant_of-self-2 : goal.invariant_of-self-2
+invariant_of-self-2 c =
     let r = c.args.self.now in
     let change = c.cancel_pair.ensures.change in
     record { indexed = after_cancel_pair r.known r.unmatched r.matched r.noted.items r.held c.cancel_pair.new.self c.requires.stage r.indexed c.cancel_pair.result c.args.earlier c.args.later (c.cancel_pair.ensures.cancelled tt tt) change.ok change.err }
