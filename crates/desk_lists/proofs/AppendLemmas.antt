@@ -14,12 +14,13 @@ use Rattle.desk_rules.specs.declared.standing.State.{State}
 use Rattle.desk_codes.specs.declared.currency.Ccy.{Ccy}
 use Rattle.desk_rules.specs.Balances.{issued, redeemed, issued_by, redeemed_by, movement_of, paid_in, paid_out, paid_in_by, paid_out_by, payment_in, same_ccy}
 use Rattle.desk_rules.proofs.Deciding.{same_ccy-true}
-use Rattle.desk_lists.specs.declared.lists.BalanceKey.{BalanceKey}
-use Rattle.desk_lists.specs.declared.lists.BalanceKey.TheVariants.{Cash, Outstanding, Paid, Position}
+use Rattle.desk_lists.specs.declared.balance_key.BalanceKey.{BalanceKey}
+use Rattle.desk_lists.specs.declared.balance_key.BalanceKey.TheVariants.{Cash, Outstanding, Paid, Position}
 use Rattle.desk_rules.specs.Content.{Content, history_of}
 use Rattle.desk_register.specs.Changes.{BalancesAllow, appended, cash_after, positions_after, requests_noted, standing_at, standing_both, first_standing}
 use Rattle.desk_rules.specs.Standing.{no_standing}
-use Rattle.desk_lists.specs.Lists.{TotalsAreKept, Listed, SameBooks, amount_at, balance_in, balances_after, content_in, standing_in}
+use Rattle.desk_lists.specs.Lists.{TotalsAreKept, Listed, balance_in, content_in, standing_in}
+use Rattle.desk_lists.specs.Moves.{SameBooks, balances_after}
 use Rattle.desk_register.proofs.CaseLemmas.{by_bool, same_bytes}
 
 -- where entries stand, with one more at the end
@@ -172,7 +173,7 @@ stands_well (Ok x) old new m s some within is = ap (λ l. standing_in l.standing
 
 -- only where entries stand has changed
 pub same_balances : (old new : Listed) → SameBooks old new → balance_in new ≡ balance_in old
-same_balances old new rest = λ k key. amount_at key (rest.keys k) (rest.amounts k)
+same_balances old new rest = λ k key. unwrap_or (rest.balances k key) 0
 
 pub stood_content : (old new : Listed) (standing : ℕ → Standing) → SameBooks old new → standing_in new.standings ≡ standing → content_in new ≡ record (content_in old) { standing = standing }
 stood_content old new standing rest is = content_by_parts _ _ _ _ _ _ _ _ rest.kept is (same_balances old new rest) rest.sent

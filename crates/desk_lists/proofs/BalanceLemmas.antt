@@ -1,14 +1,23 @@
 -- Balances by their keys.
-use Rattle.std.proofs.Common.{◌≡◌, ℕ, suc, ◌+◌, ◌-◌, ◌<◌, ◌≤◌, true, false, List, [], ◌∷◌, ◌++◌, length, get_or, Some, None, refl, ap, ◌∙◌, subst, arith}
-use Rattle.std.specs.Prelude.{slice_set, if◌then◌else◌, bytes_eq, Result, Ok, Err, OnOk}
+use Rattle.std.proofs.Common.{◌≡◌, ℕ, true, false, Option, Some, None, refl, ap, sym, ◌∙◌}
+use Rattle.std.specs.Prelude.{◌&&◌, bytes_eq, cond, option_map, unwrap_or, Result, Ok, Err, OnOk}
+use Rattle.std.specs.Cmp.{tied_then}
+use Rattle.std.specs.Ordering.{is_eq}
 use Rattle.std.proofs.lemmas.Bool.{and_parts, and_from}
+use Rattle.std.proofs.lemmas.Map.Text.{is_eq-slice_cmp}
+use Rattle.std.specs.declared.cmp.Ordering.{Ordering}
+use Rattle.desk_codes.specs.declared.currency.Ccy.{Ccy}
+use Rattle.desk_codes.specs.declared.currency.Ccy.TheVariants.{Chf, Eur, Gbp, Jpy, Kwd, Usd}
+use Rattle.desk_codes.specs.contracts.currency.CcyOrd.TheImpl as ccy_ord
 use Rattle.desk_codes.specs.Currency.{letters_of}
 use Rattle.desk_rules.specs.Balances.{same_ccy}
 use Rattle.desk_rules.proofs.Deciding.{same_ccy-true}
 use Rattle.desk_register.proofs.CaseLemmas.{by_bool, same_bytes, bytes_refl}
-use Rattle.desk_lists.specs.declared.lists.BalanceKey.{BalanceKey}
-use Rattle.desk_lists.specs.declared.lists.BalanceKey.TheVariants.{Cash, Outstanding, Paid, Position}
-use Rattle.desk_lists.specs.Lists.{Listed, is_key, amount_at, index_from, balance_in, with_balance, with_less, with_more}
+use Rattle.desk_lists.specs.declared.balance_key.BalanceKey.{BalanceKey}
+use Rattle.desk_lists.specs.declared.balance_key.BalanceKey.TheVariants.{Cash, Outstanding, Paid, Position}
+use Rattle.desk_lists.specs.BalanceKeys.{balance_cmp, is_key, put_back, text_cmp, with_record}
+use Rattle.desk_lists.specs.Lists.{Listed, balance_in}
+use Rattle.desk_lists.specs.Moves.{with_balance, with_less, with_more}
 
 -- two keys that are one are equal, and each is one with itself
 pub key_true : (a b : BalanceKey) → is_key a b ≡ true → a ≡ b
@@ -26,90 +35,78 @@ key_true (Cash bic ccy) (Cash b c) e =
 key_true (Paid ccy) (Paid c) e = ap Paid (same_ccy-true ccy c e)
 key_true a b e = absurd (cc)
 
-key_refl : (a : BalanceKey) → is_key a a ≡ true
+pub key_refl : (a : BalanceKey) → is_key a a ≡ true
 key_refl (Position account isin) = and_from (bytes_eq account account) (bytes_eq isin isin) (bytes_refl account) (bytes_refl isin)
 key_refl (Outstanding isin) = bytes_refl isin
 key_refl (Cash bic ccy) = and_from (bytes_eq bic bic) (same_ccy ccy ccy) (bytes_refl bic) (bytes_refl (letters_of ccy))
 key_refl (Paid ccy) = bytes_refl (letters_of ccy)
 
--- a key is not there: its balance is 0
-pub amount_none : (n : ℕ) (wanted : BalanceKey) (keys : List BalanceKey) (amounts : List ℕ) → index_from n wanted keys ≡ None → amount_at wanted keys amounts ≡ 0
-amount_none n wanted [] amounts e = refl
-amount_none n wanted (key ∷ keys) [] e = refl
-amount_none n wanted (key ∷ keys) (amount ∷ amounts) e =
-    by_bool (is_key key wanted)
-    (λ t. let bad = rw t at e in cc)
-    (λ f. rw f (amount_none (n + 1) wanted keys amounts (rw f at e)))
+-- The order of the keys ties exactly those that are one.
 
--- the balance is the amount at the index of the first key that is this one
-pub record IsAtFirst (n j : ℕ) (wanted : BalanceKey) (keys : List BalanceKey) (amounts : List ℕ) : Type 0 where
-  pub above : n ≤ j
-  pub within : j - n < length keys
-  pub is : amount_at wanted keys amounts ≡ get_or amounts (j - n) 0
+abbrev ccy_cmp : Ccy → Ccy → Ordering
+ccy_cmp = (ccy_ord.ghosts).cmp
 
-pub amount_some : (n j : ℕ) (wanted : BalanceKey) (keys : List BalanceKey) (amounts : List ℕ) → length amounts ≡ length keys → index_from n wanted keys ≡ Some j → IsAtFirst n j wanted keys amounts
-amount_some n j wanted [] amounts len e = cc
-amount_some n j wanted (key ∷ keys) [] len e = absurd (omega arith)
-amount_some n j wanted (key ∷ keys) (amount ∷ amounts) len e =
-    by_bool (is_key key wanted)
-    (λ t.
-    let here : n ≡ j = let f = rw t at e in cc in
-    let off : j - n ≡ 0 = omega arith in
-    record { above = omega arith; within = omega arith; is = rw (t, off) refl })
-    (λ f.
-    let later = amount_some (n + 1) j wanted keys amounts (omega arith) (rw f at e) in
-    let le = later.above in
-    let off : j - n ≡ suc (j - (n + 1)) = omega arith in
-    record { above = omega arith; within = let lt = later.within in omega arith; is = rw (f, off) later.is })
+by_ccy : (P : Ccy → Type 0) → P Chf → P Eur → P Gbp → P Jpy → P Kwd → P Usd → (c : Ccy) → P c
+by_ccy P chf eur gbp jpy kwd usd Chf = chf
+by_ccy P chf eur gbp jpy kwd usd Eur = eur
+by_ccy P chf eur gbp jpy kwd usd Gbp = gbp
+by_ccy P chf eur gbp jpy kwd usd Jpy = jpy
+by_ccy P chf eur gbp jpy kwd usd Kwd = kwd
+by_ccy P chf eur gbp jpy kwd usd Usd = usd
 
--- Any balance, after one was put.
+tied_ccy : (a b : Ccy) → is_eq (ccy_cmp a b) ≡ same_ccy a b
+tied_ccy a b =
+    by_ccy (λ x. (y : Ccy) → is_eq (ccy_cmp x y) ≡ same_ccy x y)
+    (by_ccy (λ y. is_eq (ccy_cmp Chf y) ≡ same_ccy Chf y) refl refl refl refl refl refl)
+    (by_ccy (λ y. is_eq (ccy_cmp Eur y) ≡ same_ccy Eur y) refl refl refl refl refl refl)
+    (by_ccy (λ y. is_eq (ccy_cmp Gbp y) ≡ same_ccy Gbp y) refl refl refl refl refl refl)
+    (by_ccy (λ y. is_eq (ccy_cmp Jpy y) ≡ same_ccy Jpy y) refl refl refl refl refl refl)
+    (by_ccy (λ y. is_eq (ccy_cmp Kwd y) ≡ same_ccy Kwd y) refl refl refl refl refl refl)
+    (by_ccy (λ y. is_eq (ccy_cmp Usd y) ≡ same_ccy Usd y) refl refl refl refl refl refl)
+    a b
 
--- a key that is not the one that was put stands before it
-stands_first : (key wanted k : BalanceKey) (amount v rest : ℕ) → is_key key wanted ≡ false → (if is_key key k then amount else (if is_key wanted k then v else rest)) ≡ (if is_key wanted k then v else (if is_key key k then amount else rest))
-stands_first key wanted k amount v rest other =
-    by_bool (is_key wanted k)
-    (λ t. let apart : is_key key k ≡ false = subst (λ z. is_key key z ≡ false) (key_true wanted k t) other in rw (t, apart) refl)
-    (λ f. rw f refl)
+pub tied_keys : (a b : BalanceKey) → is_eq (balance_cmp a b) ≡ is_key a b
+tied_keys (Position account isin) (Position a i) = sym (tied_then (text_cmp account a) (text_cmp isin i)) ∙ (λ k. is_eq-slice_cmp account a k && is_eq-slice_cmp isin i k)
+tied_keys (Outstanding isin) (Outstanding i) = is_eq-slice_cmp isin i
+tied_keys (Cash bic ccy) (Cash b c) = sym (tied_then (text_cmp bic b) (ccy_cmp ccy c)) ∙ (λ k. is_eq-slice_cmp bic b k && tied_ccy ccy c k)
+tied_keys (Paid ccy) (Paid c) = tied_ccy ccy c
+tied_keys (Position account isin) (Outstanding i) = refl
+tied_keys (Position account isin) (Cash b c) = refl
+tied_keys (Position account isin) (Paid c) = refl
+tied_keys (Outstanding isin) (Position a i) = refl
+tied_keys (Outstanding isin) (Cash b c) = refl
+tied_keys (Outstanding isin) (Paid c) = refl
+tied_keys (Cash bic ccy) (Position a i) = refl
+tied_keys (Cash bic ccy) (Outstanding i) = refl
+tied_keys (Cash bic ccy) (Paid c) = refl
+tied_keys (Paid ccy) (Position a i) = refl
+tied_keys (Paid ccy) (Outstanding i) = refl
+tied_keys (Paid ccy) (Cash b c) = refl
 
-amount_moved : (n j v : ℕ) (wanted k : BalanceKey) (keys : List BalanceKey) (amounts : List ℕ) → length amounts ≡ length keys → index_from n wanted keys ≡ Some j
-    → amount_at k keys (slice_set amounts (j - n) v) ≡ (if is_key wanted k then v else amount_at k keys amounts)
-amount_moved n j v wanted k [] amounts len e = cc
-amount_moved n j v wanted k (key ∷ keys) [] len e = absurd (omega arith)
-amount_moved n j v wanted k (key ∷ keys) (amount ∷ amounts) len e =
-    by_bool (is_key key wanted)
-    (λ t.
-    let here : n ≡ j = let f = rw t at e in cc in
-    let off : j - n ≡ 0 = omega arith in
-    rw (off, key_true key wanted t) (by_bool (is_key wanted k) (λ x. rw x refl) (λ x. rw x refl)))
-    (λ f.
-    let later = amount_some (n + 1) j wanted keys amounts (omega arith) (rw f at e) in
-    let le = later.above in
-    let off : j - n ≡ suc (j - (n + 1)) = omega arith in
-    rw off (ap (λ z. if is_key key k then amount else z) (amount_moved (n + 1) j v wanted k keys amounts (omega arith) (rw f at e)) ∙ stands_first key wanted k amount v (amount_at k keys amounts) f))
+-- What a map has once one balance was recorded, or put back.
 
-amount_opened : (n v : ℕ) (wanted k : BalanceKey) (keys : List BalanceKey) (amounts : List ℕ) → length amounts ≡ length keys → index_from n wanted keys ≡ None
-    → amount_at k (keys ++ wanted ∷ []) (amounts ++ v ∷ []) ≡ (if is_key wanted k then v else amount_at k keys amounts)
-amount_opened n v wanted k [] [] len e = refl
-amount_opened n v wanted k [] (amount ∷ amounts) len e = absurd (omega arith)
-amount_opened n v wanted k (key ∷ keys) [] len e = absurd (omega arith)
-amount_opened n v wanted k (key ∷ keys) (amount ∷ amounts) len e =
-    by_bool (is_key key wanted)
-    (λ t. let bad = rw t at e in cc)
-    (λ f. ap (λ z. if is_key key k then amount else z) (amount_opened (n + 1) v wanted k keys amounts (omega arith) (rw f at e)) ∙ stands_first key wanted k amount v (amount_at k keys amounts) f)
+recorded_at : (balances : BalanceKey → Option ℕ) (key k : BalanceKey) (amount : Option ℕ) → cond (is_eq (balance_cmp key k)) amount (balances k) ≡ with_record balances key amount k
+recorded_at balances key k amount = rw (tied_keys key k) (by_bool (is_key key k) (λ t. rw t refl) (λ f. rw f refl))
 
--- The same, of the call that did it.
+pub recorded : (old new : BalanceKey → Option ℕ) (key : BalanceKey) (amount : Option ℕ) → ((k : BalanceKey) → new k ≡ cond (is_eq (balance_cmp key k)) amount (old k)) → new ≡ with_record old key amount
+recorded old new key amount put = λ i k. (put k ∙ recorded_at old key k amount) i
 
-pub moved_well : {T E : Type 0} (r : Result T E) (new l : Listed) (key : BalanceKey) (j v : ℕ) → length l.amounts ≡ length l.keys → index_from 0 key l.keys ≡ Some j
-    → OnOk r (new ≡ record l { amounts = slice_set l.amounts j v }) → OnOk r (balance_in new ≡ with_balance (balance_in l) key v)
-moved_well (Ok x) new l key j v len e is =
-    let whole : j - 0 ≡ j = omega arith in
-    ap balance_in is ∙ (λ i k. (rw whole at (amount_moved 0 j v key k l.keys l.amounts len e)) i)
-moved_well (Err f) new l key j v len e is = is
+-- where nothing is recorded of a key, nothing is put back
+pub nothing_back : (old : BalanceKey → Option ℕ) (key : BalanceKey) (was : ℕ) → old key ≡ None → old ≡ put_back old key (Some was)
+nothing_back old key was none = λ i k. at k i where
+  at : (k : BalanceKey) → old k ≡ put_back old key (Some was) k
+  at k = by_bool (is_key key k) (λ t. let here : old k ≡ None = ap old (sym (key_true key k t)) ∙ none in rw (t, none) here) (λ f. rw f refl)
 
-pub opened_well : {T E : Type 0} (r : Result T E) (new l : Listed) (key : BalanceKey) (v : ℕ) → length l.amounts ≡ length l.keys → index_from 0 key l.keys ≡ None
-    → OnOk r (new ≡ record l { keys = l.keys ++ key ∷ []; amounts = l.amounts ++ v ∷ [] }) → OnOk r (balance_in new ≡ with_balance (balance_in l) key v)
-opened_well (Ok x) new l key v len e is = ap balance_in is ∙ (λ i k. amount_opened 0 v key k l.keys l.amounts len e i)
-opened_well (Err f) new l key v len e is = is
+pub amount_back : (old new : BalanceKey → Option ℕ) (key : BalanceKey) (was amount : ℕ) → old key ≡ Some amount → ((k : BalanceKey) → new k ≡ cond (is_eq (balance_cmp key k)) (Some was) (old k)) → new ≡ put_back old key (Some was)
+amount_back old new key was amount is put = recorded old new key (Some was) put ∙ ap (λ z. with_record old key (option_map (λ a. was) z)) (sym is)
+
+-- the balances, once one is recorded
+pub put_well : {T E : Type 0} (r : Result T E) (new l : Listed) (key : BalanceKey) (v : ℕ) → OnOk r (new ≡ record l { balances = with_record l.balances key (Some v) })
+    → OnOk r (balance_in new ≡ with_balance (balance_in l) key v)
+put_well (Ok x) new l key v is = ap balance_in is ∙ (λ i k. put_at k i) where
+  put_at : (k : BalanceKey) → unwrap_or (with_record l.balances key (Some v) k) 0 ≡ with_balance (balance_in l) key v k
+  put_at k = by_bool (is_key key k) (λ t. rw t refl) (λ f. rw f refl)
+put_well (Err f) new l key v is = is
 
 -- One balance after another was put.
 

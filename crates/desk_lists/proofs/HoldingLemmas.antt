@@ -1,68 +1,189 @@
 -- The first holding of an account, key by key.
-use Rattle.std.proofs.Common.{◌≡◌, ◌⊎◌, inl, inr, ℕ, zero, suc, ◌<◌, List, [], ◌∷◌, length, take, get_or, Option, Some, None, sym, ◌∙◌, subst, arith}
-use Rattle.desk_rules.proofs.Decided.{In}
-use Rattle.desk_register.specs.Looked.{HoldsAbove, IsLess}
-use Rattle.desk_register.proofs.CaseLemmas.{by_bool}
-use Rattle.desk_lists.specs.declared.lists.BalanceKey.{BalanceKey}
-use Rattle.desk_lists.specs.declared.lists.BalanceKey.TheVariants.{Position}
-use Rattle.desk_lists.specs.Lists.{Listed, amount_at, content_in, is_key}
-use Rattle.desk_lists.specs.Search.{IsFirstHeld, IsHeldBy, IsLesser}
-use Rattle.desk_lists.proofs.BalanceLemmas.{key_true}
+use Rattle.std.proofs.Common.{◌≡◌, ℕ, ◌<◌, Bool, true, false, List, [], ◌∷◌, Option, Some, None, refl, ap, sym, ◌∙◌, subst, arith}
+use Rattle.std.specs.Prelude.{bytes_eq, is_some, not, unwrap_or}
+use Rattle.std.specs.List.{list_any, filter, AllByRecursion}
+use Rattle.std.specs.List.Sorted.{IsStrictlySortedBy}
+use Rattle.std.specs.Map.{keys_of, lookup}
+use Rattle.std.specs.BTreeMap.{is_at}
+use Rattle.std.specs.BTreeMap.Range.{entries_between, range_contains}
+use Rattle.std.specs.Cmp.Lexicographic.{nat_list_cmp_total}
+use Rattle.std.specs.Ordering.{is_eq, is_le, ordering_reverse}
+use Rattle.std.specs.declared.cmp.Ordering.{Ordering}
+use Rattle.std.specs.declared.cmp.Ordering.TheVariants.{Less, Equal, Greater}
+use Rattle.std.specs.declared.ops.Bound.TheVariants.{Included, Unbounded}
+use Rattle.std.proofs.lemmas.List.Kept.{IsStrictlySortedBy-filter}
+use Rattle.std.proofs.lemmas.Map.Keys.{sorted_head, sorted_tail}
+use Rattle.std.proofs.lemmas.Map.Text.{is_eq-slice_cmp}
+use Rattle.desk_rules.specs.Content.{Content}
+use Rattle.desk_register.specs.declared.holding.Holding.{Holding}
+use Rattle.desk_register.specs.Looked.{HoldsAbove, IsHoldingAfter, IsLess}
+use Rattle.desk_register.proofs.CaseLemmas.{by_bool, bytes_refl, same_bytes}
+use Rattle.desk_lists.specs.declared.balance_key.BalanceKey.{BalanceKey}
+use Rattle.desk_lists.specs.declared.balance_key.BalanceKey.TheVariants.{Cash, Outstanding, Paid, Position}
+use Rattle.desk_lists.specs.BalanceKeys.{HasNoneBelow, balance_cmp, first_key, least_isin, text_cmp}
+use Rattle.desk_lists.specs.Lists.{Listed, content_in}
+use Rattle.desk_lists.specs.Search.{IsHeldAt}
+use Rattle.desk_lists.proofs.BalanceLemmas.{key_true, tied_keys}
+use Rattle.desk_lists.proofs.FloorLemmas.{by_order}
 use Rattle.desk_lists.proofs.ListingLemmas.{less_less, not_less_itself}
 
--- a balance above 0 has its key in the list
-key_there : (wanted : BalanceKey) (keys : List BalanceKey) (amounts : List ℕ) → 0 < amount_at wanted keys amounts → In keys wanted
-key_there wanted [] amounts some = absurd (omega arith)
-key_there wanted (key ∷ keys) [] some = absurd (omega arith)
-key_there wanted (key ∷ keys) (amount ∷ amounts) some =
-    by_bool (is_key key wanted)
-    (λ t. inl (key_true key wanted t))
-    (λ f. inr (key_there wanted keys amounts (rw f at some)))
+-- whether some keys have this one
+abbrev pub has : BalanceKey → List BalanceKey → Bool
+has q keys = list_any (is_at (balance_cmp q)) keys
 
--- one key more
-in_more : (keys : List BalanceKey) (n : ℕ) (d x : BalanceKey) → n < length keys → In (take (suc n) keys) x → In (take n keys) x ⊎ (get_or keys n d ≡ x)
-in_more [] n d x lt i = absurd (omega arith)
-in_more (key ∷ keys) zero d x lt (inl e) = inr e
-in_more (key ∷ keys) zero d x lt (inr i) = absurd i
-in_more (key ∷ keys) (suc n) d x lt (inl e) = inl (inl e)
-in_more (key ∷ keys) (suc n) d x lt (inr i) = elim (in_more keys n d x (omega arith) i) [ inl l ↦ inl (inr l) | inr r ↦ inr r ]
+same_key : (q k : BalanceKey) → is_at (balance_cmp q) k ≡ true → q ≡ k
+same_key q k e = key_true q k (sym (tied_keys q k) ∙ e)
 
-module _ (l : Listed) (account : List ℕ) (above : Option (List ℕ)) where
-  -- the first among the positions of these keys
-  abbrev pub IsFirstIn : List BalanceKey → Option (List ℕ) → Type 0
-  IsFirstIn keys None = (isin : List ℕ) → In keys (Position account isin) → HoldsAbove (content_in l) account above isin → ⊥
-  IsFirstIn keys (Some best) =
-      HoldsAbove (content_in l) account above best
-      × ((isin : List ℕ) → In keys (Position account isin) → HoldsAbove (content_in l) account above isin → IsLess isin best → ⊥)
+-- what is recorded has its key among the keys
+found_has : (q : BalanceKey) (es : List (BalanceKey × ℕ)) → is_some (lookup (is_at (balance_cmp q)) es) ≡ true → has q (keys_of es) ≡ true
+found_has q [] some = absurd (cc)
+found_has q (e ∷ es) some =
+    by_bool (is_at (balance_cmp q) e.0)
+    (λ t. rw t refl)
+    (λ f. rw f (found_has q es (rw f at some)))
 
-  pub record IsHeldSoFar (keys : List BalanceKey) (best : Option (List ℕ)) : Type 0 where
-    pub first : IsFirstIn keys best
+has_filter : (q : BalanceKey) (p : BalanceKey × ℕ → Bool) (es : List (BalanceKey × ℕ)) → ((e : BalanceKey × ℕ) → is_at (balance_cmp q) e.0 ≡ true → p e ≡ true) → has q (keys_of es) ≡ true → has q (keys_of (filter p es)) ≡ true
+has_filter q p [] passes there = there
+has_filter q p (e ∷ es) passes there = by_bool (is_at (balance_cmp q) e.0)
+    (λ here. rw (passes e here, here) refl)
+    (λ other. let behind : has q (keys_of es) ≡ true = rw other at there in
+    by_bool (p e) (λ kept. rw (kept, other) (has_filter q p es passes behind)) (λ lost. rw lost (has_filter q p es passes behind)))
 
-  -- two keys of the account that are one are of one security
-  one_isin : (key : BalanceKey) (isin c : List ℕ) → key ≡ Position account isin → Position account c ≡ key → isin ≡ c
-  one_isin key isin c new is = let e : Position account c ≡ Position account isin = is ∙ new in cc
+pub all_filter : (start : BalanceKey) (es : List (BalanceKey × ℕ)) → AllByRecursion (λ k. is_le (balance_cmp start k) ≡ true) (keys_of (entries_between balance_cmp (Included start) Unbounded es))
+all_filter start [] = tt
+all_filter start (e ∷ es) = by_bool (is_le (balance_cmp start e.0))
+    (λ kept. rw kept (kept, all_filter start es))
+    (λ lost. rw lost (all_filter start es))
 
-  pub held_step : (keys : List BalanceKey) (n : ℕ) (d : BalanceKey) (best candidate lesser : Option (List ℕ)) → n < length keys → IsFirstIn (take n keys) best
-      → IsHeldBy l account above (get_or keys n d) candidate → IsLesser best candidate lesser → IsFirstIn (take (suc n) keys) lesser
-  held_step keys n d None None lesser lt first one is = rw is (λ isin i h.
-      elim (in_more keys n d (Position account isin) lt i) [ inl old ↦ first isin old h | inr new ↦ one isin (sym new) h ])
-  held_step keys n d None (Some c) lesser lt first one is = rw is (
-    one.1,
-    λ isin i h less. elim (in_more keys n d (Position account isin) lt i) [ inl old ↦ first isin old h | inr new ↦ not_less_itself isin c (one_isin (get_or keys n d) isin c new one.0) less ],
-  )
-  held_step keys n d (Some b) None lesser lt first one is = rw is (
-    first.0,
-    λ isin i h less. elim (in_more keys n d (Position account isin) lt i) [ inl old ↦ first.1 isin old h less | inr new ↦ one isin (sym new) h ],
-  )
-  held_step keys n d (Some b) (Some c) lesser lt first one (inl before) = rw before.1 (
-    one.1,
-    λ isin i h less. elim (in_more keys n d (Position account isin) lt i) [ inl old ↦ first.1 isin old h (less_less isin c b less before.0) | inr new ↦ not_less_itself isin c (one_isin (get_or keys n d) isin c new one.0) less ],
-  )
-  held_step keys n d (Some b) (Some c) lesser lt first one (inr stays) = rw stays.1 (
-    first.0,
-    λ isin i h less. elim (in_more keys n d (Position account isin) lt i) [ inl old ↦ first.1 isin old h less | inr new ↦ stays.0 (subst (λ z. IsLess z b) (one_isin (get_or keys n d) isin c new one.0) less) ],
-  )
+keys_filter : (p : BalanceKey → Bool) (es : List (BalanceKey × ℕ)) → keys_of (filter (λ e. p e.0) es) ≡ filter p (keys_of es)
+keys_filter p [] = refl
+keys_filter p (e ∷ es) = by_bool (p e.0) (λ kept. rw kept (ap (λ z. e.0 ∷ z) (keys_filter p es))) (λ lost. rw lost (keys_filter p es))
 
-  pub held_all : (best : Option (List ℕ)) → IsFirstIn l.keys best → IsFirstHeld l account above best
-  held_all None first = λ isin h. first isin (key_there (Position account isin) l.keys l.amounts h.0) h
-  held_all (Some b) first = (first.0, λ isin h less. first.1 isin (key_there (Position account isin) l.keys l.amounts h.0) h less)
+-- what is left of sorted keys is sorted
+pub sorted_filter : (start : BalanceKey) (es : List (BalanceKey × ℕ)) → IsStrictlySortedBy balance_cmp (keys_of es) → IsStrictlySortedBy balance_cmp (keys_of (entries_between balance_cmp (Included start) Unbounded es))
+sorted_filter start es sorted =
+    let p = range_contains balance_cmp (Included start) Unbounded in
+    subst (IsStrictlySortedBy balance_cmp) (sym (keys_filter p es)) (IsStrictlySortedBy-filter balance_cmp p (keys_of es) sorted)
+
+-- The order of an account's positions is that of their ISINs.
+
+text_itself : (a : List ℕ) → text_cmp a a ≡ Equal
+text_itself a = by_order (text_cmp a a)
+    (λ e. absurd (not_less_itself a a refl e))
+    (λ e. e)
+    (λ e. let flip = nat_list_cmp_total.antisymm a a in let bad = sym e ∙ flip ∙ ap ordering_reverse e in cc)
+
+pub position_cmp : (account a b : List ℕ) → balance_cmp (Position account a) (Position account b) ≡ text_cmp a b
+position_cmp account a b = rw (text_itself account) refl
+
+not_greater : (a b : List ℕ) → (IsLess b a → ⊥) → is_le (text_cmp a b) ≡ true
+not_greater a b not_less = by_order (text_cmp a b)
+    (λ e. rw e refl)
+    (λ e. rw e refl)
+    (λ e. let flip = nat_list_cmp_total.antisymm a b in let back : text_cmp b a ≡ Less = let g = sym e ∙ flip in flipped (text_cmp b a) g in absurd (not_less back)) where
+      flipped : (o : Ordering) → Greater ≡ ordering_reverse o → o ≡ Less
+      flipped Less e = refl
+      flipped Equal e = cc
+      flipped Greater e = cc
+
+module _ (l : Listed) (floor : HasNoneBelow l.balances) (account : List ℕ) where
+  recorded_some : (o : Option ℕ) → 0 < unwrap_or o 0 → is_some o ≡ true
+  recorded_some None some = absurd (omega arith)
+  recorded_some (Some n) some = refl
+
+  from_first : (above : Option (List ℕ)) (isin : List ℕ) → HoldsAbove (content_in l) account above isin → is_le (balance_cmp (first_key account above) (Position account isin)) ≡ true
+  from_first None isin holds = rw (position_cmp account least_isin isin) (not_greater least_isin isin (floor.each account isin (recorded_some (l.balances (Position account isin)) holds.0)))
+  from_first (Some a) isin holds = rw (position_cmp account a isin) (let less = holds.1 in rw less refl)
+
+  -- all that is held stands from the beginning on
+  pub all_from : (above : Option (List ℕ)) (es s : List (BalanceKey × ℕ)) → ((q : BalanceKey) → l.balances q ≡ lookup (is_at (balance_cmp q)) es) → s ≡ entries_between balance_cmp (Included (first_key account above)) Unbounded es
+      → (isin : List ℕ) → HoldsAbove (content_in l) account above isin → has (Position account isin) (keys_of s) ≡ true
+  all_from above es s is between isin holds =
+      let q = Position account isin in
+      let there : is_some (lookup (is_at (balance_cmp q)) es) ≡ true = rw (sym (is q)) (recorded_some (l.balances q) holds.0) in
+      rw between (has_filter q (λ e. range_contains balance_cmp (Included (first_key account above)) Unbounded e.0) es
+      (λ e same. let first : is_le (balance_cmp (first_key account above) e.0) ≡ true = subst (λ z. is_le (balance_cmp (first_key account above) z) ≡ true) (same_key q e.0 same) (from_first above isin holds) in rw first refl)
+      (found_has q es there))
+
+-- The first of some keys, and those behind it.
+
+first_or_behind : {G : Type 0} (q x : BalanceKey) (ks ts : List BalanceKey) → ks ≡ x ∷ ts → has q ks ≡ true → (q ≡ x → G) → (has q ts ≡ true → G) → G
+first_or_behind q x ks ts is there first behind =
+    let both : has q (x ∷ ts) ≡ true = rw is at there in
+    by_bool (is_at (balance_cmp q) x) (λ here. first (same_key q x here)) (λ other. behind (rw other at both))
+
+less_than : (x q : BalanceKey) (ts : List BalanceKey) → AllByRecursion (λ y. balance_cmp x y ≡ Less) ts → has q ts ≡ true → balance_cmp x q ≡ Less
+less_than x q [] all there = absurd (cc)
+less_than x q (y ∷ ts) all there = by_bool (is_at (balance_cmp q) y)
+    (λ here. subst (λ z. balance_cmp x z ≡ Less) (sym (same_key q y here)) all.0)
+    (λ other. less_than x q ts all.1 (rw other at there))
+
+-- a key that stands between two positions of an account is of a position of that account
+between : (account s i : List ℕ) (k : BalanceKey) → ((j : List ℕ) → k ≡ Position account j → ⊥) → is_le (balance_cmp (Position account s) k) ≡ true → balance_cmp k (Position account i) ≡ Less → ⊥
+between account s i (Position a j) other low high =
+    by_order (text_cmp account a)
+    (λ e. let back : text_cmp a account ≡ Greater = nat_list_cmp_total.antisymm a account ∙ ap ordering_reverse e in let bad = rw back at high in cc)
+    (λ e. let tied : bytes_eq account a ≡ true = sym (is_eq-slice_cmp account a) ∙ ap is_eq e in other j (ap (λ z. Position z j) (sym (same_bytes account a tied))))
+    (λ e. let bad = rw e at low in cc)
+between account s i (Outstanding isin) other low high = cc
+between account s i (Cash bic ccy) other low high = cc
+between account s i (Paid ccy) other low high = cc
+
+module _ (content : Content) (account : List ℕ) (above : Option (List ℕ)) (x : BalanceKey) (ks ts : List BalanceKey) (is : ks ≡ x ∷ ts)
+    (left : (isin : List ℕ) → HoldsAbove content account above isin → has (Position account isin) ks ≡ true)
+    (sorted : IsStrictlySortedBy balance_cmp ks) (from : AllByRecursion (λ k. is_le (balance_cmp (first_key account above) k) ≡ true) ks) where
+  behind_first : (q : BalanceKey) → has q ts ≡ true → balance_cmp x q ≡ Less
+  behind_first q there = less_than x q ts (sorted_head balance_cmp x ts (subst (IsStrictlySortedBy balance_cmp) is sorted)) there
+
+  first_from : is_le (balance_cmp (first_key account above) x) ≡ true
+  first_from = (subst (AllByRecursion (λ k. is_le (balance_cmp (first_key account above) k) ≡ true)) is from).0
+
+  pub sorted_behind : IsStrictlySortedBy balance_cmp ts
+  sorted_behind = sorted_tail balance_cmp x ts (subst (IsStrictlySortedBy balance_cmp) is sorted)
+
+  pub from_behind : AllByRecursion (λ k. is_le (balance_cmp (first_key account above) k) ≡ true) ts
+  from_behind = (subst (AllByRecursion (λ k. is_le (balance_cmp (first_key account above) k) ≡ true)) is from).1
+
+  -- past the account's positions there is none
+  pub none_past : ((j : List ℕ) → x ≡ Position account j → ⊥) → (isin : List ℕ) → HoldsAbove content account above isin → ⊥
+  none_past other isin holds = first_or_behind (Position account isin) x ks ts is (left isin holds)
+      (λ first. other isin (sym first))
+      (λ there. past above first_from (behind_first (Position account isin) there)) where
+        past : (above : Option (List ℕ)) → is_le (balance_cmp (first_key account above) x) ≡ true → balance_cmp x (Position account isin) ≡ Less → ⊥
+        past None low high = between account least_isin isin x other low high
+        past (Some a) low high = between account a isin x other low high
+
+  module _ (j : List ℕ) (at : x ≡ Position account j) where
+    -- the first that is held is the first of all
+    pub first_is_held : (holding : Holding) → IsHeldAt content account above j (Some holding) → IsHoldingAfter content account above (Some holding)
+    first_is_held holding found = (
+      subst (HoldsAbove content account above) (sym found.1) found.0,
+      found.2 ∙ ap (content.position account) (sym found.1),
+      λ other holds less. first_or_behind (Position account other) x ks ts is (left other holds)
+          (λ first. let same : other ≡ j = let both = first ∙ at in cc in not_less_itself other holding.isin (same ∙ sym found.1) less)
+          (λ there.
+          let order : balance_cmp (Position account j) (Position account other) ≡ Less = subst (λ z. balance_cmp z (Position account other) ≡ Less) at (behind_first (Position account other) there) in
+          let up : IsLess j other = sym (position_cmp account j other) ∙ order in
+          let down : IsLess other j = subst (IsLess other) found.1 less in
+          not_less_itself j j refl (less_less j other j up down)),
+    )
+
+    -- where the first is not held, all stand behind it
+    pub all_behind : IsHeldAt content account above j None → (isin : List ℕ) → HoldsAbove content account above isin → has (Position account isin) ts ≡ true
+    all_behind none isin holds = first_or_behind (Position account isin) x ks ts is (left isin holds)
+        (λ first. let same : isin ≡ j = let both = first ∙ at in cc in absurd (none (subst (HoldsAbove content account above) same holds)))
+        (λ there. there)
+
+-- An account's key, and another's.
+
+pub other_holder : (key : BalanceKey) (holder isin account : List ℕ) → key ≡ Position holder isin → true ≡ not (bytes_eq holder account) → (j : List ℕ) → key ≡ Position account j → ⊥
+other_holder key holder isin account is differs j e =
+    let same : account ≡ holder = let both = sym e ∙ is in cc in
+    let one : bytes_eq holder account ≡ true = subst (λ z. bytes_eq z account ≡ true) same (bytes_refl account) in
+    let bad = rw one at differs in cc
+
+pub its_holder : (key : BalanceKey) (holder isin account : List ℕ) → key ≡ Position holder isin → false ≡ not (bytes_eq holder account) → key ≡ Position account isin
+its_holder key holder isin account is same =
+    by_bool (bytes_eq holder account)
+    (λ t. is ∙ ap (λ z. Position z isin) (same_bytes holder account t))
+    (λ f. let bad = rw f at same in cc)

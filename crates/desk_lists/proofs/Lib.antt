@@ -1,5 +1,6 @@
 mod AppendLemmas
 mod BalanceLemmas
+mod FloorLemmas
 mod HoldingLemmas
 mod ListingLemmas
 mod ListsLemmas

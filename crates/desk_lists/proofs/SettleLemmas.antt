@@ -8,10 +8,11 @@ use Rattle.desk_rules.specs.declared.standing.Standing.{Standing}
 use Rattle.desk_rules.specs.declared.entry.Instructed.{Instructed}
 use Rattle.desk_rules.specs.Content.{CashBalances, Content}
 use Rattle.desk_register.specs.Changes.{delivered, paid_over}
-use Rattle.desk_lists.specs.declared.lists.BalanceKey.{BalanceKey}
-use Rattle.desk_lists.specs.declared.lists.BalanceKey.TheVariants.{Cash, Outstanding, Paid, Position}
-use Rattle.desk_lists.specs.Lists.{Listed, SameBooks, SameEntries, SameTotals, TotalsAreKept, balance_in, content_in, is_key, standing_in, with_less}
-use Rattle.desk_lists.specs.Moves.{moved_between, paid_between}
+use Rattle.desk_lists.specs.declared.balance_key.BalanceKey.{BalanceKey}
+use Rattle.desk_lists.specs.declared.balance_key.BalanceKey.TheVariants.{Cash, Outstanding, Paid, Position}
+use Rattle.desk_lists.specs.Lists.{Listed, TotalsAreKept, balance_in, content_in, standing_in}
+use Rattle.desk_lists.specs.BalanceKeys.{is_key}
+use Rattle.desk_lists.specs.Moves.{SameBooks, SameEntries, SameTotals, with_less, moved_between, paid_between}
 use Rattle.desk_lists.proofs.AppendLemmas.{content_by_parts, same_balances}
 use Rattle.desk_lists.proofs.BalanceLemmas.{key_true}
 use Rattle.desk_register.proofs.CaseLemmas.{by_bool}
@@ -81,6 +82,14 @@ stood_totals old new books = record {
   kept = books.kept;
   outstanding = λ i. ap (λ b. b (Outstanding i)) (same_balances old new books);
   paid = λ c. ap (λ b. b (Paid c)) (same_balances old new books);
+}
+
+-- nothing but what was sent has changed
+pub sent_totals : (old new : Listed) (sent : List Sent) → new ≡ record old { sent = sent } → SameTotals old new
+sent_totals old new sent is = record {
+  kept = ap (λ l. l.kept) is;
+  outstanding = λ i. ap (λ l. balance_in l (Outstanding i)) is;
+  paid = λ c. ap (λ l. balance_in l (Paid c)) is;
 }
 
 pub totals_of_same : (old new : Listed) → SameTotals old new → TotalsAreKept old → TotalsAreKept new

@@ -10,8 +10,8 @@ use Rattle.desk_rules.specs.Facts.{account_by, participant_by}
 use Rattle.desk_register.specs.Looked.{held_cash_of, held_of}
 use Rattle.desk_lists.specs.declared.holdings.Summed.{Summed}
 use Rattle.desk_lists.specs.declared.holdings.Summed.TheVariants.{Currency, Security}
-use Rattle.desk_lists.specs.declared.lists.BalanceKey.{BalanceKey}
-use Rattle.desk_lists.specs.declared.lists.BalanceKey.TheVariants.{Cash, Position}
+use Rattle.desk_lists.specs.declared.balance_key.BalanceKey.{BalanceKey}
+use Rattle.desk_lists.specs.declared.balance_key.BalanceKey.TheVariants.{Cash, Position}
 use Rattle.desk_lists.specs.Lists.{Listed, balance_in, content_in}
 use Rattle.desk_lists.specs.Search.{amount_by, key_by, sum_of}
 

@@ -1,5 +1,6 @@
+pub mod BalanceKeys
 pub mod Lists
 pub mod ListView
-pub mod Search
 pub mod Moves
 pub mod Named
+pub mod Search

@@ -5,11 +5,13 @@ use Rattle.desk_rules.specs.declared.entry.Entry.{Entry}
 use Rattle.desk_rules.specs.declared.pair.Place.{Place}
 use Rattle.desk_lists.specs.declared.holdings.Summed.{Summed}
 use Rattle.desk_lists.specs.declared.holdings.Summed.TheVariants.{Currency, Security}
-use Rattle.desk_lists.specs.declared.lists.BalanceKey.{BalanceKey}
-use Rattle.desk_lists.specs.declared.lists.BalanceKey.TheVariants.{Cash, Position}
-use Rattle.desk_lists.specs.Lists.{Listed, balance_in, content_in}
+use Rattle.desk_lists.specs.declared.balance_key.BalanceKey.{BalanceKey}
+use Rattle.desk_lists.specs.declared.balance_key.BalanceKey.TheVariants.{Cash, Position}
+use Rattle.desk_lists.specs.Lists.{Listed, balance_in}
+use Rattle.desk_rules.specs.Content.{Content}
 use Rattle.desk_rules.specs.Facts.{account_by, participant_by}
 use Rattle.desk_rules.specs.Settlement.{is_before}
+use Rattle.desk_register.specs.declared.holding.Holding.{Holding}
 use Rattle.desk_register.specs.Looked.{HoldsAbove, IsAboveText, IsLess, security_by}
 
 -- the balance that counts in a sum, of the account or the participant that an entry registers
@@ -37,15 +39,10 @@ abbrev pub IsSecurityOf : Entry → Option (List ℕ) → Option (List ℕ) → 
 IsSecurityOf entry above None = (isin : List ℕ) → security_by entry ≡ Some isin → IsAboveText above isin → ⊥
 IsSecurityOf entry above (Some isin) = (security_by entry ≡ Some isin) × IsAboveText above isin
 
--- the security of a key, where it is of a position of this account, of which some is held, above one
-abbrev pub IsHeldBy : Listed → List ℕ → Option (List ℕ) → BalanceKey → Option (List ℕ) → Type 0
-IsHeldBy l account above key None = (isin : List ℕ) → Position account isin ≡ key → HoldsAbove (content_in l) account above isin → ⊥
-IsHeldBy l account above key (Some isin) = (Position account isin ≡ key) × HoldsAbove (content_in l) account above isin
-
--- the first security above one of which an account holds some, or there is none
-abbrev pub IsFirstHeld : Listed → List ℕ → Option (List ℕ) → Option (List ℕ) → Type 0
-IsFirstHeld l account above None = (isin : List ℕ) → HoldsAbove (content_in l) account above isin → ⊥
-IsFirstHeld l account above (Some isin) = HoldsAbove (content_in l) account above isin × ((other : List ℕ) → HoldsAbove (content_in l) account above other → IsLess other isin → ⊥)
+-- what an account holds of a security, where it is some, and above one
+abbrev pub IsHeldAt : Content → List ℕ → Option (List ℕ) → List ℕ → Option Holding → Type 0
+IsHeldAt content account above isin None = HoldsAbove content account above isin → ⊥
+IsHeldAt content account above isin (Some holding) = HoldsAbove content account above isin × (holding.isin ≡ isin) × (holding.quantity ≡ content.position account isin)
 
 -- the lesser of two, where there are two
 abbrev pub IsLesser : Option (List ℕ) → Option (List ℕ) → Option (List ℕ) → Type 0

@@ -3,12 +3,15 @@ ghost use Rattle.std.specs.Prelude.{◌≡◌, ◌+◌, ◌<◌, ◌≤◌, ◌^
 ghost use Rattle.desk_register.specs.Changes.{BalancesAllow, appended};
 ghost use Rattle.desk_rules.specs.Content.{history_of};
 ghost use Rattle.desk_lists.specs.Named.{number_named};
-ghost use Rattle.desk_lists.specs.Lists.{TotalsAreKept, balance_in, balances_after, content_in, is_key, listed, undone, with_less, with_more, SameEntries};
+ghost use Rattle.desk_lists.specs.Lists.{TotalsAreKept, balance_in, content_in, listed, undone};
+ghost use Rattle.desk_lists.specs.BalanceKeys.{is_key};
+ghost use Rattle.desk_lists.specs.Moves.{balances_after, with_less, with_more, SameEntries};
 
+use crate::balance_key::BalanceKey;
 use crate::balances::{add_to, take_from};
 use crate::changes::push_entry;
 use crate::entries::first_standing;
-use crate::lists::{BalanceKey, Change, Lists};
+use crate::lists::{Change, Lists};
 use crate::requests::note_request;
 use desk_rules::{Entry, Kept, Movement, Payment, Reply};
 use std::alloc::AllocError;

@@ -7,12 +7,13 @@ ghost use Rattle.desk_rules.specs.Content.{history_of};
 ghost use Rattle.desk_lists.specs.Named.{number_named};
 
 use crate::appending::append_entry;
+use crate::balance_key::BalanceKey;
 use crate::balances::balance_of;
 use crate::changes::undo_all;
 use crate::due_pairs::due_pair_after;
 use crate::holdings::{held, held_cash};
 use crate::list_register::ListRegister;
-use crate::lists::{BalanceKey, Lists};
+use crate::lists::Lists;
 use crate::next_holding::holding_after;
 use crate::opposites::first_opposite;
 use crate::requests::number_named;
@@ -25,6 +26,7 @@ use desk_msg::{Instruction, Kind};
 use desk_register::{Fault, Holding, Outcome, Register, Stage};
 use desk_rules::{Entry, Instructed, MOST_ENTRIES, Place, Reply, Sender, Sent, Standing};
 use std::alloc::Global;
+use std::collections::BTreeMap;
 
 impl ListRegister {
     /// An empty register for at most `limit` entries, which are `MOST_ENTRIES` at most.
@@ -39,8 +41,7 @@ impl ListRegister {
             lists: Lists {
                 kept: Vec::new(alloc),
                 standings: Vec::new(alloc),
-                keys: Vec::new(alloc),
-                amounts: Vec::new(alloc),
+                balances: BTreeMap::new(alloc),
                 sent: Vec::new(alloc),
             },
             changes: Vec::new(alloc),

@@ -1,8 +1,11 @@
 //! Changes of the lists of a list register, each of which can be undone.
-ghost use Rattle.std.specs.Prelude.{◌≡◌, ◌<◌, ◌∷◌, ◌++◌, [], length, OnOk, OnErr, slice_set};
+ghost use Rattle.std.specs.Prelude.{◌≡◌, ◌<◌, ◌∷◌, ◌++◌, [], Some, length, IfOk, OnOk, OnErr, slice_set};
+ghost use Rattle.desk_lists.specs.BalanceKeys.{with_record};
 ghost use Rattle.desk_lists.specs.Lists.{listed, undo, undone};
 
-use crate::lists::{BalanceKey, Change, Lists};
+use crate::balance_key::BalanceKey;
+use crate::lists::{Change, Lists};
+use crate::recording;
 use desk_rules::{Kept, Sent, Standing};
 use std::alloc::AllocError;
 
@@ -24,16 +27,17 @@ impl Lists {
             Change::Sent => {
                 let _ = self.sent.pop();
             }
-            Change::Opened => {
-                let _ = self.keys.pop();
-                let _ = self.amounts.pop();
-            }
-            Change::Moved { index, was } => {
-                if index < self.amounts.len() {
-                    self.amounts[index] = was;
-                }
-            }
+            Change::Moved { key, was } => recording::put_back(&mut self.balances, &key, was),
         }
+    }
+
+    /// Records a balance, and gives what was recorded of it.
+    fn record_balance(&mut self, key: &BalanceKey, amount: u64) -> Result<Option<u64>, AllocError>
+        ensures put { OnOk result (listed self.new ≡ record (listed self.old) { balances = with_record (listed self.old).balances key.now (Some amount) }) }
+        ensures was { IfOk result (λ was. was ≡ (listed self.old).balances key.now) }
+        ensures err { OnErr result (listed self.new ≡ listed self.old) }
+    {
+        recording::record(&mut self.balances, key, amount)
     }
 }
 
@@ -100,39 +104,19 @@ pub fn stand(
     Ok(())
 }
 
-/// Adds a balance.
-pub fn open_balance(
+/// Lets the balance of a key be so much.
+pub fn put_balance(
     lists: &mut Lists,
     changes: &mut Vec<Change>,
     key: BalanceKey,
     amount: u64,
 ) -> Result<(), AllocError>
-    ensures opened { OnOk result (listed lists.new ≡ record (listed lists.old) { keys = lists.old.keys.items ++ key ∷ []; amounts = lists.old.amounts.items ++ amount ∷ [] }) }
+    ensures put { OnOk result (listed lists.new ≡ record (listed lists.old) { balances = with_record (listed lists.old).balances key (Some amount) }) }
     ensures before { OnOk result (undone changes.new.items (listed lists.new) ≡ undone changes.old.items (listed lists.old)) }
     ensures err { OnErr result ((listed lists.new ≡ listed lists.old) × (changes.new.items ≡ changes.old.items)) }
 {
-    lists.keys.reserve(1)?;
-    lists.amounts.reserve(1)?;
-    changes.push(Change::Opened)?;
-    lists.keys.push(key).unwrap();
-    lists.amounts.push(amount).unwrap();
-    Ok(())
-}
-
-/// Changes a balance, at its index.
-pub fn move_balance(
-    lists: &mut Lists,
-    changes: &mut Vec<Change>,
-    index: usize,
-    amount: u64,
-) -> Result<(), AllocError>
-    requires { index < length lists.old.amounts.items }
-    ensures moved { OnOk result (listed lists.new ≡ record (listed lists.old) { amounts = slice_set lists.old.amounts.items index amount }) }
-    ensures before { OnOk result (undone changes.new.items (listed lists.new) ≡ undone changes.old.items (listed lists.old)) }
-    ensures err { OnErr result ((listed lists.new ≡ listed lists.old) × (changes.new.items ≡ changes.old.items)) }
-{
-    let was = lists.amounts[index];
-    changes.push(Change::Moved { index, was })?;
-    lists.amounts[index] = amount;
+    changes.reserve(1)?;
+    let was = lists.record_balance(&key, amount)?;
+    changes.push(Change::Moved { key, was }).unwrap();
     Ok(())
 }

@@ -6,9 +6,10 @@ ghost use Rattle.desk_lists.specs.Lists.{balance_in, content_in, listed};
 ghost use Rattle.desk_register.specs.Looked.{held_cash_of, held_of};
 ghost use Rattle.desk_lists.specs.Search.{amount_by, key_by, sum_of};
 
+use crate::balance_key::BalanceKey;
 use crate::balances::balance_of;
 use crate::entries::{account_by, participant_by};
-use crate::lists::{BalanceKey, Lists};
+use crate::lists::Lists;
 use desk_codes::{Ccy, Isin};
 use desk_rules::Entry;
 

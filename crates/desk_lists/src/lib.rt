@@ -1,14 +1,16 @@
 //! The register in plain lists: the model of a store, in memory.
 //!
 //! `ListRegister`, in `list_register.rt`, meets the law of `desk_register`; contracts see it by `view_of_lists` of
-//! specs/ListView.antt. `calls.rt` has its calls. `lists.rt` has the lists, with the changes that `back` undoes;
-//! `changes.rt` makes each and undoes it. All that changes goes through it: `appending`, `requests`, `standings`,
+//! specs/ListView.antt. `calls.rt` has its calls. `lists.rt` has the lists, with the changes that `back` undoes,
+//! and `balance_key.rt` what a balance is of;
+//! `changes.rt` makes each and undoes it, balances by `recording`. All that changes goes through it: `appending`, `requests`, `standings`,
 //! `balances`, `settling` and `messages`. The rest only reads: `by_number` and `history` the entries, `entries` what
 //! one entry says, `holdings` the balances, and `opposites`, `due_pairs`, `securities` and `next_holding` search in
 //! order. `wrapped` is what a register that keeps look-ups beside the lists asks of them. Begin with `calls.rt`.
 #![tactic(auto)]
 
 mod appending;
+mod balance_key;
 mod balances;
 mod by_number;
 mod calls;
@@ -22,6 +24,7 @@ mod lists;
 mod messages;
 mod next_holding;
 mod opposites;
+mod recording;
 mod requests;
 mod securities;
 mod settling;

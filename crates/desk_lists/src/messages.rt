@@ -4,7 +4,8 @@ ghost use Rattle.std.specs.List.{find};
 ghost use Rattle.desk_register.specs.Changes.{with_sent};
 ghost use Rattle.desk_rules.specs.Confirmations.{is_confirmation};
 ghost use Rattle.desk_rules.specs.Questions.{confirms_it};
-ghost use Rattle.desk_lists.specs.Lists.{content_in, listed, undone, SameTotals};
+ghost use Rattle.desk_lists.specs.Lists.{content_in, listed, undone};
+ghost use Rattle.desk_lists.specs.Moves.{SameTotals};
 
 use crate::changes::push_sent;
 use crate::lists::{Change, Lists};

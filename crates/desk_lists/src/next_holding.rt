@@ -1,63 +1,78 @@
 //! The holdings of an account, in the order of the ISINs.
-ghost use Rattle.desk_lists.specs.Lists.{content_in, listed};
+ghost use Rattle.std.specs.Prelude.{◌≡◌, Some, None};
+ghost use Rattle.desk_lists.specs.BalanceKeys.{first_key, least_isin};
+ghost use Rattle.desk_lists.specs.Lists.{balance_in, content_in, listed};
 ghost use Rattle.desk_register.specs.Looked.{IsHoldingAfter};
-ghost use Rattle.desk_lists.specs.Search.{IsFirstHeld, IsHeldBy};
+ghost use Rattle.desk_lists.specs.Search.{IsHeldAt};
 
+use crate::balance_key::BalanceKey;
 use crate::balances::balance_of;
-use crate::lists::{BalanceKey, Lists};
-use crate::securities::{is_above, lesser};
+use crate::lists::Lists;
+use crate::securities::is_above;
 use desk_codes::{AccountId, Isin};
 use desk_register::Holding;
 
-/// The security of a key, where it is of a position of this account, of which some is held, above one or above none.
-fn held_by(
-    lists: &Lists,
-    key: &BalanceKey,
-    account: &AccountId,
-    above: &Option<Isin>,
-) -> Option<Isin>
-    ensures { IsHeldBy (listed lists.now) account.now above.now key.now result }
+/// The least of all ISINs.
+fn least_isin() -> Isin
+    ensures { result ≡ least_isin }
 {
-    let BalanceKey::Position {
-        account: holder,
-        isin,
-    } = key
-    else {
-        return None;
-    };
-    if holder != account {
-        return None;
+    Isin::parse(b"AA0000000006").unwrap()
+}
+
+/// Where to begin, to find what an account holds above a security, or above none.
+fn first_key(account: &AccountId, above: &Option<Isin>) -> BalanceKey
+    ensures { result ≡ first_key account.now above.now }
+{
+    BalanceKey::Position {
+        account: *account,
+        isin: match above {
+            Some(isin) => *isin,
+            None => least_isin(),
+        },
     }
-    if balance_of(lists, key) == 0 {
+}
+
+/// What is held of a position's security, where it is some, and above one, or above none.
+fn held_at(lists: &Lists, account: &AccountId, isin: &Isin, above: &Option<Isin>) -> Option<Holding>
+    ensures { IsHeldAt (content_in (listed lists.now)) account.now above.now isin.now result }
+{
+    let quantity = balance_of(
+        lists,
+        &BalanceKey::Position {
+            account: *account,
+            isin: *isin,
+        },
+    );
+    if quantity == 0 {
         return None;
     }
     if is_above(above, isin) {
-        return Some(*isin);
+        return Some(Holding {
+            isin: *isin,
+            quantity,
+        });
     }
     None
-}
-
-/// The first security above one, or above none, of which an account holds some.
-fn first_held(lists: &Lists, account: &AccountId, above: &Option<Isin>) -> Option<Isin>
-    ensures { IsFirstHeld (listed lists.now) account.now above.now result }
-{
-    let mut best = None;
-    for index in 0..lists.keys.len() {
-        let candidate = held_by(lists, &lists.keys[index], account, above);
-        best = lesser(best, candidate);
-    }
-    best
 }
 
 /// The first holding of an account above a security, or above none, in the order of the ISINs.
 pub fn holding_after(lists: &Lists, account: &AccountId, above: &Option<Isin>) -> Option<Holding>
     ensures { IsHoldingAfter (content_in (listed lists.now)) account.now above.now result }
 {
-    let isin = first_held(lists, account, above)?;
-    let key = BalanceKey::Position {
-        account: *account,
-        isin,
-    };
-    let quantity = balance_of(lists, &key);
-    Some(Holding { isin, quantity })
+    for (key, _) in lists.balances.range(first_key(account, above)..) {
+        let BalanceKey::Position {
+            account: holder,
+            isin,
+        } = key
+        else {
+            return None;
+        };
+        if holder != account {
+            return None;
+        }
+        if let Some(holding) = held_at(lists, account, isin, above) {
+            return Some(holding);
+        }
+    }
+    None
 }

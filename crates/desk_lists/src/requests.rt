@@ -6,7 +6,8 @@ ghost use Rattle.desk_rules.specs.History.{instruction_at};
 ghost use Rattle.desk_rules.specs.Verdict.{if_of_type};
 ghost use Rattle.desk_lists.specs.Named.{number_named};
 ghost use Rattle.desk_register.specs.Changes.{requested_by, requests_noted};
-ghost use Rattle.desk_lists.specs.Lists.{content_in, listed, standing_in, undone, SameBooks};
+ghost use Rattle.desk_lists.specs.Lists.{content_in, listed, standing_in, undone};
+ghost use Rattle.desk_lists.specs.Moves.{SameBooks};
 
 use crate::by_number::{instruction, standing};
 use crate::history::number_of_key;

@@ -1,12 +1,13 @@
 //! A pair, settled in the lists.
 ghost use Rattle.std.specs.Prelude.{◌≡◌, ◌<◌, ◌≤◌, ◌+◌, ◌^◌, ◌↔◌, ℕ, Some, None, false, length, IfOk, IsTrue, OnOk};
 ghost use Rattle.desk_register.specs.Changes.{CanSettle, FitsCash, HasCash, LacksCash, SidesFit, TriesPair, TriesSides, delivering_side, receiving_side};
-ghost use Rattle.desk_lists.specs.Lists.{balance_in, content_in, listed, undone, with_less, with_more, SameEntries, SameTotals};
-ghost use Rattle.desk_lists.specs.Moves.{moved_between, paid_between};
+ghost use Rattle.desk_lists.specs.Lists.{balance_in, content_in, listed, undone};
+ghost use Rattle.desk_lists.specs.Moves.{with_less, with_more, SameEntries, SameTotals, moved_between, paid_between};
 
+use crate::balance_key::BalanceKey;
 use crate::balances::{add_to, balance_of, take_from};
 use crate::by_number::{instruction, standing};
-use crate::lists::{BalanceKey, Change, Lists};
+use crate::lists::{Change, Lists};
 use crate::standings::stand_both;
 use desk_codes::Bic;
 use desk_msg::{Cash, Reason};

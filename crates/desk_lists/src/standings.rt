@@ -1,7 +1,8 @@
 //! Where entries stand, changed in the lists by their numbers.
 ghost use Rattle.std.specs.Prelude.{◌≡◌, ◌<◌, ◌≤◌, ◌-◌, length, OnOk};
 ghost use Rattle.desk_register.specs.Changes.{cancelled, pair_cancelled, paired, CanCancel, CanCancelPair, CanPair, standing_at, standing_both};
-ghost use Rattle.desk_lists.specs.Lists.{content_in, listed, undone, standing_in, SameBooks};
+ghost use Rattle.desk_lists.specs.Lists.{content_in, listed, undone, standing_in};
+ghost use Rattle.desk_lists.specs.Moves.{SameBooks};
 
 use crate::by_number::standing;
 use crate::changes::stand;

@@ -9,9 +9,9 @@ ghost use Rattle.desk_register.specs.Looked.{IsDue, IsOppositeAt};
 ghost use Rattle.desk_register.specs.View.{Falls, IsLater};
 ghost use Rattle.desk_lists.specs.ListView.{view_of_lists};
 
+use crate::balance_key::BalanceKey;
 use crate::balances::balance_of;
 use crate::list_register::ListRegister;
-use crate::lists::BalanceKey;
 use crate::{by_number, due_pairs, entries, opposites};
 use desk_codes::{AccountId, Bic, Ccy, Isin};
 use desk_msg::Kind;

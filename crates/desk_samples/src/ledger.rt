@@ -30,6 +30,7 @@ pub struct Ledger {
 impl Model for Ledger {
     ghost use Rattle.std.specs.Prelude.{◌≡◌};
     ghost use Rattle.desk_rules.specs.Books.{Books};
+    ghost use Rattle.desk_lists.specs.contracts.list_register.ListRegister as lists;
     ghost use Rattle.desk_lists.specs.declared.list_register.ListRegister.{ListRegister};
     ghost use Rattle.desk_register.specs.declared.register.Stage.TheVariants.{Idle};
     ghost use Rattle.desk_engine.specs.Applied.{Keeps};
@@ -38,6 +39,8 @@ impl Model for Ledger {
     ghost Value = { ListRegister };
 
     ghost view = { λ ledger. ledger.register };
+
+    ghost coded = { lists.the_row.coded };
 
     ghost invariant = { λ ledger. ((view_of_lists ledger.register).stage ≡ Idle) × ((books : Books) × Keeps (view_of_lists ledger.register).room books (view_of_lists ledger.register).content) };
 }

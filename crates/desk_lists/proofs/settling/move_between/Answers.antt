@@ -1,5 +1,6 @@
 use Rattle.std.proofs.Common.{◌≡◌, arith, ap}
-use Rattle.desk_lists.specs.Lists.{balance_in, listed, with_less}
+use Rattle.desk_lists.specs.Lists.{balance_in, listed}
+use Rattle.desk_lists.specs.Moves.{with_less}
 use Rattle.desk_lists.proofs.BalanceLemmas.{then_with_more}
 use Rattle.desk_lists.proofs.SettleLemmas.{taken_fits}
 use Rattle.desk_lists.proofs.settling.move_between.Goals as goal

@@ -1,11 +1,11 @@
-use Rattle.std.proofs.Common.{◌<◌, ◌≤◌, refl, subst, sym, arith}
+use Rattle.std.proofs.Common.{◌+◌, ◌<◌, ◌≤◌, ◌^◌, refl, ap, subst, sym, arith}
 use Rattle.desk_rules.specs.declared.entry.Instructed.{Instructed}
 use Rattle.desk_rules.specs.Content.{CashBalances}
 use Rattle.desk_register.specs.Changes.{FitsCash, HasCash, LacksCash}
-use Rattle.desk_lists.specs.declared.lists.BalanceKey.TheVariants.{Cash, Position}
+use Rattle.desk_lists.specs.declared.balance_key.BalanceKey.TheVariants.{Cash, Position}
 use Rattle.desk_lists.specs.Lists.{listed, balance_in}
-use Rattle.desk_lists.proofs.AppendLemmas.{stood_content}
-use Rattle.desk_lists.proofs.SettleLemmas.{same_cash, settled_content, settled_totals}
+use Rattle.desk_lists.proofs.AppendLemmas.{same_balances, stood_content}
+use Rattle.desk_lists.proofs.SettleLemmas.{same_cash, settled_content, settled_totals, stood_totals}
 use Rattle.desk_lists.proofs.settling.settle_sides.Goals as goal
 
 pub returns-then-balance_of-quantity-clause-settled : goal.returns-then-balance_of-quantity-clause-settled
@@ -26,6 +26,28 @@ returns-then-lacks_cash-clause-settled c =
       subst Lacks c.receipt-to.ensures (c.if-lacks_cash.ensures.lacks refl),
       stood_content (listed l) (listed c.stand_both-then-lacks_cash.new.lists) _ stood.rest stood.stands,
     )
+
+pub returns-then-balance_of-quantity-clause-rest : goal.returns-then-balance_of-quantity-clause-rest
+returns-then-balance_of-quantity-clause-rest c = stood_totals (listed c.args.lists.now) (listed c.stand_both.new.lists) c.in_ok-stand_both.ensures.rest
+
+pub returns-then-lacks_cash-clause-rest : goal.returns-then-lacks_cash-clause-rest
+returns-then-lacks_cash-clause-rest c = stood_totals (listed c.args.lists.now) (listed c.stand_both-then-lacks_cash.new.lists) c.in_ok-stand_both-2.ensures.rest
+
+pub move_between-requires-clause-held : goal.move_between-requires-clause-held
+move_between-requires-clause-held c =
+    let later = c.args.later.now.instruction in
+    let same = ap (λ b. b (Position c.delivery-from.result.now.instruction.account later.isin)) (same_balances (listed c.args.lists.now) (listed c.stand_both-2.new.lists) c.in_ok-stand_both-3.ensures.rest) in
+    omega (arith, same, c.balance_of.ensures)
+
+pub move_between-requires-clause-fits : goal.move_between-requires-clause-fits
+move_between-requires-clause-fits c =
+    let l = c.args.lists.now in
+    let later = c.args.later.now.instruction in
+    let IsThere : Instructed → Type 0 = λ d. later.quantity ≤ balance_in (listed l) (Position d.instruction.account later.isin) in
+    let Fits : Instructed → Type 0 = λ r. balance_in (listed l) (Position r.instruction.account later.isin) + later.quantity < 2 ^ 63 in
+    let fits = subst Fits (sym c.receipt-to.ensures) (c.requires.fits.securities (subst IsThere c.delivery-from.ensures (omega (arith, c.balance_of.ensures)))) in
+    let same = ap (λ b. b (Position c.receipt-to.result.now.instruction.account later.isin)) (same_balances (listed l) (listed c.stand_both-2.new.lists) c.in_ok-stand_both-3.ensures.rest) in
+    omega (arith, same, fits)
 
 pub pay-requires-clause-held : goal.pay-requires-clause-held
 pay-requires-clause-held c =

@@ -1,0 +1,49 @@
+//! The balances that are recorded, by their keys.
+ghost use Rattle.std.specs.Prelude.{◌≡◌, Some, IfOk, OnOk, OnErr};
+ghost use Rattle.std.specs.BTreeMap.{get};
+ghost use Rattle.desk_lists.specs.BalanceKeys.{balance_cmp, put_back, with_record, HasNoneBelow, IsFromLeast};
+
+use crate::balance_key::BalanceKey;
+use std::alloc::AllocError;
+use std::collections::BTreeMap;
+
+/// Records a balance, and gives what was recorded of it.
+pub fn record(
+    balances: &mut BTreeMap<BalanceKey, u64>,
+    key: &BalanceKey,
+    amount: u64,
+) -> Result<Option<u64>, AllocError>
+    ensures put { OnOk result (get balance_cmp balances.new ≡ with_record (get balance_cmp balances.old) key.now (Some amount)) }
+    ensures was { IfOk result (λ was. was ≡ get balance_cmp balances.old key.now) }
+    ensures err { OnErr result (get balance_cmp balances.new ≡ get balance_cmp balances.old) }
+    ensures floored { HasNoneBelow (get balance_cmp balances.old) → HasNoneBelow (get balance_cmp balances.new) }
+{
+    is_from_least(key);
+    Ok(balances.insert(*key, amount)?)
+}
+
+/// The key of a position has an ISIN, so none below the least.
+fn is_from_least(key: &BalanceKey)
+    ensures { IsFromLeast key.now }
+{
+    if let BalanceKey::Position { isin, .. } = key {
+        let _ = isin.as_bytes();
+    }
+}
+
+/// Lets a balance that is recorded be so much again, or takes it out. No memory is taken.
+pub fn put_back(balances: &mut BTreeMap<BalanceKey, u64>, key: &BalanceKey, was: Option<u64>)
+    ensures back { get balance_cmp balances.new ≡ put_back (get balance_cmp balances.old) key.now was }
+    ensures floored { HasNoneBelow (get balance_cmp balances.old) → HasNoneBelow (get balance_cmp balances.new) }
+{
+    match was {
+        Some(was) => {
+            if let Some(amount) = balances.get_mut(key) {
+                *amount = was;
+            }
+        }
+        None => {
+            let _ = balances.remove(key);
+        }
+    }
+}
