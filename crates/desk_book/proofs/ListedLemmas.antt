@@ -16,7 +16,8 @@ use Rattle.desk_rules.specs.Facts.{or_else, kind_by, kind_of}
 use Rattle.desk_rules.proofs.Decided.{In, filter-In}
 use Rattle.desk_rules.proofs.Existence.{filter_fewer}
 use Rattle.desk_rules.specs.Content.{Content, history_of}
-use Rattle.desk_register.specs.Looked.{IsLess, IsAboveText, IsRegisteredAbove, IsSecurityAfter, security_by}
+use Rattle.desk_register.specs.Looked.{IsLess, IsAboveText, IsRegisteredAbove, IsSecurityAfter}
+use Rattle.desk_register.specs.Registered.{security_by}
 use Rattle.desk_register.proofs.CaseLemmas.{same_bytes}
 use Rattle.desk_book.specs.declared.total.SecurityTotal.{SecurityTotal}
 use Rattle.desk_book.specs.Totals.{AreTotals, IsTotal}

@@ -5,10 +5,10 @@ use Rattle.std.specs.Io.KnownBytes.{Appends}
 use Rattle.std.proofs.KnownBytes.{Appends-nil, Appends-trans}
 use Rattle.desk_rules.specs.declared.reply.Reply.{Reply}
 use Rattle.desk_rules.specs.Books.{Books}
-use Rattle.desk_register.specs.View.{View, IsLater}
+use Rattle.desk_register.specs.View.{View, IfCounted, IsLater}
 use Rattle.desk_book.specs.declared.fault.Fault.{Fault}
 use Rattle.desk_book.specs.declared.fault.Fault.TheVariants.{Storage}
-use Rattle.desk_book.specs.Answered.{AnsweredInTurn, says_closed, says_storage}
+use Rattle.desk_book.specs.Answered.{AnsweredInTurn, BlamesRequest, says_closed, says_storage}
 use Rattle.desk_book.specs.Asked.{Asked, asked_by}
 use Rattle.desk_book.specs.declared.request.Request.{Request}
 use Rattle.desk_book.specs.Held.{Holds, Steps}
@@ -24,13 +24,13 @@ use Rattle.desk_book.proofs.RunLemmas.{counted_one, counted_then, run_then}
 -- One item.
 
 pub one_played : (was : Bool) (books : Books) (asked : Asked) (answer : Result Reply Fault) (is : Bool) (old new : View) → is ≡ says_closed answer → IsLater old new
-    → (was ≡ true → says_closed answer ≡ true) → (answer ≡ Err Storage → old.failures < new.failures) → Steps old.room books asked answer is new
+    → (was ≡ true → says_closed answer ≡ true) → BlamesRequest answer old new → Steps old.room books asked answer is new
     → HasPlayed was books (ask asked ∷ []) (answer ∷ []) is old new
 one_played was books asked answer is old new closed later stays blame s = record {
   last = s.next;
   in_turn = (stays, (s.next, s.step, (closed, refl)));
   holds = s.holds;
-  blame = counted_one answer old.failures new.failures later.failures blame;
+  blame = counted_one answer old new later blame;
 }
 
 pub item_written : {E : Type 0} (was : Bool) (books : Books) (item : ScriptItem) (request : Request) (answer : Result Reply Fault) (text : List ℕ) (before after : Option (List ℕ)) (is : Bool) (old new : View) (r : Result (Unit {0}) E)
@@ -42,8 +42,8 @@ item_written was books item request answer text before after is old new (Ok done
     subst P (sym same) (record { answers = answer ∷ []; played = played; written = subst Q (shown ∙ sym (append-nil (answer_text answer))) written })
 item_written was books item request answer text before after is old new (Err fault) same shown played written = tt
 
-none_counted : (view : View) → count_by says_storage [] + view.failures ≤ view.failures
-none_counted view = omega arith
+none_counted : (view : View) → IfCounted view (count_by says_storage [] + view.failures ≤ view.failures)
+none_counted view honest few = omega arith
 
 pub bad_line_played : (was : Bool) (books : Books) (view : View) → Holds was view books → HasPlayed was books (bad_line ∷ []) [] was view view
 bad_line_played was books view holds = record {
@@ -71,9 +71,9 @@ text_then limit was books (ask asked ∷ items) more (answer ∷ answers) others
     ap (λ text. answer_text answer ++ text) (text_then limit (says_closed answer) run.1.0 items more answers others is last run.1.2)
     ∙ sym (append_assoc (answer_text answer) (answers_text items answers) (answers_text more others))
 
-play_then : (was is next : Bool) (books : Books) (front items : List Item) (answers others : List (Result Reply Fault)) (v0 v1 v2 : View) → IsLater v0 v1
+play_then : (was is next : Bool) (books : Books) (front items : List Item) (answers others : List (Result Reply Fault)) (v0 v1 v2 : View) → IsLater v0 v1 → IsLater v1 v2
     → (first : HasPlayed was books front answers is v0 v1) → HasPlayed is first.last items others next v1 v2 → HasPlayed was books (front ++ items) (answers ++ others) next v0 v2
-play_then was is next books front items answers others v0 v1 v2 soon first second =
+play_then was is next books front items answers others v0 v1 v2 soon later first second =
     let P : ℕ → Type 0 = λ k. AnsweredInTurn k is first.last (asked_in items) others next second.last in
     let Q : List Asked → Type 0 = λ requests. AnsweredInTurn v0.room was books requests (answers ++ others) next second.last in
     let run = run_then v0.room was books (asked_in front) (asked_in items) answers others is next first.last second.last first.in_turn (subst P soon.room second.in_turn) in
@@ -81,7 +81,7 @@ play_then was is next books front items answers others v0 v1 v2 soon first secon
       last = second.last;
       in_turn = subst Q (sym (asked_then front items)) run;
       holds = second.holds;
-      blame = counted_then answers others v0.failures v1.failures v2.failures first.blame second.blame;
+      blame = counted_then answers others v0 v1 v2 later first.blame second.blame;
     }
 
 -- The loop over a script.
@@ -109,15 +109,15 @@ spells_more script behind after front item spells first items is =
     let P : List Item → Type 0 = λ xs. Script script xs in
     subst P (sym (append_assoc front (item ∷ []) items)) (spells (item ∷ items) (first.then items is))
 
-pub more_so_far : (v0 v1 v2 : View) (was is next : Bool) (books : Books) (script behind rest : List ℕ) (a b c : Option (List ℕ)) (item : Item) → IsLater v0 v1
+pub more_so_far : (v0 v1 v2 : View) (was is next : Bool) (books : Books) (script behind rest : List ℕ) (a b c : Option (List ℕ)) (item : Item) → IsLater v0 v1 → IsLater v1 v2
     → (s : SoFar was books script behind a b is v0 v1) → BeginsWith (script_lines behind) item rest → PlaysItem is s.played.last item b c next v1 v2 → SoFar was books script rest a c next v0 v2
-more_so_far v0 v1 v2 was is next books script behind rest a b c item soon s first p =
+more_so_far v0 v1 v2 was is next books script behind rest a b c item soon later s first p =
     let P : List ℕ → Type 0 = λ text. Appends a c text in
     record {
       front = s.front ++ item ∷ [];
       spells = spells_more script behind rest s.front item s.spells first;
       answers = s.answers ++ p.answers;
-      played = play_then was is next books s.front (item ∷ []) s.answers p.answers v0 v1 v2 soon s.played p.played;
+      played = play_then was is next books s.front (item ∷ []) s.answers p.answers v0 v1 v2 soon later s.played p.played;
       written = subst P (sym (text_then v0.room was books s.front (item ∷ []) s.answers p.answers is s.played.last s.played.in_turn))
           (Appends-trans a b c (answers_text s.front s.answers) (answers_text (item ∷ []) p.answers) s.written p.written);
     }
@@ -135,13 +135,13 @@ script_played was is books script behind a b old new s none = record {
 pub front_played : (was is : Bool) (books : Books) (script behind : List ℕ) (a b : Option (List ℕ)) (old new : View) → SoFar was books script behind a b is old new → PlaysFront was books script is old new
 front_played was is books script behind a b old new s = record { front = s.front; behind = behind; spells = s.spells; answers = s.answers; played = s.played }
 
-pub front_and_one : (v0 v1 v2 : View) (was is next : Bool) (books : Books) (script behind rest : List ℕ) (a b : Option (List ℕ)) (item : Item) → IsLater v0 v1
+pub front_and_one : (v0 v1 v2 : View) (was is next : Bool) (books : Books) (script behind rest : List ℕ) (a b : Option (List ℕ)) (item : Item) → IsLater v0 v1 → IsLater v1 v2
     → (s : SoFar was books script behind a b is v0 v1) → BeginsWith (script_lines behind) item rest → (answers : List (Result Reply Fault)) × HasPlayed is s.played.last (item ∷ []) answers next v1 v2
     → PlaysFront was books script next v0 v2
-front_and_one v0 v1 v2 was is next books script behind rest a b item soon s first p = record {
+front_and_one v0 v1 v2 was is next books script behind rest a b item soon later s first p = record {
   front = s.front ++ item ∷ [];
   behind = rest;
   spells = spells_more script behind rest s.front item s.spells first;
   answers = s.answers ++ p.0;
-  played = play_then was is next books s.front (item ∷ []) s.answers p.0 v0 v1 v2 soon s.played p.1;
+  played = play_then was is next books s.front (item ∷ []) s.answers p.0 v0 v1 v2 soon later s.played p.1;
 }

@@ -7,11 +7,11 @@ use Rattle.std.proofs.lemmas.List.Sums.{sum_by-append}
 use Rattle.std.specs.Prelude.{Result, Ok, Err, IfOk}
 use Rattle.desk_rules.specs.declared.reply.Reply.{Reply}
 use Rattle.desk_rules.specs.Books.{Books}
-use Rattle.desk_register.specs.View.{View, IsLater}
+use Rattle.desk_register.specs.View.{View, IfCounted, IsLater}
 use Rattle.desk_book.specs.declared.fault.Fault.{Fault}
 use Rattle.desk_book.specs.declared.fault.Fault.TheVariants.{Memory, Storage, Closed}
 use Rattle.desk_book.specs.declared.task.Task.{Task}
-use Rattle.desk_book.specs.Answered.{AnsweredInTurn, Step, says_closed, says_storage}
+use Rattle.desk_book.specs.Answered.{AnsweredInTurn, BlamesRequest, Step, says_closed, says_storage}
 use Rattle.desk_book.specs.Asked.{Asked, asked_by}
 use Rattle.desk_book.specs.declared.request.Request.{Request}
 use Rattle.desk_book.specs.Held.{Holds, Steps}
@@ -107,20 +107,22 @@ open_all_along limit was books last (asked ∷ more) (answer ∷ answers) run =
 -- Whose fault it was.
 
 -- an answer that names the device counts once
-pub counted_one : (answer : Result Reply Fault) (before now : ℕ) → before ≤ now → (answer ≡ Err Storage → before < now) → count_by says_storage (answer ∷ []) + before ≤ now
-counted_one (Ok reply) before now le blame = omega arith
-counted_one (Err Memory) before now le blame = omega arith
-counted_one (Err Storage) before now le blame = let lt = blame refl in omega arith
-counted_one (Err Closed) before now le blame = omega arith
+pub counted_one : (answer : Result Reply Fault) (v0 v1 : View) → IsLater v0 v1 → BlamesRequest answer v0 v1 → IfCounted v1 (count_by says_storage (answer ∷ []) + v0.failures ≤ v1.failures)
+counted_one (Ok reply) v0 v1 later blame honest few = (let le = later.failures in omega arith)
+counted_one (Err Memory) v0 v1 later blame honest few = (let le = later.failures in omega arith)
+counted_one (Err Storage) v0 v1 later blame honest few = (let lt = blame.storage refl honest few in omega arith)
+counted_one (Err Closed) v0 v1 later blame honest few = (let le = later.failures in omega arith)
 
-pub counted_then : (answers others : List (Result Reply Fault)) (before between now : ℕ) → count_by says_storage answers + before ≤ between → count_by says_storage others + between ≤ now
-    → count_by says_storage (answers ++ others) + before ≤ now
-counted_then answers others before between now first second =
+pub counted_then : (answers others : List (Result Reply Fault)) (v0 v1 v2 : View) → IsLater v1 v2 → IfCounted v1 (count_by says_storage answers + v0.failures ≤ v1.failures)
+    → IfCounted v2 (count_by says_storage others + v1.failures ≤ v2.failures) → IfCounted v2 (count_by says_storage (answers ++ others) + v0.failures ≤ v2.failures)
+counted_then answers others v0 v1 v2 later before now honest few =
     let f : Result Reply Fault → ℕ = λ answer. cond (says_storage answer) 1 0 in
     let sum = sum_by-append f answers others in
+    let le = later.failures in
+    let first = before (later.honest honest) (omega arith) in
+    let second = now honest few in
     rw sum (omega arith)
 
-pub blamed : (v0 v1 v2 : View) (answers : List (Result Reply Fault)) (answer : Result Reply Fault) → IsLater v1 v2 → count_by says_storage answers + v0.failures ≤ v1.failures
-    → (answer ≡ Err Storage → v1.failures < v2.failures) → count_by says_storage (answers ++ answer ∷ []) + v0.failures ≤ v2.failures
-blamed v0 v1 v2 answers answer second before now =
-    counted_then answers (answer ∷ []) v0.failures v1.failures v2.failures before (counted_one answer v1.failures v2.failures second.failures now)
+pub blamed : (v0 v1 v2 : View) (answers : List (Result Reply Fault)) (answer : Result Reply Fault) → IsLater v1 v2 → IfCounted v1 (count_by says_storage answers + v0.failures ≤ v1.failures)
+    → BlamesRequest answer v1 v2 → IfCounted v2 (count_by says_storage (answers ++ answer ∷ []) + v0.failures ≤ v2.failures)
+blamed v0 v1 v2 answers answer later before now = counted_then answers (answer ∷ []) v0 v1 v2 later before (counted_one answer v1 v2 later now)

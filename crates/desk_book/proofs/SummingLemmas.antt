@@ -8,7 +8,7 @@ use Rattle.desk_register.specs.declared.register.Stage.TheVariants.{Idle, Failed
 use Rattle.desk_register.specs.View.{View, IsLater, Stays, fallen, IsRead}
 use Rattle.desk_rules.specs.Content.{Content, history_of}
 use Rattle.desk_register.specs.Looked.{IsSecurityAfter}
-use Rattle.desk_register.proofs.ViewLemmas.{idle_goes, later_then, stays_then}
+use Rattle.desk_register.proofs.ViewLemmas.{blames_none, blames_then, idle_goes, later_then, stays_then}
 use Rattle.desk_book.specs.declared.total.SecurityTotal.{SecurityTotal}
 use Rattle.desk_book.specs.Totals.{AreTotals, IsTotal}
 use Rattle.desk_book.proofs.ListedLemmas.{Gathered, gathers_none, gathers_one, gathered_all, gathered_enough}
@@ -35,7 +35,7 @@ module _ (v0 v1 : View) (h : HasRead v0 v1) where
 
   -- and one that may have failed
   pub read_then : {X : Type 0} (r : Result X Fault) (v2 : View) → IsRead r v1 v2 → IsRead r v0 v2
-  read_then (Ok x) v2 r = (let all = read_more x v2 r in record { same = all.same; ok = all.stays; err = tt; later = all.later; blame = tt })
+  read_then (Ok x) v2 r = (let all = read_more x v2 r in record { same = all.same; ok = all.stays; err = tt; later = all.later; blame = blames_none x v0 v2 })
   read_then (Err fault) v2 r = record {
     same = λ honest sure. tt;
     ok = tt;
@@ -45,7 +45,7 @@ module _ (v0 v1 : View) (h : HasRead v0 v1) where
       content = λ honest sure idle. (let honest1 = r.later.honest honest in let sure1 = r.later.sure honest sure in r.err.content honest sure (h.stays.stage ∙ idle) ∙ h.same honest1 (h.later.sure honest1 sure1));
     };
     later = later_then v0 v1 v2 h.stays h.later r.later;
-    blame = λ is. (let lt = r.blame is in let le = h.later.failures in omega arith);
+    blame = blames_then v0 v1 v2 h.stays h.later fault r.later r.blame;
   }
 
 -- The loop, after so many turns.

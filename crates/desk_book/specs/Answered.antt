@@ -1,5 +1,5 @@
 -- What the desk answers to a request, and how its books grow by it.
-use Rattle.std.specs.Prelude.{◌≡◌, ℕ, Bool, true, false, List, [], ◌∷◌, Result, Ok, Err}
+use Rattle.std.specs.Prelude.{◌≡◌, ◌≢◌, ◌<◌, ℕ, Bool, true, false, List, [], ◌∷◌, Result, Ok, Err}
 use Rattle.desk_rules.specs.declared.entry.Entry.{Entry}
 use Rattle.desk_rules.specs.declared.reply.Reply.{Reply}
 use Rattle.desk_rules.specs.declared.verdict.Verdict.{Verdict}
@@ -7,6 +7,7 @@ use Rattle.desk_rules.specs.declared.verdict.Verdict.TheVariants.{Accept, Repeat
 use Rattle.desk_rules.specs.Reply.{untyped_reply, AreNext, IsFirstReply, IsReply}
 use Rattle.desk_rules.specs.Books.{Books}
 use Rattle.desk_rules.specs.Verdict.{IsVerdict}
+use Rattle.desk_register.specs.View.{View, IfCounted}
 use Rattle.desk_book.specs.Asked.{Asked}
 use Rattle.desk_book.specs.Task.{IsTask}
 use Rattle.desk_book.specs.Sums.{sums_text}
@@ -61,6 +62,12 @@ says_closed answer = false
 abbrev pub says_storage : Result Reply Fault → Bool
 says_storage (Err Storage) = true
 says_storage answer = false
+
+-- The device is blamed where it failed in the request, and nowhere else: the count of its failures has grown after 61,
+-- and is as it was after every answer but 61 and 62.
+pub record BlamesRequest (result : Result Reply Fault) (old new : View) : Type 0 where
+  pub storage : result ≡ Err Storage → IfCounted new (old.failures < new.failures)
+  pub otherwise : result ≢ Err Storage → says_closed result ≡ false → IfCounted new (new.failures ≡ old.failures)
 
 -- Requests were answered one after another, from one state and books to another. Once closed, a desk answers nothing else.
 abbrev pub AnsweredInTurn : ℕ → Bool → Books → List Asked → List (Result Reply Fault) → Bool → Books → Type 0

@@ -1,5 +1,5 @@
 -- How an answer comes about. Only private contracts speak of it.
-use Rattle.std.specs.Prelude.{◌≡◌, ◌≢◌, ◌<◌, ℕ, Bool, false, [], ◌∷◌, ◌++◌, Result, Ok, Err, OnErr}
+use Rattle.std.specs.Prelude.{◌≡◌, ◌≢◌, ℕ, Bool, false, [], ◌∷◌, ◌++◌, Result, Ok, Err, OnErr}
 use Rattle.desk_rules.specs.declared.entry.Entry.{Entry}
 use Rattle.desk_rules.specs.declared.reply.Reply.{Reply}
 use Rattle.desk_rules.specs.Books.{Books}
@@ -8,24 +8,24 @@ use Rattle.desk_rules.specs.Reply.{reply_to}
 use Rattle.desk_register.specs.declared.register.Fault.{Fault as RegisterFault}
 use Rattle.desk_register.specs.declared.register.Fault.TheVariants as registers
 use Rattle.desk_register.specs.declared.register.Stage.TheVariants.{Idle}
-use Rattle.desk_register.specs.View.{View, IsLater}
+use Rattle.desk_register.specs.View.{View, IfCounted, IsLater}
 use Rattle.desk_engine.specs.declared.accepting.Failure.{Failure}
 use Rattle.desk_engine.specs.declared.accepting.Failure.TheVariants.{Undone, Lost}
 use Rattle.desk_engine.specs.Applied.{Keeps}
-use Rattle.desk_book.specs.Answered.{says_closed, IsAnswer, IsDecided}
+use Rattle.desk_book.specs.Answered.{says_closed, BlamesRequest, IsAnswer, IsDecided}
 use Rattle.desk_book.specs.Held.{Holds, KeepsFormed}
 use Rattle.desk_book.specs.declared.task.Task.{Task}
 use Rattle.desk_book.specs.declared.fault.Fault.{Fault}
 use Rattle.desk_book.specs.declared.fault.Fault.TheVariants.{Memory, Storage, Closed}
 
 -- How a request to an open desk ends. Unless it closes the desk, no `begin` is open and the register shows what it
--- holds; and after a fault that is what it held. A fault of the device is answered only where the device failed.
+-- holds; and after a fault that is what it held.
 pub record Ends (result : Result Reply Fault) (old new : View) : Type 0 where
   pub stage : says_closed result ≡ false → new.stage ≡ Idle
   pub sure : says_closed result ≡ false → new.is_honest → new.is_sure
   pub same : says_closed result ≡ false → new.is_honest → OnErr result (new.content ≡ old.content)
   pub later : IsLater old new
-  pub blame : result ≡ Err Storage → old.failures < new.failures
+  pub blame : BlamesRequest result old new
 
 -- an entry was decided on, and this is what is kept then
 pub record Decides (limit : ℕ) (books : Books) (entry : Entry) (reply : Reply) (content : Content) : Type 0 where
@@ -52,6 +52,7 @@ pub record AnswersFault (fault answer : Fault) (old : View) (content : Content) 
   pub held : answer ≢ Closed → new.is_honest → old.is_sure
   pub same : answer ≢ Closed → new.is_honest → new.content ≡ content
   pub later : IsLater old new
+  pub failures : answer ≢ Closed → IfCounted new (new.failures ≡ old.failures)
 
 -- an entry was taken in, and this is its reply
 pub record IsPut (limit : ℕ) (books : Books) (entry : Entry) (reply : Reply) (content : Content) : Type 0 where

@@ -3,7 +3,7 @@ use Rattle.std.specs.Prelude.{ℕ, ◌+◌, ◌≤◌, Bool, List, [], ◌∷◌
 use Rattle.std.specs.Io.KnownBytes.{Appends}
 use Rattle.desk_rules.specs.declared.reply.Reply.{Reply}
 use Rattle.desk_rules.specs.Books.{Books}
-use Rattle.desk_register.specs.View.{View}
+use Rattle.desk_register.specs.View.{View, IfCounted}
 use Rattle.desk_book.specs.declared.fault.Fault.{Fault}
 use Rattle.desk_book.specs.declared.fault.InputFault.{InputFault}
 use Rattle.desk_book.specs.declared.fault.InputFault.TheVariants.{Memory, ReadFailed, TooLong}
@@ -41,12 +41,12 @@ answers_text (ask asked ∷ items) [] = []
 answers_text (ask asked ∷ items) (answer ∷ answers) = answer_text answer ++ answers_text items answers
 
 -- Items were played from these books, and their requests got these answers in turn, to the books that the desk holds
--- then. No more answers name the device than it failed.
+-- then. No more answers name the device than it failed, as it is counted.
 pub record HasPlayed (was : Bool) (books : Books) (items : List Item) (answers : List (Result Reply Fault)) (is : Bool) (old new : View) : Type 0 where
   pub last : Books
   pub in_turn : AnsweredInTurn old.room was books (asked_in items) answers is last
   pub holds : Holds is new last
-  pub blame : count_by says_storage answers + old.failures ≤ new.failures
+  pub blame : IfCounted new (count_by says_storage answers + old.failures ≤ new.failures)
 
 -- a whole script was played, and its answers written
 pub record PlaysScript (was : Bool) (books : Books) (script : List ℕ) (before after : Option (List ℕ)) (is : Bool) (old new : View) : Type 0 where

@@ -1,8 +1,8 @@
 //! The desk: requests, answered from a register's tables.
-ghost use Rattle.std.specs.Prelude.{◌≡◌, ◌+◌, ◌<◌, ◌≤◌, true, false, map, All, count_by, Err, IfErr, IfOk, OnErr};
+ghost use Rattle.std.specs.Prelude.{◌≡◌, ◌+◌, ◌≤◌, true, false, map, All, count_by, IfErr, IfOk, OnErr};
 ghost use Rattle.desk_rules.specs.Books.{Books};
-ghost use Rattle.desk_register.specs.View.{IsLater};
-ghost use Rattle.desk_book.specs.Answered.{ActsOnce, AnsweredInTurn, says_closed, says_storage};
+ghost use Rattle.desk_register.specs.View.{IfCounted, IsLater};
+ghost use Rattle.desk_book.specs.Answered.{ActsOnce, AnsweredInTurn, BlamesRequest, says_closed, says_storage};
 ghost use Rattle.desk_book.specs.Asked.{asked_by};
 ghost use Rattle.desk_book.specs.Held.{Holds, IsReady, Steps};
 ghost use Rattle.desk_book.specs.Answering.{IsPerformed};
@@ -67,7 +67,7 @@ impl<R: Register> Desk<R> {
         ensures closed { self.new.is_closed ≡ says_closed result }
         ensures stays { self.old.is_closed ≡ true → says_closed result ≡ true }
         ensures later { IsLater (R.view self.old.register) (R.view self.new.register) }
-        ensures blame { result ≡ Err Fault.Storage → (R.view self.old.register).failures < (R.view self.new.register).failures }
+        ensures blame { BlamesRequest result (R.view self.old.register) (R.view self.new.register) }
         ensures in_memory { R.in_memory ≡ true → self.old.is_closed ≡ false → says_closed result ≡ false }
     {
         self.perform(alloc, task_of(alloc, request))
@@ -89,7 +89,7 @@ impl<R: Register> Desk<R> {
         ensures later { IsLater (R.view self.old.register) (R.view self.new.register) }
         ensures stays { self.old.is_closed ≡ true → IfOk result (λ answers. All (λ answer. says_closed answer ≡ true) answers.items) }
         ensures stays_closed { self.old.is_closed ≡ true → self.new.is_closed ≡ true }
-        ensures blame { IfOk result (λ answers. count_by says_storage answers.items + (R.view self.old.register).failures ≤ (R.view self.new.register).failures) }
+        ensures blame { IfOk result (λ answers. IfCounted (R.view self.new.register) (count_by says_storage answers.items + (R.view self.old.register).failures ≤ (R.view self.new.register).failures)) }
         ensures in_memory { R.in_memory ≡ true → self.old.is_closed ≡ false → self.new.is_closed ≡ false }
     {
         let Ok(mut answers) = Vec::with_capacity(alloc, requests.len()) else {
@@ -111,7 +111,7 @@ impl<R: Register> Desk<R> {
         ensures closed { self.new.is_closed ≡ says_closed result }
         ensures stays { self.old.is_closed ≡ true → says_closed result ≡ true }
         ensures later { IsLater (R.view self.old.register) (R.view self.new.register) }
-        ensures blame { result ≡ Err Fault.Storage → (R.view self.old.register).failures < (R.view self.new.register).failures }
+        ensures blame { BlamesRequest result (R.view self.old.register) (R.view self.new.register) }
         ensures in_memory { R.in_memory ≡ true → self.old.is_closed ≡ false → says_closed result ≡ false }
     {
         if self.is_closed {

@@ -43,8 +43,9 @@ use Rattle.std.specs.Prelude.{Err}
 use Rattle.desk_register.specs.declared.register.Fault.{Fault}
 use Rattle.desk_register.specs.declared.register.Fault.TheVariants.{Memory, Storage}
 use Rattle.desk_register.specs.declared.register.Stage.TheVariants.{Idle, Begun, Failed}
-use Rattle.desk_register.specs.View.{View, IsLater, IsRead, IsStep, Stays, fallen}
-use Rattle.desk_register.proofs.ViewLemmas.{later_then, stays_then}
+use Rattle.desk_register.specs.View.{View, IsLater, IsRead, Stays, fallen}
+use Rattle.desk_register.proofs.ViewLemmas.{blames_memory, later_then, same_blame, stays_then}
+use Rattle.desk_engine.specs.Steps.{IsStep}
 use Rattle.desk_engine.specs.Applied.{Keeps, IsMateOf, IsNamed, IsApplied, CanApply, HasApplied}
 use Rattle.desk_engine.proofs.AppendLemmas.{accepted_new}
 use Rattle.desk_engine.proofs.TablesLemmas.{one_books, length_is, pairs_known, accepted_in}
@@ -438,7 +439,7 @@ read_fails fault v0 v1 begun r = record {
     mark = r.err.mark;
   };
   later = r.later;
-  blame = r.blame;
+  blame = same_blame fault v0 v1 r.blame;
 }
 
 -- want of memory, after calls that went well, which touches nothing
@@ -452,5 +453,5 @@ want_step fault v0 v1 v2 begun stays later more further is =
         mark = λ honest sure. (let whole = later_then v0 v1 v2 stays later further in all.mark honest (whole.sure honest sure));
       };
       later = later_then v0 v1 v2 stays later further;
-      blame = λ other. (let clash : Memory ≡ Storage = sym is ∙ other in absurd (cc));
+      blame = blames_memory fault v0 v2 is all.failures;
     }

@@ -1,9 +1,10 @@
 -- How the step ends by which an accepted entry is taken in.
-use Rattle.std.specs.Prelude.{◌≡◌, ◌≢◌}
+use Rattle.std.specs.Prelude.{◌≡◌, ◌≢◌, ◌<◌, Result, Err}
 use Rattle.desk_register.specs.declared.register.Fault.{Fault}
+use Rattle.desk_register.specs.declared.register.Fault.TheVariants.{Memory, Storage}
 use Rattle.desk_register.specs.declared.register.Stage.TheVariants.{Idle}
 use Rattle.desk_rules.specs.Content.{Content}
-use Rattle.desk_register.specs.View.{View, IfTrusted, IsLater}
+use Rattle.desk_register.specs.View.{View, IfCounted, IfTrusted, IsLater}
 use Rattle.desk_engine.specs.declared.accepting.Failure.{Failure}
 use Rattle.desk_engine.specs.declared.accepting.Failure.TheVariants.{Undone, Lost}
 
@@ -11,6 +12,7 @@ use Rattle.desk_engine.specs.declared.accepting.Failure.TheVariants.{Undone, Los
 pub record IsDone (old new : View) : Type 0 where
   pub stage : new.stage ≡ Idle
   pub sure : IfTrusted old new new.is_sure
+  pub failures : IfCounted new (new.failures ≡ old.failures)
 
 -- no `begin` is open, and the register shows what it holds, which is this
 pub record Shows (content : Content) (view : View) : Type 0 where
@@ -28,3 +30,9 @@ pub record Recovers (fault : Fault) (answer : Failure) (content : Content) (old 
   pub told : answer ≢ Lost → answer ≡ Undone fault
   pub left : IsLeft answer content new
   pub later : IsLater old new
+  pub failures : answer ≢ Lost → IfCounted new (new.failures ≡ old.failures)
+
+-- The device is blamed where it failed in the step, and nowhere else, unless the register is lost.
+pub record BlamesStep {X : Type 0} (result : Result X Failure) (old new : View) : Type 0 where
+  pub storage : result ≡ Err (Undone Storage) → IfCounted new (old.failures < new.failures)
+  pub memory : result ≡ Err (Undone Memory) → IfCounted new (new.failures ≡ old.failures)

@@ -3,4 +3,5 @@ pub mod Applied
 pub mod Deciding
 pub mod Decision
 pub mod Pass
+pub mod Steps
 pub mod Tables

@@ -1,10 +1,11 @@
 //! The one step by which an accepted entry is taken in: begun, applied, and committed or taken back.
-ghost use Rattle.std.specs.Prelude.{◌≡◌, ◌≢◌, ◌<◌, true, IfErr, IfOk, OnErr, OnOk, IsTrue};
+ghost use Rattle.std.specs.Prelude.{◌≡◌, ◌≢◌, true, IfErr, IfOk, OnErr, OnOk, IsTrue};
 ghost use Rattle.desk_rules.specs.Books.{Books};
-ghost use Rattle.desk_register.specs.View.{Blames, Breaks, IfTrusted, IsLater};
-ghost use Rattle.desk_engine.specs.Accepting.{IsDone, IsLeft, Recovers};
+ghost use Rattle.desk_register.specs.View.{Blames, IfTrusted, IsLater};
+ghost use Rattle.desk_engine.specs.Accepting.{BlamesStep, IsDone, IsLeft, Recovers};
 ghost use Rattle.desk_engine.specs.Applied.{CanApply, HasApplied, Keeps};
 ghost use Rattle.desk_engine.specs.Decision.{is_supported};
+ghost use Rattle.desk_engine.specs.Steps.{Breaks};
 
 use crate::applied::Accepted;
 use crate::applying::apply;
@@ -78,7 +79,7 @@ pub fn accept<R: Register>(
     ensures ok { OnOk result (IsDone (R.view register.old) (R.view register.new)) }
     ensures err { IfErr result (λ failure. IsLeft failure (R.view register.old).content (R.view register.new)) }
     ensures later { IsLater (R.view register.old) (R.view register.new) }
-    ensures blame { IfErr result (λ failure. failure ≡ Failure.Undone Fault.Storage → (R.view register.old).failures < (R.view register.new).failures) }
+    ensures blame { BlamesStep result (R.view register.old) (R.view register.new) }
     ensures in_memory { R.in_memory ≡ true → IfErr result (λ failure. failure ≢ Failure.Lost) }
 {
     if let Err(fault) = register.begin(alloc) {

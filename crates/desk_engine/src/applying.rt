@@ -1,8 +1,9 @@
 //! An accepted entry, taken into the tables with all that follows from it.
 ghost use Rattle.std.specs.Prelude.{◌≡◌, ◌+◌, ◌<◌, length, IfOk, OnOk, IsTrue};
-ghost use Rattle.desk_register.specs.View.{IfTrusted, IsStep};
+ghost use Rattle.desk_register.specs.View.{IfTrusted};
 ghost use Rattle.desk_engine.specs.Applied.{CanApply, HasApplied, Keeps};
 ghost use Rattle.desk_engine.specs.Decision.{is_supported};
+ghost use Rattle.desk_engine.specs.Steps.{IsStep};
 ghost use Rattle.desk_engine.specs.Tables.{is_registration};
 ghost use Rattle.desk_rules.specs.Books.{Books};
 

@@ -35,6 +35,7 @@ use Rattle.desk_index.specs.Indexed.{HoldsOn, IsIndexed}
 use Rattle.desk_index.specs.Known.{AreKnown}
 use Rattle.desk_lists.specs.ListView.{view_of_lists}
 use Rattle.desk_index.specs.Open.{HasOpen, HoldsOpen, OpensAt, key_of, match_cmp}
+use Rattle.desk_register.proofs.ViewLemmas.{blames_none}
 use Rattle.desk_register.specs.View.{View, Begins, Stays, Falls, IsRead, fallen}
 
 -- with no `begin` open, `back` would go back to what is held
@@ -148,10 +149,10 @@ now_known known numbers places noted view up indexed = subst (AreKnown known) (s
 pub still_read : {X : Type 0} (x : X) (view : View) → IsRead {X = X} (Ok x) view view
 still_read x view = record {
   same = λ honest sure. refl;
-  ok = record { stage = refl; sure = λ honest sure. sure; mark = λ honest sure. refl };
+  ok = record { stage = refl; sure = λ honest sure. sure; mark = λ honest sure. refl; failures = λ honest few. refl };
   err = tt;
   later = record { honest = λ honest. honest; sure = λ honest sure. sure; failures = omega arith; room = refl };
-  blame = tt;
+  blame = blames_none x view view;
 }
 
 -- a reading call keeps the look-ups

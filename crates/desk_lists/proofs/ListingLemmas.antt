@@ -5,7 +5,8 @@ use Rattle.desk_rules.specs.declared.reply.Kept.{Kept}
 use Rattle.std.specs.Prelude.{Bool, true, false, ◌||◌, bytes_eq, is_some}
 use Rattle.desk_rules.specs.declared.entry.Entry.TheVariants.{Participant, Account, Security, Issue, Redeem, PayIn, PayOut, Instruct, Cancel, Run}
 use Rattle.desk_rules.specs.Facts.{kind_by, kind_of}
-use Rattle.desk_register.specs.Looked.{security_by, IsLess, IsAboveText, IsSecurityAfter}
+use Rattle.desk_register.specs.Looked.{IsLess, IsAboveText, IsSecurityAfter}
+use Rattle.desk_register.specs.Registered.{security_by}
 use Rattle.desk_lists.specs.Search.{IsLesser, IsSecurityOf}
 use Rattle.std.specs.Ordering.{nat_cmp, ordering_reverse}
 use Rattle.std.specs.Cmp.Lexicographic.{slice_cmp, nat_list_cmp_total}

@@ -1,4 +1,4 @@
--- What a cancellation names by its key.
+-- What a cancellation names by its key. Only private contracts and proofs speak of it.
 use Rattle.std.specs.Prelude.{ℕ, List, Option, None}
 use Rattle.desk_rules.specs.declared.entry.Entry.{Entry}
 use Rattle.desk_rules.specs.declared.entry.Entry.TheVariants.{Cancel}

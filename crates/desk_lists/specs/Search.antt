@@ -1,4 +1,4 @@
--- What a walk through the entries finds and sums up, entry by entry.
+-- What a walk through the entries finds and sums up, entry by entry. Only private contracts and proofs speak of it.
 use Rattle.std.specs.Prelude.{◌≡◌, ◌⊎◌, ℕ, if◌then◌else◌, List, map, sum_by, Option, Some, None, option_map}
 use Rattle.std.specs.List.{filter_map}
 use Rattle.desk_rules.specs.declared.entry.Entry.{Entry}
@@ -12,7 +12,8 @@ use Rattle.desk_rules.specs.Content.{Content}
 use Rattle.desk_rules.specs.Facts.{account_by, participant_by}
 use Rattle.desk_rules.specs.Settlement.{is_before}
 use Rattle.desk_register.specs.declared.holding.Holding.{Holding}
-use Rattle.desk_register.specs.Looked.{HoldsAbove, IsAboveText, IsLess, security_by}
+use Rattle.desk_register.specs.Looked.{HoldsAbove, IsAboveText, IsLess}
+use Rattle.desk_register.specs.Registered.{security_by}
 
 -- the balance that counts in a sum, of the account or the participant that an entry registers
 abbrev pub key_by : Summed → Entry → Option BalanceKey

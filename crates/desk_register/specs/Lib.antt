@@ -1,3 +1,4 @@
 pub mod Changes
 pub mod Looked
+pub mod Registered
 pub mod View

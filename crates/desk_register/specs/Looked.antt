@@ -7,7 +7,7 @@ use Rattle.std.specs.declared.cmp.Ordering.TheVariants.{Less}
 use Rattle.desk_codes.specs.declared.currency.Ccy.{Ccy}
 use Rattle.desk_codes.specs.Number.{number_of}
 use Rattle.desk_rules.specs.declared.entry.Entry.{Entry}
-use Rattle.desk_rules.specs.declared.entry.Entry.TheVariants.{PayIn, Security}
+use Rattle.desk_rules.specs.declared.entry.Entry.TheVariants.{PayIn}
 use Rattle.desk_rules.specs.declared.reply.Reply.{Reply}
 use Rattle.desk_rules.specs.declared.reply.Sent.{Sent}
 use Rattle.desk_rules.specs.declared.pair.Place.{Place}
@@ -113,11 +113,6 @@ IsPaid history ccy (Some paid) = (list_any (pays_in ccy) history ≡ true) × (p
 -- what all registered participants have of a currency
 abbrev pub held_cash_of : Content → Ccy → ℕ
 held_cash_of content ccy = sum_by (λ bic. content.cash bic ccy) (participants_of (history_of content))
-
--- the security that an entry registers
-abbrev pub security_by : Entry → Option (List ℕ)
-security_by (Security reference isin kind) = Some isin
-security_by entry = None
 
 -- what was sent to a participant, in order
 abbrev pub sent_to : Content → List ℕ → List Sent

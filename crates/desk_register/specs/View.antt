@@ -1,9 +1,10 @@
 -- What contracts see of a register, and how its calls change it.
-use Rattle.std.specs.Prelude.{◌≡◌, ◌≢◌, ℕ, ◌<◌, ◌≤◌, Result, IfErr, OnOk, OnErr}
+use Rattle.std.specs.Prelude.{◌≡◌, ◌≢◌, ℕ, ◌<◌, ◌≤◌, Result, Err, OnOk, OnErr}
 use Rattle.desk_register.specs.declared.register.Fault.{Fault}
-use Rattle.desk_register.specs.declared.register.Fault.TheVariants.{Storage}
+use Rattle.desk_register.specs.declared.register.Fault.TheVariants.{Memory, Storage}
 use Rattle.desk_register.specs.declared.register.Stage.{Stage}
 use Rattle.desk_register.specs.declared.register.Stage.TheVariants.{Idle, Begun, Failed}
+use Rattle.desk_register.specs.declared.register.TheConstants.{MOST_FAILURES}
 use Rattle.desk_rules.specs.Content.{Content}
 
 pub record View : Type 1 where
@@ -13,7 +14,7 @@ pub record View : Type 1 where
   pub mark : Content
   -- whether a `begin` is open, and whether a call has failed since
   pub stage : Stage
-  -- how many answers named the device
+  -- how many answers named the device; a count that stops at the greatest
   pub failures : ℕ
   -- the greatest number of entries
   pub room : ℕ
@@ -32,6 +33,11 @@ IfTrusted old new fact = new.is_honest → old.is_sure → fact
 -- what is held is not known until `back`.
 abbrev pub IfRead : View → View → Type 0 → Type 0
 IfRead old new fact = IfTrusted old new (old.stage ≢ Failed → fact)
+
+-- Where the count of a register's failures is to be trusted, this holds: no wrong answer of the device was taken as
+-- true, and the count has not come to its end.
+abbrev pub IfCounted : View → Type 0 → Type 0
+IfCounted view fact = view.is_honest → view.failures < MOST_FAILURES → fact
 
 -- the stage after a call that failed
 abbrev pub fallen : Stage → Stage
@@ -53,24 +59,28 @@ module _ (old new : View) where
     pub sure : IfTrusted old new new.is_sure
     pub content : IfTrusted old new (new.content ≡ old.content)
     pub mark : IfTrusted old new (new.mark ≡ old.content)
+    pub failures : IfCounted new (new.failures ≡ old.failures)
 
   -- what was changed since `begin` is kept
   pub record Commits : Type 0 where
     pub stage : new.stage ≡ Idle
     pub sure : IfTrusted old new new.is_sure
     pub content : IfTrusted old new (new.content ≡ old.content)
+    pub failures : IfCounted new (new.failures ≡ old.failures)
 
   -- what was changed since `begin` is taken back
   pub record GoesBack : Type 0 where
     pub stage : new.stage ≡ Idle
     pub sure : new.is_honest → new.is_sure
     pub content : new.is_honest → new.content ≡ old.mark
+    pub failures : IfCounted new (new.failures ≡ old.failures)
 
   -- a call went well: what is marked stays
   pub record Stays : Type 0 where
     pub stage : new.stage ≡ old.stage
     pub sure : IfTrusted old new new.is_sure
     pub mark : IfTrusted old new (new.mark ≡ old.mark)
+    pub failures : IfCounted new (new.failures ≡ old.failures)
 
   -- a call failed: what is marked stays, and with no `begin` open the content does
   pub record Falls : Type 0 where
@@ -78,14 +88,11 @@ module _ (old new : View) where
     pub mark : new.is_honest → new.is_sure → new.mark ≡ old.mark
     pub content : new.is_honest → new.is_sure → old.stage ≡ Idle → new.content ≡ old.content
 
-  -- a call of several steps failed: a `begin` is open still, and what is marked stays
-  pub record Breaks : Type 0 where
-    pub stage : new.stage ≢ Idle
-    pub mark : new.is_honest → new.is_sure → new.mark ≡ old.mark
-
--- a storage fault is answered only where the device failed in the call
-abbrev pub Blames : {X : Type 0} → Result X Fault → View → View → Type 0
-Blames result old new = IfErr result (λ fault. fault ≡ Storage → old.failures < new.failures)
+-- The device is blamed where it failed in the call, and nowhere else: the count of its failures has grown after a
+-- storage fault, and is as it was after want of memory.
+pub record Blames {X : Type 0} (result : Result X Fault) (old new : View) : Type 0 where
+  pub storage : result ≡ Err Storage → IfCounted new (old.failures < new.failures)
+  pub memory : result ≡ Err Memory → IfCounted new (new.failures ≡ old.failures)
 
 -- how a reading call ends: where it goes well nothing has changed
 pub record IsRead {X : Type 0} (result : Result X Fault) (old new : View) : Type 0 where
@@ -99,12 +106,5 @@ pub record IsRead {X : Type 0} (result : Result X Fault) (old new : View) : Type
 pub record IsChange {X : Type 0} (result : Result X Fault) (old new : View) : Type 0 where
   pub ok : OnOk result (Stays old new)
   pub err : OnErr result (Falls old new)
-  pub later : IsLater old new
-  pub blame : Blames result old new
-
--- how a call of several steps ends, within an open `begin`
-pub record IsStep {X : Type 0} (result : Result X Fault) (old new : View) : Type 0 where
-  pub ok : OnOk result (Stays old new)
-  pub err : OnErr result (Breaks old new)
   pub later : IsLater old new
   pub blame : Blames result old new

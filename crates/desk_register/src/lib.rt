@@ -11,4 +11,4 @@ mod register;
 
 pub use holding::Holding;
 pub use outcome::Outcome;
-pub use register::{Fault, Register, Stage};
+pub use register::{Fault, MOST_FAILURES, Register, Stage};

@@ -17,6 +17,9 @@ use desk_msg::{Instruction, Kind};
 use desk_rules::{Entry, MOST_ENTRIES, Place, Reply, Sender, Sent, Standing};
 use std::alloc::Global;
 
+/// At how many a register stops to count the failures of its device.
+pub const MOST_FAILURES: u64 = u64::MAX;
+
 /// Whether a `begin` is open, and whether a call within it has failed.
 #[derive(Clone, Copy, Debug, PartialEq, Eq)]
 pub enum Stage {

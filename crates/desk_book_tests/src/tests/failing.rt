@@ -136,6 +136,7 @@ impl FailingRegister {
         ensures inner { self.new.inner ≡ self.old.inner }
         ensures stage { self.new.stage ≡ fallen self.old.stage }
         ensures failures { self.new.calls.failed ≡ self.old.calls.failed }
+        ensures fault { result ≡ Fault.Storage }
     {
         self.failed_in = self.stage;
         self.stage = fallen(self.stage);

@@ -27,7 +27,7 @@ items-preserved g c =
       played = λ books honest holds.
           let s = i.played books (a.later.honest honest) holds in
           more_so_far v0 v1 v2 c.args.self.now.is_closed c.items.self.is_closed c.answer_item.new.self.is_closed books c.args.script.now c.items.rest.now c.in-Some.after.now
-          (g.O.Write.contents c.args.writer.now) (g.O.Write.contents c.items.writer) (g.O.Write.contents c.answer_item.new.writer) (item_of c.in-Some.item) i.later s c.in-Some.ensures.first
+          (g.O.Write.contents c.args.writer.now) (g.O.Write.contents c.items.writer) (g.O.Write.contents c.answer_item.new.writer) (item_of c.in-Some.item) i.later a.later s c.in-Some.ensures.first
           (a.played s.played.last honest s.played.holds);
     }
 
@@ -38,7 +38,7 @@ returns-in_err-answer_item-clause-front g c = λ books honest holds.
     let s = i.played books (a.later.honest honest) holds in
     front_and_one (g.R.Register.view c.args.self.now.register) (g.R.Register.view c.items.self.register) (g.R.Register.view c.answer_item.new.self.register)
     c.args.self.now.is_closed c.items.self.is_closed c.answer_item.new.self.is_closed books c.args.script.now c.items.rest.now c.in-Some.after.now
-    (g.O.Write.contents c.args.writer.now) (g.O.Write.contents c.items.writer) (item_of c.in-Some.item) i.later s c.in-Some.ensures.first (a.front s.played.last honest s.played.holds)
+    (g.O.Write.contents c.args.writer.now) (g.O.Write.contents c.items.writer) (item_of c.in-Some.item) i.later a.later s c.in-Some.ensures.first (a.front s.played.last honest s.played.holds)
 
 pub returns-clause-played : goal.returns-clause-played
 returns-clause-played g c = λ books honest holds.

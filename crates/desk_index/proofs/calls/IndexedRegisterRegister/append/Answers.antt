@@ -1,6 +1,7 @@
 use Rattle.std.proofs.Common.{sym, ap, ◌∙◌, ◌+◌, ◌++◌}
 use Rattle.desk_rules.specs.Content.{history_of}
 use Rattle.desk_lists.specs.ListView.{view_of_lists}
+use Rattle.desk_register.proofs.ViewLemmas.{blames_memory}
 use Rattle.desk_index.proofs.IndexedLemmas.{after_append, after_failure, next_count, where_it_failed, where_it_went}
 use Rattle.desk_index.proofs.calls.IndexedRegisterRegister.append.Goals as goal
 
@@ -18,7 +19,7 @@ invariant_of-self c =
     }
 
 pub returns-then-is_err-clause-change : goal.returns-then-is_err-clause-change
-returns-then-is_err-clause-change c = record { ok = tt; err = c.fail.ensures.falls; later = c.fail.ensures.later; blame = λ is. let bad = sym c.fail.ensures.fault ∙ is in cc }
+returns-then-is_err-clause-change c = record { ok = tt; err = c.fail.ensures.falls; later = c.fail.ensures.later; blame = blames_memory c.fail.result _ _ c.fail.ensures.fault (λ honest few. refl) }
 
 pub invariant_of-self-2 : goal.invariant_of-self-2
 invariant_of-self-2 c =

@@ -1,5 +1,6 @@
 use Rattle.std.proofs.Common.{sym, ◌∙◌, refl}
 use Rattle.desk_lists.specs.ListView.{view_of_lists}
+use Rattle.desk_register.proofs.ViewLemmas.{blames_memory}
 use Rattle.desk_index.proofs.IndexedLemmas.{after_cancel, after_failure}
 use Rattle.desk_index.proofs.calls.IndexedRegisterRegister.cancel.Goals as goal
 
@@ -12,7 +13,7 @@ invariant_of-self c =
     }
 
 pub returns-then-is_err-clause-change : goal.returns-then-is_err-clause-change
-returns-then-is_err-clause-change c = record { ok = tt; err = c.fail.ensures.falls; later = c.fail.ensures.later; blame = λ is. let bad = sym c.fail.ensures.fault ∙ is in cc }
+returns-then-is_err-clause-change c = record { ok = tt; err = c.fail.ensures.falls; later = c.fail.ensures.later; blame = blames_memory c.fail.result _ _ c.fail.ensures.fault (λ honest few. refl) }
 
 pub invariant_of-self-2 : goal.invariant_of-self-2
 invariant_of-self-2 c =

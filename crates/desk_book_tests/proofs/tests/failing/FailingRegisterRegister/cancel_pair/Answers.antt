@@ -8,7 +8,7 @@ returns-then-fails-2-clause-change c =
     let new = c.fail-then-fails-2.new.self in
     let fail = c.fail-then-fails-2.ensures in
     change_late old.inner c.cancel_pair-answer.new.self new.inner old.stage c.stage_after-self.result new.stage old.calls.failed new.calls.failed c.requires.stage fail.inner (search rules) c.cancel_pair-answer.result
-    c.fail-then-fails-2.result (rw c.is_ok.ensures.value at c.stage_after-self.ensures) fail.stage c.cancel_pair-answer.ensures.change
+    c.fail-then-fails-2.result fail.fault (rw c.is_ok.ensures.value at c.stage_after-self.ensures) fail.stage c.cancel_pair-answer.ensures.change
 
 pub returns-clause-change : goal.returns-clause-change
 returns-clause-change c =

@@ -6,7 +6,7 @@ pub returns-then-fails-clause-read : goal.returns-then-fails-clause-read
 returns-then-fails-clause-read c =
     let old = c.args.self.now in
     let new = c.fail.new.self in
-    read_fallen old.inner new.inner old.stage new.stage old.calls.failed new.calls.failed c.fail.ensures.inner c.fail.ensures.stage (search rules) c.fail.result
+    read_fallen old.inner new.inner old.stage new.stage old.calls.failed new.calls.failed c.fail.ensures.inner c.fail.ensures.stage (search rules) c.fail.result c.fail.ensures.fault
 
 pub returns-clause-read : goal.returns-clause-read
 returns-clause-read c =
