@@ -3,7 +3,7 @@ use Rattle.std.specs.Prelude.{◌≡◌, Bool, true, false, not, List, Contains}
 use Rattle.desk_msg.specs.MessageType.{is_against_payment}
 use Rattle.desk_rules.specs.declared.entry.Entry.{Entry}
 use Rattle.desk_rules.specs.declared.entry.Entry.TheVariants.{Redeem, PayIn, PayOut, Instruct, Cancel}
-use Rattle.desk_rules.specs.Content.{history_of}
+use Rattle.desk_rules.specs.Content.{Content}
 use Rattle.desk_register.specs.View.{View, IfRead}
 
 -- the commands that the desk takes: participants, accounts, securities, issues, runs, and free instructions
@@ -19,6 +19,6 @@ is_supported entry = true
 pub record AreSupported (history : List Entry) : Type 0 where
   pub each : (entry : Entry) → Contains history entry → is_supported entry ≡ true
 
--- Over a reading call this holds of the history.
-abbrev pub Reading : View → View → (List Entry → Type 0) → Type 0
-Reading old new says = IfRead old new (says (history_of old.content))
+-- Over a reading call this holds of the content.
+abbrev pub Reading : View → View → (Content → Type 0) → Type 0
+Reading old new says = IfRead old new (says old.content)

@@ -1,18 +1,19 @@
 //! Why an entry whose key is new is refused: the first check that fails.
-ghost use Rattle.std.specs.Prelude.{◌≡◌, not, is_none, is_some, [], ◌∷◌, IfOk, IsTrue, bytes_eq, option_map};
+ghost use Rattle.std.specs.Prelude.{◌≡◌, not, is_some, [], ◌∷◌, IfOk, bytes_eq, option_map};
 ghost use Rattle.desk_codes.specs.Number.{number_of};
 ghost use Rattle.desk_register.specs.View.{IsRead};
-ghost use Rattle.desk_engine.specs.Decision.{is_supported};
-ghost use Rattle.desk_engine.specs.Deciding.{first_refusal, with_history};
+ghost use Rattle.desk_engine.specs.Deciding.{checks_in, first_refusal, is_cancelled_state, is_settled_state};
 ghost use Rattle.desk_engine.specs.Decision.{Reading};
 ghost use Rattle.desk_msg.specs.Depository.{desk_bic};
-ghost use Rattle.desk_rules.specs.Verdict.{check, checks_of};
+ghost use Rattle.desk_rules.specs.Content.{history_of};
+ghost use Rattle.desk_rules.specs.Verdict.{check};
 ghost use Rattle.desk_rules.specs.Facts.{is_after, is_of_kind, is_owner, is_participant, kind_of, last_run, owner_of};
 
+use crate::naming::instruction_named;
 use desk_codes::{AccountId, Bic, Day, Isin};
-use desk_msg::{DESK_BIC, Instruction, Kind};
+use desk_msg::{CancelOrder, DESK_BIC, Instruction, Kind};
 use desk_register::{Fault, Register};
-use desk_rules::{Entry, MOST_QUANTITY, Movement, Refusal};
+use desk_rules::{Entry, MOST_PAID, MOST_QUANTITY, Movement, Payment, Refusal, Standing, State};
 use std::alloc::Global;
 
 fn is_of_kind(kind: Kind, found: Option<Kind>) -> bool
@@ -55,8 +56,8 @@ fn refuse_participant<R: Register>(
     register: &mut R,
     bic: Bic,
 ) -> Result<Option<Refusal>, Fault>
-    ensures value { Reading (R.view register.old) (R.view register.new) (λ h. IfOk result (λ r.
-        r ≡ first_refusal (check (is_participant h bic) Refusal.Exists ∷ []))) }
+    ensures value { Reading (R.view register.old) (R.view register.new) (λ c. IfOk result (λ r.
+        r ≡ first_refusal (check (is_participant (history_of c) bic) Refusal.Exists ∷ []))) }
     ensures read { IsRead result (R.view register.old) (R.view register.new) }
 {
     if register.participant(alloc, bic)? {
@@ -72,8 +73,8 @@ fn refuse_account<R: Register>(
     bic: Bic,
     account: AccountId,
 ) -> Result<Option<Refusal>, Fault>
-    ensures value { Reading (R.view register.old) (R.view register.new) (λ h. IfOk result (λ r.
-        r ≡ first_refusal (check (is_some (owner_of h account)) Refusal.Exists ∷ check (not (is_participant h bic)) Refusal.ParticipantUnknown ∷ []))) }
+    ensures value { Reading (R.view register.old) (R.view register.new) (λ c. IfOk result (λ r.
+        r ≡ first_refusal (check (is_some (owner_of (history_of c) account)) Refusal.Exists ∷ check (not (is_participant (history_of c) bic)) Refusal.ParticipantUnknown ∷ []))) }
     ensures read { IsRead result (R.view register.old) (R.view register.new) }
 {
     if register.owner(alloc, account)?.is_some() {
@@ -91,8 +92,8 @@ fn refuse_security<R: Register>(
     register: &mut R,
     isin: Isin,
 ) -> Result<Option<Refusal>, Fault>
-    ensures value { Reading (R.view register.old) (R.view register.new) (λ h. IfOk result (λ r.
-        r ≡ first_refusal (check (is_some (kind_of h isin)) Refusal.Exists ∷ []))) }
+    ensures value { Reading (R.view register.old) (R.view register.new) (λ c. IfOk result (λ r.
+        r ≡ first_refusal (check (is_some (kind_of (history_of c) isin)) Refusal.Exists ∷ []))) }
     ensures read { IsRead result (R.view register.old) (R.view register.new) }
 {
     if register.security(alloc, isin)?.is_some() {
@@ -107,8 +108,8 @@ fn refuse_issue<R: Register>(
     register: &mut R,
     movement: &Movement,
 ) -> Result<Option<Refusal>, Fault>
-    ensures value { Reading (R.view register.old) (R.view register.new) (λ h. IfOk result (λ r.
-        r ≡ first_refusal (checks_of (with_history h) (Entry.Issue movement.now)))) }
+    ensures value { Reading (R.view register.old) (R.view register.new) (λ c. IfOk result (λ r.
+        r ≡ first_refusal (checks_in c (Entry.Issue movement.now)))) }
     ensures read { IsRead result (R.view register.old) (R.view register.new) }
 {
     if register.owner(alloc, movement.account)?.is_none() {
@@ -123,6 +124,66 @@ fn refuse_issue<R: Register>(
     Ok(None)
 }
 
+/// Why a redemption is refused.
+fn refuse_redemption<R: Register>(
+    alloc: Global,
+    register: &mut R,
+    movement: &Movement,
+) -> Result<Option<Refusal>, Fault>
+    ensures value { Reading (R.view register.old) (R.view register.new) (λ c. IfOk result (λ r.
+        r ≡ first_refusal (checks_in c (Entry.Redeem movement.now)))) }
+    ensures read { IsRead result (R.view register.old) (R.view register.new) }
+{
+    if register.owner(alloc, movement.account)?.is_none() {
+        return Ok(Some(Refusal::AccountUnknown));
+    }
+    if register.security(alloc, movement.isin)?.is_none() {
+        return Ok(Some(Refusal::SecurityUnknown));
+    }
+    if register.position(alloc, movement.account, movement.isin)? < movement.quantity {
+        return Ok(Some(Refusal::NotEnough));
+    }
+    Ok(None)
+}
+
+/// Why a pay in is refused.
+fn refuse_pay_in<R: Register>(
+    alloc: Global,
+    register: &mut R,
+    payment: &Payment,
+) -> Result<Option<Refusal>, Fault>
+    ensures value { Reading (R.view register.old) (R.view register.new) (λ c. IfOk result (λ r.
+        r ≡ first_refusal (checks_in c (Entry.PayIn payment.now)))) }
+    ensures read { IsRead result (R.view register.old) (R.view register.new) }
+{
+    if !register.participant(alloc, payment.bic)? {
+        return Ok(Some(Refusal::ParticipantUnknown));
+    }
+    match register.paid(alloc, payment.ccy)? {
+        Some(paid) if paid > MOST_PAID - payment.amount => Ok(Some(Refusal::OverLimit)),
+        _ => Ok(None),
+    }
+}
+
+/// Why a pay out is refused.
+fn refuse_pay_out<R: Register>(
+    alloc: Global,
+    register: &mut R,
+    payment: &Payment,
+) -> Result<Option<Refusal>, Fault>
+    ensures value { Reading (R.view register.old) (R.view register.new) (λ c. IfOk result (λ r.
+        r ≡ first_refusal (checks_in c (Entry.PayOut payment.now)))) }
+    ensures read { IsRead result (R.view register.old) (R.view register.new) }
+{
+    if !register.participant(alloc, payment.bic)? {
+        return Ok(Some(Refusal::ParticipantUnknown));
+    }
+    if register.cash(alloc, payment.bic, payment.ccy)? < payment.amount {
+        return Ok(Some(Refusal::NotEnough));
+    }
+    Ok(None)
+}
+
 /// Why an instruction of a participant is refused.
 fn refuse_instruction<R: Register>(
     alloc: Global,
@@ -130,8 +191,8 @@ fn refuse_instruction<R: Register>(
     sender: &Bic,
     instruction: &Instruction,
 ) -> Result<Option<Refusal>, Fault>
-    ensures value { Reading (R.view register.old) (R.view register.new) (λ h. IfOk result (λ r.
-        r ≡ first_refusal (checks_of (with_history h) (Entry.Instruct sender.now instruction.now)))) }
+    ensures value { Reading (R.view register.old) (R.view register.new) (λ c. IfOk result (λ r.
+        r ≡ first_refusal (checks_in c (Entry.Instruct sender.now instruction.now)))) }
     ensures read { IsRead result (R.view register.old) (R.view register.new) }
 {
     if !is_desk(&instruction.place) {
@@ -153,14 +214,45 @@ fn refuse_instruction<R: Register>(
     Ok(None)
 }
 
+/// Why the cancellation is refused of an instruction that stands so.
+fn refuse_by_standing(standing: &Standing) -> Option<Refusal>
+    ensures { result ≡ first_refusal (check (is_cancelled_state standing.now.state) Refusal.AlreadyCancelled
+        ∷ check (is_settled_state standing.now.state) Refusal.AlreadySettled ∷ check standing.now.cancel_requested Refusal.CancellationWaits ∷ []) }
+{
+    match standing.state {
+        State::Cancelled => Some(Refusal::AlreadyCancelled),
+        State::Settled => Some(Refusal::AlreadySettled),
+        _ if standing.cancel_requested => Some(Refusal::CancellationWaits),
+        _ => None,
+    }
+}
+
+/// Why a cancellation is refused.
+fn refuse_cancellation<R: Register>(
+    alloc: Global,
+    register: &mut R,
+    sender: &Bic,
+    order: &CancelOrder,
+) -> Result<Option<Refusal>, Fault>
+    ensures value { Reading (R.view register.old) (R.view register.new) (λ c. IfOk result (λ r.
+        r ≡ first_refusal (checks_in c (Entry.Cancel sender.now order.now)))) }
+    ensures read { IsRead result (R.view register.old) (R.view register.new) }
+{
+    let Some(number) = instruction_named(alloc, register, sender, order)? else {
+        return Ok(Some(Refusal::NoSuchInstruction));
+    };
+    let standing = register.standing(alloc, number)?;
+    Ok(refuse_by_standing(&standing))
+}
+
 /// Why a run is refused.
 fn refuse_run<R: Register>(
     alloc: Global,
     register: &mut R,
     day: Day,
 ) -> Result<Option<Refusal>, Fault>
-    ensures value { Reading (R.view register.old) (R.view register.new) (λ h. IfOk result (λ r.
-        r ≡ first_refusal (check (is_after (last_run h) (number_of day)) Refusal.DayGoesBack ∷ []))) }
+    ensures value { Reading (R.view register.old) (R.view register.new) (λ c. IfOk result (λ r.
+        r ≡ first_refusal (check (is_after (last_run (history_of c)) (number_of day)) Refusal.DayGoesBack ∷ []))) }
     ensures read { IsRead result (R.view register.old) (R.view register.new) }
 {
     let last = register.last_run(alloc)?;
@@ -176,8 +268,7 @@ pub fn refuse<R: Register>(
     register: &mut R,
     entry: &Entry,
 ) -> Result<Option<Refusal>, Fault>
-    requires { IsTrue (is_supported entry.now) }
-    ensures value { Reading (R.view register.old) (R.view register.new) (λ h. IfOk result (λ r. r ≡ first_refusal (checks_of (with_history h) entry.now))) }
+    ensures value { Reading (R.view register.old) (R.view register.new) (λ c. IfOk result (λ r. r ≡ first_refusal (checks_in c entry.now))) }
     ensures read { IsRead result (R.view register.old) (R.view register.new) }
 {
     match entry {
@@ -185,11 +276,14 @@ pub fn refuse<R: Register>(
         Entry::Account { bic, account, .. } => refuse_account(alloc, register, *bic, *account),
         Entry::Security { isin, .. } => refuse_security(alloc, register, *isin),
         Entry::Issue(movement) => refuse_issue(alloc, register, movement),
+        Entry::Redeem(movement) => refuse_redemption(alloc, register, movement),
+        Entry::PayIn(payment) => refuse_pay_in(alloc, register, payment),
+        Entry::PayOut(payment) => refuse_pay_out(alloc, register, payment),
         Entry::Instruct {
             sender,
             instruction,
         } => refuse_instruction(alloc, register, sender, instruction),
+        Entry::Cancel { sender, order } => refuse_cancellation(alloc, register, sender, order),
         Entry::Run { day, .. } => refuse_run(alloc, register, *day),
-        _ => unreachable!(),
     }
 }

@@ -2,11 +2,12 @@
 ghost use Rattle.std.specs.Prelude.{◌≡◌, ◌↔◌, nat_le, length, option_map, IfOk, IsTrue, Some};
 ghost use Rattle.desk_register.specs.View.{IsRead};
 ghost use Rattle.desk_rules.specs.History.{as_asked, sender_of};
-ghost use Rattle.desk_engine.specs.Decision.{is_supported};
-ghost use Rattle.desk_engine.specs.Deciding.{IsVerdictIfKnown, with_history};
+ghost use Rattle.desk_engine.specs.Deciding.{IsVerdictIfKnown, checks_in};
 ghost use Rattle.desk_engine.specs.Decision.{Reading};
 ghost use Rattle.desk_rules.specs.Books.{Books};
-ghost use Rattle.desk_rules.specs.Verdict.{checks_of, first_failing, is_from_stranger, IsVerdict, reused_by};
+ghost use Rattle.desk_rules.specs.Content.{history_of};
+ghost use Rattle.desk_rules.specs.Tables.{AreTablesButSent};
+ghost use Rattle.desk_rules.specs.Verdict.{first_failing, is_from_stranger, IsVerdict, reused_by};
 
 use crate::checks::refuse;
 use desk_register::{Fault, Register};
@@ -19,7 +20,7 @@ fn is_from_stranger<R: Register>(
     register: &mut R,
     entry: &Entry,
 ) -> Result<bool, Fault>
-    ensures value { Reading (R.view register.old) (R.view register.new) (λ h. IfOk result (λ r. r ≡ is_from_stranger h (sender_of entry.now))) }
+    ensures value { Reading (R.view register.old) (R.view register.new) (λ c. IfOk result (λ r. r ≡ is_from_stranger (history_of c) (sender_of entry.now))) }
     ensures read { IsRead result (R.view register.old) (R.view register.new) }
 {
     match entry.sender() {
@@ -57,7 +58,7 @@ fn verdict_on_key<R: Register>(
     register: &mut R,
     entry: &Entry,
 ) -> Result<Option<Verdict>, Fault>
-    ensures value { Reading (R.view register.old) (R.view register.new) (λ h. IfOk result (λ r. IsVerdictIfKnown h entry.now r)) }
+    ensures value { Reading (R.view register.old) (R.view register.new) (λ c. IfOk result (λ r. IsVerdictIfKnown (history_of c) entry.now r)) }
     ensures read { IsRead result (R.view register.old) (R.view register.new) }
 {
     let sender = entry.sender();
@@ -79,8 +80,7 @@ fn verdict_on_new<R: Register>(
     limit: u64,
     entry: &Entry,
 ) -> Result<Verdict, Fault>
-    requires { IsTrue (is_supported entry.now) }
-    ensures value { Reading (R.view register.old) (R.view register.new) (λ h. IfOk result (λ r. r ≡ first_failing (checks_of (with_history h) entry.now) (nat_le limit (length h)))) }
+    ensures value { Reading (R.view register.old) (R.view register.new) (λ c. IfOk result (λ r. r ≡ first_failing (checks_in c entry.now) (nat_le limit (length (history_of c))))) }
     ensures read { IsRead result (R.view register.old) (R.view register.new) }
 {
     if let Some(refusal) = refuse(alloc, register, entry)? {
@@ -94,8 +94,7 @@ fn verdict_on_new<R: Register>(
 
 /// What the desk decides on an entry. Nothing changes, and no `begin` is needed.
 pub fn decide<R: Register>(alloc: Global, register: &mut R, entry: &Entry) -> Result<Verdict, Fault>
-    requires { IsTrue (is_supported entry.now) }
-    ensures verdict { (books : Books) → Reading (R.view register.old) (R.view register.new) (λ h. h ≡ books.history → IfOk result (λ verdict. IsVerdict (R.view register.old).room books entry.now verdict)) }
+    ensures verdict { (books : Books) → Reading (R.view register.old) (R.view register.new) (λ c. AreTablesButSent books c → IfOk result (λ verdict. IsVerdict (R.view register.old).room books entry.now verdict)) }
     ensures read { IsRead result (R.view register.old) (R.view register.new) }
 {
     let limit = register.limit();

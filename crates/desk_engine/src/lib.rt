@@ -14,6 +14,7 @@ mod applying;
 mod checks;
 mod decision;
 mod laws;
+mod naming;
 mod replies;
 mod settlement_run;
 mod supported;

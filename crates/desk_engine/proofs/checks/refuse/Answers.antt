@@ -11,3 +11,6 @@ returns-in-Security-clause-value g c = λ honest sure well. rw c.in-Security.is 
 
 pub returns-in-Instruct-clause-value : goal.returns-in-Instruct-clause-value
 returns-in-Instruct-clause-value g c = λ honest sure well. rw c.in-Instruct.is (c.refuse_instruction.ensures.value honest sure well)
+
+pub returns-in-Cancel-clause-value : goal.returns-in-Cancel-clause-value
+returns-in-Cancel-clause-value g c = λ honest sure well. rw c.in-Cancel.is (c.refuse_cancellation.ensures.value honest sure well)
