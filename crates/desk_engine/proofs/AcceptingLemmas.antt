@@ -32,11 +32,10 @@ use Rattle.desk_rules.proofs.SettlementLemmas.{due_facts}
 use Rattle.desk_rules.proofs.SettlementGrowth.{by_none}
 use Rattle.desk_rules.specs.Content.{Content}
 use Rattle.desk_register.specs.Changes.{appended, first_standing}
-use Rattle.desk_engine.specs.Decision.{is_supported}
 use Rattle.desk_rules.specs.Pairing.{mate_in}
 use Rattle.desk_rules.specs.Stands.{StandsAt, StandsSo}
 use Rattle.desk_rules.specs.Tables.{HasReplies}
-use Rattle.desk_engine.specs.Tables.{Tables, Grown, IsAccepted, is_registration, mated}
+use Rattle.desk_engine.specs.Tables.{Tables, Grown, IsAccepted, is_booking, mated}
 use Rattle.desk_engine.proofs.KeepsLemmas.{tables_of, but_sent_of}
 use Rattle.desk_engine.specs.Pass.{CanRun, RanTo, IsPassed}
 use Rattle.std.specs.Prelude.{Err}
@@ -148,19 +147,13 @@ replies_more books after old new e reply number replies longer are more is = rec
 }
 
 pub keeps_more : (limit : ℕ) (books after : Books) (old new : Content) (e : Entry) (reply : Reply) → Keeps limit books old → after.history ≡ books.history ++ e ∷ []
-    → Tables limit after new → is_supported e ≡ true → new.register ≡ old.register ++ record { entry = e; reply = reply } ∷ [] → reply ≡ reply_to after e → Keeps limit after new
-keeps_more limit books after old new e reply keeps longer tables supported more is =
+    → Tables limit after new → new.register ≡ old.register ++ record { entry = e; reply = reply } ∷ [] → reply ≡ reply_to after e → Keeps limit after new
+keeps_more limit books after old new e reply keeps longer tables more is =
     let h = books.history in
     let number : length old.register ≡ length h = length_is old h keeps.tables.history in
     record {
       tables = but_sent_of limit after new tables (replies_more books after old new e reply number keeps.tables.replies longer tables.are_books more is);
       accepted = tables.accepted;
-      supported = record {
-        each = λ x c. elim (In-push_cases h e x (In-from_Contains (h ++ e ∷ []) x (let P : List Entry → Type 0 = λ z. Contains z x in subst P longer c))) [
-          | inl old ↦ keeps.supported.each x (Contains-from_In h x old)
-          | inr new ↦ (let P : Entry → Type 0 = λ z. is_supported z ≡ true in subst P new supported)
-        ];
-      };
     }
 
 -- the entry that was added is kept under its number
@@ -173,27 +166,26 @@ kept_last kept all x (suc n) more is =
 -- How an entry fared that is no run and no instruction.
 
 pub record IsQuietEntry (e : Entry) : Type 0 where
-  pub supported : is_supported e ≡ true
   pub no_run : run_day e ≡ None
   pub no_instruction : instructed e ≡ None
   pub no_cancel : (b : Books) (state : State) → IsNamed b e state
 
-pub quiet_entry : (e : Entry) → is_registration e ≡ true → IsQuietEntry e
-quiet_entry (Participant reference bic) is = record { supported = refl; no_run = refl; no_instruction = refl; no_cancel = λ b state. tt }
-quiet_entry (Account reference bic account) is = record { supported = refl; no_run = refl; no_instruction = refl; no_cancel = λ b state. tt }
-quiet_entry (Security reference isin kind) is = record { supported = refl; no_run = refl; no_instruction = refl; no_cancel = λ b state. tt }
-quiet_entry (Issue movement) is = record { supported = refl; no_run = refl; no_instruction = refl; no_cancel = λ b state. tt }
-quiet_entry (Redeem movement) is = absurd (cc)
-quiet_entry (PayIn payment) is = absurd (cc)
-quiet_entry (PayOut payment) is = absurd (cc)
+pub quiet_entry : (e : Entry) → is_booking e ≡ true → IsQuietEntry e
+quiet_entry (Participant reference bic) is = record { no_run = refl; no_instruction = refl; no_cancel = λ b state. tt }
+quiet_entry (Account reference bic account) is = record { no_run = refl; no_instruction = refl; no_cancel = λ b state. tt }
+quiet_entry (Security reference isin kind) is = record { no_run = refl; no_instruction = refl; no_cancel = λ b state. tt }
+quiet_entry (Issue movement) is = record { no_run = refl; no_instruction = refl; no_cancel = λ b state. tt }
+quiet_entry (Redeem movement) is = record { no_run = refl; no_instruction = refl; no_cancel = λ b state. tt }
+quiet_entry (PayIn payment) is = record { no_run = refl; no_instruction = refl; no_cancel = λ b state. tt }
+quiet_entry (PayOut payment) is = record { no_run = refl; no_instruction = refl; no_cancel = λ b state. tt }
 quiet_entry (Instruct sender instruction) is = absurd (cc)
 quiet_entry (Cancel sender order) is = absurd (cc)
 quiet_entry (Run reference day rule) is = absurd (cc)
 
-pub registered : (limit : ℕ) (books : Books) (old new : Content) (e : Entry) (reply : Reply) (n : ℕ) (a : Applied) → Keeps limit books old → is_registration e ≡ true → Grown limit books e new
+pub booked : (limit : ℕ) (books : Books) (old new : Content) (e : Entry) (reply : Reply) (n : ℕ) (a : Applied) → Keeps limit books old → is_booking e ≡ true → Grown limit books e new
     → new ≡ appended e reply old → n ≡ length old.register + 1 → a.number ≡ n → a.mate ≡ None → a.settled ≡ 0 → a.waiting ≡ 0 → ((b : Books) → IsApplied b e a → reply ≡ reply_to b e)
     → HasApplied limit books e (record { applied = a; reply = reply }) new
-registered limit books old new e reply n a keeps kind grown added is_number number mate settled waiting replied =
+booked limit books old new e reply n a keeps kind grown added is_number number mate settled waiting replied =
     let h = books.history in
     let after : Books = record { history = h ++ e ∷ []; pairs = grown.pairs; settled = grown.settled } in
     let quiet = quiet_entry e kind in
@@ -213,7 +205,7 @@ registered limit books old new e reply n a keeps kind grown added is_number numb
     record {
       after = after;
       longer = refl;
-      keeps = keeps_more limit books after old new e reply keeps refl grown.tables quiet.supported (ap (λ (c : Content). c.register) added) (replied after fared);
+      keeps = keeps_more limit books after old new e reply keeps refl grown.tables (ap (λ (c : Content). c.register) added) (replied after fared);
       fared = fared;
       replied = replied after fared;
       kept = kept_last old.register new.register (record { entry = e; reply = reply }) a.number (ap (λ (c : Content). c.register) added) (omega arith);
@@ -260,9 +252,9 @@ stands_first e reply old n (Some m) at first =
     rw (test, new, first) refl
 
 pub instructed_applied : (limit : ℕ) (books : Books) (old new : Content) (sender : List ℕ) (i : Instruction) (reply : Reply) (n : ℕ) (m : Option ℕ) (a : Applied) → Keeps limit books old
-    → is_supported (Instruct sender i) ≡ true → Grown limit books (Instruct sender i) new → new ≡ mated n m (appended (Instruct sender i) reply old) → n ≡ length old.register + 1
+    → Grown limit books (Instruct sender i) new → new ≡ mated n m (appended (Instruct sender i) reply old) → n ≡ length old.register + 1
     → a.number ≡ n → a.mate ≡ m → a.settled ≡ 0 → a.waiting ≡ 0 → ((b : Books) → IsApplied b (Instruct sender i) a → reply ≡ reply_to b (Instruct sender i)) → HasApplied limit books (Instruct sender i) (record { applied = a; reply = reply }) new
-instructed_applied limit books old new sender i reply n m a keeps supported grown added is_number number mate settled waiting replied =
+instructed_applied limit books old new sender i reply n m a keeps grown added is_number number mate settled waiting replied =
     let h = books.history in
     let e : Entry = Instruct sender i in
     let after : Books = record { history = h ++ e ∷ []; pairs = grown.pairs; settled = grown.settled } in
@@ -287,7 +279,7 @@ instructed_applied limit books old new sender i reply n m a keeps supported grow
     record {
       after = after;
       longer = refl;
-      keeps = keeps_more limit books after old new e reply keeps refl grown.tables supported (kept_more m added) (replied after fared);
+      keeps = keeps_more limit books after old new e reply keeps refl grown.tables (kept_more m added) (replied after fared);
       fared = fared;
       replied = replied after fared;
       kept = kept_last old.register new.register (record { entry = e; reply = reply }) a.number (kept_more m added) (omega arith);
@@ -319,23 +311,23 @@ room_of limit e content can =
 
 -- The same over the views of a register.
 
-pub registered_step : (v0 v1 v2 : View) (books : Books) (e : Entry) (reply : Reply) (n : ℕ) (a : Applied) → v1.content ≡ v0.content → v1.room ≡ v0.room → is_registration e ≡ true
+pub booked_step : (v0 v1 v2 : View) (books : Books) (e : Entry) (reply : Reply) (n : ℕ) (a : Applied) → v1.content ≡ v0.content → v1.room ≡ v0.room → is_booking e ≡ true
     → (Tables v1.room books v1.content → Grown v1.room books e v2.content) → v2.content ≡ appended e reply v1.content → n ≡ length v0.content.register + 1
     → a.number ≡ n → a.mate ≡ None → a.settled ≡ 0 → a.waiting ≡ 0 → ((b : Books) → IsApplied b e a → reply ≡ reply_to b e) → Keeps v0.room books v0.content → HasApplied v0.room books e (record { applied = a; reply = reply }) v2.content
-registered_step v0 v1 v2 books e reply n a same room kind grows added is_number number mate settled waiting replied keeps =
+booked_step v0 v1 v2 books e reply n a same room kind grows added is_number number mate settled waiting replied keeps =
     let P : Content → Type 0 = λ c. Tables v1.room books c in
     let Q : ℕ → Type 0 = λ k. Tables k books v0.content in
     let R : ℕ → Type 0 = λ k. Grown k books e v2.content in
     let S : Content → Type 0 = λ c. v2.content ≡ appended e reply c in
     let tables : Tables v1.room books v1.content = subst P (sym same) (subst Q (sym room) (tables_of v0.room books v0.content keeps)) in
     let grown : Grown v0.room books e v2.content = subst R room (grows tables) in
-    registered v0.room books v0.content v2.content e reply n a keeps kind grown (subst S same added) is_number number mate settled waiting replied
+    booked v0.room books v0.content v2.content e reply n a keeps kind grown (subst S same added) is_number number mate settled waiting replied
 
 pub instructed_step : (v0 v1 v2 : View) (books : Books) (sender : List ℕ) (i : Instruction) (reply : Reply) (n : ℕ) (m : Option ℕ) (a : Applied) → v1.content ≡ v0.content → v1.room ≡ v0.room
-    → is_supported (Instruct sender i) ≡ true → (Tables v1.room books v1.content → Grown v1.room books (Instruct sender i) v2.content) → v2.content ≡ mated n m (appended (Instruct sender i) reply v1.content)
+    → (Tables v1.room books v1.content → Grown v1.room books (Instruct sender i) v2.content) → v2.content ≡ mated n m (appended (Instruct sender i) reply v1.content)
     → n ≡ length v0.content.register + 1 → a.number ≡ n → a.mate ≡ m → a.settled ≡ 0 → a.waiting ≡ 0 → ((b : Books) → IsApplied b (Instruct sender i) a → reply ≡ reply_to b (Instruct sender i))
     → Keeps v0.room books v0.content → HasApplied v0.room books (Instruct sender i) (record { applied = a; reply = reply }) v2.content
-instructed_step v0 v1 v2 books sender i reply n m a same room supported grows added is_number number mate settled waiting replied keeps =
+instructed_step v0 v1 v2 books sender i reply n m a same room grows added is_number number mate settled waiting replied keeps =
     let e : Entry = Instruct sender i in
     let P : Content → Type 0 = λ c. Tables v1.room books c in
     let Q : ℕ → Type 0 = λ k. Tables k books v0.content in
@@ -343,7 +335,7 @@ instructed_step v0 v1 v2 books sender i reply n m a same room supported grows ad
     let S : Content → Type 0 = λ c. v2.content ≡ mated n m (appended e reply c) in
     let tables : Tables v1.room books v1.content = subst P (sym same) (subst Q (sym room) (tables_of v0.room books v0.content keeps)) in
     let grown : Grown v0.room books e v2.content = subst R room (grows tables) in
-    instructed_applied v0.room books v0.content v2.content sender i reply n m a keeps supported grown (subst S same added) is_number number mate settled waiting replied
+    instructed_applied v0.room books v0.content v2.content sender i reply n m a keeps grown (subst S same added) is_number number mate settled waiting replied
 
 pub number_after : (v0 v1 v2 : View) (e : Entry) (n : ℕ) → CanApply v0.room e v0.content → v1.content ≡ v0.content → v2.content ≡ v1.content
     → (length v0.content.register < v0.room → n ≡ length v0.content.register + 1) → n ≡ length v2.content.register + 1
@@ -386,7 +378,7 @@ run_step v0 v1 v2 v3 books reference day rule reply n a can ran kept same added 
     record {
       after = after;
       longer = refl;
-      keeps = keeps_more v0.room books after v0.content v3.content e reply keeps refl tables refl more (replied after fared);
+      keeps = keeps_more v0.room books after v0.content v3.content e reply keeps refl tables more (replied after fared);
       fared = fared;
       replied = replied after fared;
       kept = kept_last v0.content.register v3.content.register (record { entry = e; reply = reply }) a.number more (omega arith);

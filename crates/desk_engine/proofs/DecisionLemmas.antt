@@ -1,6 +1,12 @@
 -- How a verdict is put together.
-use Rattle.std.proofs.Common.{◌≡◌, inl, inr, ℕ, ◌+◌, ◌==◌, nat_lt, Bool, true, false, List, [], ◌∷◌, length, Option, Some, None, is_none, refl, ap, sym, ◌∙◌, arith}
-use Rattle.std.proofs.lemmas.Bool.{cases_Bool, cases_lt, le-ltb, lt-ltb}
+use Rattle.std.proofs.Common.{◌≡◌, inl, inr, ℕ, ◌+◌, ◌-◌, ◌<◌, ◌≤◌, ◌==◌, nat_lt, Bool, true, false, List, [], ◌∷◌, length, Option, Some, None, is_none, if◌then◌else◌, refl, ap, sym, ◌∙◌, arith}
+use Rattle.std.specs.List.{list_any}
+use Rattle.std.proofs.lemmas.Bool.{cases_Bool, cases_lt, le-leb, le-ltb, lt-ltb, or_parts}
+use Rattle.std.proofs.lemmas.Bool.Decides.{nat_tests}
+use Rattle.std.proofs.lemmas.List.{length-map}
+use Rattle.std.proofs.lemmas.List.Sums.{sum_by-cons}
+use Rattle.desk_codes.specs.declared.currency.Ccy.{Ccy}
+use Rattle.desk_register.specs.Looked.{IsPaid, pays_in}
 use Rattle.std.specs.Prelude.{nat_le, option_and_then, option_map, Result, Ok, Err, IfOk}
 use Rattle.desk_msg.specs.declared.instruction.CancelOrder.{CancelOrder}
 use Rattle.desk_msg.specs.MessageType.{number_of_type}
@@ -15,11 +21,14 @@ use Rattle.desk_rules.specs.declared.entry.Instructed.{Instructed}
 use Rattle.desk_rules.specs.declared.entry.Sender.TheVariants.{Participant as FromParticipant}
 use Rattle.desk_rules.specs.declared.pair.Pair.{Pair}
 use Rattle.desk_rules.specs.declared.standing.Standing.{Standing}
-use Rattle.desk_rules.specs.declared.verdict.Refusal.TheVariants.{NoSuchInstruction, AlreadyCancelled, AlreadySettled, CancellationWaits}
-use Rattle.desk_rules.specs.Balances.{credits, debits, cash_credits, cash_debits}
-use Rattle.desk_rules.specs.History.{as_asked, entry_at, instruction_at, number_of_key, sender_of, reference_of}
+use Rattle.desk_rules.specs.declared.verdict.Refusal.TheVariants.{NoSuchInstruction, AlreadyCancelled, AlreadySettled, CancellationWaits, Full, OverLimit}
+use Rattle.desk_rules.specs.declared.entry.Payment.{Payment}
+use Rattle.desk_rules.specs.declared.limits.TheConstants.{MOST_PAID}
+use Rattle.desk_rules.specs.Balances.{credits, debits, cash_credits, cash_debits, paid_in, paid_in_by, paid_out, payment_in}
+use Rattle.desk_rules.specs.History.{as_asked, entry_at, instructed, instruction_at, number_of_key, sender_of, reference_of}
 use Rattle.desk_rules.specs.Books.{Books, is_settled}
 use Rattle.desk_rules.specs.Cancelled.{is_cancel_requested}
+use Rattle.desk_rules.specs.Facts.{is_participant}
 use Rattle.desk_rules.specs.Content.{Content, history_of}
 use Rattle.desk_rules.specs.Pairing.{pair_of}
 use Rattle.desk_rules.specs.Standing.{instruction_state, is_called_off, is_cancelled, open_state}
@@ -35,6 +44,67 @@ refused (c ∷ checks) refusal is_full is =
     by_bool c.fails
     (λ yes. let e : Some refusal ≡ Some c.refusal = rw yes at is in let same : refusal ≡ c.refusal = cc in rw (yes, same) refl)
     (λ passes. let e : Some refusal ≡ first_refusal checks = rw passes at is in rw passes (refused checks refusal is_full e))
+
+not_refused : (checks : List Check) (is_full : Bool) → None ≡ first_refusal checks → first_failing checks is_full ≡ first_failing [] is_full
+not_refused [] is_full is = refl
+not_refused (c ∷ checks) is_full is =
+    by_bool c.fails
+    (λ fails. let clash : None ≡ Some c.refusal = rw fails at is in absurd (cc))
+    (λ passes. let e : None ≡ first_refusal checks = rw passes at is in rw passes (not_refused checks is_full e))
+
+-- where no check fails it is full, or accepted
+module _ (limit count : ℕ) (content : Content) (entry : Entry) (counted : count ≡ length content.register) (none : None ≡ first_refusal (checks_in content entry)) where
+  as_many : count ≡ length (history_of content)
+  as_many = counted ∙ sym (length-map content.register (λ k. k.entry))
+
+  pub verdict_full : limit ≤ count → Refuse Full ≡ first_failing (checks_in content entry) (nat_le limit (length (history_of content)))
+  verdict_full full =
+      let is = as_many in
+      let test : nat_le limit (length (history_of content)) ≡ true = le-leb _ _ (omega arith) in
+      sym (not_refused (checks_in content entry) (nat_le limit (length (history_of content))) none ∙ rw test refl)
+
+  pub verdict_accept : count < limit → Accept ≡ first_failing (checks_in content entry) (nat_le limit (length (history_of content)))
+  verdict_accept room =
+      let is = as_many in
+      let lt : length (history_of content) < limit = omega arith in
+      let test : nat_le limit (length (history_of content)) ≡ false = grind (arith, nat_tests) in
+      sym (not_refused (checks_in content entry) (nat_le limit (length (history_of content))) none ∙ rw test refl)
+
+-- What is paid in of a currency, where nothing is.
+
+none_in : (e : Entry) (ccy : Ccy) → pays_in ccy e ≡ false → paid_in_by (payment_in ccy) e ≡ 0
+none_in (Participant reference bic) ccy none = refl
+none_in (Account reference bic account) ccy none = refl
+none_in (Security reference isin kind) ccy none = refl
+none_in (Issue movement) ccy none = refl
+none_in (Redeem movement) ccy none = refl
+none_in (PayIn payment) ccy none = rw none refl
+none_in (PayOut payment) ccy none = refl
+none_in (Instruct sender instruction) ccy none = refl
+none_in (Cancel sender order) ccy none = refl
+none_in (Run reference day rule) ccy none = refl
+
+nothing_in : (h : List Entry) (ccy : Ccy) → list_any (pays_in ccy) h ≡ false → paid_in h ccy ≡ 0
+nothing_in [] ccy none = refl
+nothing_in (e ∷ h) ccy none =
+    let parts = or_parts (pays_in ccy e) (list_any (pays_in ccy) h) none in
+    let first = none_in e ccy parts.0 in
+    let rest = nothing_in h ccy parts.1 in
+    let both = sum_by-cons (paid_in_by (payment_in ccy)) e h in
+    omega arith
+
+pub over_limit : (h : List Entry) (payment : Payment) (paid : ℕ) → payment.amount ≤ MOST_PAID → IsPaid h payment.ccy (Some paid)
+    → nat_lt (MOST_PAID - payment.amount) paid ≡ nat_lt (paid_out h payment.ccy + MOST_PAID) (paid_in h payment.ccy + payment.amount)
+over_limit h payment paid within is =
+    let sum = is.1 in
+    elim (cases_lt (MOST_PAID - payment.amount) paid) [
+      | inl lt ↦ lt-ltb (MOST_PAID - payment.amount) paid lt ∙ sym (lt-ltb _ _ (omega arith))
+      | inr le ↦ le-ltb (MOST_PAID - payment.amount) paid (omega arith) ∙ sym (le-ltb _ _ (omega arith))
+    ]
+
+pub within_limit : (h : List Entry) (payment : Payment) → payment.amount ≤ MOST_PAID → IsPaid h payment.ccy None
+    → false ≡ nat_lt (paid_out h payment.ccy + MOST_PAID) (paid_in h payment.ccy + payment.amount)
+within_limit h payment within is = (let none = nothing_in h payment.ccy is in sym (le-ltb _ _ (omega arith)))
 
 -- The checks that a register makes by its balances and states are those of its books.
 
@@ -53,8 +123,11 @@ holds_same f g (Some k) each = each k refl
 named_instructed : (mt k : ℕ) (i : Option Instructed) (n : ℕ) → if_of_type mt k i ≡ Some n → (n ≡ k) × ((other : Instructed) × (i ≡ Some other))
 named_instructed mt k None n is = absurd (cc)
 named_instructed mt k (Some i) n is = elim (cases_Bool (number_of_type i.instruction.mt == mt)) [
-  | inl yes ↦ (let same : Some k ≡ Some n = sym (rw yes refl) ∙ is in (let number : n ≡ k = cc in number), (i, refl))
-  | inr no ↦ (let clash : None ≡ Some n = sym (rw no refl) ∙ is in absurd (cc))
+  | inl same_type ↦
+      let both : Some k ≡ Some n = (rw same_type at is) in
+      let number : n ≡ k = cc in
+      (number, (i, refl))
+  | inr other_type ↦ (let clash : None ≡ Some n = (rw other_type at is) in absurd (cc))
 ]
 
 named_is : (h : List Entry) (mt : ℕ) (found : Option ℕ) (n : ℕ) → option_and_then (λ k. if_of_type mt k (instruction_at h k)) found ≡ Some n → (i : Instructed) × (instruction_at h n ≡ Some i)
@@ -177,3 +250,31 @@ key_used history later entry sender reference number found refusal same is_sende
 pub not_both : (test : Bool) → test ≡ true → test ≡ false → ⊥
 not_both true is other = absurd (cc)
 not_both false is other = absurd (cc)
+
+-- what a cancellation names, by the entry that is found under its key
+pub named_known : (h later : List Entry) (sender : List ℕ) (order : CancelOrder) (number : ℕ) (found : Option Entry) → later ≡ h → Some number ≡ number_of_key h (FromParticipant sender) order.previous → found ≡ entry_at later number
+    → if_of_type (number_of_type order.mt) number (option_and_then instructed found) ≡ named_by h sender order
+named_known h later sender order number found same key at =
+    let here : option_and_then instructed found ≡ instruction_at h number = ap (option_and_then instructed) (at ∙ ap (λ z. entry_at z number) same) in
+    ap (if_of_type (number_of_type order.mt) number) here ∙ ap (option_and_then (λ k. if_of_type (number_of_type order.mt) k (instruction_at h k))) key
+
+-- why a cancellation is refused, by where the instruction stands that it names
+pub standing_refused : (content later : Content) (sender : List ℕ) (order : CancelOrder) (number : ℕ) (standing : Standing) (r : Option Refusal) → later ≡ content → Some number ≡ named_by (history_of content) sender order
+    → standing ≡ later.standing number
+    → r ≡ first_refusal (check (is_cancelled_state standing.state) AlreadyCancelled ∷ check (is_settled_state standing.state) AlreadySettled ∷ check standing.cancel_requested CancellationWaits ∷ [])
+    → r ≡ first_refusal (checks_in content (Cancel sender order))
+standing_refused content later sender order number standing r same named at is =
+    let here : standing ≡ content.standing number = at ∙ ap (λ (c : Content). c.standing number) same in
+    let known : named_by (history_of content) sender order ≡ Some number = sym named in
+    let by_content : r ≡ first_refusal (check (is_cancelled_state (content.standing number).state) AlreadyCancelled ∷ check (is_settled_state (content.standing number).state) AlreadySettled ∷ check (content.standing number).cancel_requested CancellationWaits ∷ []) = rw here at is in
+    rw known by_content
+
+-- why a pay in of a participant is refused
+pub pay_in_refused : (content later : Content) (payment : Payment) (member : Bool) (paid : Option ℕ) (over : Bool) → later ≡ content → member ≡ is_participant (history_of content) payment.bic → member ≡ true
+    → IsPaid (history_of later) payment.ccy paid → ((h : List Entry) → IsPaid h payment.ccy paid → over ≡ nat_lt (paid_out h payment.ccy + MOST_PAID) (paid_in h payment.ccy + payment.amount))
+    → first_refusal (checks_in content (PayIn payment)) ≡ (if over then Some OverLimit else None)
+pay_in_refused content later payment member paid over same is known read over_is =
+    let joined : is_participant (history_of content) payment.bic ≡ true = sym is ∙ known in
+    let here : IsPaid (history_of content) payment.ccy paid = rw same at read in
+    let test = over_is (history_of content) here in
+    rw (joined, sym test) refl

@@ -62,7 +62,6 @@ empty_keeps limit = record {
     cash = λ bic ccy. refl;
   };
   accepted = record { each = λ n entry books at history are. (let k = entry_at-known [] n entry at in let a : 0 < n = k.0 in let b : n ≤ 0 = k.1 in absurd (omega arith)) };
-  supported = record { each = λ entry c. absurd (In-from_Contains [] entry c) };
 }
   where
     stands : (k : ℕ) → no_standing ≡ standing_of no_books k

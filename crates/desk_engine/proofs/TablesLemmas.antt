@@ -1,5 +1,5 @@
 -- How the tables of a history become those of a longer one.
-use Rattle.std.proofs.Common.{◌≡◌, ◌⊎◌, inl, inr, ℕ, ◌+◌, ◌<◌, ◌≤◌, ◌^◌, ◌==◌, Bool, true, false, ◌||◌, ◌&&◌, if◌then◌else◌, List, [], ◌∷◌, ◌++◌, length, drop, Contains, bytes_eq, sum_by, Option, Some, None, refl, ap, sym, ◌∙◌, subst, arith, length-append, append-nil}
+use Rattle.std.proofs.Common.{◌≡◌, ◌⊎◌, inl, inr, ℕ, ◌+◌, ◌-◌, ◌<◌, ◌≤◌, ◌^◌, ◌==◌, Bool, true, false, ◌||◌, ◌&&◌, not, if◌then◌else◌, List, [], ◌∷◌, ◌++◌, length, drop, Contains, bytes_eq, sum_by, Option, Some, None, refl, ap, sym, ◌∙◌, subst, arith, length-append, append-nil}
 use Rattle.std.specs.Prelude.{nat_lt, is_none}
 use Rattle.std.specs.List.{list_any}
 use Rattle.std.proofs.lemmas.Bool.{cases_lt, cases_eq}
@@ -24,38 +24,40 @@ use Rattle.desk_rules.specs.Covered.{lack_of}
 use Rattle.desk_rules.specs.Settlement.{IsSettlement, is_due, last_pass, passes_of, settled_before, precedes}
 use Rattle.desk_rules.specs.Books.{Books, AreBooks}
 use Rattle.desk_rules.specs.Verdict.{WasAccepted, IsVerdict, check}
-use Rattle.desk_rules.specs.Content.{CashBalances, Content, history_of}
+use Rattle.desk_rules.specs.Content.{Content, history_of}
 use Rattle.desk_rules.specs.Standing.{no_standing, reason_of_lack}
 use Rattle.desk_rules.specs.Stands.{IsAlone, IsInPair, IsReason, StandsAt, StandsSo, reason_found}
-use Rattle.desk_engine.specs.Tables.{Tables, Grown, is_registration}
+use Rattle.desk_engine.specs.Tables.{Tables, Grown, is_booking}
 use Rattle.desk_rules.proofs.Decided.{In, In-from_Contains, Contains-from_In, In-left, In-cases, filter-same}
 use Rattle.desk_rules.proofs.HistoryLemmas.{entry_at-known, entry_at-front, entry_at-end, before-front, before-all, instruction_at-known, instruction_at-front}
 use Rattle.desk_rules.proofs.PairingLemmas.{one_pairing, decided_pairing}
 use Rattle.desk_rules.proofs.SettlementLemmas.{one_settlement, ordered_pairs, IsRanged, decided_settlement, due_facts, due_known}
 use Rattle.desk_rules.proofs.SettlementGrowth.{in_passes-front, is_due-front, precedes-front, by_none}
-use Rattle.std.proofs.lemmas.Bool.{cases_Bool, ltb-false, ne_eqb}
+use Rattle.std.proofs.lemmas.Bool.{cases_Bool, ltb-false, ne_eqb, not-false}
 use Rattle.std.proofs.lemmas.Bool.Decides.{nat_tests}
 use Rattle.std.proofs.Common.{lit<}
 use Rattle.std.specs.Prelude.{Result, Ok, Err, OnOk}
 use Rattle.desk_register.specs.declared.register.Fault.{Fault}
 use Rattle.desk_rules.specs.declared.entry.Movement.{Movement}
-use Rattle.desk_rules.specs.declared.verdict.Refusal.TheVariants.{AccountUnknown, OverLimit}
+use Rattle.desk_codes.specs.declared.currency.Ccy.{Ccy}
+use Rattle.desk_rules.specs.declared.verdict.Refusal.TheVariants.{AccountUnknown, NotEnough, OverLimit, ParticipantUnknown}
 use Rattle.desk_engine.specs.Tables.{IsAccepted}
 use Rattle.std.proofs.lemmas.Slice.Eq.{bytes_eq-Decides}
 use Rattle.std.proofs.lemmas.List.Sums.{sum_by-cons}
 use Rattle.desk_rules.specs.declared.reply.Kept.{Kept}
 use Rattle.desk_rules.specs.declared.reply.Reply.{Reply}
-use Rattle.desk_register.specs.Changes.{appended, cash_after, first_standing, positions_after, requests_noted, moved_to, BalancesAllow}
-use Rattle.desk_rules.specs.Facts.{owner_of, accounts_of}
-use Rattle.desk_rules.specs.declared.limits.TheConstants.{MOST_QUANTITY}
-use Rattle.desk_rules.specs.Balances.{cash_credits, cash_debits, issued_by, redeemed_by, movement_on, paid_in_by, paid_out_by, payment_of, quantity_if}
+use Rattle.desk_register.specs.Changes.{appended, cash_after, cash_at, first_standing, positions_after, requests_noted, moved_to, BalancesAllow}
+use Rattle.desk_rules.specs.Facts.{is_participant, owner_of, accounts_of, participants_of}
+use Rattle.desk_rules.specs.declared.limits.TheConstants.{MOST_PAID, MOST_QUANTITY}
+use Rattle.desk_rules.specs.Balances.{cash_credits, cash_debits, issued_by, redeemed_by, movement_on, paid_in, paid_in_by, paid_out, paid_out_by, payment_of, quantity_if, same_ccy}
 use Rattle.desk_rules.specs.declared.entry.Payment.{Payment}
 use Rattle.desk_rules.proofs.PairingLemmas.{pairing_alone}
 use Rattle.desk_rules.proofs.SettlementGrowth.{settlement_alone}
 use Rattle.desk_rules.proofs.BalanceLemmas.{IsIn, cash_credits-entry, cash_debits-entry, credits-entry, debits-entry}
 use Rattle.desk_rules.proofs.Accepted.{passes}
 use Rattle.desk_rules.proofs.NonNegative.{never_negative}
-use Rattle.desk_rules.proofs.Conservation.{securities_add_up, owned, is_none_false}
+use Rattle.desk_rules.proofs.Conservation.{securities_add_up, cash_adds_up, owned, takes_part, is_none_false}
+use Rattle.desk_rules.proofs.Deciding.{same_ccy-true}
 use Rattle.std.specs.Prelude.{option_and_then}
 
 -- Two books of one history are one.
@@ -235,26 +237,23 @@ stands_rest h e ps more settled k s quiet not_new free is = elim (cases_lt (leng
       rw new plain
 ]
 
--- What a registration does.
+-- What a booking does.
 
 pub record IsPlain (e : Entry) : Type 0 where
   pub no_run : run_day e ≡ None
   pub no_instruction : instructed e ≡ None
   pub no_cancel : (i : Instructed) → requests_cancel e i ≡ false
   pub first : first_standing e ≡ no_standing
-  pub no_payment_in : (share : Payment → ℕ) → paid_in_by share e ≡ 0
-  pub no_payment_out : (share : Payment → ℕ) → paid_out_by share e ≡ 0
-  pub no_cash : (cash : CashBalances) → cash_after e cash ≡ cash
   pub no_request : (h : List Entry) (standing : ℕ → Standing) → requests_noted h e standing ≡ standing
 
-plain_entry : (e : Entry) → is_registration e ≡ true → IsPlain e
-plain_entry (Participant reference bic) is = record { no_run = refl; no_instruction = refl; no_cancel = λ i. refl; first = refl; no_payment_in = λ share. refl; no_payment_out = λ share. refl; no_cash = λ cash. refl; no_request = λ h standing. refl }
-plain_entry (Account reference bic account) is = record { no_run = refl; no_instruction = refl; no_cancel = λ i. refl; first = refl; no_payment_in = λ share. refl; no_payment_out = λ share. refl; no_cash = λ cash. refl; no_request = λ h standing. refl }
-plain_entry (Security reference isin kind) is = record { no_run = refl; no_instruction = refl; no_cancel = λ i. refl; first = refl; no_payment_in = λ share. refl; no_payment_out = λ share. refl; no_cash = λ cash. refl; no_request = λ h standing. refl }
-plain_entry (Issue movement) is = record { no_run = refl; no_instruction = refl; no_cancel = λ i. refl; first = refl; no_payment_in = λ share. refl; no_payment_out = λ share. refl; no_cash = λ cash. refl; no_request = λ h standing. refl }
-plain_entry (Redeem movement) is = absurd (cc)
-plain_entry (PayIn p) is = absurd (cc)
-plain_entry (PayOut p) is = absurd (cc)
+plain_entry : (e : Entry) → is_booking e ≡ true → IsPlain e
+plain_entry (Participant reference bic) is = record { no_run = refl; no_instruction = refl; no_cancel = λ i. refl; first = refl; no_request = λ h standing. refl }
+plain_entry (Account reference bic account) is = record { no_run = refl; no_instruction = refl; no_cancel = λ i. refl; first = refl; no_request = λ h standing. refl }
+plain_entry (Security reference isin kind) is = record { no_run = refl; no_instruction = refl; no_cancel = λ i. refl; first = refl; no_request = λ h standing. refl }
+plain_entry (Issue movement) is = record { no_run = refl; no_instruction = refl; no_cancel = λ i. refl; first = refl; no_request = λ h standing. refl }
+plain_entry (Redeem movement) is = record { no_run = refl; no_instruction = refl; no_cancel = λ i. refl; first = refl; no_request = λ h standing. refl }
+plain_entry (PayIn p) is = record { no_run = refl; no_instruction = refl; no_cancel = λ i. refl; first = refl; no_request = λ h standing. refl }
+plain_entry (PayOut p) is = record { no_run = refl; no_instruction = refl; no_cancel = λ i. refl; first = refl; no_request = λ h standing. refl }
 plain_entry (Instruct sender i) is = absurd (cc)
 plain_entry (Cancel sender order) is = absurd (cc)
 plain_entry (Run reference day rule) is = absurd (cc)
@@ -276,18 +275,73 @@ issue_position d c pos account isin a i q all =
       ]
     ]
 
-registration_position : (d c pos : List ℕ → List ℕ → ℕ) (e : Entry) (a i : List ℕ) → is_registration e ≡ true → ((a i : List ℕ) → pos a i + d a i ≡ c a i)
-    → positions_after e pos a i + (d a i + redeemed_by (movement_on a i) e) ≡ c a i + issued_by (movement_on a i) e
-registration_position d c pos (Participant reference bic) a i is all = let here : pos a i + d a i ≡ c a i = all a i in omega arith
-registration_position d c pos (Account reference bic account) a i is all = let here : pos a i + d a i ≡ c a i = all a i in omega arith
-registration_position d c pos (Security reference isin kind) a i is all = let here : pos a i + d a i ≡ c a i = all a i in omega arith
-registration_position d c pos (Issue movement) a i is all = issue_position d c pos movement.account movement.isin a i movement.quantity all
-registration_position d c pos (Redeem movement) a i is all = absurd (cc)
-registration_position d c pos (PayIn p) a i is all = absurd (cc)
-registration_position d c pos (PayOut p) a i is all = absurd (cc)
-registration_position d c pos (Instruct sender j) a i is all = absurd (cc)
-registration_position d c pos (Cancel sender order) a i is all = absurd (cc)
-registration_position d c pos (Run reference day rule) a i is all = absurd (cc)
+redeem_position : (d c pos : List ℕ → List ℕ → ℕ) (account isin a i : List ℕ) (q : ℕ) → q ≤ pos account isin → ((a i : List ℕ) → pos a i + d a i ≡ c a i)
+    → moved_to pos account isin (pos account isin - q) a i + (d a i + quantity_if (bytes_eq account a) (quantity_if (bytes_eq isin i) q)) ≡ c a i + 0
+redeem_position d c pos account isin a i q there all =
+    let here : pos a i + d a i ≡ c a i = all a i in
+    elim (cases_Bool (bytes_eq account a)) [
+      | inr other ↦ rw other (omega arith)
+      | inl on ↦ elim (cases_Bool (bytes_eq isin i)) [
+        | inr other ↦ rw (on, other) (omega arith)
+        | inl of ↦
+            let first : pos account isin ≡ pos a i = ap (λ x. pos x isin) (same_bytes account a on) ∙ ap (λ x. pos a x) (same_bytes isin i of) in
+            rw (on, of) (omega arith)
+      ]
+    ]
+
+pay_in_cash : (d c cash : List ℕ → Ccy → ℕ) (bic : List ℕ) (ccy : Ccy) (b : List ℕ) (y : Ccy) (n : ℕ) → ((b : List ℕ) (y : Ccy) → cash b y + d b y ≡ c b y)
+    → cash_at cash bic ccy (cash bic ccy + n) b y + (d b y + 0) ≡ c b y + quantity_if (bytes_eq bic b) (quantity_if (same_ccy ccy y) n)
+pay_in_cash d c cash bic ccy b y n all =
+    let here : cash b y + d b y ≡ c b y = all b y in
+    elim (cases_Bool (bytes_eq bic b)) [
+      | inr other ↦ rw other (omega arith)
+      | inl on ↦ elim (cases_Bool (same_ccy ccy y)) [
+        | inr other ↦ rw (on, other) (omega arith)
+        | inl of ↦
+            let first : cash bic ccy ≡ cash b y = ap (λ x. cash x ccy) (same_bytes bic b on) ∙ ap (λ x. cash b x) (same_ccy-true ccy y of) in
+            rw (on, of) (omega arith)
+      ]
+    ]
+
+pay_out_cash : (d c cash : List ℕ → Ccy → ℕ) (bic : List ℕ) (ccy : Ccy) (b : List ℕ) (y : Ccy) (n : ℕ) → n ≤ cash bic ccy → ((b : List ℕ) (y : Ccy) → cash b y + d b y ≡ c b y)
+    → cash_at cash bic ccy (cash bic ccy - n) b y + (d b y + quantity_if (bytes_eq bic b) (quantity_if (same_ccy ccy y) n)) ≡ c b y + 0
+pay_out_cash d c cash bic ccy b y n there all =
+    let here : cash b y + d b y ≡ c b y = all b y in
+    elim (cases_Bool (bytes_eq bic b)) [
+      | inr other ↦ rw other (omega arith)
+      | inl on ↦ elim (cases_Bool (same_ccy ccy y)) [
+        | inr other ↦ rw (on, other) (omega arith)
+        | inl of ↦
+            let first : cash bic ccy ≡ cash b y = ap (λ x. cash x ccy) (same_bytes bic b on) ∙ ap (λ x. cash b x) (same_ccy-true ccy y of) in
+            rw (on, of) (omega arith)
+      ]
+    ]
+
+booked_position : (d c : List ℕ → List ℕ → ℕ) (content : Content) (e : Entry) (a i : List ℕ) → is_booking e ≡ true → BalancesAllow e content → ((a i : List ℕ) → content.position a i + d a i ≡ c a i)
+    → positions_after e content.position a i + (d a i + redeemed_by (movement_on a i) e) ≡ c a i + issued_by (movement_on a i) e
+booked_position d c content (Participant reference bic) a i is allows all = let here : content.position a i + d a i ≡ c a i = all a i in omega arith
+booked_position d c content (Account reference bic account) a i is allows all = let here : content.position a i + d a i ≡ c a i = all a i in omega arith
+booked_position d c content (Security reference isin kind) a i is allows all = let here : content.position a i + d a i ≡ c a i = all a i in omega arith
+booked_position d c content (Issue m) a i is allows all = issue_position d c content.position m.account m.isin a i m.quantity all
+booked_position d c content (Redeem m) a i is allows all = redeem_position d c content.position m.account m.isin a i m.quantity allows.0 all
+booked_position d c content (PayIn p) a i is allows all = let here : content.position a i + d a i ≡ c a i = all a i in omega arith
+booked_position d c content (PayOut p) a i is allows all = let here : content.position a i + d a i ≡ c a i = all a i in omega arith
+booked_position d c content (Instruct sender j) a i is allows all = absurd (cc)
+booked_position d c content (Cancel sender order) a i is allows all = absurd (cc)
+booked_position d c content (Run reference day rule) a i is allows all = absurd (cc)
+
+booked_cash : (d c : List ℕ → Ccy → ℕ) (content : Content) (e : Entry) (b : List ℕ) (y : Ccy) → is_booking e ≡ true → BalancesAllow e content → ((b : List ℕ) (y : Ccy) → content.cash b y + d b y ≡ c b y)
+    → cash_after e content.cash b y + (d b y + paid_out_by (payment_of b y) e) ≡ c b y + paid_in_by (payment_of b y) e
+booked_cash d c content (Participant reference bic) b y is allows all = let here : content.cash b y + d b y ≡ c b y = all b y in omega arith
+booked_cash d c content (Account reference bic account) b y is allows all = let here : content.cash b y + d b y ≡ c b y = all b y in omega arith
+booked_cash d c content (Security reference isin kind) b y is allows all = let here : content.cash b y + d b y ≡ c b y = all b y in omega arith
+booked_cash d c content (Issue m) b y is allows all = let here : content.cash b y + d b y ≡ c b y = all b y in omega arith
+booked_cash d c content (Redeem m) b y is allows all = let here : content.cash b y + d b y ≡ c b y = all b y in omega arith
+booked_cash d c content (PayIn p) b y is allows all = pay_in_cash d c content.cash p.bic p.ccy b y p.amount all
+booked_cash d c content (PayOut p) b y is allows all = pay_out_cash d c content.cash p.bic p.ccy b y p.amount allows.0 all
+booked_cash d c content (Instruct sender j) b y is allows all = absurd (cc)
+booked_cash d c content (Cancel sender order) b y is allows all = absurd (cc)
+booked_cash d c content (Run reference day rule) b y is allows all = absurd (cc)
 
 pub history_more : (content : Content) (e : Entry) (reply : Reply) (h : List Entry) → history_of content ≡ h → history_of (appended e reply content) ≡ h ++ e ∷ []
 history_more content e reply h is =
@@ -322,9 +376,9 @@ settled_in_history books are s i =
 pub free_of_none : (k : ℕ) → IsFree [] k
 free_of_none k = λ p c. absurd (In-from_Contains [] p c)
 
-pub tables_registration : (limit : ℕ) (books : Books) (content : Content) (e : Entry) (reply : Reply) → is_registration e ≡ true → Tables limit books content → IsVerdict limit books e Accept
-    → Grown limit books e (appended e reply content)
-tables_registration limit books content e reply is tables verdict =
+pub tables_booking : (limit : ℕ) (books : Books) (content : Content) (e : Entry) (reply : Reply) → is_booking e ≡ true → Tables limit books content → IsVerdict limit books e Accept
+    → BalancesAllow e content → Grown limit books e (appended e reply content)
+tables_booking limit books content e reply is tables verdict allows =
     let h = books.history in
     let plain = plain_entry e is in
     let are = tables.are_books in
@@ -365,13 +419,12 @@ tables_registration limit books content e reply is tables verdict =
             let within = settled_in_history books are in
             let more = credits-entry h e books.settled within account isin in
             let less = debits-entry h e books.settled within account isin in
-            rw (more, less) (registration_position (debits h books.settled) (credits h books.settled) content.position e account isin is tables.position);
+            rw (more, less) (booked_position (debits h books.settled) (credits h books.settled) content e account isin is allows tables.position);
         cash = λ bic ccy.
             let within = settled_in_history books are in
             let more = cash_credits-entry h e books.settled within bic ccy in
             let less = cash_debits-entry h e books.settled within bic ccy in
-            let here : content.cash bic ccy + cash_debits h books.settled bic ccy ≡ cash_credits h books.settled bic ccy = tables.cash bic ccy in
-            rw (plain.no_cash content.cash, more, less, plain.no_payment_in (payment_of bic ccy), plain.no_payment_out (payment_of bic ccy)) (omega arith);
+            rw (more, less) (booked_cash (cash_debits h books.settled) (cash_credits h books.settled) content e bic ccy is allows tables.cash);
       };
     }
 
@@ -429,17 +482,76 @@ issue_fits limit books content movement tables verdict =
     let counted : content.position movement.account movement.isin + movement.quantity < 2 ^ 63 = omega arith in
     (counted, rw tables.history within)
 
-pub registration_allowed : (limit : ℕ) (content : Content) (e : Entry) → is_registration e ≡ true → IsAccepted limit e content → BalancesAllow e content
-registration_allowed limit content (Participant reference bic) is accepted = tt
-registration_allowed limit content (Account reference bic account) is accepted = tt
-registration_allowed limit content (Security reference isin kind) is accepted = tt
-registration_allowed limit content (Issue movement) is accepted = issue_fits limit accepted.books content movement accepted.tables accepted.verdict
-registration_allowed limit content (Redeem movement) is accepted = absurd (cc)
-registration_allowed limit content (PayIn payment) is accepted = absurd (cc)
-registration_allowed limit content (PayOut payment) is accepted = absurd (cc)
-registration_allowed limit content (Instruct sender instruction) is accepted = absurd (cc)
-registration_allowed limit content (Cancel sender order) is accepted = absurd (cc)
-registration_allowed limit content (Run reference day rule) is accepted = absurd (cc)
+-- a participant has no more of a currency than is paid in less paid out
+pub cash_within : (limit : ℕ) (books : Books) (content : Content) (bic : List ℕ) (ccy : Ccy) → Tables limit books content → In (participants_of books.history) bic
+    → content.cash bic ccy + paid_out books.history ccy ≤ paid_in books.history ccy
+cash_within limit books content bic ccy tables member =
+    let h = books.history in
+    let ss = books.settled in
+    let are = tables.are_books in
+    let all = cash_adds_up limit h tables.accepted books.pairs ss are.pairing are.settlement ccy in
+    let never = never_negative limit h books.pairs ss tables.accepted are.pairing are.settlement in
+    let one = sum_member (λ b. cash_credits h ss b ccy) (λ b. cash_debits h ss b ccy) (participants_of h) bic (λ b. never.now.cash b ccy) member in
+    let here : content.cash bic ccy + cash_debits h ss bic ccy ≡ cash_credits h ss bic ccy = tables.cash bic ccy in
+    omega arith
+
+-- What is redeemed or paid out is there, and what is paid in can be counted.
+
+enough : (balance debits credits amount : ℕ) → nat_lt credits (debits + amount) ≡ false → balance + debits ≡ credits → amount ≤ balance
+enough balance debits credits amount test is = (let le : debits + amount ≤ credits = ltb-false _ _ test in omega arith)
+
+redemption_fits : (limit : ℕ) (books : Books) (content : Content) (m : Movement) → Tables limit books content → IsVerdict limit books (Redeem m) Accept → BalancesAllow (Redeem m) content
+redemption_fits limit books content m tables verdict =
+    let h = books.history in
+    let p = passes limit books (Redeem m) verdict in
+    let first : is_none (owner_of h m.account) ≡ false = p.checks (check (is_none (owner_of h m.account)) AccountUnknown) (inl refl) in
+    let third : nat_lt (credits h books.settled m.account m.isin) (debits h books.settled m.account m.isin + m.quantity) ≡ false =
+    p.checks (check (nat_lt (credits h books.settled m.account m.isin) (debits h books.settled m.account m.isin + m.quantity)) NotEnough) (inr (inr (inl refl))) in
+    let there = enough (content.position m.account m.isin) (debits h books.settled m.account m.isin) (credits h books.settled m.account m.isin) m.quantity third (tables.position m.account m.isin) in
+    let owner = is_none_false (owner_of h m.account) first in
+    let member = owned h m.account owner.0 owner.1 in
+    let here : content.position m.account m.isin + redeemed h m.isin ≤ issued h m.isin = position_within limit books content m.account m.isin tables member in
+    let within : redeemed h m.isin + m.quantity ≤ issued h m.isin = omega arith in
+    (there, rw tables.history within)
+
+member_of : (h : List Entry) (bic : List ℕ) → not (is_participant h bic) ≡ false → In (participants_of h) bic
+member_of h bic known = takes_part h bic (not-false (is_participant h bic) known)
+
+pay_in_fits : (limit : ℕ) (books : Books) (content : Content) (p : Payment) → Tables limit books content → IsVerdict limit books (PayIn p) Accept → BalancesAllow (PayIn p) content
+pay_in_fits limit books content p tables verdict =
+    let h = books.history in
+    let passed = passes limit books (PayIn p) verdict in
+    let first : not (is_participant h p.bic) ≡ false = passed.checks (check (not (is_participant h p.bic)) ParticipantUnknown) (inl refl) in
+    let second : nat_lt (paid_out h p.ccy + MOST_PAID) (paid_in h p.ccy + p.amount) ≡ false = passed.checks (check (nat_lt (paid_out h p.ccy + MOST_PAID) (paid_in h p.ccy + p.amount)) OverLimit) (inr (inl refl)) in
+    let within : paid_in h p.ccy + p.amount ≤ paid_out h p.ccy + MOST_PAID = ltb-false _ _ second in
+    let here = cash_within limit books content p.bic p.ccy tables (member_of h p.bic first) in
+    let most : MOST_PAID < 2 ^ 63 = lit< tt in
+    let counted : content.cash p.bic p.ccy + p.amount < 2 ^ 63 = omega arith in
+    (counted, rw tables.history within)
+
+pay_out_fits : (limit : ℕ) (books : Books) (content : Content) (p : Payment) → Tables limit books content → IsVerdict limit books (PayOut p) Accept → BalancesAllow (PayOut p) content
+pay_out_fits limit books content p tables verdict =
+    let h = books.history in
+    let passed = passes limit books (PayOut p) verdict in
+    let first : not (is_participant h p.bic) ≡ false = passed.checks (check (not (is_participant h p.bic)) ParticipantUnknown) (inl refl) in
+    let second : nat_lt (cash_credits h books.settled p.bic p.ccy) (cash_debits h books.settled p.bic p.ccy + p.amount) ≡ false =
+    passed.checks (check (nat_lt (cash_credits h books.settled p.bic p.ccy) (cash_debits h books.settled p.bic p.ccy + p.amount)) NotEnough) (inr (inl refl)) in
+    let there = enough (content.cash p.bic p.ccy) (cash_debits h books.settled p.bic p.ccy) (cash_credits h books.settled p.bic p.ccy) p.amount second (tables.cash p.bic p.ccy) in
+    let here = cash_within limit books content p.bic p.ccy tables (member_of h p.bic first) in
+    let within : paid_out h p.ccy + p.amount ≤ paid_in h p.ccy = omega arith in
+    (there, rw tables.history within)
+
+pub booking_allowed : (limit : ℕ) (content : Content) (e : Entry) → is_booking e ≡ true → IsAccepted limit e content → BalancesAllow e content
+booking_allowed limit content (Participant reference bic) is accepted = tt
+booking_allowed limit content (Account reference bic account) is accepted = tt
+booking_allowed limit content (Security reference isin kind) is accepted = tt
+booking_allowed limit content (Issue movement) is accepted = issue_fits limit accepted.books content movement accepted.tables accepted.verdict
+booking_allowed limit content (Redeem movement) is accepted = redemption_fits limit accepted.books content movement accepted.tables accepted.verdict
+booking_allowed limit content (PayIn payment) is accepted = pay_in_fits limit accepted.books content payment accepted.tables accepted.verdict
+booking_allowed limit content (PayOut payment) is accepted = pay_out_fits limit accepted.books content payment accepted.tables accepted.verdict
+booking_allowed limit content (Instruct sender instruction) is accepted = absurd (cc)
+booking_allowed limit content (Cancel sender order) is accepted = absurd (cc)
+booking_allowed limit content (Run reference day rule) is accepted = absurd (cc)
 
 -- the verdict on the entry, in any books that the content is the tables of
 pub accepted_in : (limit : ℕ) (books : Books) (content : Content) (e : Entry) → Tables limit books content → IsAccepted limit e content → IsVerdict limit books e Accept
@@ -448,9 +560,9 @@ accepted_in limit books content e tables accepted =
     let P : Books → Type 0 = λ b. IsVerdict limit b e Accept in
     subst P one accepted.verdict
 
-pub registered_ok : (limit : ℕ) (books : Books) (old new : Content) (e : Entry) (reply : Reply) (r : Result (Unit {0}) Fault) → is_registration e ≡ true → Tables limit books old → IsAccepted limit e old
+pub booked_ok : (limit : ℕ) (books : Books) (old new : Content) (e : Entry) (reply : Reply) (r : Result (Unit {0}) Fault) → is_booking e ≡ true → Tables limit books old → IsAccepted limit e old
     → OnOk r (new ≡ appended e reply old) → OnOk r (Grown limit books e new)
-registered_ok limit books old new e reply (Ok done) is tables accepted added =
+booked_ok limit books old new e reply (Ok done) is tables accepted added =
     let P : Content → Type 0 = λ c. Grown limit books e c in
-    subst P (sym added) (tables_registration limit books old e reply is tables (accepted_in limit books old e tables accepted))
-registered_ok limit books old new e reply (Err fault) is tables accepted added = added
+    subst P (sym added) (tables_booking limit books old e reply is tables (accepted_in limit books old e tables accepted) (booking_allowed limit old e is accepted))
+booked_ok limit books old new e reply (Err fault) is tables accepted added = added

@@ -15,14 +15,12 @@ use Rattle.desk_rules.specs.Tables.{AreTablesButSent}
 use Rattle.desk_register.specs.Looked.{kept_at}
 use Rattle.desk_engine.specs.declared.applied.Accepted.{Accepted}
 use Rattle.desk_engine.specs.declared.applied.Applied.{Applied}
-use Rattle.desk_engine.specs.Decision.{AreSupported}
 
--- A register keeps the tables of books, all parts but what was sent. Each entry is a command that the desk takes, and was
--- accepted in its turn by a desk that may hold `limit` entries.
+-- A register keeps the tables of books, all parts but what was sent. Each entry was accepted in its turn by a desk that
+-- may hold `limit` entries.
 pub record Keeps (limit : ℕ) (books : Books) (content : Content) : Type 0 where
   pub tables : AreTablesButSent books content
   pub accepted : WasAccepted limit books.history
-  pub supported : AreSupported books.history
 
 -- the books of the empty history
 abbrev pub no_books : Books

@@ -3,7 +3,7 @@
 -- and that each entry is a supported one.
 use Rattle.std.specs.Prelude.{◌≡◌, ℕ, Bool, true, false, List, [], ◌∷◌, ◌++◌, Option, Some, None}
 use Rattle.desk_rules.specs.declared.entry.Entry.{Entry}
-use Rattle.desk_rules.specs.declared.entry.Entry.TheVariants.{Participant, Account, Security, Issue}
+use Rattle.desk_rules.specs.declared.entry.Entry.TheVariants.{Instruct, Cancel, Run}
 use Rattle.desk_rules.specs.declared.pair.Pair.{Pair}
 use Rattle.desk_rules.specs.declared.pair.Settled.{Settled}
 use Rattle.desk_rules.specs.declared.verdict.Verdict.TheVariants.{Accept}
@@ -36,13 +36,13 @@ pub record IsAccepted (limit : ℕ) (entry : Entry) (content : Content) : Type 0
   pub tables : Tables limit books content
   pub verdict : IsVerdict limit books entry Accept
 
--- what the operator registers: a participant, an account, a security, or an issue; these pair and settle nothing
-abbrev pub is_registration : Entry → Bool
-is_registration (Participant reference bic) = true
-is_registration (Account reference bic account) = true
-is_registration (Security reference isin kind) = true
-is_registration (Issue movement) = true
-is_registration entry = false
+-- what the operator books, all commands but runs: a participant, an account, a security, what is issued, redeemed, paid
+-- in or paid out; these pair and settle nothing
+abbrev pub is_booking : Entry → Bool
+is_booking (Instruct sender instruction) = false
+is_booking (Cancel sender order) = false
+is_booking (Run reference day rule) = false
+is_booking entry = true
 
 -- the content with an instruction of this number paired with its mate, if it has one
 abbrev pub mated : ℕ → Option ℕ → Content → Content

@@ -3,7 +3,7 @@ ghost use Rattle.std.specs.Prelude.{◌≡◌, ◌+◌, ◌<◌, ◌≤◌, leng
 ghost use Rattle.desk_register.specs.View.{IfTrusted, IsChange, IsRead};
 ghost use Rattle.desk_register.specs.Changes.{appended};
 ghost use Rattle.desk_register.specs.Looked.{IsFirstOpposite};
-ghost use Rattle.desk_engine.specs.Tables.{Grown, IsAccepted, Tables, is_registration, mated};
+ghost use Rattle.desk_engine.specs.Tables.{Grown, IsAccepted, Tables, is_booking, mated};
 ghost use Rattle.desk_rules.specs.Books.{Books};
 
 use desk_codes::Bic;
@@ -29,14 +29,14 @@ pub fn next_number<R: Register>(alloc: Global, register: &mut R) -> Result<u64, 
 }
 
 /// Adds an accepted participant, account, security or issue, with its reply.
-pub fn add_registration<R: Register>(
+pub fn add_booking<R: Register>(
     alloc: Global,
     register: &mut R,
     entry: Entry,
     reply: Reply,
 ) -> Result<(), Fault>
     requires stage { (R.view register.old).stage ≡ Stage.Begun }
-    requires kind { IsTrue (is_registration entry) }
+    requires kind { IsTrue (is_booking entry) }
     requires status { reply.status ≡ 200 }
     requires accepted { IfTrusted (R.view register.old) (R.view register.old) (IsAccepted (R.view register.old).room entry (R.view register.old).content) }
     ensures added { IfTrusted (R.view register.old) (R.view register.new) (OnOk result ((R.view register.new).content ≡ appended entry reply (R.view register.old).content)) }

@@ -4,10 +4,10 @@ ghost use Rattle.desk_register.specs.View.{IfTrusted};
 ghost use Rattle.desk_engine.specs.Applied.{CanApply, HasApplied, Keeps};
 ghost use Rattle.desk_engine.specs.Decision.{is_supported};
 ghost use Rattle.desk_engine.specs.Steps.{IsStep};
-ghost use Rattle.desk_engine.specs.Tables.{is_registration};
+ghost use Rattle.desk_engine.specs.Tables.{is_booking};
 ghost use Rattle.desk_rules.specs.Books.{Books};
 
-use crate::adding::{add_instruction, add_registration, next_number};
+use crate::adding::{add_instruction, add_booking, next_number};
 use crate::applied::{Accepted, Applied};
 use crate::replies::{accepted_reply, once_more};
 use crate::settlement_run::{add_run, run_passes};
@@ -41,19 +41,19 @@ pub fn apply<R: Register>(alloc: Global, register: &mut R, entry: Entry) -> Resu
         Entry::Participant { .. }
         | Entry::Account { .. }
         | Entry::Security { .. }
-        | Entry::Issue(_) => apply_registration(alloc, register, entry),
+        | Entry::Issue(_) => apply_booking(alloc, register, entry),
         _ => unreachable!(),
     }
 }
 
 /// A participant, account, security or issue.
-fn apply_registration<R: Register>(
+fn apply_booking<R: Register>(
     alloc: Global,
     register: &mut R,
     entry: Entry,
 ) -> Result<Accepted, Fault>
     requires stage { (R.view register.old).stage ≡ Stage.Begun }
-    requires kind { IsTrue (is_registration entry) }
+    requires kind { IsTrue (is_booking entry) }
     requires accepted { IfTrusted (R.view register.old) (R.view register.old) (CanApply (R.view register.old).room entry (R.view register.old).content) }
     ensures applied { (books : Books) → IfTrusted (R.view register.old) (R.view register.new) (Keeps (R.view register.old).room books (R.view register.old).content
         → IfOk result (λ accepted. HasApplied (R.view register.old).room books entry accepted (R.view register.new).content)) }
@@ -69,7 +69,7 @@ fn apply_registration<R: Register>(
     };
     let reply = accepted_reply(alloc, &entry, &applied)?;
     let kept = once_more(alloc, &reply)?;
-    add_registration(alloc, register, entry, kept)?;
+    add_booking(alloc, register, entry, kept)?;
     Ok(Accepted { applied, reply })
 }
 

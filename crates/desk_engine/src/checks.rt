@@ -1,7 +1,9 @@
 //! Why an entry whose key is new is refused: the first check that fails.
-ghost use Rattle.std.specs.Prelude.{◌≡◌, not, is_some, [], ◌∷◌, IfOk, bytes_eq, option_map};
+ghost use Rattle.std.specs.Prelude.{◌≡◌, ◌+◌, nat_lt, not, is_some, List, [], ◌∷◌, IfOk, bytes_eq, option_map};
 ghost use Rattle.desk_codes.specs.Number.{number_of};
+ghost use Rattle.desk_register.specs.Looked.{IsPaid};
 ghost use Rattle.desk_register.specs.View.{IsRead};
+ghost use Rattle.desk_rules.specs.Balances.{paid_in, paid_out};
 ghost use Rattle.desk_engine.specs.Deciding.{checks_in, first_refusal, is_cancelled_state, is_settled_state};
 ghost use Rattle.desk_engine.specs.Decision.{Reading};
 ghost use Rattle.desk_msg.specs.Depository.{desk_bic};
@@ -146,6 +148,17 @@ fn refuse_redemption<R: Register>(
     Ok(None)
 }
 
+/// Whether a payment would take what is paid in of its currency, less what is paid out, over the limit.
+fn is_over_limit(payment: &Payment, paid: Option<u64>) -> bool
+    ensures { (history : List Entry) → IsPaid history payment.now.ccy paid
+        → result ≡ nat_lt (paid_out history payment.now.ccy + MOST_PAID) (paid_in history payment.now.ccy + payment.now.amount) }
+{
+    match paid {
+        Some(paid) => paid > MOST_PAID - payment.amount,
+        None => false,
+    }
+}
+
 /// Why a pay in is refused.
 fn refuse_pay_in<R: Register>(
     alloc: Global,
@@ -159,10 +172,11 @@ fn refuse_pay_in<R: Register>(
     if !register.participant(alloc, payment.bic)? {
         return Ok(Some(Refusal::ParticipantUnknown));
     }
-    match register.paid(alloc, payment.ccy)? {
-        Some(paid) if paid > MOST_PAID - payment.amount => Ok(Some(Refusal::OverLimit)),
-        _ => Ok(None),
+    let paid = register.paid(alloc, payment.ccy)?;
+    if is_over_limit(payment, paid) {
+        return Ok(Some(Refusal::OverLimit));
     }
+    Ok(None)
 }
 
 /// Why a pay out is refused.

@@ -187,7 +187,7 @@ stranger (Instruct sender instruction ∷ h) b none y i = stranger h b none y i
 stranger (Cancel sender order ∷ h) b none y i = stranger h b none y i
 stranger (Run reference day rule ∷ h) b none y i = stranger h b none y i
 
-takes_part : (h : List Entry) (b : List ℕ) → is_participant h b ≡ true → In (participants_of h) b
+pub takes_part : (h : List Entry) (b : List ℕ) → is_participant h b ≡ true → In (participants_of h) b
 takes_part [] b e = absurd (cc)
 takes_part (Participant reference bic ∷ h) b e = elim (or_cases (bytes_eq bic b) (is_participant h b) e) [
   | inl here ↦ inl (same_bytes bic b here)

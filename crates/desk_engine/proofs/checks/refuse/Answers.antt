@@ -14,3 +14,6 @@ returns-in-Instruct-clause-value g c = λ honest sure well. rw c.in-Instruct.is 
 
 pub returns-in-Cancel-clause-value : goal.returns-in-Cancel-clause-value
 returns-in-Cancel-clause-value g c = λ honest sure well. rw c.in-Cancel.is (c.refuse_cancellation.ensures.value honest sure well)
+
+pub returns-in-Run-clause-value : goal.returns-in-Run-clause-value
+returns-in-Run-clause-value g c = λ honest sure well. rw c.in-Run.is (c.refuse_run.ensures.value honest sure well)

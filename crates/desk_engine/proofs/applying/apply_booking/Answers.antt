@@ -1,22 +1,22 @@
 use Rattle.std.proofs.Common.{refl}
-use Rattle.desk_engine.proofs.AcceptingLemmas.{accepted_still, registered_step, room_of}
-use Rattle.desk_engine.proofs.applying.apply_registration.Goals as goal
+use Rattle.desk_engine.proofs.AcceptingLemmas.{accepted_still, booked_step, room_of}
+use Rattle.desk_engine.proofs.applying.apply_booking.Goals as goal
 
 pub returns-clause-applied : goal.returns-clause-applied
 returns-clause-applied g c = λ books honest sure keeps.
     let r = c.in_ok-number.ensures in
-    let add = c.in_ok-add_registration.ensures in
+    let add = c.in_ok-add_booking.ensures in
     let honest1 = add.change.later.honest honest in
     let honest0 = r.read.later.honest honest1 in
     let sure1 = r.read.ok.sure honest1 sure in
     let v0 = g.R.Register.view c.args.register.now in
     let can = c.requires.accepted honest0 sure in
-    registered_step v0 (g.R.Register.view c.next_number.new.register) (g.R.Register.view c.add_registration.new.register) books c.args.entry c.in_ok-reply.reply c.in_ok-number.number _
+    booked_step v0 (g.R.Register.view c.next_number.new.register) (g.R.Register.view c.add_booking.new.register) books c.args.entry c.in_ok-reply.reply c.in_ok-number.number _
     (r.read.same honest1 sure) r.read.later.room c.requires.kind (add.tables books honest sure1) (rw c.in_ok-kept.ensures.reply at (add.added honest sure1)) (r.value honest1 sure (room_of v0.room c.args.entry v0.content can))
     refl refl refl refl c.in_ok-reply.ensures.reply keeps
 
-pub add_registration-requires-clause-accepted : goal.add_registration-requires-clause-accepted
-add_registration-requires-clause-accepted g c = λ honest sure.
+pub add_booking-requires-clause-accepted : goal.add_booking-requires-clause-accepted
+add_booking-requires-clause-accepted g c = λ honest sure.
     let r = c.in_ok-number.ensures.read in
     let honest0 = r.later.honest honest in
     let sure0 = r.later.sure honest sure in
