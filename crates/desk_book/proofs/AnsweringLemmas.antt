@@ -1,5 +1,5 @@
 -- What is answered to an entry, from what the register keeps.
-use Rattle.std.proofs.Common.{◌≡◌, inl, inr, ℕ, zero, suc, ◌+◌, ◌<◌, ◌≤◌, ◌^◌, Bool, true, false, List, [], ◌∷◌, length, Option, Some, None, option_map, refl, sym, ◌∙◌, subst, arith, lit<}
+use Rattle.std.proofs.Common.{◌≡◌, inl, inr, ℕ, zero, suc, ◌+◌, ◌<◌, ◌≤◌, ◌^◌, Bool, true, false, List, [], ◌∷◌, ◌++◌, length, Option, Some, None, option_map, refl, sym, ◌∙◌, subst, arith, lit<}
 use Rattle.std.specs.Prelude.{slice_get, is_some, nat_le, Result, Ok, Err, IfOk, OnOk}
 use Rattle.std.proofs.lemmas.Bool.{cases_Bool}
 use Rattle.desk_rules.specs.declared.limits.TheConstants.{MOST_QUANTITY}
@@ -12,8 +12,11 @@ use Rattle.desk_rules.specs.History.{as_asked, entry_at, sender_of, reference_of
 use Rattle.desk_codes.specs.declared.currency.Ccy.{Ccy}
 use Rattle.desk_rules.specs.declared.entry.Payment.{Payment}
 use Rattle.desk_rules.specs.declared.entry.Entry.TheVariants.{Participant, Account, Security, Issue, Redeem, PayIn, PayOut, Instruct, Cancel, Run}
-use Rattle.desk_engine.specs.Decision.{AreSupported, is_supported}
-use Rattle.desk_rules.proofs.Decided.{In, In-from_Contains, Contains-from_In}
+use Rattle.desk_book.specs.Supported.{AreSupported, is_supported}
+use Rattle.desk_rules.proofs.Decided.{In, In-from_Contains, Contains-from_In, In-push_cases}
+use Rattle.desk_rules.specs.declared.verdict.Verdict.{Verdict}
+use Rattle.desk_engine.specs.Decision.{is_supported as is_taken_in}
+use Rattle.desk_book.specs.Answered.{Grows}
 use Rattle.desk_rules.specs.Balances.{issued, paid_in, paid_in_by, payment_in, redeemed}
 use Rattle.desk_rules.specs.Reply.{IsFirstReply, untyped_reply}
 use Rattle.desk_rules.specs.Books.{Books}
@@ -195,15 +198,15 @@ no_cash_sums books supported = record {
   in_order = λ i j d i<j j<n. absurd (omega arith);
 }
 
-pub sums_told : (limit : ℕ) (books : Books) (content : Content) (totals : List SecurityTotal) (reply : Reply) → Keeps limit books content → AreTotals content totals
+pub sums_told : (limit : ℕ) (books : Books) (content : Content) (totals : List SecurityTotal) (reply : Reply) → KeepsFormed limit books content → AreTotals content totals
     → reply ≡ untyped_reply 200 (sums_text [] totals) → IsToldSums books reply books
 sums_told limit books content totals reply keeps are is = record {
   cash = [];
   are_cash = no_cash_sums books keeps.supported;
   securities = totals;
   are = record {
-    each = λ total c. total_told limit books content total keeps (are.each total c);
-    all = λ isin known. are.all isin (let P : List Entry → Type 0 = λ h. is_some (kind_of h isin) ≡ true in subst P (sym keeps.tables.history) known);
+    each = λ total c. total_told limit books content total keeps.tables (are.each total c);
+    all = λ isin known. are.all isin (let P : List Entry → Type 0 = λ h. is_some (kind_of h isin) ≡ true in subst P (sym keeps.tables.tables.history) known);
     in_order = are.in_order;
   };
   replied = is;
@@ -228,11 +231,45 @@ decides_repeat_at v0 v1 v2 books e n r same room keeps verdict repeats stays =
     let P : Content → Type 0 = λ c. OnOk r (v2.content ≡ c) in
     decides_repeat v0.room books e v0.content v2.content n r verdict (repeats (keeps_at v0 v1 books same room keeps) (repeat_known v0.room books e n verdict)) (subst P same stays) keeps
 
-pub answers_decided : (limit : ℕ) (books : Books) (e : Entry) (content : Content) (r : Result Reply Fault) → IsWellFormed e → AreWellFormed books.history → IfOk r (λ reply. Decides limit books e reply content)
+-- what requests are read as is taken in
+pub taken_in : (e : Entry) → is_supported e ≡ true → is_taken_in e ≡ true
+taken_in (Cancel sender order) is = absurd (cc)
+taken_in (Participant reference bic) is = refl
+taken_in (Account reference bic account) is = refl
+taken_in (Security reference isin kind) is = refl
+taken_in (Issue movement) is = refl
+taken_in (Redeem movement) is = refl
+taken_in (PayIn payment) is = refl
+taken_in (PayOut payment) is = refl
+taken_in (Instruct sender instruction) is = refl
+taken_in (Run reference day rule) is = refl
+
+-- what a verdict makes of books is of supported entries, where the entry is one
+supported_push : (h : List Entry) (e : Entry) → AreSupported h → is_supported e ≡ true → AreSupported (h ++ e ∷ [])
+supported_push h e all is = record {
+  each = λ x c. elim (In-push_cases h e x (In-from_Contains (h ++ e ∷ []) x c)) [
+    | inl old ↦ all.each x (Contains-from_In h x old)
+    | inr new ↦ (let P : Entry → Type 0 = λ z. is_supported z ≡ true in subst P new is)
+  ];
+}
+
+supported_after : (verdict : Verdict) (books after : Books) (e : Entry) → is_supported e ≡ true → AreSupported books.history → Grows verdict books e after → AreSupported after.history
+supported_after Accept books after e is all grows = subst AreSupported (sym grows.history) (supported_push books.history e all is)
+supported_after (Repeat n) books after e is all grows = (let P : Books → Type 0 = λ b. AreSupported b.history in subst P (sym grows) all)
+supported_after (Refuse refusal) books after e is all grows = (let P : Books → Type 0 = λ b. AreSupported b.history in subst P (sym grows) all)
+
+pub answers_decided : (limit : ℕ) (books : Books) (e : Entry) (content : Content) (r : Result Reply Fault) → IsWellFormed e → is_supported e ≡ true → AreWellFormed books.history → AreSupported books.history → IfOk r (λ reply. Decides limit books e reply content)
     → IfOk r (λ reply. Answers limit books (Decide e) reply content)
-answers_decided limit books e content (Ok reply) new formed d =
-    record { after = d.after; answer = d.decided; keeps = record { tables = d.keeps; formed = formed_after d.decided.verdict books d.after e new formed d.decided.grows } }
-answers_decided limit books e content (Err fault) new formed d = d
+answers_decided limit books e content (Ok reply) new taken formed supported d = record {
+  after = d.after;
+  answer = d.decided;
+  keeps = record {
+    tables = d.keeps;
+    formed = formed_after d.decided.verdict books d.after e new formed d.decided.grows;
+    supported = supported_after d.decided.verdict books d.after e taken supported d.decided.grows;
+  };
+}
+answers_decided limit books e content (Err fault) new taken formed supported d = d
 
 -- An open desk is ready again after an answer, unless that says that it is closed.
 kept_after : (task : Task) (r : Result Reply Fault) (old new : View) → says_closed r ≡ false → new.is_honest → Ends r old new → (books : Books) → KeepsFormed old.room books old.content

@@ -1,5 +1,5 @@
 -- Who reads an entry, reads a well formed one.
-use Rattle.std.proofs.Common.{◌≡◌, ℕ, Bool, true, false, List, sym, subst}
+use Rattle.std.proofs.Common.{◌≡◌, ℕ, Bool, true, false, List, [], sym, subst}
 use Rattle.std.specs.Prelude.{MatchBool}
 use Rattle.serde_json.specs.Data.{Data}
 use Rattle.desk_msg.specs.declared.mt.Mt.{Mt}
@@ -10,6 +10,7 @@ use Rattle.desk_rules.specs.declared.verdict.Verdict.TheVariants.{Accept, Repeat
 use Rattle.desk_rules.specs.Books.{Books}
 use Rattle.desk_rules.specs.Content.{Content}
 use Rattle.desk_rules.specs.WellFormed.{AreWellFormed, IsWellFormed}
+use Rattle.desk_rules.proofs.Decided.{In-from_Contains}
 use Rattle.desk_rules.proofs.WellFormedLemmas.{formed_none, formed_push, readable, spelled_bic}
 use Rattle.desk_register.specs.Changes.{empty_content}
 use Rattle.desk_engine.specs.Applied.{no_books}
@@ -56,4 +57,4 @@ formed_after (Refuse refusal) books after entry new formed grows = let P : Books
 
 -- what holds nothing keeps the tables of the history that has no entry
 pub empty_formed : (limit : ℕ) (content : Content) → content ≡ empty_content → KeepsFormed limit no_books content
-empty_formed limit content empty = record { tables = empty_kept limit content empty; formed = formed_none }
+empty_formed limit content empty = record { tables = empty_kept limit content empty; formed = formed_none; supported = record { each = λ entry c. absurd (In-from_Contains [] entry c) } }

@@ -13,7 +13,7 @@ use Rattle.desk_rules.specs.declared.entry.Entry.{Entry}
 use Rattle.desk_rules.specs.declared.entry.Entry.TheVariants.{Participant, Account, Security, Issue, Redeem, PayIn, PayOut, Run}
 use Rattle.desk_rules.specs.declared.entry.RunRule.TheVariants.{Passes}
 use Rattle.desk_rules.specs.WellFormed.{IsMovement}
-use Rattle.desk_engine.specs.Decision.{is_supported}
+use Rattle.desk_book.specs.Supported.{is_supported}
 use Rattle.desk_book.specs.Forms.{SpellsBic}
 
 -- a member that is a text, or a whole number

@@ -9,12 +9,15 @@ use Rattle.desk_rules.specs.Content.{Content}
 use Rattle.desk_register.specs.View.{View}
 use Rattle.desk_book.specs.Answered.{Step}
 use Rattle.desk_book.specs.Asked.{Asked}
+use Rattle.desk_book.specs.Supported.{AreSupported}
 use Rattle.desk_book.specs.declared.fault.Fault.{Fault}
 
--- what an open desk keeps: the tables of these books, each entry of which is well formed
+-- what an open desk keeps: the tables of these books, each entry of which is well formed, and a command that requests
+-- are read as
 pub record KeepsFormed (limit : ℕ) (books : Books) (content : Content) : Type 0 where
   pub tables : Keeps limit books content
   pub formed : AreWellFormed books.history
+  pub supported : AreSupported books.history
 
 -- An open desk's register has no `begin` open, shows what it holds, and keeps the tables of books
 -- whose entries are well formed.

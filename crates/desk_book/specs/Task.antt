@@ -16,7 +16,7 @@ use Rattle.desk_rules.specs.declared.entry.Entry.TheVariants.{Instruct}
 use Rattle.desk_rules.specs.declared.reply.Reply.{Reply}
 use Rattle.desk_rules.specs.Reply.{untyped_reply}
 use Rattle.desk_rules.specs.WellFormed.{IsWellFormed}
-use Rattle.desk_engine.specs.Decision.{is_supported}
+use Rattle.desk_book.specs.Supported.{is_supported}
 use Rattle.desk_book.specs.Asked.{Asked, message, operator, sums}
 use Rattle.desk_book.specs.Command.{SpellsCommand}
 use Rattle.desk_book.specs.WrittenAnswers.{bad_line_text}

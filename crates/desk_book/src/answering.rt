@@ -5,7 +5,7 @@ ghost use Rattle.desk_rules.specs.Refusals.{number_of_refusal};
 ghost use Rattle.desk_rules.specs.Reply.{IsFirstReply, refused_reply};
 ghost use Rattle.desk_rules.specs.Verdict.{AsksTheSame};
 ghost use Rattle.desk_engine.specs.Applied.{CanApply, Keeps};
-ghost use Rattle.desk_engine.specs.Decision.{is_supported};
+ghost use Rattle.desk_book.specs.Supported.{is_supported};
 ghost use Rattle.desk_book.specs.Answered.{IsToldSums, says_closed};
 ghost use Rattle.desk_book.specs.Task.{IsFormed, IsSupported};
 ghost use Rattle.desk_book.specs.Held.{IsReady, KeepsFormed};
@@ -131,7 +131,7 @@ fn rule<R: Register>(alloc: Global, register: &mut R, entry: Entry) -> Result<Re
 /// Tells the desk's totals.
 fn tell_totals<R: Register>(alloc: Global, register: &mut R) -> Result<Reply, Fault>
     requires ready { IsReady false (R.view register.old) }
-    ensures told { (books : Books) → (R.view register.new).is_honest → Keeps (R.view register.old).room books (R.view register.old).content
+    ensures told { (books : Books) → (R.view register.new).is_honest → KeepsFormed (R.view register.old).room books (R.view register.old).content
         → IfOk result (λ reply. IsToldSums books reply books) }
     ensures same { (R.view register.new).is_honest → OnOk result ((R.view register.new).content ≡ (R.view register.old).content) }
     ensures ends { Ends result (R.view register.old) (R.view register.new) }

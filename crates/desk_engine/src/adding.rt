@@ -1,4 +1,4 @@
-//! An accepted entry, added to the register: a registration, or an instruction with its mate.
+//! An accepted entry, added to the register: a booking, or an instruction with its mate.
 ghost use Rattle.std.specs.Prelude.{◌≡◌, ◌+◌, ◌<◌, ◌≤◌, length, IfOk, OnOk, IsTrue};
 ghost use Rattle.desk_register.specs.View.{IfTrusted, IsChange, IsRead};
 ghost use Rattle.desk_register.specs.Changes.{appended};
@@ -28,7 +28,7 @@ pub fn next_number<R: Register>(alloc: Global, register: &mut R) -> Result<u64, 
     Ok(limit)
 }
 
-/// Adds an accepted participant, account, security or issue, with its reply.
+/// Adds what the operator books, which was accepted, with its reply.
 pub fn add_booking<R: Register>(
     alloc: Global,
     register: &mut R,

@@ -38,15 +38,12 @@ pub fn apply<R: Register>(alloc: Global, register: &mut R, entry: Entry) -> Resu
             day,
             rule,
         } => apply_run(alloc, register, reference, day, rule),
-        Entry::Participant { .. }
-        | Entry::Account { .. }
-        | Entry::Security { .. }
-        | Entry::Issue(_) => apply_booking(alloc, register, entry),
-        _ => unreachable!(),
+        Entry::Cancel { .. } => unreachable!(),
+        _ => apply_booking(alloc, register, entry),
     }
 }
 
-/// A participant, account, security or issue.
+/// What the operator books: all commands but runs.
 fn apply_booking<R: Register>(
     alloc: Global,
     register: &mut R,
@@ -73,7 +70,7 @@ fn apply_booking<R: Register>(
     Ok(Accepted { applied, reply })
 }
 
-/// An instruction without payment.
+/// An instruction.
 fn apply_instruction<R: Register>(
     alloc: Global,
     register: &mut R,
@@ -81,7 +78,6 @@ fn apply_instruction<R: Register>(
     instruction: Instruction,
 ) -> Result<Accepted, Fault>
     requires stage { (R.view register.old).stage ≡ Stage.Begun }
-    requires supported { IsTrue (is_supported (Entry.Instruct sender instruction)) }
     requires accepted { IfTrusted (R.view register.old) (R.view register.old) (CanApply (R.view register.old).room (Entry.Instruct sender instruction) (R.view register.old).content) }
     ensures applied { (books : Books) → IfTrusted (R.view register.old) (R.view register.new) (Keeps (R.view register.old).room books (R.view register.old).content
         → IfOk result (λ accepted. HasApplied (R.view register.old).room books (Entry.Instruct sender instruction) accepted (R.view register.new).content)) }

@@ -1,17 +1,12 @@
-//! The commands that the desk takes.
+//! The commands that are taken in.
 ghost use Rattle.std.specs.Prelude.{◌≡◌};
 ghost use Rattle.desk_engine.specs.Decision.{is_supported};
 
 use desk_rules::Entry;
 
-/// Whether the desk takes a command: a participant, an account, a security, an issue, a run, or an instruction to
-/// receive or deliver free.
+/// Whether a command is taken in: all but cancellations.
 pub fn is_supported(entry: &Entry) -> bool
     ensures { result ≡ is_supported entry.now }
 {
-    match entry {
-        Entry::Redeem(_) | Entry::PayIn(_) | Entry::PayOut(_) | Entry::Cancel { .. } => false,
-        Entry::Instruct { instruction, .. } => !instruction.mt.is_against_payment(),
-        _ => true,
-    }
+    !matches!(entry, Entry::Cancel { .. })
 }
