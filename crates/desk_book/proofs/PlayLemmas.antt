@@ -17,7 +17,7 @@ use Rattle.desk_book.specs.Items.{PlaysItem}
 use Rattle.desk_book.specs.Lines.{script_lines}
 use Rattle.desk_book.specs.Script.{Asking, BeginsWith, Item, Script, ask, bad_line, item_of}
 use Rattle.desk_book.specs.declared.script.Item.{Item as ScriptItem}
-use Rattle.desk_book.specs.declared.script.Item.TheVariants.{Ask}
+use Rattle.desk_book.specs.declared.script.Item.TheVariants.{Ask, BadLine}
 use Rattle.desk_book.specs.WrittenAnswers.{written_bad_line}
 use Rattle.desk_book.proofs.RunLemmas.{counted_one, counted_then, run_then}
 
@@ -52,6 +52,14 @@ bad_line_played was books view holds = record {
   holds = holds;
   blame = none_counted view;
 }
+
+pub bad_line_told : {E : Type 0} (was : Bool) (books : Books) (item : ScriptItem) (before after : Option (List ℕ)) (view : View) (r : Result (Unit {0}) E) → item ≡ BadLine → Holds was view books
+    → OnOk r (Appends before after written_bad_line) → OnOk r (PlaysItem was books (item_of item) before after was view view)
+bad_line_told was books item before after view (Ok done) same holds written =
+    let P : ScriptItem → Type 0 = λ i. PlaysItem was books (item_of i) before after was view view in
+    let Q : List ℕ → Type 0 = λ t. Appends before after t in
+    subst P (sym same) (record { answers = []; played = bad_line_played was books view holds; written = subst Q (sym (append-nil written_bad_line)) written })
+bad_line_told was books item before after view (Err fault) same holds written = tt
 
 -- Items one after another.
 

@@ -1,7 +1,7 @@
 use Rattle.std.proofs.Common.{[], refl}
 use Rattle.desk_book.specs.Asked.{asked_by}
 use Rattle.desk_book.specs.WrittenAnswers.{written_answer, written_fault}
-use Rattle.desk_book.proofs.PlayLemmas.{bad_line_played, item_written, one_played}
+use Rattle.desk_book.proofs.PlayLemmas.{bad_line_played, bad_line_told, item_written, one_played}
 use Rattle.desk_book.proofs.desk.Desk.answer_item.Goals as goal
 
 pub returns-in-Ok-clause-played : goal.returns-in-Ok-clause-played
@@ -37,6 +37,11 @@ returns-in-Err-clause-front g c = λ books honest holds.
     let a = c.ask.ensures in
     rw c.in-Ask.is
     (_, one_played c.args.self.now.is_closed books (asked_by c.in-Ask.request) c.ask.result c.ask.new.self.is_closed v0 v1 a.closed a.later a.stays a.blame (a.step books honest holds))
+
+pub returns-in-BadLine-clause-played : goal.returns-in-BadLine-clause-played
+returns-in-BadLine-clause-played g c = λ books honest holds.
+    bad_line_told c.args.self.now.is_closed books c.args.item.now (g.O.Write.contents c.args.writer.now) (g.O.Write.contents c.write_bad_line.new.writer) (g.R.Register.view c.args.self.now.register) c.write_bad_line.result
+    c.in-BadLine.is holds c.write_bad_line.ensures
 
 pub returns-in-BadLine-clause-front : goal.returns-in-BadLine-clause-front
 returns-in-BadLine-clause-front g c = λ books honest holds.
