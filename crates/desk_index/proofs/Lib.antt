@@ -3,7 +3,10 @@ mod FirstLemmas
 mod IndexedLemmas
 mod KeyIndexLemmas
 mod LookUpLemmas
+mod MessageLemmas
+mod NthLemmas
 mod NumbersLemmas
 mod OpenLemmas
 mod RegisteredLemmas
 mod TidyLemmas
+mod ToldLemmas
