@@ -94,7 +94,7 @@ some_or : {X : Type 0} (o rest : Option X) → is_some o ≡ true → or_else o 
 some_or None rest e = absurd (cc)
 some_or (Some x) rest e = refl
 
-at_least : (n : ℕ) (t : Entry → Bool) (history : List Entry) (k : ℕ) → first_from n t history ≡ Some k → n ≤ k
+pub at_least : {X : Type 0} (n : ℕ) (t : X → Bool) (history : List X) (k : ℕ) → first_from n t history ≡ Some k → n ≤ k
 at_least n t [] k e = cc
 at_least n t (x ∷ history) k e = by_bool (t x)
     (λ here. let at : n ≡ k = let f = rw here at e in cc in omega arith)

@@ -1,9 +1,10 @@
+mod AddressedLemmas
+mod ConfirmationLemmas
 mod DueLemmas
 mod FirstLemmas
 mod IndexedLemmas
 mod KeyIndexLemmas
 mod LookUpLemmas
-mod MessageLemmas
 mod NthLemmas
 mod NumbersLemmas
 mod OpenLemmas

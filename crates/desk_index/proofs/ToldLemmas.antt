@@ -1,5 +1,5 @@
--- The sent messages by their participants, through the calls of an indexed register.
-use Rattle.std.proofs.Common.{◌≡◌, ◌≢◌, ℕ, ◌+◌, ◌<◌, ◌^◌, List, [], ◌∷◌, ◌++◌, length, map, refl, ap, sym, ◌∙◌, subst, arith, append_assoc}
+-- The sent messages through the calls of an indexed register.
+use Rattle.std.proofs.Common.{◌≡◌, ◌≢◌, ℕ, ◌+◌, ◌<◌, List, [], ◌∷◌, ◌++◌, length, map, refl, ap, sym, ◌∙◌, subst, append_assoc}
 use Rattle.std.specs.Prelude.{Result, Ok, Err, OnOk, OnErr, IfOk}
 use Rattle.std.proofs.lemmas.List.{length-map, map-append}
 use Rattle.desk_rules.specs.declared.entry.Instructed.{Instructed}
@@ -17,7 +17,8 @@ use Rattle.desk_lists.specs.declared.list_register.ListRegister.{ListRegister}
 use Rattle.desk_lists.specs.ListView.{view_of_lists}
 use Rattle.desk_index.specs.declared.heading.Heading.{Heading}
 use Rattle.desk_index.specs.declared.messages.Messages.{Messages}
-use Rattle.desk_index.specs.Messages.{AreMessagesOf, IsTold, heading_of, headings_of}
+use Rattle.desk_index.specs.Headings.{heading_of, headings_of}
+use Rattle.desk_index.specs.Messages.{AreMessagesOf, IsTold}
 use Rattle.desk_index.proofs.IndexedLemmas.{append_nothing, begun_is_not_failed, begun_is_not_idle, fallen_idle, idle_is_not_failed, not_fallen}
 
 module _ (messages : Messages) (told : List Heading) (old new : View) (has : IsTold old messages told) where

@@ -1,6 +1,9 @@
+pub mod Addressed
+pub mod Confirmations
 pub mod Counts
 pub mod DuePlaces
 pub mod FirstNumbers
+pub mod Headings
 pub mod IndexView
 pub mod Indexed
 pub mod Keys

@@ -300,18 +300,21 @@ impl Register for IndexedRegister {
     }
 
     fn sent_count(&mut self, _alloc: Global, bic: Bic) -> Result<u64, Fault> {
-        Ok(self.messages.count(&bic))
+        Ok(self.messages.addressed.count(&bic))
     }
 
     fn sent(&mut self, alloc: Global, bic: Bic, number: u64) -> Result<Option<Sent>, Fault> {
-        match self.messages.number(&bic, number) {
+        match self.messages.addressed.number(&bic, number) {
             Some(among_all) => self.held.message(alloc, among_all),
             None => Ok(None),
         }
     }
 
     fn confirmation(&mut self, alloc: Global, number: u64) -> Result<Option<Sent>, Fault> {
-        self.held.confirmation(alloc, number)
+        match self.messages.confirmations.number(number) {
+            Some(confirming) => self.held.message(alloc, confirming),
+            None => Ok(None),
+        }
     }
 
     fn send(&mut self, alloc: Global, message: Sent) -> Result<(), Fault> {

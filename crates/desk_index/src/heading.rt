@@ -1,6 +1,6 @@
 //! What a sent message is besides its text.
 ghost use Rattle.std.specs.Prelude.{◌≡◌};
-ghost use Rattle.desk_index.specs.Messages.{heading_of};
+ghost use Rattle.desk_index.specs.Headings.{heading_of, is_confirmation};
 
 use desk_codes::Bic;
 use desk_rules::Sent;
@@ -12,6 +12,15 @@ pub struct Heading {
     pub mt: u16,
     /// The number of the instruction that the message is about
     pub about: u64,
+}
+
+impl Heading {
+    /// Whether the message confirms a settlement: an MT544 to 547.
+    pub fn is_confirmation(&self) -> bool
+        ensures { result ≡ is_confirmation self.now }
+    {
+        544 <= self.mt && self.mt <= 547
+    }
 }
 
 /// The heading of a message.

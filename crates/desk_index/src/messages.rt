@@ -1,22 +1,18 @@
-//! The sent messages by the participants that they were sent to.
-ghost use Rattle.std.specs.Prelude.{◌≡◌, ◌+◌, ◌++◌, ◌∷◌, ◌<◌, ◌^◌, [], List, length, filter, OnOk, OnErr};
+//! Where the sent messages are found: by the participants that they were sent to, and by what they confirm.
+ghost use Rattle.std.specs.Prelude.{◌≡◌, ◌+◌, ◌++◌, ◌∷◌, ◌<◌, ◌^◌, [], List, length, OnOk, OnErr};
 ghost use Rattle.desk_index.specs.declared.heading.Heading.{Heading as HeadingValue};
-ghost use Rattle.desk_index.specs.FirstNumbers.{nth_number};
-ghost use Rattle.desk_index.specs.Messages.{AreMessagesOf, is_to};
+ghost use Rattle.desk_index.specs.Messages.{AreMessagesOf};
 
-use crate::counts::{count_at, count_less, count_more};
-use crate::first_numbers::{put_first, take_number};
+use crate::addressed::Addressed;
+use crate::confirmations::Confirmations;
 use crate::heading::Heading;
-use desk_codes::Bic;
 use std::alloc::{AllocError, Global};
-use std::collections::BTreeMap;
 
-/// How many messages were sent to each participant, and the number of each among all that were sent, by the
-/// participant and its number among those of the participant, counted from 1.
+/// The numbers of the sent messages, by participant and by what they confirm.
 #[derive(Drop)]
 pub struct Messages {
-    pub counts: BTreeMap<Bic, u64>,
-    pub numbers: BTreeMap<(Bic, u64), u64>,
+    pub addressed: Addressed,
+    pub confirmations: Confirmations,
 }
 
 impl Messages {
@@ -25,23 +21,9 @@ impl Messages {
         ensures { AreMessagesOf result [] }
     {
         Messages {
-            counts: BTreeMap::new(alloc),
-            numbers: BTreeMap::new(alloc),
+            addressed: Addressed::new(alloc),
+            confirmations: Confirmations::new(alloc),
         }
-    }
-
-    /// How many were sent to a participant.
-    pub fn count(&self, bic: &Bic) -> u64
-        ensures { (headings : List HeadingValue) → AreMessagesOf self.now headings → result ≡ length (filter (is_to bic.now) headings) }
-    {
-        count_at(&self.counts, bic)
-    }
-
-    /// The number among all of the message of this number among those of a participant.
-    pub fn number(&self, bic: &Bic, number: u64) -> Option<u64>
-        ensures { (headings : List HeadingValue) → AreMessagesOf self.now headings → result ≡ nth_number (is_to bic.now) number headings }
-    {
-        self.numbers.get(&(*bic, number)).copied()
     }
 
     /// Notes a message, which has this number among all.
@@ -52,14 +34,12 @@ impl Messages {
         ensures err { (headings : List HeadingValue) → AreMessagesOf self.old headings → number ≡ length headings + 1
             → OnErr result (AreMessagesOf self.new headings) }
     {
-        let bic = heading.bic;
-        let at = count_at(&self.counts, &bic) + 1;
-        put_first(&mut self.numbers, (bic, at), number)?;
-        let counted = count_more(&mut self.counts, bic);
-        if counted.is_err() {
-            take_number(&mut self.numbers, (bic, at), number);
+        self.confirmations.note(heading, number)?;
+        let noted = self.addressed.note(heading, number);
+        if noted.is_err() {
+            self.confirmations.forget(heading, number);
         }
-        counted
+        noted
     }
 
     /// Forgets the last message, which has this number among all. No memory is taken.
@@ -67,9 +47,7 @@ impl Messages {
         ensures { (headings : List HeadingValue) → AreMessagesOf self.old (headings ++ heading.now ∷ []) → number ≡ length headings + 1
             → AreMessagesOf self.new headings }
     {
-        let bic = heading.bic;
-        let at = count_at(&self.counts, &bic);
-        take_number(&mut self.numbers, (bic, at), number);
-        count_less(&mut self.counts, &bic);
+        self.addressed.forget(heading, number);
+        self.confirmations.forget(heading, number);
     }
 }

@@ -3,7 +3,8 @@ use Rattle.std.proofs.lemmas.List.{length-map}
 use Rattle.desk_rules.specs.Content.{history_of}
 use Rattle.desk_index.specs.DuePlaces.{HasDue}
 use Rattle.desk_index.specs.Known.{AreKnown}
-use Rattle.desk_index.specs.Messages.{AreMessagesOf, heading_of, headings_of}
+use Rattle.desk_index.specs.Headings.{heading_of, headings_of}
+use Rattle.desk_index.specs.Messages.{AreMessagesOf}
 use Rattle.desk_lists.specs.ListView.{view_of_lists}
 use Rattle.desk_index.specs.Open.{HasOpen}
 use Rattle.desk_index.proofs.IndexedLemmas.{idle_indexed, idle_mark, size_of}

@@ -1,6 +1,7 @@
 use Rattle.std.proofs.Common.{[], ◌∷◌, ◌++◌, ◌∙◌, refl, ap, subst}
 use Rattle.desk_lists.specs.ListView.{view_of_lists}
-use Rattle.desk_index.specs.Messages.{AreMessagesOf, headings_of}
+use Rattle.desk_index.specs.Headings.{headings_of}
+use Rattle.desk_index.specs.Messages.{AreMessagesOf}
 use Rattle.desk_index.proofs.IndexedLemmas.{after_failure, after_send, where_it_failed, where_it_went}
 use Rattle.desk_index.proofs.ToldLemmas.{next_message, told_failed, told_more}
 use Rattle.desk_index.proofs.calls.IndexedRegisterRegister.send.Goals as goal

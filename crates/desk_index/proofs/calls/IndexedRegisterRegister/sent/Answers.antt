@@ -1,6 +1,7 @@
 use Rattle.std.proofs.Common.{◌≡◌, IfOk, sym, subst, ◌∙◌}
 use Rattle.desk_lists.specs.ListView.{view_of_lists}
-use Rattle.desk_index.specs.Messages.{heading_of, headings_of, is_to}
+use Rattle.desk_index.specs.Addressed.{is_to}
+use Rattle.desk_index.specs.Headings.{heading_of, headings_of}
 use Rattle.desk_index.proofs.IndexedLemmas.{read_keeps}
 use Rattle.desk_index.proofs.NthLemmas.{message_of, no_message}
 use Rattle.desk_index.proofs.ToldLemmas.{now_told, told_read}
@@ -18,12 +19,12 @@ pub returns-in-Some-clause-value : goal.returns-in-Some-clause-value
 returns-in-Some-clause-value c honest sure up =
     let r = c.args.self.now in
     let view = view_of_lists r.held in
-    let at = sym (c.number.ensures (headings_of view.content) (now_told r.messages r.told.items view up r.sent_indexed)) ∙ c.in-Some.is in
+    let at = sym (c.number.ensures (headings_of view.content) (now_told r.messages r.told.items view up r.sent_indexed).addressed) ∙ c.in-Some.is in
     subst (λ z. IfOk c.message.result (λ found. found ≡ z)) (sym (message_of heading_of (is_to c.args.bic) view.content.sent c.args.number c.in-Some.among_all at)) c.message.ensures.value
 
 pub returns-in-None-clause-value : goal.returns-in-None-clause-value
 returns-in-None-clause-value c honest sure up =
     let r = c.args.self.now in
     let view = view_of_lists r.held in
-    let at = sym (c.number.ensures (headings_of view.content) (now_told r.messages r.told.items view up r.sent_indexed)) ∙ c.in-None.is in
+    let at = sym (c.number.ensures (headings_of view.content) (now_told r.messages r.told.items view up r.sent_indexed).addressed) ∙ c.in-None.is in
     sym (no_message heading_of (is_to c.args.bic) view.content.sent c.args.number at)

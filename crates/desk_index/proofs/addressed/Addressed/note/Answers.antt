@@ -1,7 +1,7 @@
 use Rattle.std.proofs.Common.{◌+◌, ◌^◌, ◌∙◌, ap, arith}
 use Rattle.desk_index.proofs.KeyIndexLemmas.{even_err, on_err, on_ok}
-use Rattle.desk_index.proofs.MessageLemmas.{count_fits, noted, noted_not}
-use Rattle.desk_index.proofs.messages.Messages.note.Goals as goal
+use Rattle.desk_index.proofs.AddressedLemmas.{count_fits, noted, noted_not}
+use Rattle.desk_index.proofs.addressed.Addressed.note.Goals as goal
 
 pub overflow_add-at : goal.overflow_add-at
 overflow_add-at c =

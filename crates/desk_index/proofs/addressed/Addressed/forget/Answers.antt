@@ -1,6 +1,6 @@
 use Rattle.std.proofs.Common.{◌∙◌}
-use Rattle.desk_index.proofs.MessageLemmas.{forgotten, last_count}
-use Rattle.desk_index.proofs.messages.Messages.forget.Goals as goal
+use Rattle.desk_index.proofs.AddressedLemmas.{forgotten, last_count}
+use Rattle.desk_index.proofs.addressed.Addressed.forget.Goals as goal
 
 pub returns : goal.returns
 returns c headings are is =
