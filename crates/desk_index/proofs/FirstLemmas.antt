@@ -1,4 +1,4 @@
--- The number of the first entry of which a test holds, with one entry more, and with one less.
+-- The number of the first of which a test holds, with one more, and with one less.
 use Rattle.std.proofs.Common.{rules, ◌≡◌, ℕ, zero, suc, ◌+◌, ◌<◌, ◌≤◌, Bool, true, false, List, [], ◌∷◌, ◌++◌, length, Option, Some, None, refl, ap, sym, ◌∙◌, arith}
 use Rattle.std.specs.Prelude.{if◌then◌else◌, ◌==◌, is_some, slice_get, option_and_then}
 use Rattle.std.specs.List.{list_any}
@@ -20,14 +20,14 @@ key_from n s r (x ∷ history) = by_bool (has_key s r x) (λ here. rw here refl)
 pub key_first : (s : Sender) (r : List ℕ) (history : List Entry) → number_of_key history s r ≡ first_number (has_key s r) history
 key_first s r history = key_from 1 s r history
 
-pushed_from : (n : ℕ) (t : Entry → Bool) (history : List Entry) (e : Entry) → first_from n t (history ++ e ∷ []) ≡ or_number (first_from n t history) (number_if (t e) (n + length history))
+pushed_from : {X : Type 0} (n : ℕ) (t : X → Bool) (history : List X) (e : X) → first_from n t (history ++ e ∷ []) ≡ or_number (first_from n t history) (number_if (t e) (n + length history))
 pushed_from n t [] e = by_bool (t e) (λ here. rw here (ap Some (omega arith))) (λ other. rw other refl)
 pushed_from n t (x ∷ history) e = by_bool (t x)
     (λ here. rw here refl)
     (λ other. rw other (let more = pushed_from (n + 1) t history e in let same : n + 1 + length history ≡ n + suc (length history) = omega arith in rw same at more))
 
--- with one entry more
-pub pushed : (t : Entry → Bool) (history : List Entry) (e : Entry) (n : ℕ) → n ≡ length history + 1 → first_number t (history ++ e ∷ []) ≡ or_number (first_number t history) (number_if (t e) n)
+-- with one more
+pub pushed : {X : Type 0} (t : X → Bool) (history : List X) (e : X) (n : ℕ) → n ≡ length history + 1 → first_number t (history ++ e ∷ []) ≡ or_number (first_number t history) (number_if (t e) n)
 pushed t history e n is = let same : 1 + length history ≡ n = omega arith in rw same at (pushed_from 1 t history e)
 
 none_or : (o : Option ℕ) → or_number o None ≡ o
@@ -35,29 +35,29 @@ none_or None = refl
 none_or (Some n) = refl
 
 -- without its own number, there is the number that there was
-taken : (o : Option ℕ) (test : Bool) (n : ℕ) → ((k : ℕ) → o ≡ Some k → k < n) → (if test then without n (or_number o (number_if test n)) else or_number o (number_if test n)) ≡ o
+pub taken : (o : Option ℕ) (test : Bool) (n : ℕ) → ((k : ℕ) → o ≡ Some k → k < n) → (if test then without n (or_number o (number_if test n)) else or_number o (number_if test n)) ≡ o
 taken None true n below = let same : (n == n) ≡ true = search rules in rw same refl
 taken None false n below = refl
 taken (Some k) true n below = let lt = below k refl in let apart : (k == n) ≡ false = grind arith in rw apart refl
 taken (Some k) false n below = refl
 
 -- no number is past the end
-below_end : (m : ℕ) (t : Entry → Bool) (es : List Entry) (n : ℕ) → first_from m t es ≡ Some n → n < m + length es
+below_end : {X : Type 0} (m : ℕ) (t : X → Bool) (es : List X) (n : ℕ) → first_from m t es ≡ Some n → n < m + length es
 below_end m t [] n e = cc
 below_end m t (x ∷ es) n e = by_bool (t x)
     (λ here. let at : m ≡ n = let f = rw here at e in cc in omega arith)
     (λ other. let later = below_end (m + 1) t es n (rw other at e) in omega arith)
 
-below_of : (t : Entry → Bool) (history : List Entry) (n : ℕ) → n ≡ length history + 1 → (k : ℕ) → first_number t history ≡ Some k → k < n
+below_of : {X : Type 0} (t : X → Bool) (history : List X) (n : ℕ) → n ≡ length history + 1 → (k : ℕ) → first_number t history ≡ Some k → k < n
 below_of t history n is k found = let lt = below_end 1 t history k found in omega arith
 
 -- where the test does not hold of one more entry
-pub same_first : (t : Entry → Bool) (history : List Entry) (e : Entry) (n : ℕ) → n ≡ length history + 1 → t e ≡ false → first_number t (history ++ e ∷ []) ≡ first_number t history
+pub same_first : {X : Type 0} (t : X → Bool) (history : List X) (e : X) (n : ℕ) → n ≡ length history + 1 → t e ≡ false → first_number t (history ++ e ∷ []) ≡ first_number t history
 same_first t history e n is other = pushed t history e n is ∙ rw other (none_or (first_number t history))
 
--- A tree that has, for each key, the number of the first entry of which the key's test holds.
+-- A tree that has, for each key, the number of the first of which the key's test holds.
 
-module _ {K : Type 0} (cmp : K → K → Ordering) (test : K → Entry → Bool) (old : BTreeMap K ℕ) (history : List Entry) (e : Entry) (n : ℕ) (is : n ≡ length history + 1) where
+module _ {K X : Type 0} (cmp : K → K → Ordering) (test : K → X → Bool) (old : BTreeMap K ℕ) (history : List X) (e : X) (n : ℕ) (is : n ≡ length history + 1) where
   -- where the tests hold of one more entry, at one key
   module _ (new : BTreeMap K ℕ) (key : K) (tests : (q : K) → test q e ≡ is_eq (cmp key q)) where
     pub first_noted : ((q : K) → get cmp new q ≡ or_number (get cmp old q) (number_if (is_eq (cmp key q)) n)) → ((q : K) → get cmp old q ≡ first_number (test q) history)
@@ -94,7 +94,7 @@ some_or : {X : Type 0} (o rest : Option X) → is_some o ≡ true → or_else o 
 some_or None rest e = absurd (cc)
 some_or (Some x) rest e = refl
 
-at_least : (n : ℕ) (t : Entry → Bool) (history : List Entry) (k : ℕ) → first_from n t history ≡ Some k → n ≤ k
+pub at_least : {X : Type 0} (n : ℕ) (t : X → Bool) (history : List X) (k : ℕ) → first_from n t history ≡ Some k → n ≤ k
 at_least n t [] k e = cc
 at_least n t (x ∷ history) k e = by_bool (t x)
     (λ here. let at : n ≡ k = let f = rw here at e in cc in omega arith)

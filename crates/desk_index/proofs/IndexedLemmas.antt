@@ -42,27 +42,27 @@ use Rattle.desk_register.specs.View.{View, Begins, Stays, Falls, IsRead, fallen}
 pub idle_mark : (r : ListRegister) → (view_of_lists r).stage ≡ Idle → (view_of_lists r).mark ≡ (view_of_lists r).content
 idle_mark r idle = let none = r.idle idle in rw none refl
 
-idle_is_not_failed : (s : Stage) → s ≡ Idle → s ≢ Failed
+pub idle_is_not_failed : (s : Stage) → s ≡ Idle → s ≢ Failed
 idle_is_not_failed s e f = let bad = sym e ∙ f in cc
 
 pub begun_is_not_failed : (s : Stage) → s ≡ Begun → s ≢ Failed
 begun_is_not_failed s e f = let bad = sym e ∙ f in cc
 
-begun_is_not_idle : (s : Stage) → s ≡ Begun → s ≢ Idle
+pub begun_is_not_idle : (s : Stage) → s ≡ Begun → s ≢ Idle
 begun_is_not_idle s e f = let bad = sym e ∙ f in cc
 
 -- a stage from which a failed call leads on is none in which a call failed
-not_fallen : (s t : Stage) → t ≡ fallen s → t ≢ Failed → s ≡ Idle
+pub not_fallen : (s t : Stage) → t ≡ fallen s → t ≢ Failed → s ≡ Idle
 not_fallen Idle t e apart = refl
 not_fallen Begun t e apart = absurd (apart e)
 not_fallen Failed t e apart = absurd (apart e)
 
-fallen_idle : (s t : Stage) → t ≡ fallen s → t ≡ Idle → s ≡ Idle
+pub fallen_idle : (s t : Stage) → t ≡ fallen s → t ≡ Idle → s ≡ Idle
 fallen_idle Idle t e idle = refl
 fallen_idle Begun t e idle = let bad = sym e ∙ idle in cc
 fallen_idle Failed t e idle = let bad = sym e ∙ idle in cc
 
-append_nothing : {X : Type 0} (xs : List X) → xs ++ [] ≡ xs
+pub append_nothing : {X : Type 0} (xs : List X) → xs ++ [] ≡ xs
 append_nothing [] = refl
 append_nothing (x ∷ xs) = ap (λ z. x ∷ z) (append_nothing xs)
 

@@ -86,3 +86,7 @@ on_ok_both (Err e) step p q = p
 pub on_err_both : {X E : Type 0} {P Q R : Type 0} (r : Result X E) → (P → Q → R) → OnErr r P → OnErr r Q → OnErr r R
 on_err_both (Ok x) step p q = p
 on_err_both (Err e) step p q = step p q
+
+pub even_err : {X E : Type 0} {P : Type 0} (r : Result X E) → P → OnErr r P
+even_err (Ok x) p = tt
+even_err (Err e) p = p

@@ -1,9 +1,13 @@
+mod AddressedLemmas
+mod ConfirmationLemmas
 mod DueLemmas
 mod FirstLemmas
 mod IndexedLemmas
 mod KeyIndexLemmas
 mod LookUpLemmas
+mod NthLemmas
 mod NumbersLemmas
 mod OpenLemmas
 mod RegisteredLemmas
 mod TidyLemmas
+mod ToldLemmas

@@ -1,9 +1,14 @@
+pub mod Addressed
+pub mod Confirmations
+pub mod Counts
 pub mod DuePlaces
 pub mod FirstNumbers
+pub mod Headings
 pub mod IndexView
 pub mod Indexed
 pub mod Keys
 pub mod Known
+pub mod Messages
 pub mod NumbersByKey
 pub mod Open
 pub mod Registered

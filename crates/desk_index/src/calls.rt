@@ -5,12 +5,14 @@ ghost use Rattle.desk_register.specs.Changes.{empty_content};
 ghost use Rattle.desk_index.specs.IndexView.{view_of_index};
 
 use crate::due_places::first_due;
+use crate::heading::heading_of;
 use crate::indexed_register::IndexedRegister;
 use crate::known::Known;
-use crate::noting::{note_entry, note_pair, touch_both};
+use crate::messages::Messages;
+use crate::noting::{note_entry, note_message, note_pair, touch_both};
 use crate::opposites::first_open_opposite;
 use crate::sums::{cash_of_all, held_on};
-use crate::tidying::{forget_all, tidy_all, tidy_new};
+use crate::tidying::{forget_all, forget_messages, tidy_all, tidy_new};
 use desk_codes::{AccountId, Bic, Ccy, Day, Isin, Reference};
 use desk_lists::ListRegister;
 use desk_msg::{Instruction, Kind};
@@ -34,6 +36,8 @@ impl IndexedRegister {
             matched: BTreeSet::new(alloc),
             noted: Vec::new(alloc),
             touched: Vec::new(alloc),
+            messages: Messages::new(alloc),
+            told: Vec::new(alloc),
         }
     }
 
@@ -60,6 +64,7 @@ impl Register for IndexedRegister {
     fn commit(&mut self, alloc: Global) -> Result<(), Fault> {
         self.held.commit(alloc)?;
         self.noted.truncate(0);
+        self.told.truncate(0);
         tidy_all(
             &self.held,
             &mut self.unmatched,
@@ -73,6 +78,8 @@ impl Register for IndexedRegister {
         self.held.back(alloc)?;
         let count = self.held.entry_count();
         forget_all(&mut self.known, &mut self.noted, count);
+        let sent = self.held.message_count();
+        forget_messages(&mut self.messages, &mut self.told, sent);
         self.touched.truncate(0);
         Ok(())
     }
@@ -292,19 +299,30 @@ impl Register for IndexedRegister {
         self.held.cancel_pair(alloc, earlier, later)
     }
 
-    fn sent_count(&mut self, alloc: Global, bic: Bic) -> Result<u64, Fault> {
-        self.held.sent_count(alloc, bic)
+    fn sent_count(&mut self, _alloc: Global, bic: Bic) -> Result<u64, Fault> {
+        Ok(self.messages.addressed.count(&bic))
     }
 
     fn sent(&mut self, alloc: Global, bic: Bic, number: u64) -> Result<Option<Sent>, Fault> {
-        self.held.sent(alloc, bic, number)
+        match self.messages.addressed.number(&bic, number) {
+            Some(among_all) => self.held.message(alloc, among_all),
+            None => Ok(None),
+        }
     }
 
     fn confirmation(&mut self, alloc: Global, number: u64) -> Result<Option<Sent>, Fault> {
-        self.held.confirmation(alloc, number)
+        match self.messages.confirmations.number(number) {
+            Some(confirming) => self.held.message(alloc, confirming),
+            None => Ok(None),
+        }
     }
 
     fn send(&mut self, alloc: Global, message: Sent) -> Result<(), Fault> {
+        let heading = heading_of(&message);
+        let number = self.held.message_count() + 1;
+        if note_message(&mut self.messages, &mut self.told, &heading, number).is_err() {
+            return Err(self.held.fail());
+        }
         self.held.send(alloc, message)
     }
 }

@@ -1,15 +1,18 @@
 //! A register in lists, with look-ups beside them.
 ghost use Rattle.desk_lists.specs.ListView.{view_of_lists};
 ghost use Rattle.desk_index.specs.Indexed.{IsIndexed};
+ghost use Rattle.desk_index.specs.Messages.{IsTold};
 
+use crate::heading::Heading;
 use crate::known::Known;
 use crate::match_key::MatchKey;
+use crate::messages::Messages;
 use desk_lists::ListRegister;
 use desk_rules::Entry;
 use std::collections::BTreeSet;
 
 /// A register in lists, with look-ups beside them: what it holds is what the lists hold. Contracts see it by
-/// `view_of_index`. What is known by keys is exact. The two sets may have too much, never too little: what they find is looked at
+/// `view_of_index`. What is known by keys is exact, and so are the messages. The two sets may have too much, never too little: what they find is looked at
 /// in the lists.
 #[derive(Drop)]
 pub struct IndexedRegister {
@@ -23,5 +26,9 @@ pub struct IndexedRegister {
     pub(crate) noted: Vec<Entry>,
     /// The numbers that came to stand otherwise since `begin`
     pub(crate) touched: Vec<u64>,
+    pub(crate) messages: Messages,
+    /// What was sent since `begin`
+    pub(crate) told: Vec<Heading>,
     ghost indexed: { IsIndexed (view_of_lists held) known unmatched matched noted.items },
+    ghost sent_indexed: { IsTold (view_of_lists held) messages told.items },
 }

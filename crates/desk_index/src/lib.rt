@@ -4,18 +4,25 @@
 //! `desk_register`; contracts see it by the view of the lists that it wraps. `calls.rt` has its calls. `known` has what
 //! is found by a key: `keys` the number of the first entry with each key, and `registered` the participants, accounts,
 //! securities, currencies and runs. `opposites` finds unmatched instructions by what opposite ones have in common
-//! (`match_key`), and `due_places` matched pairs by their days. `sums` adds up what accounts and participants hold.
-//! `noting` puts into the look-ups what a call adds, `tidying` takes out what a call or `back` ends. `first_numbers`,
+//! (`match_key`), and `due_places` matched pairs by their days. `messages` finds what was sent, by
+//! the headings of the messages (`heading`): `addressed` what was sent to a participant, and `confirmations` what
+//! confirms an instruction. `sums` adds up what accounts and participants hold. `noting` puts into the
+//! look-ups what a call adds, `tidying` takes out what a call or `back` ends. `first_numbers`, `counts`,
 //! `numbers_by_key` and `ordered` have the maps and sets beneath. Begin with specs/Indexed.antt, then `calls.rt`.
 #![tactic(auto)]
 
+mod addressed;
 mod calls;
+mod confirmations;
+mod counts;
 mod due_places;
 mod first_numbers;
+mod heading;
 mod indexed_register;
 mod keys;
 mod known;
 mod match_key;
+mod messages;
 mod noting;
 mod numbers_by_key;
 mod opposites;

@@ -1,16 +1,20 @@
-//! What an entry, and a pair, add to the look-ups.
-ghost use Rattle.std.specs.Prelude.{◌≡◌, ◌+◌, ◌++◌, ◌∷◌, [], List, length, true, OnOk, OnErr, Some};
+//! What an entry, a pair, and a message add to the look-ups.
+ghost use Rattle.std.specs.Prelude.{◌≡◌, ◌+◌, ◌++◌, ◌∷◌, ◌<◌, ◌^◌, [], List, length, true, OnOk, OnErr, Some};
 ghost use Rattle.std.specs.BTreeSet.{contains};
 ghost use Rattle.desk_rules.specs.declared.entry.Entry.{Entry as EntryValue};
 ghost use Rattle.desk_rules.specs.History.{instructed, instruction_at};
 ghost use Rattle.desk_rules.specs.Content.{history_of};
 ghost use Rattle.desk_lists.specs.ListView.{view_of_lists};
+ghost use Rattle.desk_index.specs.declared.heading.Heading.{Heading as HeadingValue};
 ghost use Rattle.desk_index.specs.DuePlaces.{HoldsDue, PlacedAt, place_cmp};
 ghost use Rattle.desk_index.specs.Known.{AreKnown};
+ghost use Rattle.desk_index.specs.Messages.{AreMessagesOf};
 ghost use Rattle.desk_index.specs.Open.{HoldsOpen, OpensAt};
 
+use crate::heading::Heading;
 use crate::known::Known;
 use crate::match_key::{MatchKey, key_of};
+use crate::messages::Messages;
 use crate::ordered::put_key;
 use desk_lists::ListRegister;
 use desk_rules::{Entry, Instructed};
@@ -110,4 +114,23 @@ fn place_instruction(
         Some(i) => open_place(places, i.instruction.day.yyyymmdd(), number),
         None => Ok(()),
     }
+}
+
+/// Notes a message, which has this number among all, in the look-ups, and its heading.
+pub fn note_message(
+    messages: &mut Messages,
+    told: &mut Vec<Heading>,
+    heading: &Heading,
+    number: u64,
+) -> Result<(), AllocError>
+    requires { (headings : List HeadingValue) × AreMessagesOf messages.old headings × (length headings + 1 < 2 ^ 64) }
+    ensures noted { (headings : List HeadingValue) → AreMessagesOf messages.old headings → number ≡ length headings + 1 → OnOk result (AreMessagesOf messages.new (headings ++ heading.now ∷ [])) }
+    ensures more { OnOk result (told.new.items ≡ told.old.items ++ heading.now ∷ []) }
+    ensures err_noted { (headings : List HeadingValue) → AreMessagesOf messages.old headings → number ≡ length headings + 1 → OnErr result (AreMessagesOf messages.new headings) }
+    ensures err { OnErr result (told.new.items ≡ told.old.items) }
+{
+    told.reserve(1)?;
+    messages.note(heading, number)?;
+    told.push(*heading).unwrap();
+    Ok(())
 }

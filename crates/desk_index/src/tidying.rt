@@ -1,15 +1,19 @@
-//! What is taken out of the look-ups: keys at `back`, and what was matched or settled. No memory is taken.
+//! What is taken out of the look-ups: keys and messages at `back`, and what was matched or settled. No memory is taken.
 ghost use Rattle.std.specs.Prelude.{◌≡◌, ◌+◌, ◌++◌, [], List, length, true, ◌<◌, ◌^◌};
 ghost use Rattle.desk_rules.specs.declared.entry.Entry.{Entry as EntryValue};
 ghost use Rattle.desk_rules.specs.Content.{Content};
 ghost use Rattle.desk_lists.specs.ListView.{view_of_lists};
+ghost use Rattle.desk_index.specs.declared.heading.Heading.{Heading as HeadingValue};
 ghost use Rattle.desk_index.specs.DuePlaces.{HasDue};
 ghost use Rattle.desk_index.specs.Indexed.{HoldsOn};
 ghost use Rattle.desk_index.specs.Known.{AreKnown};
+ghost use Rattle.desk_index.specs.Messages.{AreMessagesOf};
 ghost use Rattle.desk_index.specs.Open.{HasOpen};
 
+use crate::heading::Heading;
 use crate::known::Known;
 use crate::match_key::{MatchKey, key_of};
+use crate::messages::Messages;
 use crate::ordered::drop_key;
 use desk_lists::ListRegister;
 use desk_rules::{Entry, State};
@@ -23,6 +27,17 @@ pub fn forget_all(known: &mut Known, noted: &mut Vec<Entry>, count: u64)
 {
     while let Some(entry) = noted.pop() {
         known.forget(&entry, count + noted.len() as u64 + 1);
+    }
+}
+
+/// Forgets all messages that were told, behind so many others.
+pub fn forget_messages(messages: &mut Messages, told: &mut Vec<Heading>, count: u64)
+    requires { count < 2 ^ 63 }
+    ensures forgot { (headings : List HeadingValue) → AreMessagesOf messages.old (headings ++ told.old.items) → count ≡ length headings → AreMessagesOf messages.new headings }
+    ensures none { told.new.items ≡ [] }
+{
+    while let Some(heading) = told.pop() {
+        messages.forget(&heading, count + told.len() as u64 + 1);
     }
 }
 

@@ -305,7 +305,7 @@ impl Register for ListRegister {
 }
 
 /// The stage after a call that failed.
-fn fallen(stage: Stage) -> Stage
+pub fn fallen(stage: Stage) -> Stage
     ensures { result ≡ fallen stage }
 {
     match stage {

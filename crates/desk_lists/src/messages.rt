@@ -3,7 +3,7 @@ ghost use Rattle.std.specs.Prelude.{◌≡◌, ◌-◌, ◌&&◌, ◌==◌, ◌�
 ghost use Rattle.std.specs.List.{find};
 ghost use Rattle.desk_register.specs.Changes.{with_sent};
 ghost use Rattle.desk_rules.specs.Confirmations.{is_confirmation};
-ghost use Rattle.desk_rules.specs.Questions.{confirms_it};
+ghost use Rattle.desk_rules.specs.Questions.{confirms_it, sent_at};
 ghost use Rattle.desk_lists.specs.Lists.{content_in, listed, undone};
 ghost use Rattle.desk_lists.specs.Moves.{SameTotals};
 
@@ -45,6 +45,17 @@ pub fn sent_after(
         }
     }
     Ok(None)
+}
+
+/// A copy of the message of a number among all that were sent.
+pub fn message(sent: &[Sent], alloc: Global, number: u64) -> Result<Option<Sent>, AllocError>
+    ensures { IfOk result (λ r. r ≡ sent_at sent.now number) }
+{
+    if number == 0 || number > sent.len() as u64 {
+        return Ok(None);
+    }
+    let found = copy_of(&sent[(number - 1) as usize], alloc)?;
+    Ok(Some(found))
 }
 
 /// A copy of the message that confirms an instruction.

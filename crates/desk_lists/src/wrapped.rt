@@ -1,22 +1,25 @@
 //! What a register that keeps look-ups beside the lists asks of them. All but `fail` only reads.
-ghost use Rattle.std.specs.Prelude.{◌≡◌, ◌≢◌, ◌↔◌, ◌+◌, IsTrue, IfSome, IfNone, length, option_and_then};
+ghost use Rattle.std.specs.Prelude.{◌≡◌, ◌≢◌, ◌↔◌, ◌+◌, IsTrue, IfSome, IfNone, IfOk, length, option_and_then};
 ghost use Rattle.desk_rules.specs.declared.pair.Place.{Place};
 ghost use Rattle.desk_rules.specs.Balances.{paid_in, paid_out};
 ghost use Rattle.desk_rules.specs.Facts.{kind_by, owner_by};
 ghost use Rattle.desk_rules.specs.History.{entry_at, instruction_at};
 ghost use Rattle.desk_rules.specs.Content.{history_of};
+ghost use Rattle.desk_rules.specs.Questions.{sent_at};
 ghost use Rattle.desk_register.specs.Looked.{IsDue, IsOppositeAt};
-ghost use Rattle.desk_register.specs.View.{Falls, IsLater};
+ghost use Rattle.desk_register.specs.View.{Falls, IsLater, IsRead};
 ghost use Rattle.desk_lists.specs.ListView.{view_of_lists};
 
 use crate::balance_key::BalanceKey;
 use crate::balances::balance_of;
+use crate::calls::fallen;
 use crate::list_register::ListRegister;
-use crate::{by_number, due_pairs, entries, opposites};
+use crate::{by_number, due_pairs, entries, messages, opposites};
 use desk_codes::{AccountId, Bic, Ccy, Isin};
 use desk_msg::Kind;
 use desk_register::{Fault, Stage};
-use desk_rules::{Entry, Instructed, Place, Standing};
+use desk_rules::{Entry, Instructed, Place, Sent, Standing};
+use std::alloc::Global;
 
 impl ListRegister {
     /// How many entries there are.
@@ -96,6 +99,28 @@ impl ListRegister {
             → paid_out (history_of (view_of_lists self.now).content) ccy + result ≡ paid_in (history_of (view_of_lists self.now).content) ccy }
     {
         balance_of(&self.lists, &BalanceKey::Paid { ccy })
+    }
+
+    /// How many messages were sent.
+    pub fn message_count(&self) -> u64
+        ensures { result ≡ length (view_of_lists self.now).content.sent }
+    {
+        self.lists.sent.len() as u64
+    }
+
+    /// A copy of the message of this number among all that were sent, counted from 1; None where there is none. The call
+    /// of a register that asks for it fails as this does.
+    pub fn message(&mut self, alloc: Global, number: u64) -> Result<Option<Sent>, Fault>
+        ensures value { IfOk result (λ r. r ≡ sent_at (view_of_lists self.old).content.sent number) }
+        ensures read { IsRead result (view_of_lists self.old) (view_of_lists self.new) }
+    {
+        match messages::message(&self.lists.sent, alloc, number) {
+            Ok(found) => Ok(found),
+            Err(_) => {
+                self.stage = fallen(self.stage);
+                Err(Fault::Memory)
+            }
+        }
     }
 
     /// Lets what was begun fail, where a look-up beside the lists wants memory.

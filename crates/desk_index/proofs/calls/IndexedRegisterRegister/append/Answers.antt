@@ -1,8 +1,10 @@
-use Rattle.std.proofs.Common.{sym, ap, ◌∙◌, ◌+◌, ◌++◌}
+use Rattle.std.proofs.Common.{refl, sym, ap, ◌∙◌, ◌+◌, ◌++◌}
 use Rattle.desk_rules.specs.Content.{history_of}
+use Rattle.desk_register.specs.Changes.{appended}
 use Rattle.desk_lists.specs.ListView.{view_of_lists}
 use Rattle.desk_register.proofs.ViewLemmas.{blames_memory}
 use Rattle.desk_index.proofs.IndexedLemmas.{after_append, after_failure, next_count, where_it_failed, where_it_went}
+use Rattle.desk_index.proofs.ToldLemmas.{told_apart, told_fails}
 use Rattle.desk_index.proofs.calls.IndexedRegisterRegister.append.Goals as goal
 
 pub invariant_of-self : goal.invariant_of-self
@@ -16,6 +18,7 @@ invariant_of-self c =
           where_it_failed noting.result c.if-is_err.ensures.value
           (noting.ensures.err_known (history_of (view_of_lists r.held).mark ++ r.noted.items) keyed
           (next_count r.known r.unmatched r.matched r.noted.items (view_of_lists r.held) c.entry_count-number.result c.requires.stage c.entry_count-number.ensures r.indexed)));
+      sent_indexed = told_fails r.messages r.told.items r.held c.fail.new.self r.sent_indexed c.fail.ensures.stage c.fail.ensures.mark;
     }
 
 pub returns-then-is_err-clause-change : goal.returns-then-is_err-clause-change
@@ -33,4 +36,5 @@ invariant_of-self-2 c =
           (where_it_went noting.result went noting.ensures.opened) (where_it_went noting.result went noting.ensures.more)
           (λ history keyed is. where_it_went noting.result went (noting.ensures.keyed history keyed is))
           (λ honest sure. c.append_named.ensures.added) change.ok change.err;
+      sent_indexed = told_apart r.messages r.told.items r.held c.append_named.new.self r.sent_indexed c.append_named.result (appended c.args.entry c.args.reply) (λ content. refl) c.append_named.ensures.added change.ok change.err;
     }

@@ -1,10 +1,14 @@
 use Rattle.std.proofs.Common.{sym, subst, ◌++◌, ◌∙◌}
+use Rattle.std.proofs.lemmas.List.{length-map}
 use Rattle.desk_rules.specs.Content.{history_of}
 use Rattle.desk_index.specs.DuePlaces.{HasDue}
 use Rattle.desk_index.specs.Known.{AreKnown}
+use Rattle.desk_index.specs.Headings.{heading_of, headings_of}
+use Rattle.desk_index.specs.Messages.{AreMessagesOf}
 use Rattle.desk_lists.specs.ListView.{view_of_lists}
 use Rattle.desk_index.specs.Open.{HasOpen}
 use Rattle.desk_index.proofs.IndexedLemmas.{idle_indexed, idle_mark, size_of}
+use Rattle.desk_index.proofs.ToldLemmas.{told_idle}
 use Rattle.desk_index.proofs.calls.IndexedRegisterRegister.back.Goals as goal
 
 pub invariant_of-self-2 : goal.invariant_of-self-2
@@ -18,4 +22,6 @@ invariant_of-self-2 c =
           (c.forget_all.ensures.forgot (history_of new.content) (subst (λ m. AreKnown r.known (history_of m ++ r.noted.items)) (sym same) r.indexed.keyed) (c.entry_count-count.ensures ∙ sym (size_of new.content)))
           (subst (HasOpen r.unmatched) (sym same) r.indexed.open_marked)
           (subst (HasDue r.matched) (sym same) r.indexed.due_marked);
+      sent_indexed = told_idle c.forget_messages.new.messages c.forget_messages.new.told.items new (idle_mark c.back.new.self goes.stage) c.forget_messages.ensures.none
+          (c.forget_messages.ensures.forgot (headings_of new.content) (subst (λ m. AreMessagesOf r.messages (headings_of m ++ r.told.items)) (sym same) r.sent_indexed.marked) (c.message_count-sent.ensures ∙ sym (length-map new.content.sent heading_of)));
     }

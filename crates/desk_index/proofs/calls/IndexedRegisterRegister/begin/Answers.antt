@@ -1,8 +1,12 @@
 use Rattle.desk_lists.specs.ListView.{view_of_lists}
 use Rattle.desk_index.proofs.IndexedLemmas.{after_begin}
+use Rattle.desk_index.proofs.ToldLemmas.{told_begin}
 use Rattle.desk_index.proofs.calls.IndexedRegisterRegister.begin.Goals as goal
 
 pub invariant_of-self : goal.invariant_of-self
 invariant_of-self c =
     let r = c.args.self.now in
-    record { indexed = after_begin r.known r.unmatched r.matched r.noted.items (view_of_lists r.held) (view_of_lists c.begin.new.self) tt tt tt c.begin.result c.requires c.begin.ensures.ok c.begin.ensures.err r.indexed }
+    record {
+      indexed = after_begin r.known r.unmatched r.matched r.noted.items (view_of_lists r.held) (view_of_lists c.begin.new.self) tt tt tt c.begin.result c.requires c.begin.ensures.ok c.begin.ensures.err r.indexed;
+      sent_indexed = told_begin r.messages r.told.items r.held c.begin.new.self r.sent_indexed c.begin.result c.requires c.begin.ensures.ok c.begin.ensures.err;
+    }

@@ -1,7 +1,9 @@
 use Rattle.std.proofs.Common.{sym, ◌∙◌, refl}
+use Rattle.desk_register.specs.Changes.{pair_cancelled}
 use Rattle.desk_lists.specs.ListView.{view_of_lists}
 use Rattle.desk_register.proofs.ViewLemmas.{blames_memory}
 use Rattle.desk_index.proofs.IndexedLemmas.{after_cancel_pair, after_failure}
+use Rattle.desk_index.proofs.ToldLemmas.{told_apart, told_fails}
 use Rattle.desk_index.proofs.calls.IndexedRegisterRegister.cancel_pair.Goals as goal
 
 pub invariant_of-self : goal.invariant_of-self
@@ -10,6 +12,7 @@ invariant_of-self c =
     record {
       indexed = after_failure r.known r.known r.unmatched r.unmatched r.matched r.matched r.noted.items r.noted.items (view_of_lists r.held) (view_of_lists c.fail.new.self) r.indexed
           c.fail.ensures.stage c.fail.ensures.mark (λ q there. there) (λ q there. there) refl (λ known. known);
+      sent_indexed = told_fails r.messages r.told.items r.held c.fail.new.self r.sent_indexed c.fail.ensures.stage c.fail.ensures.mark;
     }
 
 pub returns-then-is_err-clause-change : goal.returns-then-is_err-clause-change
@@ -19,4 +22,7 @@ pub invariant_of-self-2 : goal.invariant_of-self-2
 invariant_of-self-2 c =
     let r = c.args.self.now in
     let change = c.cancel_pair.ensures.change in
-    record { indexed = after_cancel_pair r.known r.unmatched r.matched r.noted.items r.held c.cancel_pair.new.self c.requires.stage r.indexed c.cancel_pair.result c.args.earlier c.args.later (c.cancel_pair.ensures.cancelled tt tt) change.ok change.err }
+    record {
+      indexed = after_cancel_pair r.known r.unmatched r.matched r.noted.items r.held c.cancel_pair.new.self c.requires.stage r.indexed c.cancel_pair.result c.args.earlier c.args.later (c.cancel_pair.ensures.cancelled tt tt) change.ok change.err;
+      sent_indexed = told_apart r.messages r.told.items r.held c.cancel_pair.new.self r.sent_indexed c.cancel_pair.result (pair_cancelled c.args.earlier c.args.later) (λ content. refl) (c.cancel_pair.ensures.cancelled tt tt) change.ok change.err;
+    }

@@ -1,7 +1,11 @@
 use Rattle.desk_index.proofs.IndexedLemmas.{read_keeps}
+use Rattle.desk_index.proofs.ToldLemmas.{told_read}
 use Rattle.desk_index.proofs.calls.IndexedRegisterRegister.cash.Goals as goal
 
 pub invariant_of-self : goal.invariant_of-self
 invariant_of-self c =
     let r = c.args.self.now in
-    record { indexed = read_keeps c.cash.result r.known r.unmatched r.matched r.noted.items r.held c.cash.new.self c.cash.ensures.read r.indexed }
+    record {
+      indexed = read_keeps c.cash.result r.known r.unmatched r.matched r.noted.items r.held c.cash.new.self c.cash.ensures.read r.indexed;
+      sent_indexed = told_read r.messages r.told.items r.held c.cash.new.self r.sent_indexed c.cash.result c.cash.ensures.read;
+    }

@@ -1,7 +1,30 @@
+use Rattle.std.proofs.Common.{◌≡◌, IfOk, sym, subst, ◌∙◌}
+use Rattle.desk_lists.specs.ListView.{view_of_lists}
+use Rattle.desk_index.specs.Confirmations.{confirms}
+use Rattle.desk_index.specs.Headings.{heading_of, headings_of}
+use Rattle.desk_index.proofs.ConfirmationLemmas.{found_at, not_found}
 use Rattle.desk_index.proofs.IndexedLemmas.{read_keeps}
+use Rattle.desk_index.proofs.ToldLemmas.{now_told, told_read}
 use Rattle.desk_index.proofs.calls.IndexedRegisterRegister.confirmation.Goals as goal
 
 pub invariant_of-self : goal.invariant_of-self
 invariant_of-self c =
     let r = c.args.self.now in
-    record { indexed = read_keeps c.confirmation.result r.known r.unmatched r.matched r.noted.items r.held c.confirmation.new.self c.confirmation.ensures.read r.indexed }
+    record {
+      indexed = read_keeps c.message.result r.known r.unmatched r.matched r.noted.items r.held c.message.new.self c.message.ensures.read r.indexed;
+      sent_indexed = told_read r.messages r.told.items r.held c.message.new.self r.sent_indexed c.message.result c.message.ensures.read;
+    }
+
+pub returns-in-Some-clause-value : goal.returns-in-Some-clause-value
+returns-in-Some-clause-value c honest sure up =
+    let r = c.args.self.now in
+    let view = view_of_lists r.held in
+    let at = sym (c.number.ensures (headings_of view.content) (now_told r.messages r.told.items view up r.sent_indexed).confirmations) ∙ c.in-Some.is in
+    subst (λ z. IfOk c.message.result (λ found. found ≡ z)) (sym (found_at heading_of (confirms c.args.number) view.content.sent c.in-Some.confirming at)) c.message.ensures.value
+
+pub returns-in-None-clause-value : goal.returns-in-None-clause-value
+returns-in-None-clause-value c honest sure up =
+    let r = c.args.self.now in
+    let view = view_of_lists r.held in
+    let at = sym (c.number.ensures (headings_of view.content) (now_told r.messages r.told.items view up r.sent_indexed).confirmations) ∙ c.in-None.is in
+    sym (not_found heading_of (confirms c.args.number) view.content.sent at)

@@ -1,8 +1,41 @@
-use Rattle.desk_index.proofs.IndexedLemmas.{after_send}
+use Rattle.std.proofs.Common.{[], ◌∷◌, ◌++◌, ◌∙◌, refl, ap, subst}
+use Rattle.desk_lists.specs.ListView.{view_of_lists}
+use Rattle.desk_index.specs.Headings.{headings_of}
+use Rattle.desk_index.specs.Messages.{AreMessagesOf}
+use Rattle.desk_index.proofs.IndexedLemmas.{after_failure, after_send, where_it_failed, where_it_went}
+use Rattle.desk_index.proofs.ToldLemmas.{next_message, told_failed, told_more}
 use Rattle.desk_index.proofs.calls.IndexedRegisterRegister.send.Goals as goal
 
 pub invariant_of-self : goal.invariant_of-self
 invariant_of-self c =
     let r = c.args.self.now in
+    let view = view_of_lists r.held in
+    let noting = c.note_message in
+    let failed = c.if-is_err.ensures.value in
+    let next = next_message r.messages r.told.items view c.requires.stage r.sent_indexed c.message_count-number.result c.message_count-number.ensures in
+    record {
+      indexed = after_failure r.known r.known r.unmatched r.unmatched r.matched r.matched r.noted.items r.noted.items view (view_of_lists c.fail.new.self) r.indexed
+          c.fail.ensures.stage c.fail.ensures.mark (λ q there. there) (λ q there. there) refl (λ known. known);
+      sent_indexed = told_failed r.messages noting.new.messages r.told.items noting.new.told.items view (view_of_lists c.fail.new.self) c.fail.ensures.stage c.fail.ensures.mark
+          (where_it_failed noting.result failed noting.ensures.err)
+          (λ are. where_it_failed noting.result failed (noting.ensures.err_noted (headings_of view.mark ++ r.told.items) are next)) r.sent_indexed;
+    }
+
+pub invariant_of-self-2 : goal.invariant_of-self-2
+invariant_of-self-2 c =
+    let r = c.args.self.now in
+    let view = view_of_lists r.held in
+    let noting = c.note_message in
+    let went = c.if-is_err.ensures.value in
+    let heading = c.heading_of-heading.ensures in
     let change = c.send.ensures.change in
-    record { indexed = after_send r.known r.unmatched r.matched r.noted.items r.held c.send.new.self c.requires.stage r.indexed c.send.result c.args.message (c.send.ensures.sent tt tt) change.ok change.err }
+    let sent = c.send.ensures.sent tt tt in
+    let before = headings_of view.mark ++ r.told.items in
+    let next = next_message r.messages r.told.items view c.requires.stage r.sent_indexed c.message_count-number.result c.message_count-number.ensures in
+    record {
+      indexed = after_send r.known r.unmatched r.matched r.noted.items r.held c.send.new.self c.requires.stage r.indexed c.send.result c.args.message sent change.ok change.err;
+      sent_indexed = told_more c.send.result r.messages noting.new.messages r.told.items noting.new.told.items r.held c.send.new.self c.args.message c.requires.stage r.sent_indexed
+          (where_it_went noting.result went noting.ensures.more ∙ ap (λ h. r.told.items ++ h ∷ []) heading)
+          (λ are. subst (λ h. AreMessagesOf noting.new.messages (before ++ h ∷ [])) heading (where_it_went noting.result went (noting.ensures.noted before are next)))
+          sent change.ok change.err;
+    }

@@ -2,6 +2,7 @@ use Rattle.std.proofs.Common.{sym, ◌∙◌, refl}
 use Rattle.desk_lists.specs.ListView.{view_of_lists}
 use Rattle.desk_register.proofs.ViewLemmas.{blames_memory}
 use Rattle.desk_index.proofs.IndexedLemmas.{after_failure, after_settle, retidied, still_begun, where_it_went}
+use Rattle.desk_index.proofs.ToldLemmas.{told_fails, told_settled}
 use Rattle.desk_index.proofs.calls.IndexedRegisterRegister.settle_pair.Goals as goal
 
 pub invariant_of-self : goal.invariant_of-self
@@ -11,6 +12,7 @@ invariant_of-self c =
     record {
       indexed = after_failure r.known r.known r.unmatched r.unmatched r.matched noting.new.places r.noted.items r.noted.items (view_of_lists r.held) (view_of_lists c.fail.new.self) r.indexed
           c.fail.ensures.stage c.fail.ensures.mark (λ q there. there) noting.ensures.all refl (λ keyed. keyed);
+      sent_indexed = told_fails r.messages r.told.items r.held c.fail.new.self r.sent_indexed c.fail.ensures.stage c.fail.ensures.mark;
     }
 
 pub returns-then-is_err-clause-change : goal.returns-then-is_err-clause-change
@@ -27,6 +29,7 @@ invariant_of-self-in-Ok c =
     record {
       indexed = retidied r.known r.unmatched c.tidy_new.new.numbers noting.new.places c.tidy_new.new.places r.noted.items c.noted_count-noted.result held
           (still_begun (view_of_lists r.held) held c.requires.stage c.in-Ok.ensures.change.ok) c.noted_count-noted.ensures c.tidy_new.ensures.unmatched c.tidy_new.ensures.matched indexed;
+      sent_indexed = told_settled r.messages r.told.items r.held c.settle_pair.new.self r.sent_indexed c.settle_pair.result c.args.number (c.settle_pair.ensures.settled tt tt) change.ok change.err;
     }
 
 pub invariant_of-self-in-Err-1 : goal.invariant_of-self-in-Err-1
@@ -37,4 +40,5 @@ invariant_of-self-in-Err-1 c =
     record {
       indexed = after_settle r.known r.unmatched r.matched noting.new.places r.noted.items (view_of_lists r.held) (view_of_lists c.settle_pair.new.self) tt tt tt c.requires.stage r.indexed noting.ensures.all
           c.settle_pair.result c.args.number (c.requires.fits tt tt) (where_it_went noting.result c.if-is_err.ensures.value noting.ensures.opened) c.settle_pair.ensures.settled change.ok change.err;
+      sent_indexed = told_settled r.messages r.told.items r.held c.settle_pair.new.self r.sent_indexed c.settle_pair.result c.args.number (c.settle_pair.ensures.settled tt tt) change.ok change.err;
     }
