@@ -308,7 +308,7 @@ accepted_still v0 v1 e can same room =
     subst P (sym same) (subst Q (sym room) (accepted_of v0.room e v0.content can))
 
 pub can_run_of : (limit : ℕ) (e : Entry) (content : Content) → CanApply limit e content → CanRun limit content
-can_run_of limit e content can = record { books = can.books; tables = tables_of limit can.books content can.keeps; supported = can.keeps.supported }
+can_run_of limit e content can = record { books = can.books; tables = tables_of limit can.books content can.keeps }
 
 pub room_of : (limit : ℕ) (e : Entry) (content : Content) → CanApply limit e content → length content.register < limit
 room_of limit e content can =

@@ -14,7 +14,7 @@ use Rattle.desk_rules.specs.Content.{Content}
 use Rattle.desk_register.specs.Changes.{empty_content}
 use Rattle.desk_rules.specs.Standing.{no_standing, standing_of}
 use Rattle.desk_register.specs.Looked.{held_of}
-use Rattle.desk_engine.proofs.PassWhole.{outstanding_within}
+use Rattle.desk_engine.proofs.WithinLimits.{outstanding_within}
 
 sum_both : {X : Type 0} (f g h : X → ℕ) (xs : List X) → ((x : X) → f x + g x ≡ h x) → sum_by f xs + sum_by g xs ≡ sum_by h xs
 sum_both f g h [] same = refl

@@ -15,3 +15,4 @@ mod ReplyLemmas
 pub mod RunningLemmas
 mod StepLemmas
 mod WaitingLemmas
+mod WithinLimits

@@ -5,11 +5,10 @@ use Rattle.desk_rules.specs.declared.entry.Entry.{Entry}
 use Rattle.desk_rules.specs.declared.pair.Pair.{Pair}
 use Rattle.desk_rules.specs.declared.pair.Place.{Place}
 use Rattle.desk_rules.specs.declared.pair.Settled.{Settled}
-use Rattle.desk_rules.specs.declared.pair.Lack.TheVariants.{Securities}
+use Rattle.desk_rules.specs.declared.pair.Lack.{Lack}
 use Rattle.desk_rules.specs.declared.standing.State.{State}
 use Rattle.desk_rules.specs.declared.standing.State.TheVariants as states
 use Rattle.desk_rules.specs.declared.standing.State.TheVariants.{NoInstruction, Unmatched, Matched, Cancelled}
-use Rattle.desk_msg.specs.declared.status.Reason.TheVariants as reasons
 use Rattle.desk_rules.specs.Cancelled.{is_cancelled_pair}
 use Rattle.desk_rules.specs.Pairing.{IsSide, mate_in}
 use Rattle.desk_rules.specs.Covered.{lack_of}
@@ -136,9 +135,9 @@ module _ (books : Books) (e : Entry) (pass : ℕ) (place : Option Place) (settle
         other = ap Some (sym mate);
       }
 
-  pub side_left : (k m : ℕ) → IsSide q k → mate_in q k ≡ m → ((s : Settled) → Contains settled s → s.pair ≢ q) → lack_of books.history settled q ≡ Some Securities
-      → PassesSo books e pass (is_below books e (Some next)) settled k (Some m) (Matched reasons.Lack)
-  side_left k m side mate unsettled lack =
+  pub side_left : (k m : ℕ) → IsSide q k → mate_in q k ≡ m → ((s : Settled) → Contains settled s → s.pair ≢ q) → (lack : Lack) → lack_of books.history settled q ≡ Some lack
+      → PassesSo books e pass (is_below books e (Some next)) settled k (Some m) (Matched (reason_of_lack (Some lack)))
+  side_left k m side mate unsettled lack lacks =
       let g = books.history ++ e ∷ [] in
       let new : Settled = record { run = length books.history + 1; pass = pass; pair = q } in
       let all : settled_before g new settled ≡ settled =
@@ -153,5 +152,5 @@ module _ (books : Books) (e : Entry) (pass : ℕ) (place : Option Place) (settle
           gone = next_stands;
         };
         not_due = λ out. absurd (both_ways _ out is.is_open.due);
-        tried = λ due low. sym (ap (λ z. reason_of_lack (lack_of books.history z q)) all ∙ ap reason_of_lack lack);
+        tried = λ due low. sym (ap (λ z. reason_of_lack (lack_of books.history z q)) all ∙ ap reason_of_lack lacks);
       }

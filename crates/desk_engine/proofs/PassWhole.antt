@@ -1,160 +1,67 @@
 -- A run's pass, from its first pair to its last.
-use Rattle.std.proofs.Common.{◌≡◌, ◌⊎◌, inl, inr, ℕ, ◌+◌, ◌<◌, ◌≤◌, ◌^◌, ◌==◌, true, false, not, List, [], ◌∷◌, ◌++◌, length, Contains, bytes_eq, Option, Some, None, refl, ap, sym, ◌∙◌, subst, arith, length-append, append_assoc, append-nil, lit<}
-use Rattle.std.specs.Prelude.{nat_lt, is_some}
-use Rattle.std.proofs.lemmas.Bool.{cases_Bool, cases_eq, ne_eqb, ltb-false}
+use Rattle.std.proofs.Common.{◌≡◌, ◌⊎◌, inl, inr, ℕ, ◌+◌, ◌<◌, ◌≤◌, ◌^◌, ◌==◌, true, false, List, [], ◌∷◌, ◌++◌, length, Contains, Option, Some, None, refl, ap, sym, ◌∙◌, subst, arith, length-append, append_assoc, append-nil, lit<}
+use Rattle.std.proofs.lemmas.Bool.{cases_Bool, cases_eq, ne_eqb}
 use Rattle.std.proofs.lemmas.Bool.Decides.{nat_tests}
-use Rattle.std.proofs.lemmas.List.Sums.{sum_by_push}
-use Rattle.std.proofs.lemmas.Slice.Eq.{bytes_eq-Decides}
 use Rattle.desk_codes.specs.Number.{number_of}
+use Rattle.desk_codes.specs.declared.currency.Ccy.{Ccy}
 use Rattle.desk_msg.specs.declared.instruction.Cash.{Cash}
-use Rattle.desk_msg.specs.MessageType.{is_against_payment, is_delivery}
+use Rattle.desk_msg.specs.MessageType.{is_delivery}
 use Rattle.desk_rules.specs.Opposite.{AreOpposite}
 use Rattle.desk_rules.specs.declared.entry.Entry.{Entry}
 use Rattle.desk_rules.specs.declared.entry.RunRule.{RunRule}
-use Rattle.desk_rules.specs.declared.entry.Entry.TheVariants.{Participant, Account, Security, Issue, Redeem, PayIn, PayOut, Instruct, Cancel, Run}
+use Rattle.desk_rules.specs.declared.entry.Entry.TheVariants.{Run}
 use Rattle.desk_register.specs.declared.outcome.Outcome.{Outcome}
 use Rattle.desk_register.specs.declared.outcome.Outcome.TheVariants as outcomes
 use Rattle.desk_register.specs.declared.outcome.Outcome.TheVariants.{Lacks}
 use Rattle.desk_rules.specs.declared.pair.Pair.{Pair}
 use Rattle.desk_rules.specs.declared.pair.Place.{Place}
 use Rattle.desk_rules.specs.declared.pair.Settled.{Settled}
+use Rattle.desk_rules.specs.declared.pair.Lack.{Lack}
 use Rattle.desk_rules.specs.declared.pair.Lack.TheVariants.{Securities, Money as LacksMoney}
 use Rattle.desk_rules.specs.declared.standing.State.{State}
 use Rattle.desk_rules.specs.declared.standing.State.TheVariants as states
 use Rattle.desk_rules.specs.declared.standing.State.TheVariants.{NoInstruction, Unmatched, Matched, Cancelled}
-use Rattle.desk_msg.specs.declared.status.Reason.TheVariants as reasons
 use Rattle.desk_rules.specs.declared.standing.Standing.{Standing}
-use Rattle.desk_rules.specs.declared.verdict.Refusal.TheVariants.{OverLimit}
 use Rattle.desk_rules.specs.declared.entry.Instructed.{Instructed}
-use Rattle.desk_rules.specs.History.{entry_at, instruction_at, instructed}
+use Rattle.desk_rules.specs.History.{instruction_at}
 use Rattle.desk_rules.specs.Cancelled.{is_cancel_requested}
-use Rattle.desk_rules.specs.Balances.{credits, debits, issued, redeemed, issued_by, redeemed_by, movement_of}
-use Rattle.desk_rules.specs.Covered.{is_covered}
-use Rattle.desk_rules.specs.Facts.{accounts_of}
+use Rattle.desk_rules.specs.Covered.{is_covered, lack_of}
+use Rattle.desk_rules.specs.Standing.{reason_of_lack}
 use Rattle.desk_rules.specs.Pairing.{IsSide, mate_in}
 use Rattle.desk_rules.specs.Underway.{IsNext}
 use Rattle.desk_rules.specs.Books.{Books, AreBooks}
-use Rattle.desk_rules.specs.Verdict.{WasAccepted, check}
-use Rattle.desk_rules.specs.declared.limits.TheConstants.{MOST_QUANTITY}
-use Rattle.desk_engine.specs.Decision.{is_supported}
+use Rattle.desk_rules.specs.Verdict.{WasAccepted}
+use Rattle.desk_rules.specs.declared.limits.TheConstants.{MOST_PAID, MOST_QUANTITY}
 use Rattle.desk_rules.specs.Content.{CashBalances, Content, history_of}
-use Rattle.desk_register.specs.Changes.{standing_both, paid_over, CanSettle, FitsCash, LacksCash, TriesPair, TriesSides, delivering_side as deliverer, receiving_side as receiver}
+use Rattle.desk_register.specs.Changes.{standing_both, CanSettle, FitsCash, HasCash, TriesPair, TriesSides, delivering_side as deliverer, receiving_side as receiver}
 use Rattle.desk_register.specs.Looked.{IsDue, IsDuePairAfter}
 use Rattle.desk_engine.specs.Pass.{settled_of, PassesAt, InstructionPasses, IsUnderway, is_below}
-use Rattle.desk_engine.specs.Decision.{AreSupported}
-use Rattle.desk_rules.proofs.Accepted.{accepted_last}
-use Rattle.desk_rules.proofs.Conservation.{accepted_all, account_registered, paired_add_up}
 use Rattle.desk_rules.proofs.Decided.{In, In-from_Contains, Contains-from_In, In-left, In-push_cases}
-use Rattle.desk_rules.proofs.Existence.{books_exist}
-use Rattle.desk_rules.proofs.HistoryLemmas.{some_before, before-all}
+use Rattle.desk_rules.proofs.HistoryLemmas.{before-all}
 use Rattle.desk_rules.proofs.SettlementLemmas.{ordered_pairs, begins_wider}
 use Rattle.desk_rules.proofs.SettlementGrowth.{as_far_decided, decided_as_far, run_settles, run_leaves}
 use Rattle.desk_rules.specs.Tables.{AreCashBalances, ArePositions}
-use Rattle.desk_engine.proofs.TablesLemmas.{sum_member}
-use Rattle.desk_rules.proofs.WellFormedLemmas.{entry_In}
 use Rattle.desk_engine.proofs.PassLemmas.{FoundPair, found_pair, is_next, side_state, standing_at_instruction}
 use Rattle.desk_engine.proofs.PassSteps.{left_so, settled_so, side_settled, side_left}
 use Rattle.desk_engine.proofs.WaitingLemmas.{left_count, left_settled, left_lacks, unsettled_fewer}
-use Rattle.desk_engine.proofs.StepLemmas.{HasSides, covered_if, uncovered_if, lack_if, settled_position, settled_cash}
-
--- Nothing is against payment.
-
-unpaid : (i : Instructed) → not (is_against_payment i.instruction.mt) ≡ true → i.instruction.cash ≡ None
-unpaid i supported = by_cash i.instruction.cash i.instruction.paid
-  where
-    by_cash : (cash : Option Cash) → is_some cash ≡ is_against_payment i.instruction.mt → cash ≡ None
-    by_cash None paid = refl
-    by_cash (Some cash) paid =
-        let test : is_against_payment i.instruction.mt ≡ true = sym paid in
-        let clash : false ≡ true = sym (ap not test) ∙ supported in
-        absurd (cc)
-
-pub free_instruction : (h : List Entry) (k : ℕ) (i : Instructed) → AreSupported h → instruction_at h k ≡ Some i → i.instruction.cash ≡ None
-free_instruction h k i supported at =
-    let found = some_before instructed (entry_at h k) i at in
-    by_entry found.0 found.2 (supported.each found.0 (Contains-from_In h found.0 (entry_In h k found.0 found.1)))
-  where
-    by_entry : (e : Entry) → instructed e ≡ Some i → is_supported e ≡ true → i.instruction.cash ≡ None
-    by_entry (Participant reference bic) is good = absurd (cc)
-    by_entry (Account reference bic account) is good = absurd (cc)
-    by_entry (Security reference isin kind) is good = absurd (cc)
-    by_entry (Issue movement) is good = absurd (cc)
-    by_entry (Redeem movement) is good = absurd (cc)
-    by_entry (PayIn payment) is good = absurd (cc)
-    by_entry (PayOut payment) is good = absurd (cc)
-    by_entry (Instruct sender instruction) is good =
-        let it : Instructed = record { sender = sender; instruction = instruction } in
-        let same : it ≡ i = (let e : Some it ≡ Some i = is in cc) in
-        let P : Instructed → Type 0 = λ x. x.instruction.cash ≡ None in
-        subst P same (unpaid it good)
-    by_entry (Cancel sender order) is good = absurd (cc)
-    by_entry (Run reference day rule) is good = absurd (cc)
-
--- What is outstanding is within its limit.
-
-same_text : (a b : List ℕ) → bytes_eq a b ≡ true → a ≡ b
-same_text a b e = let d = bytes_eq-Decides a b in d.0 e
-
-outstanding_step : (h : List Entry) (e : Entry) (limit : ℕ) → WasAccepted limit (h ++ e ∷ []) → ((isin : List ℕ) → issued h isin ≤ redeemed h isin + MOST_QUANTITY)
-    → (isin : List ℕ) → issued h isin + issued_by (movement_of isin) e ≤ redeemed h isin + redeemed_by (movement_of isin) e + MOST_QUANTITY
-outstanding_step h (Participant reference bic) limit was all isin = let here = all isin in omega arith
-outstanding_step h (Account reference bic account) limit was all isin = let here = all isin in omega arith
-outstanding_step h (Security reference i kind) limit was all isin = let here = all isin in omega arith
-outstanding_step h (Issue movement) limit was all isin =
-    let here = all isin in
-    elim (cases_Bool (bytes_eq movement.isin isin)) [
-      | inr other ↦ rw other (omega arith)
-      | inl of ↦
-          let b = books_exist h in
-          let p = accepted_last limit h (Issue movement) b.0 b.1 was b.2 in
-          let third : nat_lt (redeemed h movement.isin + MOST_QUANTITY) (issued h movement.isin + movement.quantity) ≡ false =
-          p.checks (check (nat_lt (redeemed h movement.isin + MOST_QUANTITY) (issued h movement.isin + movement.quantity)) OverLimit) (inr (inr (inl refl))) in
-          let within : issued h movement.isin + movement.quantity ≤ redeemed h movement.isin + MOST_QUANTITY = ltb-false _ _ third in
-          let same : movement.isin ≡ isin = same_text movement.isin isin of in
-          let P : List ℕ → Type 0 = λ z. issued h z + movement.quantity ≤ redeemed h z + MOST_QUANTITY in
-          let moved : issued h isin + movement.quantity ≤ redeemed h isin + MOST_QUANTITY = subst P same within in
-          rw of (omega arith)
-    ]
-outstanding_step h (Redeem movement) limit was all isin = let here = all isin in omega arith
-outstanding_step h (PayIn payment) limit was all isin = let here = all isin in omega arith
-outstanding_step h (PayOut payment) limit was all isin = let here = all isin in omega arith
-outstanding_step h (Instruct sender instruction) limit was all isin = let here = all isin in omega arith
-outstanding_step h (Cancel sender order) limit was all isin = let here = all isin in omega arith
-outstanding_step h (Run reference day rule) limit was all isin = let here = all isin in omega arith
-
-pub record WithinLimit (h : List Entry) : Type 0 where
-  pub each : (isin : List ℕ) → issued h isin ≤ redeemed h isin + MOST_QUANTITY
-
-pub outstanding_within : (limit : ℕ) (h : List Entry) → WasAccepted limit h → WithinLimit h
-outstanding_within limit h was =
-    accepted_all limit WithinLimit (record { each = λ isin. omega arith })
-    (λ front e was' within. record {
-      each = λ isin.
-          let more = sum_by_push (issued_by (movement_of isin)) front e in
-          let less = sum_by_push (redeemed_by (movement_of isin)) front e in
-          let step = outstanding_step front e limit was' within.each isin in
-          omega arith;
-    }) h was
-
--- what an account of an instruction holds is within the limit
-pub instructed_position_within : (limit : ℕ) (books : Books) (settled : List Settled) (pos : List ℕ → List ℕ → ℕ) (k : ℕ) (i : Instructed) (isin : List ℕ) → AreBooks books → WasAccepted limit books.history
-    → ((s : Settled) → In settled s → Contains books.pairs s.pair) → ((a x : List ℕ) → pos a x + debits books.history settled a x ≡ credits books.history settled a x) → instruction_at books.history k ≡ Some i
-    → pos i.instruction.account isin ≤ MOST_QUANTITY
-instructed_position_within limit books settled pos k i isin are was inside all at =
-    let h = books.history in
-    let sums = paired_add_up limit h was books.pairs settled isin are.pairing inside in
-    let member = account_registered limit h was k i at in
-    let one = sum_member (λ a. credits h settled a isin) (λ a. debits h settled a isin) (accounts_of h) i.instruction.account (λ a. let e : pos a isin + debits h settled a isin ≡ credits h settled a isin = all a isin in omega arith) member in
-    let here : pos i.instruction.account isin + debits h settled i.instruction.account isin ≡ credits h settled i.instruction.account isin = all i.instruction.account isin in
-    let within = outstanding_within limit h was in
-    let most = within.each isin in
-    omega arith
+use Rattle.desk_engine.proofs.StepLemmas.{HasSides, covered_if, uncovered_if, lack_if, lack_money_if, settled_position, settled_cash}
+use Rattle.desk_engine.proofs.WithinLimits.{instructed_position_within, instructed_cash_within}
 
 mate_of_earlier : (q : Pair) → mate_in q q.earlier ≡ q.later
 mate_of_earlier q = let test : q.earlier == q.earlier ≡ true = grind (arith, nat_tests) in rw test refl
 
 mate_of_last : (q : Pair) → q.earlier < q.later → mate_in q q.later ≡ q.earlier
 mate_of_last q lt = let test : q.earlier == q.later ≡ false = ne_eqb q.earlier q.later (λ (x : q.earlier ≡ q.later). absurd (omega arith)) in rw test refl
+
+-- what one participant has can be counted on another's balance, where each has no more than may be paid in
+cash_fits : (cash : CashBalances) (from to : List ℕ) (asked : Option Cash) → ((ccy : Ccy) → cash from ccy ≤ MOST_PAID) → ((ccy : Ccy) → cash to ccy ≤ MOST_PAID) → HasCash cash from asked → FitsCash cash to asked
+cash_fits cash from to None few few_there has = tt
+cash_fits cash from to (Some asked) few few_there has =
+    let first : cash from asked.ccy ≤ MOST_PAID = few asked.ccy in
+    let second : cash to asked.ccy ≤ MOST_PAID = few_there asked.ccy in
+    let there : asked.amount ≤ cash from asked.ccy = has in
+    let room : MOST_PAID + MOST_PAID < 2 ^ 63 = lit< tt in
+    omega arith
 
 -- where two numbers stand, and the rest
 both_stand : (P : ℕ → Standing → Type 0) (standing : ℕ → Standing) (m n : ℕ) (state : State) → P n (record (standing n) { mate = Some m; state = state }) → P m (record (standing m) { mate = Some n; state = state })
@@ -187,7 +94,7 @@ pub record PassedOn (books : Books) (reference day : List ℕ) (rule : RunRule) 
       ≡ left_count (books.history ++ Run reference day rule ∷ []) (length books.history + 1) place settled books.pairs + 1
 
 module _ (limit : ℕ) (books : Books) (reference day : List ℕ) (rule : RunRule) (pass : ℕ) (place : Option Place) (settled : List Settled) (old : Content)
-    (are : AreBooks books) (was : WasAccepted limit books.history) (supported : AreSupported books.history) (u : IsUnderway books (Run reference day rule) pass place settled old) where
+    (are : AreBooks books) (was : WasAccepted limit books.history) (u : IsUnderway books (Run reference day rule) pass place settled old) where
   settled_in_pairs : (s : Settled) → In settled s → Contains books.pairs s.pair
   settled_in_pairs s i = let c = Contains-from_In settled s i in let m = (u.reached.exact s (u.reached.within s c)).0 c in m.paired
 
@@ -215,7 +122,6 @@ module _ (limit : ℕ) (books : Books) (reference day : List ℕ) (rule : RunRul
           first = o.is_first;
           second = later;
           opposite = subst P same o.opposite;
-          unpaid = free_instruction books.history q.earlier o.first supported o.is_first;
         };
         is_earlier = ap (λ z. instruction_at z due.pair.mate) u.passing.history ∙ ap (λ k. instruction_at books.history k) (sym found.earlier) ∙ o.is_first;
       }
@@ -225,6 +131,13 @@ module _ (limit : ℕ) (books : Books) (reference day : List ℕ) (rule : RunRul
   side_within next due n i which isin = elim which [
     | inl first ↦ instructed_position_within limit books settled old.position n.found.waiting.pair.earlier i isin are was settled_in_pairs u.passing.position (n.sides.first ∙ ap Some (sym first))
     | inr second ↦ instructed_position_within limit books settled old.position n.found.waiting.pair.later i isin are was settled_in_pairs u.passing.position (n.sides.second ∙ ap Some (sym second))
+  ]
+
+  sender_within : (next : Place) (due : IsDue old (number_of day) place next) (n : NextSides next due) (i : Instructed) → (i ≡ n.earlier) ⊎ (i ≡ due.pair.later) → (ccy : Ccy)
+      → old.cash i.sender ccy ≤ MOST_PAID
+  sender_within next due n i which ccy = elim which [
+    | inl first ↦ instructed_cash_within limit books settled old.cash n.found.waiting.pair.earlier i ccy are was settled_in_pairs u.passing.cash (n.sides.first ∙ ap Some (sym first))
+    | inr second ↦ instructed_cash_within limit books settled old.cash n.found.waiting.pair.later i ccy are was settled_in_pairs u.passing.cash (n.sides.second ∙ ap Some (sym second))
   ]
 
   which_receives : (a b : Instructed) → (receiver a b ≡ a) ⊎ (receiver a b ≡ b)
@@ -238,10 +151,6 @@ module _ (limit : ℕ) (books : Books) (reference day : List ℕ) (rule : RunRul
     | inl delivers ↦ inl (rw delivers refl)
     | inr other ↦ inr (rw other refl)
   ]
-
-  -- the later side is free, as the earlier one is
-  unpaid_later : (next : Place) (due : IsDue old (number_of day) place next) (n : NextSides next due) → due.pair.later.instruction.cash ≡ None
-  unpaid_later next due n = sym n.sides.opposite.cash ∙ n.sides.unpaid
 
   pub next_can_settle : (next : Place) → IsDuePairAfter old (number_of day) place (Some next) → CanSettle old next.number (number_of day)
   next_can_settle next after =
@@ -273,8 +182,9 @@ module _ (limit : ℕ) (books : Books) (reference day : List ℕ) (rule : RunRul
               let room : MOST_QUANTITY + MOST_QUANTITY < 2 ^ 63 = lit< tt in
               omega arith;
           cash = λ has.
-              let Fits : Option Cash → Type 0 = λ z. FitsCash old.cash (deliverer n.earlier b).sender z in
-              subst Fits (sym (unpaid_later next due n)) tt;
+              let from : (ccy : Ccy) → old.cash (receiver n.earlier b).sender ccy ≤ MOST_PAID = sender_within next due n (receiver n.earlier b) (which_receives n.earlier b) in
+              let to : (ccy : Ccy) → old.cash (deliverer n.earlier b).sender ccy ≤ MOST_PAID = sender_within next due n (deliverer n.earlier b) (which_delivers n.earlier b) in
+              cash_fits old.cash (receiver n.earlier b).sender (deliverer n.earlier b).sender b.instruction.cash from to has;
         };
       }
 
@@ -358,9 +268,8 @@ module _ (limit : ℕ) (books : Books) (reference day : List ℕ) (rule : RunRul
       let S : Content → Type 0 = λ c. (k : ℕ) → PassesAt books e pass (is_below books e (Some next)) on k (instruction_at books.history k) (c.standing k) in
       let B : Content → Type 0 = λ c. ArePositions books.history on c.position in
       let C : Content → Type 0 = λ c. AreCashBalances books.history on c.cash in
-      let D : CashBalances → Type 0 = λ z. AreCashBalances books.history on z in
       let P : ℕ → Standing → Type 0 = λ k st. PassesAt books e pass (is_below books e (Some next)) on k (instruction_at books.history k) st in
-      let covered = covered_if books.history settled q n.earlier due.pair.later n.sides old.position u.passing.position ends.0 in
+      let covered = covered_if books.history settled q n.earlier due.pair.later n.sides old.position old.cash u.passing.position u.passing.cash ends.0 ends.1 in
       let order = ordered_pairs books.history books.pairs are.pairing in
       let member = In-from_Contains books.pairs q n.found.waiting.in_pair.paired in
       record {
@@ -378,8 +287,8 @@ module _ (limit : ℕ) (books : Books) (reference day : List ℕ) (rule : RunRul
                   requested = requested_at due.pair.mate n.earlier f.at_mate;
                 }))
                 (λ k a b. rest_settled next after n f k (instruction_at books.history k) (old.standing k) (f.others k a b) (u.passing.standing k)));
-            position = subst B (sym ends.2) (λ a i. settled_position books.history settled q n.earlier due.pair.later n.sides old.position u.passing.position t refl ends.0 a i);
-            cash = subst C (sym ends.2) (subst D (sym (ap (paid_over old.cash (receiver n.earlier due.pair.later).sender (deliverer n.earlier due.pair.later).sender) (unpaid_later next due n))) (λ b y. settled_cash books.history settled q n.earlier due.pair.later n.sides old.position u.passing.position t refl (old.cash b y) b y (u.passing.cash b y)));
+            position = subst B (sym ends.2) (λ a i. settled_position books.history settled q n.earlier due.pair.later n.sides old.position old.cash u.passing.position u.passing.cash t refl ends.0 a i);
+            cash = subst C (sym ends.2) (λ b y. settled_cash books.history settled q n.earlier due.pair.later n.sides old.position old.cash u.passing.position u.passing.cash t refl ends.1 b y);
           };
           reached = as_far_decided (run_settles (books.history ++ e ∷ []) books.pairs settled (length books.history + 1) pass place q next order (decided_as_far u.reached) u.begun f.next_is n.found.place_is
               (ap (λ z. is_covered z settled q) (before-all books.history (e ∷ []) (length books.history + 1) refl) ∙ covered));
@@ -400,12 +309,12 @@ module _ (limit : ℕ) (books : Books) (reference day : List ℕ) (rule : RunRul
         left = (let same = left_settled (books.history ++ e ∷ []) (length books.history + 1) place settled books.pairs q next order f.next_is n.found.place_is n.found.waiting.in_pair.unsettled pass in omega arith);
       }
 
-  step_lacks : (next : Place) (after : IsDuePairAfter old (number_of day) place (Some next)) (new : Content) → TriesPair old next.number (Lacks Securities) new → PassedOn books reference day rule pass place next settled (Lacks Securities) new
-  step_lacks next after new s =
+  -- a pair that lacks something stays, and stands so on both sides
+  step_lacks : (next : Place) (after : IsDuePairAfter old (number_of day) place (Some next)) (n : NextSides next after.0) (lack : Lack) (new : Content) → lack_of books.history settled n.found.waiting.pair ≡ Some lack
+      → new ≡ record old { standing = standing_both old.standing after.0.pair.mate next.number (Matched (reason_of_lack (Some lack))) } → PassedOn books reference day rule pass place next settled (Lacks lack) new
+  step_lacks next after n lack new lacks is_new =
       let due = after.0 in
-      let n = next_sides next due in
       let f = next_facts next after n in
-      let ends = ends_here next due n (Lacks Securities) new s in
       let q = n.found.waiting.pair in
       let e : Entry = Run reference day rule in
       let H : Content → Type 0 = λ c. history_of c ≡ books.history in
@@ -413,25 +322,24 @@ module _ (limit : ℕ) (books : Books) (reference day : List ℕ) (rule : RunRul
       let B : Content → Type 0 = λ c. ArePositions books.history settled c.position in
       let C : Content → Type 0 = λ c. AreCashBalances books.history settled c.cash in
       let P : ℕ → Standing → Type 0 = λ k st. PassesAt books e pass (is_below books e (Some next)) settled k (instruction_at books.history k) st in
-      let short = uncovered_if books.history settled q n.earlier due.pair.later n.sides old.position u.passing.position ends.0 in
-      let lack = lack_if books.history settled q n.earlier due.pair.later n.sides old.position u.passing.position ends.0 in
+      let short = uncovered_if books.history settled q n.earlier due.pair.later n.sides old.position old.cash u.passing.position u.passing.cash lack lacks in
       let none : settled ++ [] ≡ settled = append-nil settled in
       let order = ordered_pairs books.history books.pairs are.pairing in
       let after_it : IsUnderway books e pass (Some next) settled new = record {
         passing = record {
-          history = subst H (sym ends.1) u.passing.history;
-          standing = subst S (sym ends.1) (both_stand P old.standing due.pair.mate next.number (Matched reasons.Lack)
+          history = subst H (sym is_new) u.passing.history;
+          standing = subst S (sym is_new) (both_stand P old.standing due.pair.mate next.number (Matched (reason_of_lack (Some lack)))
               (rw f.at_number (record {
-                so = side_left books e pass place settled q next are f.next_is n.found.place_is (decided_as_far u.reached) next.number due.pair.mate f.number_side f.number_mate n.found.waiting.in_pair.unsettled lack;
+                so = side_left books e pass place settled q next are f.next_is n.found.place_is (decided_as_far u.reached) next.number due.pair.mate f.number_side f.number_mate n.found.waiting.in_pair.unsettled lack lacks;
                 requested = requested_at next.number due.pair.later f.at_number;
               }))
               (rw f.at_mate (record {
-                so = side_left books e pass place settled q next are f.next_is n.found.place_is (decided_as_far u.reached) due.pair.mate next.number f.mate_side f.mate_number n.found.waiting.in_pair.unsettled lack;
+                so = side_left books e pass place settled q next are f.next_is n.found.place_is (decided_as_far u.reached) due.pair.mate next.number f.mate_side f.mate_number n.found.waiting.in_pair.unsettled lack lacks;
                 requested = requested_at due.pair.mate n.earlier f.at_mate;
               }))
               (λ k a b. rest_left next after n f k (instruction_at books.history k) (old.standing k) (f.others k a b) (u.passing.standing k)));
-          position = subst B (sym ends.1) u.passing.position;
-          cash = subst C (sym ends.1) u.passing.cash;
+          position = subst B (sym is_new) u.passing.position;
+          cash = subst C (sym is_new) u.passing.cash;
         };
         reached = as_far_decided (run_leaves (books.history ++ e ∷ []) books.pairs settled (length books.history + 1) pass place q next order (decided_as_far u.reached) f.next_is n.found.place_is
             (ap (λ z. is_covered z settled q) (before-all books.history (e ∷ []) (length books.history + 1) refl) ∙ short));
@@ -453,9 +361,13 @@ module _ (limit : ℕ) (books : Books) (reference day : List ℕ) (rule : RunRul
   -- one pair more
   pub step : (next : Place) (after : IsDuePairAfter old (number_of day) place (Some next)) (outcome : Outcome) (new : Content) → TriesPair old next.number outcome new → PassedOn books reference day rule pass place next settled outcome new
   step next after outcomes.Settled new s = step_settled next after new s
-  step next after (Lacks Securities) new s = step_lacks next after new s
+  step next after (Lacks Securities) new s =
+      let n = next_sides next after.0 in
+      let ends = ends_here next after.0 n (Lacks Securities) new s in
+      let lacks = lack_if books.history settled n.found.waiting.pair n.earlier after.0.pair.later n.sides old.position old.cash u.passing.position u.passing.cash ends.0 in
+      step_lacks next after n Securities new lacks ends.1
   step next after (Lacks LacksMoney) new s =
       let n = next_sides next after.0 in
       let ends = ends_here next after.0 n (Lacks LacksMoney) new s in
-      let Short : Option Cash → Type 0 = λ z. LacksCash old.cash (receiver n.earlier after.0.pair.later).sender z in
-      absurd (subst Short (unpaid_later next after.0 n) ends.1)
+      let lacks = lack_money_if books.history settled n.found.waiting.pair n.earlier after.0.pair.later n.sides old.position old.cash u.passing.position u.passing.cash ends.0 ends.1 in
+      step_lacks next after n LacksMoney new lacks ends.2

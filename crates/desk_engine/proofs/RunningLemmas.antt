@@ -22,7 +22,6 @@ use Rattle.desk_register.specs.Looked.{IsDuePairAfter}
 use Rattle.desk_engine.specs.Applied.{Keeps}
 use Rattle.desk_engine.specs.Tables.{Tables}
 use Rattle.desk_engine.specs.Pass.{CanPass, CanRun, IsAtPass, IsTaken, PassEnds, RanTo, settled_of}
-use Rattle.desk_engine.specs.Decision.{AreSupported}
 use Rattle.desk_engine.proofs.TablesLemmas.{length_is}
 use Rattle.desk_register.proofs.ViewLemmas.{later_then, stays_then}
 use Rattle.desk_engine.proofs.FinishLemmas.{first_begins}
@@ -75,7 +74,7 @@ running_goes_on room count v0 v w day place tried settled waiting new_settled ne
   underway = λ honest sure books reference rule pass start at.
       let honest1 = later.honest honest in
       let P : ℕ → Type 0 = λ k. Underway books reference day rule pass start (Some taken.place) (tried + 1) k new_waiting w.content in
-      subst P (sym settles) (goes_on room books reference day rule pass start place tried settled waiting new_waiting v.content w.content taken at.are_books at.accepted at.supported
+      subst P (sym settles) (goes_on room books reference day rule pass start place tried settled waiting new_waiting v.content w.content taken at.are_books at.accepted
       (r.underway honest1 sure books reference rule pass start at) (took honest (r.stays.sure honest1 sure)) (omega arith));
 }
 
@@ -85,7 +84,7 @@ running_can_settle room count v0 v day place tried settled waiting r may honest 
     let sure0 = r.later.sure honest sure in
     let can = may (r.later.honest honest) sure0 in
     let at = can.at_pass in
-    can_settle room can.books can.reference day can.rule can.pass can.settled place tried settled waiting v.content at.are_books at.accepted at.supported
+    can_settle room can.books can.reference day can.rule can.pass can.settled place tried settled waiting v.content at.are_books at.accepted
     (r.underway honest sure0 can.books can.reference can.rule can.pass can.settled at) next due
 
 pub running_ends_none : (room count : ℕ) (v0 v w : View) (day : List ℕ) (place : Option Place) (tried settled waiting : ℕ) (books : Books) (reference : List ℕ) (rule : RunRule) (pass : ℕ) (start : List Settled) → Running room count v0 v day place tried settled waiting
@@ -109,7 +108,7 @@ pub record Passing (room count : ℕ) (v0 v : View) (day : List ℕ) (rule : Run
   pub stays : Stays v0 v
   pub later : IsLater v0 v
   pub kept : v.is_honest → v0.is_sure → v.content.register ≡ v0.content.register
-  pub ran : v.is_honest → v0.is_sure → (books : Books) (reference : List ℕ) → Tables room books v0.content → AreSupported books.history → Ran books reference day rule again settled waiting last v.content
+  pub ran : v.is_honest → v0.is_sure → (books : Books) (reference : List ℕ) → Tables room books v0.content → Ran books reference day rule again settled waiting last v.content
 
 -- what the code asks before a further pass
 pub makes_another : (rule : RunRule) (last : ℕ) → (allows_more (Some rule) && nat_lt 0 last) ≡ true → (rule ≡ Passes) × (0 < last)
@@ -121,19 +120,18 @@ makes_no_other OnePass last is = inl refl
 makes_no_other Passes last is = inr (let few : last ≤ 0 = ltb-false 0 last is in omega arith)
 
 -- the first pass may be made of a register with the tables of a history
-at_first : (room : ℕ) (books : Books) (reference day : List ℕ) (rule : RunRule) (content : Content) → Tables room books content → AreSupported books.history → IsAtPass room books (Run reference day rule) 1 books.settled content
-at_first room books reference day rule content tables supported = record {
+at_first : (room : ℕ) (books : Books) (reference day : List ℕ) (rule : RunRule) (content : Content) → Tables room books content → IsAtPass room books (Run reference day rule) 1 books.settled content
+at_first room books reference day rule content tables = record {
   are_books = tables.are_books;
   accepted = tables.accepted;
-  supported = supported;
   underway = first_begins room books reference day rule content tables;
 }
 
 -- The first due pair can be tried where the tables of books are kept, whatever run may come.
 pub kept_can_settle : (limit : ℕ) (books : Books) (content : Content) (day : List ℕ) (next : Place) → Keeps limit books content → IsDuePairAfter content (number_of day) None (Some next) → CanSettle content next.number (number_of day)
 kept_can_settle limit books content day next keeps due =
-    let at = at_first limit books [] day OnePass content (tables_of limit books content keeps) keeps.supported in
-    can_settle limit books [] day OnePass 1 books.settled None 0 0 0 content at.are_books at.accepted at.supported (starts books [] day OnePass 1 books.settled content at.are_books at.underway) next due
+    let at = at_first limit books [] day OnePass content (tables_of limit books content keeps) in
+    can_settle limit books [] day OnePass 1 books.settled None 0 0 0 content at.are_books at.accepted (starts books [] day OnePass 1 books.settled content at.are_books at.underway) next due
 
 pub can_begin : (room : ℕ) (v0 v : View) (day : List ℕ) (rule : RunRule) → v.room ≡ v0.room → room ≡ v0.room → v.content ≡ v0.content → CanRun room v0.content → CanPass v.room day v.content
 can_begin room v0 v day rule same here content can =
@@ -145,7 +143,7 @@ can_begin room v0 v day rule same here content can =
       rule = rule;
       pass = 1;
       settled = can.books.settled;
-      at_pass = at_first room can.books [] day rule v0.content can.tables can.supported;
+      at_pass = at_first room can.books [] day rule v0.content can.tables;
     }))
 
 pub passing_begins : (room count : ℕ) (v0 v1 v : View) (day : List ℕ) (rule : RunRule) (settled waiting : ℕ) → room ≡ v0.room → Stays v0 v1 → IsLater v0 v1 → (v1.is_honest → v0.is_sure → v1.content ≡ v0.content) → (v1.is_honest → v0.is_sure → count ≡ length v0.content.register)
@@ -159,27 +157,26 @@ passing_begins room count v0 v1 v day rule settled waiting here stays later same
   kept = λ honest sure.
       let honest1 = later1.honest honest in
       kept honest (stays.sure honest1 sure) ∙ ap (λ (c : Content). c.register) (same honest1 sure);
-  ran = λ honest sure books reference tables supported.
+  ran = λ honest sure books reference tables.
       let honest1 = later1.honest honest in
       let P : Content → Type 0 = λ c. IsAtPass room books (Run reference day rule) 1 books.settled c in
       let Q : ℕ → Type 0 = λ k. IsAtPass k books (Run reference day rule) 1 books.settled v1.content in
-      let at : IsAtPass v1.room books (Run reference day rule) 1 books.settled v1.content = subst Q (here ∙ sym later.room) (subst P (sym (same honest1 sure)) (at_first room books reference day rule v0.content tables supported)) in
+      let at : IsAtPass v1.room books (Run reference day rule) 1 books.settled v1.content = subst Q (here ∙ sym later.room) (subst P (sym (same honest1 sure)) (at_first room books reference day rule v0.content tables)) in
       first_over books reference day rule settled waiting v.content (ends books reference rule 1 books.settled honest (stays.sure honest1 sure) at);
 }
 
 module _ (room count : ℕ) (v0 v : View) (day : List ℕ) (rule : RunRule) (again settled waiting last : ℕ) (here : room ≡ v0.room) (p : Passing room count v0 v day rule again settled waiting last) where
   -- the register is at a further pass
-  at_again : v.is_honest → v0.is_sure → (books : Books) (reference : List ℕ) (tables : Tables room books v0.content) (supported : AreSupported books.history) → rule ≡ Passes → 0 < last
+  at_again : v.is_honest → v0.is_sure → (books : Books) (reference : List ℕ) (tables : Tables room books v0.content) → rule ≡ Passes → 0 < last
       → (let r = p.ran in (pass : ℕ) × (start : List Settled) × IsAtPass v.room books (Run reference day rule) pass start v.content)
-  at_again honest sure books reference tables supported passes some =
-      let ran = p.ran honest sure books reference tables supported in
+  at_again honest sure books reference tables passes some =
+      let ran = p.ran honest sure books reference tables in
       let Q : ℕ → Type 0 = λ k. IsAtPass k books (Run reference day rule) (ran.pass + 1) ran.settled v.content in (
         ran.pass + 1,
         ran.settled,
         subst Q (here ∙ sym p.later.room) (record {
           are_books = tables.are_books;
           accepted = tables.accepted;
-          supported = supported;
           underway = goes_again books reference day rule again settled waiting last v.content tables.are_books ran passes some;
         }),
       )
@@ -188,7 +185,7 @@ module _ (room count : ℕ) (v0 v : View) (day : List ℕ) (rule : RunRule) (aga
   passing_can_go passes some may honest sure =
       let sure0 = p.later.sure honest sure in
       let can = may (p.later.honest honest) sure0 in
-      let at = at_again honest sure0 can.books [] can.tables can.supported passes some in
+      let at = at_again honest sure0 can.books [] can.tables passes some in
       record { books = can.books; reference = []; rule = rule; pass = at.0; settled = at.1; at_pass = at.2 }
 
   pub passing_goes_on : (w : View) (total count_so left : ℕ) → rule ≡ Passes → 0 < last → Stays v w → IsLater v w → (w.is_honest → v.is_sure → w.content.register ≡ v.content.register)
@@ -200,14 +197,13 @@ module _ (room count : ℕ) (v0 v : View) (day : List ℕ) (rule : RunRule) (aga
     stays = stays_then v0 v w p.stays p.later later stays;
     later = later_then v0 v w p.stays p.later later;
     kept = λ honest sure. (let honest1 = later.honest honest in kept honest (p.stays.sure honest1 sure) ∙ p.kept honest1 sure);
-    ran = λ honest sure books reference tables supported.
+    ran = λ honest sure books reference tables.
         let honest1 = later.honest honest in
-        let ran = p.ran honest1 sure books reference tables supported in
+        let ran = p.ran honest1 sure books reference tables in
         let Q : ℕ → Type 0 = λ k. IsAtPass k books (Run reference day rule) (ran.pass + 1) ran.settled v.content in
         let at : IsAtPass v.room books (Run reference day rule) (ran.pass + 1) ran.settled v.content = subst Q (here ∙ sym p.later.room) (record {
           are_books = tables.are_books;
           accepted = tables.accepted;
-          supported = supported;
           underway = goes_again books reference day rule again settled waiting last v.content tables.are_books ran passes some;
         }) in
         let over = ends books reference rule (ran.pass + 1) ran.settled honest (p.stays.sure honest1 sure) at in
@@ -219,14 +215,14 @@ module _ (room count : ℕ) (v0 v : View) (day : List ℕ) (rule : RunRule) (aga
         again_over books reference day rule again settled waiting last count_so left total v.content w.content tables.are_books ran some total_is over;
   }
 
-  pub passing_ends : (books : Books) (reference : List ℕ) → (rule ≡ OnePass) ⊎ (last ≡ 0) → v.is_honest → v0.is_sure → Tables room books v0.content → AreSupported books.history → RanTo books (Run reference day rule) settled waiting v.content
-  passing_ends books reference why honest sure tables supported =
-      run_over books reference day rule again settled waiting last v.content tables.are_books (p.ran honest sure books reference tables supported) why
+  pub passing_ends : (books : Books) (reference : List ℕ) → (rule ≡ OnePass) ⊎ (last ≡ 0) → v.is_honest → v0.is_sure → Tables room books v0.content → RanTo books (Run reference day rule) settled waiting v.content
+  passing_ends books reference why honest sure tables =
+      run_over books reference day rule again settled waiting last v.content tables.are_books (p.ran honest sure books reference tables) why
 
   -- no more passes are needed than there are entries
-  pub passing_ends_all : (books : Books) (reference : List ℕ) → count ≤ again → v.is_honest → v0.is_sure → Tables room books v0.content → AreSupported books.history → RanTo books (Run reference day rule) settled waiting v.content
-  passing_ends_all books reference all honest sure tables supported =
-      let ran = p.ran honest sure books reference tables supported in
+  pub passing_ends_all : (books : Books) (reference : List ℕ) → count ≤ again → v.is_honest → v0.is_sure → Tables room books v0.content → RanTo books (Run reference day rule) settled waiting v.content
+  passing_ends_all books reference all honest sure tables =
+      let ran = p.ran honest sure books reference tables in
       let number = length_is v0.content books.history tables.history in
       let is = p.entries honest sure in
       run_over books reference day rule again settled waiting last v.content tables.are_books ran (inr (enough books reference day rule again settled waiting last v.content tables.are_books ran (omega arith)))

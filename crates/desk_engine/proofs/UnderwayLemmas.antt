@@ -25,7 +25,6 @@ use Rattle.desk_rules.specs.Content.{Content}
 use Rattle.desk_register.specs.Changes.{CanSettle}
 use Rattle.desk_register.specs.Looked.{IsDuePairAfter}
 use Rattle.desk_engine.specs.Pass.{IsTaken, RanTo, settled_of, PassesAt, PassesSo, IsUnderway, IsOver, PassEnds, is_below}
-use Rattle.desk_engine.specs.Decision.{AreSupported}
 use Rattle.desk_rules.proofs.Decided.{In, In-from_Contains, Contains-from_In, In-right, In-cases, Ordered, filter-In}
 use Rattle.desk_rules.proofs.HistoryLemmas.{entry_at-end}
 use Rattle.desk_rules.proofs.PairingLemmas.{lower, decided_pairing}
@@ -98,19 +97,19 @@ starts books reference day rule pass start content are u =
       left = (let few = pairs_few books are in let most = filter_most (is_above g None) books.pairs in omega arith);
     }
 
-pub can_settle : (limit : ℕ) (books : Books) (reference day : List ℕ) (rule : RunRule) (pass : ℕ) (start : List Settled) (place : Option Place) (tried count waiting : ℕ) (content : Content) → AreBooks books → WasAccepted limit books.history → AreSupported books.history
+pub can_settle : (limit : ℕ) (books : Books) (reference day : List ℕ) (rule : RunRule) (pass : ℕ) (start : List Settled) (place : Option Place) (tried count waiting : ℕ) (content : Content) → AreBooks books → WasAccepted limit books.history
     → Underway books reference day rule pass start place tried count waiting content → (next : Place) → IsDuePairAfter content (number_of day) place (Some next) → CanSettle content next.number (number_of day)
-can_settle limit books reference day rule pass start place tried count waiting content are was supported u next due =
-    next_can_settle limit books reference day rule pass place (start ++ u.here) content are was supported u.underway next due
+can_settle limit books reference day rule pass start place tried count waiting content are was u next due =
+    next_can_settle limit books reference day rule pass place (start ++ u.here) content are was u.underway next due
 
-pub goes_on : (limit : ℕ) (books : Books) (reference day : List ℕ) (rule : RunRule) (pass : ℕ) (start : List Settled) (place : Option Place) (tried count waiting new_waiting : ℕ) (old new : Content) (taken : Taken) → AreBooks books → WasAccepted limit books.history → AreSupported books.history
+pub goes_on : (limit : ℕ) (books : Books) (reference day : List ℕ) (rule : RunRule) (pass : ℕ) (start : List Settled) (place : Option Place) (tried count waiting new_waiting : ℕ) (old new : Content) (taken : Taken) → AreBooks books → WasAccepted limit books.history
     → Underway books reference day rule pass start place tried count waiting old → IsTaken old (number_of day) place (Some taken) new → new_waiting + settled_of taken.outcome ≡ waiting + 1
     → Underway books reference day rule pass start (Some taken.place) (tried + 1) (count + settled_of taken.outcome) new_waiting new
-goes_on limit books reference day rule pass start place tried count waiting new_waiting old new taken are was supported u t waits =
+goes_on limit books reference day rule pass start place tried count waiting new_waiting old new taken are was u t waits =
     let g = books.history ++ Run reference day rule ∷ [] in
-    let on = step limit books reference day rule pass place (start ++ u.here) old are was supported u.underway taken.place t.0 taken.outcome new t.1 in
-    let n = next_sides limit books reference day rule pass place (start ++ u.here) old are was supported u.underway taken.place t.0.0 in
-    let f = next_facts limit books reference day rule pass place (start ++ u.here) old are was supported u.underway taken.place t.0 n in
+    let on = step limit books reference day rule pass place (start ++ u.here) old are was u.underway taken.place t.0 taken.outcome new t.1 in
+    let n = next_sides limit books reference day rule pass place (start ++ u.here) old are was u.underway taken.place t.0.0 in
+    let f = next_facts limit books reference day rule pass place (start ++ u.here) old are was u.underway taken.place t.0 n in
     let fewer = fewer_above g books.pairs place taken.place n.found.waiting.pair f.next_is.is_open.paired n.found.place_is f.next_is.is_open.above in
     let joined : (start ++ u.here) ++ on.added ≡ start ++ (u.here ++ on.added) = append_assoc start u.here on.added in
     let U : List Settled → Type 0 = λ z. IsUnderway books (Run reference day rule) pass (Some taken.place) z new in

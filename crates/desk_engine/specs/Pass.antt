@@ -1,5 +1,4 @@
--- What a run over supported commands comes to, pass by pass, before the run itself is added. Only proofs and private
--- contracts speak of it.
+-- What a run comes to, pass by pass, before the run itself is added. Only proofs and private contracts speak of it.
 use Rattle.std.specs.Prelude.{◌≡◌, ℕ, ◌+◌, ◌<◌, ◌≤◌, ◌&&◌, Bool, true, false, not, List, [], ◌∷◌, ◌++◌, length, count_by, Contains, ◌⊎◌, Option, Some, None}
 use Rattle.desk_msg.specs.declared.status.Reason.{Reason}
 use Rattle.desk_rules.specs.declared.entry.Entry.{Entry}
@@ -33,7 +32,6 @@ use Rattle.desk_register.specs.declared.outcome.Outcome.{Outcome}
 use Rattle.desk_register.specs.declared.outcome.Outcome.TheVariants as outcomes
 use Rattle.desk_register.specs.declared.outcome.Outcome.TheVariants.{Lacks}
 use Rattle.desk_engine.specs.declared.settlement_run.Taken.{Taken}
-use Rattle.desk_engine.specs.Decision.{AreSupported}
 use Rattle.desk_engine.specs.Tables.{Tables}
 
 -- the books with the run, where this is settled
@@ -143,11 +141,10 @@ module _ (books : Books) (run : Entry) where
     pub counted : length here ≡ settled_so
     pub waits : count_by (λ p. is_due with_run run_number p && not (is_settled_pair settled p)) books.pairs ≡ waiting_so
 
--- A register at the beginning of a pass of a run, in books of supported commands, each of which was accepted.
+-- A register at the beginning of a pass of a run, in books of which each entry was accepted.
 pub record IsAtPass (limit : ℕ) (books : Books) (run : Entry) (pass : ℕ) (settled : List Settled) (content : Content) : Type 0 where
   pub are_books : AreBooks books
   pub accepted : WasAccepted limit books.history
-  pub supported : AreSupported books.history
   pub underway : IsUnderway books run pass None settled content
 
 pub record CanPass (limit : ℕ) (day : List ℕ) (content : Content) : Type 0 where
@@ -163,11 +160,10 @@ pub record PassEnds (books : Books) (run : Entry) (pass : ℕ) (before : List Se
   pub settled : List Settled
   pub over : IsOver books run pass before settled settled_so waiting_so content
 
--- a register with the tables of a history of supported commands
+-- a register with the tables of an accepted history
 pub record CanRun (limit : ℕ) (content : Content) : Type 0 where
   pub books : Books
   pub tables : Tables limit books content
-  pub supported : AreSupported books.history
 
 -- what a run came to: its passes are made, so many settled in the run, and so many were due in it and are not settled
 pub record RanTo (books : Books) (run : Entry) (settled_so waiting_so : ℕ) (content : Content) : Type 0 where

@@ -7,7 +7,6 @@ ghost use Rattle.desk_register.specs.Changes.{CanSettle, appended};
 ghost use Rattle.desk_register.specs.Looked.{IsDuePairAfter};
 ghost use Rattle.desk_engine.specs.Tables.{Grown, Tables};
 ghost use Rattle.desk_engine.specs.Pass.{CanPass, CanRun, IsAtPass, IsPassed, IsTaken, PassEnds, RanTo, settled_of};
-ghost use Rattle.desk_engine.specs.Decision.{AreSupported};
 ghost use Rattle.desk_rules.specs.declared.pair.Settled.{Settled};
 ghost use Rattle.desk_rules.specs.Settlement.{allows_more};
 ghost use Rattle.desk_rules.specs.Books.{Books};
@@ -137,7 +136,7 @@ pub fn run_passes<R: Register>(
     requires stage { (R.view register.old).stage ≡ Stage.Begun }
     requires tables { IfTrusted (R.view register.old) (R.view register.old) (CanRun (R.view register.old).room (R.view register.old).content) }
     ensures kept { IfTrusted (R.view register.old) (R.view register.new) (OnOk result ((R.view register.new).content.register ≡ (R.view register.old).content.register)) }
-    ensures ran { (books : Books) (reference : List ℕ) → IfTrusted (R.view register.old) (R.view register.new) (Tables (R.view register.old).room books (R.view register.old).content → AreSupported books.history
+    ensures ran { (books : Books) (reference : List ℕ) → IfTrusted (R.view register.old) (R.view register.new) (Tables (R.view register.old).room books (R.view register.old).content
         → IfOk result (λ passed. RanTo books (Entry.Run reference day rule) passed.settled passed.waiting (R.view register.new).content)) }
     ensures change { IsChange result (R.view register.old) (R.view register.new) }
 {

@@ -498,46 +498,48 @@ module _ (limit : ℕ) (h : List Entry) (was : WasAccepted limit h) where
   pub account_registered : (n : ℕ) (i : Instructed) → instruction_at h n ≡ Some i → In (accounts_of h) i.instruction.account
   account_registered n i is = let sides = side_registered n i is in sides.0
 
-  -- the same of any settlements of pairs of the history
-  pub paired_add_up : (ps : List Pair) (settled : List Settled) (isin : List ℕ) → IsPairing h ps → ((s : Settled) → In settled s → Contains ps s.pair)
-      → sum_by (λ a. credits h settled a isin) (accounts_of h) + redeemed h isin ≡ sum_by (λ a. debits h settled a isin) (accounts_of h) + issued h isin
-  paired_add_up ps settled isin pairing inside =
-      let come = sum_add (λ a. sum_by (issued_by (movement_on a isin)) h) (λ a. sum_by (λ s. quantity_on a isin (receipt_of h s.pair)) settled) (accounts_of h) in
-      let gone = sum_add (λ a. sum_by (redeemed_by (movement_on a isin)) h) (λ a. sum_by (λ s. quantity_on a isin (delivery_of h s.pair)) settled) (accounts_of h) in
-      let received = sum_swap (λ a s. quantity_on a isin (receipt_of h s.pair)) (accounts_of h) settled in
-      let delivered = sum_swap (λ a s. quantity_on a isin (delivery_of h s.pair)) (accounts_of h) settled in
-      let same = sum_same (λ s. sum_by (λ a. quantity_on a isin (receipt_of h s.pair)) (accounts_of h)) (λ s. sum_by (λ a. quantity_on a isin (delivery_of h s.pair)) (accounts_of h)) settled
-      (λ s i. let mate = (pairing.exact s.pair).0 (inside s i) in same_moved s.pair (sides_of s.pair mate.candidate.opposite) isin) in
-      let put = all_issued isin in
-      let taken = all_redeemed isin in
-      omega arith
+  pub sender_registered : (n : ℕ) (i : Instructed) → instruction_at h n ≡ Some i → In (participants_of h) i.sender
+  sender_registered n i is = let sides = side_registered n i is in sides.1
 
-  module _ (ps : List Pair) (settled : List Settled) (pairing : IsPairing h ps) (settlement : IsSettlement h ps settled) where
-    settled_sides : (s : Settled) → In settled s → HasSides s.pair
-    settled_sides s i =
-        let d = decided_settlement h ps settled settlement in
-        let c = (d.exact s (d.within s i)).0 i in
-        let mate = (pairing.exact s.pair).0 c.paired in
-        sides_of s.pair mate.candidate.opposite
+  -- The sums, whatever pairs of the history are settled.
 
-    pub securities_add_up : (isin : List ℕ) → sum_by (λ a. credits h settled a isin) (accounts_of h) + redeemed h isin ≡ sum_by (λ a. debits h settled a isin) (accounts_of h) + issued h isin
-    securities_add_up isin =
+  module _ (ps : List Pair) (settled : List Settled) (pairing : IsPairing h ps) (inside : (s : Settled) → In settled s → Contains ps s.pair) where
+    paired_sides : (s : Settled) → In settled s → HasSides s.pair
+    paired_sides s i = let mate = (pairing.exact s.pair).0 (inside s i) in sides_of s.pair mate.candidate.opposite
+
+    pub paired_add_up : (isin : List ℕ) → sum_by (λ a. credits h settled a isin) (accounts_of h) + redeemed h isin ≡ sum_by (λ a. debits h settled a isin) (accounts_of h) + issued h isin
+    paired_add_up isin =
         let come = sum_add (λ a. sum_by (issued_by (movement_on a isin)) h) (λ a. sum_by (λ s. quantity_on a isin (receipt_of h s.pair)) settled) (accounts_of h) in
         let gone = sum_add (λ a. sum_by (redeemed_by (movement_on a isin)) h) (λ a. sum_by (λ s. quantity_on a isin (delivery_of h s.pair)) settled) (accounts_of h) in
         let received = sum_swap (λ a s. quantity_on a isin (receipt_of h s.pair)) (accounts_of h) settled in
         let delivered = sum_swap (λ a s. quantity_on a isin (delivery_of h s.pair)) (accounts_of h) settled in
-        let same = sum_same (λ s. sum_by (λ a. quantity_on a isin (receipt_of h s.pair)) (accounts_of h)) (λ s. sum_by (λ a. quantity_on a isin (delivery_of h s.pair)) (accounts_of h)) settled (λ s i. same_moved s.pair (settled_sides s i) isin) in
+        let same = sum_same (λ s. sum_by (λ a. quantity_on a isin (receipt_of h s.pair)) (accounts_of h)) (λ s. sum_by (λ a. quantity_on a isin (delivery_of h s.pair)) (accounts_of h)) settled (λ s i. same_moved s.pair (paired_sides s i) isin) in
         let put = all_issued isin in
         let taken = all_redeemed isin in
         omega arith
 
-    pub cash_adds_up : (ccy : Ccy) → sum_by (λ b. cash_credits h settled b ccy) (participants_of h) + paid_out h ccy ≡ sum_by (λ b. cash_debits h settled b ccy) (participants_of h) + paid_in h ccy
-    cash_adds_up ccy =
+    pub paired_cash_adds_up : (ccy : Ccy) → sum_by (λ b. cash_credits h settled b ccy) (participants_of h) + paid_out h ccy ≡ sum_by (λ b. cash_debits h settled b ccy) (participants_of h) + paid_in h ccy
+    paired_cash_adds_up ccy =
         let come = sum_add (λ b. sum_by (paid_in_by (payment_of b ccy)) h) (λ b. sum_by (λ s. amount_of b ccy (delivery_of h s.pair)) settled) (participants_of h) in
         let gone = sum_add (λ b. sum_by (paid_out_by (payment_of b ccy)) h) (λ b. sum_by (λ s. amount_of b ccy (receipt_of h s.pair)) settled) (participants_of h) in
         let earned = sum_swap (λ b s. amount_of b ccy (delivery_of h s.pair)) (participants_of h) settled in
         let spent = sum_swap (λ b s. amount_of b ccy (receipt_of h s.pair)) (participants_of h) settled in
-        let same = sum_same (λ s. sum_by (λ b. amount_of b ccy (delivery_of h s.pair)) (participants_of h)) (λ s. sum_by (λ b. amount_of b ccy (receipt_of h s.pair)) (participants_of h)) settled (λ s i. same_paid s.pair (settled_sides s i) ccy) in
+        let same = sum_same (λ s. sum_by (λ b. amount_of b ccy (delivery_of h s.pair)) (participants_of h)) (λ s. sum_by (λ b. amount_of b ccy (receipt_of h s.pair)) (participants_of h)) settled (λ s i. same_paid s.pair (paired_sides s i) ccy) in
         let put = all_paid_in ccy in
         let taken = all_paid_out ccy in
         omega arith
+
+  -- the settlement of the history is of its pairs
+
+  module _ (ps : List Pair) (settled : List Settled) (pairing : IsPairing h ps) (settlement : IsSettlement h ps settled) where
+    settled_in_pairs : (s : Settled) → In settled s → Contains ps s.pair
+    settled_in_pairs s i =
+        let d = decided_settlement h ps settled settlement in
+        let c = (d.exact s (d.within s i)).0 i in
+        c.paired
+
+    pub securities_add_up : (isin : List ℕ) → sum_by (λ a. credits h settled a isin) (accounts_of h) + redeemed h isin ≡ sum_by (λ a. debits h settled a isin) (accounts_of h) + issued h isin
+    securities_add_up isin = paired_add_up ps settled pairing settled_in_pairs isin
+
+    pub cash_adds_up : (ccy : Ccy) → sum_by (λ b. cash_credits h settled b ccy) (participants_of h) + paid_out h ccy ≡ sum_by (λ b. cash_debits h settled b ccy) (participants_of h) + paid_in h ccy
+    cash_adds_up ccy = paired_cash_adds_up ps settled pairing settled_in_pairs ccy

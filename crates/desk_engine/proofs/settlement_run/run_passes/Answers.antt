@@ -19,11 +19,11 @@ passes-init g c =
     r.ok r.later r.same (λ honest sure. c.in_ok-count.ensures.value honest sure (begun_goes _ c.requires.stage)) p.change.ok p.change.later p.kept (λ books reference rule pass start honest sure. p.ran books reference rule pass start honest sure)
 
 pub returns-then-not-makes_another-clause-ran : goal.returns-then-not-makes_another-clause-ran
-returns-then-not-makes_another-clause-ran g c = λ books reference honest sure tables supported.
+returns-then-not-makes_another-clause-ran g c = λ books reference honest sure tables.
     let v0 = g.R.Register.view c.args.register.now in
     passing_ends v0.room c.in_ok-count.count v0 (g.R.Register.view c.passes.register) c.args.day c.args.rule c.passes._again c.passes.passed.settled c.passes.passed.waiting c.passes.last refl c.passes.invariant books reference
     (makes_no_other c.args.rule c.passes.last (sym c.makes_another.ensures ∙ c.if-not-makes_another.true))
-    honest sure tables supported
+    honest sure tables
 
 pub run_pass-requires-in-passes-clause-fits : goal.run_pass-requires-in-passes-clause-fits
 run_pass-requires-in-passes-clause-fits g c =
@@ -43,8 +43,8 @@ passes-preserved g c =
     p.change.ok p.change.later p.kept (λ books reference rule pass start honest sure. p.ran books reference rule pass start honest sure) c.with-passed.ensures.settled small)
 
 pub returns-clause-ran : goal.returns-clause-ran
-returns-clause-ran g c = λ books reference honest sure tables supported.
+returns-clause-ran g c = λ books reference honest sure tables.
     let v0 = g.R.Register.view c.args.register.now in
     let all : c.in_ok-count.count ≤ c.passes._again = omega arith in
     passing_ends_all v0.room c.in_ok-count.count v0 (g.R.Register.view c.passes.register) c.args.day c.args.rule c.passes._again c.passes.passed.settled c.passes.passed.waiting c.passes.last refl c.passes.invariant books reference
-    all honest sure tables supported
+    all honest sure tables
