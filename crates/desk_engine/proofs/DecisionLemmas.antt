@@ -163,20 +163,20 @@ module _ (books : Books) (content : Content) (tables : AreTablesButSent books co
 
   cancel_checks : (sender : List ℕ) (order : CancelOrder) (named : Option ℕ) → ((n : ℕ) → named ≡ Some n → (i : Instructed) × (instruction_at books.history n ≡ Some i))
       → (check (is_none named) NoSuchInstruction
-          ∷ check (holds_of (λ k. is_cancelled_state (content.standing k).state) named) AlreadyCancelled
-          ∷ check (holds_of (λ k. is_settled_state (content.standing k).state) named) AlreadySettled
-          ∷ check (holds_of (λ k. (content.standing k).cancel_requested) named) CancellationWaits ∷ [])
+      ∷ check (holds_of (λ k. is_cancelled_state (content.standing k).state) named) AlreadyCancelled
+      ∷ check (holds_of (λ k. is_settled_state (content.standing k).state) named) AlreadySettled
+      ∷ check (holds_of (λ k. (content.standing k).cancel_requested) named) CancellationWaits ∷ [])
       ≡ (check (is_none named) NoSuchInstruction
-          ∷ check (holds_of (is_cancelled books) named) AlreadyCancelled
-          ∷ check (holds_of (is_settled books) named) AlreadySettled
-          ∷ check (holds_of (is_cancel_requested books.history) named) CancellationWaits ∷ [])
+      ∷ check (holds_of (is_cancelled books) named) AlreadyCancelled
+      ∷ check (holds_of (is_settled books) named) AlreadySettled
+      ∷ check (holds_of (is_cancel_requested books.history) named) CancellationWaits ∷ [])
   cancel_checks sender order named known =
       let gone : holds_of (λ k. is_cancelled_state (content.standing k).state) named ≡ holds_of (is_cancelled books) named =
-          holds_same _ _ named (λ k is. let at = known k is in ap is_cancelled_state (state_is k at.0 at.1) ∙ tells_cancelled books k at.0) in
+      holds_same _ _ named (λ k is. let at = known k is in ap is_cancelled_state (state_is k at.0 at.1) ∙ tells_cancelled books k at.0) in
       let done : holds_of (λ k. is_settled_state (content.standing k).state) named ≡ holds_of (is_settled books) named =
-          holds_same _ _ named (λ k is. let at = known k is in ap is_settled_state (state_is k at.0 at.1) ∙ tells_settled books k at.0) in
+      holds_same _ _ named (λ k is. let at = known k is in ap is_settled_state (state_is k at.0 at.1) ∙ tells_settled books k at.0) in
       let asked : holds_of (λ k. (content.standing k).cancel_requested) named ≡ holds_of (is_cancel_requested books.history) named =
-          holds_same _ _ named (λ k is. ap (λ (s : Standing). s.cancel_requested) (tables.standings.each k)) in
+      holds_same _ _ named (λ k is. ap (λ (s : Standing). s.cancel_requested) (tables.standings.each k)) in
       rw (gone, done, asked) refl
 
   pub same_checks : (entry : Entry) → checks_in content entry ≡ checks_of books entry
@@ -186,12 +186,12 @@ module _ (books : Books) (content : Content) (tables : AreTablesButSent books co
   same_checks (Issue movement) = rw tables.history refl
   same_checks (Redeem movement) =
       let enough = less_same (content.position movement.account movement.isin) (debits books.history books.settled movement.account movement.isin) (credits books.history books.settled movement.account movement.isin) movement.quantity
-          (tables.positions movement.account movement.isin) in
+      (tables.positions movement.account movement.isin) in
       rw (tables.history, enough) refl
   same_checks (PayIn payment) = rw tables.history refl
   same_checks (PayOut payment) =
       let enough = less_same (content.cash payment.bic payment.ccy) (cash_debits books.history books.settled payment.bic payment.ccy) (cash_credits books.history books.settled payment.bic payment.ccy) payment.amount
-          (tables.cash payment.bic payment.ccy) in
+      (tables.cash payment.bic payment.ccy) in
       rw (tables.history, enough) refl
   same_checks (Instruct sender instruction) = rw tables.history refl
   same_checks (Cancel sender order) =
@@ -220,7 +220,7 @@ verdict_new limit books content entry verdict tables friend new is =
     let new' : number_of_key books.history (sender_of entry) (reference_of entry) ≡ None = rw tables.history at new in
     let same = same_checks books content tables entry in
     let is' : verdict ≡ first_failing (checks_of books entry) (nat_le limit (length books.history)) = is ∙ ap (λ checks. first_failing checks (nat_le limit (length (history_of content)))) same
-        ∙ ap (λ h. first_failing (checks_of books entry) (nat_le limit (length h))) tables.history in
+    ∙ ap (λ h. first_failing (checks_of books entry) (nat_le limit (length h))) tables.history in
     rw (friend', new') is'
 
 pub verdict_new_ok : (limit room : ℕ) (books : Books) (content : Content) (entry : Entry) (r : Result Verdict Fault) → limit ≡ room → AreTablesButSent books content → is_from_stranger (history_of content) (sender_of entry) ≡ false

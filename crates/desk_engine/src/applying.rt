@@ -7,7 +7,7 @@ ghost use Rattle.desk_engine.specs.Steps.{IsStep};
 ghost use Rattle.desk_engine.specs.Tables.{is_booking};
 ghost use Rattle.desk_rules.specs.Books.{Books};
 
-use crate::adding::{add_instruction, add_booking, next_number};
+use crate::adding::{add_booking, add_instruction, next_number};
 use crate::applied::{Accepted, Applied};
 use crate::replies::{accepted_reply, once_more};
 use crate::settlement_run::{add_run, run_passes};

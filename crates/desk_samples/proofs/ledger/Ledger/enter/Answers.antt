@@ -1,5 +1,5 @@
 use Rattle.std.proofs.Common.{◌≡◌, ◌∙◌, ℕ, sym, subst, ap}
-use Rattle.desk_rules.specs.declared.verdict.Verdict.TheVariants.{Accept}
+use Rattle.desk_rules.specs.declared.verdict.Verdict.TheVariants.{Accept, Refuse}
 use Rattle.desk_rules.specs.Verdict.{IsVerdict}
 use Rattle.desk_register.specs.declared.register.Stage.{Stage}
 use Rattle.desk_register.specs.declared.register.Stage.TheVariants.{Idle, Failed}
@@ -35,7 +35,7 @@ take-requires-clause-accepted c =
     record {
       books = kept.0;
       keeps = kept_in _ _ kept.0 _ _ d.read.later.room (d.read.same tt tt) kept.1;
-      verdict = subst P (sym d.read.later.room) (rw c.in-Accept.is at (d.verdict kept.0 tt tt (not_failed _ stage) kept.1.tables.history));
+      verdict = subst P (sym d.read.later.room) (rw c.in-Accept.is at (d.verdict kept.0 tt tt (not_failed _ stage) kept.1.tables));
     }
 
 pub invariant_of-self-in-Repeat : goal.invariant_of-self-in-Repeat
@@ -67,7 +67,7 @@ returns-in_ok-applied-in-Accept-clause-entered c = λ books keeps.
     let V : ℕ → Type 0 = λ limit. IsVerdict limit books c.args.entry Accept in
     let Q : ℕ → Type 0 = λ limit. HasTaken limit books c.args.entry c.in_ok-applied-in-Accept.applied (content_of c.take.new.self) in
     let kept = subst P (sym c.self.view_is) keeps in
-    let verdict = rw c.in-Accept.is at (d.verdict books tt tt (not_failed _ c.self.invariant.0) kept.tables.history) in
+    let verdict = rw c.in-Accept.is at (d.verdict books tt tt (not_failed _ c.self.invariant.0) kept.tables) in
     let has = c.in_ok-applied-in-Accept.ensures.taken books (kept_in _ _ books _ _ d.read.later.room (d.read.same tt tt) kept) in
     (subst V (ap room_of c.self.view_is) verdict, subst Q (d.read.later.room ∙ ap room_of c.self.view_is) has)
 
@@ -76,3 +76,11 @@ returns-in-Repeat-clause-same c = λ _. c.in_ok-decide.ensures.read.same tt tt �
 
 pub returns-in-Refuse-clause-same : goal.returns-in-Refuse-clause-same
 returns-in-Refuse-clause-same c = λ _. c.in_ok-decide.ensures.read.same tt tt ∙ ap content_of c.self.view_is
+
+pub returns-in-Refuse-clause-entered : goal.returns-in-Refuse-clause-entered
+returns-in-Refuse-clause-entered c = λ books keeps.
+    let d = c.in_ok-decide.ensures in
+    let P : ListRegister → Type 0 = λ r. Keeps (room_of r) books (content_of r) in
+    let V : ℕ → Type 0 = λ limit. IsVerdict limit books c.args.entry (Refuse c.in-Refuse.refusal) in
+    let kept = subst P (sym c.self.view_is) keeps in
+    subst V (ap room_of c.self.view_is) (rw c.in-Refuse.is at (d.verdict books tt tt (not_failed _ c.self.invariant.0) kept.tables))
