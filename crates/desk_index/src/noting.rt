@@ -94,7 +94,9 @@ pub fn note_pair(
 }
 
 /// Notes that two instructions stand otherwise.
-pub fn touch_both(touched: &mut Vec<u64>, earlier: u64, later: u64) -> Result<(), AllocError> {
+pub fn touch_both(touched: &mut Vec<u64>, earlier: u64, later: u64) -> Result<(), AllocError>
+    ensures { OnOk result (touched.new.items ≡ touched.old.items ++ earlier ∷ later ∷ []) }
+{
     touched.reserve(2)?;
     touched.push(earlier).unwrap();
     touched.push(later).unwrap();

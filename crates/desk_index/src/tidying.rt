@@ -124,6 +124,7 @@ pub fn tidy_all(
 )
     ensures unmatched { HasOpen numbers.old (view_of_lists held.now).content → HasOpen numbers.new (view_of_lists held.now).content }
     ensures matched { HasDue places.old (view_of_lists held.now).content → HasDue places.new (view_of_lists held.now).content }
+    ensures none { touched.new.items ≡ [] }
 {
     while let Some(number) = touched.pop() {
         tidy_open(held, numbers, number);

@@ -1,4 +1,4 @@
-//! The tests of `desk_index`: its three look-ups. They stand in a crate of their own, since a crate with tests is
+//! The tests of `desk_index`: its look-ups. They stand in a crate of their own, since a crate with tests is
 //! proved twice.
 #![tactic(auto)]
 
