@@ -36,7 +36,7 @@ use Rattle.desk_rules.specs.Pairing.{mate_in}
 use Rattle.desk_rules.specs.Stands.{StandsAt, StandsSo}
 use Rattle.desk_rules.specs.Tables.{HasReplies}
 use Rattle.desk_engine.specs.Tables.{Tables, Grown, IsAccepted, is_booking, mated}
-use Rattle.desk_engine.proofs.KeepsLemmas.{tables_of, but_sent_of}
+use Rattle.desk_engine.proofs.KeepsLemmas.{tables_of, are_tables_of}
 use Rattle.desk_engine.specs.Pass.{CanRun, RanTo, IsPassed}
 use Rattle.std.specs.Prelude.{Err}
 use Rattle.desk_register.specs.declared.register.Fault.{Fault}
@@ -47,6 +47,7 @@ use Rattle.desk_register.proofs.ViewLemmas.{blames_memory, later_then, same_blam
 use Rattle.desk_engine.specs.Steps.{IsStep}
 use Rattle.desk_engine.specs.Applied.{Keeps, IsMateOf, IsNamed, IsApplied, CanApply, HasApplied}
 use Rattle.desk_engine.proofs.AppendLemmas.{accepted_new}
+pub use Rattle.desk_engine.proofs.AppendLemmas.{entries_within}
 use Rattle.desk_engine.proofs.TablesLemmas.{one_books, length_is, pairs_known, accepted_in}
 use Rattle.desk_engine.proofs.FinishLemmas.{tables_after_run}
 
@@ -152,7 +153,7 @@ keeps_more limit books after old new e reply keeps longer tables more is =
     let h = books.history in
     let number : length old.register ≡ length h = length_is old h keeps.tables.history in
     record {
-      tables = but_sent_of limit after new tables (replies_more books after old new e reply number keeps.tables.replies longer tables.are_books more is);
+      tables = are_tables_of limit after new tables (replies_more books after old new e reply number keeps.tables.replies longer tables.are_books more is);
       accepted = tables.accepted;
     }
 
@@ -363,7 +364,7 @@ run_step v0 v1 v2 v3 books reference day rule reply n a can ran kept same added 
     let P : Content → Type 0 = λ c. v3.content ≡ appended e reply c in
     let is : v3.content ≡ appended e reply v1.content = subst P same added in
     let T : Content → Type 0 = λ c. Tables v0.room after c in
-    let tables : Tables v0.room after v3.content = subst T (sym is) (tables_after_run v0.room books reference day rule ran.settled v1.content reply are keeps.accepted verdict ran.passed) in
+    let tables : Tables v0.room after v3.content = subst T (sym is) (tables_after_run v0.room books reference day rule ran.settled v1.content reply are keeps.accepted verdict ran.passed ran.told) in
     let none : instruction_at (h ++ e ∷ []) a.number ≡ None = ap (option_and_then instructed) entry in
     let M : Option ℕ → Type 0 = λ m. IsMateOf books.pairs a.number m in
     let fared : IsApplied after e a = record {
@@ -405,22 +406,8 @@ passed_of v0 v1 v2 reference day rule settled waiting can ran same room =
       verdict = can.verdict;
       settled = ran.settled;
       passed = ran.passed;
+      told = ran.told;
     }))
-
--- no more entries than there is room for
-pub entries_within : (limit : ℕ) (h : List Entry) → WasAccepted limit h → length h ≤ limit
-entries_within limit h was = elim (cases_lt 0 (length h)) [
-  | inr none ↦ omega arith
-  | inl some ↦
-      let n = length h in
-      let last = entry_at-some h n some (omega arith) in
-      let b = books_exist (before n h) in
-      let books : Books = record { history = before n h; pairs = b.0; settled = b.1 } in
-      let verdict = was.each n last.0 books last.1 refl (record { pairing = b.2.pairing; settlement = b.2.settlement }) in
-      let room = (accepted_new limit books last.0 verdict).has_room in
-      let shorter : length (before n h) + 1 ≡ n = length-before h n some (omega arith) in
-      omega arith
-]
 
 -- a reading call failed within an open `begin`
 pub read_fails : {X Y : Type 0} (fault : Fault) (v0 v1 : View) → v0.stage ≡ Begun → IsRead {X = Y} (Err fault) v0 v1 → IsStep {X = X} (Err fault) v0 v1

@@ -1,5 +1,5 @@
 -- What the verdict says of an entry that is added.
-use Rattle.std.proofs.Common.{◌≡◌, ℕ, ◌<◌, inl, inr, Bool, true, false, List, [], ◌∷◌, length, Option, Some, None, refl, sym, ◌∙◌, subst, arith}
+use Rattle.std.proofs.Common.{◌≡◌, ℕ, ◌+◌, ◌<◌, ◌≤◌, inl, inr, Bool, true, false, List, [], ◌∷◌, length, Option, Some, None, refl, sym, ◌∙◌, subst, arith}
 use Rattle.std.specs.Prelude.{nat_le}
 use Rattle.std.proofs.lemmas.Bool.{cases_Bool, cases_lt, both_ways}
 use Rattle.std.proofs.lemmas.Bool.Decides.{nat_tests}
@@ -9,10 +9,12 @@ use Rattle.desk_rules.specs.declared.verdict.Refusal.TheVariants.{Full}
 use Rattle.desk_rules.specs.declared.verdict.Verdict.TheVariants.{Accept, Refuse}
 use Rattle.desk_rules.specs.Books.{Books}
 use Rattle.desk_rules.specs.Content.{Content, history_of}
-use Rattle.desk_rules.specs.History.{number_of_key, reference_of, sender_of}
-use Rattle.desk_rules.specs.Verdict.{Check, IsVerdict, IsVerdictAt, checks_of, first_failing, is_from_stranger}
+use Rattle.desk_rules.specs.History.{before, number_of_key, reference_of, sender_of}
+use Rattle.desk_rules.specs.Verdict.{Check, IsVerdict, IsVerdictAt, checks_of, first_failing, is_from_stranger, WasAccepted}
 use Rattle.desk_register.specs.Changes.{BalancesAllow, CanAppend}
 use Rattle.desk_engine.specs.Tables.{IsAccepted}
+use Rattle.desk_rules.proofs.Existence.{books_exist}
+use Rattle.desk_rules.proofs.HistoryLemmas.{entry_at-some, length-before}
 use Rattle.desk_engine.proofs.TablesLemmas.{length_is}
 
 -- what is accepted has a new key, and there is room for it
@@ -61,3 +63,18 @@ can_append limit books e reply content same verdict status balances =
 
 pub can_add : (limit : ℕ) (e : Entry) (reply : Reply) (content : Content) → IsAccepted limit e content → reply.status ≡ 200 → BalancesAllow e content → CanAppend limit e reply content
 can_add limit e reply content accepted status balances = can_append limit accepted.books e reply content accepted.tables.history accepted.verdict status balances
+
+-- no more entries than there is room for
+pub entries_within : (limit : ℕ) (h : List Entry) → WasAccepted limit h → length h ≤ limit
+entries_within limit h was = elim (cases_lt 0 (length h)) [
+  | inr none ↦ omega arith
+  | inl some ↦
+      let n = length h in
+      let last = entry_at-some h n some (omega arith) in
+      let b = books_exist (before n h) in
+      let books : Books = record { history = before n h; pairs = b.0; settled = b.1 } in
+      let verdict = was.each n last.0 books last.1 refl (record { pairing = b.2.pairing; settlement = b.2.settlement }) in
+      let room = (accepted_new limit books last.0 verdict).has_room in
+      let shorter : length (before n h) + 1 ≡ n = length-before h n some (omega arith) in
+      omega arith
+]

@@ -32,7 +32,7 @@ use Rattle.desk_rules.specs.Facts.{is_participant}
 use Rattle.desk_rules.specs.Content.{Content, history_of}
 use Rattle.desk_rules.specs.Pairing.{pair_of}
 use Rattle.desk_rules.specs.Standing.{instruction_state, is_called_off, is_cancelled, open_state}
-use Rattle.desk_rules.specs.Tables.{AreTablesButSent}
+use Rattle.desk_rules.specs.Tables.{AreTables}
 use Rattle.desk_rules.specs.Verdict.{Check, check, checks_of, first_failing, holds_of, if_of_type, IsVerdict, IsVerdictAt, is_from_stranger, named_by, reused_by}
 use Rattle.desk_engine.specs.Deciding.{checks_in, first_refusal, is_cancelled_state, is_settled_state, with_history, IsVerdictOnKey}
 use Rattle.desk_register.proofs.CaseLemmas.{by_bool}
@@ -157,7 +157,7 @@ tells_settled books n i =
     (λ yes. rw yes refl)
     (λ no. by_bool (is_called_off books.history n (pair_of books.pairs n)) (λ off. rw (no, off) refl) (λ on. rw (no, on) (open_not_settled books (pair_of books.pairs n))))
 
-module _ (books : Books) (content : Content) (tables : AreTablesButSent books content) where
+module _ (books : Books) (content : Content) (tables : AreTables books content) where
   state_is : (n : ℕ) (i : Instructed) → instruction_at books.history n ≡ Some i → (content.standing n).state ≡ instruction_state books n (Some i)
   state_is n i at = ap (λ (s : Standing). s.state) (tables.standings.each n) ∙ ap (instruction_state books n) at
 
@@ -212,7 +212,7 @@ verdict_known limit books history entry verdict same friend key =
     let key' : IsVerdictOnKey books.history entry verdict = rw same at key in
     rw (friend', key'.is_number) (at_some limit key'.number books entry verdict key'.is_verdict)
 
-pub verdict_new : (limit : ℕ) (books : Books) (content : Content) (entry : Entry) (verdict : Verdict) → AreTablesButSent books content → is_from_stranger (history_of content) (sender_of entry) ≡ false
+pub verdict_new : (limit : ℕ) (books : Books) (content : Content) (entry : Entry) (verdict : Verdict) → AreTables books content → is_from_stranger (history_of content) (sender_of entry) ≡ false
     → number_of_key (history_of content) (sender_of entry) (reference_of entry) ≡ None
     → verdict ≡ first_failing (checks_in content entry) (nat_le limit (length (history_of content))) → IsVerdict limit books entry verdict
 verdict_new limit books content entry verdict tables friend new is =
@@ -223,7 +223,7 @@ verdict_new limit books content entry verdict tables friend new is =
     ∙ ap (λ h. first_failing (checks_of books entry) (nat_le limit (length h))) tables.history in
     rw (friend', new') is'
 
-pub verdict_new_ok : (limit room : ℕ) (books : Books) (content : Content) (entry : Entry) (r : Result Verdict Fault) → limit ≡ room → AreTablesButSent books content → is_from_stranger (history_of content) (sender_of entry) ≡ false
+pub verdict_new_ok : (limit room : ℕ) (books : Books) (content : Content) (entry : Entry) (r : Result Verdict Fault) → limit ≡ room → AreTables books content → is_from_stranger (history_of content) (sender_of entry) ≡ false
     → number_of_key (history_of content) (sender_of entry) (reference_of entry) ≡ None
     → IfOk r (λ v. v ≡ first_failing (checks_in content entry) (nat_le limit (length (history_of content)))) → IfOk r (λ v. IsVerdict room books entry v)
 verdict_new_ok limit room books content entry (Ok verdict) at tables friend new is =

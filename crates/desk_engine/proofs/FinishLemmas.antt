@@ -4,7 +4,6 @@ use Rattle.std.specs.Prelude.{option_and_then, nat_lt, not, Result, Ok, Err, OnO
 use Rattle.std.proofs.lemmas.Bool.{cases_Bool, cases_lt, cases_eq, ne_eqb, both_ways}
 use Rattle.std.proofs.lemmas.Bool.Decides.{nat_tests}
 use Rattle.std.proofs.lemmas.List.Elements.{filter-append}
-use Rattle.std.proofs.lemmas.List.Sums.{count_by-le-length}
 use Rattle.desk_codes.specs.Number.{number_of}
 use Rattle.desk_rules.specs.declared.entry.Entry.{Entry}
 use Rattle.desk_rules.specs.declared.entry.Entry.TheVariants.{Run}
@@ -34,7 +33,7 @@ use Rattle.desk_rules.specs.Content.{Content, history_of}
 use Rattle.desk_rules.specs.Stands.{reason_found, IsReason, IsInPair, StandsAt, StandsSo}
 use Rattle.desk_register.specs.Changes.{appended}
 use Rattle.desk_engine.specs.Tables.{Tables, Grown}
-use Rattle.desk_engine.specs.Pass.{HasPassed, IsPassed, PassesAt, PassesSo, IsUnderway, IsOver, found_in, is_below, books_after}
+use Rattle.desk_engine.specs.Pass.{HasPassed, HasToldSoFar, IsPassed, PassesAt, PassesSo, IsUnderway, IsOver, found_in, is_below, books_after}
 use Rattle.desk_rules.proofs.Decided.{In, In-from_Contains, Contains-from_In, filter-none, filter-same, not_back}
 use Rattle.desk_rules.proofs.Existence.{run_unpaired}
 use Rattle.desk_rules.proofs.HistoryLemmas.{entry_at-end, before-front, before-all, instruction_at-known, instruction_at-front}
@@ -43,6 +42,7 @@ use Rattle.desk_rules.proofs.BalanceLemmas.{IsIn, credits-entry, debits-entry, c
 use Rattle.desk_rules.proofs.SettlementLemmas.{due_facts, due_known, precedes_strict, precedes_run, begins_first}
 use Rattle.desk_rules.proofs.SettlementGrowth.{as_far_decided, decided_as_far, run_begins, run_ends, is_due-front, precedes-front, in_passes-front}
 use Rattle.desk_rules.proofs.NothingLeft.{begins_counted, counted_begins}
+use Rattle.desk_engine.proofs.WaitingLemmas.{settled_and_left}
 use Rattle.desk_engine.proofs.TablesLemmas.{accepted_more, beyond, history_more, length_is, not_cancelled, pairs_known, settled_known}
 
 -- what a later run settles changes no pass of an earlier one
@@ -237,9 +237,9 @@ module _ (books : Books) (reference day : List ℕ) (rule : RunRule) (pass : ℕ
 -- The run is added.
 
 pub tables_after_run : (limit : ℕ) (books : Books) (reference day : List ℕ) (rule : RunRule) (settled : List Settled) (content : Content) (reply : Reply) → AreBooks books → WasAccepted limit books.history
-    → IsVerdict limit books (Run reference day rule) Accept → HasPassed books (Run reference day rule) settled content
+    → IsVerdict limit books (Run reference day rule) Accept → HasPassed books (Run reference day rule) settled content → HasToldSoFar books (Run reference day rule) settled content
     → Tables limit (record { history = books.history ++ Run reference day rule ∷ []; pairs = books.pairs; settled = settled }) (appended (Run reference day rule) reply content)
-tables_after_run limit books reference day rule settled content reply are was verdict passed =
+tables_after_run limit books reference day rule settled content reply are was verdict passed told =
     let h = books.history in
     let e : Entry = Run reference day rule in
     let number : length content.register ≡ length h = length_is content h passed.history in
@@ -281,14 +281,15 @@ tables_after_run limit books reference day rule settled content reply are was ve
           let less = cash_debits-entry h e settled within bic ccy in
           let here : content.cash bic ccy + cash_debits h settled bic ccy ≡ cash_credits h settled bic ccy = passed.cash bic ccy in
           omega arith;
+      sent = told;
     }
 
 pub tables_run : (limit : ℕ) (books : Books) (reference day : List ℕ) (rule : RunRule) (settled : List Settled) (content : Content) (reply : Reply) → AreBooks books → WasAccepted limit books.history
-    → IsVerdict limit books (Run reference day rule) Accept → HasPassed books (Run reference day rule) settled content → Grown limit books (Run reference day rule) (appended (Run reference day rule) reply content)
-tables_run limit books reference day rule settled content reply are was verdict passed = record {
+    → IsVerdict limit books (Run reference day rule) Accept → HasPassed books (Run reference day rule) settled content → HasToldSoFar books (Run reference day rule) settled content → Grown limit books (Run reference day rule) (appended (Run reference day rule) reply content)
+tables_run limit books reference day rule settled content reply are was verdict passed told = record {
   pairs = books.pairs;
   settled = settled;
-  tables = tables_after_run limit books reference day rule settled content reply are was verdict passed;
+  tables = tables_after_run limit books reference day rule settled content reply are was verdict passed told;
 }
 
 -- The first pass begins.
@@ -318,7 +319,7 @@ first_begins limit books reference day rule content tables = record {
     more = [];
     is_more = sym (append-nil books.settled);
     of_run = λ s c. absurd (In-from_Contains [] s c);
-    few = (let most = count_by-le-length (λ (p : Pair). not (is_settled_pair books.settled p)) books.pairs in omega arith);
+    few = settled_and_left books tables.are_books;
   };
 }
 
@@ -326,5 +327,5 @@ pub run_added : (limit : ℕ) (reference day : List ℕ) (rule : RunRule) (old n
     → OnOk r ((books : Books) × (books.history ≡ history_of old) × Grown limit books (Run reference day rule) new)
 run_added limit reference day rule old new reply (Ok done) p added =
     let P : Content → Type 0 = λ c. Grown limit p.books (Run reference day rule) c in
-    (p.books, sym p.passed.history, subst P (sym added) (tables_run limit p.books reference day rule p.settled old reply p.are_books p.accepted p.verdict p.passed))
+    (p.books, sym p.passed.history, subst P (sym added) (tables_run limit p.books reference day rule p.settled old reply p.are_books p.accepted p.verdict p.passed p.told))
 run_added limit reference day rule old new reply (Err fault) p added = added

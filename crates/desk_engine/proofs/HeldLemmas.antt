@@ -60,6 +60,7 @@ empty_keeps limit = record {
     standings = record { each = stands };
     positions = λ account isin. refl;
     cash = λ bic ccy. refl;
+    sent = refl;
   };
   accepted = record { each = λ n entry books at history are. (let k = entry_at-known [] n entry at in let a : 0 < n = k.0 in let b : n ≤ 0 = k.1 in absurd (omega arith)) };
 }

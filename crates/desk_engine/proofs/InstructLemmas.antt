@@ -31,7 +31,11 @@ use Rattle.desk_rules.specs.Content.{Content, history_of}
 use Rattle.desk_register.specs.Changes.{appended, paired, CanPair}
 use Rattle.desk_register.specs.Looked.{IsOppositeAt, IsFirstOpposite}
 use Rattle.desk_rules.specs.Stands.{InstructionStands, IsAlone, IsMatched, StandsAt, StandsSo}
+use Rattle.desk_rules.specs.declared.reply.Notice.{Notice}
+use Rattle.desk_rules.specs.Sent.{told, told_to}
+use Rattle.desk_engine.specs.Sending.{with_advised}
 use Rattle.desk_engine.specs.Tables.{Tables, Grown, IsAccepted}
+use Rattle.desk_engine.proofs.SentLemmas.{sends_advice, sends_nothing}
 use Rattle.desk_rules.proofs.Decided.{In, In-from_Contains, Contains-from_In, In-right}
 use Rattle.desk_rules.proofs.HistoryLemmas.{entry_at-end, before-all, instruction_at-known, instruction_at-front}
 use Rattle.desk_rules.proofs.PairingLemmas.{pairing_alone, pairing_mated}
@@ -195,6 +199,7 @@ tables_unmatched limit books content sender instruction reply tables verdict non
         ];
         position = λ account isin. instruction_position limit books content sender instruction account isin tables;
         cash = λ bic ccy. instruction_cash limit books content sender instruction bic ccy tables;
+        sent = tables.sent ∙ sym (sends_nothing books e are);
       };
     }
 
@@ -248,7 +253,7 @@ free_of_one p k a b = λ q c. elim (In-from_Contains (p ∷ []) q c) [
 
 tables_mated : (limit : ℕ) (books : Books) (content : Content) (sender : List ℕ) (instruction : Instruction) (reply : Reply) (n m : ℕ) → Tables limit books content
     → n ≡ length content.register + 1 → IsVerdict limit books (Instruct sender instruction) Accept → IsFirstOpposite content (record { sender = sender; instruction = instruction }) (Some m)
-    → Grown limit books (Instruct sender instruction) (paired m n (appended (Instruct sender instruction) reply content))
+    → Grown limit books (Instruct sender instruction) (with_advised m (paired m n (appended (Instruct sender instruction) reply content)))
 tables_mated limit books content sender instruction reply n m tables at verdict found =
     let h = books.history in
     let e : Entry = Instruct sender instruction in
@@ -307,6 +312,13 @@ tables_mated limit books content sender instruction reply n m tables at verdict 
         ];
         position = λ account isin. instruction_position limit books content sender instruction account isin tables;
         cash = λ bic ccy. instruction_cash limit books content sender instruction bic ccy tables;
+        sent =
+            let o = mate.candidate.opposite in
+            let note : Notice = record { about = m; run = None } in
+            ap (λ g. content.sent ++ told_to g (length content.sent + 1) note (instruction_at g m)) (history_more content e reply h tables.history)
+            ∙ ap (λ i. content.sent ++ told_to (h ++ e ∷ []) (length content.sent + 1) note i) o.is_first
+            ∙ ap (λ z. z ++ told (h ++ e ∷ []) (length z + 1) m None o.first ∷ []) tables.sent
+            ∙ sym (sends_advice books e p o.first are last o.is_first);
       };
     }
   where
@@ -359,9 +371,9 @@ instructed_alone limit books old new sender instruction reply mate is tables acc
 
 pub instructed_paired : (limit : ℕ) (books : Books) (old mid new : Content) (sender : List ℕ) (instruction : Instruction) (reply : Reply) (n m : ℕ) (mate : Option ℕ) (r : Result (Unit {0}) Fault) → mate ≡ Some m
     → n ≡ length old.register + 1 → Tables limit books old → IsAccepted limit (Instruct sender instruction) old → IsFirstOpposite old (record { sender = sender; instruction = instruction }) mate
-    → mid ≡ appended (Instruct sender instruction) reply old → OnOk r (new ≡ paired m n mid) → OnOk r (Grown limit books (Instruct sender instruction) new)
+    → mid ≡ appended (Instruct sender instruction) reply old → OnOk r (new ≡ with_advised m (paired m n mid)) → OnOk r (Grown limit books (Instruct sender instruction) new)
 instructed_paired limit books old mid new sender instruction reply n m mate (Ok done) is at tables accepted first added second =
     let P : Content → Type 0 = λ c. Grown limit books (Instruct sender instruction) c in
-    let Q : Content → Type 0 = λ c. new ≡ paired m n c in
+    let Q : Content → Type 0 = λ c. new ≡ with_advised m (paired m n c) in
     subst P (sym (subst Q added second)) (tables_mated limit books old sender instruction reply n m tables at (accepted_in limit books old (Instruct sender instruction) tables accepted) (rw is at first))
 instructed_paired limit books old mid new sender instruction reply n m mate (Err fault) is at tables accepted first added second = second

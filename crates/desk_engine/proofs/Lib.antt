@@ -12,7 +12,10 @@ mod PassLemmas
 mod PassSteps
 mod PassWhole
 mod ReplyLemmas
+mod SendingLemmas
+mod SentLemmas
 pub mod RunningLemmas
+mod StepLaws
 mod StepLemmas
 mod WaitingLemmas
 mod WithinLimits

@@ -84,9 +84,15 @@ both_stand P standing m n state last first rest k = elim (cases_eq k n) [
   ]
 ]
 
+-- what the try of a pair settles
+abbrev pub settled_by : ℕ → ℕ → Pair → Outcome → List Settled
+settled_by run pass p outcomes.Settled = record { run = run; pass = pass; pair = p } ∷ []
+settled_by run pass p (Lacks lack) = []
+
 -- what the pass has come to after one pair more
-pub record PassedOn (books : Books) (reference day : List ℕ) (rule : RunRule) (pass : ℕ) (place : Option Place) (next : Place) (settled : List Settled) (outcome : Outcome) (content : Content) : Type 0 where
+pub record PassedOn (books : Books) (reference day : List ℕ) (rule : RunRule) (pass : ℕ) (place : Option Place) (next : Place) (q : Pair) (settled : List Settled) (outcome : Outcome) (content : Content) : Type 0 where
   pub added : List Settled
+  pub added_is : added ≡ settled_by (length books.history + 1) pass q outcome
   pub underway : IsUnderway books (Run reference day rule) pass (Some next) (settled ++ added) content
   pub of_pass : (s : Settled) → In added s → (s.run ≡ length books.history + 1) × (s.pass ≡ pass)
   pub count : length added ≡ settled_of outcome
@@ -254,7 +260,7 @@ module _ (limit : ℕ) (books : Books) (reference day : List ℕ) (rule : RunRul
       let here : InstructionPasses books (Run reference day rule) pass (is_below books (Run reference day rule) place) settled k (old.standing k) = subst P at (u.passing.standing k) in
       here.requested
 
-  step_settled : (next : Place) (after : IsDuePairAfter old (number_of day) place (Some next)) (new : Content) → TriesPair old next.number outcomes.Settled new → PassedOn books reference day rule pass place next settled outcomes.Settled new
+  step_settled : (next : Place) (after : IsDuePairAfter old (number_of day) place (Some next)) (new : Content) → TriesPair old next.number outcomes.Settled new → PassedOn books reference day rule pass place next (let n = next_sides next after.0 in n.found.waiting.pair) settled outcomes.Settled new
   step_settled next after new s =
       let due = after.0 in
       let n = next_sides next due in
@@ -274,6 +280,7 @@ module _ (limit : ℕ) (books : Books) (reference day : List ℕ) (rule : RunRul
       let member = In-from_Contains books.pairs q n.found.waiting.in_pair.paired in
       record {
         added = t ∷ [];
+        added_is = refl;
         underway = record {
           passing = record {
             history = subst H (sym ends.2) u.passing.history;
@@ -300,7 +307,7 @@ module _ (limit : ℕ) (books : Books) (reference day : List ℕ) (rule : RunRul
             few =
                 let fewer = unsettled_fewer books.pairs settled t order member n.found.waiting.in_pair.unsettled in
                 let few = u.further.few in
-                let size = length-append u.further.more (t ∷ []) in
+                let size = length-append settled (t ∷ []) in
                 omega arith;
           };
         };
@@ -311,7 +318,7 @@ module _ (limit : ℕ) (books : Books) (reference day : List ℕ) (rule : RunRul
 
   -- a pair that lacks something stays, and stands so on both sides
   step_lacks : (next : Place) (after : IsDuePairAfter old (number_of day) place (Some next)) (n : NextSides next after.0) (lack : Lack) (new : Content) → lack_of books.history settled n.found.waiting.pair ≡ Some lack
-      → new ≡ record old { standing = standing_both old.standing after.0.pair.mate next.number (Matched (reason_of_lack (Some lack))) } → PassedOn books reference day rule pass place next settled (Lacks lack) new
+      → new ≡ record old { standing = standing_both old.standing after.0.pair.mate next.number (Matched (reason_of_lack (Some lack))) } → PassedOn books reference day rule pass place next n.found.waiting.pair settled (Lacks lack) new
   step_lacks next after n lack new lacks is_new =
       let due = after.0 in
       let f = next_facts next after n in
@@ -349,6 +356,7 @@ module _ (limit : ℕ) (books : Books) (reference day : List ℕ) (rule : RunRul
       let U : List Settled → Type 0 = λ z. IsUnderway books e pass (Some next) z new in
       record {
         added = [];
+        added_is = refl;
         underway = subst U (sym none) after_it;
         of_pass = λ x i. absurd i;
         count = refl;
@@ -359,7 +367,7 @@ module _ (limit : ℕ) (books : Books) (reference day : List ℕ) (rule : RunRul
       }
 
   -- one pair more
-  pub step : (next : Place) (after : IsDuePairAfter old (number_of day) place (Some next)) (outcome : Outcome) (new : Content) → TriesPair old next.number outcome new → PassedOn books reference day rule pass place next settled outcome new
+  pub step : (next : Place) (after : IsDuePairAfter old (number_of day) place (Some next)) (outcome : Outcome) (new : Content) → TriesPair old next.number outcome new → PassedOn books reference day rule pass place next (let n = next_sides next after.0 in n.found.waiting.pair) settled outcome new
   step next after outcomes.Settled new s = step_settled next after new s
   step next after (Lacks Securities) new s =
       let n = next_sides next after.0 in

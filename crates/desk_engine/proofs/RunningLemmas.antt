@@ -13,31 +13,35 @@ use Rattle.desk_engine.specs.declared.settlement_run.Taken.{Taken}
 use Rattle.desk_register.specs.View.{View, IsLater, Stays}
 use Rattle.desk_rules.specs.Books.{Books}
 use Rattle.desk_rules.specs.Content.{Content}
-use Rattle.desk_register.specs.Changes.{CanSettle, TriesPair}
+use Rattle.desk_rules.specs.declared.entry.Instructed.{Instructed}
+use Rattle.desk_register.specs.Changes.{CanSettle}
 use Rattle.desk_register.specs.declared.outcome.Outcome.{Outcome}
 use Rattle.desk_register.specs.declared.outcome.Outcome.TheVariants as outcomes
 use Rattle.desk_register.specs.declared.outcome.Outcome.TheVariants.{Lacks}
-use Rattle.desk_rules.specs.declared.pair.Lack.TheVariants.{Securities, Money as LacksMoney}
 use Rattle.desk_register.specs.Looked.{IsDuePairAfter}
 use Rattle.desk_engine.specs.Applied.{Keeps}
 use Rattle.desk_engine.specs.Tables.{Tables}
-use Rattle.desk_engine.specs.Pass.{CanPass, CanRun, IsAtPass, IsTaken, PassEnds, RanTo, settled_of}
+use Rattle.desk_engine.specs.Pass.{CanPass, CanRun, CanTry, IsAtPass, IsTaken, PassEnds, RanTo, settled_of, told_of_try}
 use Rattle.desk_engine.proofs.TablesLemmas.{length_is}
 use Rattle.desk_register.proofs.ViewLemmas.{later_then, stays_then}
 use Rattle.desk_engine.proofs.FinishLemmas.{first_begins}
 use Rattle.desk_engine.proofs.KeepsLemmas.{tables_of}
-use Rattle.desk_engine.proofs.UnderwayLemmas.{Underway, starts, can_settle, goes_on, ends_none, ends_all, Ran, goes_again, run_over, enough, settled_few, first_over, again_over}
+use Rattle.desk_engine.proofs.SentLemmas.{sent_none_yet}
+use Rattle.desk_engine.proofs.UnderwayLemmas.{Underway, settles_keeps, starts, can_try, goes_on, ends_none, ends_all, Ran, goes_again, run_over, enough, settled_few, first_over, again_over}
 
 -- to try a pair changes no entry and no reply
 
-settles_keeps : (old new : Content) (n : ℕ) (outcome : Outcome) → TriesPair old n outcome new → new.register ≡ old.register
-settles_keeps old new n outcomes.Settled s = ap (λ (c : Content). c.register) s.ends.2
-settles_keeps old new n (Lacks Securities) s = ap (λ (c : Content). c.register) s.ends.1
-settles_keeps old new n (Lacks LacksMoney) s = ap (λ (c : Content). c.register) s.ends.2
+told_keeps : (m n : ℕ) (earlier : Instructed) (day : List ℕ) (outcome : Outcome) (content : Content) → (told_of_try m n earlier day outcome content).register ≡ content.register
+told_keeps m n earlier day outcomes.Settled content = refl
+told_keeps m n earlier day (Lacks lack) content = refl
 
-pub taken_keeps : (old new : Content) (day : ℕ) (place : Option Place) (taken : Option Taken) → IsTaken old day place taken new → new.register ≡ old.register
+pub taken_keeps : (old new : Content) (day : List ℕ) (place : Option Place) (taken : Option Taken) → IsTaken old day place taken new → new.register ≡ old.register
 taken_keeps old new day place None t = ap (λ (c : Content). c.register) t.1
-taken_keeps old new day place (Some taken) t = settles_keeps old new taken.place.number taken.outcome t.1
+taken_keeps old new day place (Some taken) t =
+    let try = t.1 in
+    ap (λ (c : Content). c.register) try.told
+    ∙ told_keeps try.tried.mate taken.place.number try.tried.earlier day taken.outcome try.between
+    ∙ settles_keeps old try.between taken.place.number taken.outcome try.tried
 
 -- One pass.
 
@@ -59,18 +63,18 @@ running_begins room count v0 v day stays later same entries = record {
   kept = λ honest sure. ap (λ (c : Content). c.register) (same honest sure);
   underway = λ honest sure books reference rule pass start at.
       let P : Content → Type 0 = λ c. Underway books reference day rule pass start None 0 0 0 c in
-      subst P (sym (same honest sure)) (starts books reference day rule pass start v0.content at.are_books at.underway);
+      subst P (sym (same honest sure)) (starts books reference day rule pass start v0.content at.are_books at.underway at.told);
 }
 
 pub running_goes_on : (room count : ℕ) (v0 v w : View) (day : List ℕ) (place : Option Place) (tried settled waiting new_settled new_waiting : ℕ) (taken : Taken) → Running room count v0 v day place tried settled waiting
-    → Stays v w → IsLater v w → (w.is_honest → v.is_sure → IsTaken v.content (number_of day) place (Some taken) w.content) → new_settled ≡ settled + settled_of taken.outcome
+    → Stays v w → IsLater v w → (w.is_honest → v.is_sure → IsTaken v.content day place (Some taken) w.content) → new_settled ≡ settled + settled_of taken.outcome
     → new_settled + new_waiting ≡ settled + waiting + 1 → Running room count v0 w day (Some taken.place) (tried + 1) new_settled new_waiting
 running_goes_on room count v0 v w day place tried settled waiting new_settled new_waiting taken r stays later took settles all = record {
   entries = λ honest sure. r.entries (later.honest honest) sure;
   stays = stays_then v0 v w r.stays r.later later stays;
   later = later_then v0 v w r.stays r.later later;
   counted = (let c = r.counted in omega arith);
-  kept = λ honest sure. taken_keeps v.content w.content (number_of day) place (Some taken) (took honest (r.stays.sure (later.honest honest) sure)) ∙ r.kept (later.honest honest) sure;
+  kept = λ honest sure. taken_keeps v.content w.content day place (Some taken) (took honest (r.stays.sure (later.honest honest) sure)) ∙ r.kept (later.honest honest) sure;
   underway = λ honest sure books reference rule pass start at.
       let honest1 = later.honest honest in
       let P : ℕ → Type 0 = λ k. Underway books reference day rule pass start (Some taken.place) (tried + 1) k new_waiting w.content in
@@ -78,17 +82,18 @@ running_goes_on room count v0 v w day place tried settled waiting new_settled ne
       (r.underway honest1 sure books reference rule pass start at) (took honest (r.stays.sure honest1 sure)) (omega arith));
 }
 
-pub running_can_settle : (room count : ℕ) (v0 v : View) (day : List ℕ) (place : Option Place) (tried settled waiting : ℕ) → Running room count v0 v day place tried settled waiting → (v0.is_honest → v0.is_sure → CanPass room day v0.content)
-    → v.is_honest → v.is_sure → (next : Place) → IsDuePairAfter v.content (number_of day) place (Some next) → CanSettle v.content next.number (number_of day)
-running_can_settle room count v0 v day place tried settled waiting r may honest sure next due =
+pub running_can_try : (room count : ℕ) (v0 v : View) (day : List ℕ) (place : Option Place) (tried settled waiting : ℕ) → room ≡ v0.room → Running room count v0 v day place tried settled waiting → (v0.is_honest → v0.is_sure → CanPass room day v0.content)
+    → v.is_honest → v.is_sure → (next : Place) → IsDuePairAfter v.content (number_of day) place (Some next) → CanTry v.room v.content next.number (number_of day)
+running_can_try room count v0 v day place tried settled waiting here r may honest sure next due =
     let sure0 = r.later.sure honest sure in
     let can = may (r.later.honest honest) sure0 in
     let at = can.at_pass in
-    can_settle room can.books can.reference day can.rule can.pass can.settled place tried settled waiting v.content at.are_books at.accepted
-    (r.underway honest sure0 can.books can.reference can.rule can.pass can.settled at) next due
+    let P : ℕ → Type 0 = λ k. CanTry k v.content next.number (number_of day) in
+    subst P (here ∙ sym r.later.room) (can_try room can.books can.reference day can.rule can.pass can.settled place tried settled waiting v.content at.are_books at.accepted
+    (r.underway honest sure0 can.books can.reference can.rule can.pass can.settled at) next due)
 
 pub running_ends_none : (room count : ℕ) (v0 v w : View) (day : List ℕ) (place : Option Place) (tried settled waiting : ℕ) (books : Books) (reference : List ℕ) (rule : RunRule) (pass : ℕ) (start : List Settled) → Running room count v0 v day place tried settled waiting
-    → IsLater v w → (w.is_honest → v.is_sure → IsTaken v.content (number_of day) place None w.content) → w.is_honest → v0.is_sure → IsAtPass room books (Run reference day rule) pass start v0.content
+    → IsLater v w → (w.is_honest → v.is_sure → IsTaken v.content day place None w.content) → w.is_honest → v0.is_sure → IsAtPass room books (Run reference day rule) pass start v0.content
     → PassEnds books (Run reference day rule) pass start settled waiting w.content
 running_ends_none room count v0 v w day place tried settled waiting books reference rule pass start r later took honest sure at =
     let honest1 = later.honest honest in
@@ -125,13 +130,15 @@ at_first room books reference day rule content tables = record {
   are_books = tables.are_books;
   accepted = tables.accepted;
   underway = first_begins room books reference day rule content tables;
+  told = tables.sent ∙ sym (sent_none_yet books (Run reference day rule) tables.are_books);
 }
 
 -- The first due pair can be tried where the tables of books are kept, whatever run may come.
 pub kept_can_settle : (limit : ℕ) (books : Books) (content : Content) (day : List ℕ) (next : Place) → Keeps limit books content → IsDuePairAfter content (number_of day) None (Some next) → CanSettle content next.number (number_of day)
 kept_can_settle limit books content day next keeps due =
     let at = at_first limit books [] day OnePass content (tables_of limit books content keeps) in
-    can_settle limit books [] day OnePass 1 books.settled None 0 0 0 content at.are_books at.accepted (starts books [] day OnePass 1 books.settled content at.are_books at.underway) next due
+    let can = can_try limit books [] day OnePass 1 books.settled None 0 0 0 content at.are_books at.accepted (starts books [] day OnePass 1 books.settled content at.are_books at.underway at.told) next due in
+    can.settle
 
 pub can_begin : (room : ℕ) (v0 v : View) (day : List ℕ) (rule : RunRule) → v.room ≡ v0.room → room ≡ v0.room → v.content ≡ v0.content → CanRun room v0.content → CanPass v.room day v.content
 can_begin room v0 v day rule same here content can =
@@ -178,6 +185,7 @@ module _ (room count : ℕ) (v0 v : View) (day : List ℕ) (rule : RunRule) (aga
           are_books = tables.are_books;
           accepted = tables.accepted;
           underway = goes_again books reference day rule again settled waiting last v.content tables.are_books ran passes some;
+          told = ran.told;
         }),
       )
 
@@ -205,6 +213,7 @@ module _ (room count : ℕ) (v0 v : View) (day : List ℕ) (rule : RunRule) (aga
           are_books = tables.are_books;
           accepted = tables.accepted;
           underway = goes_again books reference day rule again settled waiting last v.content tables.are_books ran passes some;
+          told = ran.told;
         }) in
         let over = ends books reference rule (ran.pass + 1) ran.settled honest (p.stays.sure honest1 sure) at in
         let exact = again_over books reference day rule again settled waiting last count_so left (settled + count_so) v.content w.content tables.are_books ran some (omega arith) over in

@@ -28,6 +28,7 @@ use Rattle.desk_rules.specs.Content.{Content, history_of}
 use Rattle.desk_rules.specs.Standing.{no_standing, reason_of_lack}
 use Rattle.desk_rules.specs.Stands.{IsAlone, IsInPair, IsReason, StandsAt, StandsSo, reason_found}
 use Rattle.desk_engine.specs.Tables.{Tables, Grown, is_booking}
+use Rattle.desk_engine.proofs.SentLemmas.{sends_nothing}
 use Rattle.desk_rules.proofs.Decided.{In, In-from_Contains, Contains-from_In, In-left, In-cases, filter-same}
 use Rattle.desk_rules.proofs.HistoryLemmas.{entry_at-known, entry_at-front, entry_at-end, before-front, before-all, instruction_at-known, instruction_at-front}
 use Rattle.desk_rules.proofs.PairingLemmas.{one_pairing, decided_pairing}
@@ -425,6 +426,7 @@ tables_booking limit books content e reply is tables verdict allows =
             let more = cash_credits-entry h e books.settled within bic ccy in
             let less = cash_debits-entry h e books.settled within bic ccy in
             rw (more, less) (booked_cash (cash_debits h books.settled) (cash_credits h books.settled) content e bic ccy is allows tables.cash);
+        sent = tables.sent ∙ sym (sends_nothing books e are);
       };
     }
 

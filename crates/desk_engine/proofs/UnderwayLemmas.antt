@@ -1,5 +1,5 @@
 -- A pass, pair by pair, and a run, pass by pass.
-use Rattle.std.proofs.Common.{◌≡◌, ◌⊎◌, inl, inr, ℕ, ◌+◌, ◌<◌, ◌≤◌, Bool, true, false, List, [], ◌∷◌, ◌++◌, length, filter, Contains, Option, Some, None, refl, ap, sym, ◌∙◌, subst, arith, length-append, append_assoc, append-nil}
+use Rattle.std.proofs.Common.{◌≡◌, ◌⊎◌, inl, inr, ℕ, ◌+◌, ◌*◌, ◌<◌, ◌≤◌, Bool, true, false, List, [], ◌∷◌, ◌++◌, length, map, filter, Contains, Option, Some, None, refl, ap, sym, ◌∙◌, subst, arith, length-append, append_assoc, append-nil}
 use Rattle.std.specs.Prelude.{option_and_then}
 use Rattle.std.proofs.lemmas.Bool.{cases_Bool, cases_lt, both_ways, ltb-true, false_from_ne_true}
 use Rattle.desk_codes.specs.Number.{number_of}
@@ -21,12 +21,21 @@ use Rattle.desk_rules.specs.Underway.{is_above}
 use Rattle.desk_rules.specs.Underway.{IsOpen}
 use Rattle.desk_rules.specs.Books.{Books, AreBooks}
 use Rattle.desk_rules.specs.Verdict.{WasAccepted}
-use Rattle.desk_rules.specs.Content.{Content}
-use Rattle.desk_register.specs.Changes.{CanSettle}
+use Rattle.desk_rules.specs.Content.{Content, history_of}
+use Rattle.desk_rules.specs.declared.entry.Entry.{Entry}
+use Rattle.desk_rules.specs.declared.reply.Kept.{Kept}
+use Rattle.desk_rules.specs.declared.reply.Reply.{Reply}
+use Rattle.desk_register.specs.View.{View}
+use Rattle.desk_rules.specs.declared.pair.Lack.TheVariants.{Securities, Money as LacksMoney}
+use Rattle.desk_register.specs.declared.outcome.Outcome.{Outcome}
+use Rattle.desk_register.specs.declared.outcome.Outcome.TheVariants as outcomes
+use Rattle.desk_register.specs.declared.outcome.Outcome.TheVariants.{Lacks}
+use Rattle.desk_register.specs.Changes.{TriesPair, appended}
+use Rattle.desk_rules.specs.Sent.{date_in, sent_of}
 use Rattle.desk_register.specs.Looked.{IsDuePairAfter}
-use Rattle.desk_engine.specs.Pass.{IsTaken, RanTo, settled_of, PassesAt, PassesSo, IsUnderway, IsOver, PassEnds, is_below}
+use Rattle.desk_engine.specs.Pass.{CanTry, HasToldSoFar, IsTaken, RanTo, books_after, told_of_try, settled_of, PassesAt, PassesSo, IsUnderway, IsOver, PassEnds, is_below}
 use Rattle.desk_rules.proofs.Decided.{In, In-from_Contains, Contains-from_In, In-right, In-cases, Ordered, filter-In}
-use Rattle.desk_rules.proofs.HistoryLemmas.{entry_at-end}
+use Rattle.desk_rules.proofs.HistoryLemmas.{entry_at-end, instruction_at-front, instruction_at-known}
 use Rattle.desk_rules.proofs.PairingLemmas.{lower, decided_pairing}
 use Rattle.desk_rules.proofs.SettlementLemmas.{ordered_pairs, begins_true, begins_further}
 use Rattle.desk_rules.proofs.SettlementGrowth.{as_far_decided, decided_as_far, pass_ends}
@@ -34,8 +43,13 @@ use Rattle.desk_rules.proofs.Existence.{fewer_above}
 use Rattle.desk_engine.proofs.TablesLemmas.{settled_known}
 use Rattle.desk_engine.proofs.PassLemmas.{none_open}
 use Rattle.desk_engine.proofs.PassSteps.{not_of}
-use Rattle.desk_engine.proofs.WaitingLemmas.{count_of_run, left_count, none_left, all_left}
-use Rattle.desk_engine.proofs.PassWhole.{step, next_can_settle, next_sides, next_facts}
+use Rattle.desk_engine.proofs.WaitingLemmas.{settled_and_left, count_of_run, left_count, none_left, all_left}
+use Rattle.desk_engine.proofs.PassWhole.{NextSides, settled_by, step, next_can_settle, next_sides, next_facts}
+use Rattle.desk_engine.proofs.AppendLemmas.{accepted_new, entries_within}
+use Rattle.desk_rules.proofs.SentNumbers.{sent_counted}
+use Rattle.desk_rules.specs.declared.limits.TheConstants.{SENT_A_PAIR}
+use Rattle.desk_engine.specs.Tables.{IsAccepted}
+use Rattle.desk_engine.proofs.SentLemmas.{IsOfRun, sends_confirmations, sent_so_far_count}
 use Rattle.desk_engine.proofs.FinishLemmas.{has_passed, next_begins}
 
 -- pairs that rise by number are no more than the numbers
@@ -56,6 +70,26 @@ pairs_few books are =
     (λ p i. d.within p i) (omega arith) in
     omega arith
 
+-- and fewer, where there are any: the first number is no pair's
+pub pairs_fewer : (books : Books) → AreBooks books → 0 < length books.pairs → length books.pairs + 1 ≤ length books.history
+pairs_fewer books are some =
+    let d = decided_pairing books.history books.pairs are.pairing in
+    let above : (p : Pair) → In books.pairs p → 1 < p.later = λ p i.
+    let mate = (are.pairing.exact p).0 (Contains-from_In books.pairs p i) in
+    let known = instruction_at-known books.history p.earlier mate.candidate.opposite.first mate.candidate.opposite.is_first in
+    let first : 0 < p.earlier = known.0 in
+    let lt : p.earlier < p.later = mate.candidate.earlier in
+    omega arith in
+    let any = some_pair books.pairs some in
+    let low : 1 < any.0.later = above any.0 any.1 in
+    let high : any.0.later ≤ length books.history = d.within any.0 any.1 in
+    let few = rising_length 1 (length books.history) books.pairs (ordered_pairs books.history books.pairs are.pairing) above (λ p i. d.within p i) (omega arith) in
+    omega arith
+  where
+    some_pair : (ps : List Pair) → 0 < length ps → (p : Pair) × In ps p
+    some_pair [] lt = absurd (omega arith)
+    some_pair (p ∷ ps) lt = (p, inl refl)
+
 -- what is left above a place
 abbrev pub left_above : Books → List ℕ → List ℕ → RunRule → Option Place → ℕ
 left_above books reference day rule place = length (filter (is_above (books.history ++ Run reference day rule ∷ []) place) books.pairs)
@@ -69,6 +103,7 @@ pub record Underway (books : Books) (reference day : List ℕ) (rule : RunRule) 
   pub count_is : length here ≡ count
   pub waits : left_count (books.history ++ Run reference day rule ∷ []) (length books.history + 1) place (start ++ here) books.pairs ≡ waiting
   pub left : tried + left_above books reference day rule place ≤ length books.history
+  pub told : HasToldSoFar books (Run reference day rule) (start ++ here) content
 
 filter_most : {X : Type 0} (p : X → Bool) (xs : List X) → length (filter p xs) ≤ length xs
 filter_most p [] = omega arith
@@ -77,8 +112,8 @@ filter_most p (x ∷ xs) =
     elim (cases_Bool (p x)) [ inl in_it ↦ rw in_it (omega arith) | inr out ↦ rw out (omega arith) ]
 
 pub starts : (books : Books) (reference day : List ℕ) (rule : RunRule) (pass : ℕ) (start : List Settled) (content : Content) → AreBooks books
-    → IsUnderway books (Run reference day rule) pass None start content → Underway books reference day rule pass start None 0 0 0 content
-starts books reference day rule pass start content are u =
+    → IsUnderway books (Run reference day rule) pass None start content → HasToldSoFar books (Run reference day rule) start content → Underway books reference day rule pass start None 0 0 0 content
+starts books reference day rule pass start content are u told =
     let g = books.history ++ Run reference day rule ∷ [] in
     let none : start ++ [] ≡ start = append-nil start in
     let U : List Settled → Type 0 = λ z. IsUnderway books (Run reference day rule) pass None z content in
@@ -95,24 +130,140 @@ starts books reference day rule pass start content are u =
       count_is = refl;
       waits = none_left g (length books.history + 1) (start ++ []) books.pairs;
       left = (let few = pairs_few books are in let most = filter_most (is_above g None) books.pairs in omega arith);
+      told = (let T : List Settled → Type 0 = λ z. HasToldSoFar books (Run reference day rule) z content in subst T (sym none) told);
     }
 
-pub can_settle : (limit : ℕ) (books : Books) (reference day : List ℕ) (rule : RunRule) (pass : ℕ) (start : List Settled) (place : Option Place) (tried count waiting : ℕ) (content : Content) → AreBooks books → WasAccepted limit books.history
-    → Underway books reference day rule pass start place tried count waiting content → (next : Place) → IsDuePairAfter content (number_of day) place (Some next) → CanSettle content next.number (number_of day)
-can_settle limit books reference day rule pass start place tried count waiting content are was u next due =
-    next_can_settle limit books reference day rule pass place (start ++ u.here) content are was u.underway next due
+member_some : {X : Type 0} (xs : List X) (x : X) → In xs x → 0 < length xs
+member_some [] x i = absurd i
+member_some (y ∷ ys) x i = omega arith
+
+-- one message more can be sent with an instruction that is accepted
+pub can_advise : (limit : ℕ) (entry : Entry) (content : Content) → IsAccepted limit entry content → length content.sent < SENT_A_PAIR * limit
+can_advise limit entry content accepted =
+    let books = accepted.books in
+    let are = accepted.tables.are_books in
+    let room = (accepted_new limit books entry accepted.verdict).has_room in
+    let sent = ap length accepted.tables.sent in
+    let counted = sent_counted books are in
+    let few = settled_and_left books are in
+    let pairs = pairs_few books are in
+    omega arith
+
+pub room_after : (v0 v1 : View) (entry : Entry) (reply : Reply) → IsAccepted v0.room entry v0.content → v1.content ≡ appended entry reply v0.content → v1.room ≡ v0.room → length v1.content.sent < SENT_A_PAIR * v1.room
+room_after v0 v1 entry reply accepted added room =
+    let can = can_advise v0.room entry v0.content accepted in
+    let same : length v1.content.sent ≡ length v0.content.sent = ap (λ (c : Content). length c.sent) added in
+    omega arith
+
+-- what a run has settled so far is of the run, and pairs of the books
+of_run : (books : Books) (run : Entry) (pass : ℕ) (place : Option Place) (settled : List Settled) (content : Content) (u : IsUnderway books run pass place settled content) → IsOfRun books u.further.more
+of_run books run pass place settled content u = record {
+  run = λ s i. u.further.of_run s (Contains-from_In u.further.more s i);
+  paired = λ s i.
+      let inside : In settled s = subst (λ z. In z s) (sym u.further.is_more) (In-right books.settled u.further.more s i) in
+      let c = Contains-from_In settled s inside in
+      let m = (u.reached.exact s (u.reached.within s c)).0 c in
+      m.paired;
+}
+
+-- messages enough are left for a pair that is due
+pub can_try : (limit : ℕ) (books : Books) (reference day : List ℕ) (rule : RunRule) (pass : ℕ) (start : List Settled) (place : Option Place) (tried count waiting : ℕ) (content : Content) → AreBooks books → WasAccepted limit books.history
+    → Underway books reference day rule pass start place tried count waiting content → (next : Place) → IsDuePairAfter content (number_of day) place (Some next) → CanTry limit content next.number (number_of day)
+can_try limit books reference day rule pass start place tried count waiting content are was u next due =
+    let run : Entry = Run reference day rule in
+    let settled = start ++ u.here in
+    let w = u.underway in
+    let of = of_run books run pass place settled content w in
+    let n = next_sides limit books reference day rule pass place settled content are was w next due.0 in
+    let some = member_some books.pairs n.found.waiting.pair (In-from_Contains books.pairs n.found.waiting.pair n.found.waiting.in_pair.paired) in
+    let fewer = pairs_fewer books are some in
+    let within = entries_within limit books.history was in
+    let P : List Settled → Type 0 = λ z. length (sent_of (books_after books run z)) ≡ length books.pairs + 2 * length books.settled + 2 * length w.further.more in
+    let sent : length (sent_of (books_after books run settled)) ≡ length books.pairs + 2 * length books.settled + 2 * length w.further.more = subst P (sym w.further.is_more) (sent_so_far_count books run w.further.more are of) in
+    let told : length content.sent ≡ length (sent_of (books_after books run settled)) = ap length u.told in
+    let all : length settled ≡ length books.settled + length w.further.more = ap length w.further.is_more ∙ length-append books.settled w.further.more in
+    let few = w.further.few in
+    record {
+      settle = next_can_settle limit books reference day rule pass place settled content are was w next due;
+      room = omega arith;
+    }
+
+-- to try a pair changes no entry and no reply
+pub settles_keeps : (old new : Content) (n : ℕ) (outcome : Outcome) → TriesPair old n outcome new → new.register ≡ old.register
+settles_keeps old new n outcomes.Settled s = ap (λ (c : Content). c.register) s.ends.2
+settles_keeps old new n (Lacks Securities) s = ap (λ (c : Content). c.register) s.ends.1
+settles_keeps old new n (Lacks LacksMoney) s = ap (λ (c : Content). c.register) s.ends.2
+
+-- a try itself sends nothing
+tries_send_nothing : (old : Content) (n : ℕ) (outcome : Outcome) (new : Content) → TriesPair old n outcome new → new.sent ≡ old.sent
+tries_send_nothing old n outcomes.Settled new s = ap (λ (c : Content). c.sent) s.ends.2
+tries_send_nothing old n (Lacks Securities) new s = ap (λ (c : Content). c.sent) s.ends.1
+tries_send_nothing old n (Lacks LacksMoney) new s = ap (λ (c : Content). c.sent) s.ends.2
+
+-- what is told of a try leaves the rest as it is
+told_underway : (books : Books) (run : Entry) (pass : ℕ) (place : Option Place) (settled : List Settled) (m n : ℕ) (earlier : Instructed) (day : List ℕ) (outcome : Outcome) (content : Content)
+    → IsUnderway books run pass place settled content → IsUnderway books run pass place settled (told_of_try m n earlier day outcome content)
+told_underway books run pass place settled m n earlier day outcomes.Settled content u = record {
+  passing = record { history = u.passing.history; standing = u.passing.standing; position = u.passing.position; cash = u.passing.cash };
+  reached = u.reached;
+  begun = u.begun;
+  further = u.further;
+}
+told_underway books run pass place settled m n earlier day (Lacks lack) content u = u
+
+-- what was told of a try is what the run sends of it
+told_so : (limit : ℕ) (books : Books) (reference day : List ℕ) (rule : RunRule) (pass : ℕ) (place : Option Place) (settled : List Settled) (old new : Content) (are : AreBooks books) (was : WasAccepted limit books.history)
+    (u : IsUnderway books (Run reference day rule) pass place settled old) (taken : Taken) (t : IsTaken old day place (Some taken) new) → HasToldSoFar books (Run reference day rule) settled old
+    → (added : List Settled)
+    → added ≡ settled_by (length books.history + 1) pass (let n = next_sides limit books reference day rule pass place settled old are was u taken.place t.0.0 in n.found.waiting.pair) taken.outcome
+    → HasToldSoFar books (Run reference day rule) (settled ++ added) new
+told_so limit books reference day rule pass place settled old new are was u taken t told added is =
+    let T : List Settled → Type 0 = λ z. HasToldSoFar books (Run reference day rule) (settled ++ z) new in
+    let N : Content → Type 0 = λ c. HasToldSoFar books (Run reference day rule) (settled ++ settled_by (length books.history + 1) pass n.found.waiting.pair taken.outcome) c in
+    subst T (sym is) (subst N (sym t.1.told) (by_outcome taken.outcome t.1.between t.1.tried))
+  where
+    n : NextSides limit books reference day rule pass place settled old are was u taken.place t.0.0
+    n = next_sides limit books reference day rule pass place settled old are was u taken.place t.0.0
+
+    by_outcome : (outcome : Outcome) (between : Content) (tried : TriesPair old taken.place.number outcome between)
+        → HasToldSoFar books (Run reference day rule) (settled ++ settled_by (length books.history + 1) pass n.found.waiting.pair outcome) (told_of_try tried.mate taken.place.number tried.earlier day outcome between)
+    by_outcome (Lacks lack) between tried = (tries_send_nothing old taken.place.number (Lacks lack) between tried) ∙ told ∙ ap (λ z. sent_of (books_after books (Run reference day rule) z)) (sym (append-nil settled))
+    by_outcome outcomes.Settled between tried =
+        let run : Entry = Run reference day rule in
+        let q = n.found.waiting.pair in
+        let s : Settled = record { run = length books.history + 1; pass = pass; pair = q } in
+        let mates : Some tried.mate ≡ Some t.0.0.pair.mate = sym tried.pair.has_mate ∙ t.0.0.pair.has_mate in
+        let mate : tried.mate ≡ t.0.0.pair.mate = cc in
+        let known_later = instruction_at-known (history_of old) taken.place.number tried.later tried.pair.is_later in
+        let known_earlier = instruction_at-known (history_of old) tried.mate tried.earlier tried.pair.is_earlier in
+        let H : List Entry → Type 0 = λ h. instruction_at (h ++ run ∷ []) taken.place.number ≡ Some tried.later in
+        let G : List Entry → Type 0 = λ h. instruction_at (h ++ run ∷ []) tried.mate ≡ Some tried.earlier in
+        let at_later : instruction_at (books.history ++ run ∷ []) taken.place.number ≡ Some tried.later = subst H u.passing.history (instruction_at-front (history_of old) (run ∷ []) taken.place.number known_later.1 ∙ tried.pair.is_later) in
+        let at_earlier : instruction_at (books.history ++ run ∷ []) tried.mate ≡ Some tried.earlier = subst G u.passing.history (instruction_at-front (history_of old) (run ∷ []) tried.mate known_earlier.1 ∙ tried.pair.is_earlier) in
+        let so_far : between.sent ≡ sent_of (books_after books run (books.settled ++ u.further.more)) = tries_send_nothing old taken.place.number outcomes.Settled between tried ∙ told ∙ ap (λ z. sent_of (books_after books run z)) u.further.is_more in
+        let history : history_of between ≡ history_of old = ap (λ (r : List Kept). map (λ (k : Kept). k.entry) r) (settles_keeps old between taken.place.number outcomes.Settled tried) in
+        let first : instruction_at (history_of between) tried.mate ≡ Some tried.earlier = ap (λ h. instruction_at h tried.mate) history ∙ tried.pair.is_earlier in
+        let second : instruction_at (history_of between) taken.place.number ≡ Some tried.later = ap (λ h. instruction_at h taken.place.number) history ∙ tried.pair.is_later in
+        sends_confirmations books run u.further.more s tried.mate taken.place.number tried.earlier tried.later day between are (of_run books run pass place settled old u) refl
+        (n.found.earlier ∙ sym mate) n.found.later at_earlier at_later first second (ap date_in (entry_at-end books.history run (length books.history + 1) refl)) so_far
+        ∙ ap (λ z. sent_of (books_after books run z)) (sym (append_assoc books.settled u.further.more (s ∷ [])) ∙ ap (λ z. z ++ s ∷ []) (sym u.further.is_more))
 
 pub goes_on : (limit : ℕ) (books : Books) (reference day : List ℕ) (rule : RunRule) (pass : ℕ) (start : List Settled) (place : Option Place) (tried count waiting new_waiting : ℕ) (old new : Content) (taken : Taken) → AreBooks books → WasAccepted limit books.history
-    → Underway books reference day rule pass start place tried count waiting old → IsTaken old (number_of day) place (Some taken) new → new_waiting + settled_of taken.outcome ≡ waiting + 1
+    → Underway books reference day rule pass start place tried count waiting old → IsTaken old day place (Some taken) new → new_waiting + settled_of taken.outcome ≡ waiting + 1
     → Underway books reference day rule pass start (Some taken.place) (tried + 1) (count + settled_of taken.outcome) new_waiting new
 goes_on limit books reference day rule pass start place tried count waiting new_waiting old new taken are was u t waits =
     let g = books.history ++ Run reference day rule ∷ [] in
-    let on = step limit books reference day rule pass place (start ++ u.here) old are was u.underway taken.place t.0 taken.outcome new t.1 in
+    let run : Entry = Run reference day rule in
+    let try = t.1 in
+    let on = step limit books reference day rule pass place (start ++ u.here) old are was u.underway taken.place t.0 taken.outcome try.between try.tried in
     let n = next_sides limit books reference day rule pass place (start ++ u.here) old are was u.underway taken.place t.0.0 in
     let f = next_facts limit books reference day rule pass place (start ++ u.here) old are was u.underway taken.place t.0 n in
     let fewer = fewer_above g books.pairs place taken.place n.found.waiting.pair f.next_is.is_open.paired n.found.place_is f.next_is.is_open.above in
     let joined : (start ++ u.here) ++ on.added ≡ start ++ (u.here ++ on.added) = append_assoc start u.here on.added in
-    let U : List Settled → Type 0 = λ z. IsUnderway books (Run reference day rule) pass (Some taken.place) z new in
+    let U : List Settled → Type 0 = λ z. IsUnderway books run pass (Some taken.place) z new in
+    let V : Content → Type 0 = λ c. IsUnderway books run pass (Some taken.place) ((start ++ u.here) ++ on.added) c in
+    let T : List Settled → Type 0 = λ z. HasToldSoFar books run z new in
+    let now_underway : IsUnderway books run pass (Some taken.place) ((start ++ u.here) ++ on.added) new = subst V (sym try.told) (told_underway books run pass (Some taken.place) ((start ++ u.here) ++ on.added) try.tried.mate taken.place.number try.tried.earlier day taken.outcome try.between on.underway) in
     let same : left_count g (length books.history + 1) (Some taken.place) ((start ++ u.here) ++ on.added) books.pairs ≡ left_count g (length books.history + 1) (Some taken.place) (start ++ (u.here ++ on.added)) books.pairs = ap (λ z. left_count g (length books.history + 1) (Some taken.place) z books.pairs) joined in
     let left = u.left in
     let was_count = u.count_is in
@@ -122,12 +273,13 @@ goes_on limit books reference day rule pass start place tried count waiting new_
     let size = length-append u.here on.added in
     record {
       here = u.here ++ on.added;
-      underway = subst U joined on.underway;
+      underway = subst U joined now_underway;
       of_pass = λ s i. elim (In-cases u.here on.added s i) [ inl before ↦ u.of_pass s before | inr added ↦ on.of_pass s added ];
       earlier = u.earlier;
       count_is = omega arith;
       waits = omega arith;
       left = omega arith;
+      told = subst T joined (told_so limit books reference day rule pass place (start ++ u.here) old new are was u.underway taken t u.told on.added on.added_is);
     }
 
 -- no open pair is left: the pass is over
@@ -153,6 +305,7 @@ over books reference day rule pass start place tried count waiting content u non
     counted = u.count_is;
     waits = sym (all_left (books.history ++ Run reference day rule ∷ []) (length books.history + 1) place (start ++ u.here) books.pairs none) ∙ u.waits;
   };
+  told = u.told;
 }
   where
     tried_so : (k : ℕ) (mate : Option ℕ) (state : State) → PassesSo books (Run reference day rule) pass (is_below books (Run reference day rule) place) (start ++ u.here) k mate state
@@ -177,15 +330,11 @@ over books reference day rule pass start place tried count waiting content u non
     tried_at k (Some i) st x = record { so = tried_so k st.mate st.state x.so; requested = x.requested }
 
 pub ends_none : (books : Books) (reference day : List ℕ) (rule : RunRule) (pass : ℕ) (start : List Settled) (place : Option Place) (tried count waiting : ℕ) (old new : Content) → AreBooks books
-    → Underway books reference day rule pass start place tried count waiting old → IsTaken old (number_of day) place None new → PassEnds books (Run reference day rule) pass start count waiting new
+    → Underway books reference day rule pass start place tried count waiting old → IsTaken old day place None new → PassEnds books (Run reference day rule) pass start count waiting new
 ends_none books reference day rule pass start place tried count waiting old new are u t =
     let P : Content → Type 0 = λ c. PassEnds books (Run reference day rule) pass start count waiting c in
     subst P (sym t.1) (over books reference day rule pass start place tried count waiting old u
     (none_open books reference day rule pass place (start ++ u.here) old are u.underway t.0))
-
-member_some : {X : Type 0} (xs : List X) (x : X) → In xs x → 0 < length xs
-member_some [] x i = absurd i
-member_some (y ∷ ys) x i = omega arith
 
 pub ends_all : (books : Books) (reference day : List ℕ) (rule : RunRule) (pass : ℕ) (start : List Settled) (place : Option Place) (tried count waiting : ℕ) (content : Content) → AreBooks books
     → Underway books reference day rule pass start place tried count waiting content → length books.history ≤ tried → PassEnds books (Run reference day rule) pass start count waiting content
@@ -208,6 +357,7 @@ pub record Ran (books : Books) (reference day : List ℕ) (rule : RunRule) (agai
   pub total : length over.further.more ≡ settled_so
   pub many : again ≤ settled_so
   pub many_last : 0 < last → again < settled_so
+  pub told : HasToldSoFar books (Run reference day rule) settled content
 
 -- the run's rule lets it make further passes
 pub in_passes_by : (books : Books) (reference day : List ℕ) (rule : RunRule) → is_in_passes (books.history ++ Run reference day rule ∷ []) (length books.history + 1) ≡ allows_more (Some rule)
@@ -265,6 +415,7 @@ module _ (books : Books) (reference day : List ℕ) (rule : RunRule) (again sett
       record {
         settled = ran.settled;
         passed = has_passed books reference day rule ran.pass ran.start ran.settled last waiting_so content are o (not_again why);
+        told = ran.told;
         settles = counts ∙ ran.total;
         waits = o.waits;
       }
@@ -275,6 +426,7 @@ module _ (books : Books) (reference day : List ℕ) (rule : RunRule) (again sett
     | inr none ↦ omega arith
     | inl some ↦
         let few = ran.over.further.few in
+        let parts : length ran.settled ≡ length books.settled + length ran.over.further.more = ap length ran.over.further.is_more ∙ length-append books.settled ran.over.further.more in
         let pairs = pairs_few books are in
         let total = ran.total in
         let more = ran.many_last some in
@@ -282,7 +434,12 @@ module _ (books : Books) (reference day : List ℕ) (rule : RunRule) (again sett
   ]
 
   pub settled_few : settled_so ≤ length books.history
-  settled_few = let few = ran.over.further.few in let pairs = pairs_few books are in let total = ran.total in omega arith
+  settled_few =
+      let few = ran.over.further.few in
+      let parts : length ran.settled ≡ length books.settled + length ran.over.further.more = ap length ran.over.further.is_more ∙ length-append books.settled ran.over.further.more in
+      let pairs = pairs_few books are in
+      let total = ran.total in
+      omega arith
 
 -- the first pass is over
 pub first_over : (books : Books) (reference day : List ℕ) (rule : RunRule) (count waiting : ℕ) (content : Content) → PassEnds books (Run reference day rule) 1 books.settled count waiting content
@@ -302,6 +459,7 @@ first_over books reference day rule count waiting content ends =
       total = omega arith;
       many = omega arith;
       many_last = λ some. some;
+      told = ends.told;
     }
 
 -- and a further one
@@ -328,4 +486,5 @@ again_over books reference day rule again settled_so waiting_so last count waiti
       total = omega arith;
       many = omega arith;
       many_last = λ now. omega arith;
+      told = ends.told;
     }

@@ -1,22 +1,24 @@
 -- How many pairs a run settles, and how many that were due in it are left.
-use Rattle.std.proofs.Common.{◌≡◌, ◌≢◌, inl, inr, ℕ, ◌+◌, ◌<◌, ◌==◌, Bool, true, false, not, ◌&&◌, ◌||◌, List, [], ◌∷◌, ◌++◌, length, filter, count_by, Contains, Option, Some, None, refl, ap, sym, ◌∙◌, subst, arith}
+use Rattle.std.proofs.Common.{◌≡◌, ◌≢◌, inl, inr, ℕ, ◌+◌, ◌<◌, ◌≤◌, ◌==◌, Bool, true, false, not, ◌&&◌, ◌||◌, List, [], ◌∷◌, ◌++◌, length, filter, count_by, Contains, Option, Some, None, refl, ap, sym, ◌∙◌, subst, arith, append-nil, append_assoc}
 use Rattle.std.specs.List.{list_any}
 use Rattle.std.proofs.lemmas.Bool.{cases_Bool, both_ways, ne_eqb, eqb-true, eq-eqb, and_parts, and_from, not-true, false_from_ne_true, cases_eq, ltb-true}
 use Rattle.std.proofs.lemmas.List.Elements.{filter-append}
 use Rattle.std.proofs.lemmas.List.Folds.{list_any-append}
-use Rattle.std.proofs.lemmas.List.Sums.{length-filter}
+use Rattle.std.proofs.lemmas.List.Sums.{count_by-le-length, length-filter}
 use Rattle.desk_rules.specs.declared.entry.Entry.{Entry}
 use Rattle.desk_rules.specs.declared.pair.Pair.{Pair}
 use Rattle.desk_rules.specs.declared.pair.Place.{Place}
 use Rattle.desk_rules.specs.declared.pair.Settled.{Settled}
-use Rattle.desk_rules.specs.Settlement.{is_due}
+use Rattle.desk_rules.specs.Books.{Books, AreBooks}
+use Rattle.desk_rules.specs.Settlement.{is_due, precedes, IsSettlement}
 use Rattle.desk_rules.specs.Underway.{is_above}
 use Rattle.desk_rules.specs.Underway.{IsOpen, IsNext}
 use Rattle.desk_rules.specs.Reply.{same_pair, is_settled_pair}
-use Rattle.desk_rules.proofs.Decided.{In, In-from_Contains, Contains-from_In, In-right, Ordered, filter_yes, filter_no, filter-none, filter-same}
+use Rattle.desk_rules.proofs.Decided.{In, In-from_Contains, In-push_cases, Contains-from_In, In-right, Ordered, Ordered-from_AllPairs, filter_yes, filter_no, filter-none, filter-same}
 use Rattle.desk_rules.proofs.PairingLemmas.{pair_same, lower}
 use Rattle.desk_rules.proofs.SideLemmas.{any-In, In-any}
-use Rattle.desk_rules.proofs.SettlementLemmas.{one_number}
+use Rattle.desk_rules.proofs.SettlementLemmas.{one_number, ordered_pairs, precedes_strict}
+use Rattle.desk_rules.proofs.PairingLaws.{settled_once}
 use Rattle.desk_rules.proofs.SettlementGrowth.{IsPlaceOf, below_above, at_place, own_place, sooner_place}
 
 -- Counts by two tests.
@@ -192,3 +194,42 @@ unsettled_fewer ps settled t o i none =
     (λ p j other. ap not (settled_pair_on settled t p other))
     (ap not (in_settled_pair (settled ++ t ∷ []) t (In-right settled (t ∷ []) t (inl refl))))
     (ap not (unsettled_pair settled t.pair none))
+
+-- no two of these are of one pair
+abbrev AreApart : List Settled → Type 0
+AreApart [] = Unit {0}
+AreApart (s ∷ ss) = ((t : Settled) → In ss t → s.pair ≢ t.pair) × AreApart ss
+
+left_after : (ps : List Pair) (done rest : List Settled) → Ordered lower ps → ((s : Settled) → In rest s → In ps s.pair) → ((s t : Settled) → In done s → In rest t → s.pair ≢ t.pair) → AreApart rest
+    → count_by (λ p. not (is_settled_pair done p)) ps ≡ count_by (λ p. not (is_settled_pair (done ++ rest) p)) ps + length rest
+left_after ps done [] o inside fresh apart =
+    let none : done ++ [] ≡ done = append-nil done in
+    let same = ap (λ z. count_by (λ p. not (is_settled_pair z p)) ps) none in
+    omega (arith, same)
+left_after ps done (t ∷ rest) o inside fresh apart =
+    let one = unsettled_fewer ps done t o (inside t (inl refl)) (λ s c. fresh s t (In-from_Contains done s c) (inl refl)) in
+    let others = left_after ps (done ++ t ∷ []) rest o (λ s i. inside s (inr i))
+    (λ s u i j. elim (In-push_cases done t s i) [ inl old ↦ fresh s u old (inr j) | inr is ↦ (let first = apart.0 u j in λ same. first (ap (λ (z : Settled). z.pair) is ∙ same)) ]) apart.1 in
+    let joined : (done ++ t ∷ []) ++ rest ≡ done ++ t ∷ rest = append_assoc done (t ∷ []) rest in
+    let same = ap (λ z. count_by (λ p. not (is_settled_pair z p)) ps) joined in
+    omega (arith, one, others, same)
+
+apart_of : (h : List Entry) (ps : List Pair) (settled ss : List Settled) → IsSettlement h ps settled → ((s : Settled) → In ss s → Contains settled s) → Ordered (precedes h) ss → AreApart ss
+apart_of h ps settled [] is inside order = tt
+apart_of h ps settled (s ∷ ss) is inside order = (
+  λ t i same.
+      let one : s ≡ t = settled_once h ps settled s t is (inside s (inl refl)) (inside t (inr i)) same in
+      let P : Settled → Type 0 = λ z. precedes h s z ≡ true in
+      (precedes_strict h).never s (subst P (sym one) (order.0 t i)),
+  apart_of h ps settled ss is (λ t i. inside t (inr i)) order.1,
+)
+
+-- the pairs that are settled and those that are not are no more than all
+pub settled_and_left : (books : Books) → AreBooks books → length books.settled + count_by (λ p. not (is_settled_pair books.settled p)) books.pairs ≤ length books.pairs
+settled_and_left books are =
+    let order = Ordered-from_AllPairs (precedes books.history) books.settled are.settlement.in_order in
+    let apart = apart_of books.history books.pairs books.settled books.settled are.settlement (λ s i. Contains-from_In books.settled s i) order in
+    let all = left_after books.pairs [] books.settled (ordered_pairs books.history books.pairs are.pairing)
+    (λ s i. let m = (are.settlement.exact s).0 (Contains-from_In books.settled s i) in In-from_Contains books.pairs s.pair m.paired) (λ s t none i. absurd none) apart in
+    let most = count_by-le-length (λ (p : Pair). not (is_settled_pair [] p)) books.pairs in
+    omega (arith, all, most)

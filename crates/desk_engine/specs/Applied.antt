@@ -11,15 +11,14 @@ use Rattle.desk_rules.specs.Books.{Books}
 use Rattle.desk_rules.specs.Verdict.{IsVerdict, WasAccepted, named_by}
 use Rattle.desk_rules.specs.Reply.{cancellation_case, case_by_state, reply_to, waiting_count}
 use Rattle.desk_rules.specs.Content.{Content}
-use Rattle.desk_rules.specs.Tables.{AreTablesButSent}
+use Rattle.desk_rules.specs.Tables.{AreTables}
 use Rattle.desk_register.specs.Looked.{kept_at}
 use Rattle.desk_engine.specs.declared.applied.Accepted.{Accepted}
 use Rattle.desk_engine.specs.declared.applied.Applied.{Applied}
 
--- A register keeps the tables of books, all parts but what was sent. Each entry was accepted in its turn by a desk that
--- may hold `limit` entries.
+-- A register keeps the tables of books. Each entry was accepted in its turn by a desk that may hold `limit` entries.
 pub record Keeps (limit : ℕ) (books : Books) (content : Content) : Type 0 where
-  pub tables : AreTablesButSent books content
+  pub tables : AreTables books content
   pub accepted : WasAccepted limit books.history
 
 -- the books of the empty history

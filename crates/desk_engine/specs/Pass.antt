@@ -1,5 +1,5 @@
 -- What a run comes to, pass by pass, before the run itself is added. Only proofs and private contracts speak of it.
-use Rattle.std.specs.Prelude.{◌≡◌, ℕ, ◌+◌, ◌<◌, ◌≤◌, ◌&&◌, Bool, true, false, not, List, [], ◌∷◌, ◌++◌, length, count_by, Contains, ◌⊎◌, Option, Some, None}
+use Rattle.std.specs.Prelude.{◌≡◌, ℕ, ◌+◌, ◌*◌, ◌<◌, ◌≤◌, ◌&&◌, Bool, true, false, not, List, [], ◌∷◌, ◌++◌, length, count_by, Contains, ◌⊎◌, Option, Some, None}
 use Rattle.desk_msg.specs.declared.status.Reason.{Reason}
 use Rattle.desk_rules.specs.declared.entry.Entry.{Entry}
 use Rattle.desk_rules.specs.declared.entry.Entry.TheVariants.{Run}
@@ -26,12 +26,16 @@ use Rattle.desk_rules.specs.Content.{Content, history_of}
 use Rattle.desk_rules.specs.Tables.{AreCashBalances, ArePositions}
 use Rattle.desk_rules.specs.Stands.{IsReason, IsAlone, IsInPair, IsCancelledSide, IsSettledSide, StandsAt}
 use Rattle.desk_rules.specs.Underway.{IsSettledAsFar}
-use Rattle.desk_register.specs.Changes.{TriesPair}
+use Rattle.desk_codes.specs.Number.{number_of}
+use Rattle.desk_rules.specs.declared.limits.TheConstants.{SENT_A_PAIR}
+use Rattle.desk_rules.specs.Sent.{sent_of}
+use Rattle.desk_register.specs.Changes.{CanSettle, TriesPair}
 use Rattle.desk_register.specs.Looked.{IsDuePairAfter}
 use Rattle.desk_register.specs.declared.outcome.Outcome.{Outcome}
 use Rattle.desk_register.specs.declared.outcome.Outcome.TheVariants as outcomes
 use Rattle.desk_register.specs.declared.outcome.Outcome.TheVariants.{Lacks}
 use Rattle.desk_engine.specs.declared.settlement_run.Taken.{Taken}
+use Rattle.desk_engine.specs.Sending.{with_both_confirmed}
 use Rattle.desk_engine.specs.Tables.{Tables}
 
 -- the books with the run, where this is settled
@@ -46,6 +50,10 @@ pub record HasPassed (books : Books) (run : Entry) (settled : List Settled) (con
   pub position : ArePositions books.history settled content.position
   pub cash : AreCashBalances books.history settled content.cash
 
+-- what was sent in a run so far, and before it
+abbrev pub HasToldSoFar : Books → Entry → List Settled → Content → Type 0
+HasToldSoFar books run settled content = content.sent ≡ sent_of (books_after books run settled)
+
 -- The desk accepts a run, and it has made its passes.
 pub record IsPassed (limit : ℕ) (run : Entry) (content : Content) : Type 0 where
   pub books : Books
@@ -54,11 +62,29 @@ pub record IsPassed (limit : ℕ) (run : Entry) (content : Content) : Type 0 whe
   pub verdict : IsVerdict limit books run Accept
   pub settled : List Settled
   pub passed : HasPassed books run settled content
+  pub told : HasToldSoFar books run settled content
+
+-- what is told of a pair that was tried, by the numbers of its sides and the earlier instruction: its settlement to both
+-- parties, and of what it lacks nothing
+abbrev pub told_of_try : ℕ → ℕ → Instructed → List ℕ → Outcome → Content → Content
+told_of_try m n earlier day outcomes.Settled content = with_both_confirmed m n earlier day content
+told_of_try m n earlier day (Lacks lack) content = content
+
+-- A pair was tried by a run of a day, and told if it settled.
+pub record IsTried (old : Content) (n : ℕ) (day : List ℕ) (outcome : Outcome) (new : Content) : Type 0 where
+  pub between : Content
+  pub tried : TriesPair old n outcome between
+  pub told : new ≡ told_of_try tried.mate n tried.earlier day outcome between
 
 -- the next due pair past a place, tried; or there is none
-abbrev pub IsTaken : Content → ℕ → Option Place → Option Taken → Content → Type 0
-IsTaken old day place None new = IsDuePairAfter old day place None × (new ≡ old)
-IsTaken old day place (Some taken) new = IsDuePairAfter old day place (Some taken.place) × TriesPair old taken.place.number taken.outcome new
+abbrev pub IsTaken : Content → List ℕ → Option Place → Option Taken → Content → Type 0
+IsTaken old day place None new = IsDuePairAfter old (number_of day) place None × (new ≡ old)
+IsTaken old day place (Some taken) new = IsDuePairAfter old (number_of day) place (Some taken.place) × IsTried old taken.place.number day taken.outcome new
+
+-- a pair can be tried: it can settle, and both parties be told
+pub record CanTry (limit : ℕ) (content : Content) (n day : ℕ) : Type 0 where
+  pub settle : CanSettle content n day
+  pub room : length content.sent + 1 < SENT_A_PAIR * limit
 
 -- how many pairs settled in one try
 abbrev pub settled_of : Outcome → ℕ
@@ -110,12 +136,12 @@ module _ (books : Books) (run : Entry) where
       pub position : ArePositions books.history settled content.position
       pub cash : AreCashBalances books.history settled content.cash
 
-  -- what the run has settled so far, behind what earlier runs did; no more pairs than there are
+  -- what the run has settled so far, behind what earlier runs did; in all no more pairs than there are
   pub record IsFurther (settled : List Settled) : Type 0 where
     pub more : List Settled
     pub is_more : settled ≡ books.settled ++ more
     pub of_run : (s : Settled) → Contains more s → s.run ≡ run_number
-    pub few : length more + count_by (λ p. not (is_settled_pair settled p)) books.pairs ≤ length books.pairs
+    pub few : length settled + count_by (λ p. not (is_settled_pair settled p)) books.pairs ≤ length books.pairs
 
   -- a pass tries pairs in order: those not above the place it has tried
   abbrev pub is_below : Option Place → Pair → Bool
@@ -146,6 +172,7 @@ pub record IsAtPass (limit : ℕ) (books : Books) (run : Entry) (pass : ℕ) (se
   pub are_books : AreBooks books
   pub accepted : WasAccepted limit books.history
   pub underway : IsUnderway books run pass None settled content
+  pub told : HasToldSoFar books run settled content
 
 pub record CanPass (limit : ℕ) (day : List ℕ) (content : Content) : Type 0 where
   pub books : Books
@@ -159,6 +186,7 @@ pub record CanPass (limit : ℕ) (day : List ℕ) (content : Content) : Type 0 w
 pub record PassEnds (books : Books) (run : Entry) (pass : ℕ) (before : List Settled) (settled_so waiting_so : ℕ) (content : Content) : Type 0 where
   pub settled : List Settled
   pub over : IsOver books run pass before settled settled_so waiting_so content
+  pub told : HasToldSoFar books run settled content
 
 -- a register with the tables of an accepted history
 pub record CanRun (limit : ℕ) (content : Content) : Type 0 where
@@ -169,5 +197,6 @@ pub record CanRun (limit : ℕ) (content : Content) : Type 0 where
 pub record RanTo (books : Books) (run : Entry) (settled_so waiting_so : ℕ) (content : Content) : Type 0 where
   pub settled : List Settled
   pub passed : HasPassed books run settled content
+  pub told : HasToldSoFar books run settled content
   pub settles : settled_count settled (length books.history + 1) ≡ settled_so
   pub waits : waiting_count (books_after books run settled) (length books.history + 1) ≡ waiting_so

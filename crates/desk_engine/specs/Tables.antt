@@ -11,9 +11,10 @@ use Rattle.desk_rules.specs.History.{instruction_at}
 use Rattle.desk_rules.specs.Books.{Books, AreBooks}
 use Rattle.desk_rules.specs.Verdict.{IsVerdict, WasAccepted}
 use Rattle.desk_rules.specs.Content.{Content, history_of}
-use Rattle.desk_rules.specs.Tables.{AreCashBalances, ArePositions}
+use Rattle.desk_rules.specs.Tables.{AreCashBalances, ArePositions, HasSent}
 use Rattle.desk_rules.specs.Stands.{StandsAt}
 use Rattle.desk_register.specs.Changes.{paired}
+use Rattle.desk_engine.specs.Sending.{with_advised}
 
 -- A content is that of books, each entry of which was accepted in its turn by a desk that may hold `limit` entries.
 pub record Tables (limit : ℕ) (books : Books) (content : Content) : Type 0 where
@@ -23,6 +24,7 @@ pub record Tables (limit : ℕ) (books : Books) (content : Content) : Type 0 whe
   pub standing : (k : ℕ) → StandsAt books k (instruction_at books.history k) (content.standing k)
   pub position : ArePositions books.history books.settled content.position
   pub cash : AreCashBalances books.history books.settled content.cash
+  pub sent : HasSent books content
 
 -- books of which a content is the tables, after one entry more
 pub record Grown (limit : ℕ) (books : Books) (entry : Entry) (content : Content) : Type 0 where
@@ -44,7 +46,7 @@ is_booking (Cancel sender order) = false
 is_booking (Run reference day rule) = false
 is_booking entry = true
 
--- the content with an instruction of this number paired with its mate, if it has one
+-- the content with an instruction of this number paired with its mate, if it has one, of which that one's sender is told
 abbrev pub mated : ℕ → Option ℕ → Content → Content
 mated n None content = content
-mated n (Some m) content = paired m n content
+mated n (Some m) content = with_advised m (paired m n content)

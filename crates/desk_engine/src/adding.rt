@@ -1,11 +1,15 @@
 //! An accepted entry, added to the register: a booking, or an instruction with its mate.
-ghost use Rattle.std.specs.Prelude.{◌≡◌, ◌+◌, ◌<◌, ◌≤◌, length, IfOk, OnOk, IsTrue};
+ghost use Rattle.std.specs.Prelude.{◌≡◌, ◌+◌, ◌*◌, ◌<◌, ◌≤◌, length, IfOk, OnOk, IsTrue};
 ghost use Rattle.desk_register.specs.View.{IfTrusted, IsChange, IsRead};
-ghost use Rattle.desk_register.specs.Changes.{appended};
+ghost use Rattle.desk_register.specs.Changes.{appended, paired, CanPair};
 ghost use Rattle.desk_register.specs.Looked.{IsFirstOpposite};
 ghost use Rattle.desk_engine.specs.Tables.{Grown, IsAccepted, Tables, is_booking, mated};
+ghost use Rattle.desk_engine.specs.Steps.{IsStep};
+ghost use Rattle.desk_engine.specs.Sending.{with_advised};
 ghost use Rattle.desk_rules.specs.Books.{Books};
+ghost use Rattle.desk_rules.specs.declared.limits.TheConstants.{SENT_A_PAIR};
 
+use crate::sending::advise;
 use desk_codes::Bic;
 use desk_msg::Instruction;
 use desk_register::{Fault, Register, Stage};
@@ -47,7 +51,7 @@ pub fn add_booking<R: Register>(
     register.append(alloc, entry, reply)
 }
 
-/// Adds an accepted instruction with its reply, under the next number, and pairs it with its mate.
+/// Adds an accepted instruction with its reply, under the next number, and pairs it with its mate, whose sender is told.
 pub fn add_instruction<R: Register>(
     alloc: Global,
     register: &mut R,
@@ -65,7 +69,7 @@ pub fn add_instruction<R: Register>(
     ensures added { IfTrusted (R.view register.old) (R.view register.new) (OnOk result ((R.view register.new).content ≡ mated number mate (appended (Entry.Instruct sender instruction) reply (R.view register.old).content))) }
     ensures tables { (books : Books) → IfTrusted (R.view register.old) (R.view register.new) (Tables (R.view register.old).room books (R.view register.old).content
         → OnOk result (Grown (R.view register.old).room books (Entry.Instruct sender instruction) (R.view register.new).content)) }
-    ensures change { IsChange result (R.view register.old) (R.view register.new) }
+    ensures step { IsStep result (R.view register.old) (R.view register.new) }
 {
     register.append(
         alloc,
@@ -76,7 +80,24 @@ pub fn add_instruction<R: Register>(
         reply,
     )?;
     match mate {
-        Some(earlier) => register.pair(alloc, earlier, number),
+        Some(earlier) => pair_with(alloc, register, earlier, number),
         None => Ok(()),
     }
+}
+
+/// Pairs two unmatched opposite instructions, by their numbers, and tells the sender of the earlier one.
+fn pair_with<R: Register>(
+    alloc: Global,
+    register: &mut R,
+    earlier: u64,
+    later: u64,
+) -> Result<(), Fault>
+    requires stage { (R.view register.old).stage ≡ Stage.Begun }
+    requires fits { IfTrusted (R.view register.old) (R.view register.old) (CanPair (R.view register.old).content earlier later) }
+    requires room { IfTrusted (R.view register.old) (R.view register.old) (length (R.view register.old).content.sent < SENT_A_PAIR * (R.view register.old).room) }
+    ensures paired { IfTrusted (R.view register.old) (R.view register.new) (OnOk result ((R.view register.new).content ≡ with_advised earlier (paired earlier later (R.view register.old).content))) }
+    ensures step { IsStep result (R.view register.old) (R.view register.new) }
+{
+    register.pair(alloc, earlier, later)?;
+    advise(alloc, register, earlier)
 }

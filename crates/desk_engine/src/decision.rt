@@ -6,7 +6,7 @@ ghost use Rattle.desk_engine.specs.Deciding.{IsVerdictIfKnown, checks_in};
 ghost use Rattle.desk_engine.specs.Decision.{Reading};
 ghost use Rattle.desk_rules.specs.Books.{Books};
 ghost use Rattle.desk_rules.specs.Content.{history_of};
-ghost use Rattle.desk_rules.specs.Tables.{AreTablesButSent};
+ghost use Rattle.desk_rules.specs.Tables.{AreTables};
 ghost use Rattle.desk_rules.specs.Verdict.{first_failing, is_from_stranger, IsVerdict, reused_by};
 
 use crate::checks::refuse;
@@ -94,7 +94,7 @@ fn verdict_on_new<R: Register>(
 
 /// What the desk decides on an entry. Nothing changes, and no `begin` is needed.
 pub fn decide<R: Register>(alloc: Global, register: &mut R, entry: &Entry) -> Result<Verdict, Fault>
-    ensures verdict { (books : Books) → Reading (R.view register.old) (R.view register.new) (λ c. AreTablesButSent books c → IfOk result (λ verdict. IsVerdict (R.view register.old).room books entry.now verdict)) }
+    ensures verdict { (books : Books) → Reading (R.view register.old) (R.view register.new) (λ c. AreTables books c → IfOk result (λ verdict. IsVerdict (R.view register.old).room books entry.now verdict)) }
     ensures read { IsRead result (R.view register.old) (R.view register.new) }
 {
     let limit = register.limit();

@@ -3,14 +3,16 @@ ghost use Rattle.std.specs.Prelude.{◌≡◌, ◌+◌, ◌<◌, ◌^◌, ◌&&�
 ghost use Rattle.desk_codes.specs.Number.{number_of};
 ghost use Rattle.desk_register.specs.View.{IfTrusted, IsChange};
 ghost use Rattle.desk_rules.specs.Content.{history_of};
-ghost use Rattle.desk_register.specs.Changes.{CanSettle, appended};
+ghost use Rattle.desk_register.specs.Changes.{appended};
 ghost use Rattle.desk_register.specs.Looked.{IsDuePairAfter};
 ghost use Rattle.desk_engine.specs.Tables.{Grown, Tables};
-ghost use Rattle.desk_engine.specs.Pass.{CanPass, CanRun, IsAtPass, IsPassed, IsTaken, PassEnds, RanTo, settled_of};
+ghost use Rattle.desk_engine.specs.Steps.{IsStep};
+ghost use Rattle.desk_engine.specs.Pass.{CanPass, CanRun, CanTry, IsAtPass, IsPassed, IsTaken, IsTried, PassEnds, RanTo, settled_of};
 ghost use Rattle.desk_rules.specs.declared.pair.Settled.{Settled};
 ghost use Rattle.desk_rules.specs.Settlement.{allows_more};
 ghost use Rattle.desk_rules.specs.Books.{Books};
 
+use crate::sending::confirm_settlement;
 use desk_codes::{Day, Reference};
 use desk_register::{Fault, Outcome, Register, Stage};
 use desk_rules::{Entry, Place, Reply, RunRule};
@@ -23,6 +25,26 @@ pub struct Taken {
     pub outcome: Outcome,
 }
 
+/// Tries a pair, by the number of its later instruction; where it settles, both parties are told.
+fn try_pair<R: Register>(
+    alloc: Global,
+    register: &mut R,
+    number: u64,
+    day: Day,
+) -> Result<Outcome, Fault>
+    requires stage { (R.view register.old).stage ≡ Stage.Begun }
+    requires fits { IfTrusted (R.view register.old) (R.view register.old) (CanTry (R.view register.old).room (R.view register.old).content number (number_of day)) }
+    ensures tried { IfTrusted (R.view register.old) (R.view register.new) (IfOk result (λ outcome. IsTried (R.view register.old).content number day outcome (R.view register.new).content)) }
+    ensures step { IsStep result (R.view register.old) (R.view register.new) }
+{
+    let outcome = register.settle_pair(alloc, number, day)?;
+    match outcome {
+        Outcome::Settled => confirm_settlement(alloc, register, number, day)?,
+        Outcome::Lacks(_) => (),
+    }
+    Ok(outcome)
+}
+
 /// Tries the first due pair above a place; None where there is none.
 fn take_next<R: Register>(
     alloc: Global,
@@ -32,14 +54,14 @@ fn take_next<R: Register>(
 ) -> Result<Option<Taken>, Fault>
     requires stage { (R.view register.old).stage ≡ Stage.Begun }
     requires fits { IfTrusted (R.view register.old) (R.view register.old) ((next : Place) → IsDuePairAfter (R.view register.old).content (number_of day) place (Some next)
-        → CanSettle (R.view register.old).content next.number (number_of day)) }
-    ensures taken { IfTrusted (R.view register.old) (R.view register.new) (IfOk result (λ taken. IsTaken (R.view register.old).content (number_of day) place taken (R.view register.new).content)) }
-    ensures change { IsChange result (R.view register.old) (R.view register.new) }
+        → CanTry (R.view register.old).room (R.view register.old).content next.number (number_of day)) }
+    ensures taken { IfTrusted (R.view register.old) (R.view register.new) (IfOk result (λ taken. IsTaken (R.view register.old).content day place taken (R.view register.new).content)) }
+    ensures step { IsStep result (R.view register.old) (R.view register.new) }
 {
     match register.due_pair_after(alloc, day, place)? {
         None => Ok(None),
         Some(next) => {
-            let outcome = register.settle_pair(alloc, next.number, day)?;
+            let outcome = try_pair(alloc, register, next.number, day)?;
             Ok(Some(Taken {
                 place: next,
                 outcome,
@@ -96,7 +118,7 @@ fn run_pass<R: Register>(alloc: Global, register: &mut R, day: Day) -> Result<Pa
     ensures ran { (books : Books) (reference : List ℕ) (rule : RunRule) (pass : ℕ) (start : List Settled) → IfTrusted (R.view register.old) (R.view register.new)
         (IsAtPass (R.view register.old).room books (Entry.Run reference day rule) pass start (R.view register.old).content
         → IfOk result (λ passed. PassEnds books (Entry.Run reference day rule) pass start passed.settled passed.waiting (R.view register.new).content)) }
-    ensures change { IsChange result (R.view register.old) (R.view register.new) }
+    ensures step { IsStep result (R.view register.old) (R.view register.new) }
 {
     let count = register.count(alloc)?;
     let mut passed = Passed {
@@ -138,7 +160,7 @@ pub fn run_passes<R: Register>(
     ensures kept { IfTrusted (R.view register.old) (R.view register.new) (OnOk result ((R.view register.new).content.register ≡ (R.view register.old).content.register)) }
     ensures ran { (books : Books) (reference : List ℕ) → IfTrusted (R.view register.old) (R.view register.new) (Tables (R.view register.old).room books (R.view register.old).content
         → IfOk result (λ passed. RanTo books (Entry.Run reference day rule) passed.settled passed.waiting (R.view register.new).content)) }
-    ensures change { IsChange result (R.view register.old) (R.view register.new) }
+    ensures step { IsStep result (R.view register.old) (R.view register.new) }
 {
     let count = register.count(alloc)?;
     let mut passed = run_pass(alloc, register, day)?;

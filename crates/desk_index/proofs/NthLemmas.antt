@@ -94,10 +94,6 @@ nth_map : {A B : Type 0} (f : A → B) (k : ℕ) (t : B → Bool) (xs : List A) 
 nth_map f zero t xs = refl
 nth_map f (suc k) t xs = nth_map_from f 1 k t xs
 
-pub count_map : {A B : Type 0} (f : A → B) (t : B → Bool) (xs : List A) → length (filter t (map f xs)) ≡ length (filter (λ x. t (f x)) xs)
-count_map f t [] = refl
-count_map f t (x ∷ xs) = by_bool (t (f x)) (λ here. rw here (ap suc (count_map f t xs))) (λ other. rw other (count_map f t xs))
-
 pub count_most : {X : Type 0} (t : X → Bool) (xs : List X) → length (filter t xs) ≤ length xs
 count_most t [] = omega arith
 count_most t (x ∷ xs) = let most = count_most t xs in by_bool (t x) (λ here. rw here (omega arith)) (λ other. rw other (omega arith))

@@ -30,13 +30,6 @@ impl Addressed {
         }
     }
 
-    /// How many were sent to a participant.
-    pub fn count(&self, bic: &Bic) -> u64
-        ensures { (headings : List HeadingValue) → AreAddressed self.now headings → result ≡ length (filter (is_to bic.now) headings) }
-    {
-        count_at(&self.counts, bic)
-    }
-
     /// The number among all of the message of this number among those of a participant.
     pub fn number(&self, bic: &Bic, number: u64) -> Option<u64>
         ensures { (headings : List HeadingValue) → AreAddressed self.now headings → result ≡ nth_number (is_to bic.now) number headings }

@@ -299,8 +299,8 @@ impl Register for IndexedRegister {
         self.held.cancel_pair(alloc, earlier, later)
     }
 
-    fn sent_count(&mut self, _alloc: Global, bic: Bic) -> Result<u64, Fault> {
-        Ok(self.messages.addressed.count(&bic))
+    fn sent_count(&mut self, _alloc: Global) -> Result<u64, Fault> {
+        Ok(self.held.message_count())
     }
 
     fn sent(&mut self, alloc: Global, bic: Bic, number: u64) -> Result<Option<Sent>, Fault> {

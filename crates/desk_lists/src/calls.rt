@@ -221,8 +221,8 @@ impl Register for ListRegister {
         Ok(held_cash(&self.lists, &ccy))
     }
 
-    fn sent_count(&mut self, _alloc: Global, bic: Bic) -> Result<u64, Fault> {
-        Ok(messages::sent_count(&self.lists.sent, &bic))
+    fn sent_count(&mut self, _alloc: Global) -> Result<u64, Fault> {
+        Ok(self.lists.sent.len() as u64)
     }
 
     fn sent(&mut self, alloc: Global, bic: Bic, number: u64) -> Result<Option<Sent>, Fault> {

@@ -13,19 +13,6 @@ use desk_codes::Bic;
 use desk_rules::{Sent, Text};
 use std::alloc::{AllocError, Global};
 
-/// How many messages were sent to a participant.
-pub fn sent_count(sent: &[Sent], bic: &Bic) -> u64
-    ensures { result ≡ length (filter (λ message. bytes_eq message.bic bic.now) sent.now) }
-{
-    let mut count = 0;
-    for message in sent {
-        if is_to(message, bic) {
-            count += 1;
-        }
-    }
-    count
-}
-
 /// A copy of the message that comes after so many that were sent to a participant.
 pub fn sent_after(
     sent: &[Sent],

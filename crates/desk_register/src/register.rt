@@ -224,9 +224,9 @@ pub trait Register {
         ensures read { IsRead result (view self.old) (view self.new) }
         ensures in_memory { in_memory ≡ true → IsOk result };
 
-    /// How many messages were sent to a participant.
-    fn sent_count(&mut self, alloc: Global, bic: Bic) -> Result<u64, Fault>
-        ensures value { IfRead (view self.old) (view self.new) (IfOk result (λ r. r ≡ length (sent_to (view self.old).content bic))) }
+    /// How many messages were sent, to all participants together.
+    fn sent_count(&mut self, alloc: Global) -> Result<u64, Fault>
+        ensures value { IfRead (view self.old) (view self.new) (IfOk result (λ r. r ≡ length (view self.old).content.sent)) }
         ensures read { IsRead result (view self.old) (view self.new) }
         ensures in_memory { in_memory ≡ true → IsOk result };
 

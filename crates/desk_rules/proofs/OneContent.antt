@@ -72,27 +72,27 @@ same_register x y a b s t e = same_kept a.register b.register e (λ n k l i j.
     let after : n + 1 ≡ suc n = omega arith in
     let here : slice_get (history_of a) n ≡ Some k.entry = entry_kept a.register n k i in
     let at : entry_at (history_of a) (n + 1) ≡ Some k.entry = ap (entry_at (history_of a)) after ∙ here in
-    let first = subst (λ h. IsFirstReply h (n + 1) k.reply) (sym s.but_sent.history) (s.but_sent.replies.each n k i) in
-    let second = subst (λ h. IsFirstReply h (n + 1) l.reply) (sym t.but_sent.history ∙ sym e) (t.but_sent.replies.each n l j) in
+    let first = subst (λ h. IsFirstReply h (n + 1) k.reply) (sym s.history) (s.replies.each n k i) in
+    let second = subst (λ h. IsFirstReply h (n + 1) l.reply) (sym t.history ∙ sym e) (t.replies.each n l j) in
     one_reply (history_of a) n k.entry k.reply l.reply at first second)
 
 pub one_content : (x y : Books) (a b : Content) → AreTables x a → AreTables y b → history_of a ≡ history_of b → IsSameContent a b
 one_content x y a b s t e =
-    let history : x.history ≡ y.history = sym s.but_sent.history ∙ e ∙ t.but_sent.history in
-    let books = one_books x y s.but_sent.are t.but_sent.are history in record {
+    let history : x.history ≡ y.history = sym s.history ∙ e ∙ t.history in
+    let books = one_books x y s.are t.are history in record {
       same_register = same_register x y a b s t e;
-      same_standing = λ n. s.but_sent.standings.each n ∙ ap (λ (bs : Books). standing_of bs n) books ∙ sym (t.but_sent.standings.each n);
+      same_standing = λ n. s.standings.each n ∙ ap (λ (bs : Books). standing_of bs n) books ∙ sym (t.standings.each n);
       same_position = λ account isin.
           let gone = ap (λ (bs : Books). debits bs.history bs.settled account isin) books in
           let come = ap (λ (bs : Books). credits bs.history bs.settled account isin) books in
-          let first = s.but_sent.positions account isin in
-          let second = t.but_sent.positions account isin in
+          let first = s.positions account isin in
+          let second = t.positions account isin in
           omega (arith, gone, come, first, second);
       same_cash = λ bic ccy.
           let gone = ap (λ (bs : Books). cash_debits bs.history bs.settled bic ccy) books in
           let come = ap (λ (bs : Books). cash_credits bs.history bs.settled bic ccy) books in
-          let first = s.but_sent.cash bic ccy in
-          let second = t.but_sent.cash bic ccy in
+          let first = s.cash bic ccy in
+          let second = t.cash bic ccy in
           omega (arith, gone, come, first, second);
       same_sent = s.sent ∙ ap sent_of books ∙ sym t.sent;
     }

@@ -33,7 +33,7 @@ flat-append f (x ∷ xs) ys =
     ∙ sym (append_assoc (f x) (flat_map f xs) (flat_map f ys))
     ∙ ap (λ z. z ++ flat_map f ys) (sym (flat_map-cons f x xs))
 
-flat-none : {X Y : Type 0} (f : X → List Y) (xs : List X) → ((x : X) → In xs x → f x ≡ []) → flat_map f xs ≡ []
+pub flat-none : {X Y : Type 0} (f : X → List Y) (xs : List X) → ((x : X) → In xs x → f x ≡ []) → flat_map f xs ≡ []
 flat-none f [] none = refl
 flat-none f (x ∷ xs) none = flat_map-cons f x xs ∙ ap (λ z. z ++ flat_map f xs) (none x (inl refl)) ∙ flat-none f xs (λ y i. none y (inr i))
 
@@ -59,35 +59,36 @@ range-below a zero k i = absurd i
 range-below a (suc n) k (inl e) = omega (arith, e)
 range-below a (suc n) k (inr i) = let rest = range-below (a + 1) n k i in omega (arith, rest)
 
-other_number : (a b : ℕ) → b < a → (a == b) ≡ false
+pub other_number : (a b : ℕ) → b < a → (a == b) ≡ false
 other_number a b lt = elim (cases_Bool (a == b)) [ inl e ↦ let same = eqb-true a b e in absurd (omega (arith, same, lt)) | inr e ↦ e ]
 
-if_not : {X : Type 0} (test : Bool) (x y : X) → test ≡ false → (if test then x else y) ≡ y
+pub if_not : {X : Type 0} (test : Bool) (x y : X) → test ≡ false → (if test then x else y) ≡ y
 if_not test x y e = rw e refl
 
 module _ (h g : List Entry) (ps more : List Pair) (ss late : List Settled) where
-  abbrev front : Books
+  abbrev pub front : Books
   front = record { history = h; pairs = ps; settled = ss }
 
-  abbrev whole : Books
+  abbrev pub whole : Books
   whole = record { history = h ++ g; pairs = ps ++ more; settled = ss ++ late }
 
-  module _ (are : AreBooks front) (are_longer : AreBooks whole) where
+  -- what is in the whole alone is of the entries behind the front
+  module _ (are : AreBooks front) (paired_behind : (p : Pair) → In more p → length h < p.later) (settled_behind : (s : Settled) → In late s → length h < s.run) where
     pairs_told : (n : ℕ) → n ≤ length h → flat_map (told_of_pair n) (ps ++ more) ≡ flat_map (told_of_pair n) ps
     pairs_told n le =
         flat-append (told_of_pair n) ps more
-        ∙ ap (λ z. flat_map (told_of_pair n) ps ++ z) (flat-none (told_of_pair n) more (λ p i. let above = fresh_pairs h g ps more are.pairing are_longer.pairing p i in if_not (p.later == n) _ [] (other_number p.later n (omega (arith, above, le)))))
+        ∙ ap (λ z. flat_map (told_of_pair n) ps ++ z) (flat-none (told_of_pair n) more (λ p i. let above = paired_behind p i in if_not (p.later == n) _ [] (other_number p.later n (omega (arith, above, le)))))
         ∙ append-nil (flat_map (told_of_pair n) ps)
 
     -- the sides of a pair of the front are the same
-    record IsInside (p : Pair) : Type 0 where
-      earlier : p.earlier ≤ length h
-      later : p.later ≤ length h
+    pub record IsInside (p : Pair) : Type 0 where
+      pub earlier : p.earlier ≤ length h
+      pub later : p.later ≤ length h
 
-    same_side : (p : Pair) → IsInside p → is_delivered_by (instruction_at (h ++ g) p.earlier) ≡ is_delivered_by (instruction_at h p.earlier)
+    pub same_side : (p : Pair) → IsInside p → is_delivered_by (instruction_at (h ++ g) p.earlier) ≡ is_delivered_by (instruction_at h p.earlier)
     same_side p i = ap is_delivered_by (instruction_at-front h g p.earlier i.earlier)
 
-    inside : (s : Settled) → In ss s → IsInside s.pair
+    pub inside : (s : Settled) → In ss s → IsInside s.pair
     inside s i =
         let d = decided_settlement h ps ss are.settlement in
         let r = d.within s i in
@@ -105,17 +106,17 @@ module _ (h g : List Entry) (ps more : List Pair) (ss late : List Settled) where
     settled_told : (n : ℕ) → n ≤ length h → flat_map (told_of_settled (h ++ g) n) (ss ++ late) ≡ flat_map (told_of_settled h n) ss
     settled_told n le =
         flat-append (told_of_settled (h ++ g) n) ss late
-        ∙ ap (λ z. flat_map (told_of_settled (h ++ g) n) ss ++ z) (flat-none (told_of_settled (h ++ g) n) late (λ t i. let above = fresh_settled h g ps more ss late are.pairing are_longer.pairing are.settlement are_longer.settlement t i in if_not (t.run == n) _ [] (other_number t.run n (omega (arith, above, le)))))
+        ∙ ap (λ z. flat_map (told_of_settled (h ++ g) n) ss ++ z) (flat-none (told_of_settled (h ++ g) n) late (λ t i. let above = settled_behind t i in if_not (t.run == n) _ [] (other_number t.run n (omega (arith, above, le)))))
         ∙ append-nil (flat_map (told_of_settled (h ++ g) n) ss)
         ∙ flat-same (told_of_settled (h ++ g) n) (told_of_settled h n) ss (λ s i. settled_same n s i)
 
     told_same : (n : ℕ) → n ≤ length h → told_by whole n ≡ told_by front n
     told_same n le = ap (λ z. z ++ flat_map (told_of_settled (h ++ g) n) (ss ++ late)) (pairs_told n le) ∙ ap (λ z. flat_map (told_of_pair n) ps ++ z) (settled_told n le)
 
-    abbrev added : List Notice
+    abbrev pub added : List Notice
     added = flat_map (told_by whole) (range_with_len (1 + length h) (length g))
 
-    notices_grow : notices_of whole ≡ notices_of front ++ added
+    pub notices_grow : notices_of whole ≡ notices_of front ++ added
     notices_grow =
         ap (λ k. flat_map (told_by whole) (range_with_len 1 k)) (length-append h g)
         ∙ ap (flat_map (told_by whole)) (range-append 1 (length h) (length g))
@@ -148,7 +149,7 @@ module _ (h g : List Entry) (ps more : List Pair) (ss late : List Settled) where
     one_of true a b x y = x
     one_of false a b x y = y
 
-    paired_inside : (p : Pair) → In ps p → IsInside p
+    pub paired_inside : (p : Pair) → In ps p → IsInside p
     paired_inside p i =
         let later = (decided_pairing h ps are.pairing).within p i in
         let mate = (are.pairing.exact p).0 (Contains-from_In ps p i) in
@@ -181,17 +182,20 @@ module _ (h g : List Entry) (ps more : List Pair) (ss late : List Settled) where
         ∙ ap (λ z. z ++ sent_from (h ++ g) (k + 1) ns) (told_any k n (instruction_at h n.about) all.1)
         ∙ ap (λ z. told_to h k n (instruction_at h n.about) ++ z) (sent_same (k + 1) ns all.2)
 
-    sent_joined : (k : ℕ) (ns ms : List Notice) → (more_sent : List Sent) × (sent_from (h ++ g) k (ns ++ ms) ≡ sent_from (h ++ g) k ns ++ more_sent)
-    sent_joined k [] ms = (sent_from (h ++ g) k ms, refl)
+    sent_joined : (k : ℕ) (ns ms : List Notice) → sent_from (h ++ g) k (ns ++ ms) ≡ sent_from (h ++ g) k ns ++ sent_from (h ++ g) (k + length ns) ms
+    sent_joined k [] ms = let none : k + 0 ≡ k = omega arith in ap (λ n. sent_from (h ++ g) n ms) (sym none)
     sent_joined k (n ∷ ns) ms =
-        let rest = sent_joined (k + 1) ns ms in
         let this = told_to (h ++ g) k n (instruction_at (h ++ g) n.about) in
-        (rest.0, ap (λ z. this ++ z) rest.1 ∙ sym (append_assoc this (sent_from (h ++ g) (k + 1) ns) rest.0))
+        let next : k + 1 + length ns ≡ k + suc (length ns) = omega arith in
+        ap (λ z. this ++ z) (sent_joined (k + 1) ns ms ∙ ap (λ m. sent_from (h ++ g) (k + 1) ns ++ sent_from (h ++ g) m ms) next)
+        ∙ sym (append_assoc this (sent_from (h ++ g) (k + 1) ns) (sent_from (h ++ g) (k + length (n ∷ ns)) ms))
 
-    sent_whole : (more_sent : List Sent) × (sent_of whole ≡ sent_of front ++ more_sent)
+    -- what the whole sends is what the front sent, and then the messages of what is added
+    pub sent_whole : sent_of whole ≡ sent_of front ++ sent_from (h ++ g) (1 + length (notices_of front)) added
     sent_whole =
-        let joined = sent_joined 1 (notices_of front) added in
-        (joined.0, ap (sent_from (h ++ g) 1) notices_grow ∙ joined.1 ∙ ap (λ z. z ++ joined.0) (sent_same 1 (notices_of front) all_of_front))
+        ap (sent_from (h ++ g) 1) notices_grow
+        ∙ sent_joined 1 (notices_of front) added
+        ∙ ap (λ z. z ++ sent_from (h ++ g) (1 + length (notices_of front)) added) (sent_same 1 (notices_of front) all_of_front)
 
 unfoldable pub books_from : List Entry → List Pair → List Settled → Books
 books_from h ps ss = record { history = h; pairs = ps; settled = ss }
@@ -207,5 +211,8 @@ sent_front front books rest are longer e =
     let more = pairs_front front.history rest front.pairs books.pairs are.pairing pairing in
     let late = settled_front front.history rest front.pairs books.pairs front.settled books.settled are.pairing pairing are.settlement settlement in
     let same = same_books books.history (front.history ++ rest) books.pairs (front.pairs ++ more.0) books.settled (front.settled ++ late.0) e more.1 late.1 in
-    let sent = sent_whole front.history rest front.pairs more.0 front.settled late.0 are (subst AreBooks same longer) in
-    (sent.0, ap sent_of same ∙ sent.1)
+    let whole_are = subst AreBooks same longer in
+    let paired_behind = fresh_pairs front.history rest front.pairs more.0 are.pairing whole_are.pairing in
+    let settled_behind = fresh_settled front.history rest front.pairs more.0 front.settled late.0 are.pairing whole_are.pairing are.settlement whole_are.settlement in
+    let sent = sent_whole front.history rest front.pairs more.0 front.settled late.0 are paired_behind settled_behind in
+    (_, ap sent_of same ∙ sent)

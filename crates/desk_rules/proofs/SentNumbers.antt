@@ -30,15 +30,15 @@ abbrev pub Every : {X : Type 0} → (X → Type 0) → List X → Type 0
 Every P [] = Unit {0}
 Every P (x ∷ xs) = P x × Every P xs
 
-every_joined : {X : Type 0} (P : X → Type 0) (xs ys : List X) → Every P xs → Every P ys → Every P (xs ++ ys)
+pub every_joined : {X : Type 0} (P : X → Type 0) (xs ys : List X) → Every P xs → Every P ys → Every P (xs ++ ys)
 every_joined P [] ys a b = b
 every_joined P (x ∷ xs) ys a b = (a.0, every_joined P xs ys a.1 b)
 
-every_flat : {X Y : Type 0} (P : Y → Type 0) (f : X → List Y) (xs : List X) → ((x : X) → In xs x → Every P (f x)) → Every P (flat_map f xs)
+pub every_flat : {X Y : Type 0} (P : Y → Type 0) (f : X → List Y) (xs : List X) → ((x : X) → In xs x → Every P (f x)) → Every P (flat_map f xs)
 every_flat P f [] each = tt
 every_flat P f (x ∷ xs) each = every_joined P (f x) (flat_map f xs) (each x (inl refl)) (every_flat P f xs (λ y i. each y (inr i)))
 
-every_if : {X : Type 0} (P : X → Type 0) (test : Bool) (xs : List X) → Every P xs → Every P (if test then xs else [])
+pub every_if : {X : Type 0} (P : X → Type 0) (test : Bool) (xs : List X) → Every P xs → Every P (if test then xs else [])
 every_if P true xs all = all
 every_if P false xs all = tt
 

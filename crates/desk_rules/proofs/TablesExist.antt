@@ -81,19 +81,17 @@ tables_exist limit books are accepted =
     } in (
       content,
       record {
-        but_sent = record {
-          history = kept-entries h 0 h;
-          are = are;
-          replies = record {
-            each = λ n kept e.
-                let number : 0 + n + 1 ≡ n + 1 = omega arith in
-                let reply : kept.reply ≡ first_reply h (n + 1) = kept-reply h 0 h n kept e ∙ ap (first_reply h) number in
-                subst (IsFirstReply h (n + 1)) (sym reply) (first_is_first h (n + 1));
-          };
-          standings = record { each = λ n. refl };
-          positions = λ account isin. let fits = never.now.positions account isin in omega arith;
-          cash = λ bic ccy. let fits = never.now.cash bic ccy in omega arith;
+        history = kept-entries h 0 h;
+        are = are;
+        replies = record {
+          each = λ n kept e.
+              let number : 0 + n + 1 ≡ n + 1 = omega arith in
+              let reply : kept.reply ≡ first_reply h (n + 1) = kept-reply h 0 h n kept e ∙ ap (first_reply h) number in
+              subst (IsFirstReply h (n + 1)) (sym reply) (first_is_first h (n + 1));
         };
+        standings = record { each = λ n. refl };
+        positions = λ account isin. let fits = never.now.positions account isin in omega arith;
+        cash = λ bic ccy. let fits = never.now.cash bic ccy in omega arith;
         sent = refl;
       },
     )

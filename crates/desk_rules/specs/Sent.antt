@@ -43,12 +43,20 @@ abbrev pub date_in : Option Entry → List ℕ
 date_in None = []
 date_in (Some entry) = date_by entry
 
+-- the advice that an instruction was paired, the k-th of all that is sent
+abbrev pub advised : ℕ → ℕ → Instructed → Sent
+advised k about i =
+    record { bic = i.sender; mt = 548; about = about; text = advice (owns.Sent k) i.instruction.mt i.instruction.reference (Matched Future) }
+
+-- the confirmation that it was settled on a day
+abbrev pub confirmed : ℕ → ℕ → Instructed → List ℕ → Sent
+confirmed k about i day =
+    record { bic = i.sender; mt = number_of_type (confirming_type i.instruction.mt); about = about; text = confirmation k i.instruction day }
+
 -- the k-th sent message
 abbrev pub told : List Entry → ℕ → ℕ → Option ℕ → Instructed → Sent
-told history k about None i =
-    record { bic = i.sender; mt = 548; about = about; text = advice (owns.Sent k) i.instruction.mt i.instruction.reference (Matched Future) }
-told history k about (Some run) i =
-    record { bic = i.sender; mt = number_of_type (confirming_type i.instruction.mt); about = about; text = confirmation k i.instruction (date_in (entry_at history run)) }
+told history k about None i = advised k about i
+told history k about (Some run) i = confirmed k about i (date_in (entry_at history run))
 
 abbrev pub told_to : List Entry → ℕ → Notice → Option Instructed → List Sent
 told_to history k notice None = []

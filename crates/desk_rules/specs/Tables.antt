@@ -29,16 +29,12 @@ AreCashBalances history settled cash = (bic : List ℕ) (ccy : Ccy) → cash bic
 abbrev pub HasSent : Books → Content → Type 0
 HasSent books content = content.sent ≡ sent_of books
 
--- all parts but what was sent
-pub record AreTablesButSent (books : Books) (content : Content) : Type 0 where
+-- The content is that of these books.
+pub record AreTables (books : Books) (content : Content) : Type 0 where
   pub history : history_of content ≡ books.history
   pub are : AreBooks books
   pub replies : HasReplies books content
   pub standings : HasStandings books content
   pub positions : ArePositions books.history books.settled content.position
   pub cash : AreCashBalances books.history books.settled content.cash
-
--- The content is that of these books.
-pub record AreTables (books : Books) (content : Content) : Type 0 where
-  pub but_sent : AreTablesButSent books content
   pub sent : HasSent books content

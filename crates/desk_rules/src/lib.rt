@@ -13,6 +13,7 @@ mod instructed;
 mod keyed;
 mod laws;
 mod limits;
+mod messages;
 mod opposite;
 mod pair;
 mod replies;
@@ -29,7 +30,8 @@ pub use laws::{
     requested_alone, sent_for_good, sent_in_order, settled_is_confirmed, settles_once,
     stands_as_accepted,
 };
-pub use limits::{MOST_ENTRIES, MOST_PAID, MOST_QUANTITY, MOST_SENT};
+pub use limits::{MOST_ENTRIES, MOST_PAID, MOST_QUANTITY, MOST_SENT, SENT_A_PAIR};
+pub use messages::{pairing_advice, settlement_confirmation};
 pub use opposite::are_opposite;
 pub use pair::{Lack, Pair, Place, Settled};
 pub use replies::{command_reply, message_reply, question_refused, refused_reply, run_reply};

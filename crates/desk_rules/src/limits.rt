@@ -9,5 +9,8 @@ pub const MOST_PAID: u64 = 999_999_999_999_999_999;
 /// The most entries that a desk holds.
 pub const MOST_ENTRIES: u64 = 999_999_999;
 
-/// The most messages that a desk sends: more than the three of each pair (an advice and two confirmations) come to.
+/// How many messages a pair causes at most: an advice to its earlier party, and a confirmation to each when it settles.
+pub const SENT_A_PAIR: u64 = 3;
+
+/// The most messages that a desk sends: more than those of all pairs, which are fewer than the entries.
 pub const MOST_SENT: u64 = 3_000_000_000;

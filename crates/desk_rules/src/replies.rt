@@ -16,7 +16,7 @@ use desk_msg::{Case, Mt, Own, status_text};
 use std::alloc::{AllocError, Global};
 
 /// The message type of a status advice.
-const ADVICE: u16 = 548;
+pub const ADVICE: u16 = 548;
 
 /// The status of what was accepted.
 const DONE: u16 = 200;

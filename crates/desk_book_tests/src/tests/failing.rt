@@ -339,11 +339,11 @@ impl Register for FailingRegister {
         self.inner.held_cash(alloc, ccy)
     }
 
-    fn sent_count(&mut self, alloc: Global, bic: Bic) -> Result<u64, Fault> {
+    fn sent_count(&mut self, alloc: Global) -> Result<u64, Fault> {
         if self.calls.fails() {
             return Err(self.fail());
         }
-        self.inner.sent_count(alloc, bic)
+        self.inner.sent_count(alloc)
     }
 
     fn sent(&mut self, alloc: Global, bic: Bic, number: u64) -> Result<Option<Sent>, Fault> {

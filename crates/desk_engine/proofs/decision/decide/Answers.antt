@@ -1,7 +1,7 @@
 use Rattle.std.proofs.Common.{sym, subst, ◌∙◌, ap, ◌≢◌}
 use Rattle.desk_register.specs.declared.register.Stage.TheVariants.{Failed}
 use Rattle.desk_rules.specs.Content.{history_of}
-use Rattle.desk_rules.specs.Tables.{AreTablesButSent}
+use Rattle.desk_rules.specs.Tables.{AreTables}
 use Rattle.desk_engine.proofs.DecisionLemmas.{verdict_known, verdict_new_ok}
 use Rattle.desk_engine.proofs.decision.decide.Goals as goal
 
@@ -31,7 +31,7 @@ returns-clause-verdict g c = λ books honest sure well tables.
     let history1 = ap history_of same1 in
     let new = rw c.in_default.is at (second.value honest2 sure1 well1) in
     verdict_new_ok c.limit-limit.result (g.R.Register.view c.args.register.now).room books (g.R.Register.view c.verdict_on_key.new.register).content c.args.entry.now c.verdict_on_new.result c.limit-limit.ensures.limit
-    (subst (AreTablesButSent books) (sym same) tables)
+    (subst (AreTables books) (sym same) tables)
     (rw same (sym (first.value honest1 sure well) ∙ c.if-branch.false))
     (rw same (rw same1 at new))
     (c.verdict_on_new.ensures.value honest (second.read.ok.sure honest2 sure1) well2)

@@ -1,8 +1,9 @@
-use Rattle.std.proofs.Common.{None, ◌<◌, ◌≤◌, ◌^◌, ◌∙◌, arith, rules}
+use Rattle.std.proofs.Common.{None, refl, ◌<◌, ◌≤◌, ◌^◌, ◌∙◌, arith, rules}
 use Rattle.desk_engine.specs.declared.settlement_run.Passed.{Passed}
-use Rattle.desk_register.specs.View.{IsChange}
-use Rattle.desk_register.proofs.ViewLemmas.{begun_goes, change_then, change_ok, stays_then, later_then}
-use Rattle.desk_engine.proofs.RunningLemmas.{running_begins, running_goes_on, running_can_settle, running_ends_none, running_ends_all, taken_keeps}
+use Rattle.desk_engine.specs.Steps.{IsStep}
+use Rattle.desk_register.proofs.ViewLemmas.{begun_goes, stays_then, later_then}
+use Rattle.desk_engine.proofs.StepLaws.{step_ok, step_then}
+use Rattle.desk_engine.proofs.RunningLemmas.{running_begins, running_goes_on, running_can_try, running_ends_none, running_ends_all, taken_keeps}
 use Rattle.desk_engine.proofs.settlement_run.run_pass.Goals as goal
 
 pub pairs-init : goal.pairs-init
@@ -15,26 +16,26 @@ take_next-requires-clause-stage g c = c.pairs.invariant.stays.stage ∙ c.requir
 
 pub take_next-requires-clause-fits : goal.take_next-requires-clause-fits
 take_next-requires-clause-fits g c =
-    running_can_settle (g.R.Register.view c.args.register.now).room c.in_ok-count.count (g.R.Register.view c.args.register.now) (g.R.Register.view c.pairs.register) c.args.day c.pairs.place c.pairs._tried c.pairs.passed.settled c.pairs.passed.waiting
-    c.pairs.invariant c.requires.fits
+    running_can_try (g.R.Register.view c.args.register.now).room c.in_ok-count.count (g.R.Register.view c.args.register.now) (g.R.Register.view c.pairs.register) c.args.day c.pairs.place c.pairs._tried c.pairs.passed.settled c.pairs.passed.waiting
+    refl c.pairs.invariant c.requires.fits
 
-pub returns-in_err-take_next-clause-change : goal.returns-in_err-take_next-clause-change
-returns-in_err-take_next-clause-change g c =
+pub returns-in_err-take_next-clause-step : goal.returns-in_err-take_next-clause-step
+returns-in_err-take_next-clause-step g c =
     let i = c.pairs.invariant in
-    let same : IsChange {X = Passed} c.from_residual-in_err-take_next.result (g.R.Register.view c.pairs.register) (g.R.Register.view c.take_next.new.register) = search rules in
-    change_then (g.R.Register.view c.args.register.now) (g.R.Register.view c.pairs.register) (g.R.Register.view c.take_next.new.register) i.stays i.later c.from_residual-in_err-take_next.result c.requires.stage same
+    let same : IsStep {X = Passed} c.from_residual-in_err-take_next.result (g.R.Register.view c.pairs.register) (g.R.Register.view c.take_next.new.register) = search rules in
+    step_then (g.R.Register.view c.args.register.now) (g.R.Register.view c.pairs.register) (g.R.Register.view c.take_next.new.register) i.stays i.later c.from_residual-in_err-take_next.result same
 
 pub returns-in-None-clause-ran : goal.returns-in-None-clause-ran
 returns-in-None-clause-ran g c = λ books reference rule pass start honest sure at.
     let taken = c.in_ok-take_next.ensures in
     running_ends_none (g.R.Register.view c.args.register.now).room c.in_ok-count.count (g.R.Register.view c.args.register.now) (g.R.Register.view c.pairs.register) (g.R.Register.view c.take_next.new.register) c.args.day c.pairs.place c.pairs._tried
-    c.pairs.passed.settled c.pairs.passed.waiting books reference rule pass start c.pairs.invariant taken.change.later (rw c.in-None.is at taken.taken) honest sure at
+    c.pairs.passed.settled c.pairs.passed.waiting books reference rule pass start c.pairs.invariant taken.step.later (rw c.in-None.is at taken.taken) honest sure at
 
-pub returns-in-None-clause-change : goal.returns-in-None-clause-change
-returns-in-None-clause-change g c =
+pub returns-in-None-clause-step : goal.returns-in-None-clause-step
+returns-in-None-clause-step g c =
     let i = c.pairs.invariant in
-    let t = c.in_ok-take_next.ensures.change in
-    change_ok c.pairs.passed (g.R.Register.view c.args.register.now) (g.R.Register.view c.take_next.new.register)
+    let t = c.in_ok-take_next.ensures.step in
+    step_ok c.pairs.passed (g.R.Register.view c.args.register.now) (g.R.Register.view c.take_next.new.register)
     (stays_then (g.R.Register.view c.args.register.now) (g.R.Register.view c.pairs.register) (g.R.Register.view c.take_next.new.register) i.stays i.later t.later t.ok)
     (later_then (g.R.Register.view c.args.register.now) (g.R.Register.view c.pairs.register) (g.R.Register.view c.take_next.new.register) i.stays i.later t.later)
 
@@ -45,7 +46,7 @@ pub pairs-preserved : goal.pairs-preserved
 pairs-preserved g c =
     let t = c.in_ok-take_next.ensures in
     running_goes_on (g.R.Register.view c.args.register.now).room c.in_ok-count.count (g.R.Register.view c.args.register.now) (g.R.Register.view c.pairs.register) (g.R.Register.view c.take_next.new.register) c.args.day c.pairs.place c.pairs._tried
-    c.pairs.passed.settled c.pairs.passed.waiting c.counted-passed.result.settled c.counted-passed.result.waiting c.in-Some.taken c.pairs.invariant t.change.ok t.change.later (rw c.in-Some.is at t.taken)
+    c.pairs.passed.settled c.pairs.passed.waiting c.counted-passed.result.settled c.counted-passed.result.waiting c.in-Some.taken c.pairs.invariant t.step.ok t.step.later (rw c.in-Some.is at t.taken)
     c.counted-passed.ensures.settled c.counted-passed.ensures.all
 
 pub returns-clause-ran : goal.returns-clause-ran
@@ -54,12 +55,12 @@ returns-clause-ran g c = λ books reference rule pass start honest sure at.
     running_ends_all (g.R.Register.view c.args.register.now).room c.in_ok-count.count (g.R.Register.view c.args.register.now) (g.R.Register.view c.pairs.register) c.args.day c.pairs.place c.pairs._tried
     c.pairs.passed.settled c.pairs.passed.waiting books reference rule pass start c.pairs.invariant all honest sure at
 
-pub returns-clause-change : goal.returns-clause-change
-returns-clause-change g c = let i = c.pairs.invariant in change_ok c.pairs.passed (g.R.Register.view c.args.register.now) (g.R.Register.view c.pairs.register) i.stays i.later
+pub returns-clause-step : goal.returns-clause-step
+returns-clause-step g c = let i = c.pairs.invariant in step_ok c.pairs.passed (g.R.Register.view c.args.register.now) (g.R.Register.view c.pairs.register) i.stays i.later
 
 pub returns-in-None-clause-kept : goal.returns-in-None-clause-kept
 returns-in-None-clause-kept g c = λ honest sure.
     let t = c.in_ok-take_next.ensures in
     let i = c.pairs.invariant in
-    let honest1 = t.change.later.honest honest in
-    taken_keeps (g.R.Register.view c.pairs.register).content (g.R.Register.view c.take_next.new.register).content _ c.pairs.place None (rw c.in-None.is at (t.taken honest (i.stays.sure honest1 sure))) ∙ i.kept honest1 sure
+    let honest1 = t.step.later.honest honest in
+    taken_keeps (g.R.Register.view c.pairs.register).content (g.R.Register.view c.take_next.new.register).content c.args.day c.pairs.place None (rw c.in-None.is at (t.taken honest (i.stays.sure honest1 sure))) ∙ i.kept honest1 sure

@@ -16,7 +16,7 @@ passes-init g c =
     let p = c.in_ok-passed.ensures in
     let v0 = g.R.Register.view c.args.register.now in
     passing_begins v0.room c.in_ok-count.count v0 (g.R.Register.view c.count.new.self) (g.R.Register.view c.run_pass.new.register) c.args.day c.args.rule c.in_ok-passed.passed.settled c.in_ok-passed.passed.waiting refl
-    r.ok r.later r.same (λ honest sure. c.in_ok-count.ensures.value honest sure (begun_goes _ c.requires.stage)) p.change.ok p.change.later p.kept (λ books reference rule pass start honest sure. p.ran books reference rule pass start honest sure)
+    r.ok r.later r.same (λ honest sure. c.in_ok-count.ensures.value honest sure (begun_goes _ c.requires.stage)) p.step.ok p.step.later p.kept (λ books reference rule pass start honest sure. p.ran books reference rule pass start honest sure)
 
 pub returns-then-not-makes_another-clause-ran : goal.returns-then-not-makes_another-clause-ran
 returns-then-not-makes_another-clause-ran g c = λ books reference honest sure tables.
@@ -40,7 +40,7 @@ passes-preserved g c =
     rw c.with-passed.ensures.waiting
     (passing_goes_on v0.room c.in_ok-count.count v0 (g.R.Register.view c.passes.register) c.args.day c.args.rule c.passes._again c.passes.passed.settled c.passes.passed.waiting c.passes.last refl c.passes.invariant
     (g.R.Register.view c.run_pass-in-passes.new.register) c.with-passed.result.settled c.in_ok-further.further.settled c.in_ok-further.further.waiting more.0 more.1
-    p.change.ok p.change.later p.kept (λ books reference rule pass start honest sure. p.ran books reference rule pass start honest sure) c.with-passed.ensures.settled small)
+    p.step.ok p.step.later p.kept (λ books reference rule pass start honest sure. p.ran books reference rule pass start honest sure) c.with-passed.ensures.settled small)
 
 pub returns-clause-ran : goal.returns-clause-ran
 returns-clause-ran g c = λ books reference honest sure tables.

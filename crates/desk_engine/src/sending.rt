@@ -1,0 +1,150 @@
+//! What the desk sends while it takes an entry in: an advice to the earlier party of a pair, and a confirmation to each
+//! party of a settlement.
+ghost use Rattle.std.specs.Prelude.{◌≡◌, ◌+◌, ◌*◌, ◌<◌, ◌≤◌, length, IfOk, OnOk, Some, ℕ};
+ghost use Rattle.desk_register.specs.View.{IfTrusted, IsRead};
+ghost use Rattle.desk_register.specs.Changes.{IsPairAt};
+ghost use Rattle.desk_rules.specs.Content.{history_of};
+ghost use Rattle.desk_rules.specs.History.{instruction_at};
+ghost use Rattle.desk_rules.specs.declared.limits.TheConstants.{MOST_SENT, SENT_A_PAIR};
+ghost use Rattle.desk_engine.specs.Steps.{IsStep};
+ghost use Rattle.desk_engine.specs.Sending.{delivering_number, receiving_number, with_advised, with_both_confirmed, with_confirmed};
+
+use desk_codes::Day;
+use desk_register::{Fault, Register, Stage};
+use desk_rules::{Entry, Instructed, SENT_A_PAIR, pairing_advice, settlement_confirmation};
+use std::alloc::Global;
+
+/// The number of the next message among all that are sent, where one may be sent.
+fn next_message<R: Register>(alloc: Global, register: &mut R) -> Result<u64, Fault>
+    requires { (R.view register.old).stage ≡ Stage.Begun }
+    ensures value { IfTrusted (R.view register.old) (R.view register.new) (length (R.view register.old).content.sent < SENT_A_PAIR * (R.view register.old).room
+        → IfOk result (λ number. number ≡ length (R.view register.old).content.sent + 1)) }
+    ensures most { IfOk result (λ number. number ≤ MOST_SENT) }
+    ensures read { IsRead result (R.view register.old) (R.view register.new) }
+{
+    let most = SENT_A_PAIR * register.limit();
+    let count = register.sent_count(alloc)?;
+    if count < most {
+        return Ok(count + 1);
+    }
+    Ok(most)
+}
+
+/// The instruction of a number, and who sent it; None where there is none.
+fn instructed<R: Register>(
+    alloc: Global,
+    register: &mut R,
+    number: u64,
+) -> Result<Option<Instructed>, Fault>
+    requires { (R.view register.old).stage ≡ Stage.Begun }
+    ensures value { IfTrusted (R.view register.old) (R.view register.new) (IfOk result (λ found. found ≡ instruction_at (history_of (R.view register.old).content) number)) }
+    ensures read { IsRead result (R.view register.old) (R.view register.new) }
+{
+    let found = register.entry(alloc, number)?;
+    match &found {
+        Some(entry) => Ok(entry.instructed()),
+        None => Ok(None),
+    }
+}
+
+/// Tells the sender of an instruction, by its number, that it was paired.
+pub fn advise<R: Register>(alloc: Global, register: &mut R, about: u64) -> Result<(), Fault>
+    requires stage { (R.view register.old).stage ≡ Stage.Begun }
+    requires room { IfTrusted (R.view register.old) (R.view register.old) (length (R.view register.old).content.sent < SENT_A_PAIR * (R.view register.old).room) }
+    ensures sent { IfTrusted (R.view register.old) (R.view register.new) (OnOk result ((R.view register.new).content ≡ with_advised about (R.view register.old).content)) }
+    ensures step { IsStep result (R.view register.old) (R.view register.new) }
+{
+    let Some(paired) = instructed(alloc, register, about)? else {
+        return Ok(());
+    };
+    let number = next_message(alloc, register)?;
+    match pairing_advice(alloc, number, about, &paired) {
+        Ok(message) => register.send(alloc, message),
+        Err(_) => Err(Fault::Memory),
+    }
+}
+
+/// Confirms to the sender of an instruction, by its number, that a run of this day settled it.
+fn confirm<R: Register>(alloc: Global, register: &mut R, about: u64, day: Day) -> Result<(), Fault>
+    requires stage { (R.view register.old).stage ≡ Stage.Begun }
+    requires room { IfTrusted (R.view register.old) (R.view register.old) (length (R.view register.old).content.sent < SENT_A_PAIR * (R.view register.old).room) }
+    ensures sent { IfTrusted (R.view register.old) (R.view register.new) (OnOk result ((R.view register.new).content ≡ with_confirmed about day (R.view register.old).content)) }
+    ensures step { IsStep result (R.view register.old) (R.view register.new) }
+{
+    let Some(settled) = instructed(alloc, register, about)? else {
+        return Ok(());
+    };
+    let number = next_message(alloc, register)?;
+    match settlement_confirmation(alloc, number, about, &settled, day) {
+        Ok(message) => register.send(alloc, message),
+        Err(_) => Err(Fault::Memory),
+    }
+}
+
+/// Confirms two instructions, by their numbers, in this order.
+fn confirm_both<R: Register>(
+    alloc: Global,
+    register: &mut R,
+    first: u64,
+    second: u64,
+    day: Day,
+) -> Result<(), Fault>
+    requires stage { (R.view register.old).stage ≡ Stage.Begun }
+    requires room { IfTrusted (R.view register.old) (R.view register.old) (length (R.view register.old).content.sent + 1 < SENT_A_PAIR * (R.view register.old).room) }
+    ensures sent { IfTrusted (R.view register.old) (R.view register.new) (OnOk result ((R.view register.new).content ≡ with_confirmed second day (with_confirmed first day (R.view register.old).content))) }
+    ensures step { IsStep result (R.view register.old) (R.view register.new) }
+{
+    confirm(alloc, register, first, day)?;
+    confirm(alloc, register, second, day)
+}
+
+/// The numbers of a pair's instructions, by which side each is.
+#[derive(Clone, Copy, Debug, PartialEq, Eq)]
+struct Sides {
+    deliverer: u64,
+    receiver: u64,
+}
+
+impl Sides {
+    /// The sides of a pair, by the numbers of its instructions, and the earlier one.
+    fn of(earlier_number: u64, later_number: u64, earlier: &Instructed) -> Sides
+        ensures deliverer { result.deliverer ≡ delivering_number earlier.now earlier_number later_number }
+        ensures receiver { result.receiver ≡ receiving_number earlier.now earlier_number later_number }
+    {
+        if earlier.instruction.mt.is_delivery() {
+            Sides {
+                deliverer: earlier_number,
+                receiver: later_number,
+            }
+        } else {
+            Sides {
+                deliverer: later_number,
+                receiver: earlier_number,
+            }
+        }
+    }
+}
+
+/// Confirms the settlement of a pair, by the number of its later instruction, to both parties: to the deliverer first.
+pub fn confirm_settlement<R: Register>(
+    alloc: Global,
+    register: &mut R,
+    number: u64,
+    day: Day,
+) -> Result<(), Fault>
+    requires stage { (R.view register.old).stage ≡ Stage.Begun }
+    requires room { IfTrusted (R.view register.old) (R.view register.old) (length (R.view register.old).content.sent + 1 < SENT_A_PAIR * (R.view register.old).room) }
+    ensures sent { (mate : ℕ) (earlier later : Instructed) → IfTrusted (R.view register.old) (R.view register.new) (IsPairAt (R.view register.old).content number mate earlier later
+        → OnOk result ((R.view register.new).content ≡ with_both_confirmed mate number earlier day (R.view register.old).content)) }
+    ensures step { IsStep result (R.view register.old) (R.view register.new) }
+{
+    let standing = register.standing(alloc, number)?;
+    let Some(mate) = standing.mate else {
+        return Ok(());
+    };
+    let Some(earlier) = instructed(alloc, register, mate)? else {
+        return Ok(());
+    };
+    let sides = Sides::of(mate, number, &earlier);
+    confirm_both(alloc, register, sides.deliverer, sides.receiver, day)
+}
