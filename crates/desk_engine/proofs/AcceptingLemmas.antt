@@ -17,6 +17,11 @@ use Rattle.desk_msg.specs.declared.status.Reason.TheVariants.{Future}
 use Rattle.desk_msg.specs.declared.instruction.Instruction.{Instruction}
 use Rattle.desk_rules.specs.declared.standing.Standing.{Standing}
 use Rattle.desk_engine.specs.declared.applied.Applied.{Applied}
+use Rattle.desk_engine.specs.declared.cancelling.CallsOff.{CallsOff}
+use Rattle.desk_engine.specs.declared.cancelling.CallsOff.TheVariants.{Alone, Both, Nothing}
+use Rattle.desk_engine.specs.Cancelling.{called_off, off_by, state_then}
+use Rattle.desk_engine.proofs.CancelLemmas.{asked_by, cancelled_named}
+use Rattle.desk_msg.specs.declared.instruction.CancelOrder.{CancelOrder}
 use Rattle.desk_register.specs.Looked.{kept_at}
 use Rattle.desk_rules.specs.declared.verdict.Verdict.TheVariants.{Accept}
 use Rattle.desk_rules.specs.History.{before, entry_at, instruction_at, instructed, run_day}
@@ -24,13 +29,13 @@ use Rattle.desk_rules.specs.Pairing.{IsPairing, IsFree}
 use Rattle.desk_rules.specs.Settlement.{is_due, settled_count}
 use Rattle.desk_rules.specs.Reply.{IsFirstReply, reply_to, waiting_count, is_settled_pair}
 use Rattle.desk_rules.specs.Books.{Books, AreBooks}
-use Rattle.desk_rules.specs.Verdict.{WasAccepted, IsVerdict}
-use Rattle.desk_rules.proofs.Decided.{In, In-from_Contains, Contains-from_In, In-push_cases, filter-none}
+use Rattle.desk_rules.specs.Verdict.{WasAccepted, IsVerdict, named_by}
+use Rattle.desk_rules.proofs.Decided.{In, In-from_Contains, Contains-from_In, filter-none}
 use Rattle.desk_rules.proofs.HistoryLemmas.{entry_at-front, entry_at-end, entry_at-some, length-before, slice_get-known, slice_get-front, slice_get-end}
 use Rattle.desk_rules.proofs.Existence.{books_exist}
 use Rattle.desk_rules.proofs.SettlementLemmas.{due_facts}
 use Rattle.desk_rules.proofs.SettlementGrowth.{by_none}
-use Rattle.desk_rules.specs.Content.{Content}
+use Rattle.desk_rules.specs.Content.{Content, history_of}
 use Rattle.desk_register.specs.Changes.{appended, first_standing}
 use Rattle.desk_rules.specs.Pairing.{mate_in}
 use Rattle.desk_rules.specs.Stands.{StandsAt, StandsSo}
@@ -40,7 +45,7 @@ use Rattle.desk_engine.proofs.KeepsLemmas.{tables_of, are_tables_of}
 use Rattle.desk_engine.specs.Pass.{CanRun, RanTo, IsPassed}
 use Rattle.std.specs.Prelude.{Err}
 use Rattle.desk_register.specs.declared.register.Fault.{Fault}
-use Rattle.desk_register.specs.declared.register.Fault.TheVariants.{Memory, Storage}
+use Rattle.desk_register.specs.declared.register.Fault.TheVariants.{Memory}
 use Rattle.desk_register.specs.declared.register.Stage.TheVariants.{Idle, Begun, Failed}
 use Rattle.desk_register.specs.View.{View, IsLater, IsRead, Stays, fallen}
 use Rattle.desk_register.proofs.ViewLemmas.{blames_memory, later_then, same_blame, stays_then}
@@ -183,34 +188,43 @@ quiet_entry (Instruct sender instruction) is = absurd (cc)
 quiet_entry (Cancel sender order) is = absurd (cc)
 quiet_entry (Run reference day rule) is = absurd (cc)
 
-pub booked : (limit : ℕ) (books : Books) (old new : Content) (e : Entry) (reply : Reply) (n : ℕ) (a : Applied) → Keeps limit books old → is_booking e ≡ true → Grown limit books e new
-    → new ≡ appended e reply old → n ≡ length old.register + 1 → a.number ≡ n → a.mate ≡ None → a.settled ≡ 0 → a.waiting ≡ 0 → ((b : Books) → IsApplied b e a → reply ≡ reply_to b e)
+-- an entry that is no run and no instruction fared so
+pub quiet_applied : (limit : ℕ) (books : Books) (old new : Content) (e : Entry) (reply : Reply) (n : ℕ) (a : Applied) → Keeps limit books old → run_day e ≡ None → instructed e ≡ None → (grown : Grown limit books e new)
+    → new.register ≡ old.register ++ record { entry = e; reply = reply } ∷ [] → n ≡ length old.register + 1 → a.number ≡ n → a.mate ≡ None → a.settled ≡ 0 → a.waiting ≡ 0
+    → IsNamed (record { history = books.history ++ e ∷ []; pairs = grown.pairs; settled = grown.settled }) e a.named → ((b : Books) → IsApplied b e a → reply ≡ reply_to b e)
     → HasApplied limit books e (record { applied = a; reply = reply }) new
-booked limit books old new e reply n a keeps kind grown added is_number number mate settled waiting replied =
+quiet_applied limit books old new e reply n a keeps no_run no_instruction grown more is_number number mate settled waiting named replied =
     let h = books.history in
     let after : Books = record { history = h ++ e ∷ []; pairs = grown.pairs; settled = grown.settled } in
-    let quiet = quiet_entry e kind in
     let size : length old.register ≡ length h = length_is old h keeps.tables.history in
     let longer : length (h ++ e ∷ []) ≡ length h + 1 = length-append h (e ∷ []) in
     let entry : entry_at (h ++ e ∷ []) a.number ≡ Some e = entry_at-end h e a.number (omega arith) in
     let are = grown.tables.are_books in
-    let none : instruction_at (h ++ e ∷ []) a.number ≡ None = ap (option_and_then instructed) entry ∙ quiet.no_instruction in
+    let none : instruction_at (h ++ e ∷ []) a.number ≡ None = ap (option_and_then instructed) entry ∙ no_instruction in
     let M : Option ℕ → Type 0 = λ m. IsMateOf grown.pairs a.number m in
     let fared : IsApplied after e a = record {
       number = omega arith;
       mate = subst M (sym mate) (not_paired (h ++ e ∷ []) grown.pairs a.number are.pairing none);
-      settled = settles_none after a.number e are entry quiet.no_run ∙ sym settled;
-      waiting = waits_none after a.number e entry quiet.no_run ∙ sym waiting;
-      named = quiet.no_cancel after a.named;
+      settled = settles_none after a.number e are entry no_run ∙ sym settled;
+      waiting = waits_none after a.number e entry no_run ∙ sym waiting;
+      named = named;
     } in
     record {
       after = after;
       longer = refl;
-      keeps = keeps_more limit books after old new e reply keeps refl grown.tables (ap (λ (c : Content). c.register) added) (replied after fared);
+      keeps = keeps_more limit books after old new e reply keeps refl grown.tables more (replied after fared);
       fared = fared;
       replied = replied after fared;
-      kept = kept_last old.register new.register (record { entry = e; reply = reply }) a.number (ap (λ (c : Content). c.register) added) (omega arith);
+      kept = kept_last old.register new.register (record { entry = e; reply = reply }) a.number more (omega arith);
     }
+
+pub booked : (limit : ℕ) (books : Books) (old new : Content) (e : Entry) (reply : Reply) (n : ℕ) (a : Applied) → Keeps limit books old → is_booking e ≡ true → Grown limit books e new
+    → new ≡ appended e reply old → n ≡ length old.register + 1 → a.number ≡ n → a.mate ≡ None → a.settled ≡ 0 → a.waiting ≡ 0 → ((b : Books) → IsApplied b e a → reply ≡ reply_to b e)
+    → HasApplied limit books e (record { applied = a; reply = reply }) new
+booked limit books old new e reply n a keeps kind grown added is_number number mate settled waiting replied =
+    let quiet = quiet_entry e kind in
+    let after : Books = record { history = books.history ++ e ∷ []; pairs = grown.pairs; settled = grown.settled } in
+    quiet_applied limit books old new e reply n a keeps quiet.no_run quiet.no_instruction grown (ap (λ (c : Content). c.register) added) is_number number mate settled waiting (quiet.no_cancel after a.named) replied
 
 -- How an instruction fared.
 
@@ -337,6 +351,34 @@ instructed_step v0 v1 v2 books sender i reply n m a same room grows added is_num
     let tables : Tables v1.room books v1.content = subst P (sym same) (subst Q (sym room) (tables_of v0.room books v0.content keeps)) in
     let grown : Grown v0.room books e v2.content = subst R room (grows tables) in
     instructed_applied v0.room books v0.content v2.content sender i reply n m a keeps grown (subst S same added) is_number number mate settled waiting replied
+
+-- How a cancellation fared.
+
+called_off_register : (off : CallsOff) (content : Content) → (called_off off content).register ≡ content.register
+called_off_register (Alone n) content = refl
+called_off_register (Both p) content = refl
+called_off_register (Nothing state) content = refl
+
+pub cancelled_step : (v0 v1 v2 : View) (books : Books) (sender : List ℕ) (order : CancelOrder) (reply : Reply) (n : ℕ) (off : CallsOff) (a : Applied) → v1.content ≡ v0.content → v1.room ≡ v0.room
+    → (Tables v1.room books v1.content → Grown v1.room books (Cancel sender order) v2.content) → v2.content ≡ called_off off (appended (Cancel sender order) reply v1.content)
+    → off ≡ off_by v0.content.standing (named_by (history_of v0.content) sender order) → CanApply v0.room (Cancel sender order) v0.content → n ≡ length v0.content.register + 1
+    → a.number ≡ n → a.mate ≡ None → a.settled ≡ 0 → a.waiting ≡ 0 → a.named ≡ state_then off → ((b : Books) → IsApplied b (Cancel sender order) a → reply ≡ reply_to b (Cancel sender order))
+    → Keeps v0.room books v0.content → HasApplied v0.room books (Cancel sender order) (record { applied = a; reply = reply }) v2.content
+cancelled_step v0 v1 v2 books sender order reply n off a same room grows added is_off can is_number number mate settled waiting named replied keeps =
+    let e : Entry = Cancel sender order in
+    let P : Content → Type 0 = λ c. Tables v1.room books c in
+    let Q : ℕ → Type 0 = λ k. Tables k books v0.content in
+    let R : ℕ → Type 0 = λ k. Grown k books e v2.content in
+    let S : Content → Type 0 = λ c. v2.content ≡ called_off off (appended e reply c) in
+    let held : Tables v0.room books v0.content = tables_of v0.room books v0.content keeps in
+    let tables : Tables v1.room books v1.content = subst P (sym same) (subst Q (sym room) held) in
+    let grown : Grown v0.room books e v2.content = subst R room (grows tables) in
+    let is : v2.content ≡ called_off off (appended e reply v0.content) = subst S same added in
+    let by = asked_by v0.room books v0.content sender order off held (accepted_of v0.room e v0.content can) is_off in
+    let N : State → Type 0 = λ s. IsNamed (record { history = books.history ++ e ∷ []; pairs = grown.pairs; settled = grown.settled }) e s in
+    let told = cancelled_named v0.room books v0.content v2.content sender order reply off grown.pairs grown.settled by grown.tables is in
+    quiet_applied v0.room books v0.content v2.content e reply n a keeps refl refl grown (ap (λ (c : Content). c.register) is ∙ called_off_register off (appended e reply v0.content))
+    is_number number mate settled waiting (subst N (sym named) told) replied
 
 pub number_after : (v0 v1 v2 : View) (e : Entry) (n : ℕ) → CanApply v0.room e v0.content → v1.content ≡ v0.content → v2.content ≡ v1.content
     → (length v0.content.register < v0.room → n ≡ length v0.content.register + 1) → n ≡ length v2.content.register + 1

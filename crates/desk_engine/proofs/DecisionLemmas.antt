@@ -120,7 +120,7 @@ holds_same f g None each = refl
 holds_same f g (Some k) each = each k refl
 
 -- what a cancellation names is an instruction
-named_instructed : (mt k : ℕ) (i : Option Instructed) (n : ℕ) → if_of_type mt k i ≡ Some n → (n ≡ k) × ((other : Instructed) × (i ≡ Some other))
+pub named_instructed : (mt k : ℕ) (i : Option Instructed) (n : ℕ) → if_of_type mt k i ≡ Some n → (n ≡ k) × ((other : Instructed) × (i ≡ Some other))
 named_instructed mt k None n is = absurd (cc)
 named_instructed mt k (Some i) n is = elim (cases_Bool (number_of_type i.instruction.mt == mt)) [
   | inl same_type ↦
@@ -145,13 +145,13 @@ open_not_settled : (books : Books) (p : Option Pair) → is_settled_state (open_
 open_not_settled books None = refl
 open_not_settled books (Some p) = refl
 
-tells_cancelled : (books : Books) (n : ℕ) (i : Instructed) → is_cancelled_state (instruction_state books n (Some i)) ≡ is_cancelled books n
+pub tells_cancelled : (books : Books) (n : ℕ) (i : Instructed) → is_cancelled_state (instruction_state books n (Some i)) ≡ is_cancelled books n
 tells_cancelled books n i =
     by_bool (is_settled books n)
     (λ yes. rw yes refl)
     (λ no. by_bool (is_called_off books.history n (pair_of books.pairs n)) (λ off. rw (no, off) refl) (λ on. rw (no, on) (open_not_cancelled books (pair_of books.pairs n))))
 
-tells_settled : (books : Books) (n : ℕ) (i : Instructed) → is_settled_state (instruction_state books n (Some i)) ≡ is_settled books n
+pub tells_settled : (books : Books) (n : ℕ) (i : Instructed) → is_settled_state (instruction_state books n (Some i)) ≡ is_settled books n
 tells_settled books n i =
     by_bool (is_settled books n)
     (λ yes. rw yes refl)

@@ -184,7 +184,7 @@ module _ (books : Books) (reference day : List ℕ) (rule : RunRule) (pass : ℕ
         })
 
     requested_same : (k : ℕ) → k ≤ length books.history → is_cancel_requested (books.history ++ Run reference day rule ∷ []) k ≡ is_cancel_requested books.history k
-    requested_same k le = not_cancelled books.history (Run reference day rule) k le (λ i. refl)
+    requested_same k le = not_cancelled books.history (Run reference day rule) k le (λ i at. refl)
 
     in_order : (p : Pair) → Contains books.pairs p → (p.earlier ≤ length books.history) × (p.later ≤ length books.history)
     in_order p c =

@@ -7,7 +7,6 @@ use Rattle.desk_rules.specs.Books.{Books}
 use Rattle.desk_rules.specs.declared.limits.TheConstants.{MOST_QUANTITY}
 use Rattle.desk_rules.proofs.Conservation.{securities_add_up}
 use Rattle.desk_rules.proofs.Existence.{no_books as none_of}
-use Rattle.desk_rules.proofs.Decided.{In-from_Contains}
 use Rattle.desk_rules.proofs.HistoryLemmas.{entry_at-known, slice_get-known}
 use Rattle.desk_engine.specs.Applied.{Keeps, no_books}
 use Rattle.desk_rules.specs.Content.{Content}

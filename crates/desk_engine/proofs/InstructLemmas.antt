@@ -45,14 +45,14 @@ use Rattle.desk_rules.proofs.BalanceLemmas.{cash_credits-entry, cash_debits-entr
 use Rattle.desk_engine.proofs.TablesLemmas.{IsQuiet, not_cancelled, stands_rest, accepted_more, accepted_in, history_more, length_is, pairs_known, settled_known, settled_in_history, free_of_none}
 
 -- a settled pair is one of the pairs
-settled_paired : (books : Books) → AreBooks books → (s : Settled) → Contains books.settled s → Contains books.pairs s.pair
+pub settled_paired : (books : Books) → AreBooks books → (s : Settled) → Contains books.settled s → Contains books.pairs s.pair
 settled_paired books are s c =
     let d = decided_settlement books.history books.pairs books.settled are.settlement in
     let i = In-from_Contains books.settled s c in
     let m = (d.exact s (d.within s i)).0 i in
     m.paired
 
-not_free : (ps : List Pair) (p : Pair) (k : ℕ) → Contains ps p → IsSide p k → IsFree ps k → ⊥
+pub not_free : (ps : List Pair) (p : Pair) (k : ℕ) → Contains ps p → IsSide p k → IsFree ps k → ⊥
 not_free ps p k c side free = elim side [ inl e ↦ (let f = free p c in f.0 e) | inr e ↦ (let f = free p c in f.1 e) ]
 
 -- an instruction that is in no pair and not cancelled is unmatched
@@ -67,7 +67,7 @@ free_unmatched books k mate (Matched reason) are is free stays = absurd (not_fre
 free_unmatched books k mate states.Settled are is free stays = absurd (not_free books.pairs is.settlement.pair k (settled_paired books are is.settlement is.settled) is.side free)
 
 -- where an instruction stands
-stands_known : (limit : ℕ) (books : Books) (content : Content) (k : ℕ) (i : Instructed) → Tables limit books content → instruction_at books.history k ≡ Some i → InstructionStands books k (content.standing k)
+pub stands_known : (limit : ℕ) (books : Books) (content : Content) (k : ℕ) (i : Instructed) → Tables limit books content → instruction_at books.history k ≡ Some i → InstructionStands books k (content.standing k)
 stands_known limit books content k i tables at =
     let P : Option Instructed → Type 0 = λ o. StandsAt books k o (content.standing k) in
     subst P at (tables.standing k)
@@ -123,7 +123,6 @@ quiet_instruction : (limit : ℕ) (books : Books) (content : Content) (sender : 
     → IsQuiet books.history (Instruct sender instruction) books.pairs more books.settled
 quiet_instruction limit books content sender instruction more tables = record {
   no_run = refl;
-  no_cancel = λ i. refl;
   within_pairs = pairs_known books.history books.pairs tables.are_books.pairing;
   within = settled_known books.history books.pairs books.settled tables.are_books.settlement;
 }
@@ -195,7 +194,7 @@ tables_unmatched limit books content sender instruction reply tables verdict non
               rw (new, it) (record { so = record { none = refl; free = free; gone = stays }; requested = sym stays })
           | inr other ↦
               let old : k == length content.register + 1 ≡ false = ne_eqb k (length content.register + 1) (λ (q : k ≡ length content.register + 1). other (omega arith)) in
-              rw old (stands_rest h e books.pairs [] books.settled k (content.standing k) (quiet_instruction limit books content sender instruction [] tables) other (free_of_none k) (tables.standing k))
+              rw old (stands_rest h e books.pairs [] books.settled k (content.standing k) (quiet_instruction limit books content sender instruction [] tables) (λ i. refl) other (free_of_none k) (tables.standing k))
         ];
         position = λ account isin. instruction_position limit books content sender instruction account isin tables;
         cash = λ bic ccy. instruction_cash limit books content sender instruction bic ccy tables;
@@ -205,7 +204,7 @@ tables_unmatched limit books content sender instruction reply tables verdict non
 
 -- It finds a mate.
 
-same_test : (k n : ℕ) → k ≡ n → k == n ≡ true
+pub same_test : (k n : ℕ) → k ≡ n → k == n ≡ true
 same_test k n e = grind (arith, nat_tests)
 
 not_due_yet : (h : List Entry) (p : Pair) (run : ℕ) → length h ≤ p.later → is_due h run p ≡ true → ⊥
@@ -239,10 +238,10 @@ new_matched h e ps settled p k m last side other ranged = record {
   why = inl (record { none = λ run below due. not_due_yet (h ++ e ∷ []) p run (let l = length-append h (e ∷ []) in omega arith) due; future = refl });
 }
 
-mate_earlier : (m n : ℕ) → mate_in (record { earlier = m; later = n }) m ≡ n
+pub mate_earlier : (m n : ℕ) → mate_in (record { earlier = m; later = n }) m ≡ n
 mate_earlier m n = rw (same_test m m refl) refl
 
-mate_later : (m n : ℕ) → m < n → mate_in (record { earlier = m; later = n }) n ≡ m
+pub mate_later : (m n : ℕ) → m < n → mate_in (record { earlier = m; later = n }) n ≡ m
 mate_later m n lt = let other : m == n ≡ false = ne_eqb m n (λ (q : m ≡ n). absurd (omega arith)) in rw other refl
 
 free_of_one : (p : Pair) (k : ℕ) → (p.earlier ≡ k → ⊥) → (p.later ≡ k → ⊥) → IsFree (p ∷ []) k
@@ -298,14 +297,14 @@ tables_mated limit books content sender instruction reply n m tables at verdict 
                 let stood = stands_known limit books content m mate.candidate.opposite.first tables first in
                 rw (test, mine, it) (record {
                   so = new_matched h e books.pairs books.settled p k n last (inl (sym old)) (ap (mate_in p) old ∙ mate_earlier m n) ranged;
-                  requested = stood_old m (omega arith) ∙ stood.requested ∙ sym (not_cancelled h e m (omega arith) (λ i. refl)) ∙ ap (is_cancel_requested (h ++ e ∷ [])) (sym old);
+                  requested = stood_old m (omega arith) ∙ stood.requested ∙ sym (not_cancelled h e m (omega arith) (λ i at. refl)) ∙ ap (is_cancel_requested (h ++ e ∷ [])) (sym old);
                 })
             | inr not_old ↦
                 let test : k == n ≡ false = ne_eqb k n not_new in
                 let other : k == m ≡ false = ne_eqb k m not_old in
                 let third : k == length content.register + 1 ≡ false = ne_eqb k (length content.register + 1) (λ (q : k ≡ length content.register + 1). not_new (omega arith)) in
                 rw (test, other, third)
-                (stands_rest h e books.pairs (p ∷ []) books.settled k (content.standing k) (quiet_instruction limit books content sender instruction (p ∷ []) tables)
+                (stands_rest h e books.pairs (p ∷ []) books.settled k (content.standing k) (quiet_instruction limit books content sender instruction (p ∷ []) tables) (λ i. refl)
                 (λ (q : k ≡ length h + 1). not_new (omega arith))
                 (free_of_one p k (λ (q : m ≡ k). not_old (sym q)) (λ (q : n ≡ k). not_new (sym q))) (tables.standing k))
           ]

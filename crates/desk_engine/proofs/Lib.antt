@@ -3,6 +3,7 @@ pub mod HeldLemmas
 pub mod KeptLemmas
 pub mod TablesLemmas
 mod AppendLemmas
+mod CancelLemmas
 mod UnderwayLemmas
 mod DecisionLemmas
 mod FinishLemmas

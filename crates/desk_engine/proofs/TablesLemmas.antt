@@ -17,8 +17,8 @@ use Rattle.desk_rules.specs.declared.standing.Standing.{Standing}
 use Rattle.desk_rules.specs.declared.verdict.Verdict.TheVariants.{Accept}
 use Rattle.desk_rules.specs.declared.entry.Instructed.{Instructed}
 use Rattle.desk_rules.specs.History.{before, instruction_at, entry_at, run_day, instructed}
-use Rattle.desk_rules.specs.Cancelled.{requests_cancel, is_cancel_requested, is_cancel_requested_by}
-use Rattle.desk_rules.specs.Pairing.{IsPairing, IsFree}
+use Rattle.desk_rules.specs.Cancelled.{requests_cancel, is_cancel_requested, is_cancel_requested_by, is_cancelled_pair}
+use Rattle.desk_rules.specs.Pairing.{IsPairing, IsFree, IsSide}
 use Rattle.desk_rules.specs.Balances.{credits, debits, issued, redeemed}
 use Rattle.desk_rules.specs.Covered.{lack_of}
 use Rattle.desk_rules.specs.Settlement.{IsSettlement, is_due, last_pass, passes_of, settled_before, precedes}
@@ -97,11 +97,10 @@ accepted_more limit books e are was verdict = record {
       ];
 }
 
--- Where an instruction stands does not change by an entry that neither settles, requests_cancel nor pairs it.
+-- Where an instruction stands does not change by an entry that neither settles it, nor calls it off, nor pairs it.
 
 pub record IsQuiet (h : List Entry) (e : Entry) (ps more : List Pair) (settled : List Settled) : Type 0 where
   pub no_run : run_day e ≡ None
-  pub no_cancel : (i : Instructed) → requests_cancel e i ≡ false
   pub within_pairs : (p : Pair) → In ps p → IsIn h p
   pub within : (s : Settled) → In settled s → IsRanged (length h) s
 
@@ -109,17 +108,36 @@ or_false : (b : Bool) → (b || (false || false)) ≡ b
 or_false true = refl
 or_false false = refl
 
-pub not_cancelled : (h : List Entry) (e : Entry) (k : ℕ) → k ≤ length h → ((i : Instructed) → requests_cancel e i ≡ false) → is_cancel_requested (h ++ e ∷ []) k ≡ is_cancel_requested h k
+pub not_cancelled : (h : List Entry) (e : Entry) (k : ℕ) → k ≤ length h → ((i : Instructed) → instruction_at h k ≡ Some i → requests_cancel e i ≡ false) → is_cancel_requested (h ++ e ∷ []) k ≡ is_cancel_requested h k
 not_cancelled h e k le none =
     let front : instruction_at (h ++ e ∷ []) k ≡ instruction_at h k = instruction_at-front h (e ∷ []) k le in
     let rest : drop k (h ++ e ∷ []) ≡ drop k h ++ e ∷ [] = drop-append-le k h (e ∷ []) le in
-    ap (λ xs. is_cancel_requested_by xs (instruction_at (h ++ e ∷ []) k)) rest ∙ ap (λ o. is_cancel_requested_by (drop k h ++ e ∷ []) o) front ∙ by_instruction (drop k h) (instruction_at h k)
+    ap (λ xs. is_cancel_requested_by xs (instruction_at (h ++ e ∷ []) k)) rest ∙ ap (λ o. is_cancel_requested_by (drop k h ++ e ∷ []) o) front ∙ by_instruction (drop k h) (instruction_at h k) refl
   where
-    by_instruction : (xs : List Entry) (o : Option Instructed) → is_cancel_requested_by (xs ++ e ∷ []) o ≡ is_cancel_requested_by xs o
-    by_instruction xs None = refl
-    by_instruction xs (Some i) =
+    by_instruction : (xs : List Entry) (o : Option Instructed) → instruction_at h k ≡ o → is_cancel_requested_by (xs ++ e ∷ []) o ≡ is_cancel_requested_by xs o
+    by_instruction xs None at = refl
+    by_instruction xs (Some i) at =
         let both = list_any-append (λ x. requests_cancel x i) xs (e ∷ []) in
-        both ∙ ap (λ b. list_any (λ x. requests_cancel x i) xs || (b || false)) (none i) ∙ or_false (list_any (λ x. requests_cancel x i) xs)
+        both ∙ ap (λ b. list_any (λ x. requests_cancel x i) xs || (b || false)) (none i at) ∙ or_false (list_any (λ x. requests_cancel x i) xs)
+
+-- An entry does not call an instruction off: whether it is cancelled, alone or with its pair, stays as it was.
+pub record IsUnasked (h : List Entry) (e : Entry) (ps : List Pair) (k : ℕ) : Type 0 where
+  pub alone : IsFree ps k → is_cancel_requested (h ++ e ∷ []) k ≡ is_cancel_requested h k
+  pub pair : (p : Pair) → Contains ps p → IsSide p k → is_cancelled_pair (h ++ e ∷ []) p ≡ is_cancelled_pair h p
+
+-- where an entry requests of neither side of a pair, the pair stays as it was
+pub both_asked : (h : List Entry) (e : Entry) (p : Pair) → is_cancel_requested (h ++ e ∷ []) p.earlier ≡ is_cancel_requested h p.earlier → is_cancel_requested (h ++ e ∷ []) p.later ≡ is_cancel_requested h p.later
+    → is_cancelled_pair (h ++ e ∷ []) p ≡ is_cancelled_pair h p
+both_asked h e p earlier later = ap (λ b. b && is_cancel_requested (h ++ e ∷ []) p.later) earlier ∙ ap (λ b. is_cancel_requested h p.earlier && b) later
+
+-- what requests nothing calls nothing off
+pub unasked : (h : List Entry) (e : Entry) (ps : List Pair) (k : ℕ) → ((p : Pair) → In ps p → IsIn h p) → ((i : Instructed) → requests_cancel e i ≡ false) → k ≤ length h → IsUnasked h e ps k
+unasked h e ps k within none le = record {
+  alone = λ free. not_cancelled h e k le (λ i at. none i);
+  pair = λ p c side.
+      let is = within p (In-from_Contains ps p c) in
+      both_asked h e p (not_cancelled h e p.earlier is.earlier (λ i at. none i)) (not_cancelled h e p.later is.later (λ i at. none i));
+}
 
 -- a run tries a pair in the longer history exactly where it does in the shorter one
 due_more : (h : List Entry) (e : Entry) (p : Pair) (run : ℕ) → run_day e ≡ None → is_due h run p ≡ true → is_due (h ++ e ∷ []) run p ≡ true
@@ -178,37 +196,34 @@ free_more ps more k free rest = λ p c. elim (In-cases ps more p (In-from_Contai
 contains_more : (ps more : List Pair) (p : Pair) → Contains ps p → Contains (ps ++ more) p
 contains_more ps more p c = Contains-from_In (ps ++ more) p (In-left ps more p (In-from_Contains ps p c))
 
-alone_more : (h : List Entry) (e : Entry) (ps more : List Pair) (settled : List Settled) (k : ℕ) (mate : Option ℕ) (is_gone : Bool) → IsQuiet h e ps more settled → k ≤ length h → IsFree more k
+alone_more : (h : List Entry) (e : Entry) (ps more : List Pair) (settled : List Settled) (k : ℕ) (mate : Option ℕ) (is_gone : Bool) → IsUnasked h e ps k → IsFree more k
     → IsAlone (record { history = h; pairs = ps; settled = settled }) k mate is_gone → IsAlone (record { history = h ++ e ∷ []; pairs = ps ++ more; settled = settled }) k mate is_gone
-alone_more h e ps more settled k mate is_gone quiet le free is = record { none = is.none; free = free_more ps more k is.free free; gone = not_cancelled h e k le quiet.no_cancel ∙ is.gone }
+alone_more h e ps more settled k mate is_gone stays free is = record { none = is.none; free = free_more ps more k is.free free; gone = stays.alone is.free ∙ is.gone }
 
-in_pair_more : (h : List Entry) (e : Entry) (ps more : List Pair) (settled : List Settled) (k : ℕ) (mate : Option ℕ) (p : Pair) (is_gone : Bool) → IsQuiet h e ps more settled
+in_pair_more : (h : List Entry) (e : Entry) (ps more : List Pair) (settled : List Settled) (k : ℕ) (mate : Option ℕ) (p : Pair) (is_gone : Bool) → IsUnasked h e ps k
     → IsInPair (record { history = h; pairs = ps; settled = settled }) k mate p is_gone → IsInPair (record { history = h ++ e ∷ []; pairs = ps ++ more; settled = settled }) k mate p is_gone
-in_pair_more h e ps more settled k mate p is_gone quiet is =
-    let within = quiet.within_pairs p (In-from_Contains ps p is.paired) in
-    record {
-      paired = contains_more ps more p is.paired;
-      side = is.side;
-      other = is.other;
-      unsettled = is.unsettled;
-      gone = ap (λ b. b && is_cancel_requested (h ++ e ∷ []) p.later) (not_cancelled h e p.earlier within.earlier quiet.no_cancel)
-          ∙ ap (λ b. is_cancel_requested h p.earlier && b) (not_cancelled h e p.later within.later quiet.no_cancel) ∙ is.gone;
-    }
+in_pair_more h e ps more settled k mate p is_gone stays is = record {
+  paired = contains_more ps more p is.paired;
+  side = is.side;
+  other = is.other;
+  unsettled = is.unsettled;
+  gone = stays.pair p is.paired is.side ∙ is.gone;
+}
 
-pub stands_more : (h : List Entry) (e : Entry) (ps more : List Pair) (settled : List Settled) (k : ℕ) (mate : Option ℕ) (state : State) → IsQuiet h e ps more settled → k ≤ length h → IsFree more k
+pub stands_more : (h : List Entry) (e : Entry) (ps more : List Pair) (settled : List Settled) (k : ℕ) (mate : Option ℕ) (state : State) → IsQuiet h e ps more settled → IsUnasked h e ps k → IsFree more k
     → StandsSo (record { history = h; pairs = ps; settled = settled }) k mate state → StandsSo (record { history = h ++ e ∷ []; pairs = ps ++ more; settled = settled }) k mate state
-stands_more h e ps more settled k mate NoInstruction quiet le free is = is
-stands_more h e ps more settled k mate Unmatched quiet le free is = alone_more h e ps more settled k mate false quiet le free is
-stands_more h e ps more settled k mate Cancelled quiet le free is = elim is [
-  | inl alone ↦ inl (alone_more h e ps more settled k mate true quiet le free alone)
-  | inr side ↦ inr (record { pair = side.pair; in_pair = in_pair_more h e ps more settled k mate side.pair true quiet side.in_pair })
+stands_more h e ps more settled k mate NoInstruction quiet stays free is = is
+stands_more h e ps more settled k mate Unmatched quiet stays free is = alone_more h e ps more settled k mate false stays free is
+stands_more h e ps more settled k mate Cancelled quiet stays free is = elim is [
+  | inl alone ↦ inl (alone_more h e ps more settled k mate true stays free alone)
+  | inr side ↦ inr (record { pair = side.pair; in_pair = in_pair_more h e ps more settled k mate side.pair true stays side.in_pair })
 ]
-stands_more h e ps more settled k mate (Matched reason) quiet le free is = record {
+stands_more h e ps more settled k mate (Matched reason) quiet stays free is = record {
   pair = is.pair;
-  in_pair = in_pair_more h e ps more settled k mate is.pair false quiet is.in_pair;
+  in_pair = in_pair_more h e ps more settled k mate is.pair false stays is.in_pair;
   why = (let within = quiet.within_pairs is.pair (In-from_Contains ps is.pair is.in_pair.paired) in reason_more h e ps more settled is.pair reason quiet within.later is.why);
 }
-stands_more h e ps more settled k mate states.Settled quiet le free is = record { settlement = is.settlement; settled = is.settled; side = is.side; other = is.other }
+stands_more h e ps more settled k mate states.Settled quiet stays free is = record { settlement = is.settlement; settled = is.settled; side = is.side; other = is.other }
 
 pub cases_Option : {A : Type 0} (o : Option A) → ((a : A) × (o ≡ Some a)) ⊎ (o ≡ None)
 cases_Option None = inr refl
@@ -220,16 +235,18 @@ beyond h k above = elim (cases_Option (instruction_at h k)) [
   | inl some ↦ let known = instruction_at-known h k some.0 some.1 in let le : k ≤ length h = known.1 in absurd (omega arith)
 ]
 
-at_old : (h : List Entry) (e : Entry) (ps more : List Pair) (settled : List Settled) (k : ℕ) (s : Standing) (o : Option Instructed) → IsQuiet h e ps more settled → k ≤ length h → IsFree more k
+at_old : (h : List Entry) (e : Entry) (ps more : List Pair) (settled : List Settled) (k : ℕ) (s : Standing) (o : Option Instructed) → IsQuiet h e ps more settled
+    → IsUnasked h e ps k → is_cancel_requested (h ++ e ∷ []) k ≡ is_cancel_requested h k → IsFree more k
     → StandsAt (record { history = h; pairs = ps; settled = settled }) k o s → StandsAt (record { history = h ++ e ∷ []; pairs = ps ++ more; settled = settled }) k o s
-at_old h e ps more settled k s None quiet le free is = is
-at_old h e ps more settled k s (Some i) quiet le free is = record { so = stands_more h e ps more settled k s.mate s.state quiet le free is.so; requested = is.requested ∙ sym (not_cancelled h e k le quiet.no_cancel) }
+at_old h e ps more settled k s None quiet stays asked free is = is
+at_old h e ps more settled k s (Some i) quiet stays asked free is = record { so = stands_more h e ps more settled k s.mate s.state quiet stays free is.so; requested = is.requested ∙ sym asked }
 
--- every number but that of the new entry, and those that it is paired with
-pub stands_rest : (h : List Entry) (e : Entry) (ps more : List Pair) (settled : List Settled) (k : ℕ) (s : Standing) → IsQuiet h e ps more settled → (k ≡ length h + 1 → ⊥) → IsFree more k
+-- every number but that of the new entry, those that it is paired with, and those that it calls off
+pub stands_by : (h : List Entry) (e : Entry) (ps more : List Pair) (settled : List Settled) (k : ℕ) (s : Standing) → IsQuiet h e ps more settled → (k ≡ length h + 1 → ⊥)
+    → (k ≤ length h → IsUnasked h e ps k) → (k ≤ length h → is_cancel_requested (h ++ e ∷ []) k ≡ is_cancel_requested h k) → IsFree more k
     → StandsAt (record { history = h; pairs = ps; settled = settled }) k (instruction_at h k) s → StandsAt (record { history = h ++ e ∷ []; pairs = ps ++ more; settled = settled }) k (instruction_at (h ++ e ∷ []) k) s
-stands_rest h e ps more settled k s quiet not_new free is = elim (cases_lt (length h) k) [
-  | inr le ↦ rw (instruction_at-front h (e ∷ []) k le) (at_old h e ps more settled k s (instruction_at h k) quiet le free is)
+stands_by h e ps more settled k s quiet not_new stays asked free is = elim (cases_lt (length h) k) [
+  | inr le ↦ rw (instruction_at-front h (e ∷ []) k le) (at_old h e ps more settled k s (instruction_at h k) quiet (stays le) (asked le) free is)
   | inl above ↦
       let old : instruction_at h k ≡ None = beyond h k above in
       let new : instruction_at (h ++ e ∷ []) k ≡ None = beyond (h ++ e ∷ []) k (let l = length-append h (e ∷ []) in omega arith) in
@@ -237,6 +254,13 @@ stands_rest h e ps more settled k s quiet not_new free is = elim (cases_lt (leng
       let plain = subst P old is in
       rw new plain
 ]
+
+-- where the entry requests nothing: every number but that of the new entry, and those that it is paired with
+pub stands_rest : (h : List Entry) (e : Entry) (ps more : List Pair) (settled : List Settled) (k : ℕ) (s : Standing) → IsQuiet h e ps more settled → ((i : Instructed) → requests_cancel e i ≡ false)
+    → (k ≡ length h + 1 → ⊥) → IsFree more k
+    → StandsAt (record { history = h; pairs = ps; settled = settled }) k (instruction_at h k) s → StandsAt (record { history = h ++ e ∷ []; pairs = ps ++ more; settled = settled }) k (instruction_at (h ++ e ∷ []) k) s
+stands_rest h e ps more settled k s quiet none not_new free is =
+    stands_by h e ps more settled k s quiet not_new (λ le. unasked h e ps k quiet.within_pairs none le) (λ le. not_cancelled h e k le (λ i at. none i)) free is
 
 -- What a booking does.
 
@@ -385,7 +409,6 @@ tables_booking limit books content e reply is tables verdict allows =
     let are = tables.are_books in
     let quiet : IsQuiet h e books.pairs [] books.settled = record {
       no_run = plain.no_run;
-      no_cancel = plain.no_cancel;
       within_pairs = pairs_known h books.pairs are.pairing;
       within = settled_known h books.pairs books.settled are.settlement;
     } in
@@ -414,7 +437,7 @@ tables_booking limit books content e reply is tables verdict allows =
               rw (plain.no_request (history_of content) content.standing, new, none) plain.first
           | inr other ↦
               let old : k == length content.register + 1 ≡ false = ne_eqb k (length content.register + 1) (λ (q : k ≡ length content.register + 1). other (omega arith)) in
-              rw (plain.no_request (history_of content) content.standing, old) (stands_rest h e books.pairs [] books.settled k (content.standing k) quiet other (free_of_none k) (tables.standing k))
+              rw (plain.no_request (history_of content) content.standing, old) (stands_rest h e books.pairs [] books.settled k (content.standing k) quiet plain.no_cancel other (free_of_none k) (tables.standing k))
         ];
         position = λ account isin.
             let within = settled_in_history books are in

@@ -1,5 +1,6 @@
 pub mod Accepting
 pub mod Applied
+pub mod Cancelling
 pub mod Deciding
 pub mod Decision
 pub mod Pass

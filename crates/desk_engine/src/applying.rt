@@ -9,17 +9,19 @@ ghost use Rattle.desk_rules.specs.Books.{Books};
 
 use crate::adding::{add_booking, add_instruction, next_number};
 use crate::applied::{Accepted, Applied};
+use crate::cancelling::{add_cancellation, calls_off};
 use crate::replies::{accepted_reply, once_more};
 use crate::settlement_run::{add_run, run_passes};
 use desk_codes::{Bic, Day, Reference};
-use desk_msg::Instruction;
+use desk_msg::{CancelOrder, Instruction};
 use desk_register::{Fault, Register, Stage};
 use desk_rules::{Entry, RunRule, State};
 use std::alloc::Global;
 
 /// Takes an entry that `decide` accepts into the tables, with all that follows from it: an instruction is paired
-/// with its mate, and a run settles what is covered. Answers how it fared, and its reply, of which a copy is kept with
-/// it. After a fault the tables are not known until `back`.
+/// with its mate, a cancellation cancels its instruction, or a pair of which both sides asked, and a run settles what is
+/// covered. Answers how it fared, and its reply, of which a copy is kept with it. After a fault the tables are not known
+/// until `back`.
 pub fn apply<R: Register>(alloc: Global, register: &mut R, entry: Entry) -> Result<Accepted, Fault>
     requires stage { (R.view register.old).stage ≡ Stage.Begun }
     requires supported { IsTrue (is_supported entry) }
@@ -38,7 +40,7 @@ pub fn apply<R: Register>(alloc: Global, register: &mut R, entry: Entry) -> Resu
             day,
             rule,
         } => apply_run(alloc, register, reference, day, rule),
-        Entry::Cancel { .. } => unreachable!(),
+        Entry::Cancel { sender, order } => apply_cancellation(alloc, register, sender, order),
         _ => apply_booking(alloc, register, entry),
     }
 }
@@ -99,6 +101,35 @@ fn apply_instruction<R: Register>(
     let reply = accepted_reply(alloc, &entry, &applied)?;
     let kept = once_more(alloc, &reply)?;
     add_instruction(alloc, register, sender, instruction, number, mate, kept)?;
+    Ok(Accepted { applied, reply })
+}
+
+/// A cancellation.
+fn apply_cancellation<R: Register>(
+    alloc: Global,
+    register: &mut R,
+    sender: Bic,
+    order: CancelOrder,
+) -> Result<Accepted, Fault>
+    requires stage { (R.view register.old).stage ≡ Stage.Begun }
+    requires accepted { IfTrusted (R.view register.old) (R.view register.old) (CanApply (R.view register.old).room (Entry.Cancel sender order) (R.view register.old).content) }
+    ensures applied { (books : Books) → IfTrusted (R.view register.old) (R.view register.new) (Keeps (R.view register.old).room books (R.view register.old).content
+        → IfOk result (λ accepted. HasApplied (R.view register.old).room books (Entry.Cancel sender order) accepted (R.view register.new).content)) }
+    ensures step { IsStep result (R.view register.old) (R.view register.new) }
+{
+    let number = next_number(alloc, register)?;
+    let off = calls_off(alloc, register, &sender, &order)?;
+    let applied = Applied {
+        number,
+        mate: None,
+        settled: 0,
+        waiting: 0,
+        named: off.state(),
+    };
+    let entry = Entry::Cancel { sender, order };
+    let reply = accepted_reply(alloc, &entry, &applied)?;
+    let kept = once_more(alloc, &reply)?;
+    add_cancellation(alloc, register, sender, order, off, kept)?;
     Ok(Accepted { applied, reply })
 }
 

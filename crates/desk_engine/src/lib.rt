@@ -2,15 +2,16 @@
 //!
 //! `decision.rt` rules on an entry, by the checks of `checks.rt`. `accepting.rt` is the one step by which an accepted
 //! one is taken in: begun, taken into the tables by `applying.rt`, and committed or taken back. `adding.rt` adds it and
-//! pairs it, `settlement_run.rt` settles in a run, `sending.rt` sends what is told of both, and `replies.rt` writes the replies. specs/Applied.antt says what a
-//! register keeps of a history, and what an accepted entry leaves behind. Begin with it, then `decision.rt` and
-//! `accepting.rt`.
+//! pairs it, `cancelling.rt` cancels what it calls off, `settlement_run.rt` settles in a run, `sending.rt` sends what is
+//! told of pairs and settlements, and `replies.rt` writes the replies. specs/Applied.antt says what a register keeps of a
+//! history, and what an accepted entry leaves behind. Begin with it, then `decision.rt` and `accepting.rt`.
 #![tactic(auto)]
 
 mod accepting;
 mod adding;
 mod applied;
 mod applying;
+mod cancelling;
 mod checks;
 mod decision;
 mod laws;
