@@ -1,11 +1,9 @@
 //! All that was sent by books.
 ghost use Rattle.std.specs.Prelude.{◌≡◌, ◌≤◌, true, false, [], ◌∷◌, length, None, is_some, option_and_then, IfOk, MatchOption};
 ghost use Rattle.desk_rules.specs.declared.limits.TheConstants.{MOST_ENTRIES};
-ghost use Rattle.desk_msg.specs.ConfirmationText.{confirming_type, confirmation};
-ghost use Rattle.desk_msg.specs.MessageType.{number_of_type};
 ghost use Rattle.desk_rules.specs.Books.{AreBooks};
 ghost use Rattle.desk_rules.specs.History.{entry_at, instruction_at, run_day};
-ghost use Rattle.desk_rules.specs.Sent.{date_by, date_in, sent_of, told, told_to};
+ghost use Rattle.desk_rules.specs.Sent.{date_by, date_in, sent_of, told_to};
 ghost use Rattle.desk_plain.specs.Books.{seen};
 ghost use Rattle.desk_plain.specs.Told.{CanTell, can_tell};
 
@@ -13,12 +11,8 @@ use crate::books::Books;
 use crate::history::{entry_at, instruction_at};
 use crate::notices::notices_of;
 use desk_codes::Day;
-use desk_msg::{Case, Own, Reason, confirmation_text, status_text};
-use desk_rules::{Entry, Instructed, MOST_SENT, Notice, Sent, Text};
+use desk_rules::{Entry, MOST_SENT, Notice, Sent, pairing_advice, settlement_confirmation};
 use std::alloc::{AllocError, Global};
-
-/// The message type of a status advice.
-const ADVICE: u16 = 548;
 
 /// The day of a run.
 fn day_of_run(entry: &Entry) -> Option<Day>
@@ -40,43 +34,6 @@ fn date_of(entries: &[Entry], run: u64) -> Option<Day>
     }
 }
 
-/// The k-th sent message, where it says that an instruction was paired.
-fn matched(alloc: Global, k: u64, about: u64, found: &Instructed) -> Result<Sent, AllocError>
-    requires { k ≤ MOST_SENT }
-    ensures { IfOk result (λ message. message ≡ told [] k about None found.now) }
-{
-    let instruction = &found.instruction;
-    let own = Own::Sent(k);
-    let case = Case::Matched(Reason::Future);
-    let text = status_text(alloc, own, instruction.mt, &instruction.reference, case)?;
-    Ok(Sent {
-        bic: found.sender,
-        mt: ADVICE,
-        about,
-        text: Text::new(text),
-    })
-}
-
-/// The k-th sent message, where it says that a run of that day settled an instruction.
-fn settled(
-    alloc: Global,
-    k: u64,
-    about: u64,
-    found: &Instructed,
-    day: Day,
-) -> Result<Sent, AllocError>
-    requires { k ≤ MOST_SENT }
-    ensures { IfOk result (λ message. message ≡ record { bic = found.now.sender; mt = number_of_type (confirming_type found.now.instruction.mt); about = about; text = confirmation k found.now.instruction day }) }
-{
-    let text = confirmation_text(alloc, k, &found.instruction, day)?;
-    Ok(Sent {
-        bic: found.sender,
-        mt: found.instruction.mt.confirming().number(),
-        about,
-        text: Text::new(text),
-    })
-}
-
 /// The k-th sent message, which tells this notice; None where that can't be told.
 fn told(
     alloc: Global,
@@ -91,12 +48,12 @@ fn told(
         return Ok(None);
     };
     let Some(run) = notice.run else {
-        return Ok(Some(matched(alloc, k, notice.about, &found)?));
+        return Ok(Some(pairing_advice(alloc, k, notice.about, &found)?));
     };
     let Some(day) = date_of(entries, run) else {
         return Ok(None);
     };
-    Ok(Some(settled(alloc, k, notice.about, &found, day)?))
+    Ok(Some(settlement_confirmation(alloc, k, notice.about, &found, day)?))
 }
 
 /// All that was sent by these books, in order; None where some of it can't be told or numbered, as never where the pairs
