@@ -26,7 +26,7 @@ use Rattle.desk_register.specs.Looked.{kept_at}
 use Rattle.desk_rules.specs.declared.verdict.Verdict.TheVariants.{Accept}
 use Rattle.desk_rules.specs.History.{before, entry_at, instruction_at, instructed, run_day}
 use Rattle.desk_rules.specs.Pairing.{IsPairing, IsFree}
-use Rattle.desk_rules.specs.Settlement.{is_due, settled_count}
+use Rattle.desk_rules.specs.Settlement.{passes_of, is_due, settled_count}
 use Rattle.desk_rules.specs.Reply.{IsFirstReply, reply_to, waiting_count, is_settled_pair}
 use Rattle.desk_rules.specs.Books.{Books, AreBooks}
 use Rattle.desk_rules.specs.Verdict.{WasAccepted, IsVerdict, named_by}
@@ -50,7 +50,7 @@ use Rattle.desk_register.specs.declared.register.Stage.TheVariants.{Idle, Begun,
 use Rattle.desk_register.specs.View.{View, IsLater, IsRead, Stays, fallen}
 use Rattle.desk_register.proofs.ViewLemmas.{blames_memory, later_then, same_blame, stays_then}
 use Rattle.desk_engine.specs.Steps.{IsStep}
-use Rattle.desk_engine.specs.Applied.{Keeps, IsMateOf, IsNamed, IsApplied, CanApply, HasApplied}
+use Rattle.desk_engine.specs.Applied.{HasPasses, Keeps, IsMateOf, IsNamed, IsApplied, CanApply, HasApplied}
 use Rattle.desk_engine.proofs.AppendLemmas.{accepted_new}
 pub use Rattle.desk_engine.proofs.AppendLemmas.{entries_within}
 use Rattle.desk_engine.proofs.TablesLemmas.{one_books, length_is, pairs_known, accepted_in}
@@ -188,12 +188,25 @@ quiet_entry (Instruct sender instruction) is = absurd (cc)
 quiet_entry (Cancel sender order) is = absurd (cc)
 quiet_entry (Run reference day rule) is = absurd (cc)
 
+-- what is no run makes no pass
+passes_none : (b : Books) (e : Entry) (n passes : ℕ) → run_day e ≡ None → passes ≡ 0 → HasPasses b e n passes
+passes_none b (Participant reference bic) n passes no_run is = is
+passes_none b (Account reference bic account) n passes no_run is = is
+passes_none b (Security reference isin kind) n passes no_run is = is
+passes_none b (Issue movement) n passes no_run is = is
+passes_none b (Redeem movement) n passes no_run is = is
+passes_none b (PayIn payment) n passes no_run is = is
+passes_none b (PayOut payment) n passes no_run is = is
+passes_none b (Instruct sender instruction) n passes no_run is = is
+passes_none b (Cancel sender order) n passes no_run is = is
+passes_none b (Run reference day rule) n passes no_run is = absurd (cc)
+
 -- an entry that is no run and no instruction fared so
 pub quiet_applied : (limit : ℕ) (books : Books) (old new : Content) (e : Entry) (reply : Reply) (n : ℕ) (a : Applied) → Keeps limit books old → run_day e ≡ None → instructed e ≡ None → (grown : Grown limit books e new)
-    → new.register ≡ old.register ++ record { entry = e; reply = reply } ∷ [] → n ≡ length old.register + 1 → a.number ≡ n → a.mate ≡ None → a.settled ≡ 0 → a.waiting ≡ 0
+    → new.register ≡ old.register ++ record { entry = e; reply = reply } ∷ [] → n ≡ length old.register + 1 → a.number ≡ n → a.mate ≡ None → a.settled ≡ 0 → a.waiting ≡ 0 → a.passes ≡ 0
     → IsNamed (record { history = books.history ++ e ∷ []; pairs = grown.pairs; settled = grown.settled }) e a.named → ((b : Books) → IsApplied b e a → reply ≡ reply_to b e)
     → HasApplied limit books e (record { applied = a; reply = reply }) new
-quiet_applied limit books old new e reply n a keeps no_run no_instruction grown more is_number number mate settled waiting named replied =
+quiet_applied limit books old new e reply n a keeps no_run no_instruction grown more is_number number mate settled waiting passes named replied =
     let h = books.history in
     let after : Books = record { history = h ++ e ∷ []; pairs = grown.pairs; settled = grown.settled } in
     let size : length old.register ≡ length h = length_is old h keeps.tables.history in
@@ -207,6 +220,7 @@ quiet_applied limit books old new e reply n a keeps no_run no_instruction grown 
       mate = subst M (sym mate) (not_paired (h ++ e ∷ []) grown.pairs a.number are.pairing none);
       settled = settles_none after a.number e are entry no_run ∙ sym settled;
       waiting = waits_none after a.number e entry no_run ∙ sym waiting;
+      passes = passes_none after e a.number a.passes no_run passes;
       named = named;
     } in
     record {
@@ -219,12 +233,12 @@ quiet_applied limit books old new e reply n a keeps no_run no_instruction grown 
     }
 
 pub booked : (limit : ℕ) (books : Books) (old new : Content) (e : Entry) (reply : Reply) (n : ℕ) (a : Applied) → Keeps limit books old → is_booking e ≡ true → Grown limit books e new
-    → new ≡ appended e reply old → n ≡ length old.register + 1 → a.number ≡ n → a.mate ≡ None → a.settled ≡ 0 → a.waiting ≡ 0 → ((b : Books) → IsApplied b e a → reply ≡ reply_to b e)
+    → new ≡ appended e reply old → n ≡ length old.register + 1 → a.number ≡ n → a.mate ≡ None → a.settled ≡ 0 → a.waiting ≡ 0 → a.passes ≡ 0 → ((b : Books) → IsApplied b e a → reply ≡ reply_to b e)
     → HasApplied limit books e (record { applied = a; reply = reply }) new
-booked limit books old new e reply n a keeps kind grown added is_number number mate settled waiting replied =
+booked limit books old new e reply n a keeps kind grown added is_number number mate settled waiting passes replied =
     let quiet = quiet_entry e kind in
     let after : Books = record { history = books.history ++ e ∷ []; pairs = grown.pairs; settled = grown.settled } in
-    quiet_applied limit books old new e reply n a keeps quiet.no_run quiet.no_instruction grown (ap (λ (c : Content). c.register) added) is_number number mate settled waiting (quiet.no_cancel after a.named) replied
+    quiet_applied limit books old new e reply n a keeps quiet.no_run quiet.no_instruction grown (ap (λ (c : Content). c.register) added) is_number number mate settled waiting passes (quiet.no_cancel after a.named) replied
 
 -- How an instruction fared.
 
@@ -268,8 +282,8 @@ stands_first e reply old n (Some m) at first =
 
 pub instructed_applied : (limit : ℕ) (books : Books) (old new : Content) (sender : List ℕ) (i : Instruction) (reply : Reply) (n : ℕ) (m : Option ℕ) (a : Applied) → Keeps limit books old
     → Grown limit books (Instruct sender i) new → new ≡ mated n m (appended (Instruct sender i) reply old) → n ≡ length old.register + 1
-    → a.number ≡ n → a.mate ≡ m → a.settled ≡ 0 → a.waiting ≡ 0 → ((b : Books) → IsApplied b (Instruct sender i) a → reply ≡ reply_to b (Instruct sender i)) → HasApplied limit books (Instruct sender i) (record { applied = a; reply = reply }) new
-instructed_applied limit books old new sender i reply n m a keeps grown added is_number number mate settled waiting replied =
+    → a.number ≡ n → a.mate ≡ m → a.settled ≡ 0 → a.waiting ≡ 0 → a.passes ≡ 0 → ((b : Books) → IsApplied b (Instruct sender i) a → reply ≡ reply_to b (Instruct sender i)) → HasApplied limit books (Instruct sender i) (record { applied = a; reply = reply }) new
+instructed_applied limit books old new sender i reply n m a keeps grown added is_number number mate settled waiting passes replied =
     let h = books.history in
     let e : Entry = Instruct sender i in
     let after : Books = record { history = h ++ e ∷ []; pairs = grown.pairs; settled = grown.settled } in
@@ -289,6 +303,7 @@ instructed_applied limit books old new sender i reply n m a keeps grown added is
       mate = (let N : ℕ → Type 0 = λ k. IsMateOf grown.pairs k a.mate in let O : Option ℕ → Type 0 = λ o. IsMateOf grown.pairs n o in subst N (sym number) (subst O (sym mate) mates));
       settled = settles_none after a.number e are entry_a refl ∙ sym settled;
       waiting = waits_none after a.number e entry_a refl ∙ sym waiting;
+      passes = passes;
       named = tt;
     } in
     record {
@@ -328,21 +343,21 @@ room_of limit e content can =
 
 pub booked_step : (v0 v1 v2 : View) (books : Books) (e : Entry) (reply : Reply) (n : ℕ) (a : Applied) → v1.content ≡ v0.content → v1.room ≡ v0.room → is_booking e ≡ true
     → (Tables v1.room books v1.content → Grown v1.room books e v2.content) → v2.content ≡ appended e reply v1.content → n ≡ length v0.content.register + 1
-    → a.number ≡ n → a.mate ≡ None → a.settled ≡ 0 → a.waiting ≡ 0 → ((b : Books) → IsApplied b e a → reply ≡ reply_to b e) → Keeps v0.room books v0.content → HasApplied v0.room books e (record { applied = a; reply = reply }) v2.content
-booked_step v0 v1 v2 books e reply n a same room kind grows added is_number number mate settled waiting replied keeps =
+    → a.number ≡ n → a.mate ≡ None → a.settled ≡ 0 → a.waiting ≡ 0 → a.passes ≡ 0 → ((b : Books) → IsApplied b e a → reply ≡ reply_to b e) → Keeps v0.room books v0.content → HasApplied v0.room books e (record { applied = a; reply = reply }) v2.content
+booked_step v0 v1 v2 books e reply n a same room kind grows added is_number number mate settled waiting passes replied keeps =
     let P : Content → Type 0 = λ c. Tables v1.room books c in
     let Q : ℕ → Type 0 = λ k. Tables k books v0.content in
     let R : ℕ → Type 0 = λ k. Grown k books e v2.content in
     let S : Content → Type 0 = λ c. v2.content ≡ appended e reply c in
     let tables : Tables v1.room books v1.content = subst P (sym same) (subst Q (sym room) (tables_of v0.room books v0.content keeps)) in
     let grown : Grown v0.room books e v2.content = subst R room (grows tables) in
-    booked v0.room books v0.content v2.content e reply n a keeps kind grown (subst S same added) is_number number mate settled waiting replied
+    booked v0.room books v0.content v2.content e reply n a keeps kind grown (subst S same added) is_number number mate settled waiting passes replied
 
 pub instructed_step : (v0 v1 v2 : View) (books : Books) (sender : List ℕ) (i : Instruction) (reply : Reply) (n : ℕ) (m : Option ℕ) (a : Applied) → v1.content ≡ v0.content → v1.room ≡ v0.room
     → (Tables v1.room books v1.content → Grown v1.room books (Instruct sender i) v2.content) → v2.content ≡ mated n m (appended (Instruct sender i) reply v1.content)
-    → n ≡ length v0.content.register + 1 → a.number ≡ n → a.mate ≡ m → a.settled ≡ 0 → a.waiting ≡ 0 → ((b : Books) → IsApplied b (Instruct sender i) a → reply ≡ reply_to b (Instruct sender i))
+    → n ≡ length v0.content.register + 1 → a.number ≡ n → a.mate ≡ m → a.settled ≡ 0 → a.waiting ≡ 0 → a.passes ≡ 0 → ((b : Books) → IsApplied b (Instruct sender i) a → reply ≡ reply_to b (Instruct sender i))
     → Keeps v0.room books v0.content → HasApplied v0.room books (Instruct sender i) (record { applied = a; reply = reply }) v2.content
-instructed_step v0 v1 v2 books sender i reply n m a same room grows added is_number number mate settled waiting replied keeps =
+instructed_step v0 v1 v2 books sender i reply n m a same room grows added is_number number mate settled waiting passes replied keeps =
     let e : Entry = Instruct sender i in
     let P : Content → Type 0 = λ c. Tables v1.room books c in
     let Q : ℕ → Type 0 = λ k. Tables k books v0.content in
@@ -350,7 +365,7 @@ instructed_step v0 v1 v2 books sender i reply n m a same room grows added is_num
     let S : Content → Type 0 = λ c. v2.content ≡ mated n m (appended e reply c) in
     let tables : Tables v1.room books v1.content = subst P (sym same) (subst Q (sym room) (tables_of v0.room books v0.content keeps)) in
     let grown : Grown v0.room books e v2.content = subst R room (grows tables) in
-    instructed_applied v0.room books v0.content v2.content sender i reply n m a keeps grown (subst S same added) is_number number mate settled waiting replied
+    instructed_applied v0.room books v0.content v2.content sender i reply n m a keeps grown (subst S same added) is_number number mate settled waiting passes replied
 
 -- How a cancellation fared.
 
@@ -362,9 +377,9 @@ called_off_register (Nothing state) content = refl
 pub cancelled_step : (v0 v1 v2 : View) (books : Books) (sender : List ℕ) (order : CancelOrder) (reply : Reply) (n : ℕ) (off : CallsOff) (a : Applied) → v1.content ≡ v0.content → v1.room ≡ v0.room
     → (Tables v1.room books v1.content → Grown v1.room books (Cancel sender order) v2.content) → v2.content ≡ called_off off (appended (Cancel sender order) reply v1.content)
     → off ≡ off_by v0.content.standing (named_by (history_of v0.content) sender order) → CanApply v0.room (Cancel sender order) v0.content → n ≡ length v0.content.register + 1
-    → a.number ≡ n → a.mate ≡ None → a.settled ≡ 0 → a.waiting ≡ 0 → a.named ≡ state_then off → ((b : Books) → IsApplied b (Cancel sender order) a → reply ≡ reply_to b (Cancel sender order))
+    → a.number ≡ n → a.mate ≡ None → a.settled ≡ 0 → a.waiting ≡ 0 → a.passes ≡ 0 → a.named ≡ state_then off → ((b : Books) → IsApplied b (Cancel sender order) a → reply ≡ reply_to b (Cancel sender order))
     → Keeps v0.room books v0.content → HasApplied v0.room books (Cancel sender order) (record { applied = a; reply = reply }) v2.content
-cancelled_step v0 v1 v2 books sender order reply n off a same room grows added is_off can is_number number mate settled waiting named replied keeps =
+cancelled_step v0 v1 v2 books sender order reply n off a same room grows added is_off can is_number number mate settled waiting passes named replied keeps =
     let e : Entry = Cancel sender order in
     let P : Content → Type 0 = λ c. Tables v1.room books c in
     let Q : ℕ → Type 0 = λ k. Tables k books v0.content in
@@ -378,7 +393,7 @@ cancelled_step v0 v1 v2 books sender order reply n off a same room grows added i
     let N : State → Type 0 = λ s. IsNamed (record { history = books.history ++ e ∷ []; pairs = grown.pairs; settled = grown.settled }) e s in
     let told = cancelled_named v0.room books v0.content v2.content sender order reply off grown.pairs grown.settled by grown.tables is in
     quiet_applied v0.room books v0.content v2.content e reply n a keeps refl refl grown (ap (λ (c : Content). c.register) is ∙ called_off_register off (appended e reply v0.content))
-    is_number number mate settled waiting (subst N (sym named) told) replied
+    is_number number mate settled waiting passes (subst N (sym named) told) replied
 
 pub number_after : (v0 v1 v2 : View) (e : Entry) (n : ℕ) → CanApply v0.room e v0.content → v1.content ≡ v0.content → v2.content ≡ v1.content
     → (length v0.content.register < v0.room → n ≡ length v0.content.register + 1) → n ≡ length v2.content.register + 1
@@ -390,7 +405,7 @@ number_after v0 v1 v2 e n can first second value =
 -- How a run fared.
 
 pub run_step : (v0 v1 v2 v3 : View) (books : Books) (reference day : List ℕ) (rule : RunRule) (reply : Reply) (n : ℕ) (a : Applied) → CanApply v0.room (Run reference day rule) v0.content
-    → RanTo books (Run reference day rule) a.settled a.waiting v1.content → v1.content.register ≡ v0.content.register → v2.content ≡ v1.content → v3.content ≡ appended (Run reference day rule) reply v2.content
+    → RanTo books (Run reference day rule) a.settled a.waiting a.passes v1.content → v1.content.register ≡ v0.content.register → v2.content ≡ v1.content → v3.content ≡ appended (Run reference day rule) reply v2.content
     → n ≡ length v0.content.register + 1 → a.number ≡ n → a.mate ≡ None → ((b : Books) → IsApplied b (Run reference day rule) a → reply ≡ reply_to b (Run reference day rule)) → Keeps v0.room books v0.content
     → HasApplied v0.room books (Run reference day rule) (record { applied = a; reply = reply }) v3.content
 run_step v0 v1 v2 v3 books reference day rule reply n a can ran kept same added is_number number mate replied keeps =
@@ -414,6 +429,7 @@ run_step v0 v1 v2 v3 books reference day rule reply n a can ran kept same added 
       mate = subst M (sym mate) (not_paired (h ++ e ∷ []) books.pairs a.number tables.are_books.pairing none);
       settled = ap (settled_count after.settled) last ∙ ran.settles;
       waiting = ap (waiting_count after) last ∙ ran.waits;
+      passes = ap (passes_of after.history after.settled) last ∙ ran.passes;
       named = tt;
     } in
     let K : List Kept → Type 0 = λ k. v3.content.register ≡ k ++ record { entry = e; reply = reply } ∷ [] in
@@ -436,9 +452,9 @@ number_after_run v0 v1 e n can room kept value =
     omega arith
 
 -- the run has passed, as it must have before it is added
-pub passed_of : (v0 v1 v2 : View) (reference day : List ℕ) (rule : RunRule) (settled waiting : ℕ) → (can : CanApply v0.room (Run reference day rule) v0.content) → RanTo can.books (Run reference day rule) settled waiting v1.content
+pub passed_of : (v0 v1 v2 : View) (reference day : List ℕ) (rule : RunRule) (settled waiting passes : ℕ) → (can : CanApply v0.room (Run reference day rule) v0.content) → RanTo can.books (Run reference day rule) settled waiting passes v1.content
     → v2.content ≡ v1.content → v2.room ≡ v0.room → IsPassed v2.room (Run reference day rule) v2.content
-passed_of v0 v1 v2 reference day rule settled waiting can ran same room =
+passed_of v0 v1 v2 reference day rule settled waiting passes can ran same room =
     let P : Content → Type 0 = λ c. IsPassed v2.room (Run reference day rule) c in
     let Q : ℕ → Type 0 = λ k. IsPassed k (Run reference day rule) v1.content in
     subst P (sym same) (subst Q (sym room) (record {

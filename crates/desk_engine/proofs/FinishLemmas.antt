@@ -93,7 +93,7 @@ module _ (books : Books) (reference day : List ℕ) (rule : RunRule) (pass : ℕ
     settlement : IsSettlement (books.history ++ Run reference day rule ∷ []) books.pairs settled
     settlement = run_ends (books.history ++ Run reference day rule ∷ []) books.pairs settled (length books.history + 1) (pass + 1) (sym longer) (omega arith) (decided_as_far over.reached) last
 
-    passes_is : passes_of (books.history ++ Run reference day rule ∷ []) settled (length books.history + 1) ≡ pass
+    pub passes_is : passes_of (books.history ++ Run reference day rule ∷ []) settled (length books.history + 1) ≡ pass
     passes_is =
         let g = books.history ++ Run reference day rule ∷ [] in
         let n = length books.history + 1 in

@@ -1,6 +1,6 @@
 -- The reply to an accepted instruction.
-use Rattle.std.proofs.Common.{◌≡◌, inl, inr, ℕ, ◌==◌, ◌||◌, Bool, true, false, List, Option, Some, None, refl, ap, sym, ◌∙◌, subst, arith}
-use Rattle.std.specs.Prelude.{if◌then◌else◌, is_some, Result, Ok, Err, IfOk}
+use Rattle.std.proofs.Common.{◌≡◌, inl, inr, ℕ, ◌==◌, ◌||◌, Bool, true, false, List, ◌++◌, Option, Some, None, refl, ap, sym, ◌∙◌, subst, arith}
+use Rattle.std.specs.Prelude.{codes, decimal, if◌then◌else◌, is_some, Result, Ok, Err, IfOk}
 use Rattle.std.specs.List.{list_any}
 use Rattle.std.proofs.lemmas.Bool.{cases_Bool}
 use Rattle.std.proofs.lemmas.Bool.Decides.{nat_tests}
@@ -11,11 +11,13 @@ use Rattle.desk_msg.specs.declared.status.Reason.TheVariants.{Future}
 use Rattle.desk_msg.specs.declared.status.Own.TheVariants.{Answer}
 use Rattle.desk_msg.specs.StatusText.{advice}
 use Rattle.desk_rules.specs.declared.entry.Entry.{Entry}
-use Rattle.desk_rules.specs.declared.entry.Entry.TheVariants.{Cancel, Instruct}
+use Rattle.desk_rules.specs.declared.entry.Entry.TheVariants.{Cancel, Instruct, Run}
+use Rattle.desk_rules.specs.declared.entry.RunRule.{RunRule}
 use Rattle.desk_rules.specs.declared.pair.Pair.{Pair}
 use Rattle.desk_rules.specs.declared.reply.Reply.{Reply}
 use Rattle.desk_rules.specs.Pairing.{has_side}
-use Rattle.desk_rules.specs.Reply.{advice_reply, cancellation_case, case_by_state, first_case, reply_to}
+use Rattle.desk_rules.specs.Reply.{accepted_text, advice_reply, cancellation_case, case_by_state, first_case, reply_to, run_text, untyped_reply}
+use Rattle.desk_rules.specs.Settlement.{settled_count}
 use Rattle.desk_rules.specs.Verdict.{named_by}
 use Rattle.desk_msg.specs.declared.instruction.CancelOrder.{CancelOrder}
 use Rattle.desk_rules.specs.Books.{Books, is_paired}
@@ -66,3 +68,13 @@ cancel_reply r books a entry sender order about is at written fared =
     let first = ap (λ x. advice_reply 200 (advice (Answer a.number) order.mt order.reference x)) case in
     let second = ap (λ k. advice_reply 200 (advice (Answer k) order.mt order.reference (cancellation_case books (named_by books.history sender order)))) fared.number in
     ok_is r (advice_reply 200 (advice (Answer a.number) order.mt order.reference about)) (reply_to books entry) (first ∙ second ∙ ap (λ e. reply_to books e) (sym is)) written
+
+pub run_told : {E : Type 0} (r : Result Reply E) (books : Books) (a : Applied) (entry : Entry) (reference day : List ℕ) (rule : RunRule) → entry ≡ Run reference day rule
+    → IfOk r (λ reply. reply ≡ untyped_reply 200 (accepted_text a.number ++ codes " settled " ++ decimal a.settled ++ codes " waiting " ++ decimal a.waiting))
+    → IsApplied books entry a → IfOk r (λ reply. reply ≡ reply_to books entry)
+run_told r books a entry reference day rule is written fared =
+    let text : ℕ → ℕ → List ℕ = λ settled waiting. accepted_text a.number ++ codes " settled " ++ decimal settled ++ codes " waiting " ++ decimal waiting in
+    let first = ap (λ k. untyped_reply 200 (text k a.waiting)) (sym fared.settled) in
+    let second = ap (λ k. untyped_reply 200 (text (settled_count books.settled a.number) k)) (sym fared.waiting) in
+    let third = ap (λ n. untyped_reply 200 (run_text books n)) fared.number in
+    ok_is r (untyped_reply 200 (text a.settled a.waiting)) (reply_to books entry) (first ∙ second ∙ third ∙ ap (λ e. reply_to books e) (sym is)) written

@@ -27,7 +27,7 @@ use Rattle.desk_register.proofs.ViewLemmas.{later_then, stays_then}
 use Rattle.desk_engine.proofs.FinishLemmas.{first_begins}
 use Rattle.desk_engine.proofs.KeepsLemmas.{tables_of}
 use Rattle.desk_engine.proofs.SentLemmas.{sent_none_yet}
-use Rattle.desk_engine.proofs.UnderwayLemmas.{Underway, settles_keeps, starts, can_try, goes_on, ends_none, ends_all, Ran, goes_again, run_over, enough, settled_few, first_over, again_over}
+use Rattle.desk_engine.proofs.UnderwayLemmas.{Underway, settles_keeps, starts, can_try, goes_on, ends_none, ends_all, Ran, goes_again, run_over, enough, none_at_all, settled_few, first_over, again_over}
 
 -- to try a pair changes no entry and no reply
 
@@ -224,14 +224,16 @@ module _ (room count : ℕ) (v0 v : View) (day : List ℕ) (rule : RunRule) (aga
         again_over books reference day rule again settled waiting last count_so left total v.content w.content tables.are_books ran some total_is over;
   }
 
-  pub passing_ends : (books : Books) (reference : List ℕ) → (rule ≡ OnePass) ⊎ (last ≡ 0) → v.is_honest → v0.is_sure → Tables room books v0.content → RanTo books (Run reference day rule) settled waiting v.content
+  pub passing_ends : (books : Books) (reference : List ℕ) → (rule ≡ OnePass) ⊎ (last ≡ 0) → v.is_honest → v0.is_sure → Tables room books v0.content → RanTo books (Run reference day rule) settled waiting (again + 1) v.content
   passing_ends books reference why honest sure tables =
       run_over books reference day rule again settled waiting last v.content tables.are_books (p.ran honest sure books reference tables) why
 
-  -- no more passes are needed than there are entries
-  pub passing_ends_all : (books : Books) (reference : List ℕ) → count ≤ again → v.is_honest → v0.is_sure → Tables room books v0.content → RanTo books (Run reference day rule) settled waiting v.content
+  -- no more passes are needed than there are entries, and with none there is one pass
+  pub passing_ends_all : (books : Books) (reference : List ℕ) → count ≤ again → v.is_honest → v0.is_sure → Tables room books v0.content → RanTo books (Run reference day rule) settled waiting 1 v.content
   passing_ends_all books reference all honest sure tables =
       let ran = p.ran honest sure books reference tables in
       let number = length_is v0.content books.history tables.history in
       let is = p.entries honest sure in
-      run_over books reference day rule again settled waiting last v.content tables.are_books ran (inr (enough books reference day rule again settled waiting last v.content tables.are_books ran (omega arith)))
+      let none : again ≡ 0 = none_at_all books reference day rule again settled waiting last v.content tables.are_books ran (omega arith) in
+      let P : ℕ → Type 0 = λ k. RanTo books (Run reference day rule) settled waiting (k + 1) v.content in
+      subst P none (run_over books reference day rule again settled waiting last v.content tables.are_books ran (inr (enough books reference day rule again settled waiting last v.content tables.are_books ran (omega arith))))

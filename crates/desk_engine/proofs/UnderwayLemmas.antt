@@ -50,7 +50,7 @@ use Rattle.desk_rules.proofs.SentNumbers.{sent_counted}
 use Rattle.desk_rules.specs.declared.limits.TheConstants.{SENT_A_PAIR}
 use Rattle.desk_engine.specs.Tables.{IsAccepted}
 use Rattle.desk_engine.proofs.SentLemmas.{IsOfRun, sends_confirmations, sent_so_far_count}
-use Rattle.desk_engine.proofs.FinishLemmas.{has_passed, next_begins}
+use Rattle.desk_engine.proofs.FinishLemmas.{has_passed, next_begins, passes_is}
 
 -- pairs that rise by number are no more than the numbers
 rising_length : (low high : ℕ) (ps : List Pair) → Ordered lower ps → ((p : Pair) → In ps p → low < p.later) → ((p : Pair) → In ps p → p.later ≤ high) → low ≤ high → low + length ps ≤ high
@@ -355,6 +355,7 @@ pub record Ran (books : Books) (reference day : List ℕ) (rule : RunRule) (agai
   pub settled : List Settled
   pub over : IsOver books (Run reference day rule) pass start settled last waiting_so content
   pub total : length over.further.more ≡ settled_so
+  pub is_pass : pass ≡ again + 1
   pub many : again ≤ settled_so
   pub many_last : 0 < last → again < settled_so
   pub told : HasToldSoFar books (Run reference day rule) settled content
@@ -404,7 +405,7 @@ module _ (books : Books) (reference day : List ℕ) (rule : RunRule) (again sett
         ]
       ])
 
-  pub run_over : (rule ≡ OnePass) ⊎ (last ≡ 0) → RanTo books (Run reference day rule) settled_so waiting_so content
+  pub run_over : (rule ≡ OnePass) ⊎ (last ≡ 0) → RanTo books (Run reference day rule) settled_so waiting_so (again + 1) content
   run_over why =
       let n = length books.history + 1 in
       let o = ran.over in
@@ -418,6 +419,7 @@ module _ (books : Books) (reference day : List ℕ) (rule : RunRule) (again sett
         told = ran.told;
         settles = counts ∙ ran.total;
         waits = o.waits;
+        passes = passes_is books reference day rule ran.pass ran.start ran.settled last waiting_so content are o (not_again why) ∙ ran.is_pass;
       }
 
   -- the run cannot go on for ever: each pass but the last settles a pair
@@ -431,6 +433,24 @@ module _ (books : Books) (reference day : List ℕ) (rule : RunRule) (again sett
         let total = ran.total in
         let more = ran.many_last some in
         absurd (omega arith)
+  ]
+
+  -- and makes fewer passes than there are entries, unless there are none
+  pub none_at_all : length books.history ≤ again → again ≡ 0
+  none_at_all all = elim (cases_lt 0 (length books.pairs)) [
+    | inl some ↦
+        let few = ran.over.further.few in
+        let parts : length ran.settled ≡ length books.settled + length ran.over.further.more = ap length ran.over.further.is_more ∙ length-append books.settled ran.over.further.more in
+        let pairs = pairs_fewer books are some in
+        let total = ran.total in
+        let many = ran.many in
+        absurd (omega arith)
+    | inr none ↦
+        let few = ran.over.further.few in
+        let parts : length ran.settled ≡ length books.settled + length ran.over.further.more = ap length ran.over.further.is_more ∙ length-append books.settled ran.over.further.more in
+        let total = ran.total in
+        let many = ran.many in
+        omega arith
   ]
 
   pub settled_few : settled_so ≤ length books.history
@@ -457,6 +477,7 @@ first_over books reference day rule count waiting content ends =
       settled = ends.settled;
       over = o;
       total = omega arith;
+      is_pass = refl;
       many = omega arith;
       many_last = λ some. some;
       told = ends.told;
@@ -484,6 +505,7 @@ again_over books reference day rule again settled_so waiting_so last count waiti
       settled = ends.settled;
       over = o;
       total = omega arith;
+      is_pass = ap (λ k. k + 1) ran.is_pass;
       many = omega arith;
       many_last = λ now. omega arith;
       told = ends.told;

@@ -1,12 +1,12 @@
 -- What a register keeps, and what an accepted entry leaves behind.
 use Rattle.std.specs.Prelude.{◌≡◌, ℕ, List, [], ◌∷◌, ◌++◌, length, Contains, Option, Some, None}
 use Rattle.desk_rules.specs.declared.entry.Entry.{Entry}
-use Rattle.desk_rules.specs.declared.entry.Entry.TheVariants.{Cancel}
+use Rattle.desk_rules.specs.declared.entry.Entry.TheVariants.{Cancel, Run}
 use Rattle.desk_rules.specs.declared.standing.State.{State}
 use Rattle.desk_rules.specs.declared.pair.Pair.{Pair}
 use Rattle.desk_rules.specs.declared.verdict.Verdict.TheVariants.{Accept}
 use Rattle.desk_rules.specs.Pairing.{IsFree}
-use Rattle.desk_rules.specs.Settlement.{settled_count}
+use Rattle.desk_rules.specs.Settlement.{passes_of, settled_count}
 use Rattle.desk_rules.specs.Books.{Books}
 use Rattle.desk_rules.specs.Verdict.{IsVerdict, WasAccepted, named_by}
 use Rattle.desk_rules.specs.Reply.{cancellation_case, case_by_state, reply_to, waiting_count}
@@ -35,12 +35,18 @@ abbrev pub IsNamed : Books → Entry → State → Type 0
 IsNamed books (Cancel sender order) state = cancellation_case books (named_by books.history sender order) ≡ case_by_state state
 IsNamed books entry state = Unit {0}
 
+-- how many passes an entry made: a run those of its rule, what is no run none
+abbrev pub HasPasses : Books → Entry → ℕ → ℕ → Type 0
+HasPasses books (Run reference day rule) n passes = passes_of books.history books.settled n ≡ passes
+HasPasses books entry n passes = passes ≡ 0
+
 -- how the last entry of these books fared
 pub record IsApplied (books : Books) (entry : Entry) (applied : Applied) : Type 0 where
   pub number : applied.number ≡ length books.history
   pub mate : IsMateOf books.pairs applied.number applied.mate
   pub settled : settled_count books.settled applied.number ≡ applied.settled
   pub waiting : waiting_count books applied.number ≡ applied.waiting
+  pub passes : HasPasses books entry applied.number applied.passes
   pub named : IsNamed books entry applied.named
 
 -- the desk accepts an entry

@@ -16,7 +16,7 @@ use Rattle.desk_rules.specs.declared.verdict.Verdict.TheVariants.{Accept}
 use Rattle.desk_rules.specs.History.{instruction_at}
 use Rattle.desk_rules.specs.Cancelled.{is_cancel_requested}
 use Rattle.desk_rules.specs.Covered.{lack_of}
-use Rattle.desk_rules.specs.Settlement.{is_due, settled_before, pass_begins, settled_count, IsSettlement}
+use Rattle.desk_rules.specs.Settlement.{passes_of, is_due, settled_before, pass_begins, settled_count, IsSettlement}
 use Rattle.desk_rules.specs.Underway.{is_above}
 use Rattle.desk_rules.specs.Books.{Books, AreBooks}
 use Rattle.desk_rules.specs.Standing.{no_standing, reason_of_lack}
@@ -194,9 +194,10 @@ pub record CanRun (limit : ℕ) (content : Content) : Type 0 where
   pub tables : Tables limit books content
 
 -- what a run came to: its passes are made, so many settled in the run, and so many were due in it and are not settled
-pub record RanTo (books : Books) (run : Entry) (settled_so waiting_so : ℕ) (content : Content) : Type 0 where
+pub record RanTo (books : Books) (run : Entry) (settled_so waiting_so passes_so : ℕ) (content : Content) : Type 0 where
   pub settled : List Settled
   pub passed : HasPassed books run settled content
   pub told : HasToldSoFar books run settled content
   pub settles : settled_count settled (length books.history + 1) ≡ settled_so
   pub waits : waiting_count (books_after books run settled) (length books.history + 1) ≡ waiting_so
+  pub passes : passes_of (books.history ++ run ∷ []) settled (length books.history + 1) ≡ passes_so

@@ -15,6 +15,8 @@ pub struct Applied {
     pub settled: u64,
     /// How many pairs that were due in it are not settled; 0 unless it is a run
     pub waiting: u64,
+    /// How many passes a run made, the last one counted also where it settled nothing; 0 unless it is a run
+    pub passes: u64,
     /// Where the instruction stands then that it asks to cancel; NoInstruction unless it is a cancellation
     pub named: State,
     ghost within: { number ≤ MOST_ENTRIES },

@@ -64,6 +64,7 @@ fn apply_booking<R: Register>(
         mate: None,
         settled: 0,
         waiting: 0,
+        passes: 0,
         named: State::NoInstruction,
     };
     let reply = accepted_reply(alloc, &entry, &applied)?;
@@ -92,6 +93,7 @@ fn apply_instruction<R: Register>(
         mate,
         settled: 0,
         waiting: 0,
+        passes: 0,
         named: State::NoInstruction,
     };
     let entry = Entry::Instruct {
@@ -124,6 +126,7 @@ fn apply_cancellation<R: Register>(
         mate: None,
         settled: 0,
         waiting: 0,
+        passes: 0,
         named: off.state(),
     };
     let entry = Entry::Cancel { sender, order };
@@ -147,13 +150,14 @@ fn apply_run<R: Register>(
         → IfOk result (λ accepted. HasApplied (R.view register.old).room books (Entry.Run reference day rule) accepted (R.view register.new).content)) }
     ensures step { IsStep result (R.view register.old) (R.view register.new) }
 {
-    let passed = run_passes(alloc, register, day, rule)?;
+    let made = run_passes(alloc, register, day, rule)?;
     let number = next_number(alloc, register)?;
     let applied = Applied {
         number,
         mate: None,
-        settled: passed.settled,
-        waiting: passed.waiting,
+        settled: made.settled,
+        waiting: made.waiting,
+        passes: made.passes,
         named: State::NoInstruction,
     };
     let entry = Entry::Run {

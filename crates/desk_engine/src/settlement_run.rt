@@ -108,6 +108,30 @@ impl Passed {
             waiting: further.waiting,
         }
     }
+
+    /// What all passes of a run came to, where there were so many.
+    fn in_all(self, passes: u64) -> Ran
+        ensures settled { result.settled ≡ self.settled }
+        ensures waiting { result.waiting ≡ self.waiting }
+        ensures passes { result.passes ≡ passes }
+    {
+        Ran {
+            settled: self.settled,
+            waiting: self.waiting,
+            passes,
+        }
+    }
+}
+
+/// What the passes of a run came to.
+#[derive(Clone, Copy, Debug, PartialEq, Eq)]
+pub struct Ran {
+    /// How many pairs settled
+    pub settled: u64,
+    /// How many pairs that were due are not settled
+    pub waiting: u64,
+    /// How many passes there were
+    pub passes: u64,
 }
 
 /// Tries each due pair once, in order of settlement day and number, and settles those that are covered.
@@ -154,26 +178,27 @@ pub fn run_passes<R: Register>(
     register: &mut R,
     day: Day,
     rule: RunRule,
-) -> Result<Passed, Fault>
+) -> Result<Ran, Fault>
     requires stage { (R.view register.old).stage ≡ Stage.Begun }
     requires tables { IfTrusted (R.view register.old) (R.view register.old) (CanRun (R.view register.old).room (R.view register.old).content) }
     ensures kept { IfTrusted (R.view register.old) (R.view register.new) (OnOk result ((R.view register.new).content.register ≡ (R.view register.old).content.register)) }
     ensures ran { (books : Books) (reference : List ℕ) → IfTrusted (R.view register.old) (R.view register.new) (Tables (R.view register.old).room books (R.view register.old).content
-        → IfOk result (λ passed. RanTo books (Entry.Run reference day rule) passed.settled passed.waiting (R.view register.new).content)) }
+        → IfOk result (λ ran. RanTo books (Entry.Run reference day rule) ran.settled ran.waiting ran.passes (R.view register.new).content)) }
     ensures step { IsStep result (R.view register.old) (R.view register.new) }
 {
     let count = register.count(alloc)?;
     let mut passed = run_pass(alloc, register, day)?;
     let mut last = passed.settled;
-    'passes: for _again in 0..count {
+    'passes: for again in 0..count {
         if !makes_another(rule, last) {
-            return Ok(passed);
+            return Ok(passed.in_all(again + 1));
         }
         let further = run_pass(alloc, register, day)?;
         last = further.settled;
         passed = passed.with(further);
     }
-    Ok(passed)
+    // each pass but the last settles a pair, so only a run over no entries comes here
+    Ok(passed.in_all(1))
 }
 
 /// Adds an accepted run with its reply, after its passes over the due pairs.

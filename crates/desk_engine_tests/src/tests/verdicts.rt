@@ -28,6 +28,7 @@ fn accepts(
         mate: None,
         settled: 0,
         waiting: 0,
+        passes: 0,
         named: State::NoInstruction,
     });
     assert_eq!(rt; ledger.enter(alloc, entry)?, want);
@@ -155,6 +156,7 @@ fn messages(rt: HostRuntime) -> Result<(), Fail> {
         mate: Some(6),
         settled: 0,
         waiting: 0,
+        passes: 0,
         named: State::NoInstruction,
     });
     assert_eq!(rt; ledger.enter(alloc, of_beta)?, paired);

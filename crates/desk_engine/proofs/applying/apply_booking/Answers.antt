@@ -13,7 +13,7 @@ returns-clause-applied g c = λ books honest sure keeps.
     let can = c.requires.accepted honest0 sure in
     booked_step v0 (g.R.Register.view c.next_number.new.register) (g.R.Register.view c.add_booking.new.register) books c.args.entry c.in_ok-reply.reply c.in_ok-number.number _
     (r.read.same honest1 sure) r.read.later.room c.requires.kind (add.tables books honest sure1) (rw c.in_ok-kept.ensures.reply at (add.added honest sure1)) (r.value honest1 sure (room_of v0.room c.args.entry v0.content can))
-    refl refl refl refl c.in_ok-reply.ensures.reply keeps
+    refl refl refl refl refl c.in_ok-reply.ensures.reply keeps
 
 pub add_booking-requires-clause-accepted : goal.add_booking-requires-clause-accepted
 add_booking-requires-clause-accepted g c = λ honest sure.

@@ -42,7 +42,7 @@ returns-clause-applied g c = λ books honest sure keeps.
     let is_off = f.value honest2 sure1 well ∙ ap (λ (x : Content). off_by x.standing (named_by (history_of x) c.args.sender c.args.order)) (r.read.same honest1 sure) in
     cancelled_step v0 (g.R.Register.view c.calls_off.new.register) (g.R.Register.view c.add_cancellation.new.register) books c.args.sender c.args.order c.in_ok-reply.reply c.in_ok-number.number c.in_ok-off.off _
     (f.read.same honest2 sure1 ∙ r.read.same honest1 sure) (f.read.later.room ∙ r.read.later.room) (add.tables books honest sure2) (rw c.in_ok-kept.ensures.reply at (add.added honest sure2)) is_off can
-    (r.value honest1 sure (room_of v0.room _ v0.content can)) refl refl refl refl c.state.ensures c.in_ok-reply.ensures.reply keeps
+    (r.value honest1 sure (room_of v0.room _ v0.content can)) refl refl refl refl refl c.state.ensures c.in_ok-reply.ensures.reply keeps
 
 pub returns-in_err-reply-clause-step : goal.returns-in_err-reply-clause-step
 returns-in_err-reply-clause-step g c =

@@ -29,7 +29,7 @@ returns-clause-applied g c = λ books honest sure keeps.
     let can = c.requires.accepted honest0 sure in
     instructed_step v0 (g.R.Register.view c.first_opposite.new.self) (g.R.Register.view c.add_instruction.new.register) books c.args.sender c.args.instruction c.in_ok-reply.reply c.in_ok-number.number c.in_ok-mate.mate _
     (f.read.same honest2 sure1 ∙ r.read.same honest1 sure) (f.read.later.room ∙ r.read.later.room) (add.tables books honest sure2) (rw c.in_ok-kept.ensures.reply at (add.added honest sure2)) (r.value honest1 sure (room_of v0.room _ v0.content can))
-    refl refl refl refl c.in_ok-reply.ensures.reply keeps
+    refl refl refl refl refl c.in_ok-reply.ensures.reply keeps
 
 pub add_instruction-requires-clause-accepted : goal.add_instruction-requires-clause-accepted
 add_instruction-requires-clause-accepted g c = λ honest sure.

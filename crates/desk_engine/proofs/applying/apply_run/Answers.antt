@@ -8,19 +8,19 @@ run_passes-requires-clause-tables g c = λ honest sure. let v0 = g.R.Register.vi
 
 pub add_run-requires-clause-passed : goal.add_run-requires-clause-passed
 add_run-requires-clause-passed g c = λ honest sure.
-    let p = c.in_ok-passed.ensures in
+    let p = c.in_ok-made.ensures in
     let r = c.in_ok-number.ensures.read in
     let honest1 = r.later.honest honest in
     let honest0 = p.step.later.honest honest1 in
     let sure1 = r.later.sure honest sure in
     let sure0 = p.step.later.sure honest1 sure1 in
     let can = c.requires.accepted honest0 sure0 in
-    passed_of (g.R.Register.view c.args.register.now) (g.R.Register.view c.run_passes.new.register) (g.R.Register.view c.next_number.new.register) c.args.reference c.args.day c.args.rule _ _ can
+    passed_of (g.R.Register.view c.args.register.now) (g.R.Register.view c.run_passes.new.register) (g.R.Register.view c.next_number.new.register) c.args.reference c.args.day c.args.rule _ _ _ can
     (p.ran can.books c.args.reference honest1 sure0 (tables_of (g.R.Register.view c.args.register.now).room can.books (g.R.Register.view c.args.register.now).content can.keeps)) (r.same honest sure1) (r.later.room ∙ p.step.later.room)
 
 pub returns-clause-applied : goal.returns-clause-applied
 returns-clause-applied g c = λ books honest sure keeps.
-    let p = c.in_ok-passed.ensures in
+    let p = c.in_ok-made.ensures in
     let r = c.in_ok-number.ensures in
     let add = c.in_ok-add_run.ensures in
     let honest2 = add.change.later.honest honest in

@@ -21,15 +21,16 @@ passes-init g c =
 pub returns-then-not-makes_another-clause-ran : goal.returns-then-not-makes_another-clause-ran
 returns-then-not-makes_another-clause-ran g c = λ books reference honest sure tables.
     let v0 = g.R.Register.view c.args.register.now in
-    passing_ends v0.room c.in_ok-count.count v0 (g.R.Register.view c.passes.register) c.args.day c.args.rule c.passes._again c.passes.passed.settled c.passes.passed.waiting c.passes.last refl c.passes.invariant books reference
+    rw (c.in_all.ensures.settled, c.in_all.ensures.waiting, c.in_all.ensures.passes)
+    (passing_ends v0.room c.in_ok-count.count v0 (g.R.Register.view c.passes.register) c.args.day c.args.rule c.passes.again c.passes.passed.settled c.passes.passed.waiting c.passes.last refl c.passes.invariant books reference
     (makes_no_other c.args.rule c.passes.last (sym c.makes_another.ensures ∙ c.if-not-makes_another.true))
-    honest sure tables
+    honest sure tables)
 
 pub run_pass-requires-in-passes-clause-fits : goal.run_pass-requires-in-passes-clause-fits
 run_pass-requires-in-passes-clause-fits g c =
     let v0 = g.R.Register.view c.args.register.now in
     let more = makes_another c.args.rule c.passes.last (sym c.makes_another.ensures ∙ c.if-not-makes_another.false) in
-    passing_can_go v0.room c.in_ok-count.count v0 (g.R.Register.view c.passes.register) c.args.day c.args.rule c.passes._again c.passes.passed.settled c.passes.passed.waiting c.passes.last refl c.passes.invariant more.0 more.1 c.requires.tables
+    passing_can_go v0.room c.in_ok-count.count v0 (g.R.Register.view c.passes.register) c.args.day c.args.rule c.passes.again c.passes.passed.settled c.passes.passed.waiting c.passes.last refl c.passes.invariant more.0 more.1 c.requires.tables
 
 pub passes-preserved : goal.passes-preserved
 passes-preserved g c =
@@ -38,13 +39,14 @@ passes-preserved g c =
     let p = c.in_ok-further.ensures in
     let small : c.in_ok-count.count < 2 ^ 64 = search rules in
     rw c.with-passed.ensures.waiting
-    (passing_goes_on v0.room c.in_ok-count.count v0 (g.R.Register.view c.passes.register) c.args.day c.args.rule c.passes._again c.passes.passed.settled c.passes.passed.waiting c.passes.last refl c.passes.invariant
+    (passing_goes_on v0.room c.in_ok-count.count v0 (g.R.Register.view c.passes.register) c.args.day c.args.rule c.passes.again c.passes.passed.settled c.passes.passed.waiting c.passes.last refl c.passes.invariant
     (g.R.Register.view c.run_pass-in-passes.new.register) c.with-passed.result.settled c.in_ok-further.further.settled c.in_ok-further.further.waiting more.0 more.1
     p.step.ok p.step.later p.kept (λ books reference rule pass start honest sure. p.ran books reference rule pass start honest sure) c.with-passed.ensures.settled small)
 
 pub returns-clause-ran : goal.returns-clause-ran
 returns-clause-ran g c = λ books reference honest sure tables.
     let v0 = g.R.Register.view c.args.register.now in
-    let all : c.in_ok-count.count ≤ c.passes._again = omega arith in
-    passing_ends_all v0.room c.in_ok-count.count v0 (g.R.Register.view c.passes.register) c.args.day c.args.rule c.passes._again c.passes.passed.settled c.passes.passed.waiting c.passes.last refl c.passes.invariant books reference
-    all honest sure tables
+    let all : c.in_ok-count.count ≤ c.passes.again = omega arith in
+    rw (c.in_all-2.ensures.settled, c.in_all-2.ensures.waiting, c.in_all-2.ensures.passes)
+    (passing_ends_all v0.room c.in_ok-count.count v0 (g.R.Register.view c.passes.register) c.args.day c.args.rule c.passes.again c.passes.passed.settled c.passes.passed.waiting c.passes.last refl c.passes.invariant books reference
+    all honest sure tables)
