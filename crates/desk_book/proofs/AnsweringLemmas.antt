@@ -15,7 +15,6 @@ use Rattle.desk_rules.specs.declared.entry.Entry.TheVariants.{Participant, Accou
 use Rattle.desk_book.specs.Supported.{AreSupported, is_supported}
 use Rattle.desk_rules.proofs.Decided.{In, In-from_Contains, Contains-from_In, In-push_cases}
 use Rattle.desk_rules.specs.declared.verdict.Verdict.{Verdict}
-use Rattle.desk_engine.specs.Decision.{is_supported as is_taken_in}
 use Rattle.desk_book.specs.Answered.{Grows}
 use Rattle.desk_rules.specs.Balances.{issued, paid_in, paid_in_by, payment_in, redeemed}
 use Rattle.desk_rules.specs.Reply.{IsFirstReply, untyped_reply}
@@ -230,19 +229,6 @@ pub decides_repeat_at : (v0 v1 v2 : View) (books : Books) (e : Entry) (n : ℕ) 
 decides_repeat_at v0 v1 v2 books e n r same room keeps verdict repeats stays =
     let P : Content → Type 0 = λ c. OnOk r (v2.content ≡ c) in
     decides_repeat v0.room books e v0.content v2.content n r verdict (repeats (keeps_at v0 v1 books same room keeps) (repeat_known v0.room books e n verdict)) (subst P same stays) keeps
-
--- what requests are read as is taken in
-pub taken_in : (e : Entry) → is_supported e ≡ true → is_taken_in e ≡ true
-taken_in (Cancel sender order) is = absurd (cc)
-taken_in (Participant reference bic) is = refl
-taken_in (Account reference bic account) is = refl
-taken_in (Security reference isin kind) is = refl
-taken_in (Issue movement) is = refl
-taken_in (Redeem movement) is = refl
-taken_in (PayIn payment) is = refl
-taken_in (PayOut payment) is = refl
-taken_in (Instruct sender instruction) is = refl
-taken_in (Run reference day rule) is = refl
 
 -- what a verdict makes of books is of supported entries, where the entry is one
 supported_push : (h : List Entry) (e : Entry) → AreSupported h → is_supported e ≡ true → AreSupported (h ++ e ∷ [])

@@ -1,11 +1,10 @@
 //! The answer to one request, from an open desk's register.
-ghost use Rattle.std.specs.Prelude.{◌≡◌, ◌≢◌, true, false, IfOk, OnOk, IsTrue};
+ghost use Rattle.std.specs.Prelude.{◌≡◌, ◌≢◌, true, false, IfOk, OnOk};
 ghost use Rattle.desk_rules.specs.Books.{Books};
 ghost use Rattle.desk_rules.specs.Refusals.{number_of_refusal};
 ghost use Rattle.desk_rules.specs.Reply.{IsFirstReply, refused_reply};
 ghost use Rattle.desk_rules.specs.Verdict.{AsksTheSame};
 ghost use Rattle.desk_engine.specs.Applied.{CanApply, Keeps};
-ghost use Rattle.desk_book.specs.Supported.{is_supported};
 ghost use Rattle.desk_book.specs.Answered.{IsToldSums, says_closed};
 ghost use Rattle.desk_book.specs.Task.{IsFormed, IsSupported};
 ghost use Rattle.desk_book.specs.Held.{IsReady, KeepsFormed};
@@ -52,7 +51,6 @@ fn recovered<R: Register>(alloc: Global, register: &mut R, fault: RegisterFault)
 /// Takes an accepted entry in, and answers its reply.
 fn take_in<R: Register>(alloc: Global, register: &mut R, entry: Entry) -> Result<Reply, Fault>
     requires ready { IsReady false (R.view register.old) }
-    requires supported { IsTrue (is_supported entry) }
     requires accepted { (R.view register.old).is_honest → CanApply (R.view register.old).room entry (R.view register.old).content }
     ensures put { (books : Books) → (R.view register.new).is_honest → Keeps (R.view register.old).room books (R.view register.old).content
         → IfOk result (λ reply. IsPut (R.view register.old).room books entry reply (R.view register.new).content) }
@@ -114,7 +112,6 @@ fn repeat<R: Register>(
 /// Decides on an entry, and answers it.
 fn rule<R: Register>(alloc: Global, register: &mut R, entry: Entry) -> Result<Reply, Fault>
     requires ready { IsReady false (R.view register.old) }
-    requires supported { IsTrue (is_supported entry) }
     ensures decides { (books : Books) → (R.view register.new).is_honest → Keeps (R.view register.old).room books (R.view register.old).content
         → IfOk result (λ reply. Decides (R.view register.old).room books entry reply (R.view register.new).content) }
     ensures ends { Ends result (R.view register.old) (R.view register.new) }

@@ -1,6 +1,5 @@
 -- The tables of books in the relations of `Stands` in desk_rules, in which the steps of the rules are proved. Only proofs
--- and private contracts speak of them: what a register keeps is `Keeps` in Applied.antt, which says this, with the replies
--- and that each entry is a supported one.
+-- and private contracts speak of them: what a register keeps is `Keeps` in Applied.antt, which says this, with the replies.
 use Rattle.std.specs.Prelude.{◌≡◌, ℕ, Bool, true, false, List, [], ◌∷◌, ◌++◌, Option, Some, None}
 use Rattle.desk_rules.specs.declared.entry.Entry.{Entry}
 use Rattle.desk_rules.specs.declared.entry.Entry.TheVariants.{Instruct, Cancel, Run}

@@ -1,10 +1,9 @@
 //! The one step by which an accepted entry is taken in: begun, applied, and committed or taken back.
-ghost use Rattle.std.specs.Prelude.{◌≡◌, ◌≢◌, true, IfErr, IfOk, OnErr, OnOk, IsTrue};
+ghost use Rattle.std.specs.Prelude.{◌≡◌, ◌≢◌, true, IfErr, IfOk, OnErr, OnOk};
 ghost use Rattle.desk_rules.specs.Books.{Books};
 ghost use Rattle.desk_register.specs.View.{Blames, IfTrusted, IsLater};
 ghost use Rattle.desk_engine.specs.Accepting.{BlamesStep, IsDone, IsLeft, Recovers};
 ghost use Rattle.desk_engine.specs.Applied.{CanApply, HasApplied, Keeps};
-ghost use Rattle.desk_engine.specs.Decision.{is_supported};
 ghost use Rattle.desk_engine.specs.Steps.{Breaks};
 
 use crate::applied::Accepted;
@@ -50,7 +49,6 @@ pub fn recover<R: Register>(alloc: Global, register: &mut R, fault: Fault) -> Fa
 /// Takes an accepted entry into the tables, and keeps it.
 fn put<R: Register>(alloc: Global, register: &mut R, entry: Entry) -> Result<Accepted, Fault>
     requires stage { (R.view register.old).stage ≡ Stage.Begun }
-    requires supported { IsTrue (is_supported entry) }
     requires accepted { IfTrusted (R.view register.old) (R.view register.old) (CanApply (R.view register.old).room entry (R.view register.old).content) }
     ensures put { (books : Books) → IfTrusted (R.view register.old) (R.view register.new) (Keeps (R.view register.old).room books (R.view register.old).content
         → IfOk result (λ accepted. HasApplied (R.view register.old).room books entry accepted (R.view register.new).content)) }
@@ -72,7 +70,6 @@ pub fn accept<R: Register>(
     entry: Entry,
 ) -> Result<Accepted, Failure>
     requires stage { (R.view register.old).stage ≡ Stage.Idle }
-    requires supported { IsTrue (is_supported entry) }
     requires accepted { IfTrusted (R.view register.old) (R.view register.old) (CanApply (R.view register.old).room entry (R.view register.old).content) }
     ensures accepted { (books : Books) → IfTrusted (R.view register.old) (R.view register.new) (Keeps (R.view register.old).room books (R.view register.old).content
         → IfOk result (λ accepted. HasApplied (R.view register.old).room books entry accepted (R.view register.new).content)) }

@@ -2,7 +2,6 @@
 ghost use Rattle.std.specs.Prelude.{◌≡◌, ◌+◌, ◌<◌, length, IfOk, OnOk, IsTrue};
 ghost use Rattle.desk_register.specs.View.{IfTrusted};
 ghost use Rattle.desk_engine.specs.Applied.{CanApply, HasApplied, Keeps};
-ghost use Rattle.desk_engine.specs.Decision.{is_supported};
 ghost use Rattle.desk_engine.specs.Steps.{IsStep};
 ghost use Rattle.desk_engine.specs.Tables.{is_booking};
 ghost use Rattle.desk_rules.specs.Books.{Books};
@@ -24,7 +23,6 @@ use std::alloc::Global;
 /// until `back`.
 pub fn apply<R: Register>(alloc: Global, register: &mut R, entry: Entry) -> Result<Accepted, Fault>
     requires stage { (R.view register.old).stage ≡ Stage.Begun }
-    requires supported { IsTrue (is_supported entry) }
     requires accepted { IfTrusted (R.view register.old) (R.view register.old) (CanApply (R.view register.old).room entry (R.view register.old).content) }
     ensures applied { (books : Books) → IfTrusted (R.view register.old) (R.view register.new) (Keeps (R.view register.old).room books (R.view register.old).content
         → IfOk result (λ accepted. HasApplied (R.view register.old).room books entry accepted (R.view register.new).content)) }

@@ -19,11 +19,9 @@ mod naming;
 mod replies;
 mod sending;
 mod settlement_run;
-mod supported;
 
 pub use accepting::{Failure, accept, recover};
 pub use applied::{Accepted, Applied};
 pub use decision::decide;
 pub use laws::{empty_keeps, positions_add_up};
 pub use replies::refused_reply;
-pub use supported::is_supported;

@@ -1,5 +1,5 @@
 //! A register in plain lists that takes in what the desk accepts, entry by entry, as the desk does.
-ghost use Rattle.std.specs.Prelude.{◌≡◌, ◌≢◌, ◌≤◌, ◌+◌, false, length, option_map, IfErr, IfNone, IfOk, IfSome, IsOk, OnErr, IsTrue};
+ghost use Rattle.std.specs.Prelude.{◌≡◌, ◌≢◌, ◌≤◌, ◌+◌, false, length, option_map, IfErr, IfNone, IfOk, IfSome, IsOk, OnErr};
 ghost use Rattle.desk_codes.specs.Number.{number_of};
 ghost use Rattle.desk_rules.specs.Balances.{issued, redeemed};
 ghost use Rattle.desk_rules.specs.Books.{Books};
@@ -8,13 +8,12 @@ ghost use Rattle.desk_rules.specs.History.{entry_at};
 ghost use Rattle.desk_engine.specs.declared.applied.Applied.{Applied as AppliedValue};
 ghost use Rattle.desk_engine.specs.Applied.{CanApply, Keeps, no_books};
 ghost use Rattle.desk_rules.specs.Content.{history_of};
-ghost use Rattle.desk_engine.specs.Decision.{is_supported};
 ghost use Rattle.desk_lists.specs.ListView.{view_of_lists};
 ghost use Rattle.desk_register.specs.Looked.{IsDuePairAfter, held_of, reply_at};
 ghost use Rattle.desk_samples.specs.Ledger.{HasTaken, IsEntered, IsUnchanged, content_of, is_taken_in, room_of};
 
 use desk_codes::{AccountId, Day, Isin};
-use desk_engine::{Applied, Failure, accept, decide, is_supported};
+use desk_engine::{Applied, Failure, accept, decide};
 use desk_lists::ListRegister;
 use desk_register::{Fault, Register, Stage};
 use desk_rules::{Entry, MOST_ENTRIES, Place, Refusal, Reply, Standing, Verdict};
@@ -54,8 +53,6 @@ pub enum Entered {
     Repeated(u64),
     /// It is refused for this reason.
     Refused(Refusal),
-    /// The desk takes no such command yet.
-    NotTaken,
 }
 
 impl Entered {
@@ -66,7 +63,7 @@ impl Entered {
     {
         match self {
             Entered::Accepted(applied) => Some(applied),
-            Entered::Repeated(_) | Entered::Refused(_) | Entered::NotTaken => None,
+            Entered::Repeated(_) | Entered::Refused(_) => None,
         }
     }
 }
@@ -94,7 +91,6 @@ impl Ledger {
 
     /// Takes an accepted entry in; after a fault all is taken back.
     fn take(&mut self, alloc: Global, entry: Entry) -> Result<Applied, Fault>
-        requires supported { IsTrue (is_supported entry) }
         requires accepted { CanApply (view_of_lists self.old).room entry (view_of_lists self.old).content }
         ensures taken { (books : Books) → Keeps (room_of self.old) books (content_of self.old)
             → IfOk result (λ applied. HasTaken (room_of self.old) books entry applied (content_of self.new)) }
@@ -113,14 +109,10 @@ impl Ledger {
     pub fn enter(&mut self, alloc: Global, entry: Entry) -> Result<Entered, Fault>
         ensures entered { (books : Books) → Keeps (room_of self.old) books (content_of self.old)
             → IfOk result (λ entered. IsEntered (room_of self.old) books entry entered (content_of self.new)) }
-        ensures not_taken { is_supported entry ≡ false → result ≡ Ok Entered.NotTaken }
         ensures same { is_taken_in result ≡ false → content_of self.new ≡ content_of self.old }
         ensures memory { IfErr result (λ fault. fault ≡ Fault.Memory) }
         ensures room { room_of self.new ≡ room_of self.old }
     {
-        if !is_supported(&entry) {
-            return Ok(Entered::NotTaken);
-        }
         match decide(alloc, &mut self.register, &entry)? {
             Verdict::Accept => {
                 let applied = self.take(alloc, entry)?;

@@ -357,7 +357,6 @@ fn drawn_day(rt: &impl Abort, alloc: Global, seed: u64) -> Result<[u64; 4], Fail
         match ledger.enter(alloc, entry)? {
             Entered::Accepted(_) | Entered::Repeated(_) => {}
             Entered::Refused(refusal) => assert!(rt; is_run && refusal == Refusal::DayGoesBack),
-            Entered::NotTaken => assert!(rt; false, "not taken"),
         }
     }
     compared(rt, alloc, ledger)

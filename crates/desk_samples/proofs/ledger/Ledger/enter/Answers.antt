@@ -26,16 +26,18 @@ invariant_of-self-in-Accept c =
     let kept = c.self.invariant.1 in
     (read.ok.stage ∙ c.self.invariant.0, (kept.0, kept_in _ _ kept.0 _ _ read.later.room (read.same tt tt) kept.1))
 
-pub take-requires-clause-accepted : goal.take-requires-clause-accepted
-take-requires-clause-accepted c =
+pub take-requires : goal.take-requires
+take-requires c =
     let d = c.in_ok-decide.ensures in
     let stage = c.self.invariant.0 in
     let kept = c.self.invariant.1 in
     let P : ℕ → Type 0 = λ k. IsVerdict k kept.0 c.args.entry Accept in
     record {
-      books = kept.0;
-      keeps = kept_in _ _ kept.0 _ _ d.read.later.room (d.read.same tt tt) kept.1;
-      verdict = subst P (sym d.read.later.room) (rw c.in-Accept.is at (d.verdict kept.0 tt tt (not_failed _ stage) kept.1.tables));
+      accepted = record {
+        books = kept.0;
+        keeps = kept_in _ _ kept.0 _ _ d.read.later.room (d.read.same tt tt) kept.1;
+        verdict = subst P (sym d.read.later.room) (rw c.in-Accept.is at (d.verdict kept.0 tt tt (not_failed _ stage) kept.1.tables));
+      };
     }
 
 pub invariant_of-self-in-Repeat : goal.invariant_of-self-in-Repeat
