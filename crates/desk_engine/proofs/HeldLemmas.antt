@@ -15,7 +15,7 @@ use Rattle.desk_rules.specs.Standing.{no_standing, standing_of}
 use Rattle.desk_register.specs.Looked.{held_of}
 use Rattle.desk_engine.proofs.WithinLimits.{outstanding_within}
 
-sum_both : {X : Type 0} (f g h : X → ℕ) (xs : List X) → ((x : X) → f x + g x ≡ h x) → sum_by f xs + sum_by g xs ≡ sum_by h xs
+pub sum_both : {X : Type 0} (f g h : X → ℕ) (xs : List X) → ((x : X) → f x + g x ≡ h x) → sum_by f xs + sum_by g xs ≡ sum_by h xs
 sum_both f g h [] same = refl
 sum_both f g h (x ∷ xs) same =
     let one = same x in

@@ -5,5 +5,6 @@ pub mod Deciding
 pub mod Decision
 pub mod Pass
 pub mod Sending
+pub mod Sound
 pub mod Steps
 pub mod Tables

@@ -7,6 +7,8 @@ ghost use Rattle.desk_rules.specs.Content.{Content};
 ghost use Rattle.desk_register.specs.Changes.{empty_content};
 ghost use Rattle.desk_engine.specs.Applied.{Keeps, no_books};
 ghost use Rattle.desk_register.specs.Looked.{held_of};
+ghost use Rattle.desk_rules.specs.WellFormed.{AreWellFormed};
+ghost use Rattle.desk_engine.specs.Sound.{IsSound};
 
 /// The positions of all accounts in a security add up to what was issued less what was redeemed. (No position
 /// is below 0: it is a natural number that makes up for the account's debits.)
@@ -15,6 +17,12 @@ pub fn positions_add_up()
         → redeemed books.history isin + held_of content isin ≡ issued books.history isin }
     ensures within { (limit : ℕ) (books : Books) (content : Content) (isin : List ℕ) → Keeps limit books content
         → held_of content isin ≤ MOST_QUANTITY }
+{}
+
+/// What a register keeps is sound: of each security and each currency the balances add up, none is below 0, each change
+/// is what the sent messages confirm, no leg of a settlement moved alone, and a run in passes left no due pair covered.
+pub fn sound()
+    ensures { (limit : ℕ) (books : Books) (content : Content) → Keeps limit books content → AreWellFormed books.history → IsSound books content }
 {}
 
 /// A register that holds nothing keeps the tables of the history that has no entry.

@@ -23,5 +23,5 @@ mod settlement_run;
 pub use accepting::{Failure, accept, recover};
 pub use applied::{Accepted, Applied};
 pub use decision::decide;
-pub use laws::{empty_keeps, positions_add_up};
+pub use laws::{empty_keeps, positions_add_up, sound};
 pub use replies::refused_reply;
