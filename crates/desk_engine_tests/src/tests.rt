@@ -1,4 +1,5 @@
-//! The verdicts on supported commands, the replies, and worked days, against the plain program of the definitions.
+//! The verdicts, the replies, and worked days, against the plain program of the definitions.
+mod cancellations;
 mod days;
 mod replies;
 mod verdicts;

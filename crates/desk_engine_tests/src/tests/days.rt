@@ -3,9 +3,9 @@
 use desk_codes::{AccountId, Isin};
 use desk_lists::ListRegister;
 use desk_msg::Kind;
-use desk_plain::{Books, credits, debits, pairing_of, settlement_of, standing_of};
+use desk_plain::{Books, credits, debits, pairing_of, reply_to, settlement_of, standing_of};
 use desk_register::Register;
-use desk_rules::{Entry, Pair, Refusal, Settled, Standing};
+use desk_rules::{Entry, MOST_ENTRIES, Pair, Refusal, Reply, Settled, Standing};
 use desk_samples::entries::{
     EntryFault, InstructionTexts, SHARE, account, delivery, instruct, isin, issue, new_account,
     participant, receipt, run, security,
@@ -42,6 +42,21 @@ impl Plain {
             settled: &self.settled,
         };
         standing_of(alloc, books, number)
+    }
+
+    /// The reply to the last entry, if there is one, and they are no more than a desk may hold.
+    fn last_reply(&self, alloc: Global) -> Result<Option<Reply>, AllocError> {
+        let books = Books {
+            history: &self.entries,
+            pairs: &self.pairs,
+            settled: &self.settled,
+        };
+        match self.entries.last() {
+            Some(entry) if self.entries.len() as u64 <= MOST_ENTRIES => {
+                Ok(Some(reply_to(alloc, books, entry)?))
+            }
+            _ => Ok(None),
+        }
     }
 
     /// Whether an account holds so much.
@@ -97,8 +112,24 @@ fn held_by_all(
     Ok(held)
 }
 
+/// The plain program gives the reply that is kept with the last entry.
+pub fn same_reply(rt: &impl Abort, alloc: Global, ledger: &mut Ledger) -> Result<(), Fail> {
+    let mut entries = Vec::new(alloc);
+    let count = ledger.count(alloc)?;
+    for index in 0..count {
+        let entry = ledger.entry(alloc, index + 1)?.ok_or("entry")?;
+        entries.push(entry)?;
+    }
+    let plain = plain_of(alloc, entries)?;
+    let wanted = plain.last_reply(alloc)?.ok_or("no entry")?;
+    let kept = ledger.reply(alloc, count)?.ok_or("no reply")?;
+    assert_eq!(rt; (kept.status, kept.mt), (wanted.status, wanted.mt));
+    assert_eq!(rt; kept.text.as_bytes(), wanted.text.as_bytes());
+    Ok(())
+}
+
 /// The plain program gives the same mates, states and positions; and what the accounts hold of the share.
-fn compared(rt: &impl Abort, alloc: Global, ledger: Ledger) -> Result<[u64; 4], Fail> {
+pub fn compared(rt: &impl Abort, alloc: Global, ledger: Ledger) -> Result<[u64; 4], Fail> {
     let mut register = ledger.into_register();
     let entries = entries_of(alloc, &mut register)?;
     let plain = plain_of(alloc, entries)?;
@@ -107,7 +138,7 @@ fn compared(rt: &impl Abort, alloc: Global, ledger: Ledger) -> Result<[u64; 4], 
 }
 
 /// Enters what is accepted, with so many pairs settled and waiting in it.
-fn enters(
+pub fn enters(
     rt: &impl Abort,
     alloc: Global,
     ledger: &mut Ledger,
@@ -123,7 +154,7 @@ fn enters(
 }
 
 /// Three participants, two accounts of ALPHDEFF and one of each other, a share, and 1000 of it on A-1.
-fn base(alloc: Global) -> Result<Ledger, Fail> {
+pub fn base(alloc: Global) -> Result<Ledger, Fail> {
     let entries = [
         participant("P1", "ALPHDEFF")?,
         participant("P2", "BETADEFF")?,
@@ -146,7 +177,7 @@ fn base(alloc: Global) -> Result<Ledger, Fail> {
 }
 
 /// Enters two instructions.
-fn both(
+pub fn both(
     rt: &impl Abort,
     alloc: Global,
     ledger: &mut Ledger,
@@ -249,7 +280,7 @@ fn two_days(rt: HostRuntime) -> Result<(), Fail> {
 }
 
 /// A receipt of ALPHDEFF from itself, on this account.
-fn own_receipt<'a>(name: &'a str, quantity: &'a str) -> InstructionTexts<'a> {
+pub fn own_receipt<'a>(name: &'a str, quantity: &'a str) -> InstructionTexts<'a> {
     InstructionTexts {
         sender: "ALPHDEFF",
         account: name,
@@ -260,7 +291,7 @@ fn own_receipt<'a>(name: &'a str, quantity: &'a str) -> InstructionTexts<'a> {
 }
 
 /// A delivery of ALPHDEFF to itself.
-fn own_delivery(quantity: &str) -> InstructionTexts<'_> {
+pub fn own_delivery(quantity: &str) -> InstructionTexts<'_> {
     InstructionTexts {
         other: "ALPHDEFF",
         quantity,

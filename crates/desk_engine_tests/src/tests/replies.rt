@@ -1,5 +1,6 @@
 //! The replies, against texts written by hand.
 
+use crate::tests::cancellations::cancel;
 use desk_engine::refused_reply;
 use desk_msg::Kind;
 use desk_rules::{Refusal, Reply};
@@ -18,6 +19,14 @@ const UNMATCHED: &str =
 /// The receipt, accepted as the entry 9 and paired.
 const MATCHED: &str =
     "{4:\r\n:16R:GENL\r\n:20C::SEME//S000000000000009\r\n:23G:INST\r\n:16R:LINK\r\n:13A::LINK//540\r\n:20C::RELA//B1\r\n:16S:LINK\r\n:16R:STAT\r\n:25D::IPRC//PACK\r\n:16S:STAT\r\n:16R:STAT\r\n:25D::MTCH//MACH\r\n:16S:STAT\r\n:16R:STAT\r\n:25D::SETT//PEND\r\n:16R:REAS\r\n:24B::PEND//FUTU\r\n:16S:REAS\r\n:16S:STAT\r\n:16S:GENL\r\n-}";
+
+/// The request to cancel a further delivery, accepted as the entry 13 while the other side has not asked.
+const WAITS: &str =
+    "{4:\r\n:16R:GENL\r\n:20C::SEME//S000000000000013\r\n:23G:CAST\r\n:16R:LINK\r\n:13A::LINK//542\r\n:20C::RELA//X1\r\n:16S:LINK\r\n:16R:STAT\r\n:25D::CPRC//PACK\r\n:16S:STAT\r\n:16S:GENL\r\n-}";
+
+/// That of its receipt, accepted as the entry 14: both are cancelled.
+const CANCELLED: &str =
+    "{4:\r\n:16R:GENL\r\n:20C::SEME//S000000000000014\r\n:23G:CAST\r\n:16R:LINK\r\n:13A::LINK//540\r\n:20C::RELA//Y1\r\n:16S:LINK\r\n:16R:STAT\r\n:25D::CPRC//CAND\r\n:16S:STAT\r\n:16S:GENL\r\n-}";
 
 /// The delivery, refused by a desk of 10 entries.
 const REFUSED: &str =
@@ -49,6 +58,10 @@ fn accepted(rt: HostRuntime) -> Result<(), Fail> {
         instruct(alloc, delivery("A1"))?,
         instruct(alloc, receipt("B1"))?,
         run("R1", b"20240229")?,
+        instruct(alloc, delivery("A2"))?,
+        instruct(alloc, receipt("B2"))?,
+        cancel(alloc, "X1", delivery("A2"))?,
+        cancel(alloc, "Y1", receipt("B2"))?,
     ];
     let mut ledger = Ledger::new(alloc, 1000);
     for entry in entries {
@@ -62,6 +75,14 @@ fn accepted(rt: HostRuntime) -> Result<(), Fail> {
     says(&rt, kept(alloc, &mut ledger, 9)?, 200, Some(548), MATCHED);
     let ran = "accepted 10 settled 1 waiting 0";
     says(&rt, kept(alloc, &mut ledger, 10)?, 200, None, ran);
+    says(&rt, kept(alloc, &mut ledger, 13)?, 200, Some(548), WAITS);
+    says(
+        &rt,
+        kept(alloc, &mut ledger, 14)?,
+        200,
+        Some(548),
+        CANCELLED,
+    );
     Ok(())
 }
 

@@ -1,4 +1,4 @@
-//! The verdicts on supported commands. What is refused leaves no trace, so that its reference can be used.
+//! The verdicts. What is refused leaves no trace, so that its reference can be used.
 ghost use Rattle.std.specs.Prelude.{◌≤◌};
 
 use desk_engine::Applied;
@@ -13,7 +13,7 @@ use std::alloc::Global;
 use std::process::Abort;
 use std::test::Fail;
 
-/// Enters what is accepted under this number.
+/// Enters what is accepted under this number. A run makes one pass, since no pair is due in it.
 fn accepts(
     rt: &impl Abort,
     alloc: Global,
@@ -23,12 +23,13 @@ fn accepts(
 ) -> Result<(), Fail>
     requires { number ≤ MOST_ENTRIES }
 {
+    let is_run = matches!(entry, Entry::Run { .. });
     let want = Entered::Accepted(Applied {
         number,
         mate: None,
         settled: 0,
         waiting: 0,
-        passes: 0,
+        passes: if is_run { 1 } else { 0 },
         named: State::NoInstruction,
     });
     assert_eq!(rt; ledger.enter(alloc, entry)?, want);
