@@ -1,6 +1,7 @@
 """Times the bench program beside plain Python, the same work and the same figures in one run; and, with no Python
 beside them, a register that takes entries in, and the desk's program playing scripts."""
 
+import functools
 import itertools
 import json
 import re
@@ -128,7 +129,9 @@ TURNS = 3
 SIZES = 1_000, 10_000, 100_000
 MOST_SECONDS = 600
 
-# Of the entries that a register takes in, those of the opening and of a round, in which one pair is settled.
+# The stores of a register. Of the entries that it takes in, those of the opening and of a round, in which one pair is
+# settled.
+STORES = "lists", "index"
 REGISTER_OPENING, REGISTER_ROUND = 5, 4
 
 # The proved program; a script has so many bytes at most.
@@ -279,23 +282,27 @@ def measure_play():
     measure_growing("play of", "request", "requests", script_timed)
 
 
-def entries_timed(program, size):
+def entries_timed(program, store, size):
     """So many entries, made and taken into a register. The start of the program isn't counted."""
     pairs = (size - REGISTER_OPENING) // REGISTER_ROUND
-    _, start = timed(lambda: run(program, "register", 0))
-    settled, seconds = timed(lambda: run(program, "register", size))
+    _, start = timed(lambda: run(program, store, 0))
+    settled, seconds = timed(lambda: run(program, store, size))
     if settled != pairs:
-        sys.exit(f"register: {settled} pairs settled of {pairs}")
+        sys.exit(f"register in {store}: {settled} pairs settled of {pairs}")
     return pairs, seconds - start
 
 
 def measure_register(program):
-    """A register alone, taking in more and more entries."""
+    """A register alone, in each store, taking in more and more entries."""
     print(
         "register: entries are made and taken in one by one (verdict, pairs, runs, reply, tables) by a register in "
-        "lists; no script, no JSON and no message is read"
+        "lists, and by one with an index beside them; after each fourth the sums and a holding are asked for; no "
+        "script, no JSON and no message is read"
     )
-    measure_growing("register of", "entry", "entries", lambda size: entries_timed(program, size))
+    for store in STORES:
+        measure_growing(
+            f"register in {store} of", "entry", "entries", functools.partial(entries_timed, program, store)
+        )
 
 
 def main(program, kinds):

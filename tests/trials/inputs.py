@@ -26,4 +26,4 @@ def trials(room):
     yield fails("refuse_words: no growth", tried("refuse_words", silent, "case"), "no refusal led to this")
     yield fails("refuse_words: no case", tried("refuse_words", silent), "there is no case to run\n")
     yield fails("refuse_words: an unknown case", tried("refuse_words", silent, "none"), "there is no none.stdout\n")
-    yield fails("refuse_register: no growth", tried("refuse_register", silent), "\n0 passed, 1 failed\n")
+    yield fails("refuse_register: no growth", tried("refuse_register", silent), "\n0 passed, 2 failed\n")

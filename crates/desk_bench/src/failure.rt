@@ -14,6 +14,8 @@ pub enum Failure {
     Memory,
     /// The device under a register failed.
     Storage,
+    /// Two sums that must agree do not.
+    Sums,
     /// What was to be printed was not.
     Output,
 }

@@ -2,8 +2,8 @@
 //! a figure of it, so that two programs can be seen to have done the same. The text of a block comes on standard
 //! input. bench/run times it.
 //!
-//! And work to be disturbed: `desk_bench day` asks a register a day's entries, for tests/refuse_register, which refuses
-//! it growths of memory.
+//! And work to be disturbed: `desk_bench day STORE` asks a register a day's entries, for tests/refuse_register, which
+//! refuses it growths of memory. STORE is `lists` or `index`.
 #![tactic(auto)]
 
 mod blocks;
@@ -15,6 +15,8 @@ mod shown;
 mod trial;
 
 use crate::failure::Failure;
+use desk_index::IndexedRegister;
+use desk_lists::ListRegister;
 use std::env;
 use std::io::Read;
 use std::process::ExitCode;
@@ -40,13 +42,20 @@ fn main(rt: HostRuntime) -> ExitCode {
 fn answer(rt: &(impl Print + Input + AllocGlobal + Env)) -> Result<u8, Failure> {
     let words: Vec<String> = env::args(rt)?.collect(rt.alloc())?;
     match words.as_slice() {
-        [_, kind] if kind.as_str() == "day" => {
-            let is_kept = trial::try_day(rt)?;
-            Ok(if is_kept { DONE } else { CHANGED })
-        }
+        [_, kind, store] if kind.as_str() == "day" => try_day(rt, store.as_str()),
         [_, kind, count] => tell_figure(rt, kind.as_str(), count.as_str()),
         _ => Ok(USAGE),
     }
+}
+
+/// Asks a register of a store a day's entries.
+fn try_day(rt: &(impl Print + AllocGlobal), store: &str) -> Result<u8, Failure> {
+    let is_kept = match store {
+        "lists" => trial::try_day::<ListRegister>(rt)?,
+        "index" => trial::try_day::<IndexedRegister>(rt)?,
+        _ => return Ok(USAGE),
+    };
+    Ok(if is_kept { DONE } else { CHANGED })
 }
 
 /// Prints the figure of so much work of a kind.
@@ -79,7 +88,8 @@ fn figure_of(
             rt.reader().read_to_end(&mut text)?;
             blocks::fields_read(rt.alloc(), &text, count)
         }
-        "register" => rounds::pairs_settled(rt.alloc(), count)?,
+        "lists" => rounds::pairs_settled::<ListRegister>(rt.alloc(), count)?,
+        "index" => rounds::pairs_settled::<IndexedRegister>(rt.alloc(), count)?,
         _ => return Ok(None),
     }))
 }

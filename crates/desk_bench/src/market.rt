@@ -1,13 +1,13 @@
 //! Two participants and a security, and entries of theirs, made with no text of a message.
 ghost use Rattle.std.specs.Prelude.{◌≡◌, ◌<◌, ◌≤◌, true, false};
 ghost use Rattle.desk_msg.specs.MessageType.{is_instruction, is_against_payment};
-ghost use Rattle.desk_rules.specs.declared.limits.TheConstants.{MOST_QUANTITY};
+ghost use Rattle.desk_rules.specs.declared.limits.TheConstants.{MOST_PAID, MOST_QUANTITY};
 
 use crate::codes::digits;
 use crate::failure::Failure;
-use desk_codes::{AccountId, Bic, Day, Isin, Reference};
+use desk_codes::{AccountId, Bic, Ccy, Day, Isin, Reference};
 use desk_msg::{Instruction, Kind, Mt, SettlementType};
-use desk_rules::{Entry, Movement};
+use desk_rules::{Entry, Movement, Payment};
 use desk_samples::entries::{EntryFault, SHARE, account, bic, isin};
 
 /// How many entries `Market::opening` has.
@@ -104,12 +104,55 @@ impl Market {
         requires some { 0 < quantity }
         requires within { quantity ≤ MOST_QUANTITY }
     {
-        Entry::Issue(Movement {
+        Entry::Issue(self.movement(reference, side, quantity))
+    }
+
+    /// So many units redeemed from the account of a side.
+    pub fn redeem(&self, reference: Reference, side: Side, quantity: u64) -> Entry
+        requires some { 0 < quantity }
+        requires within { quantity ≤ MOST_QUANTITY }
+    {
+        Entry::Redeem(self.movement(reference, side, quantity))
+    }
+
+    fn movement(&self, reference: Reference, side: Side, quantity: u64) -> Movement
+        requires some { 0 < quantity }
+        requires within { quantity ≤ MOST_QUANTITY }
+    {
+        Movement {
             reference,
             account: self.party(side).account,
             isin: self.isin,
             quantity,
-        })
+        }
+    }
+
+    /// So many cents paid in by a side.
+    pub fn pay_in(&self, reference: Reference, side: Side, amount: u64) -> Entry
+        requires some { 0 < amount }
+        requires within { amount ≤ MOST_PAID }
+    {
+        Entry::PayIn(self.payment(reference, side, amount))
+    }
+
+    /// So many cents paid out to a side.
+    pub fn pay_out(&self, reference: Reference, side: Side, amount: u64) -> Entry
+        requires some { 0 < amount }
+        requires within { amount ≤ MOST_PAID }
+    {
+        Entry::PayOut(self.payment(reference, side, amount))
+    }
+
+    fn payment(&self, reference: Reference, side: Side, amount: u64) -> Payment
+        requires some { 0 < amount }
+        requires within { amount ≤ MOST_PAID }
+    {
+        Payment {
+            reference,
+            bic: self.party(side).bic,
+            ccy: Ccy::Eur,
+            amount,
+        }
     }
 
     /// One unit delivered free, as its deliverer or its receiver instructs.

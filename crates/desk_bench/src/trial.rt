@@ -7,48 +7,48 @@ use desk_codes::{Day, Reference};
 use desk_rules::{Entry, RunRule};
 use desk_samples::entries::day;
 use desk_samples::ledger::{Entered, Ledger};
+use desk_samples::memory::MemoryRegister;
 use std::alloc::Global;
 
 /// The register holds so many entries at most.
 const TRIAL_ENTRIES: u64 = 1000;
 
 /// How many entries the day has.
-const DAY: u32 = 19;
+const DAY: u32 = 22;
 
 /// Asks a register the day's entries one after another, and prints what came of each, and at the end what the register
 /// shows. After a fault it is looked at whether the register shows what it showed before the entry, and the entry is
 /// asked again. Whether it showed the same each time.
-pub fn try_day(rt: &(impl Print + AllocGlobal)) -> Result<bool, Failure> {
+pub fn try_day<R: MemoryRegister>(rt: &(impl Print + AllocGlobal)) -> Result<bool, Failure> {
     let alloc = rt.alloc();
     let market = Market::new()?;
-    let mut ledger = Ledger::new(alloc, TRIAL_ENTRIES);
+    let mut ledger = Ledger::<R>::new(alloc, TRIAL_ENTRIES);
     for number in 0..DAY {
         let entry = entry_at(&market, number)?;
-        let Some(entered) = try_entry(rt, &market, &mut ledger, number, entry)? else {
+        let Some(entered) = try_entry(rt, &mut ledger, number, entry)? else {
             return Ok(false);
         };
         println!(rt; "{number} {entered:?}")?;
     }
-    let end = shown_at_last(alloc, &market, &mut ledger)?;
+    let end = shown_at_last(alloc, &mut ledger)?;
     print!(rt; "{end}")?;
     Ok(true)
 }
 
 /// Asks for an entry, and after a fault again. None where the register shows something else after the fault.
-fn try_entry(
+fn try_entry<R: MemoryRegister>(
     rt: &(impl Print + AllocGlobal),
-    market: &Market,
-    ledger: &mut Ledger,
+    ledger: &mut Ledger<R>,
     number: u32,
     entry: Entry,
 ) -> Result<Option<Entered>, Failure> {
-    let before = shown_at_last(rt.alloc(), market, ledger)?;
+    let before = shown_at_last(rt.alloc(), ledger)?;
     let asked = ledger.enter(rt.alloc(), entry);
     let Err(fault) = asked else {
         return Ok(asked.ok());
     };
     println!(rt; "{number} {fault:?}")?;
-    if !shows(rt, market, ledger, &before)? {
+    if !shows(rt, ledger, &before)? {
         return Ok(None);
     }
     let entered = ledger.enter(rt.alloc(), entry)?;
@@ -56,13 +56,12 @@ fn try_entry(
 }
 
 /// Whether the register shows what it showed before; where it does not, both are printed.
-fn shows(
+fn shows<R: MemoryRegister>(
     rt: &(impl Print + AllocGlobal),
-    market: &Market,
-    ledger: &mut Ledger,
+    ledger: &mut Ledger<R>,
     before: &String,
 ) -> Result<bool, Failure> {
-    let after = shown_at_last(rt.alloc(), market, ledger)?;
+    let after = shown_at_last(rt.alloc(), ledger)?;
     let is_same = after.as_str() == before.as_str();
     if !is_same {
         print!(rt; "before\n{before}after\n{after}")?;
@@ -71,16 +70,19 @@ fn shows(
 }
 
 /// What the register shows. Where there was no memory to tell it, it is asked again.
-fn shown_at_last(alloc: Global, market: &Market, ledger: &mut Ledger) -> Result<String, Failure> {
-    match shown(alloc, market, ledger) {
-        Err(Failure::Memory) => shown(alloc, market, ledger),
+fn shown_at_last<R: MemoryRegister>(
+    alloc: Global,
+    ledger: &mut Ledger<R>,
+) -> Result<String, Failure> {
+    match shown(alloc, ledger) {
+        Err(Failure::Memory) => shown(alloc, ledger),
         shown => shown,
     }
 }
 
 /// The day's entry of a number, from 0. Two units are issued and three delivered, so that a run settles two pairs and
 /// leaves one waiting, until a third unit is issued. An instruction is repeated, and what goes back in days or uses a
-/// reference again is refused.
+/// reference again is refused. Then a unit is redeemed, and cash paid in and out.
 fn entry_at(market: &Market, number: u32) -> Result<Entry, Failure> {
     if number < OPENING {
         return market.opening(number);
@@ -97,6 +99,9 @@ fn entry_at(market: &Market, number: u32) -> Result<Entry, Failure> {
         15 => market.instruct(used, Side::Deliverer, leap),
         16 => market.instruct(used, Side::Deliverer, eve),
         17 => market.issue(own, Side::Deliverer, 1),
+        19 => market.redeem(own, Side::Receiver, 1),
+        20 => market.pay_in(own, Side::Receiver, 500),
+        21 => market.pay_out(own, Side::Receiver, 200),
         _ => run(own, leap),
     })
 }

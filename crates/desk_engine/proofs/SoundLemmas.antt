@@ -1,19 +1,14 @@
 -- What is kept is sound.
 use Rattle.std.proofs.Common.{◌≡◌, ℕ, ◌+◌, List, [], ◌∷◌, ◌++◌, sum_by, Contains, refl, sym, ap, subst, ◌∙◌, arith}
-use Rattle.desk_codes.specs.declared.currency.Ccy.{Ccy}
 use Rattle.desk_rules.specs.declared.entry.Entry.{Entry}
 use Rattle.desk_rules.specs.declared.pair.Settled.{Settled}
 use Rattle.desk_rules.specs.declared.reply.Sent.{Sent}
-use Rattle.desk_rules.specs.Balances.{cash_credits, cash_debits, paid_in, paid_out}
-use Rattle.desk_rules.specs.Facts.{participants_of}
 use Rattle.desk_rules.specs.Books.{Books}
 use Rattle.desk_rules.specs.BothLegs.{ComeInTwos, StandTogether}
 use Rattle.desk_rules.specs.Confirmations.{SayConfirmations}
 use Rattle.desk_rules.specs.Content.{Content}
 use Rattle.desk_rules.specs.WellFormed.{AreWellFormed}
-use Rattle.desk_register.specs.Looked.{held_cash_of}
 use Rattle.desk_rules.proofs.ConfirmedChanges.{confirmed}
-use Rattle.desk_rules.proofs.Conservation as conservation
 use Rattle.desk_rules.proofs.Decided.{In-from_Contains}
 use Rattle.desk_rules.proofs.LegsConfirmed as legs
 use Rattle.desk_rules.proofs.LegsMoved.{moves}
@@ -21,24 +16,7 @@ use Rattle.desk_rules.proofs.NonNegative.{never_negative}
 use Rattle.desk_rules.proofs.NothingLeft as left
 use Rattle.desk_engine.specs.Applied.{Keeps}
 use Rattle.desk_engine.specs.Sound.{AreConfirmed, HasBothLegs, IsSound}
-use Rattle.desk_engine.proofs.HeldLemmas.{held_adds_up, sum_both}
-
--- what all participants have is their credits less their debits
-held_cash_is : (limit : ℕ) (books : Books) (content : Content) (ccy : Ccy) → Keeps limit books content
-    → held_cash_of content ccy + sum_by (λ b. cash_debits books.history books.settled b ccy) (participants_of books.history) ≡ sum_by (λ b. cash_credits books.history books.settled b ccy) (participants_of books.history)
-held_cash_is limit books content ccy keeps =
-    let h = books.history in
-    let held = sum_both (λ b. content.cash b ccy) (λ b. cash_debits h books.settled b ccy) (λ b. cash_credits h books.settled b ccy) (participants_of h) (λ b. keeps.tables.cash b ccy) in
-    let same : held_cash_of content ccy ≡ sum_by (λ b. content.cash b ccy) (participants_of h) = ap (λ z. sum_by (λ b. content.cash b ccy) (participants_of z)) keeps.tables.history in
-    omega (arith, held, same)
-
-held_cash_adds_up : (limit : ℕ) (books : Books) (content : Content) (ccy : Ccy) → Keeps limit books content → paid_out books.history ccy + held_cash_of content ccy ≡ paid_in books.history ccy
-held_cash_adds_up limit books content ccy keeps =
-    let h = books.history in
-    let are = keeps.tables.are in
-    let all = conservation.cash_adds_up limit h keeps.accepted books.pairs books.settled are.pairing are.settlement ccy in
-    let held = held_cash_is limit books content ccy keeps in
-    omega (arith, all, held)
+use Rattle.desk_engine.proofs.HeldLemmas.{held_adds_up, held_cash_adds_up}
 
 pub kept_is_sound : (limit : ℕ) (books : Books) (content : Content) → Keeps limit books content → AreWellFormed books.history → IsSound books content
 kept_is_sound limit books content keeps formed =

@@ -1,47 +1,81 @@
--- What a call leaves of a register with no `begin` open.
-use Rattle.std.proofs.Common.{◌≡◌, ◌≢◌, ◌∙◌, refl, ap, subst}
+-- What a call leaves of a register in memory with no `begin` open.
+use Rattle.std.proofs.Common.{◌≡◌, ◌≢◌, ◌∙◌, ◌<◌, refl, ap, sym, subst, arith, lit<}
 use Rattle.std.specs.Prelude.{Result, Ok, Err, IfErr, IfOk, OnOk}
 use Rattle.desk_rules.specs.declared.entry.Entry.{Entry}
 use Rattle.desk_rules.specs.Books.{Books}
+use Rattle.desk_rules.specs.Content.{Content}
 use Rattle.desk_register.specs.declared.register.Fault.{Fault}
-use Rattle.desk_register.specs.declared.register.Stage.TheVariants.{Idle}
-use Rattle.desk_lists.specs.declared.list_register.ListRegister.{ListRegister}
-use Rattle.desk_lists.specs.ListView.{view_of_lists}
-use Rattle.desk_register.specs.View.{View, IsLater, IsRead, fallen}
+use Rattle.desk_register.specs.declared.register.Fault.TheVariants.{Memory, Storage}
+use Rattle.desk_register.specs.declared.register.Stage.TheVariants.{Idle, Failed}
+use Rattle.desk_register.specs.declared.register.TheConstants.{MOST_FAILURES}
+use Rattle.desk_register.specs.View.{View, Blames, IsLater, IsRead, fallen}
 use Rattle.desk_engine.specs.declared.accepting.Failure.{Failure}
 use Rattle.desk_engine.specs.declared.accepting.Failure.TheVariants.{Undone, Lost}
 use Rattle.desk_engine.specs.declared.applied.Accepted.{Accepted}
-use Rattle.desk_engine.specs.Accepting.{IsDone, IsLeft}
+use Rattle.desk_engine.specs.Accepting.{BlamesStep, IsDone, IsLeft}
 use Rattle.desk_engine.specs.Applied.{HasApplied, Keeps}
 use Rattle.desk_engine.proofs.KeptLemmas.{kept_in}
-use Rattle.desk_samples.specs.Ledger.{IsUnchanged, content_of, room_of}
+use Rattle.desk_samples.specs.Memory.{HasNoDevice, IsUnchanged, KeepsBooks}
 
--- it is idle still, and holds what it held, whatever the call answered
-pub read_idle : {X : Type 0} (result : Result X Fault) (old new : View) → IsRead result old new → new.is_honest → old.is_sure → new.is_sure → old.stage ≡ Idle
+-- after a reading call it is idle still, and holds what it held
+pub read_idle : {X : Type 0} (result : Result X Fault) (old new : View) → HasNoDevice old → HasNoDevice new → IsRead result old new → old.stage ≡ Idle
     → (new.stage ≡ Idle) × (new.content ≡ old.content)
-read_idle (Ok x) old new read honest sure now_sure idle = (read.ok.stage ∙ idle, read.same honest sure)
-read_idle (Err fault) old new read honest sure now_sure idle = (read.err.stage ∙ ap fallen idle, read.err.content honest now_sure idle)
+read_idle (Ok x) old new was is read idle = (read.ok.stage ∙ idle, read.same is.honest was.sure)
+read_idle (Err fault) old new was is read idle = (read.err.stage ∙ ap fallen idle, read.err.content is.honest is.sure idle)
 
--- what it holds is unchanged
-pub read_unchanged : {X : Type 0} (result : Result X Fault) (given old new : ListRegister) → old ≡ given → IsRead result (view_of_lists old) (view_of_lists new) → (view_of_lists old).stage ≡ Idle → IsUnchanged given new
-read_unchanged result given old new is read idle =
-    let P : ListRegister → Type 0 = λ r. IsUnchanged r new in
-    subst P is (record { content = (read_idle result _ _ read tt tt tt idle).1; room = read.later.room })
+-- so it keeps the books that it kept
+pub still_kept : {X : Type 0} (result : Result X Fault) (old new : View) → HasNoDevice old → HasNoDevice new → IsRead result old new → KeepsBooks old → KeepsBooks new
+still_kept result old new was is read kept =
+    let idle = read_idle result old new was is read kept.stage in
+    record { stage = idle.0; books = kept.books; keeps = kept_in _ _ kept.books _ _ read.later.room idle.1 kept.keeps }
+
+pub still_same : {X : Type 0} (result : Result X Fault) (old new : View) → HasNoDevice old → HasNoDevice new → IsRead result old new → KeepsBooks old → IsUnchanged old new
+still_same result old new was is read kept = record { content = (read_idle result old new was is read kept.stage).1; room = read.later.room }
+
+-- no call has failed
+pub kept_goes : (view : View) → KeepsBooks view → view.stage ≢ Failed
+kept_goes view kept failed = (let clash : Idle ≡ Failed = sym kept.stage ∙ failed in absurd (cc))
+
+-- no device is there to be blamed, so a fault is want of memory
+not_counted : (old new : View) → HasNoDevice old → HasNoDevice new → old.failures < new.failures → ⊥
+not_counted old new was is more =
+    let a = was.failures in
+    let b = is.failures in
+    absurd (omega arith)
+
+few : (view : View) → HasNoDevice view → view.failures < MOST_FAILURES
+few view is =
+    let some : 0 < MOST_FAILURES = lit< tt in
+    let none = is.failures in
+    omega arith
+
+want_of_memory : (fault : Fault) → (fault ≡ Storage → ⊥) → fault ≡ Memory
+want_of_memory Memory not = refl
+want_of_memory Storage not = absurd (not refl)
+
+pub read_memory : {X : Type 0} (result : Result X Fault) (old new : View) → HasNoDevice old → HasNoDevice new → Blames result old new → IfErr result (λ fault. fault ≡ Memory)
+read_memory (Ok x) old new was is blame = tt
+read_memory (Err fault) old new was is blame = want_of_memory fault (λ same. not_counted old new was is (blame.storage (ap Err same) is.honest (few new is)))
+
+pub step_memory : {X : Type 0} (result : Result X Failure) (fault : Fault) (old new : View) → HasNoDevice old → HasNoDevice new → BlamesStep result old new → result ≡ Err (Undone fault) → fault ≡ Memory
+step_memory result fault old new was is blame failed =
+    want_of_memory fault (λ same. not_counted old new was is (blame.storage (failed ∙ ap (λ f. Err (Undone f)) same) is.honest (few new is)))
 
 -- what the step that takes an entry in leaves of a register that keeps a history
-pub kept_after : (r : Result Accepted Failure) (old new : ListRegister) (books : Books) (entry : Entry) → Keeps (room_of old) books (content_of old)
-    → IfOk r (λ accepted. HasApplied (room_of old) books entry accepted (content_of new)) → OnOk r (IsDone (view_of_lists old) (view_of_lists new))
-    → IfErr r (λ failure. IsLeft failure (content_of old) (view_of_lists new)) → IsLater (view_of_lists old) (view_of_lists new) → IfErr r (λ failure. failure ≢ Lost)
-    → ((view_of_lists new).stage ≡ Idle) × ((after : Books) × Keeps (room_of new) after (content_of new))
-kept_after (Ok accepted) old new books entry keeps has done left later sound = (done.stage, (has.after, kept_in _ _ has.after _ _ later.room refl has.keeps))
-kept_after (Err (Undone fault)) old new books entry keeps has done left later sound = (left.stage, (books, kept_in _ _ books _ _ later.room (left.same tt) keeps))
-kept_after (Err Lost) old new books entry keeps has done left later sound = absurd (sound refl)
+pub kept_after : (r : Result Accepted Failure) (old new : View) (books : Books) (entry : Entry) → HasNoDevice new → Keeps old.room books old.content
+    → IfOk r (λ accepted. HasApplied old.room books entry accepted new.content) → OnOk r (IsDone old new)
+    → IfErr r (λ failure. IsLeft failure old.content new) → IsLater old new → IfErr r (λ failure. failure ≢ Lost) → KeepsBooks new
+kept_after (Ok accepted) old new books entry is keeps has done left later sound =
+    record { stage = done.stage; books = has.after; keeps = kept_in _ _ has.after _ _ later.room refl has.keeps }
+kept_after (Err (Undone fault)) old new books entry is keeps has done left later sound =
+    record { stage = left.stage; books = books; keeps = kept_in _ _ books _ _ later.room (left.same is.honest) keeps }
+kept_after (Err Lost) old new books entry is keeps has done left later sound = absurd (sound refl)
 
 -- what was undone is nothing
-pub undone_same : (r : Result Accepted Failure) (failure : Failure) (fault : Fault) (old new : ListRegister) → r ≡ Err failure → failure ≡ Undone fault
-    → IfErr r (λ f. IsLeft f (content_of old) (view_of_lists new)) → content_of new ≡ content_of old
-undone_same r failure fault old new failed undone left =
-    let P : Result Accepted Failure → Type 0 = λ x. IfErr x (λ f. IsLeft f (content_of old) (view_of_lists new)) in
-    let Q : Failure → Type 0 = λ f. IsLeft f (content_of old) (view_of_lists new) in
+pub undone_same : (r : Result Accepted Failure) (failure : Failure) (fault : Fault) (content : Content) (new : View) → HasNoDevice new → r ≡ Err failure → failure ≡ Undone fault
+    → IfErr r (λ f. IsLeft f content new) → new.content ≡ content
+undone_same r failure fault content new is failed undone left =
+    let P : Result Accepted Failure → Type 0 = λ x. IfErr x (λ f. IsLeft f content new) in
+    let Q : Failure → Type 0 = λ f. IsLeft f content new in
     let shows = subst Q undone (subst P failed left) in
-    shows.same tt
+    shows.same is.honest

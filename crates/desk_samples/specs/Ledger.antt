@@ -1,30 +1,16 @@
--- What came of an entry that a ledger was given, and what a ledger holds.
+-- What came of an entry that a ledger was given.
 use Rattle.std.specs.Prelude.{◌≡◌, ℕ, Bool, true, false, Result, Ok, Err}
 use Rattle.desk_rules.specs.declared.entry.Entry.{Entry}
 use Rattle.desk_rules.specs.declared.reply.Reply.{Reply}
 use Rattle.desk_rules.specs.declared.verdict.Verdict.TheVariants.{Accept, Repeat, Refuse}
 use Rattle.desk_rules.specs.Books.{Books}
 use Rattle.desk_rules.specs.Verdict.{IsVerdict}
-use Rattle.desk_lists.specs.declared.list_register.ListRegister.{ListRegister}
 use Rattle.desk_register.specs.declared.register.Fault.{Fault}
 use Rattle.desk_engine.specs.declared.applied.Applied.{Applied}
 use Rattle.desk_engine.specs.Applied.{HasApplied}
 use Rattle.desk_rules.specs.Content.{Content}
-use Rattle.desk_lists.specs.ListView.{view_of_lists}
 use Rattle.desk_samples.specs.declared.ledger.Entered.{Entered}
 use Rattle.desk_samples.specs.declared.ledger.Entered.TheVariants.{Accepted, Repeated, Refused}
-
--- what a register in lists holds, and how many entries it may hold
-abbrev pub content_of : ListRegister → Content
-content_of register = (view_of_lists register).content
-
-abbrev pub room_of : ListRegister → ℕ
-room_of register = (view_of_lists register).room
-
--- it holds what it held, and may hold as many entries as before
-pub record IsUnchanged (old new : ListRegister) : Type 0 where
-  pub content : content_of new ≡ content_of old
-  pub room : room_of new ≡ room_of old
 
 -- the content keeps the books with an accepted entry, which fared so, and its reply
 abbrev pub HasTaken : ℕ → Books → Entry → Applied → Content → Type 0

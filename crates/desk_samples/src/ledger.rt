@@ -1,47 +1,45 @@
-//! A register in plain lists that takes in what the desk accepts, entry by entry, as the desk does.
+//! A register in memory that takes in what the desk accepts, entry by entry, as the desk does.
 ghost use Rattle.std.specs.Prelude.{◌≡◌, ◌≢◌, ◌≤◌, ◌+◌, false, length, option_map, IfErr, IfNone, IfOk, IfSome, IsOk, OnErr};
 ghost use Rattle.desk_codes.specs.Number.{number_of};
 ghost use Rattle.desk_rules.specs.Balances.{issued, redeemed};
 ghost use Rattle.desk_rules.specs.Books.{Books};
-ghost use Rattle.desk_rules.specs.Facts.{last_run};
-ghost use Rattle.desk_rules.specs.History.{entry_at};
+ghost use Rattle.desk_rules.specs.Content.{history_of};
+ghost use Rattle.desk_rules.specs.Facts.{is_participant, kind_of, last_run, owner_of};
+ghost use Rattle.desk_rules.specs.History.{entry_at, number_of_key};
+ghost use Rattle.desk_rules.specs.Questions.{sent_at};
+ghost use Rattle.desk_register.specs.Looked.{IsDuePairAfter, IsFirstOpposite, IsHoldingAfter, IsPaid, IsSecurityAfter, confirmation_in, held_cash_of, held_of, reply_at, sent_to};
 ghost use Rattle.desk_engine.specs.declared.applied.Applied.{Applied as AppliedValue};
 ghost use Rattle.desk_engine.specs.Applied.{CanApply, Keeps, no_books};
-ghost use Rattle.desk_rules.specs.Content.{history_of};
-ghost use Rattle.desk_lists.specs.ListView.{view_of_lists};
-ghost use Rattle.desk_register.specs.Looked.{IsDuePairAfter, held_of, reply_at};
-ghost use Rattle.desk_samples.specs.Ledger.{HasTaken, IsEntered, IsUnchanged, content_of, is_taken_in, room_of};
+ghost use Rattle.desk_samples.specs.Ledger.{HasTaken, IsEntered, is_taken_in};
+ghost use Rattle.desk_samples.specs.Memory.{IsUnchanged, KeepsBooks};
 
-use desk_codes::{AccountId, Day, Isin};
+use crate::memory::MemoryRegister;
+use desk_codes::{AccountId, Bic, Ccy, Day, Isin, Reference};
 use desk_engine::{Applied, Failure, accept, decide};
 use desk_lists::ListRegister;
-use desk_register::{Fault, Register, Stage};
-use desk_rules::{Entry, MOST_ENTRIES, Place, Refusal, Reply, Standing, Verdict};
+use desk_msg::{Instruction, Kind};
+use desk_register::{Fault, Holding};
+use desk_rules::{Entry, MOST_ENTRIES, Place, Refusal, Reply, Sender, Sent, Standing, Verdict};
 use std::alloc::Global;
 use std::marker::Model;
 
-/// A register with no `begin` open, that keeps the tables of a history.
+/// A register in memory, in plain lists where no other is named, with no `begin` open, that keeps the tables of a
+/// history.
 #[derive(Drop)]
-pub struct Ledger {
-    register: ListRegister,
+pub struct Ledger<R: MemoryRegister = ListRegister> {
+    register: R,
 }
 
-impl Model for Ledger {
-    ghost use Rattle.std.specs.Prelude.{◌≡◌};
-    ghost use Rattle.desk_rules.specs.Books.{Books};
-    ghost use Rattle.desk_lists.specs.contracts.list_register.ListRegister as lists;
-    ghost use Rattle.desk_lists.specs.declared.list_register.ListRegister.{ListRegister};
-    ghost use Rattle.desk_register.specs.declared.register.Stage.TheVariants.{Idle};
-    ghost use Rattle.desk_engine.specs.Applied.{Keeps};
-    ghost use Rattle.desk_lists.specs.ListView.{view_of_lists};
+impl<R: MemoryRegister> Model for Ledger<R> {
+    ghost use Rattle.desk_samples.specs.Memory.{KeepsBooks};
 
-    ghost Value = { ListRegister };
+    ghost Value = { R };
+
+    ghost coded = { R.code };
 
     ghost view = { λ ledger. ledger.register };
 
-    ghost coded = { lists.the_row.coded };
-
-    ghost invariant = { λ ledger. ((view_of_lists ledger.register).stage ≡ Idle) × ((books : Books) × Keeps (view_of_lists ledger.register).room books (view_of_lists ledger.register).content) };
+    ghost invariant = { λ ledger. KeepsBooks (R.view ledger.register) };
 }
 
 /// What came of an entry.
@@ -68,35 +66,34 @@ impl Entered {
     }
 }
 
-impl Ledger {
+impl<R: MemoryRegister> Ledger<R> {
     /// An empty one, for at most `limit` entries.
-    pub fn new(alloc: Global, limit: u64) -> Ledger
+    pub fn new(alloc: Global, limit: u64) -> Ledger<R>
         requires { limit ≤ MOST_ENTRIES }
-        ensures empty { Keeps limit no_books (content_of result) }
-        ensures room { room_of result ≡ limit }
+        ensures empty { Keeps limit no_books (R.view result).content }
+        ensures room { (R.view result).room ≡ limit }
     {
         Ledger {
-            register: ListRegister::new(alloc, limit),
+            register: R::empty(alloc, limit),
         }
     }
 
     /// Its register.
-    pub fn into_register(self) -> ListRegister
+    pub fn into_register(self) -> R
         ensures same { result ≡ self }
-        ensures idle { (view_of_lists result).stage ≡ Stage.Idle }
-        ensures keeps { (books : Books) × Keeps (view_of_lists result).room books (view_of_lists result).content }
+        ensures keeps { KeepsBooks (R.view result) }
     {
         self.register
     }
 
     /// Takes an accepted entry in; after a fault all is taken back.
     fn take(&mut self, alloc: Global, entry: Entry) -> Result<Applied, Fault>
-        requires accepted { CanApply (view_of_lists self.old).room entry (view_of_lists self.old).content }
-        ensures taken { (books : Books) → Keeps (room_of self.old) books (content_of self.old)
-            → IfOk result (λ applied. HasTaken (room_of self.old) books entry applied (content_of self.new)) }
-        ensures err { OnErr result (content_of self.new ≡ content_of self.old) }
+        requires accepted { CanApply (R.view self.old).room entry (R.view self.old).content }
+        ensures taken { (books : Books) → Keeps (R.view self.old).room books (R.view self.old).content
+            → IfOk result (λ applied. HasTaken (R.view self.old).room books entry applied (R.view self.new).content) }
+        ensures err { OnErr result ((R.view self.new).content ≡ (R.view self.old).content) }
         ensures memory { IfErr result (λ fault. fault ≡ Fault.Memory) }
-        ensures room { room_of self.new ≡ room_of self.old }
+        ensures room { (R.view self.new).room ≡ (R.view self.old).room }
     {
         match accept(alloc, &mut self.register, entry) {
             Ok(accepted) => Ok(accepted.applied),
@@ -107,11 +104,11 @@ impl Ledger {
 
     /// Decides on an entry, and takes it in where it is accepted. The only fault is want of memory.
     pub fn enter(&mut self, alloc: Global, entry: Entry) -> Result<Entered, Fault>
-        ensures entered { (books : Books) → Keeps (room_of self.old) books (content_of self.old)
-            → IfOk result (λ entered. IsEntered (room_of self.old) books entry entered (content_of self.new)) }
-        ensures same { is_taken_in result ≡ false → content_of self.new ≡ content_of self.old }
+        ensures entered { (books : Books) → Keeps (R.view self.old).room books (R.view self.old).content
+            → IfOk result (λ entered. IsEntered (R.view self.old).room books entry entered (R.view self.new).content) }
+        ensures same { is_taken_in result ≡ false → (R.view self.new).content ≡ (R.view self.old).content }
         ensures memory { IfErr result (λ fault. fault ≡ Fault.Memory) }
-        ensures room { room_of self.new ≡ room_of self.old }
+        ensures room { (R.view self.new).room ≡ (R.view self.old).room }
     {
         match decide(alloc, &mut self.register, &entry)? {
             Verdict::Accept => {
@@ -125,8 +122,8 @@ impl Ledger {
 
     /// How many entries there are.
     pub fn count(&mut self, alloc: Global) -> Result<u64, Fault>
-        ensures value { IfOk result (λ r. r ≡ length (content_of self.old).register) }
-        ensures same { IsUnchanged self.old self.new }
+        ensures value { IfOk result (λ r. r ≡ length (R.view self.old).content.register) }
+        ensures same { IsUnchanged (R.view self.old) (R.view self.new) }
         ensures ok { IsOk result }
     {
         self.register.count(alloc)
@@ -134,8 +131,8 @@ impl Ledger {
 
     /// The entry of this number, counted from 1; None where there is none.
     pub fn entry(&mut self, alloc: Global, number: u64) -> Result<Option<Entry>, Fault>
-        ensures value { IfOk result (λ r. r ≡ entry_at (history_of (content_of self.old)) number) }
-        ensures same { IsUnchanged self.old self.new }
+        ensures value { IfOk result (λ r. r ≡ entry_at (history_of (R.view self.old).content) number) }
+        ensures same { IsUnchanged (R.view self.old) (R.view self.new) }
         ensures ok { IsOk result }
     {
         self.register.entry(alloc, number)
@@ -143,8 +140,8 @@ impl Ledger {
 
     /// Where the entry of this number stands.
     pub fn standing(&mut self, alloc: Global, number: u64) -> Result<Standing, Fault>
-        ensures value { IfOk result (λ r. r ≡ (content_of self.old).standing number) }
-        ensures same { IsUnchanged self.old self.new }
+        ensures value { IfOk result (λ r. r ≡ (R.view self.old).content.standing number) }
+        ensures same { IsUnchanged (R.view self.old) (R.view self.new) }
         ensures ok { IsOk result }
     {
         self.register.standing(alloc, number)
@@ -152,26 +149,94 @@ impl Ledger {
 
     /// The reply that is kept with the entry of this number; None where there is none.
     pub fn reply(&mut self, alloc: Global, number: u64) -> Result<Option<Reply>, Fault>
-        ensures value { IfOk result (λ r. r ≡ reply_at (content_of self.old) number) }
-        ensures same { IsUnchanged self.old self.new }
+        ensures value { IfOk result (λ r. r ≡ reply_at (R.view self.old).content number) }
+        ensures same { IsUnchanged (R.view self.old) (R.view self.new) }
         ensures memory { IfErr result (λ fault. fault ≡ Fault.Memory) }
     {
         self.register.reply(alloc, number)
     }
 
+    /// The number of the first entry with this key; None where there is none.
+    pub fn number_of(
+        &mut self,
+        alloc: Global,
+        sender: Sender,
+        reference: Reference,
+    ) -> Result<Option<u64>, Fault>
+        ensures value { IfOk result (λ r. r ≡ number_of_key (history_of (R.view self.old).content) sender reference) }
+        ensures same { IsUnchanged (R.view self.old) (R.view self.new) }
+        ensures ok { IsOk result }
+    {
+        self.register.number_of(alloc, sender, reference)
+    }
+
+    /// Whether a BIC is a participant's.
+    pub fn participant(&mut self, alloc: Global, bic: Bic) -> Result<bool, Fault>
+        ensures value { IfOk result (λ r. r ≡ is_participant (history_of (R.view self.old).content) bic) }
+        ensures same { IsUnchanged (R.view self.old) (R.view self.new) }
+        ensures ok { IsOk result }
+    {
+        self.register.participant(alloc, bic)
+    }
+
+    /// Whose an account is; None where there is no such account.
+    pub fn owner(&mut self, alloc: Global, account: AccountId) -> Result<Option<Bic>, Fault>
+        ensures value { IfOk result (λ r. r ≡ owner_of (history_of (R.view self.old).content) account) }
+        ensures same { IsUnchanged (R.view self.old) (R.view self.new) }
+        ensures ok { IsOk result }
+    {
+        self.register.owner(alloc, account)
+    }
+
+    /// How a security is counted; None where there is no such security.
+    pub fn security(&mut self, alloc: Global, isin: Isin) -> Result<Option<Kind>, Fault>
+        ensures value { IfOk result (λ r. r ≡ kind_of (history_of (R.view self.old).content) isin) }
+        ensures same { IsUnchanged (R.view self.old) (R.view self.new) }
+        ensures ok { IsOk result }
+    {
+        self.register.security(alloc, isin)
+    }
+
+    /// The first security after one, in order of its bytes; with none, the first of all.
+    pub fn security_after(
+        &mut self,
+        alloc: Global,
+        isin: Option<Isin>,
+    ) -> Result<Option<Isin>, Fault>
+        ensures value { IfOk result (λ r. IsSecurityAfter (history_of (R.view self.old).content) isin r) }
+        ensures same { IsUnchanged (R.view self.old) (R.view self.new) }
+        ensures ok { IsOk result }
+    {
+        self.register.security_after(alloc, isin)
+    }
+
     /// What an account holds of a security.
     pub fn position(&mut self, alloc: Global, account: AccountId, isin: Isin) -> Result<u64, Fault>
-        ensures value { IfOk result (λ r. r ≡ (content_of self.old).position account isin) }
-        ensures same { IsUnchanged self.old self.new }
+        ensures value { IfOk result (λ r. r ≡ (R.view self.old).content.position account isin) }
+        ensures same { IsUnchanged (R.view self.old) (R.view self.new) }
         ensures ok { IsOk result }
     {
         self.register.position(alloc, account, isin)
     }
 
+    /// The first security after one of which an account holds some, and how much; with none, the first of all.
+    pub fn holding_after(
+        &mut self,
+        alloc: Global,
+        account: AccountId,
+        isin: Option<Isin>,
+    ) -> Result<Option<Holding>, Fault>
+        ensures value { IfOk result (λ r. IsHoldingAfter (R.view self.old).content account isin r) }
+        ensures same { IsUnchanged (R.view self.old) (R.view self.new) }
+        ensures ok { IsOk result }
+    {
+        self.register.holding_after(alloc, account, isin)
+    }
+
     /// What is outstanding of a security.
     pub fn outstanding(&mut self, alloc: Global, isin: Isin) -> Result<u64, Fault>
-        ensures value { IfOk result (λ r. redeemed (history_of (content_of self.old)) isin + r ≡ issued (history_of (content_of self.old)) isin) }
-        ensures same { IsUnchanged self.old self.new }
+        ensures value { IfOk result (λ r. redeemed (history_of (R.view self.old).content) isin + r ≡ issued (history_of (R.view self.old).content) isin) }
+        ensures same { IsUnchanged (R.view self.old) (R.view self.new) }
         ensures ok { IsOk result }
     {
         self.register.outstanding(alloc, isin)
@@ -179,20 +244,61 @@ impl Ledger {
 
     /// What all accounts hold of a security.
     pub fn held(&mut self, alloc: Global, isin: Isin) -> Result<u64, Fault>
-        ensures value { IfOk result (λ r. r ≡ held_of (content_of self.old) isin) }
-        ensures same { IsUnchanged self.old self.new }
+        ensures value { IfOk result (λ r. r ≡ held_of (R.view self.old).content isin) }
+        ensures same { IsUnchanged (R.view self.old) (R.view self.new) }
         ensures ok { IsOk result }
     {
         self.register.held(alloc, isin)
     }
 
+    /// What a participant has of a currency, in minor units.
+    pub fn cash(&mut self, alloc: Global, bic: Bic, ccy: Ccy) -> Result<u64, Fault>
+        ensures value { IfOk result (λ r. r ≡ (R.view self.old).content.cash bic ccy) }
+        ensures same { IsUnchanged (R.view self.old) (R.view self.new) }
+        ensures ok { IsOk result }
+    {
+        self.register.cash(alloc, bic, ccy)
+    }
+
+    /// What was paid in of a currency less what was paid out; None before any pay in of it.
+    pub fn paid(&mut self, alloc: Global, ccy: Ccy) -> Result<Option<u64>, Fault>
+        ensures value { IfOk result (λ r. IsPaid (history_of (R.view self.old).content) ccy r) }
+        ensures same { IsUnchanged (R.view self.old) (R.view self.new) }
+        ensures ok { IsOk result }
+    {
+        self.register.paid(alloc, ccy)
+    }
+
+    /// What all participants have of a currency, in minor units.
+    pub fn held_cash(&mut self, alloc: Global, ccy: Ccy) -> Result<u64, Fault>
+        ensures value { IfOk result (λ r. r ≡ held_cash_of (R.view self.old).content ccy) }
+        ensures same { IsUnchanged (R.view self.old) (R.view self.new) }
+        ensures ok { IsOk result }
+    {
+        self.register.held_cash(alloc, ccy)
+    }
+
     /// The day of the last run; None before any.
     pub fn last_run(&mut self, alloc: Global) -> Result<Option<Day>, Fault>
-        ensures value { IfOk result (λ r. option_map number_of r ≡ last_run (history_of (content_of self.old))) }
-        ensures same { IsUnchanged self.old self.new }
+        ensures value { IfOk result (λ r. option_map number_of r ≡ last_run (history_of (R.view self.old).content)) }
+        ensures same { IsUnchanged (R.view self.old) (R.view self.new) }
         ensures ok { IsOk result }
     {
         self.register.last_run(alloc)
+    }
+
+    /// The least number of an unmatched instruction that is opposite to one of this sender.
+    pub fn first_opposite(
+        &mut self,
+        alloc: Global,
+        sender: Bic,
+        instruction: &Instruction,
+    ) -> Result<Option<u64>, Fault>
+        ensures value { IfOk result (λ r. IsFirstOpposite (R.view self.old).content (record { sender = sender; instruction = instruction.now }) r) }
+        ensures same { IsUnchanged (R.view self.old) (R.view self.new) }
+        ensures ok { IsOk result }
+    {
+        self.register.first_opposite(alloc, sender, instruction)
     }
 
     /// The first matched pair due by a day, above a place.
@@ -202,10 +308,37 @@ impl Ledger {
         day: Day,
         place: Option<Place>,
     ) -> Result<Option<Place>, Fault>
-        ensures value { IfOk result (λ r. IsDuePairAfter (content_of self.old) (number_of day) place r) }
-        ensures same { IsUnchanged self.old self.new }
+        ensures value { IfOk result (λ r. IsDuePairAfter (R.view self.old).content (number_of day) place r) }
+        ensures same { IsUnchanged (R.view self.old) (R.view self.new) }
         ensures ok { IsOk result }
     {
         self.register.due_pair_after(alloc, day, place)
+    }
+
+    /// How many messages were sent, to all participants together.
+    pub fn sent_count(&mut self, alloc: Global) -> Result<u64, Fault>
+        ensures value { IfOk result (λ r. r ≡ length (R.view self.old).content.sent) }
+        ensures same { IsUnchanged (R.view self.old) (R.view self.new) }
+        ensures ok { IsOk result }
+    {
+        self.register.sent_count(alloc)
+    }
+
+    /// The message of this number, counted from 1, among those that were sent to a participant.
+    pub fn sent(&mut self, alloc: Global, bic: Bic, number: u64) -> Result<Option<Sent>, Fault>
+        ensures value { IfOk result (λ r. r ≡ sent_at (sent_to (R.view self.old).content bic) number) }
+        ensures same { IsUnchanged (R.view self.old) (R.view self.new) }
+        ensures memory { IfErr result (λ fault. fault ≡ Fault.Memory) }
+    {
+        self.register.sent(alloc, bic, number)
+    }
+
+    /// The message that confirms the instruction of a number.
+    pub fn confirmation(&mut self, alloc: Global, number: u64) -> Result<Option<Sent>, Fault>
+        ensures value { IfOk result (λ r. r ≡ confirmation_in (R.view self.old).content number) }
+        ensures same { IsUnchanged (R.view self.old) (R.view self.new) }
+        ensures memory { IfErr result (λ fault. fault ≡ Fault.Memory) }
+    {
+        self.register.confirmation(alloc, number)
     }
 }

@@ -5,6 +5,6 @@ use Rattle.desk_book_tests.proofs.tests.summed.totals_of.Goals as goal
 pub security_totals-requires-clause-small : goal.security_totals-requires-clause-small
 security_totals-requires-clause-small c = λ honest sure isin.
     let kept = c.into_register-register.ensures.keeps in
-    let within = held_within _ kept.0 _ isin kept.1 in
+    let within = held_within _ kept.books _ isin kept.keeps in
     let small : 99_999_999_999_999 < 2 ^ 64 = lit< tt in
     omega arith

@@ -1,13 +1,13 @@
-use Rattle.desk_engine.proofs.KeptLemmas.{kept_in}
-use Rattle.desk_samples.proofs.LedgerLemmas.{read_idle, read_unchanged}
+use Rattle.std.proofs.Common.{sym}
+use Rattle.desk_samples.proofs.LedgerLemmas.{still_kept, still_same}
 use Rattle.desk_samples.proofs.ledger.Ledger.outstanding.Goals as goal
 
 pub invariant_of-self : goal.invariant_of-self
-invariant_of-self c =
-    let read = c.outstanding.ensures.read in
-    let kept = c.self.invariant.1 in
-    let idle = read_idle c.outstanding.result _ _ read tt tt tt c.self.invariant.0 in
-    (idle.0, (kept.0, kept_in _ _ kept.0 _ _ read.later.room idle.1 kept.1))
+invariant_of-self g c =
+    let law = g.met.R.MemoryRegister.has_no_device in
+    still_kept c.outstanding.result _ _ (law _) (law _) c.outstanding.ensures.read c.self.invariant
 
 pub returns-clause-same : goal.returns-clause-same
-returns-clause-same c = read_unchanged c.outstanding.result _ _ _ c.self.view_is c.outstanding.ensures.read c.self.invariant.0
+returns-clause-same g c =
+    let law = g.met.R.MemoryRegister.has_no_device in
+    rw (sym c.self.view_is) (still_same c.outstanding.result _ _ (law _) (law _) c.outstanding.ensures.read c.self.invariant)

@@ -1,6 +1,0 @@
-//! The tests of `desk_index`: its look-ups. They stand in a crate of their own, since a crate with tests is
-//! proved twice.
-#![tactic(auto)]
-
-#[cfg(test)]
-mod tests;
