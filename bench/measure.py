@@ -129,10 +129,10 @@ TURNS = 3
 SIZES = 1_000, 10_000, 100_000
 MOST_SECONDS = 600
 
-# The stores of a register. Of the entries that it takes in, those of the opening and of a round, in which one pair is
-# settled.
+# The stores of a register. Of the entries of a mixed day that it takes in, those of the opening; and the pairs that each
+# hundred settles, but for one more in each second.
 STORES = "lists", "index"
-REGISTER_OPENING, REGISTER_ROUND = 5, 4
+REGISTER_OPENING, REGISTER_PAIRS = 5, 44
 
 # The proved program; a script has so many bytes at most.
 DESK = "crates/desk/out/desk"
@@ -191,14 +191,37 @@ def command(**members):
     return f"op\n{json.dumps(members, separators=(',', ':'))}\n.\n"
 
 
-def message(sender, mt, reference, account, qualifier, counterparty):
-    """A free instruction for one unit; the qualifier says what the counterparty is."""
+# A side of a delivery: its BIC, its account, the types that it instructs with, free and against payment, and what its
+# counterparty is.
+DELIVERER = "ALPHDEFF", "A", (542, 543), "REAG"
+RECEIVER = "BETADEFF", "B", (540, 541), "DEAG"
+
+# What is delivered at once: how many units, and the amount that is paid for them. Of a large lot there are too few units,
+# and for a dear one there is too little money.
+FREE, PAID, LARGE, DEAR = (1, None), (1, "EUR1,"), (7, None), (1, "EUR1000000,")
+
+
+def instruction(side, reference, lot):
+    """A side's instruction of a lot."""
+    sender, account, types, qualifier = side
+    quantity, amount = lot
+    counterparty = (RECEIVER if side is DELIVERER else DELIVERER)[0]
     lines = ["{4:", ":16R:GENL", f":20C::SEME//{reference}", ":23G:NEWM", ":16S:GENL"]
     lines += [":16R:TRADDET", ":98A::SETT//20240229", f":35B:ISIN {SECURITY}", ":16S:TRADDET"]
-    lines += [":16R:FIAC", ":36B::SETT//UNIT/1,", f":97A::SAFE//{account}", ":16S:FIAC"]
+    lines += [":16R:FIAC", f":36B::SETT//UNIT/{quantity},", f":97A::SAFE//{account}", ":16S:FIAC"]
     lines += [":16R:SETDET", ":22F::SETR//TRAD", ":16R:SETPRTY", f":95P::{qualifier}//{counterparty}", ":16S:SETPRTY"]
-    lines += [":16R:SETPRTY", ":95P::PSET//DESKDEFF", ":16S:SETPRTY", ":16S:SETDET", "-}"]
-    return f"in {sender} {mt}\n" + "\n".join(lines) + "\n.\n"
+    lines += [":16R:SETPRTY", ":95P::PSET//DESKDEFF", ":16S:SETPRTY"]
+    lines += [":16R:AMT", f":19A::SETT//{amount}", ":16S:AMT"] if amount else []
+    lines += [":16S:SETDET", "-}"]
+    return f"in {sender} {types[amount is not None]}\n" + "\n".join(lines) + "\n.\n"
+
+
+def cancellation(side, reference, lot, previous):
+    """A side's request to cancel its instruction of a lot."""
+    sender, _, types, _ = side
+    lines = ["{4:", ":16R:GENL", f":20C::SEME//{reference}", ":23G:CANC", ":16R:LINK", f":20C::PREV//{previous}"]
+    lines += [":16S:LINK", ":16S:GENL", "-}"]
+    return f"in {sender} {types[lot[1] is not None]}\n" + "\n".join(lines) + "\n.\n"
 
 
 # What a generated script asks first, so that pairs can settle.
@@ -208,27 +231,77 @@ OPENING = [
     command(op="account", ref="C1", bic="ALPHDEFF", account="A"),
     command(op="account", ref="C2", bic="BETADEFF", account="B"),
     command(op="security", ref="S1", isin=SECURITY, kind="UNIT"),
-    command(op="issue", ref="I1", account="A", isin=SECURITY, quantity=1_000_000),
+    command(op="issue", ref="I1", account="A", isin=SECURITY, quantity=1),
 ]
 
+# Of the hundred requests of a mixed day between two runs so many lots are instructed by both sides; the last one is short.
+LOTS = 14
 
-def round_of(number, is_last):
+
+def lots_of(hundred):
+    """The lots of a hundred, each with its reference, half of them against payment."""
+    short = DEAR if hundred % 2 else LARGE
+    lots = [*[FREE, PAID] * (LOTS // 2)][: LOTS - 1] + [short]
+    return [(REFERENCES[hundred * LOTS + number], lot) for number, lot in enumerate(lots)]
+
+
+def follow(hundred):
+    """What follows on the lot that was short in the hundred before: units are issued, or both sides cancel it and its unit is
+    redeemed. The deliverer's money is paid out too."""
+    if hundred == 0:
+        return []
+    mark = REFERENCES[hundred]
+    requests = [command(op="payout", ref=f"O{mark}", bic="ALPHDEFF", ccy="EUR", amount=600)]
+    reference, lot = lots_of(hundred - 1)[-1]
+    if lot is LARGE:
+        return requests + [command(op="issue", ref=f"J{mark}", account="A", isin=SECURITY, quantity=7)]
+    requests += [cancellation(side, f"X{reference}", lot, reference) for side in (DELIVERER, RECEIVER)]
+    return requests + [command(op="redeem", ref=f"D{mark}", account="A", isin=SECURITY, quantity=1)]
+
+
+def hundred_of(hundred):
+    """A hundred requests of a mixed day, the last of them a run that settles all lots but the short one; and how many pairs
+    that are. In between come questions about messages and sums."""
+    mark, lots = REFERENCES[hundred], lots_of(hundred)
+    units = LOTS - 1 + (lots[-1][1] is DEAR)
+    issue = command(op="issue", ref=f"I{mark}", account="A", isin=SECURITY, quantity=units)
+    requests = [issue, command(op="payin", ref=f"M{mark}", bic="BETADEFF", ccy="EUR", amount=600), *follow(hundred)]
+    for reference, lot in lots:
+        requests += [instruction(DELIVERER, reference, lot), instruction(RECEIVER, reference, lot)]
+        requests += [f"status ALPHDEFF {reference}\n", f"sent BETADEFF {hundred + 1}\n"]
+    earlier = lots_of(max(hundred - 1, 0))[0][0]
+    questions = [f"status BETADEFF {earlier}\n", SUMS, f"sent ALPHDEFF {hundred + 1}\n", issue]
+    requests += (questions * 100)[: 99 - len(requests)]
+    return [*requests, command(op="run", ref=f"R{mark}", day="20240229")], LOTS - 1 + hundred % 2
+
+
+def mixed_script(requests):
+    """A script of so many requests of a mixed day, and how many pairs settle in it."""
+    hundreds, rest = divmod(requests - len(OPENING), 100)
+    made = [hundred_of(hundred) for hundred in range(hundreds)]
+    asked = [request for part, _ in made for request in part]
+    return "".join([*OPENING, *asked, *rest * [SUMS]]).encode(), sum(pairs for _, pairs in made)
+
+
+def free_round(number, is_last):
     """Four requests: a unit is delivered and received, and the totals are asked twice; or once and a run settles the
-    pairs of the last rounds. More than this, of a pair for every four, has no room in a script of 100,000."""
+    pairs of the last rounds."""
     reference = REFERENCES[number]
     return [
-        message("ALPHDEFF", 542, reference, "A", "REAG", "BETADEFF"),
-        message("BETADEFF", 540, reference, "B", "DEAG", "ALPHDEFF"),
+        instruction(DELIVERER, reference, FREE),
+        instruction(RECEIVER, reference, FREE),
         command(op="run", ref=f"N{reference}", day="20240229") if is_last or number % ROUNDS == 0 else SUMS,
         SUMS,
     ]
 
 
-def script_of(requests):
-    """A script of so many requests, a pair settled for every four behind the opening, and how many pairs that are."""
-    pairs, rest = divmod(requests - len(OPENING), 4)
-    rounds = (it for number in range(1, pairs + 1) for it in round_of(number, number == pairs))
-    return "".join([*OPENING, *rounds, *rest * [SUMS]]).encode(), pairs
+def free_script(requests):
+    """A script of so many requests, with free deliveries alone: a pair settles for every four behind the opening, and how
+    many pairs that are."""
+    issued = command(op="issue", ref="I2", account="A", isin=SECURITY, quantity=1_000_000)
+    pairs, rest = divmod(requests - len(OPENING) - 1, 4)
+    rounds = (it for number in range(1, pairs + 1) for it in free_round(number, number == pairs))
+    return "".join([*OPENING, issued, *rounds, *rest * [SUMS]]).encode(), pairs
 
 
 def played(program, script, pairs):
@@ -236,7 +309,7 @@ def played(program, script, pairs):
     started = processor_time()
     done = subprocess.run([program, "play"], input=script, capture_output=True, check=True)
     taken = processor_time() - started
-    settled = sum(map(int, re.findall(rb"^accepted [0-9]+ settled ([0-9]+) waiting 0$", done.stdout, re.MULTILINE)))
+    settled = sum(map(int, re.findall(rb"^accepted [0-9]+ settled ([0-9]+) waiting [01]$", done.stdout, re.MULTILINE)))
     if settled != pairs:
         sys.exit(f"play: {settled} pairs settled of {pairs}")
     return taken
@@ -269,22 +342,24 @@ def measure_growing(work, one, many, timed_at):
         print(f"{work} {size:,} {many}, {pairs:,} pairs settled: desk {rate:,.0f} {many}/s, {cost:.1f} us/{one}")
 
 
-def script_timed(size):
+def script_timed(script_of, size):
     """A script of so many requests, played by the desk's program."""
     script, pairs = script_of(size)
     if len(script) > LONGEST_SCRIPT:
         sys.exit(f"play: a script of {len(script):,} bytes is longer than the desk takes")
-    return pairs, played(DESK, script, pairs)
+    return pairs, min(played(DESK, script, pairs) for _ in range(TURNS))
 
 
 def measure_play():
-    """Scripts of growing length."""
-    measure_growing("play of", "request", "requests", script_timed)
+    """Scripts of growing length, of a mixed day and of free deliveries alone."""
+    measure_growing("play of a mixed day of", "request", "requests", functools.partial(script_timed, mixed_script))
+    measure_growing("play of free deliveries of", "request", "requests", functools.partial(script_timed, free_script))
 
 
 def entries_timed(program, store, size):
     """So many entries, made and taken into a register. The start of the program isn't counted."""
-    pairs = (size - REGISTER_OPENING) // REGISTER_ROUND
+    hundreds = (size - REGISTER_OPENING) // 100
+    pairs = REGISTER_PAIRS * hundreds + hundreds // 2
     _, start = timed(lambda: run(program, store, 0))
     settled, seconds = timed(lambda: run(program, store, size))
     if settled != pairs:
@@ -295,9 +370,10 @@ def entries_timed(program, store, size):
 def measure_register(program):
     """A register alone, in each store, taking in more and more entries."""
     print(
-        "register: entries are made and taken in one by one (verdict, pairs, runs, reply, tables) by a register in "
-        "lists, and by one with an index beside them; after each fourth the sums and a holding are asked for; no "
-        "script, no JSON and no message is read"
+        "register: entries of a mixed day (half against payment, a run each hundred, in each a pair that is short, and is "
+        "then covered or cancelled) are made and taken in one by one (verdict, pairs, runs, messages, reply, tables) by a "
+        "register in lists, and by one with an index beside them; after each fourth the sums and a holding are asked for; "
+        "no script, no JSON and no message is read"
     )
     for store in STORES:
         measure_growing(

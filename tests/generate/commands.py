@@ -47,16 +47,21 @@ def texts_of(values):
     return [value.decode() if value.isascii() else b'"' + value + b'"' for value in values]
 
 
+BAD_WHOLE = (
+    [b"0", b"-1", b"-0", b"1.0", b"1e3", b"1E0", b"01", b"+1", b"0x10", b'"5"', b"null", b"1.", b".5"]
+    + [b"18446744073709551615", b"18446744073709551616", b"1" * 400, b"1e999", b"1_000", b"NaN", b"[1]"]
+)
+
 BAD_MEMBERS = {
-    "op": ["", "Issue", "issue ", "redeem", "payin", "payout", "status", b"1", b"null", b'["run"]'],
+    "op": ["", "Issue", "issue ", "redeem", "issue", "payin", "payout", "pay in", "status", b"1", b"null", b'["run"]'],
     "ref": [*texts_of(BAD_REFERENCES), b"1", b"null", b'"\\ud800"', b'"\\u00e4"', b'"a\tb"', b'"\\x41"', b'"\\u004"'],
     "bic": [*texts_of(BAD_BICS), b"null", b"{}"],
     "account": [*texts_of(BAD_ACCOUNTS), b"7", b"[]", b'"\\n"', b'"\\ud83d\\ude00"'],
     "isin": [*texts_of(BAD_ISINS), b"true"],
     "kind": ["unit", "AMOR", "", b"0", " UNIT"],
-    "quantity": [b"0", b"-1", b"-0", b"1.0", b"1e3", b"1E0", b"01", b"+1", b"0x10", b'"5"', b"null", b"1.", b".5"]
-    + [b"100000000000000", b"18446744073709551615", b"18446744073709551616", b"1" * 400, b"1e999", b"1_000", b"NaN"]
-    + [b"[1]"],
+    "quantity": [*BAD_WHOLE, *[b"0", b"100000000000000"] * 4],
+    "ccy": ["eur", "usd", "jpy", "Kwd", "EU", "EURO", "BHD", "", " EUR", b"978", b"null"],
+    "amount": [*BAD_WHOLE, *[b"0", b"1000000000000000000"] * 4, "1,", b"100000000000000"],
     "day": [*texts_of(BAD_DAYS), b"20240229", b"null", "2024-02-29"],
 }
 

@@ -2,17 +2,20 @@
 
 from collections import namedtuple
 
-# what an instruction is to say, as bytes but for the type and the quantity
-Instruction = namedtuple("Instruction", "mt reference day isin kind quantity account counterparty place settlement amount")
+from plain.codes import DECIMALS, write_number
+
+# what an instruction is to say, as bytes but for the type and the quantity; the cash is a currency and an amount in
+# minor units, which a free one says now and then too
+Instruction = namedtuple(
+    "Instruction", "mt reference day isin kind quantity account counterparty place settlement cash"
+)
+Cancellation = namedtuple("Cancellation", "mt reference previous")
 
 ISINS = (b"DE0007164600", b"US0378331005", b"AU0000XVGZA3")
 BICS = (b"ALPHDEFF", b"BETADEFF", b"GAMMDEFF", b"ALPHDEFFABC", b"DESKDEFF")
 DAYS = (b"20240228", b"20240229", b"20240301", b"20240302", b"20241231", b"20250101")
 SETTLEMENTS = (b"TRAD", b"RPTO", b"OWNI", b"0000")
-AMOUNTS = (
-    (b"EUR1000,50", b"EUR1000,5", b"USD0,01", b"JPY7,", b"JPY7,00", b"CHF0001,", b"GBP999999999999,99")
-    + (b"KWD1,005", b"KWD1,0050")
-)
+CASH = ((b"EUR", 100_050), (b"USD", 1), (b"JPY", 7), (b"CHF", 100), (b"GBP", 99_999_999_999_999), (b"KWD", 1_005))
 
 ODD_REFERENCES = (b"A", b"A B", b"a/b", b" ", b"0123456789ABCDEF", b"X-1.(2)+'?:,")
 BAD_REFERENCES = (b"", b"/A", b"A/", b"A//B", b"0123456789ABCDEFG", b"A\x7f", b"\xc3\x84")
@@ -31,13 +34,13 @@ ODD_NUMBERS = (b"99999999999999,", b"999999999999999,", b"00000000000001,", b"00
 FRACTIONS = (b"1,5", b"1,50", b"1,005", b"0,001", b"0,01", b"0,1", b"00,10", b"1,00000000000001", b"12345678901,234")
 
 
-def spelled(chance, quantity):
-    """A spelling of a whole number of units."""
-    number = b"%d," % quantity
+def spelled(chance, value, decimals=0):
+    """A spelling of a number of minor units."""
+    plain = write_number(value, decimals)
     if chance.happens(70):
-        return number
-    number = b"0" * chance.below(4) + number + b"0" * chance.below(4)
-    return number if len(number) <= 15 or chance.happens(10) else b"%d," % quantity
+        return plain
+    number = b"0" * chance.below(4) + plain + b"0" * chance.below(4)
+    return number if len(number) <= 15 or chance.happens(10) else plain
 
 
 def spelled_bic(chance, bic):
@@ -57,15 +60,12 @@ def unused(chance, percent, *lines):
     return [chance.pick(lines)] if chance.happens(percent) else []
 
 
-def general(chance, instruction, function):
-    previous = []
-    if function == b"CANC" or chance.happens(5):
-        previous = sequence(b"LINK", [field(b"20C", b":PREV//" + chance.pick((b"A1", b"B 2", instruction.reference)))])
+def general(chance, function, reference, previous):
     lines = [
-        [field(b"20C", b":SEME//" + instruction.reference)],
+        [field(b"20C", b":SEME//" + reference)],
         [field(b"23G", function + (b"/" + chance.pick((b"CODU", b"0000")) if chance.happens(10) else b""))],
         unused(chance, 15, b":98C::PREP//20240226101500", b":98A::PREP//20240226", b":20C::POOL//X", b":99B::TOSE//1"),
-        previous,
+        sequence(b"LINK", [field(b"20C", b":PREV//" + previous)]) if previous else [],
     ]
     return sequence(b"GENL", together(chance, lines))
 
@@ -114,19 +114,22 @@ def settling(chance, instruction):
     issuer = b"/" + chance.pick((b"A", b"ABCD", b"12345678")) if chance.happens(10) else b"/"
     role = b"DEAG" if instruction.mt in (540, 541) else b"REAG"
     against = instruction.mt in (541, 543)
+    currency, amount = instruction.cash
+    cash = [field(b"19A", b":SETT//" + currency + spelled(chance, amount, DECIMALS[currency]))]
     parts = [
         [field(b"22F", b":SETR%s/%s" % (issuer, instruction.settlement)), *unused(chance, 10, b":22F::STCO//DLWM")],
         party(b":95P::BUYR//" + chance.pick(BICS)) if chance.happens(15) else [],
         party(field(b"95P", b":%s//%s" % (role, spelled_bic(chance, instruction.counterparty)))),
         party(field(b"95P", b":PSET//" + spelled_bic(chance, instruction.place))),
-        sequence(b"AMT", [field(b"19A", b":SETT//" + instruction.amount)]) if against or chance.happens(10) else [],
+        sequence(b"AMT", cash) if against or chance.happens(10) else [],
     ]
     return sequence(b"SETDET", together(chance, parts))
 
 
 def lines_of_instruction(chance, instruction):
     """The lines of a message that says an instruction."""
-    first = general(chance, instruction, b"NEWM")
+    previous = chance.pick((b"A1", b"B 2", instruction.reference)) if chance.happens(5) else None
+    first = general(chance, b"NEWM", instruction.reference, previous)
     others = [trade(chance, instruction), quantity_and_account(chance, instruction), settling(chance, instruction)]
     if chance.happens(15):
         others.append(sequence(b"OTHRPRTY", [b":95P::MEOR//ALPHDEFF"]))
@@ -135,8 +138,14 @@ def lines_of_instruction(chance, instruction):
     return [b"{4:", *first, *together(chance, others), b"-}"]
 
 
-def lines_of_cancellation(chance, instruction):
-    return [b"{4:", *general(chance, instruction, b"CANC"), b"-}"]
+def lines_of_cancellation(chance, cancellation):
+    return [b"{4:", *general(chance, b"CANC", cancellation.reference, cancellation.previous), b"-}"]
+
+
+def lines_of(chance, message):
+    """The lines of a message that says an instruction or a cancellation."""
+    make = lines_of_cancellation if isinstance(message, Cancellation) else lines_of_instruction
+    return make(chance, message)
 
 
 def random_instruction(chance, mt):
@@ -153,8 +162,16 @@ def random_instruction(chance, mt):
         chance.pick(BICS),
         chance.pick((b"DESKDEFF", b"DESKDEFF", b"OTHRDEFF")),
         chance.pick(SETTLEMENTS),
-        chance.pick(AMOUNTS),
+        chance.pick(CASH),
     )
+
+
+def random_cancellation(chance, mt):
+    """A cancellation of its own."""
+    reference, previous = (
+        chance.pick(ODD_REFERENCES) if chance.happens(15) else b"A%d" % chance.below(100) for _ in range(2)
+    )
+    return Cancellation(mt, reference, previous)
 
 
 def joined(chance, lines):
@@ -205,7 +222,8 @@ def stray_line(chance, lines):
     return replace_line(chance, lines, lambda line: [line, stray])
 
 
-TAGS = (b"20C", b"98A", b"98C", b"98B", b"97B", b"95Q", b"95R", b"22H", b"36E", b"19B", b"16R", b"16S", b"9", b"")
+TAGS = (b"20C", b"98A", b"98C", b"98B", b"97B", b"95Q", b"95R", b"22H", b"36E", b"19B", b"16R", b"16S")
+TAGS += (b"9", b"20CC", b"")
 
 
 def wrong_tag(chance, lines):
@@ -272,6 +290,12 @@ def bad_value(chance, lines):
         return lines
     at, value = chance.pick([(at, value) for at, head in places for value in BAD_FIELDS[head]])
     return [*lines[:at], value, *lines[at + 1 :]]
+
+
+def other_function(chance, lines):
+    word = chance.pick((b"PREA", b"REPL", b"CANC", b"NEWM/CODU", b"0000", b"PREA/CODU"))
+    lines = [b":23G:" + word if line.startswith(b":23G:") else line for line in lines]
+    return bad_values(chance, lines) if chance.happens(30) else lines
 
 
 def bad_values(chance, lines):
@@ -362,6 +386,7 @@ FAULTS = {
     wrong_tag: 8,
     bad_value: 45,
     bad_values: 8,
+    other_function: 6,
     further_field: 5,
     second_line: 8,
     wrong_close: 8,
@@ -369,7 +394,7 @@ FAULTS = {
     move_sequence: 6,
     deepen: 3,
     cut_off: 2,
-    lengthen: 2,
+    lengthen: 3,
 }
 
 
@@ -400,6 +425,6 @@ def random_text(chance, mt):
     if kind == "soup":
         return joined(chance, soup(chance))
     of_type = mt if chance.happens(90) else chance.pick((540, 541, 542, 543))
-    make = lines_of_instruction if chance.happens(80) else lines_of_cancellation
-    lines = make(chance, random_instruction(chance, of_type))
+    make = random_instruction if chance.happens(80) else random_cancellation
+    lines = lines_of(chance, make(chance, of_type))
     return joined(chance, with_faults(chance, lines) if kind == "faulty" else lines)

@@ -41,6 +41,11 @@ def read_bic(text):
     return text[:8] if text[8:] == b"XXX" else text
 
 
+def read_currency(text):
+    """A currency; None for any other text."""
+    return text if text in DECIMALS else None
+
+
 def read_number(text, decimals):
     """The value of a number in minor units; None for a text that is no number or has the value 0."""
     if len(text) > 15 or not re.fullmatch(rb"[0-9]+,[0-9]*", text):

@@ -4,8 +4,19 @@ import math
 import re
 
 from .blocks import MOST_BYTES
-from .codes import read_account, read_bic, read_day, read_isin, read_reference
-from .desk import MOST_OUTSTANDING, Account, Issue, Participant, Run, Security
+from .codes import read_account, read_bic, read_currency, read_day, read_isin, read_reference
+from .entries import (
+    MOST_PAID,
+    MOST_QUANTITY,
+    Account,
+    Issue,
+    Participant,
+    PayIn,
+    PayOut,
+    Redeem,
+    Run,
+    Security,
+)
 
 MOST_LEVELS = 127
 
@@ -139,8 +150,9 @@ def coded(read):
     return lambda value: read(value.encode("utf-8")) if isinstance(value, str) else None
 
 
-def read_quantity(value):
-    return value if type(value) is int and 1 <= value <= MOST_OUTSTANDING else None
+def whole(most):
+    """A reader of a member that is a whole number from 1."""
+    return lambda value: value if type(value) is int and 1 <= value <= most else None
 
 
 def read_kind(text):
@@ -153,7 +165,9 @@ MEMBERS = {
     "account": coded(read_account),
     "isin": coded(read_isin),
     "kind": coded(read_kind),
-    "quantity": read_quantity,
+    "quantity": whole(MOST_QUANTITY),
+    "ccy": coded(read_currency),
+    "amount": whole(MOST_PAID),
     "day": coded(read_day),
 }
 
@@ -162,6 +176,9 @@ COMMANDS = {
     "account": (Account, ("ref", "bic", "account")),
     "security": (Security, ("ref", "isin", "kind")),
     "issue": (Issue, ("ref", "account", "isin", "quantity")),
+    "redeem": (Redeem, ("ref", "account", "isin", "quantity")),
+    "payin": (PayIn, ("ref", "bic", "ccy", "amount")),
+    "payout": (PayOut, ("ref", "bic", "ccy", "amount")),
     "run": (Run, ("ref", "day")),
 }
 

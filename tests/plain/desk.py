@@ -1,168 +1,75 @@
-"""The abstract desk, plainly (docs/RULES.md, 'The desk').
-
-Its only state is the list of the entries that were accepted. Pairs, settlements and balances are made anew from
-the whole list whenever they are asked for."""
+"""The abstract desk, plainly: what it decides, answers and sends (docs/RULES.md, 'The desk')."""
 
 from collections import namedtuple
 
-from .messages import MATCHED, RECEIPTS, UNMATCHED, refused_case, status_text
+from .books import (
+    Books,
+    Sent,
+    cash,
+    held,
+    held_cash,
+    holdings as holdings_of,
+    is_cancelled,
+    is_requested,
+    is_settled,
+    kind_of,
+    last_day,
+    net_paid,
+    numbers_of_sides,
+    outstanding,
+    owner_of,
+    pair_of,
+    paired_by_last,
+    participants,
+    position,
+    reason_of,
+    settled_by_last,
+    waiting_pairs,
+)
+from .entries import (
+    MOST_PAID,
+    MOST_QUANTITY,
+    Account,
+    Cancel,
+    Instruct,
+    Issue,
+    Participant,
+    PayIn,
+    PayOut,
+    Redeem,
+    Run,
+    Security,
+    ask_the_same,
+    entries,
+    is_message,
+    key_of,
+    number_of_key,
+)
+from .written import (
+    CANCELLATION_DONE,
+    CANCELLATION_WAITS,
+    CANCELLED,
+    FUTURE,
+    UNMATCHED,
+    confirmation_text,
+    confirming_type,
+    holdings_text,
+    matched,
+    own_of_answer,
+    own_of_sent,
+    refused,
+    status_text,
+)
 
-MOST_OUTSTANDING = 99_999_999_999_999
 DEPOSITORY = b"DESKDEFF"
 
-# the supported entries
-Participant = namedtuple("Participant", "reference bic")
-Account = namedtuple("Account", "reference bic account")
-Security = namedtuple("Security", "reference isin kind")
-Issue = namedtuple("Issue", "reference account isin quantity")
-Run = namedtuple("Run", "reference day")
-Instruct = namedtuple("Instruct", "sender instruction")
-
-# a pair by the numbers of its two entries; a settlement by the numbers of its run and of its pair
-Pair = namedtuple("Pair", "earlier later")
-Settlement = namedtuple("Settlement", "run pair")
+# the day of a statement before any run
+NO_DAY = b"19700101"
 
 Reply = namedtuple("Reply", "status type text")
 
 
-def numbered(history, kind):
-    """The entries of one kind, each with its number."""
-    return [(number, entry) for number, entry in enumerate(history, 1) if isinstance(entry, kind)]
-
-
-def entries(history, kind):
-    return [entry for _, entry in numbered(history, kind)]
-
-
-def key_of(entry):
-    """The sender and the reference of an entry. All commands of the operator have one sender."""
-    if isinstance(entry, Instruct):
-        return entry.sender, entry.instruction.reference
-    return "operator", entry.reference
-
-
-# pairs
-
-
-def is_receipt(entry):
-    return entry.instruction.mt in RECEIPTS
-
-
-def are_opposite(one, other):
-    """Whether one of two instructions delivers what the other receives."""
-    mine, yours = one.instruction, other.instruction
-    return (
-        is_receipt(one) != is_receipt(other)
-        and (mine.isin, mine.kind, mine.quantity) == (yours.isin, yours.kind, yours.quantity)
-        and (mine.day, mine.cash) == (yours.day, yours.cash)
-        and (mine.counterparty, yours.counterparty) == (other.sender, one.sender)
-    )
-
-
-def pairs_of(history):
-    """The pairs of a history, by number."""
-    pairs = []
-    instructions = numbered(history, Instruct)
-    for later, entry in instructions:
-        paired = [number for pair in pairs for number in pair]
-        candidates = [
-            earlier
-            for earlier, candidate in instructions
-            if earlier < later and earlier not in paired and are_opposite(candidate, entry)
-        ]
-        if candidates:
-            pairs.append(Pair(min(candidates), later))
-    return pairs
-
-
-def sides_of(history, pair):
-    """The instruction that delivers and the one that receives."""
-    sides = [history[number - 1] for number in pair]
-    return sorted(sides, key=is_receipt)
-
-
-def settlement_day(history, pair):
-    return int(history[pair.later - 1].instruction.day)
-
-
-# balances and settlement
-
-
-def position(history, settled, account, isin):
-    """What an account holds of a security after these entries and settlements."""
-    issued = [entry.quantity for entry in entries(history, Issue) if (entry.account, entry.isin) == (account, isin)]
-    received, delivered = [], []
-    for settlement in settled:
-        deliverer, receiver = (side.instruction for side in sides_of(history, settlement.pair))
-        if (receiver.account, receiver.isin) == (account, isin):
-            received.append(receiver.quantity)
-        if (deliverer.account, deliverer.isin) == (account, isin):
-            delivered.append(deliverer.quantity)
-    return sum(issued) + sum(received) - sum(delivered)
-
-
-def is_covered(history, settled, pair):
-    """Whether the account that delivers holds enough for a free delivery."""
-    deliverer, _ = sides_of(history, pair)
-    instruction = deliverer.instruction
-    return position(history, settled, instruction.account, instruction.isin) >= instruction.quantity
-
-
-def due_pairs(history, pairs, number, settled):
-    """The pairs that are due in the run of this number and not settled, by settlement day and then by number."""
-    day = int(history[number - 1].day)
-    done = [settlement.pair for settlement in settled]
-    due = [
-        pair
-        for pair in pairs
-        if pair.later < number and settlement_day(history, pair) <= day and pair not in done
-    ]
-    return sorted(due, key=lambda pair: (settlement_day(history, pair), pair.later))
-
-
-def pass_of(history, pairs, number, settled):
-    """What one pass of the run of this number settles, after all that was settled before it."""
-    before, in_it = history[: number - 1], []
-    for pair in due_pairs(history, pairs, number, settled):
-        if is_covered(before, settled + in_it, pair):
-            in_it.append(Settlement(number, pair))
-    return in_it
-
-
-def settlement_of(history):
-    """The settlements of a history in their order. A run makes passes until one settles nothing."""
-    settled, pairs = [], pairs_of(history)
-    for number, _ in numbered(history, Run):
-        while in_it := pass_of(history, pairs, number, settled):
-            settled += in_it
-    return settled
-
-
-def outstanding(history, isin):
-    return sum(entry.quantity for entry in entries(history, Issue) if entry.isin == isin)
-
-
-def held(history, settled, isin):
-    """The sum of what all accounts hold of a security."""
-    holdings = [position(history, settled, entry.account, isin) for entry in entries(history, Account)]
-    if min(holdings, default=0) < 0:
-        raise AssertionError("an account holds less than nothing")
-    return sum(holdings)
-
-
 # verdicts: None is accepted, else the number of the refusal
-
-
-def participants(history):
-    return [entry.bic for entry in entries(history, Participant)]
-
-
-def owner_of(history, account):
-    return next((entry.bic for entry in entries(history, Account) if entry.account == account), None)
-
-
-def kind_of(history, isin):
-    return next((entry.kind for entry in entries(history, Security) if entry.isin == isin), None)
 
 
 def first_that_fails(checks):
@@ -170,114 +77,264 @@ def first_that_fails(checks):
     return next((number for number, holds in checks if not holds), None)
 
 
-def refusal_of_instruction(history, entry):
-    instruction = entry.instruction
-    kind = kind_of(history, instruction.isin)
+def refusal_of_account(books, entry):
+    return first_that_fails(
+        [
+            (32, owner_of(books.history, entry.account) is None),
+            (33, entry.bic in participants(books.history)),
+        ]
+    )
+
+
+def is_registered(books, entry):
+    """The checks of an account and a security that must be there."""
+    return [
+        (34, owner_of(books.history, entry.account) is not None),
+        (35, kind_of(books.history, entry.isin) is not None),
+    ]
+
+
+def refusal_of_issue(books, entry):
+    after = outstanding(books.history, entry.isin) + entry.quantity
+    return first_that_fails([*is_registered(books, entry), (36, after <= MOST_QUANTITY)])
+
+
+def refusal_of_redemption(books, entry):
+    holding = position(books.history, books.settled, entry.account, entry.isin)
+    return first_that_fails([*is_registered(books, entry), (37, entry.quantity <= holding)])
+
+
+def refusal_of_pay_in(books, entry):
+    return first_that_fails(
+        [
+            (33, entry.bic in participants(books.history)),
+            (36, net_paid(books.history, entry.currency) + entry.amount <= MOST_PAID),
+        ]
+    )
+
+
+def refusal_of_pay_out(books, entry):
+    return first_that_fails(
+        [
+            (33, entry.bic in participants(books.history)),
+            (37, entry.amount <= cash(books.history, books.settled, entry.bic, entry.currency)),
+        ]
+    )
+
+
+def refusal_of_instruction(books, entry):
+    instruction = entry.message
+    kind = kind_of(books.history, instruction.isin)
     return first_that_fails(
         [
             (12, instruction.place == DEPOSITORY),
             (13, kind is not None),
             (14, kind == instruction.kind),
-            (15, owner_of(history, instruction.account) == entry.sender),
-            (16, instruction.counterparty in participants(history)),
+            (15, owner_of(books.history, instruction.account) == entry.sender),
+            (16, instruction.counterparty in participants(books.history)),
         ]
     )
 
 
-def refusal_of_issue(history, entry):
+def named_by(history, entry):
+    """The number of the instruction that a cancellation names; None where it names none."""
+    number = number_of_key(history, (entry.sender, entry.message.previous))
+    if number is None or not isinstance(history[number - 1], Instruct):
+        return None
+    return number if history[number - 1].message.mt == entry.message.mt else None
+
+
+def refusal_of_cancellation(books, entry):
+    named = named_by(books.history, entry)
+    if named is None:
+        return 17
     return first_that_fails(
         [
-            (34, owner_of(history, entry.account) is not None),
-            (35, kind_of(history, entry.isin) is not None),
-            (36, outstanding(history, entry.isin) + entry.quantity <= MOST_OUTSTANDING),
+            (18, not is_cancelled(books, named)),
+            (19, not is_settled(books, named)),
+            (22, not is_requested(books.history, named)),
         ]
     )
-
-
-def refusal_of_account(history, entry):
-    return first_that_fails(
-        [
-            (32, owner_of(history, entry.account) is None),
-            (33, entry.bic in participants(history)),
-        ]
-    )
-
-
-def last_day(history):
-    """The day of the last run as a number; one before all days where there was none."""
-    return max([int(entry.day) for entry in entries(history, Run)], default=-1)
 
 
 REFUSALS = {
-    Participant: lambda history, entry: 32 if entry.bic in participants(history) else None,
+    Participant: lambda books, entry: 32 if entry.bic in participants(books.history) else None,
     Account: refusal_of_account,
-    Security: lambda history, entry: 32 if kind_of(history, entry.isin) is not None else None,
+    Security: lambda books, entry: 32 if kind_of(books.history, entry.isin) is not None else None,
     Issue: refusal_of_issue,
-    Run: lambda history, entry: 38 if int(entry.day) < last_day(history) else None,
+    Redeem: refusal_of_redemption,
+    PayIn: refusal_of_pay_in,
+    PayOut: refusal_of_pay_out,
     Instruct: refusal_of_instruction,
+    Cancel: refusal_of_cancellation,
+    Run: lambda books, entry: 38 if int(entry.day) < last_day(books.history) else None,
 }
-
-
-def same_key(history, entry):
-    """The number of the entry with the same sender and reference; None where there is none."""
-    keys = [key_of(accepted) for accepted in history]
-    return keys.index(key_of(entry)) + 1 if key_of(entry) in keys else None
 
 
 # replies
 
 
-def accepted_run(history):
+def advice(books, entry, status, statuses):
+    """A status advice as an answer, with the number of entries of these books."""
+    return Reply(status, 548, status_text(own_of_answer(len(books.history)), entry.message, statuses))
+
+
+def how_cancellation_stands(books, entry):
+    """Done once its instruction is cancelled, refused once that is settled, else it waits for the other side's."""
+    named = named_by(books.history, entry)
+    if is_cancelled(books, named):
+        return CANCELLATION_DONE
+    return refused(entry.message, 19) if is_settled(books, named) else CANCELLATION_WAITS
+
+
+def run_text(books):
     """How many pairs the run that is the last entry settled, and how many due ones wait."""
-    settled = settlement_of(history)
-    number = len(history)
-    in_it = [settlement for settlement in settled if settlement.run == number]
-    waiting = due_pairs(history, pairs_of(history), number, settled)
+    number = len(books.history)
+    in_it = [settlement for settlement in books.settled if settlement.run == number]
+    waiting = waiting_pairs(books.history, books.pairs, books.settled, number)
     return b" settled %d waiting %d" % (len(in_it), len(waiting))
 
 
-def advice(history, entry, status, case):
-    instruction = entry.instruction
-    return Reply(status, 548, status_text(len(history), instruction.mt, instruction.reference, case))
-
-
-def accepted_reply(history):
-    """The reply to the last entry of a history."""
-    entry, number = history[-1], len(history)
+def accepted_reply(books):
+    """The reply to the last entry."""
+    entry, number = books.history[-1], len(books.history)
     if isinstance(entry, Instruct):
-        is_paired = any(pair.later == number for pair in pairs_of(history))
-        return advice(history, entry, 200, MATCHED if is_paired else UNMATCHED)
-    run = accepted_run(history) if isinstance(entry, Run) else b""
-    return Reply(200, None, b"accepted %d" % number + run)
+        return advice(books, entry, 200, matched(FUTURE) if pair_of(books.pairs, number) else UNMATCHED)
+    if isinstance(entry, Cancel):
+        return advice(books, entry, 200, how_cancellation_stands(books, entry))
+    return Reply(200, None, b"accepted %d" % number + (run_text(books) if isinstance(entry, Run) else b""))
 
 
-def refused_reply(history, entry, number):
-    if isinstance(entry, Instruct):
-        return advice(history, entry, 422, refused_case(number))
+def refused_text(number):
     return Reply(422, None, b"refused %d" % number)
 
 
-def ask(history, entry):
-    """The history after an entry was asked for, and the reply."""
-    if isinstance(entry, Instruct) and entry.sender not in participants(history):
-        return history, refused_reply(history, entry, 10)
-    known = same_key(history, entry)
+def refused_reply(books, entry, number):
+    if is_message(entry):
+        return advice(books, entry, 422, refused(entry.message, number))
+    return refused_text(number)
+
+
+# sent messages
+
+
+def advised(history, number, about):
+    """The advice that an instruction was paired, as the sent message of this number."""
+    instruct = history[about - 1]
+    text = status_text(own_of_sent(number), instruct.message, matched(FUTURE))
+    return Sent(instruct.sender, 548, about, text)
+
+
+def confirmed(history, number, about):
+    """The confirmation that the last entry, a run, settled an instruction, as the sent message of this number."""
+    instruct, day = history[about - 1], history[-1].day
+    text = confirmation_text(own_of_sent(number), instruct.message, day)
+    return Sent(instruct.sender, confirming_type(instruct.message.mt), about, text)
+
+
+def told_by_last(books):
+    """What the last entry sends: an advice to the earlier party of its pair; of each settlement a confirmation to the
+    deliverer, then one to the receiver."""
+    history, last, first = books.history, len(books.history), len(books.sent) + 1
+    settled = [settlement.pair for settlement in books.settled if settlement.run == last]
+    told = [(advised, pair.earlier) for pair in books.pairs if pair.later == last]
+    told += [(confirmed, number) for pair in settled for number in numbers_of_sides(history, pair)]
+    return [tell(history, number, about) for number, (tell, about) in enumerate(told, first)]
+
+
+# what is asked
+
+
+def with_entry(books, entry):
+    """The books with one entry more, and what follows from it."""
+    history = [*books.history, entry]
+    pairs = books.pairs + paired_by_last(history, books.pairs)
+    settled = books.settled + settled_by_last(history, pairs, books.settled)
+    after = Books(history, pairs, settled, books.sent, books.replies)
+    return after._replace(sent=books.sent + told_by_last(after), replies=[*books.replies, accepted_reply(after)])
+
+
+def ask(books, entry):
+    """The books after an entry was asked for, and the reply."""
+    if is_message(entry) and entry.sender not in participants(books.history):
+        return books, refused_reply(books, entry, 10)
+    known = number_of_key(books.history, key_of(entry))
     if known is not None:
-        if history[known - 1] == entry and type(history[known - 1]) is type(entry):
-            return history, accepted_reply(history[:known])
-        return history, refused_reply(history, entry, 11 if isinstance(entry, Instruct) else 31)
-    refusal = REFUSALS[type(entry)](history, entry)
+        if ask_the_same(books.history[known - 1], entry):
+            return books, books.replies[known - 1]
+        return books, refused_reply(books, entry, 11 if is_message(entry) else 31)
+    refusal = REFUSALS[type(entry)](books, entry)
     if refusal is not None:
-        return history, refused_reply(history, entry, refusal)
-    history = [*history, entry]
-    return history, accepted_reply(history)
+        return books, refused_reply(books, entry, refusal)
+    books = with_entry(books, entry)
+    return books, books.replies[-1]
 
 
-def sums(history):
-    """The totals of each security, by its letters."""
-    settled = settlement_of(history)
-    rows = [
-        b'{"held":%d,"isin":"%s","outstanding":%d}' % (held(history, settled, isin), isin, outstanding(history, isin))
-        for isin in sorted(entry.isin for entry in entries(history, Security))
+def confirmation_of(books, number):
+    """The one confirmation that was sent about an instruction."""
+    about_it = [message for message in books.sent if message.about == number and message.type != 548]
+    if len(about_it) != 1:
+        raise AssertionError("a settled instruction is not confirmed once")
+    return about_it[0]
+
+
+def status_of_instruction(books, number):
+    """How an instruction stands now; once it is settled, its confirmation as it was sent."""
+    entry, pair = books.history[number - 1], pair_of(books.pairs, number)
+    if is_settled(books, number):
+        confirmation = confirmation_of(books, number)
+        return Reply(200, confirmation.type, confirmation.text)
+    if is_cancelled(books, number):
+        return advice(books, entry, 200, CANCELLED)
+    return advice(books, entry, 200, matched(reason_of(books, pair)) if pair else UNMATCHED)
+
+
+def status(books, bic, reference):
+    """How a participant's message of this reference stands."""
+    if bic not in participants(books.history):
+        return refused_text(10)
+    number = number_of_key(books.history, (bic, reference))
+    if number is None:
+        return refused_text(17)
+    entry = books.history[number - 1]
+    if isinstance(entry, Cancel):
+        return advice(books, entry, 200, how_cancellation_stands(books, entry))
+    return status_of_instruction(books, number)
+
+
+def sent(books, bic, place):
+    """What was sent to a participant in this place, from 1."""
+    if bic not in participants(books.history):
+        return refused_text(10)
+    to_it = [message for message in books.sent if message.bic == bic]
+    if not 1 <= place <= len(to_it):
+        return refused_text(42)
+    message = to_it[place - 1]
+    return Reply(200, message.type, message.text)
+
+
+def holdings(books, bic, account):
+    """The statement of what an account of a participant holds, on the day of the last run."""
+    history = books.history
+    if bic not in participants(history):
+        return refused_text(10)
+    if owner_of(history, account) != bic:
+        return refused_text(15)
+    runs = [entry.day for entry in entries(history, Run)]
+    rows = holdings_of(history, books.settled, account)
+    return Reply(200, 535, holdings_text(own_of_answer(len(history)), runs[-1] if runs else NO_DAY, account, rows))
+
+
+def sums(books):
+    """The totals of each currency in which something was paid in, and of each security, by their letters."""
+    history, settled = books.history, books.settled
+    currencies = [
+        b'{"ccy":"%s","held":%d,"net":%d}' % (it, held_cash(history, settled, it), net_paid(history, it))
+        for it in sorted({entry.currency for entry in entries(history, PayIn)})
     ]
-    return Reply(200, None, b'{"cash":[],"securities":[' + b",".join(rows) + b"]}")
+    securities = [
+        b'{"held":%d,"isin":"%s","outstanding":%d}' % (held(history, settled, it), it, outstanding(history, it))
+        for it in sorted(entry.isin for entry in entries(history, Security))
+    ]
+    rows = b",".join(currencies), b",".join(securities)
+    return Reply(200, None, b'{"cash":[%s],"securities":[%s]}' % rows)

@@ -1,10 +1,20 @@
-"""A plain reader of settlement messages, and the texts that are written of them (docs/RULES.md)."""
+"""A plain reader of settlement messages, and the lines that tell what one says (docs/RULES.md)."""
 
 import re
 from collections import namedtuple
 
 from .blocks import Refused
-from .codes import DECIMALS, read_account, read_bic, read_day, read_isin, read_number, read_reference, write_number
+from .codes import (
+    DECIMALS,
+    read_account,
+    read_bic,
+    read_currency,
+    read_day,
+    read_isin,
+    read_number,
+    read_reference,
+    write_number,
+)
 
 RECEIPTS = (540, 541)
 AGAINST_PAYMENT = (541, 543)
@@ -42,7 +52,7 @@ def read_quantity(kind, number):
 
 
 def read_amount(currency, number):
-    if currency not in DECIMALS:
+    if read_currency(currency) is None:
         return None
     value = read_number(number, DECIMALS[currency])
     return value and (currency, value)
@@ -133,30 +143,3 @@ def fields_text(message):
         currency, amount = message.cash
         lines.append(b"amount %s %s" % (currency, write_number(amount, DECIMALS[currency])))
     return b"\n".join(lines)
-
-
-UNMATCHED = [(b"IPRC//PACK", None, None), (b"MTCH//NMAT", b"NMAT//CMIS", None)]
-MATCHED = [(b"IPRC//PACK", None, None), (b"MTCH//MACH", None, None), (b"SETT//PEND", b"PEND//FUTU", None)]
-
-
-def refused_case(number):
-    return [(b"IPRC//REJT", b"REJT//NARR", b"DESK %d" % number)]
-
-
-def status_lines(processing, reason, narrative):
-    """The lines of one sequence that says where a message stands."""
-    lines = [b":16R:STAT", b":25D::" + processing]
-    if reason:
-        lines += [b":16R:REAS", b":24B::" + reason]
-        lines += [b":70D::REAS//" + narrative] if narrative else []
-        lines += [b":16S:REAS"]
-    return [*lines, b":16S:STAT"]
-
-
-def status_text(entries, mt, reference, case):
-    """The status advice of an instruction, in an answer."""
-    lines = [b"{4:", b":16R:GENL", b":20C::SEME//S%015d" % entries, b":23G:INST", b":16R:LINK"]
-    lines += [b":13A::LINK//%d" % mt, b":20C::RELA//" + reference, b":16S:LINK"]
-    for status in case:
-        lines += status_lines(*status)
-    return b"\r\n".join([*lines, b":16S:GENL", b"-}"])

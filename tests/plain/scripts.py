@@ -3,9 +3,11 @@
 import re
 
 from .blocks import MOST_BYTES, Refused, read_block
+from .books import EMPTY
 from .codes import read_bic
 from .commands import NoCommand, read_command
-from .desk import Instruct, Reply, ask, sums
+from .desk import Reply, ask, holdings, sent, status, sums
+from .entries import Cancel, Instruct
 from .messages import Cancellation, read_message
 
 MOST_LINE = 1_024
@@ -49,36 +51,53 @@ def read_body(rest):
     return False
 
 
-def ask_command(history, body):
+def ask_command(books, body):
     try:
-        return ask(history, read_command(body))
+        return ask(books, read_command(body))
     except NoCommand:
-        return history, Reply(400, None, b"refused 30")
+        return books, Reply(400, None, b"refused 30")
 
 
-def ask_message(history, sender, mt, body):
+def ask_message(books, sender, mt, body):
     try:
         message = read_message(mt, read_block(body))
     except Refused as refused:
-        return history, Reply(400, None, refused.text())
-    if isinstance(message, Cancellation):
-        return history, Reply(400, None, b"refused 8")
-    return ask(history, Instruct(sender, message))
+        return books, Reply(400, None, refused.text())
+    return ask(books, (Cancel if isinstance(message, Cancellation) else Instruct)(sender, message))
 
 
-def ask_item(history, line, body):
-    """The history after an item of a script, and its answer."""
+# the lines that begin with a word and a BIC, by what stands behind these
+FORMS = {
+    b"in": rb"54[0-3]",
+    b"status": rb".*",
+    b"sent": rb"[0-9]{1,9}",
+    b"holdings": rb".*",
+}
+
+
+def ask_participants(books, word, bic, rest, body):
+    """The books after a line with this word, BIC and rest was asked, and the answer."""
+    if word == b"in":
+        return ask_message(books, bic, int(rest), body)
+    if word == b"sent":
+        return books, sent(books, bic, int(rest))
+    return books, (status if word == b"status" else holdings)(books, bic, rest)
+
+
+def ask_item(books, line, body):
+    """The books after an item of a script, and its answer."""
     if len(line) > MOST_LINE or body is False:
-        return history, NOT_ASKED
+        return books, NOT_ASKED
     if line == b"op":
-        return ask_command(history, body)
+        return ask_command(books, body)
     if line == b"sums":
-        return history, sums(history)
-    message = re.fullmatch(rb"in ([^ ]*) (540|542)", line)
-    sender = message and read_bic(message[1])
-    if sender:
-        return ask_message(history, sender, int(message[2]), body)
-    return history, NOT_ASKED
+        return books, sums(books)
+    word, _, behind = line.partition(b" ")
+    written, blank, rest = behind.partition(b" ")
+    bic = read_bic(written)
+    if word in FORMS and bic and blank and re.fullmatch(FORMS[word], rest):
+        return ask_participants(books, word, bic, rest, body)
+    return books, NOT_ASKED
 
 
 def shown(reply):
@@ -87,12 +106,17 @@ def shown(reply):
     return b"%d%s\n%s\n.\n" % (reply.status, of_type, reply.text)
 
 
+def answers_to(script):
+    """The items of a script, each as its line, its body and its answer as it is printed."""
+    books, answers = EMPTY, []
+    for line, body in items_of(script):
+        books, reply = ask_item(books, line, body)
+        answers.append((line, body, shown(reply)))
+    return answers
+
+
 def play(script):
     """The exit status and the printed answers of a script on a new desk."""
     if len(script) > MOST_SCRIPT:
         return 3, b"fault io\n"
-    history, answers = [], []
-    for line, body in items_of(script):
-        history, reply = ask_item(history, line, body)
-        answers.append(shown(reply))
-    return 0, b"".join(answers)
+    return 0, b"".join(answer for _, _, answer in answers_to(script))

@@ -34,6 +34,12 @@ def trials(room):
     for path, text in FILES.items():
         write(f"{room}/{path}", text)
     yield passes("a sound rt ci", told_by_rt(room, *WANTED, COUNTS), f"\n{len(WANTED)} passed, 0 failed\n")
+    kept = "rt: top is kept: an earlier run on this machine proved the same files over the same libraries"
+    ran = told_by_rt(room, *[kept if it == "rt: top proved" else it for it in WANTED], COUNTS)
+    yield passes("a kept crate", ran, f"\n{len(WANTED)} passed, 0 failed\n")
+    kept = kept.replace("top", "topmost")
+    ran = told_by_rt(room, *[kept if it == "rt: top proved" else it for it in WANTED], COUNTS)
+    yield fails("another crate is kept", ran, "rt ci did not tell 'rt: top proved'\n6 passed, 1 failed\n")
     for line in WANTED:
         others = [it for it in WANTED if it != line]
         ran = told_by_rt(room, *others, f"note: {line}", COUNTS)

@@ -1,5 +1,5 @@
 -- A script on a new desk in memory.
-use Rattle.std.proofs.Common.{◌≡◌, ◌<◌, ◌≤◌, ℕ, Bool, false, List, [], ◌∷◌, ◌++◌, length, All, Option, Some, None, IfSome, cond, count_by, refl, sym, subst, arith}
+use Rattle.std.proofs.Common.{◌≡◌, ◌<◌, ◌≤◌, ℕ, Bool, false, List, [], ◌∷◌, ◌++◌, length, All, Option, Some, None, IfSome, cond, count_by, refl, sym, ◌∙◌, subst, arith}
 use Rattle.std.proofs.lemmas.List.Elements.{All-cons, All-head, All-nil, All-tail}
 use Rattle.std.proofs.lemmas.List.Sums.{sum_by-cons}
 use Rattle.std.specs.Prelude.{Result, Ok, Err, IfOk}
@@ -19,6 +19,7 @@ use Rattle.desk_book.proofs.RunLemmas.{open_all_along}
 use Rattle.desk_book.specs.declared.fault.Fault.{Fault}
 use Rattle.desk_book.specs.declared.fault.Fault.TheVariants.{Memory, Storage, Closed}
 use Rattle.desk_book.specs.Answered.{AnsweredInTurn, says_closed, says_storage}
+use Rattle.desk_book.specs.Headline.{Headline}
 use Rattle.desk_book.specs.Held.{Holds, KeepsFormed}
 use Rattle.desk_book.specs.Played.{PlaysScript, asked_in}
 use Rattle.desk.specs.PlayAnswer.{IsReplyOrMemory, IsPlayAnswer, told_answers, told_memory, told_input}
@@ -47,21 +48,22 @@ only_memory (answer ∷ answers) not_closed sound =
     All-cons IsReplyOrMemory answer answers (is_in_memory answer (All-head (λ a. says_closed a ≡ false) answer answers not_closed) now)
     (only_memory answers (All-tail (λ a. says_closed a ≡ false) answer answers not_closed) later)
 
-pub told : (r : Option (List ℕ)) (before after : Option (List ℕ)) (was is : Bool) (v0 v1 : View) → v0.room ≡ MOST_ENTRIES → was ≡ false → is ≡ false → v1.failures ≡ v0.failures → v1.failures < MOST_FAILURES → v1.is_honest → Holds was v0 no_books
+pub told : (r : Option (List ℕ)) (before after : Option (List ℕ)) (was is : Bool) (v0 v1 : View) → v0.room ≡ MOST_ENTRIES → v1.room ≡ v0.room → was ≡ false → is ≡ false → v1.failures ≡ v0.failures → v1.failures < MOST_FAILURES → v1.is_honest → Holds was v0 no_books
     → ((books : Books) → v1.is_honest → Holds was v0 books → (script : List ℕ) × IfSome r (λ input. input ≡ script) × (length script ≤ LONGEST_SCRIPT) × PlaysScript was books script before after is v0 v1)
     → (input : List ℕ) × IfSome r (λ known. known ≡ input) × IsPlayAnswer input exit.Done before after
-told r before after was is v0 v1 most not_closed stays sound few honest holds played =
+told r before after was is v0 v1 most room not_closed stays sound few honest holds played =
     let p = played no_books honest holds in
     let s = p.3 in
     let P : ℕ → Type 0 = λ k. AnsweredInTurn k was no_books (asked_in s.items) s.answers is s.played.last in
     let Q : Bool → Type 0 = λ b. AnsweredInTurn MOST_ENTRIES b no_books (asked_in s.items) s.answers is s.played.last in
     let R : Bool → Type 0 = λ b. AnsweredInTurn MOST_ENTRIES false no_books (asked_in s.items) s.answers b s.played.last in
     let run : AnsweredInTurn MOST_ENTRIES false no_books (asked_in s.items) s.answers false s.played.last = subst R stays (subst Q not_closed (subst P most s.played.in_turn)) in
+    let H : ℕ → Type 0 = λ k. Headline k s.played.last v1.content in
     let blame = s.played.blame honest few in
     let none : count_by says_storage s.answers ≡ 0 = omega (arith, blame, sound) in (
       p.0,
       p.1,
-      told_answers s.items s.answers s.played.last p.2 s.spells run
+      told_answers s.items s.answers s.played.last v1.content p.2 s.spells run (subst H (room ∙ most) (s.played.promise stays))
           (only_memory s.answers (open_all_along MOST_ENTRIES false no_books s.played.last (asked_in s.items) s.answers run) none) s.written refl,
     )
 

@@ -16,6 +16,8 @@ pub enum Failure {
     Storage,
     /// Two sums that must agree do not.
     Sums,
+    /// An entry was refused, or was there already.
+    Refused,
     /// What was to be printed was not.
     Output,
 }

@@ -10,7 +10,7 @@ mod blocks;
 mod codes;
 mod failure;
 mod market;
-mod rounds;
+mod mixed_day;
 mod shown;
 mod trial;
 
@@ -88,8 +88,8 @@ fn figure_of(
             rt.reader().read_to_end(&mut text)?;
             blocks::fields_read(rt.alloc(), &text, count)
         }
-        "lists" => rounds::pairs_settled::<ListRegister>(rt.alloc(), count)?,
-        "index" => rounds::pairs_settled::<IndexedRegister>(rt.alloc(), count)?,
+        "lists" => mixed_day::pairs_settled::<ListRegister>(rt.alloc(), count)?,
+        "index" => mixed_day::pairs_settled::<IndexedRegister>(rt.alloc(), count)?,
         _ => return Ok(None),
     }))
 }

@@ -1,12 +1,13 @@
 //! Two participants and a security, and entries of theirs, made with no text of a message.
-ghost use Rattle.std.specs.Prelude.{◌≡◌, ◌<◌, ◌≤◌, true, false};
+ghost use Rattle.std.specs.Prelude.{◌≡◌, ◌<◌, ◌≤◌, true, length};
+ghost use Rattle.desk_codes.specs.Number.{written_number};
 ghost use Rattle.desk_msg.specs.MessageType.{is_instruction, is_against_payment};
 ghost use Rattle.desk_rules.specs.declared.limits.TheConstants.{MOST_PAID, MOST_QUANTITY};
 
 use crate::codes::digits;
 use crate::failure::Failure;
 use desk_codes::{AccountId, Bic, Ccy, Day, Isin, Reference};
-use desk_msg::{Instruction, Kind, Mt, SettlementType};
+use desk_msg::{CancelOrder, Cash, Instruction, Kind, Mt, SettlementType};
 use desk_rules::{Entry, Movement, Payment};
 use desk_samples::entries::{EntryFault, SHARE, account, bic, isin};
 
@@ -21,14 +22,16 @@ pub enum Side {
 }
 
 impl Side {
-    /// What it instructs with, without payment.
-    fn mt(self) -> Mt
+    /// What it instructs with, free or against payment.
+    fn mt(self, is_paid: bool) -> Mt
         ensures instructs { is_instruction result ≡ true }
-        ensures free { is_against_payment result ≡ false }
+        ensures paid { is_against_payment result ≡ is_paid }
     {
-        match self {
-            Side::Deliverer => Mt::Mt542,
-            Side::Receiver => Mt::Mt540,
+        match (self, is_paid) {
+            (Side::Deliverer, false) => Mt::Mt542,
+            (Side::Deliverer, true) => Mt::Mt543,
+            (Side::Receiver, false) => Mt::Mt540,
+            (Side::Receiver, true) => Mt::Mt541,
         }
     }
 
@@ -36,6 +39,55 @@ impl Side {
         match self {
             Side::Deliverer => Side::Receiver,
             Side::Receiver => Side::Deliverer,
+        }
+    }
+}
+
+/// So many units that are delivered at once, and what is paid for them.
+#[derive(Clone, Copy, Debug, PartialEq, Eq)]
+pub struct Lot {
+    quantity: u64,
+    cash: Option<Cash>,
+    ghost some: { 0 < quantity },
+    ghost short: { length (written_number quantity 0) ≤ 15 },
+}
+
+impl Lot {
+    /// One unit, free.
+    pub fn free() -> Lot {
+        Lot {
+            quantity: 1,
+            cash: None,
+        }
+    }
+
+    /// One unit for a euro.
+    pub fn paid() -> Lot {
+        Lot {
+            quantity: 1,
+            cash: Some(Cash {
+                ccy: Ccy::Eur,
+                amount: 100,
+            }),
+        }
+    }
+
+    /// Seven units, free.
+    pub fn large() -> Lot {
+        Lot {
+            quantity: 7,
+            cash: None,
+        }
+    }
+
+    /// One unit for a million euros.
+    pub fn dear() -> Lot {
+        Lot {
+            quantity: 1,
+            cash: Some(Cash {
+                ccy: Ccy::Eur,
+                amount: 100_000_000,
+            }),
         }
     }
 }
@@ -155,24 +207,36 @@ impl Market {
         }
     }
 
-    /// One unit delivered free, as its deliverer or its receiver instructs.
-    pub fn instruct(&self, reference: Reference, side: Side, day: Day) -> Entry {
+    /// A lot delivered, as its deliverer or its receiver instructs.
+    pub fn instruct(&self, reference: Reference, side: Side, lot: Lot, day: Day) -> Entry {
         let own = self.party(side);
         let counterparty = self.party(side.other()).bic;
         Entry::Instruct {
             sender: own.bic,
             instruction: Instruction {
-                mt: side.mt(),
+                mt: side.mt(lot.cash.is_some()),
                 reference,
                 day,
                 isin: self.isin,
                 kind: Kind::Unit,
-                quantity: 1,
+                quantity: lot.quantity,
                 account: own.account,
                 settlement: self.settlement,
                 counterparty,
                 place: self.place,
-                cash: None,
+                cash: lot.cash,
+            },
+        }
+    }
+
+    /// A side's request to cancel what it instructed of a lot under an earlier reference.
+    pub fn cancel(&self, reference: Reference, side: Side, lot: Lot, previous: Reference) -> Entry {
+        Entry::Cancel {
+            sender: self.party(side).bic,
+            order: CancelOrder {
+                mt: side.mt(lot.cash.is_some()),
+                reference,
+                previous,
             },
         }
     }

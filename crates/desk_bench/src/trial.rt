@@ -1,7 +1,7 @@
 //! A day's entries, asked of a register where any one growth of memory may be refused.
 
 use crate::failure::Failure;
-use crate::market::{Market, OPENING, Side, reference};
+use crate::market::{Lot, Market, OPENING, Side, reference};
 use crate::shown::shown;
 use desk_codes::{Day, Reference};
 use desk_rules::{Entry, RunRule};
@@ -14,7 +14,7 @@ use std::alloc::Global;
 const TRIAL_ENTRIES: u64 = 1000;
 
 /// How many entries the day has.
-const DAY: u32 = 22;
+const DAY: u32 = 33;
 
 /// Asks a register the day's entries one after another, and prints what came of each, and at the end what the register
 /// shows. After a fault it is looked at whether the register shows what it showed before the entry, and the entry is
@@ -80,28 +80,53 @@ fn shown_at_last<R: MemoryRegister>(
     }
 }
 
-/// The day's entry of a number, from 0. Two units are issued and three delivered, so that a run settles two pairs and
-/// leaves one waiting, until a third unit is issued. An instruction is repeated, and what goes back in days or uses a
-/// reference again is refused. Then a unit is redeemed, and cash paid in and out.
+/// The day's entry of a number, from 0: free deliveries, then what is paid for or cancelled.
 fn entry_at(market: &Market, number: u32) -> Result<Entry, Failure> {
-    if number < OPENING {
-        return market.opening(number);
+    match number {
+        0..OPENING => market.opening(number),
+        OPENING..22 => free_entry_at(market, number),
+        _ => paid_entry_at(market, number),
     }
+}
+
+/// Two units are issued and three delivered, so that a run settles two pairs and leaves one waiting, until a third unit is
+/// issued. An instruction is repeated, and what goes back in days or uses a reference again is refused. Then a unit is
+/// redeemed, and cash paid in and out.
+fn free_entry_at(market: &Market, number: u32) -> Result<Entry, Failure> {
     let own = reference(number)?;
     let used = reference(6)?;
     let eve = day(b"20240228")?;
     let leap = day(b"20240229")?;
     Ok(match number {
         5 => market.issue(own, Side::Deliverer, 2),
-        6 | 8 | 10 => market.instruct(own, Side::Deliverer, leap),
-        7 | 9 | 11 => market.instruct(own, Side::Receiver, leap),
+        6 | 8 | 10 => market.instruct(own, Side::Deliverer, Lot::free(), leap),
+        7 | 9 | 11 => market.instruct(own, Side::Receiver, Lot::free(), leap),
         12 | 14 => run(own, eve),
-        15 => market.instruct(used, Side::Deliverer, leap),
-        16 => market.instruct(used, Side::Deliverer, eve),
+        15 => market.instruct(used, Side::Deliverer, Lot::free(), leap),
+        16 => market.instruct(used, Side::Deliverer, Lot::free(), eve),
         17 => market.issue(own, Side::Deliverer, 1),
         19 => market.redeem(own, Side::Receiver, 1),
         20 => market.pay_in(own, Side::Receiver, 500),
         21 => market.pay_out(own, Side::Receiver, 200),
+        _ => run(own, leap),
+    })
+}
+
+/// Two units are delivered against payment, of which a run settles one, and the other lacks money until both sides cancel
+/// it. An instruction that finds no other is cancelled by its sender.
+fn paid_entry_at(market: &Market, number: u32) -> Result<Entry, Failure> {
+    let own = reference(number)?;
+    let leap = day(b"20240229")?;
+    Ok(match number {
+        22 => market.issue(own, Side::Deliverer, 2),
+        23 => market.instruct(own, Side::Deliverer, Lot::paid(), leap),
+        24 => market.instruct(own, Side::Receiver, Lot::paid(), leap),
+        25 => market.instruct(own, Side::Receiver, Lot::dear(), leap),
+        26 => market.instruct(own, Side::Deliverer, Lot::dear(), leap),
+        28 => market.cancel(own, Side::Deliverer, Lot::dear(), reference(26)?),
+        29 => market.cancel(own, Side::Receiver, Lot::dear(), reference(25)?),
+        30 => market.instruct(own, Side::Deliverer, Lot::large(), leap),
+        31 => market.cancel(own, Side::Deliverer, Lot::large(), reference(30)?),
         _ => run(own, leap),
     })
 }

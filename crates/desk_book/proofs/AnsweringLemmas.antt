@@ -1,8 +1,8 @@
 -- What is answered to an entry, from what the register keeps.
-use Rattle.std.proofs.Common.{◌≡◌, inl, inr, ℕ, zero, suc, ◌+◌, ◌<◌, ◌≤◌, ◌^◌, Bool, true, false, List, [], ◌∷◌, ◌++◌, length, Option, Some, None, option_map, refl, sym, ◌∙◌, subst, arith, lit<}
+use Rattle.std.proofs.Common.{◌≡◌, inl, inr, ℕ, zero, suc, ◌+◌, ◌<◌, ◌≤◌, ◌^◌, Bool, true, false, List, [], ◌∷◌, length, Option, Some, None, option_map, refl, sym, ◌∙◌, subst, arith, lit<}
 use Rattle.std.specs.Prelude.{slice_get, is_some, nat_le, Result, Ok, Err, IfOk, OnOk}
 use Rattle.std.proofs.lemmas.Bool.{cases_Bool}
-use Rattle.desk_rules.specs.declared.limits.TheConstants.{MOST_QUANTITY}
+use Rattle.desk_rules.specs.declared.limits.TheConstants.{MOST_PAID, MOST_QUANTITY}
 use Rattle.desk_rules.specs.declared.entry.Entry.{Entry}
 use Rattle.desk_rules.specs.declared.reply.Kept.{Kept}
 use Rattle.desk_rules.specs.declared.reply.Reply.{Reply}
@@ -10,13 +10,9 @@ use Rattle.desk_rules.specs.declared.verdict.Verdict.TheVariants.{Accept, Repeat
 use Rattle.desk_rules.specs.declared.verdict.Refusal.TheVariants.{Full}
 use Rattle.desk_rules.specs.History.{as_asked, entry_at, sender_of, reference_of, number_of_key}
 use Rattle.desk_codes.specs.declared.currency.Ccy.{Ccy}
-use Rattle.desk_rules.specs.declared.entry.Payment.{Payment}
-use Rattle.desk_rules.specs.declared.entry.Entry.TheVariants.{Participant, Account, Security, Issue, Redeem, PayIn, PayOut, Instruct, Cancel, Run}
-use Rattle.desk_book.specs.Supported.{AreSupported, is_supported}
-use Rattle.desk_rules.proofs.Decided.{In, In-from_Contains, Contains-from_In, In-push_cases}
-use Rattle.desk_rules.specs.declared.verdict.Verdict.{Verdict}
-use Rattle.desk_book.specs.Answered.{Grows}
-use Rattle.desk_rules.specs.Balances.{issued, paid_in, paid_in_by, payment_in, redeemed}
+use Rattle.desk_codes.specs.Currency.{letters_of}
+use Rattle.desk_rules.specs.Balances.{issued, paid_in, paid_out, redeemed}
+use Rattle.desk_rules.proofs.Conservation.{cash_adds_up}
 use Rattle.desk_rules.specs.Reply.{IsFirstReply, untyped_reply}
 use Rattle.desk_rules.specs.Books.{Books}
 use Rattle.desk_rules.specs.Verdict.{AsksTheSame, Check, IsVerdict, IsVerdictAt, checks_of, first_failing, is_from_stranger}
@@ -26,14 +22,15 @@ use Rattle.desk_rules.specs.WellFormed.{AreWellFormed, IsWellFormed}
 use Rattle.desk_engine.specs.Applied.{Keeps}
 use Rattle.desk_book.proofs.FormedLemmas.{formed_after}
 use Rattle.desk_rules.specs.Content.{Content}
-use Rattle.desk_register.specs.Looked.{held_of, reply_at}
+use Rattle.desk_register.specs.Looked.{held_cash_of, held_of, reply_at}
 use Rattle.desk_register.specs.declared.register.Stage.{Stage}
 use Rattle.desk_register.specs.declared.register.Stage.TheVariants.{Idle, Failed}
 use Rattle.desk_register.specs.View.{View}
 use Rattle.desk_engine.proofs.AcceptingLemmas.{entries_within}
-use Rattle.desk_engine.proofs.HeldLemmas.{held_is, held_within}
+use Rattle.desk_engine.proofs.HeldLemmas.{held_cash_adds_up, held_cash_within, held_is, held_within}
 use Rattle.desk_engine.proofs.TablesLemmas.{length_is}
 use Rattle.desk_book.specs.declared.fault.Fault.{Fault}
+use Rattle.desk_book.specs.declared.total.CashTotal.{CashTotal}
 use Rattle.desk_book.specs.declared.total.SecurityTotal.{SecurityTotal}
 use Rattle.desk_book.specs.Answered.{IsToldSums, says_closed}
 use Rattle.desk_book.specs.Held.{IsReady, KeepsFormed}
@@ -41,7 +38,7 @@ use Rattle.desk_book.specs.Answering.{Answers, Decides, Ends, IsPut}
 use Rattle.desk_book.specs.declared.task.Task.{Task}
 use Rattle.desk_book.specs.declared.task.Task.TheVariants.{Decide}
 use Rattle.desk_book.specs.Sums.{sums_text}
-use Rattle.desk_book.specs.Totals.{AreCashSums, AreTotals, IsSum, IsTotal}
+use Rattle.desk_book.specs.Totals.{AreCashTotals, AreTotals, IsCashSum, IsCashTotal, IsPaidIn, IsSum, IsTotal}
 
 -- what is kept is kept in another view of the same content
 pub keeps_at : (v0 v1 : View) (books : Books) → v1.content ≡ v0.content → v1.room ≡ v0.room → Keeps v0.room books v0.content → Keeps v1.room books v1.content
@@ -148,6 +145,12 @@ decides_repeat limit books e old new n (Err fault) verdict first same keeps = fi
 
 -- The desk's totals.
 
+pub held_cash_small : (limit : ℕ) (books : Books) (content : Content) (ccy : Ccy) → Keeps limit books content → held_cash_of content ccy < 2 ^ 64
+held_cash_small limit books content ccy keeps =
+    let within = held_cash_within limit books content ccy keeps in
+    let small : MOST_PAID < 2 ^ 64 = lit< tt in
+    omega arith
+
 pub held_small : (limit : ℕ) (books : Books) (content : Content) (isin : List ℕ) → Keeps limit books content → held_of content isin < 2 ^ 64
 held_small limit books content isin keeps =
     let within = held_within limit books content isin keeps in
@@ -166,51 +169,40 @@ total_told limit books content total keeps is =
       outstanding = subst Q history is.outstanding;
     }
 
--- Nothing was paid in where only supported commands were accepted.
+cash_told : (limit : ℕ) (books : Books) (content : Content) (total : CashTotal) → Keeps limit books content → IsCashTotal content total → IsCashSum books total
+cash_told limit books content total keeps is =
+    let history = keeps.tables.history in
+    let are = keeps.tables.are in
+    let P : List Entry → Type 0 = λ h. IsPaidIn h (letters_of total.ccy) in
+    let Q : List Entry → Type 0 = λ h. paid_out h total.ccy + total.net ≡ paid_in h total.ccy in
+    let all = cash_adds_up limit books.history keeps.accepted books.pairs books.settled are.pairing are.settlement total.ccy in
+    let sum = held_cash_adds_up limit books content total.ccy keeps in
+    record {
+      known = subst P history is.known;
+      held = (let h = is.held in omega arith);
+      net = subst Q history is.net;
+    }
 
-unpaid : (share : Payment → ℕ) (e : Entry) → is_supported e ≡ true → paid_in_by share e ≡ 0
-unpaid share (Participant reference bic) is = refl
-unpaid share (Account reference bic account) is = refl
-unpaid share (Security reference isin kind) is = refl
-unpaid share (Issue movement) is = refl
-unpaid share (Redeem movement) is = refl
-unpaid share (PayIn payment) is = absurd (cc)
-unpaid share (PayOut payment) is = refl
-unpaid share (Instruct sender instruction) is = refl
-unpaid share (Cancel sender order) is = refl
-unpaid share (Run reference day rule) is = refl
-
-nothing_paid_in : (history : List Entry) (ccy : Ccy) → ((e : Entry) → In history e → is_supported e ≡ true) → paid_in history ccy ≡ 0
-nothing_paid_in [] ccy all = refl
-nothing_paid_in (e ∷ history) ccy all =
-    let first = unpaid (payment_in ccy) e (all e (inl refl)) in
-    let rest = nothing_paid_in history ccy (λ x i. all x (inr i)) in
-    rw (first) rest
-
-no_cash_sums : (books : Books) → AreSupported books.history → AreCashSums books []
-no_cash_sums books supported = record {
-  each = λ total has. absurd (In-from_Contains [] total has);
-  all = λ letters paid.
-      let none = nothing_paid_in books.history paid.0 (λ e i. supported.each e (Contains-from_In books.history e i)) in
-      let some = paid.2 in
-      absurd (omega arith);
-  in_order = λ i j d i<j j<n. absurd (omega arith);
-}
-
-pub sums_told : (limit : ℕ) (books : Books) (content : Content) (totals : List SecurityTotal) (reply : Reply) → KeepsFormed limit books content → AreTotals content totals
-    → reply ≡ untyped_reply 200 (sums_text [] totals) → IsToldSums books reply books
-sums_told limit books content totals reply keeps are is = record {
-  cash = [];
-  are_cash = no_cash_sums books keeps.supported;
-  securities = totals;
-  are = record {
-    each = λ total c. total_told limit books content total keeps.tables (are.each total c);
-    all = λ isin known. are.all isin (let P : List Entry → Type 0 = λ h. is_some (kind_of h isin) ≡ true in subst P (sym keeps.tables.tables.history) known);
-    in_order = are.in_order;
-  };
-  replied = is;
-  stays = refl;
-}
+pub sums_told : (limit : ℕ) (books : Books) (content : Content) (cash : List CashTotal) (securities : List SecurityTotal) (reply : Reply) → Keeps limit books content
+    → AreCashTotals content cash → AreTotals content securities → reply ≡ untyped_reply 200 (sums_text cash securities) → IsToldSums books reply books
+sums_told limit books content cash securities reply keeps are_cash are is =
+    let history = keeps.tables.history in
+    record {
+      cash = cash;
+      are_cash = record {
+        each = λ total c. cash_told limit books content total keeps (are_cash.each total c);
+        all = λ letters paid. are_cash.all letters (let P : List Entry → Type 0 = λ h. IsPaidIn h letters in subst P (sym history) paid);
+        in_order = are_cash.in_order;
+      };
+      securities = securities;
+      are = record {
+        each = λ total c. total_told limit books content total keeps (are.each total c);
+        all = λ isin known. are.all isin (let P : List Entry → Type 0 = λ h. is_some (kind_of h isin) ≡ true in subst P (sym history) known);
+        in_order = are.in_order;
+      };
+      replied = is;
+      stays = refl;
+    }
 
 -- The same over the views of a register, after it was decided.
 
@@ -230,32 +222,14 @@ decides_repeat_at v0 v1 v2 books e n r same room keeps verdict repeats stays =
     let P : Content → Type 0 = λ c. OnOk r (v2.content ≡ c) in
     decides_repeat v0.room books e v0.content v2.content n r verdict (repeats (keeps_at v0 v1 books same room keeps) (repeat_known v0.room books e n verdict)) (subst P same stays) keeps
 
--- what a verdict makes of books is of supported entries, where the entry is one
-supported_push : (h : List Entry) (e : Entry) → AreSupported h → is_supported e ≡ true → AreSupported (h ++ e ∷ [])
-supported_push h e all is = record {
-  each = λ x c. elim (In-push_cases h e x (In-from_Contains (h ++ e ∷ []) x c)) [
-    | inl old ↦ all.each x (Contains-from_In h x old)
-    | inr new ↦ (let P : Entry → Type 0 = λ z. is_supported z ≡ true in subst P new is)
-  ];
-}
-
-supported_after : (verdict : Verdict) (books after : Books) (e : Entry) → is_supported e ≡ true → AreSupported books.history → Grows verdict books e after → AreSupported after.history
-supported_after Accept books after e is all grows = subst AreSupported (sym grows.history) (supported_push books.history e all is)
-supported_after (Repeat n) books after e is all grows = (let P : Books → Type 0 = λ b. AreSupported b.history in subst P (sym grows) all)
-supported_after (Refuse refusal) books after e is all grows = (let P : Books → Type 0 = λ b. AreSupported b.history in subst P (sym grows) all)
-
-pub answers_decided : (limit : ℕ) (books : Books) (e : Entry) (content : Content) (r : Result Reply Fault) → IsWellFormed e → is_supported e ≡ true → AreWellFormed books.history → AreSupported books.history → IfOk r (λ reply. Decides limit books e reply content)
+pub answers_decided : (limit : ℕ) (books : Books) (e : Entry) (content : Content) (r : Result Reply Fault) → IsWellFormed e → AreWellFormed books.history → IfOk r (λ reply. Decides limit books e reply content)
     → IfOk r (λ reply. Answers limit books (Decide e) reply content)
-answers_decided limit books e content (Ok reply) new taken formed supported d = record {
+answers_decided limit books e content (Ok reply) new formed d = record {
   after = d.after;
   answer = d.decided;
-  keeps = record {
-    tables = d.keeps;
-    formed = formed_after d.decided.verdict books d.after e new formed d.decided.grows;
-    supported = supported_after d.decided.verdict books d.after e taken supported d.decided.grows;
-  };
+  keeps = record { tables = d.keeps; formed = formed_after d.decided.verdict books d.after e new formed d.decided.grows };
 }
-answers_decided limit books e content (Err fault) new taken formed supported d = d
+answers_decided limit books e content (Err fault) new formed d = d
 
 -- An open desk is ready again after an answer, unless that says that it is closed.
 kept_after : (task : Task) (r : Result Reply Fault) (old new : View) → says_closed r ≡ false → new.is_honest → Ends r old new → (books : Books) → KeepsFormed old.room books old.content

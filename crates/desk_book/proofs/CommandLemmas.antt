@@ -1,21 +1,23 @@
 -- The objects of the commands, from what was looked up in a value.
-use Rattle.std.proofs.Common.{◌≡◌, ℕ, ◌<◌, List, [], ◌∷◌, length, arith, Some, None, Option, IfNone, codes, option_map, option_and_then, refl, sym, ap, subst, ◌∙◌}
+use Rattle.std.proofs.Common.{◌≡◌, ℕ, ◌<◌, List, [], ◌∷◌, length, arith, Some, None, Option, IfNone, codes, option_map, option_and_then, refl, subst}
 use Rattle.serde_json.specs.Data.{Data, null, boolean, number, string, array, object, Members, no_members, unsigned, negative, float}
 use Rattle.serde_json.specs.Read.{read}
 use Rattle.serde_json.proofs.OnLiterals.{serde_json_on_literals}
 use Rattle.serde_json.specs.Events.{members_len}
 use Rattle.serde_json.specs.Find.{get, get_member, as_object, as_str, as_number, as_u64}
-use Rattle.desk_book.specs.Command.{text_member, number_member, participant_object, account_object, security_object, movement_object, run_object}
+use Rattle.desk_book.specs.Command.{text_member, number_member, participant_object, account_object, security_object, movement_object, payment_object, run_object}
 use Rattle.desk_book.specs.Members.{text_at, number_at}
-use Rattle.desk_book.specs.Command.{IsCommand, IsSupportedCommand}
+use Rattle.desk_book.specs.Command.{IsCommand}
 use Rattle.desk_msg.specs.declared.instruction.Kind.{Kind}
 use Rattle.desk_rules.specs.declared.entry.Movement.{Movement}
+use Rattle.desk_rules.specs.declared.entry.Payment.{Payment}
 use Rattle.desk_rules.specs.declared.entry.Entry.{Entry}
-use Rattle.desk_rules.specs.declared.entry.Entry.TheVariants.{Participant, Account, Security, Issue, Redeem, PayIn, PayOut, Instruct, Cancel, Run}
+use Rattle.desk_rules.specs.declared.entry.Entry.TheVariants.{Participant, Account, Security, Issue, Redeem, PayIn, PayOut, Run}
 use Rattle.desk_rules.specs.declared.entry.RunRule.{RunRule}
 use Rattle.desk_rules.specs.declared.entry.RunRule.TheVariants.{Passes}
 use Rattle.desk_book.specs.Members.{IsOrderedObject}
 use Rattle.desk_book.proofs.ExactLemmas.{exact_object}
+use Rattle.desk_book.proofs.OneCommand.{apart}
 
 text_is : (t : List ℕ) (o : Option Data) → option_and_then as_str o ≡ Some t → o ≡ Some (string t)
 text_is t None h = cc
@@ -89,89 +91,81 @@ security_is d reference isin kind ordered long op has_ref has_isin has_kind =
       (text_among (codes "kind") kind d ms is has_kind, (text_among (codes "op") (codes "security") d ms is op, (text_among (codes "ref") reference d ms is has_ref, tt))),
     ))
 
-pub issue_is : (d : Data) (reference account isin : List ℕ) (quantity : ℕ) → IsOrderedObject d → HasMembers d 5 → text_at (codes "op") d ≡ Some (codes "issue")
+pub movement_is : (d : Data) (op reference account isin : List ℕ) (quantity : ℕ) → IsOrderedObject d → HasMembers d 5 → text_at (codes "op") d ≡ Some op
     → text_at (codes "ref") d ≡ Some reference → text_at (codes "account") d ≡ Some account → text_at (codes "isin") d ≡ Some isin
-    → number_at (codes "quantity") d ≡ Some quantity → d ≡ movement_object (codes "issue") reference account isin quantity
-issue_is d reference account isin quantity ordered long op has_ref has_account has_isin has_quantity =
-    let ns = text_member (codes "account") account (text_member (codes "isin") isin (text_member (codes "op") (codes "issue") (number_member (codes "quantity") quantity (text_member (codes "ref") reference no_members)))) in
+    → number_at (codes "quantity") d ≡ Some quantity → d ≡ movement_object op reference account isin quantity
+movement_is d op reference account isin quantity ordered long has_op has_ref has_account has_isin has_quantity =
+    let ns = text_member (codes "account") account (text_member (codes "isin") isin (text_member (codes "op") op (number_member (codes "quantity") quantity (text_member (codes "ref") reference no_members)))) in
     exact_object ns d ((refl, (refl, (refl, (refl, tt)))), ((refl, (refl, (refl, tt))), ((refl, (refl, tt)), ((refl, tt), (tt, tt))))) ordered long
     (λ ms is. (
       text_among (codes "account") account d ms is has_account,
       (
         text_among (codes "isin") isin d ms is has_isin,
         (
-          text_among (codes "op") (codes "issue") d ms is op,
+          text_among (codes "op") op d ms is has_op,
           (whole_among (codes "quantity") quantity d ms is has_quantity, (text_among (codes "ref") reference d ms is has_ref, tt)),
         ),
       ),
     ))
 
--- a value whose `op` is this is no command of another operation
+pub payment_is : (d : Data) (op reference bic ccy : List ℕ) (amount : ℕ) → IsOrderedObject d → HasMembers d 5 → text_at (codes "op") d ≡ Some op
+    → text_at (codes "ref") d ≡ Some reference → text_at (codes "bic") d ≡ Some bic → text_at (codes "ccy") d ≡ Some ccy
+    → number_at (codes "amount") d ≡ Some amount → d ≡ payment_object op reference bic ccy amount
+payment_is d op reference bic ccy amount ordered long has_op has_ref has_bic has_ccy has_amount =
+    let ns = number_member (codes "amount") amount (text_member (codes "bic") bic (text_member (codes "ccy") ccy (text_member (codes "op") op (text_member (codes "ref") reference no_members)))) in
+    exact_object ns d ((refl, (refl, (refl, (refl, tt)))), ((refl, (refl, (refl, tt))), ((refl, (refl, tt)), ((refl, tt), (tt, tt))))) ordered long
+    (λ ms is. (
+      whole_among (codes "amount") amount d ms is has_amount,
+      (
+        text_among (codes "bic") bic d ms is has_bic,
+        (
+          text_among (codes "ccy") ccy d ms is has_ccy,
+          (text_among (codes "op") op d ms is has_op, (text_among (codes "ref") reference d ms is has_ref, tt)),
+        ),
+      ),
+    ))
+
+-- A value whose `op` is this is no command of another operation.
 
 pub only_participant : (d : Data) → text_at (codes "op") d ≡ Some (codes "participant") → ((reference bic : List ℕ) → ¬ IsCommand d (Participant reference bic))
-    → (entry : Entry) → ¬ IsSupportedCommand d entry
-only_participant d op none (Participant reference bic) c = none reference bic c.spells
-only_participant d op none (Account reference bic account) c = let h = c.spells in let other : Some (codes "account") ≡ Some (codes "participant") = sym (ap (text_at (codes "op")) h.4) ∙ op in cc
-only_participant d op none (Security reference isin kind) c = let h = c.spells in let other : Some (codes "security") ≡ Some (codes "participant") = sym (ap (text_at (codes "op")) h.2) ∙ op in cc
-only_participant d op none (Issue movement) c = let h = c.spells in let other : Some (codes "issue") ≡ Some (codes "participant") = sym (ap (text_at (codes "op")) h.1) ∙ op in cc
-only_participant d op none (Redeem movement) c = let bad = c.supported in cc
-only_participant d op none (PayIn payment) c = let bad = c.supported in cc
-only_participant d op none (PayOut payment) c = let bad = c.supported in cc
-only_participant d op none (Instruct sender instruction) c = c.spells
-only_participant d op none (Cancel sender order) c = let bad = c.supported in cc
-only_participant d op none (Run reference day rule) c = let h = c.spells in let other : Some (codes "run") ≡ Some (codes "participant") = sym (ap (text_at (codes "op")) h.2) ∙ op in cc
+    → (entry : Entry) → ¬ IsCommand d entry
+only_participant d op none (Participant reference bic) c = none reference bic c
+only_participant d op none entry c = apart d entry (codes "participant") refl c op
 
 pub only_account : (d : Data) → text_at (codes "op") d ≡ Some (codes "account") → ((reference bic account : List ℕ) → ¬ IsCommand d (Account reference bic account))
-    → (entry : Entry) → ¬ IsSupportedCommand d entry
-only_account d op none (Participant reference bic) c = let h = c.spells in let other : Some (codes "participant") ≡ Some (codes "account") = sym (ap (text_at (codes "op")) h.3) ∙ op in cc
-only_account d op none (Account reference bic account) c = none reference bic account c.spells
-only_account d op none (Security reference isin kind) c = let h = c.spells in let other : Some (codes "security") ≡ Some (codes "account") = sym (ap (text_at (codes "op")) h.2) ∙ op in cc
-only_account d op none (Issue movement) c = let h = c.spells in let other : Some (codes "issue") ≡ Some (codes "account") = sym (ap (text_at (codes "op")) h.1) ∙ op in cc
-only_account d op none (Redeem movement) c = let bad = c.supported in cc
-only_account d op none (PayIn payment) c = let bad = c.supported in cc
-only_account d op none (PayOut payment) c = let bad = c.supported in cc
-only_account d op none (Instruct sender instruction) c = c.spells
-only_account d op none (Cancel sender order) c = let bad = c.supported in cc
-only_account d op none (Run reference day rule) c = let h = c.spells in let other : Some (codes "run") ≡ Some (codes "account") = sym (ap (text_at (codes "op")) h.2) ∙ op in cc
+    → (entry : Entry) → ¬ IsCommand d entry
+only_account d op none (Account reference bic account) c = none reference bic account c
+only_account d op none entry c = apart d entry (codes "account") refl c op
 
 pub only_security : (d : Data) → text_at (codes "op") d ≡ Some (codes "security") → ((reference isin : List ℕ) (kind : Kind) → ¬ IsCommand d (Security reference isin kind))
-    → (entry : Entry) → ¬ IsSupportedCommand d entry
-only_security d op none (Participant reference bic) c = let h = c.spells in let other : Some (codes "participant") ≡ Some (codes "security") = sym (ap (text_at (codes "op")) h.3) ∙ op in cc
-only_security d op none (Account reference bic account) c = let h = c.spells in let other : Some (codes "account") ≡ Some (codes "security") = sym (ap (text_at (codes "op")) h.4) ∙ op in cc
-only_security d op none (Security reference isin kind) c = none reference isin kind c.spells
-only_security d op none (Issue movement) c = let h = c.spells in let other : Some (codes "issue") ≡ Some (codes "security") = sym (ap (text_at (codes "op")) h.1) ∙ op in cc
-only_security d op none (Redeem movement) c = let bad = c.supported in cc
-only_security d op none (PayIn payment) c = let bad = c.supported in cc
-only_security d op none (PayOut payment) c = let bad = c.supported in cc
-only_security d op none (Instruct sender instruction) c = c.spells
-only_security d op none (Cancel sender order) c = let bad = c.supported in cc
-only_security d op none (Run reference day rule) c = let h = c.spells in let other : Some (codes "run") ≡ Some (codes "security") = sym (ap (text_at (codes "op")) h.2) ∙ op in cc
+    → (entry : Entry) → ¬ IsCommand d entry
+only_security d op none (Security reference isin kind) c = none reference isin kind c
+only_security d op none entry c = apart d entry (codes "security") refl c op
 
 pub only_issue : (d : Data) → text_at (codes "op") d ≡ Some (codes "issue") → ((movement : Movement) → ¬ IsCommand d (Issue movement))
-    → (entry : Entry) → ¬ IsSupportedCommand d entry
-only_issue d op none (Participant reference bic) c = let h = c.spells in let other : Some (codes "participant") ≡ Some (codes "issue") = sym (ap (text_at (codes "op")) h.3) ∙ op in cc
-only_issue d op none (Account reference bic account) c = let h = c.spells in let other : Some (codes "account") ≡ Some (codes "issue") = sym (ap (text_at (codes "op")) h.4) ∙ op in cc
-only_issue d op none (Security reference isin kind) c = let h = c.spells in let other : Some (codes "security") ≡ Some (codes "issue") = sym (ap (text_at (codes "op")) h.2) ∙ op in cc
-only_issue d op none (Issue movement) c = none movement c.spells
-only_issue d op none (Redeem movement) c = let bad = c.supported in cc
-only_issue d op none (PayIn payment) c = let bad = c.supported in cc
-only_issue d op none (PayOut payment) c = let bad = c.supported in cc
-only_issue d op none (Instruct sender instruction) c = c.spells
-only_issue d op none (Cancel sender order) c = let bad = c.supported in cc
-only_issue d op none (Run reference day rule) c = let h = c.spells in let other : Some (codes "run") ≡ Some (codes "issue") = sym (ap (text_at (codes "op")) h.2) ∙ op in cc
+    → (entry : Entry) → ¬ IsCommand d entry
+only_issue d op none (Issue movement) c = none movement c
+only_issue d op none entry c = apart d entry (codes "issue") refl c op
+
+pub only_redeem : (d : Data) → text_at (codes "op") d ≡ Some (codes "redeem") → ((movement : Movement) → ¬ IsCommand d (Redeem movement))
+    → (entry : Entry) → ¬ IsCommand d entry
+only_redeem d op none (Redeem movement) c = none movement c
+only_redeem d op none entry c = apart d entry (codes "redeem") refl c op
+
+pub only_pay_in : (d : Data) → text_at (codes "op") d ≡ Some (codes "payin") → ((payment : Payment) → ¬ IsCommand d (PayIn payment))
+    → (entry : Entry) → ¬ IsCommand d entry
+only_pay_in d op none (PayIn payment) c = none payment c
+only_pay_in d op none entry c = apart d entry (codes "payin") refl c op
+
+pub only_pay_out : (d : Data) → text_at (codes "op") d ≡ Some (codes "payout") → ((payment : Payment) → ¬ IsCommand d (PayOut payment))
+    → (entry : Entry) → ¬ IsCommand d entry
+only_pay_out d op none (PayOut payment) c = none payment c
+only_pay_out d op none entry c = apart d entry (codes "payout") refl c op
 
 pub only_run : (d : Data) → text_at (codes "op") d ≡ Some (codes "run") → ((reference day : List ℕ) → ¬ IsCommand d (Run reference day Passes))
-    → (entry : Entry) → ¬ IsSupportedCommand d entry
-only_run d op none (Participant reference bic) c = let h = c.spells in let other : Some (codes "participant") ≡ Some (codes "run") = sym (ap (text_at (codes "op")) h.3) ∙ op in cc
-only_run d op none (Account reference bic account) c = let h = c.spells in let other : Some (codes "account") ≡ Some (codes "run") = sym (ap (text_at (codes "op")) h.4) ∙ op in cc
-only_run d op none (Security reference isin kind) c = let h = c.spells in let other : Some (codes "security") ≡ Some (codes "run") = sym (ap (text_at (codes "op")) h.2) ∙ op in cc
-only_run d op none (Issue movement) c = let h = c.spells in let other : Some (codes "issue") ≡ Some (codes "run") = sym (ap (text_at (codes "op")) h.1) ∙ op in cc
-only_run d op none (Redeem movement) c = let bad = c.supported in cc
-only_run d op none (PayIn payment) c = let bad = c.supported in cc
-only_run d op none (PayOut payment) c = let bad = c.supported in cc
-only_run d op none (Instruct sender instruction) c = c.spells
-only_run d op none (Cancel sender order) c = let bad = c.supported in cc
-only_run d op none (Run reference day rule) c = (let P : RunRule → Type 0 = λ r. IsCommand d (Run reference day r) in none reference day (subst P c.spells.3 c.spells))
+    → (entry : Entry) → ¬ IsCommand d entry
+only_run d op none (Run reference day rule) c = (let P : RunRule → Type 0 = λ r. IsCommand d (Run reference day r) in none reference day (subst P c.3 c))
+only_run d op none entry c = apart d entry (codes "run") refl c op
 
 pub if_none : {T : Type 0} {P Q : Type 0} (o : Option T) → (P → Q) → IfNone o P → IfNone o Q
 if_none None f h = f h

@@ -19,7 +19,7 @@ use Rattle.desk_engine.proofs.HeldLemmas.{empty_keeps}
 use Rattle.desk_engine.proofs.TablesLemmas.{accepted_more}
 use Rattle.desk_book.specs.declared.fault.Fault.{Fault}
 use Rattle.desk_book.specs.declared.task.Task.{Task}
-use Rattle.desk_book.specs.declared.task.Task.TheVariants.{Decide, Totals, Answer}
+use Rattle.desk_book.specs.declared.task.Task.TheVariants.{Answer, Decide, Holdings, Sent, Status, Totals}
 use Rattle.desk_book.specs.Answered.{Grows, IsAnswer, AnsweredInTurn, Step, says_closed}
 use Rattle.desk_book.specs.Asked.{Asked}
 use Rattle.desk_book.specs.Task.{IsTask}
@@ -37,6 +37,9 @@ grown limit (Refuse refusal) books after entry new is was grows = subst (AreAcce
 
 replied : (limit : ℕ) (books after : Books) (asked : Asked) (task : Task) (reply : Reply) → IsTask asked task → AreAccepted limit books → IsAnswer limit books task reply after → AreAccepted limit after
 replied limit books after asked (Decide entry) reply is was answer = grown limit answer.verdict books after entry (formed_by asked entry is) answer.is_verdict was answer.grows
+replied limit books after asked (Status bic reference) reply is was answer = subst (AreAccepted limit) (sym answer.1) was
+replied limit books after asked (Sent bic number) reply is was answer = subst (AreAccepted limit) (sym answer.1) was
+replied limit books after asked (Holdings owner account) reply is was answer = subst (AreAccepted limit) (sym answer.1) was
 replied limit books after asked Totals reply is was answer = subst (AreAccepted limit) (sym answer.stays) was
 replied limit books after asked (Answer given) reply is was answer = subst (AreAccepted limit) (sym answer.1) was
 

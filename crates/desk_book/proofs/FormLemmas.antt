@@ -1,8 +1,8 @@
 -- The words of a line.
-use Rattle.std.proofs.Common.{◌≡◌, ◌≢◌, ℕ, Bool, true, false, not, List, [], ◌∷◌, ◌++◌, All, codes, Option, Some, None, IfNone, Err, arith, refl, sym, ◌∙◌, ap, ⊎_elim}
+use Rattle.std.proofs.Common.{◌≡◌, ◌≢◌, ℕ, true, false, List, [], ◌∷◌, ◌++◌, All, codes, Option, Some, None, IfNone, Err, arith, refl, sym, ◌∙◌, ap, subst, ⊎_elim}
 use Rattle.std.specs.Prelude.{nat_eq, take, drop}
 use Rattle.std.specs.Cmp.Lexicographic.{pointwise}
-use Rattle.std.proofs.lemmas.List.{take-append-drop}
+use Rattle.std.proofs.lemmas.List.{append_cancel_left, take-append-drop}
 use Rattle.std.proofs.lemmas.Bool.{false≢true}
 use Rattle.std.proofs.lemmas.List.Elements.{All-head, All-tail, All-weaker}
 use Rattle.desk_codes.specs.Characters.{IsCodeChar}
@@ -11,7 +11,6 @@ use Rattle.desk_codes.specs.declared.fault.CodeFault.{CodeFault}
 use Rattle.desk_codes.specs.declared.fault.CodeFault.TheVariants.{Length, Prefix, Body, Check, Shape}
 use Rattle.desk_codes.proofs.BicLemmas.{shape_codes, same_bytes}
 use Rattle.desk_msg.specs.declared.mt.Mt.{Mt}
-use Rattle.desk_msg.specs.MessageType.{digits_of_type, is_instruction, is_against_payment}
 use Rattle.desk_book.specs.Asked.{Asked, message, operator, status, sent, holdings, sums}
 use Rattle.desk_book.specs.Forms.{SpellsBic, IsLineOf, Asks}
 
@@ -50,46 +49,59 @@ pub even_none : {T : Type 0} {P : Type 0} (o : Option T) → P → IfNone o P
 even_none None h = h
 even_none (Some x) h = tt
 
--- the line of a message is none of another
-pub none_free : (said rest : List ℕ) → NoSpace rest → said ≡ codes "in " ++ rest → (sender : List ℕ) (mt : Mt) → is_against_payment mt ≡ false → ¬ IsLineOf (message sender mt []) said
-none_free said rest none is sender mt free form = none_to_split rest form.0 (digits_of_type mt) none (cc)
+pub said_is : (word said rest bic behind : List ℕ) → said ≡ word ++ rest → rest ≡ bic ++ 32 ∷ behind → said ≡ word ++ (bic ++ 32 ∷ behind)
+said_is word said rest bic behind begins is = begins ∙ ap (λ x. word ++ x) is
 
-not_true : (b : Bool) → not b ≡ true → b ≡ false
-not_true true h = cc
-not_true false h = refl
+-- a line that no body follows asks what its form says, or nothing
+pub nothing_asked : (said : List ℕ) → (said ≡ codes "sums" → ⊥) → ((sender reference : List ℕ) → ¬ IsLineOf (status sender reference) said) → ((receiver : List ℕ) (number : ℕ) → ¬ IsLineOf (sent receiver number) said)
+    → ((owner account : List ℕ) → ¬ IsLineOf (holdings owner account) said) → (a : Asked) → ¬ Asks said None a
+nothing_asked said other no_status no_sent no_holdings (message sender mt body) h = let b = h.behind in cc
+nothing_asked said other no_status no_sent no_holdings (operator body) h = let b = h.behind in cc
+nothing_asked said other no_status no_sent no_holdings (status sender reference) h = no_status sender reference h.form
+nothing_asked said other no_status no_sent no_holdings (sent receiver number) h = no_sent receiver number h.form
+nothing_asked said other no_status no_sent no_holdings (holdings owner account) h = no_holdings owner account h.form
+nothing_asked said other no_status no_sent no_holdings sums h = other h.form
 
 -- a line that posts a body asks what its form says, or nothing
-pub nothing_posted : (said text : List ℕ) → (said ≡ codes "op" → ⊥) → ((sender : List ℕ) (mt : Mt) → is_against_payment mt ≡ false → ¬ IsLineOf (message sender mt []) said)
+pub nothing_posted : (said text : List ℕ) → (said ≡ codes "op" → ⊥) → ((sender : List ℕ) (mt : Mt) → ¬ IsLineOf (message sender mt []) said)
     → (a : Asked) → ¬ Asks said (Some text) a
-nothing_posted said text op none (message sender mt body) h = none sender mt (not_true _ h.supported) h.form
+nothing_posted said text op none (message sender mt body) h = none sender mt h.form
 nothing_posted said text op none (operator body) h = op h.form
 nothing_posted said text op none (status sender reference) h = let b = h.behind in cc
 nothing_posted said text op none (sent receiver number) h = let b = h.behind in cc
 nothing_posted said text op none (holdings owner account) h = let b = h.behind in cc
 nothing_posted said text op none sums h = let b = h.behind in cc
 
--- the rest of a line that begins so
-pub stripped : (said rest : List ℕ) → pointwise nat_eq (take 3 said) (codes "in ") ≡ true → rest ≡ drop 3 said → said ≡ codes "in " ++ rest
-stripped said rest begins is = sym (take-append-drop 3 said) ∙ ap (λ x. x ++ drop 3 said) (same_bytes (take 3 said) (codes "in ") begins) ∙ ap (λ x. codes "in " ++ x) (sym is)
+-- the rest of a line that begins with a word
+pub stripped : (n : ℕ) (word said rest : List ℕ) → pointwise nat_eq (take n said) word ≡ true → rest ≡ drop n said → said ≡ word ++ rest
+stripped n word said rest begins is = sym (take-append-drop n said) ∙ ap (λ x. x ++ drop n said) (same_bytes (take n said) word begins) ∙ ap (λ x. word ++ x) (sym is)
 
--- the words behind `in` are those of the form
-form_words : (said rest bic digits : List ℕ) (sender : List ℕ) (mt : Mt) → said ≡ codes "in " ++ rest → rest ≡ bic ++ 32 ∷ digits → NoSpace bic
-    → (form : IsLineOf (message sender mt []) said) → (bic ≡ form.0) × (digits ≡ digits_of_type mt)
-form_words said rest bic digits sender mt is split none form =
-    same_split bic form.0 digits (digits_of_type mt) none (bic_no_space form.0 sender form.1) (cc)
+-- A text without a BIC before its first space names no party there.
 
-pub none_named : (said rest bic digits : List ℕ) (fault : CodeFault) → said ≡ codes "in " ++ rest → rest ≡ bic ++ 32 ∷ digits → NoSpace bic → ReadsBic bic (Err fault)
-    → (sender : List ℕ) (mt : Mt) → is_against_payment mt ≡ false → ¬ IsLineOf (message sender mt []) said
-none_named said rest bic digits fault is split none bad sender mt free form =
-    let words = form_words said rest bic digits sender mt is split none form in
-    unread bic sender fault bad (rw words.0 form.1)
+pub no_party : (rest : List ℕ) → NoSpace rest → (bic party behind : List ℕ) → SpellsBic bic party → ¬ (rest ≡ bic ++ 32 ∷ behind)
+no_party rest none bic party behind spells is = none_to_split rest bic behind none is
 
-pub none_typed : (said rest bic digits : List ℕ) → said ≡ codes "in " ++ rest → rest ≡ bic ++ 32 ∷ digits → NoSpace bic
-    → ((mt : Mt) → is_instruction mt ≡ true → is_against_payment mt ≡ false → ¬ (digits_of_type mt ≡ digits))
-    → (sender : List ℕ) (mt : Mt) → is_against_payment mt ≡ false → ¬ IsLineOf (message sender mt []) said
-none_typed said rest bic digits is split none other sender mt free form =
-    let words = form_words said rest bic digits sender mt is split none form in
-    other mt form.2 free (sym words.1)
+pub other_party : (rest word further : List ℕ) → rest ≡ word ++ 32 ∷ further → NoSpace word → ((party : List ℕ) → ¬ SpellsBic word party)
+    → (bic party behind : List ℕ) → SpellsBic bic party → ¬ (rest ≡ bic ++ 32 ∷ behind)
+other_party rest word further split none bad bic party behind spells is =
+    let words = same_split word bic further behind none (bic_no_space bic party spells) (sym split ∙ is) in
+    let P : List ℕ → Type 0 = λ w. SpellsBic w party in
+    bad party (subst P (sym words.0) spells)
+
+pub none_party : (word said rest : List ℕ) → said ≡ word ++ rest → ((bic party behind : List ℕ) → SpellsBic bic party → ¬ (rest ≡ bic ++ 32 ∷ behind))
+    → (bic party behind : List ℕ) → SpellsBic bic party → ¬ (said ≡ word ++ (bic ++ 32 ∷ behind))
+none_party word said rest begins none bic party behind spells is = none bic party behind spells (append_cancel_left word rest (bic ++ 32 ∷ behind) (sym begins ∙ is))
+
+-- what stands behind the party of a text is what stands behind any
+pub same_behind : (rest bic party behind other named further : List ℕ) → SpellsBic bic party → rest ≡ bic ++ 32 ∷ behind → SpellsBic other named → rest ≡ other ++ 32 ∷ further → behind ≡ further
+same_behind rest bic party behind other named further spells is again also =
+    let words = same_split bic other behind further (bic_no_space bic party spells) (bic_no_space other named again) (sym is ∙ also) in
+    words.1
+
+pub behind_is : (word said rest bic party behind other named further : List ℕ) → said ≡ word ++ rest → SpellsBic bic party → rest ≡ bic ++ 32 ∷ behind → SpellsBic other named → said ≡ word ++ (other ++ 32 ∷ further)
+    → behind ≡ further
+behind_is word said rest bic party behind other named further begins spells is again also =
+    same_behind rest bic party behind other named further spells is again (append_cancel_left word rest (other ++ 32 ∷ further) (sym begins ∙ also))
 
 pub is_not : (said word : List ℕ) → false ≡ pointwise nat_eq said word → pointwise nat_eq word word ≡ true → said ≡ word → ⊥
 is_not said word other same is = false≢true (other ∙ ap (λ x. pointwise nat_eq x word) is ∙ same)

@@ -1,8 +1,13 @@
 -- Who reads an entry, reads a well formed one.
-use Rattle.std.proofs.Common.{◌≡◌, ℕ, Bool, true, false, List, [], sym, subst}
-use Rattle.std.specs.Prelude.{MatchBool}
+use Rattle.std.proofs.Common.{◌≡◌, ℕ, Bool, true, false, List, sym, subst}
+use Rattle.std.specs.Prelude.{MatchBool, Ok}
 use Rattle.serde_json.specs.Data.{Data}
+use Rattle.desk_codes.specs.Bic.{IsBic}
+use Rattle.desk_msg.specs.declared.instruction.Message.{Message}
+use Rattle.desk_msg.specs.declared.instruction.Message.TheVariants.{New, Cancel as CancelMessage}
 use Rattle.desk_msg.specs.declared.mt.Mt.{Mt}
+use Rattle.desk_msg.specs.MessageType.{is_instruction}
+use Rattle.desk_msg.specs.Refused.{ReadsText}
 use Rattle.desk_rules.specs.declared.entry.Entry.{Entry}
 use Rattle.desk_rules.specs.declared.entry.Entry.TheVariants.{Participant, Account, Security, Issue, Redeem, PayIn, PayOut, Instruct, Cancel, Run}
 use Rattle.desk_rules.specs.declared.verdict.Verdict.{Verdict}
@@ -10,8 +15,7 @@ use Rattle.desk_rules.specs.declared.verdict.Verdict.TheVariants.{Accept, Repeat
 use Rattle.desk_rules.specs.Books.{Books}
 use Rattle.desk_rules.specs.Content.{Content}
 use Rattle.desk_rules.specs.WellFormed.{AreWellFormed, IsWellFormed}
-use Rattle.desk_rules.proofs.Decided.{In-from_Contains}
-use Rattle.desk_rules.proofs.WellFormedLemmas.{formed_none, formed_push, readable, spelled_bic}
+use Rattle.desk_rules.proofs.WellFormedLemmas.{formed_none, formed_push, readable, readable_cancellation, spelled_bic}
 use Rattle.desk_register.specs.Changes.{empty_content}
 use Rattle.desk_engine.specs.Applied.{no_books}
 use Rattle.desk_engine.proofs.KeptLemmas.{empty_kept}
@@ -19,7 +23,7 @@ use Rattle.desk_book.specs.Answered.{Grows}
 use Rattle.desk_book.specs.Held.{KeepsFormed}
 use Rattle.desk_book.specs.Asked.{Asked, message, operator, status, sent, holdings, sums}
 use Rattle.desk_book.specs.Command.{IsCommand, SpellsCommand}
-use Rattle.desk_book.specs.Task.{IsTask, IsMessageTask, is_supported_type, unknown_form}
+use Rattle.desk_book.specs.Task.{IsTask, IsMessageTask, entry_of_message, unknown_form}
 use Rattle.desk_book.specs.declared.task.Task.TheVariants.{Decide, Answer}
 
 pub command_formed : (d : Data) (entry : Entry) → IsCommand d entry → IsWellFormed entry
@@ -35,18 +39,23 @@ command_formed d (Cancel sender order) c = absurd c
 command_formed d (Run reference day rule) c = (c.0, c.1)
 
 pub spelled : (text : List ℕ) (entry : Entry) → SpellsCommand text entry → IsWellFormed entry
-spelled text entry s = command_formed s.value entry s.command.spells
+spelled text entry s = command_formed s.value entry s.command
+
+-- what a message of a sender with a BIC asks for is well formed
+pub entry_formed : (sender : List ℕ) (mt : Mt) (text : List ℕ) (m : Message) → IsBic sender → ReadsText mt text (Ok m) → IsWellFormed (entry_of_message sender m)
+entry_formed sender mt text (New instruction) bic reads = (bic, readable mt text instruction reads)
+entry_formed sender mt text (CancelMessage order) bic reads = (bic, readable_cancellation mt text order reads)
 
 message_formed : (taken : Bool) (sender : List ℕ) (mt : Mt) (text : List ℕ) (entry : Entry) → MatchBool taken (IsMessageTask sender mt text (Decide entry)) (Decide entry ≡ Answer unknown_form) → IsWellFormed entry
-message_formed true sender mt text entry is = subst IsWellFormed (sym is.2) (is.3, readable mt text is.0 is.1)
+message_formed true sender mt text entry is = subst IsWellFormed (sym is.2) (entry_formed sender mt text is.0 is.3 is.1)
 message_formed false sender mt text entry is = absurd (cc)
 
 pub formed_by : (asked : Asked) (entry : Entry) → IsTask asked (Decide entry) → IsWellFormed entry
-formed_by (message sender mt text) entry is = message_formed (is_supported_type mt) sender mt text entry is
+formed_by (message sender mt text) entry is = message_formed (is_instruction mt) sender mt text entry is
 formed_by (operator text) entry is = spelled text entry is
-formed_by (status sender reference) entry is = absurd (cc)
+formed_by (status sender text) entry is = absurd is
 formed_by (sent receiver number) entry is = absurd (cc)
-formed_by (holdings owner account) entry is = absurd (cc)
+formed_by (holdings owner account) entry is = absurd is
 formed_by sums entry is = absurd (cc)
 
 -- what a verdict makes of books that are well formed is so, where the entry is
@@ -57,4 +66,4 @@ formed_after (Refuse refusal) books after entry new formed grows = let P : Books
 
 -- what holds nothing keeps the tables of the history that has no entry
 pub empty_formed : (limit : ℕ) (content : Content) → content ≡ empty_content → KeepsFormed limit no_books content
-empty_formed limit content empty = record { tables = empty_kept limit content empty; formed = formed_none; supported = record { each = λ entry c. absurd (In-from_Contains [] entry c) } }
+empty_formed limit content empty = record { tables = empty_kept limit content empty; formed = formed_none }

@@ -1,7 +1,10 @@
+mod HeadlineLemmas
 pub mod RunLemmas
+mod OutboxLemmas
 mod PlayLemmas
 pub mod FormedLemmas
 mod AnsweringLemmas
+mod StatementLemmas
 pub mod LineLemmas
 pub mod FormLemmas
 pub mod ScriptLemmas
@@ -14,6 +17,8 @@ pub mod OneTask
 mod OnceLemmas
 mod ConfirmedRuns
 mod KnownReplies
+mod QuestionLaws
 mod OneStep
 pub mod ListedLemmas
+pub mod CashLemmas
 pub mod SummingLemmas

@@ -141,7 +141,7 @@ pub record Gathered (content : Content) (last : Option (List ℕ)) (gathered : �
   pub all : (isin : List ℕ) → is_some (kind_of (history_of content) isin) ≡ true → is_above last isin ≡ false → (total : SecurityTotal) × Contains totals total × (total.isin ≡ isin)
   pub left : gathered + left_above (history_of content) last ≤ length (history_of content)
 
-contains_none : {X : Type 0} (x : X) → Contains [] x → ⊥
+pub contains_none : {X : Type 0} (x : X) → Contains [] x → ⊥
 contains_none x c = let lt = c.1 in absurd (omega arith)
 
 pub gathers_none : (content : Content) → Gathered content None 0 []

@@ -12,7 +12,7 @@ use Rattle.desk_rules.specs.Books.{Books}
 use Rattle.desk_rules.specs.Verdict.{IsVerdict}
 use Rattle.desk_book.specs.declared.fault.Fault.{Fault}
 use Rattle.desk_book.specs.declared.task.Task.{Task}
-use Rattle.desk_book.specs.declared.task.Task.TheVariants.{Decide, Totals, Answer}
+use Rattle.desk_book.specs.declared.task.Task.TheVariants.{Answer, Decide, Holdings, Sent, Status, Totals}
 use Rattle.desk_book.specs.Answered.{ActsOnce, Grows, IsAnswer, IsRepeat, AnsweredInTurn, Step, WithoutRepeats, answered, ended, failed, repeated, says_closed}
 use Rattle.desk_book.specs.Asked.{Asked}
 use Rattle.desk_book.specs.Task.{IsTask}
@@ -67,6 +67,15 @@ one_step : (limit : ℕ) (books next last : Books) (asked : Asked) (more : List 
     → IsTask asked task → IsAnswer limit books task reply next → ActsOnce limit next more answers last → ActsOnce limit books (asked ∷ more) (Ok reply ∷ answers) last
 one_step limit books next last asked more reply answers (Decide entry) is answer rest =
     one_decided limit books next last asked more entry reply answers answer.verdict is answer.is_verdict answer.grows answer.replied (Decide entry, is, answer) rest
+one_step limit books next last asked more reply answers (Status bic reference) is answer rest =
+    let never : (entry : Entry) → Status bic reference ≢ Decide entry = λ entry e. cc in
+    stay limit books next last asked more reply answers (other_task limit books asked (Status bic reference) is never) (Status bic reference, is, answer) rest
+one_step limit books next last asked more reply answers (Sent bic number) is answer rest =
+    let never : (entry : Entry) → Sent bic number ≢ Decide entry = λ entry e. cc in
+    stay limit books next last asked more reply answers (other_task limit books asked (Sent bic number) is never) (Sent bic number, is, answer) rest
+one_step limit books next last asked more reply answers (Holdings owner account) is answer rest =
+    let never : (entry : Entry) → Holdings owner account ≢ Decide entry = λ entry e. cc in
+    stay limit books next last asked more reply answers (other_task limit books asked (Holdings owner account) is never) (Holdings owner account, is, answer) rest
 one_step limit books next last asked more reply answers Totals is answer rest =
     let never : (entry : Entry) → Totals ≢ Decide entry = λ entry e. cc in
     stay limit books next last asked more reply answers (other_task limit books asked Totals is never) (Totals, is, answer) rest
@@ -105,6 +114,9 @@ grown_by books after entry (Refuse refusal) grows = same_books books after grows
 
 answer_grows : (limit : ℕ) (books after : Books) (task : Task) (reply : Reply) → IsAnswer limit books task reply after → Grown books after
 answer_grows limit books after (Decide entry) reply answer = grown_by books after entry answer.verdict answer.grows
+answer_grows limit books after (Status bic reference) reply answer = same_books books after answer.1
+answer_grows limit books after (Sent bic number) reply answer = same_books books after answer.1
+answer_grows limit books after (Holdings owner account) reply answer = same_books books after answer.1
 answer_grows limit books after Totals reply answer = same_books books after answer.stays
 answer_grows limit books after (Answer given) reply answer = same_books books after answer.1
 

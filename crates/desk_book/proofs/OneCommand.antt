@@ -1,5 +1,6 @@
 -- Bytes spell one command at most.
-use Rattle.std.proofs.Common.{◌≡◌, ℕ, List, [], Some, codes, cond, eqb, get_or, refl, sym, ap, ◌∙◌}
+use Rattle.std.proofs.Common.{◌≡◌, ℕ, false, List, [], Some, bytes_eq, codes, cond, eqb, get_or, refl, sym, ap, ◌∙◌}
+use Rattle.std.proofs.lemmas.Bool.{both_ways}
 use Rattle.serde_json.specs.Data.{Data}
 use Rattle.desk_codes.specs.Bic.{party_of}
 use Rattle.desk_codes.specs.Currency.{letters_of}
@@ -11,6 +12,7 @@ use Rattle.desk_rules.specs.declared.entry.Entry.{Entry}
 use Rattle.desk_rules.specs.declared.entry.Entry.TheVariants.{Participant, Account, Security, Issue, Redeem, PayIn, PayOut, Instruct, Cancel, Run}
 use Rattle.desk_msg.specs.Profile.{code_of_kind}
 use Rattle.desk_rules.proofs.SameContent.{movement_same, payment_same}
+use Rattle.desk_register.proofs.CaseLemmas.{bytes_refl}
 use Rattle.desk_book.specs.Command.{IsCommand, SpellsCommand}
 use Rattle.desk_book.specs.Members.{text_at, number_at}
 
@@ -41,7 +43,7 @@ same_letters : (a b : Ccy) → letters_of a ≡ letters_of b → a ≡ b
 same_letters a b e = sym (ccy_back a) ∙ ap ccy_of e ∙ ccy_back b
 
 -- the word of an operation
-op_word : Entry → List ℕ
+abbrev pub op_word : Entry → List ℕ
 op_word (Participant reference bic) = codes "participant"
 op_word (Account reference bic account) = codes "account"
 op_word (Security reference isin kind) = codes "security"
@@ -54,7 +56,6 @@ op_word (Instruct sender instruction) = []
 op_word (Cancel sender order) = []
 
 op_is : (d : Data) (e : Entry) → IsCommand d e → text_at (codes "op") d ≡ Some (op_word e)
-unfolding op_word
 op_is d (Participant reference bic) h = ap (text_at (codes "op")) h.3
 op_is d (Account reference bic account) h = ap (text_at (codes "op")) h.4
 op_is d (Security reference isin kind) h = ap (text_at (codes "op")) h.2
@@ -66,6 +67,13 @@ op_is d (Run reference day rule) h = ap (text_at (codes "op")) h.2
 op_is d (Instruct sender instruction) h = absurd h
 op_is d (Cancel sender order) h = absurd h
 
+-- a command is of the operation that its `op` names
+of_word : (d : Data) (e : Entry) (word : List ℕ) → IsCommand d e → text_at (codes "op") d ≡ Some word → op_word e ≡ word
+of_word d e word h is = let both = sym (op_is d e h) ∙ is in cc
+
+pub apart : (d : Data) (e : Entry) (word : List ℕ) → bytes_eq (op_word e) word ≡ false → IsCommand d e → text_at (codes "op") d ≡ Some word → ⊥
+apart d e word other h is = both_ways (bytes_eq (op_word e) word) other (ap (λ w. bytes_eq (op_word e) w) (sym (of_word d e word h is)) ∙ bytes_refl (op_word e))
+
 other_op : (d : Data) (a b : Entry) → IsCommand d a → IsCommand d b → op_word a ≡ op_word b
 other_op d a b h k = let e = sym (op_is d a h) ∙ op_is d b k in cc
 
@@ -76,7 +84,6 @@ counted : (name : List ℕ) (a b : ℕ) (d x y : Data) → d ≡ x → d ≡ y �
 counted name a b d x y p q f g = let e = sym f ∙ ap (number_at name) (sym p ∙ q) ∙ g in cc
 
 one_entry : (d : Data) (a b : Entry) → IsCommand d a → IsCommand d b → a ≡ b
-unfolding op_word
 one_entry d (Participant reference bic) (Participant reference' bic') h k = let r = found (codes "ref") reference reference' d _ _ h.3 k.3 refl refl in let n = found (codes "bic") h.0 k.0 d _ _ h.3 k.3 refl refl in let p : bic ≡ bic' = h.1.0 ∙ ap party_of n ∙ sym k.1.0 in cc
 one_entry d (Participant reference bic) b h k = let e = other_op d (Participant reference bic) b h k in cc
 one_entry d (Account reference bic account) (Account reference' bic' account') h k = let r = found (codes "ref") reference reference' d _ _ h.4 k.4 refl refl in let x = found (codes "account") account account' d _ _ h.4 k.4 refl refl in let n = found (codes "bic") h.0 k.0 d _ _ h.4 k.4 refl refl in let p : bic ≡ bic' = h.1.0 ∙ ap party_of n ∙ sym k.1.0 in cc
@@ -99,4 +106,4 @@ one_entry d (Cancel sender order) b h k = absurd h
 pub one_each : (bytes : List ℕ) (a b : Entry) → SpellsCommand bytes a → SpellsCommand bytes b → a ≡ b
 one_each bytes a b h k =
     let same : h.value ≡ k.value = let e = sym h.reads ∙ k.reads in cc in
-    one_entry h.value a b h.command.spells (rw same k.command.spells)
+    one_entry h.value a b h.command (rw same k.command)

@@ -4,6 +4,7 @@ use Rattle.std.proofs.lemmas.Bool.{false≢true, eqb-true}
 use Rattle.std.proofs.lemmas.List.Elements.{All-head, All-tail}
 use Rattle.std.specs.List.{prefix_len}
 use Rattle.desk_codes.specs.Bic.{party_of}
+use Rattle.desk_codes.specs.Number.{number_of}
 use Rattle.desk_msg.specs.declared.mt.Mt.{Mt}
 use Rattle.desk_msg.specs.declared.mt.Mt.TheVariants.{Mt540, Mt541, Mt542, Mt543, Mt544, Mt545, Mt546, Mt547}
 use Rattle.desk_book.specs.Asked.{Asked, message, operator, status, sent, holdings, sums}
@@ -42,6 +43,48 @@ same_message s t a b x y said text f g =
     let party : s ≡ t = f.1.0 ∙ ap party_of words.0 ∙ sym g.1.0 in
     cc
 
+same_status : (s t r q said : List ℕ) → IsLineOf (status s r) said → IsLineOf (status t q) said → status s r ≡ status t q
+same_status s t r q said f g =
+    let both : f.0 ++ 32 ∷ r ≡ g.0 ++ 32 ∷ q = let e = sym f.2 ∙ g.2 in cc in
+    let words = same_split f.0 g.0 r q (bic_no_space f.0 s f.1) (bic_no_space g.0 t g.1) both in
+    let party : s ≡ t = f.1.0 ∙ ap party_of words.0 ∙ sym g.1.0 in
+    ap (λ z. status z r) party ∙ ap (λ z. status t z) words.1
+
+same_holdings : (s t r q said : List ℕ) → IsLineOf (holdings s r) said → IsLineOf (holdings t q) said → holdings s r ≡ holdings t q
+same_holdings s t r q said f g =
+    let both : f.0 ++ 32 ∷ r ≡ g.0 ++ 32 ∷ q = let e = sym f.2 ∙ g.2 in cc in
+    let words = same_split f.0 g.0 r q (bic_no_space f.0 s f.1) (bic_no_space g.0 t g.1) both in
+    let party : s ≡ t = f.1.0 ∙ ap party_of words.0 ∙ sym g.1.0 in
+    ap (λ z. holdings z r) party ∙ ap (λ z. holdings t z) words.1
+
+same_sent : (s t said : List ℕ) (n m : ℕ) → IsLineOf (sent s n) said → IsLineOf (sent t m) said → sent s n ≡ sent t m
+same_sent s t said n m f g =
+    let both : f.0 ++ 32 ∷ f.1 ≡ g.0 ++ 32 ∷ g.1 = let e = sym f.4 ∙ g.4 in cc in
+    let words = same_split f.0 g.0 f.1 g.1 (bic_no_space f.0 s f.2) (bic_no_space g.0 t g.2) both in
+    let party : s ≡ t = f.2.0 ∙ ap party_of words.0 ∙ sym g.2.0 in
+    let number : n ≡ m = f.3.is ∙ ap number_of words.1 ∙ sym g.3.is in
+    ap (λ z. sent z n) party ∙ ap (λ z. sent t z) number
+
+-- the second letter of a line: no two forms without a body have the same
+second_of : List ℕ → ℕ
+second_of line = get_or line 1 0
+
+second_status : (s r said : List ℕ) → IsLineOf (status s r) said → second_of said ≡ 116
+unfolding second_of
+second_status s r said f = ap second_of f.2
+
+second_sent : (s said : List ℕ) (n : ℕ) → IsLineOf (sent s n) said → second_of said ≡ 101
+unfolding second_of
+second_sent s said n f = ap second_of f.4
+
+second_holdings : (s r said : List ℕ) → IsLineOf (holdings s r) said → second_of said ≡ 111
+unfolding second_of
+second_holdings s r said f = ap second_of f.2
+
+second_sums : (said : List ℕ) → IsLineOf sums said → second_of said ≡ 117
+unfolding second_of
+second_sums said f = ap second_of f
+
 one_request : (said : List ℕ) (body : Option (List ℕ)) (a b : Asked) → Asks said body a → Asks said body b → a ≡ b
 one_request said body (message s m x) (message t n y) h k =
     let text : x ≡ y = let e = h.behind ∙ sym k.behind in cc in
@@ -49,23 +92,26 @@ one_request said body (message s m x) (message t n y) h k =
 one_request said body (message s m x) (operator y) h k = let e = sym h.form.3 ∙ k.form in cc
 one_request said body (operator x) (message t n y) h k = let e = sym h.form ∙ k.form.3 in cc
 one_request said body (operator x) (operator y) h k = let e = h.behind ∙ sym k.behind in cc
-one_request said body (message s m x) sums h k = let e = h.behind ∙ sym k.behind in cc
-one_request said body (operator x) sums h k = let e = h.behind ∙ sym k.behind in cc
-one_request said body sums (message t n y) h k = let e = h.behind ∙ sym k.behind in cc
-one_request said body sums (operator y) h k = let e = h.behind ∙ sym k.behind in cc
+one_request said body (status s r) (status t q) h k = same_status s t r q said h.form k.form
+one_request said body (status s r) (sent t n) h k = let e = sym (second_status s r said h.form) ∙ second_sent t said n k.form in absurd (omega (arith, e))
+one_request said body (status s r) sums h k = let e = sym (second_status s r said h.form) ∙ second_sums said k.form in absurd (omega (arith, e))
+one_request said body (sent s n) (status t q) h k = let e = sym (second_sent s said n h.form) ∙ second_status t q said k.form in absurd (omega (arith, e))
+one_request said body (sent s n) (sent t m) h k = same_sent s t said n m h.form k.form
+one_request said body (sent s n) sums h k = let e = sym (second_sent s said n h.form) ∙ second_sums said k.form in absurd (omega (arith, e))
+one_request said body sums (status t q) h k = let e = sym (second_sums said h.form) ∙ second_status t q said k.form in absurd (omega (arith, e))
+one_request said body sums (sent t m) h k = let e = sym (second_sums said h.form) ∙ second_sent t said m k.form in absurd (omega (arith, e))
 one_request said body sums sums h k = refl
-one_request said body (status s r) b h k = let bad = h.supported in cc
-one_request said body (sent r n) b h k = let bad = h.supported in cc
-one_request said body (holdings o x) b h k = let bad = h.supported in cc
-one_request said body (message s m x) (status t r) h k = let bad = k.supported in cc
-one_request said body (message s m x) (sent t n) h k = let bad = k.supported in cc
-one_request said body (message s m x) (holdings t y) h k = let bad = k.supported in cc
-one_request said body (operator x) (status t r) h k = let bad = k.supported in cc
-one_request said body (operator x) (sent t n) h k = let bad = k.supported in cc
-one_request said body (operator x) (holdings t y) h k = let bad = k.supported in cc
-one_request said body sums (status t r) h k = let bad = k.supported in cc
-one_request said body sums (sent t n) h k = let bad = k.supported in cc
-one_request said body sums (holdings t y) h k = let bad = k.supported in cc
+one_request said body (holdings s r) (holdings t q) h k = same_holdings s t r q said h.form k.form
+one_request said body (holdings s r) (status t q) h k = let e = sym (second_holdings s r said h.form) ∙ second_status t q said k.form in absurd (omega (arith, e))
+one_request said body (holdings s r) (sent t n) h k = let e = sym (second_holdings s r said h.form) ∙ second_sent t said n k.form in absurd (omega (arith, e))
+one_request said body (holdings s r) sums h k = let e = sym (second_holdings s r said h.form) ∙ second_sums said k.form in absurd (omega (arith, e))
+one_request said body (status s r) (holdings t q) h k = let e = sym (second_status s r said h.form) ∙ second_holdings t q said k.form in absurd (omega (arith, e))
+one_request said body (sent s n) (holdings t q) h k = let e = sym (second_sent s said n h.form) ∙ second_holdings t q said k.form in absurd (omega (arith, e))
+one_request said body sums (holdings t q) h k = let e = sym (second_sums said h.form) ∙ second_holdings t q said k.form in absurd (omega (arith, e))
+one_request said body (message s m x) b h k = let e = h.behind ∙ sym k.behind in cc
+one_request said body (operator x) b h k = let e = h.behind ∙ sym k.behind in cc
+one_request said body a (message t n y) h k = let e = h.behind ∙ sym k.behind in cc
+one_request said body a (operator y) h k = let e = h.behind ∙ sym k.behind in cc
 
 one_item : (said : List ℕ) (body : Option (List ℕ)) (x y : Item) → Means said body x → Means said body y → x ≡ y
 one_item said body (ask a) (ask b) h k = ap ask (one_request said body a b h k)

@@ -1,6 +1,6 @@
 -- The abstract desk has one answer to a request.
-use Rattle.std.proofs.Common.{◌≡◌, inl, inr, suc, ℕ, ◌+◌, ◌<◌, List, [], ◌∷◌, length, take, AllPairs, get_or, refl, sym, ◌∙◌, ap, subst, arith}
-use Rattle.std.specs.Prelude.{◌==◌, if◌then◌else◌, Some, sum_by, Ok}
+use Rattle.std.proofs.Common.{◌≡◌, inl, inr, suc, ℕ, ◌+◌, ◌<◌, Bool, true, false, Option, None, List, [], ◌∷◌, length, take, AllPairs, get_or, refl, sym, ◌∙◌, ap, subst, arith}
+use Rattle.std.specs.Prelude.{◌==◌, if◌then◌else◌, MatchBool, Some, sum_by, Ok}
 use Rattle.std.proofs.lemmas.Cmp.{nat_list_cmp_total}
 use Rattle.std.specs.Ordering.{ordering_reverse}
 use Rattle.desk_rules.proofs.Decided.{In, Contains-from_In, In-from_Contains}
@@ -19,7 +19,14 @@ use Rattle.desk_codes.specs.declared.currency.Ccy.TheVariants.{Chf, Eur, Gbp, Jp
 use Rattle.desk_codes.specs.Currency.{letters_of}
 use Rattle.desk_rules.specs.Balances.{cash_credits, cash_debits, issued, paid_in, paid_out, redeemed, credits, debits}
 use Rattle.desk_rules.specs.History.{entry_at}
-use Rattle.desk_rules.specs.Facts.{accounts_of, participants_of}
+use Rattle.desk_rules.specs.declared.verdict.Refusal.TheVariants.{AccountNotSenders, SenderUnknown}
+use Rattle.desk_rules.specs.Facts.{accounts_of, is_owner, is_participant, kind_of, last_run, owner_of, participants_of}
+use Rattle.desk_rules.specs.Questions.{refused_question}
+use Rattle.desk_rules.specs.Refusals.{number_of_refusal}
+use Rattle.desk_msg.specs.declared.instruction.Kind.{Kind}
+use Rattle.desk_msg.specs.declared.statement_row.StatementRow.{StatementRow}
+use Rattle.desk_msg.specs.HoldingsText.{holdings}
+use Rattle.desk_holdings.proofs.OneDay.{one_day}
 use Rattle.desk_rules.specs.Pairing.{IsPairing}
 use Rattle.desk_rules.specs.Reply.{IsFirstReply, IsReply, untyped_reply, reply_to}
 use Rattle.desk_rules.specs.Settlement.{IsSettlement}
@@ -28,9 +35,10 @@ use Rattle.desk_register.specs.Looked.{IsLess}
 use Rattle.desk_book.specs.Answered.{Grows, IsAnswer, IsDecided, IsToldSums, Step}
 use Rattle.desk_book.specs.Totals.{AreRows, IsCashSum, IsPaidIn, IsRegistered, IsSum}
 use Rattle.desk_book.specs.Asked.{Asked}
+use Rattle.desk_book.specs.Statement.{HoldsSome, IsHolding, IsStatement, TellsHoldings, TellsOwner}
 use Rattle.desk_book.specs.Sums.{sums_text}
 use Rattle.desk_book.specs.declared.task.Task.{Task}
-use Rattle.desk_book.specs.declared.task.Task.TheVariants.{Decide, Totals, Answer}
+use Rattle.desk_book.specs.declared.task.Task.TheVariants.{Answer, Decide, Holdings, Sent, Status, Totals}
 use Rattle.desk_book.specs.declared.total.CashTotal.{CashTotal}
 use Rattle.desk_book.specs.declared.total.SecurityTotal.{SecurityTotal}
 use Rattle.desk_book.proofs.AnsweringLemmas.{asked_there}
@@ -215,10 +223,66 @@ one_telling books r s n m x y =
       x.stays ∙ sym y.stays,
     )
 
+-- Statements.
+
+abbrev as_row : StatementRow → StatementRow
+as_row row = row
+
+same_row : (a b : StatementRow) → a.isin ≡ b.isin → a.kind ≡ b.kind → a.quantity ≡ b.quantity → a ≡ b
+same_row a b e f g =
+    ap (λ (i : List ℕ). as_row (record { isin = i; kind = a.kind; quantity = a.quantity })) e
+    ∙ ap (λ (k : Kind). as_row (record { isin = b.isin; kind = k; quantity = a.quantity })) f
+    ∙ ap (λ (q : ℕ). as_row (record { isin = b.isin; kind = b.kind; quantity = q })) g
+
+kind_in : Kind → Option Kind → Kind
+kind_in other None = other
+kind_in other (Some kind) = kind
+
+one_kind : (a b : Kind) (found : Option Kind) → found ≡ Some a → found ≡ Some b → a ≡ b
+unfolding kind_in
+one_kind a b found x y = ap (kind_in a) (sym x ∙ y)
+
+one_holding : (books : Books) (account : List ℕ) (a b : StatementRow) → a.isin ≡ b.isin → IsHolding books account a → IsHolding books account b → a ≡ b
+one_holding books account a b e x y =
+    let out : List ℕ → ℕ = λ i. debits books.history books.settled account i in
+    let into : List ℕ → ℕ = λ i. credits books.history books.settled account i in
+    let P : List ℕ → Type 0 = λ i. b.quantity + out i ≡ into i in
+    let Q : List ℕ → Type 0 = λ i. kind_of books.history i ≡ Some b.kind in
+    same_row a b e (one_kind a.kind b.kind (kind_of books.history a.isin) x.kind (subst Q (sym e) y.kind))
+    (left_of a.quantity b.quantity (out a.isin) (into a.isin) x.quantity (subst P (sym e) y.quantity))
+
+holds_some : (books : Books) (account : List ℕ) (row : StatementRow) → IsHolding books account row → HoldsSome books account row.isin
+holds_some books account row is = let some = is.some in let all = is.quantity in omega arith
+
+abbrev statement_reply : Books → List ℕ → List ℕ → List StatementRow → Reply
+statement_reply books account day rows = record { status = 200; mt = Some 535; text = holdings (length books.history) day account rows }
+
+one_statement : (books : Books) (account : List ℕ) (r s : Reply) → IsStatement books account r → IsStatement books account s → r ≡ s
+one_statement books account r s x y =
+    let rows = one_list (λ t. t.isin) (HoldsSome books account) (IsHolding books account) (holds_some books account) (one_holding books account) x.rows y.rows x.are y.are in
+    let day = one_day (last_run books.history) x.day y.day x.is_day y.is_day in
+    x.replied ∙ ap (λ d. statement_reply books account d x.rows) day ∙ ap (λ rs. statement_reply books account y.day rs) rows ∙ sym y.replied
+
+one_either : (b : Bool) (P : Reply → Type 0) (other r s : Reply) → ((r s : Reply) → P r → P s → r ≡ s) → MatchBool b (P r) (r ≡ other) → MatchBool b (P s) (s ≡ other) → r ≡ s
+one_either true P other r s one x y = one r s x y
+one_either false P other r s one x y = x ∙ sym y
+
+one_owner : (books : Books) (owner : List ℕ) (account : Option (List ℕ)) (r s : Reply) → TellsOwner books owner account r → TellsOwner books owner account s → r ≡ s
+one_owner books owner (Some account) r s x y =
+    one_either (is_owner owner (owner_of books.history account)) (IsStatement books account) (refused_question (number_of_refusal AccountNotSenders)) r s (one_statement books account) x y
+one_owner books owner None r s x y = x ∙ sym y
+
+one_holdings : (books : Books) (owner : List ℕ) (account : Option (List ℕ)) (r s : Reply) → TellsHoldings books owner account r → TellsHoldings books owner account s → r ≡ s
+one_holdings books owner account r s x y =
+    one_either (is_participant books.history owner) (TellsOwner books owner account) (refused_question (number_of_refusal SenderUnknown)) r s (one_owner books owner account) x y
+
 -- Answers.
 
 one_to_task : (limit : ℕ) (books : Books) (task : Task) (r s : Reply) (n m : Books) → IsAnswer limit books task r n → IsAnswer limit books task s m → (r ≡ s) × (n ≡ m)
 one_to_task limit books (Decide entry) r s n m x y = one_decision limit books entry r s n m x y
+one_to_task limit books (Status bic reference) r s n m x y = (x.0 ∙ sym y.0, x.1 ∙ sym y.1)
+one_to_task limit books (Sent bic number) r s n m x y = (x.0 ∙ sym y.0, x.1 ∙ sym y.1)
+one_to_task limit books (Holdings owner account) r s n m x y = (one_holdings books owner account r s x.0 y.0, x.1 ∙ sym y.1)
 one_to_task limit books Totals r s n m x y = one_telling books r s n m x y
 one_to_task limit books (Answer given) r s n m x y = (x.0 ∙ sym y.0, x.1 ∙ sym y.1)
 

@@ -1,7 +1,7 @@
 -- A script, item by item.
 use Rattle.std.proofs.Common.{◌≡◌, ℕ, ◌+◌, ◌≤◌, Bool, true, List, [], ◌∷◌, ◌++◌, count_by, refl, ap, sym, ◌∙◌, subst, arith, append-nil, append_assoc}
 use Rattle.std.specs.Prelude.{Option, Result, Ok, Err, OnOk}
-use Rattle.std.specs.Io.KnownBytes.{Appends}
+use Rattle.std.specs.Io.KnownBytes.{Appends, append_known}
 use Rattle.std.proofs.KnownBytes.{Appends-nil, Appends-trans}
 use Rattle.desk_rules.specs.declared.reply.Reply.{Reply}
 use Rattle.desk_rules.specs.Books.{Books}
@@ -18,6 +18,8 @@ use Rattle.desk_book.specs.Script.{Asking, BeginsWith, Item, Script, ask, bad_li
 use Rattle.desk_book.specs.declared.script.Item.{Item as ScriptItem}
 use Rattle.desk_book.specs.declared.script.Item.TheVariants.{Ask, BadLine}
 use Rattle.desk_book.specs.WrittenAnswers.{written_bad_line}
+use Rattle.desk_book.proofs.HeadlineLemmas.{promised}
+use Rattle.desk_book.proofs.OutboxLemmas.{all_written}
 use Rattle.desk_book.proofs.RunLemmas.{counted_one, counted_then, run_then}
 
 -- One item.
@@ -29,6 +31,7 @@ one_played was books asked answer is old new closed later stays blame s = record
   last = s.next;
   in_turn = (stays, (s.next, s.step, (closed, refl)));
   holds = s.holds;
+  promise = s.promise;
   blame = counted_one answer old new later blame;
 }
 
@@ -49,6 +52,7 @@ bad_line_played was books view holds = record {
   last = books;
   in_turn = (refl, refl);
   holds = holds;
+  promise = promised was view books holds;
   blame = none_counted view;
 }
 
@@ -88,6 +92,7 @@ play_then was is next books front items answers others v0 v1 v2 soon later first
       last = second.last;
       in_turn = subst Q (sym (asked_then front items)) run;
       holds = second.holds;
+      promise = second.promise;
       blame = counted_then answers others v0 v1 v2 later first.blame second.blame;
     }
 
@@ -106,7 +111,7 @@ none_so_far was books script before view holds = record {
   front = [];
   spells = λ items is. is;
   answers = [];
-  played = record { last = books; in_turn = (refl, refl); holds = holds; blame = none_counted view };
+  played = record { last = books; in_turn = (refl, refl); holds = holds; promise = promised was view books holds; blame = none_counted view };
   written = Appends-nil before;
 }
 
@@ -152,3 +157,17 @@ front_and_one v0 v1 v2 was is next books script behind rest a b item soon later 
   answers = s.answers ++ p.0;
   played = play_then was is next books s.front (item ∷ []) s.answers p.0 v0 v1 v2 soon later s.played p.1;
 }
+
+-- what waited is written at the end
+pub finished : {E : Type 0} (r : Result (Unit {0}) E) (was is : Bool) (books : Books) (script : List ℕ) (from old new : Option (List ℕ)) (waits : List ℕ) {waited : List ℕ} (v0 v1 : View) → waited ≡ []
+    → PlaysScript was books script (append_known from waited) (append_known old waits) is v0 v1 → OnOk r (Appends old new waits) → OnOk r (PlaysScript was books script from new is v0 v1)
+finished (Ok done) was is books script from old new waits v0 v1 none played written =
+    let P : List ℕ → Type 0 = λ bytes. Appends (append_known from bytes) (append_known old waits) (answers_text played.items played.answers) in
+    record {
+      items = played.items;
+      spells = played.spells;
+      answers = played.answers;
+      played = played.played;
+      written = all_written from old new waits (answers_text played.items played.answers) (subst P none played.written) written;
+    }
+finished (Err fault) was is books script from old new waits v0 v1 none played written = tt

@@ -14,17 +14,19 @@ use Rattle.desk_book.specs.declared.task.Task.{Task}
 use Rattle.desk_book.specs.Answered.{AnsweredInTurn, BlamesRequest, Step, says_closed, says_storage}
 use Rattle.desk_book.specs.Asked.{Asked, asked_by}
 use Rattle.desk_book.specs.declared.request.Request.{Request}
+use Rattle.desk_book.specs.Headline.{KeepsPromise}
 use Rattle.desk_book.specs.Held.{Holds, Steps}
+use Rattle.desk_book.proofs.HeadlineLemmas.{promised}
 use Rattle.desk_book.specs.Answering.{IsPerformed}
 use Rattle.desk_book.specs.Task.{IsTask}
 
 -- what was read as a task, and performed, is a step
 pub step_of : {E : Type 0} (limit : ℕ) (books : Books) (asked : Asked) (task : Result Task E) (answer : Result Reply Fault) (closed : Bool) (view : View) → IfOk task (λ o. IsTask asked o)
     → IsPerformed limit books task answer closed view → Steps limit books asked answer closed view
-step_of limit books asked (Ok o) (Ok reply) closed view is performed = record { next = performed.next; step = (o, is, performed.answer); holds = performed.holds }
-step_of limit books asked (Ok o) (Err fault) closed view is performed = record { next = performed.next; step = performed.answer; holds = performed.holds }
+step_of limit books asked (Ok o) (Ok reply) closed view is performed = record { next = performed.next; step = (o, is, performed.answer); holds = performed.holds; promise = promised closed view performed.next performed.holds }
+step_of limit books asked (Ok o) (Err fault) closed view is performed = record { next = performed.next; step = performed.answer; holds = performed.holds; promise = promised closed view performed.next performed.holds }
 step_of limit books asked (Err want) (Ok reply) closed view is performed = absurd performed.answer
-step_of limit books asked (Err want) (Err fault) closed view is performed = record { next = performed.next; step = performed.answer; holds = performed.holds }
+step_of limit books asked (Err want) (Err fault) closed view is performed = record { next = performed.next; step = performed.answer; holds = performed.holds; promise = promised closed view performed.next performed.holds }
 
 -- a run goes on by another
 pub run_then : (limit : ℕ) (was : Bool) (books : Books) (front rest : List Asked) (answers more : List (Result Reply Fault)) (is next : Bool) (between last : Books) → AnsweredInTurn limit was books front answers is between
@@ -79,10 +81,10 @@ run_steps v0 v1 v2 was is next books requests i request answers more answer lt i
 
 pub run_all : (v0 v1 : View) (was is : Bool) (books : Books) (requests : List Request) (i : ℕ) (answers : List (Result Reply Fault)) → length requests ≤ i
     → (last : Books) × AnsweredInTurn v0.room was books (map asked_by (take i requests)) answers is last × Holds is v1 last
-    → (last : Books) × AnsweredInTurn v0.room was books (map asked_by requests) answers is last × Holds is v1 last
+    → (last : Books) × AnsweredInTurn v0.room was books (map asked_by requests) answers is last × Holds is v1 last × KeepsPromise is v1 last
 run_all v0 v1 was is books requests i answers all so_far =
     let A : List Request → Type 0 = λ xs. AnsweredInTurn v0.room was books (map asked_by xs) answers is so_far.0 in
-    (so_far.0, subst A (take_all i requests all) so_far.1, so_far.2)
+    (so_far.0, subst A (take_all i requests all) so_far.1, so_far.2, promised is v1 so_far.0 so_far.2)
 
 -- Once closed, a desk stays so.
 

@@ -1,21 +1,28 @@
 -- What the desk answers to a request, and how its books grow by it.
-use Rattle.std.specs.Prelude.{◌≡◌, ◌≢◌, ◌<◌, ℕ, Bool, true, false, List, [], ◌∷◌, Result, Ok, Err}
+use Rattle.std.specs.Prelude.{◌≡◌, ◌≢◌, ◌<◌, ℕ, Bool, true, false, if◌then◌else◌, List, [], ◌∷◌, Option, option_and_then, Result, Ok, Err}
 use Rattle.desk_rules.specs.declared.entry.Entry.{Entry}
 use Rattle.desk_rules.specs.declared.reply.Reply.{Reply}
 use Rattle.desk_rules.specs.declared.verdict.Verdict.{Verdict}
 use Rattle.desk_rules.specs.declared.verdict.Verdict.TheVariants.{Accept, Repeat, Refuse}
 use Rattle.desk_rules.specs.Reply.{untyped_reply, AreNext, IsFirstReply, IsReply}
+use Rattle.desk_rules.specs.declared.verdict.Refusal.TheVariants.{SenderUnknown}
 use Rattle.desk_rules.specs.Books.{Books}
+use Rattle.desk_rules.specs.declared.entry.Sender.TheVariants.{Participant as FromParticipant}
+use Rattle.desk_rules.specs.Facts.{is_participant}
+use Rattle.desk_rules.specs.History.{number_of_key}
+use Rattle.desk_rules.specs.Questions.{named_reply, refused_question, sent_reply}
+use Rattle.desk_rules.specs.Refusals.{number_of_refusal}
 use Rattle.desk_rules.specs.Verdict.{IsVerdict}
 use Rattle.desk_register.specs.View.{View, IfCounted}
 use Rattle.desk_book.specs.Asked.{Asked}
 use Rattle.desk_book.specs.Task.{IsTask}
+use Rattle.desk_book.specs.Statement.{TellsHoldings}
 use Rattle.desk_book.specs.Sums.{sums_text}
 use Rattle.desk_book.specs.Totals.{AreCashSums, AreSums}
 use Rattle.desk_book.specs.declared.fault.Fault.{Fault}
 use Rattle.desk_book.specs.declared.fault.Fault.TheVariants.{Storage, Closed}
 use Rattle.desk_book.specs.declared.task.Task.{Task}
-use Rattle.desk_book.specs.declared.task.Task.TheVariants.{Decide, Totals, Answer}
+use Rattle.desk_book.specs.declared.task.Task.TheVariants.{Answer, Decide, Holdings, Sent, Status, Totals}
 use Rattle.desk_book.specs.declared.total.CashTotal.{CashTotal}
 use Rattle.desk_book.specs.declared.total.SecurityTotal.{SecurityTotal}
 
@@ -41,9 +48,21 @@ pub record IsToldSums (books : Books) (reply : Reply) (after : Books) : Type 0 w
   pub replied : reply ≡ untyped_reply 200 (sums_text cash securities)
   pub stays : after ≡ books
 
+-- the number of a participant's message with a reference; what is no reference was used for none
+abbrev pub number_used : List Entry → List ℕ → Option (List ℕ) → Option ℕ
+number_used history bic reference = option_and_then (λ r. number_of_key history (FromParticipant bic) r) reference
+
+-- how a participant's message with a reference stands
+abbrev pub status_answer : Books → List ℕ → Option (List ℕ) → Reply
+status_answer books bic reference =
+    if is_participant books.history bic then named_reply books (number_used books.history bic reference) else refused_question (number_of_refusal SenderUnknown)
+
 -- the answer to what a request is read as, and the books after it
 abbrev pub IsAnswer : ℕ → Books → Task → Reply → Books → Type 0
 IsAnswer limit books (Decide entry) reply after = IsDecided limit books entry reply after
+IsAnswer limit books (Status bic reference) reply after = (reply ≡ status_answer books bic reference) × (after ≡ books)
+IsAnswer limit books (Sent bic number) reply after = (reply ≡ sent_reply books bic number) × (after ≡ books)
+IsAnswer limit books (Holdings owner account) reply after = TellsHoldings books owner account reply × (after ≡ books)
 IsAnswer limit books Totals reply after = IsToldSums books reply after
 IsAnswer limit books (Answer given) reply after = (reply ≡ given) × (after ≡ books)
 

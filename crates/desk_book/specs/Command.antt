@@ -1,5 +1,5 @@
 -- Which bytes are an operator's command.
-use Rattle.std.specs.Prelude.{◌≡◌, ℕ, ◌≤◌, true, List, length, Some, codes, IsUtf8}
+use Rattle.std.specs.Prelude.{◌≡◌, ℕ, ◌≤◌, List, length, Some, codes, IsUtf8}
 use Rattle.desk_text.specs.declared.limits.TheConstants.{LONGEST_TEXT}
 use Rattle.serde_json.specs.Data.{Data, object, Members, no_members, member, string, number, unsigned}
 use Rattle.serde_json.specs.Read.{read}
@@ -13,7 +13,6 @@ use Rattle.desk_rules.specs.declared.entry.Entry.{Entry}
 use Rattle.desk_rules.specs.declared.entry.Entry.TheVariants.{Participant, Account, Security, Issue, Redeem, PayIn, PayOut, Run}
 use Rattle.desk_rules.specs.declared.entry.RunRule.TheVariants.{Passes}
 use Rattle.desk_rules.specs.WellFormed.{IsMovement}
-use Rattle.desk_book.specs.Supported.{is_supported}
 use Rattle.desk_book.specs.Forms.{SpellsBic}
 
 -- a member that is a text, or a whole number
@@ -64,15 +63,10 @@ IsCommand d (PayOut p) = (name : List ℕ) × SpellsBic name p.bic × IsReferenc
 IsCommand d (Run reference day rule) = IsReference reference × IsDay day × (d ≡ run_object reference day) × (rule ≡ Passes)
 IsCommand d entry = ⊥
 
--- a value is a command that the desk takes today
-pub record IsSupportedCommand (d : Data) (entry : Entry) : Type 0 where
-  pub spells : IsCommand d entry
-  pub supported : is_supported entry ≡ true
-
 -- the bytes are a command's: JSON whose value spells it
 pub record SpellsCommand (bytes : List ℕ) (entry : Entry) : Type 0 where
   pub short : length bytes ≤ LONGEST_TEXT
   pub utf8 : IsUtf8 bytes
   pub value : Data
   pub reads : read bytes ≡ Some value
-  pub command : IsSupportedCommand value entry
+  pub command : IsCommand value entry

@@ -9,15 +9,13 @@ use Rattle.desk_rules.specs.Content.{Content}
 use Rattle.desk_register.specs.View.{View}
 use Rattle.desk_book.specs.Answered.{Step}
 use Rattle.desk_book.specs.Asked.{Asked}
-use Rattle.desk_book.specs.Supported.{AreSupported}
+use Rattle.desk_book.specs.Headline.{KeepsPromise}
 use Rattle.desk_book.specs.declared.fault.Fault.{Fault}
 
--- what an open desk keeps: the tables of these books, each entry of which is well formed, and a command that requests
--- are read as
+-- what an open desk keeps: the tables of these books, each entry of which is well formed
 pub record KeepsFormed (limit : ℕ) (books : Books) (content : Content) : Type 0 where
   pub tables : Keeps limit books content
   pub formed : AreWellFormed books.history
-  pub supported : AreSupported books.history
 
 -- An open desk's register has no `begin` open, shows what it holds, and keeps the tables of books
 -- whose entries are well formed.
@@ -30,8 +28,9 @@ pub record IsReady (is_closed : Bool) (view : View) : Type 0 where
 abbrev pub Holds : Bool → View → Books → Type 0
 Holds is_closed view books = is_closed ≡ false → KeepsFormed view.room books view.content
 
--- one step of a desk, and what it holds then
+-- one step of a desk, what it holds then, and what may be relied on
 pub record Steps (limit : ℕ) (books : Books) (asked : Asked) (result : Result Reply Fault) (is_closed : Bool) (view : View) : Type 0 where
   pub next : Books
   pub step : Step limit books asked result next
   pub holds : Holds is_closed view next
+  pub promise : KeepsPromise is_closed view next

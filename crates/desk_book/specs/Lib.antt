@@ -4,6 +4,7 @@ pub mod Asked
 pub mod Command
 pub mod DeskValue
 pub mod Forms
+pub mod Headline
 pub mod Held
 pub mod Items
 pub mod Known
@@ -11,8 +12,9 @@ pub mod Lines
 pub mod Members
 pub mod Played
 pub mod Script
+pub mod Statement
 pub mod Sums
-pub mod Supported
 pub mod Task
 pub mod Totals
+pub mod Waiting
 pub mod WrittenAnswers

@@ -11,6 +11,7 @@ use Rattle.desk_book.specs.declared.fault.PlayFault.{PlayFault}
 use Rattle.desk_book.specs.declared.fault.PlayFault.TheVariants as plays
 use Rattle.desk_book.specs.Answered.{AnsweredInTurn, says_storage}
 use Rattle.desk_book.specs.Asked.{Asked}
+use Rattle.desk_book.specs.Headline.{KeepsPromise}
 use Rattle.desk_book.specs.Held.{Holds}
 use Rattle.desk_book.specs.Script.{Item, ask, bad_line, Script}
 use Rattle.desk_book.specs.WrittenAnswers.{written_answer, written_fault, written_bad_line}
@@ -41,11 +42,12 @@ answers_text (ask asked ∷ items) [] = []
 answers_text (ask asked ∷ items) (answer ∷ answers) = answer_text answer ++ answers_text items answers
 
 -- Items were played from these books, and their requests got these answers in turn, to the books that the desk holds
--- then. No more answers name the device than it failed, as it is counted.
+-- then, and with which it keeps its promise. No more answers name the device than it failed, as it is counted.
 pub record HasPlayed (was : Bool) (books : Books) (items : List Item) (answers : List (Result Reply Fault)) (is : Bool) (old new : View) : Type 0 where
   pub last : Books
   pub in_turn : AnsweredInTurn old.room was books (asked_in items) answers is last
   pub holds : Holds is new last
+  pub promise : KeepsPromise is new last
   pub blame : IfCounted new (count_by says_storage answers + old.failures ≤ new.failures)
 
 -- a whole script was played, and its answers written

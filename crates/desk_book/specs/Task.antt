@@ -1,44 +1,41 @@
 -- What a request is read as.
-use Rattle.std.specs.Prelude.{◌≡◌, ◌⊎◌, ℕ, ◌&&◌, Bool, true, not, MatchBool, List, codes, Ok, Err}
+use Rattle.std.specs.Prelude.{◌≡◌, ℕ, MatchBool, List, codes, Some, None, Ok, Err}
+use Rattle.desk_codes.specs.Account.{IsAccount}
 use Rattle.desk_codes.specs.Bic.{IsBic}
+use Rattle.desk_codes.specs.Reference.{IsReference}
 use Rattle.desk_msg.specs.declared.mt.Mt.{Mt}
-use Rattle.desk_msg.specs.declared.instruction.CancelOrder.{CancelOrder}
-use Rattle.desk_msg.specs.declared.instruction.Instruction.{Instruction}
+use Rattle.desk_msg.specs.declared.instruction.Message.{Message}
 use Rattle.desk_msg.specs.declared.instruction.Message.TheVariants.{New, Cancel as CancelMessage}
-use Rattle.desk_msg.specs.declared.fault.MsgFault.TheVariants.{Function}
 use Rattle.desk_msg.specs.declared.refusal.TextRefusal.{TextRefusal}
-use Rattle.desk_msg.specs.declared.refusal.TextRefusal.TheVariants.{Fields}
 use Rattle.desk_msg.specs.declared.refusal.ReadFault.TheVariants.{Refused}
-use Rattle.desk_msg.specs.MessageType.{is_instruction, is_against_payment}
+use Rattle.desk_msg.specs.MessageType.{is_instruction}
 use Rattle.desk_msg.specs.Refused.{ReadsText, refusal_line}
 use Rattle.desk_rules.specs.declared.entry.Entry.{Entry}
-use Rattle.desk_rules.specs.declared.entry.Entry.TheVariants.{Instruct}
+use Rattle.desk_rules.specs.declared.entry.Entry.TheVariants.{Instruct, Cancel}
 use Rattle.desk_rules.specs.declared.reply.Reply.{Reply}
 use Rattle.desk_rules.specs.Reply.{untyped_reply}
 use Rattle.desk_rules.specs.WellFormed.{IsWellFormed}
-use Rattle.desk_book.specs.Supported.{is_supported}
-use Rattle.desk_book.specs.Asked.{Asked, message, operator, sums}
+use Rattle.desk_book.specs.Asked.{Asked, holdings, message, operator, sent, status, sums}
 use Rattle.desk_book.specs.Command.{SpellsCommand}
 use Rattle.desk_book.specs.WrittenAnswers.{bad_line_text}
 use Rattle.desk_book.specs.declared.task.Task.{Task}
-use Rattle.desk_book.specs.declared.task.Task.TheVariants.{Decide, Totals, Answer}
-
--- the types of message that the desk takes: instructions to receive or deliver free
-abbrev pub is_supported_type : Mt → Bool
-is_supported_type mt = is_instruction mt && not (is_against_payment mt)
+use Rattle.desk_book.specs.declared.task.Task.TheVariants.{Answer, Decide, Holdings, Sent, Status, Totals}
 
 -- the answer to what is none of the desk's forms
 abbrev pub unknown_form : Reply
 unknown_form = untyped_reply 400 bad_line_text
 
--- A message is an instruction to decide on, of a sender with a BIC; a cancellation is refused as a function that the
--- desk does not take, and a text that is no message with its own refusal.
+-- the entry that a participant's message asks for
+abbrev pub entry_of_message : List ℕ → Message → Entry
+entry_of_message sender (New instruction) = Instruct sender instruction
+entry_of_message sender (CancelMessage order) = Cancel sender order
+
+-- A message is an instruction or a cancellation to decide on, of a sender with a BIC; a text that is no message is
+-- refused, with its own refusal.
 abbrev pub IsMessageTask : List ℕ → Mt → List ℕ → Task → Type 0
-IsMessageTask sender mt text (Decide entry) = (i : Instruction) × ReadsText mt text (Ok (New i)) × (entry ≡ Instruct sender i) × IsBic sender
-IsMessageTask sender mt text Totals = ⊥
-IsMessageTask sender mt text (Answer reply) =
-    ((c : CancelOrder) × ReadsText mt text (Ok (CancelMessage c)) × (reply ≡ untyped_reply 400 (refusal_line (Fields Function))))
-    ⊎ ((r : TextRefusal) × ReadsText mt text (Err (Refused r)) × (reply ≡ untyped_reply 400 (refusal_line r)))
+IsMessageTask sender mt text (Decide entry) = (m : Message) × ReadsText mt text (Ok m) × (entry ≡ entry_of_message sender m) × IsBic sender
+IsMessageTask sender mt text (Answer reply) = (r : TextRefusal) × ReadsText mt text (Err (Refused r)) × (reply ≡ untyped_reply 400 (refusal_line r))
+IsMessageTask sender mt text task = ⊥
 
 -- the answer to an operator's text that spells no command
 abbrev pub no_command : Reply
@@ -47,20 +44,29 @@ no_command = untyped_reply 400 (codes "refused 30")
 -- An operator's text is a command to decide on, or is refused.
 abbrev pub IsCommandTask : List ℕ → Task → Type 0
 IsCommandTask text (Decide entry) = SpellsCommand text entry
-IsCommandTask text Totals = ⊥
 IsCommandTask text (Answer reply) = ((entry : Entry) → ¬ SpellsCommand text entry) × (reply ≡ no_command)
+IsCommandTask text task = ⊥
+
+-- A participant asks for the message with a reference; what is no reference names no message.
+abbrev pub IsStatusTask : List ℕ → List ℕ → Task → Type 0
+IsStatusTask sender text (Status bic (Some reference)) = (bic ≡ sender) × (reference ≡ text) × IsReference text
+IsStatusTask sender text (Status bic None) = (bic ≡ sender) × ¬ IsReference text
+IsStatusTask sender text task = ⊥
+
+-- A participant asks for the holdings of an account; what names no account is nobody's.
+abbrev pub IsHoldingsTask : List ℕ → List ℕ → Task → Type 0
+IsHoldingsTask owner text (Holdings bic (Some account)) = (bic ≡ owner) × (account ≡ text) × IsAccount text
+IsHoldingsTask owner text (Holdings bic None) = (bic ≡ owner) × ¬ IsAccount text
+IsHoldingsTask owner text task = ⊥
 
 -- What a request gives the desk to do, one equation a form.
 abbrev pub IsTask : Asked → Task → Type 0
-IsTask (message sender mt text) task = MatchBool (is_supported_type mt) (IsMessageTask sender mt text task) (task ≡ Answer unknown_form)
+IsTask (message sender mt text) task = MatchBool (is_instruction mt) (IsMessageTask sender mt text task) (task ≡ Answer unknown_form)
 IsTask (operator text) task = IsCommandTask text task
+IsTask (status sender text) task = IsStatusTask sender text task
+IsTask (sent receiver number) task = task ≡ Sent receiver number
+IsTask (holdings owner text) task = IsHoldingsTask owner text task
 IsTask sums task = task ≡ Totals
-IsTask asked task = task ≡ Answer unknown_form
-
--- a command to decide on is one that the desk takes
-abbrev pub IsSupported : Task → Type 0
-IsSupported (Decide entry) = is_supported entry ≡ true
-IsSupported task = Unit {0}
 
 -- a command to decide on is well formed
 abbrev pub IsFormed : Task → Type 0

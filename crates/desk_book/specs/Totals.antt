@@ -1,5 +1,5 @@
 -- The desk's totals: of each security that is registered, and of each currency that was paid in.
-use Rattle.std.specs.Prelude.{◌≡◌, ℕ, ◌+◌, ◌<◌, true, List, AllPairs, Contains, is_some, sum_by}
+use Rattle.std.specs.Prelude.{◌≡◌, ◌⊎◌, ℕ, ◌+◌, ◌<◌, true, List, [], ◌∷◌, ◌++◌, AllPairs, Contains, is_some, sum_by}
 use Rattle.desk_codes.specs.declared.currency.Ccy.{Ccy}
 use Rattle.desk_codes.specs.Currency.{letters_of}
 use Rattle.desk_rules.specs.declared.entry.Entry.{Entry}
@@ -7,7 +7,7 @@ use Rattle.desk_rules.specs.Facts.{accounts_of, kind_of, participants_of}
 use Rattle.desk_rules.specs.Balances.{cash_credits, cash_debits, credits, debits, issued, paid_in, paid_out, redeemed}
 use Rattle.desk_rules.specs.Books.{Books}
 use Rattle.desk_rules.specs.Content.{Content, history_of}
-use Rattle.desk_register.specs.Looked.{IsLess, held_of}
+use Rattle.desk_register.specs.Looked.{IsLess, held_cash_of, held_of}
 use Rattle.desk_book.specs.declared.total.CashTotal.{CashTotal}
 use Rattle.desk_book.specs.declared.total.SecurityTotal.{SecurityTotal}
 
@@ -55,3 +55,17 @@ pub record IsTotal (content : Content) (total : SecurityTotal) : Type 0 where
 
 abbrev pub AreTotals : Content → List SecurityTotal → Type 0
 AreTotals content totals = AreRows (λ total. total.isin) (IsRegistered (history_of content)) (IsTotal content) totals
+
+pub record IsCashTotal (content : Content) (total : CashTotal) : Type 0 where
+  pub known : IsPaidIn (history_of content) (letters_of total.ccy)
+  pub held : total.held ≡ held_cash_of content total.ccy
+  pub net : paid_out (history_of content) total.ccy + total.net ≡ paid_in (history_of content) total.ccy
+
+abbrev pub AreCashTotals : Content → List CashTotal → Type 0
+AreCashTotals content totals = AreRows (λ total. letters_of total.ccy) (IsPaidIn (history_of content)) (IsCashTotal content) totals
+
+-- Rows grew by the total of a currency, if any of it was paid in. Only private contracts speak of it.
+abbrev pub AddsCash : Content → Ccy → List CashTotal → List CashTotal → Type 0
+AddsCash content ccy before after =
+    ((paid_in (history_of content) ccy ≡ 0) × (after ≡ before))
+    ⊎ ((total : CashTotal) × IsCashTotal content total × (total.ccy ≡ ccy) × (after ≡ before ++ total ∷ []))

@@ -5,14 +5,20 @@ ghost use Rattle.desk_rules.specs.Refusals.{number_of_refusal};
 ghost use Rattle.desk_rules.specs.Reply.{IsFirstReply, refused_reply};
 ghost use Rattle.desk_rules.specs.Verdict.{AsksTheSame};
 ghost use Rattle.desk_engine.specs.Applied.{CanApply, Keeps};
-ghost use Rattle.desk_book.specs.Answered.{IsToldSums, says_closed};
-ghost use Rattle.desk_book.specs.Task.{IsFormed, IsSupported};
+ghost use Rattle.desk_rules.specs.Questions.{sent_reply};
+ghost use Rattle.desk_book.specs.Answered.{IsToldSums, says_closed, status_answer};
+ghost use Rattle.desk_book.specs.Statement.{TellsHoldings};
+ghost use Rattle.desk_book.specs.Task.{IsFormed};
 ghost use Rattle.desk_book.specs.Held.{IsReady, KeepsFormed};
 ghost use Rattle.desk_book.specs.Answering.{Answers, Decides, Ends, IsPut, AnswersFault, fault_of_register, fault_of_failure};
 
 use crate::fault::Fault;
-use crate::summing::{security_totals, totals_text};
+use crate::questions::{sent_message, status};
+use crate::statement::holdings;
+use crate::summing::totals;
 use crate::task::Task;
+use crate::total::sums_text;
+use desk_codes::{AccountId, Bic, Reference};
 use desk_engine::{Failure, accept, decide, recover, refused_reply};
 use desk_register::{Fault as RegisterFault, Register, Stage};
 use desk_rules::{Entry, Refusal, Reply, Text, Verdict};
@@ -134,8 +140,8 @@ fn tell_totals<R: Register>(alloc: Global, register: &mut R) -> Result<Reply, Fa
     ensures ends { Ends result (R.view register.old) (R.view register.new) }
     ensures in_memory { R.in_memory ≡ true → says_closed result ≡ false }
 {
-    match security_totals(alloc, register) {
-        Ok(totals) => match totals_text(alloc, &totals) {
+    match totals(alloc, register) {
+        Ok((cash, securities)) => match sums_text(alloc, &cash, &securities) {
             Ok(text) => Ok(Reply {
                 status: 200,
                 mt: None,
@@ -147,10 +153,69 @@ fn tell_totals<R: Register>(alloc: Global, register: &mut R) -> Result<Reply, Fa
     }
 }
 
+/// Tells how a participant's message stands.
+fn tell_status<R: Register>(
+    alloc: Global,
+    register: &mut R,
+    sender: Bic,
+    reference: Option<Reference>,
+) -> Result<Reply, Fault>
+    requires ready { IsReady false (R.view register.old) }
+    ensures told { (books : Books) → (R.view register.new).is_honest → Keeps (R.view register.old).room books (R.view register.old).content
+        → IfOk result (λ reply. reply ≡ status_answer books sender reference) }
+    ensures same { (R.view register.new).is_honest → OnOk result ((R.view register.new).content ≡ (R.view register.old).content) }
+    ensures ends { Ends result (R.view register.old) (R.view register.new) }
+    ensures in_memory { R.in_memory ≡ true → says_closed result ≡ false }
+{
+    match status(alloc, register, sender, reference) {
+        Ok(reply) => Ok(reply),
+        Err(fault) => Err(recovered(alloc, register, fault)),
+    }
+}
+
+/// Tells what was sent to a participant under a number.
+fn tell_sent<R: Register>(
+    alloc: Global,
+    register: &mut R,
+    receiver: Bic,
+    number: u64,
+) -> Result<Reply, Fault>
+    requires ready { IsReady false (R.view register.old) }
+    ensures told { (books : Books) → (R.view register.new).is_honest → Keeps (R.view register.old).room books (R.view register.old).content
+        → IfOk result (λ reply. reply ≡ sent_reply books receiver number) }
+    ensures same { (R.view register.new).is_honest → OnOk result ((R.view register.new).content ≡ (R.view register.old).content) }
+    ensures ends { Ends result (R.view register.old) (R.view register.new) }
+    ensures in_memory { R.in_memory ≡ true → says_closed result ≡ false }
+{
+    match sent_message(alloc, register, receiver, number) {
+        Ok(reply) => Ok(reply),
+        Err(fault) => Err(recovered(alloc, register, fault)),
+    }
+}
+
+/// Tells what a participant's account holds.
+fn tell_holdings<R: Register>(
+    alloc: Global,
+    register: &mut R,
+    owner: Bic,
+    account: Option<AccountId>,
+) -> Result<Reply, Fault>
+    requires ready { IsReady false (R.view register.old) }
+    ensures told { (books : Books) → (R.view register.new).is_honest → Keeps (R.view register.old).room books (R.view register.old).content
+        → IfOk result (λ reply. TellsHoldings books owner account reply) }
+    ensures same { (R.view register.new).is_honest → OnOk result ((R.view register.new).content ≡ (R.view register.old).content) }
+    ensures ends { Ends result (R.view register.old) (R.view register.new) }
+    ensures in_memory { R.in_memory ≡ true → says_closed result ≡ false }
+{
+    match holdings(alloc, register, owner, account) {
+        Ok(reply) => Ok(reply),
+        Err(fault) => Err(recovered(alloc, register, fault)),
+    }
+}
+
 /// Answers what a request is read as.
 pub fn answer<R: Register>(alloc: Global, register: &mut R, task: Task) -> Result<Reply, Fault>
     requires ready { IsReady false (R.view register.old) }
-    requires supported { IsSupported task }
     requires formed { IsFormed task }
     ensures answered { (books : Books) → (R.view register.new).is_honest → KeepsFormed (R.view register.old).room books (R.view register.old).content
         → IfOk result (λ reply. Answers (R.view register.old).room books task reply (R.view register.new).content) }
@@ -159,6 +224,9 @@ pub fn answer<R: Register>(alloc: Global, register: &mut R, task: Task) -> Resul
 {
     match task {
         Task::Decide(entry) => rule(alloc, register, entry),
+        Task::Status(sender, reference) => tell_status(alloc, register, sender, reference),
+        Task::Sent(receiver, number) => tell_sent(alloc, register, receiver, number),
+        Task::Holdings(owner, account) => tell_holdings(alloc, register, owner, account),
         Task::Totals => tell_totals(alloc, register),
         Task::Answer(reply) => Ok(reply),
     }

@@ -5,12 +5,12 @@ ghost use Rattle.serde_json.specs.Find.{as_object};
 ghost use Rattle.serde_json.specs.View.{view};
 ghost use Rattle.desk_rules.specs.declared.entry.Entry.{Entry as EntryValue};
 ghost use Rattle.desk_rules.specs.declared.entry.Entry.TheVariants.{Participant as ParticipantValue};
-ghost use Rattle.desk_book.specs.Command.{SpellsCommand, IsCommand, IsSupportedCommand};
+ghost use Rattle.desk_book.specs.Command.{SpellsCommand, IsCommand};
 ghost use Rattle.desk_book.specs.Members.{text_at, number_at};
 ghost use Rattle.desk_book.specs.Members.{IsOrderedObject};
 
 use crate::member::{member_count, text};
-use crate::operation::{account, issue, participant, run, security};
+use crate::operation::{account, issue, participant, pay_in, pay_out, redeem, run, security};
 use desk_rules::Entry;
 use desk_text::LONGEST_TEXT;
 use serde_json::Value;
@@ -35,14 +35,17 @@ pub fn read_command(alloc: Global, bytes: &[u8]) -> Result<Option<Entry>, AllocE
 
 /// The command that a value spells.
 fn command_of(value: &Value) -> Option<Entry>
-    ensures read { IfSome result (λ entry. IsSupportedCommand (view value.now) entry) }
-    ensures refused { IfNone result ((entry : EntryValue) → ¬ IsSupportedCommand (view value.now) entry) }
+    ensures read { IfSome result (λ entry. IsCommand (view value.now) entry) }
+    ensures refused { IfNone result ((entry : EntryValue) → ¬ IsCommand (view value.now) entry) }
 {
     match text(value, "op")? {
         "participant" => participant(value),
         "account" => account(value),
         "security" => security(value),
         "issue" => issue(value),
+        "redeem" => redeem(value),
+        "payin" => pay_in(value),
+        "payout" => pay_out(value),
         "run" => run(value),
         _ => None,
     }

@@ -4,9 +4,10 @@ ghost use Rattle.desk_rules.specs.Books.{Books};
 ghost use Rattle.desk_register.specs.View.{IfCounted, IsLater};
 ghost use Rattle.desk_book.specs.Answered.{ActsOnce, AnsweredInTurn, BlamesRequest, says_closed, says_storage};
 ghost use Rattle.desk_book.specs.Asked.{asked_by};
+ghost use Rattle.desk_book.specs.Headline.{KeepsPromise};
 ghost use Rattle.desk_book.specs.Held.{Holds, IsReady, Steps};
 ghost use Rattle.desk_book.specs.Answering.{IsPerformed};
-ghost use Rattle.desk_book.specs.Task.{IsFormed, IsSupported};
+ghost use Rattle.desk_book.specs.Task.{IsFormed};
 
 use crate::answering::answer;
 use crate::fault::Fault;
@@ -83,6 +84,7 @@ impl<R: Register> Desk<R> {
         ensures in_turn { IfOk result (λ answers. (books : Books) → (R.view self.new.register).is_honest → Holds self.old.is_closed (R.view self.old.register) books
             → (last : Books) × AnsweredInTurn (R.view self.old.register).room self.old.is_closed books (map asked_by requests.now) answers.items self.new.is_closed last
             × Holds self.new.is_closed (R.view self.new.register) last
+            × KeepsPromise self.new.is_closed (R.view self.new.register) last
             × ActsOnce (R.view self.old.register).room books (map asked_by requests.now) answers.items last) }
         ensures err { OnErr result (self.new ≡ self.old) }
         ensures memory { IfErr result (λ fault. fault ≡ Fault.Memory) }
@@ -104,7 +106,6 @@ impl<R: Register> Desk<R> {
 
     /// Answers what a request is read as, where there was memory to read it.
     fn perform(&mut self, alloc: Global, task: Result<Task, AllocError>) -> Result<Reply, Fault>
-        requires supported { IfOk task (λ task. IsSupported task) }
         requires formed { IfOk task (λ task. IsFormed task) }
         ensures answered { (books : Books) → (R.view self.new.register).is_honest → Holds self.old.is_closed (R.view self.old.register) books
             → IsPerformed (R.view self.old.register).room books task result self.new.is_closed (R.view self.new.register) }

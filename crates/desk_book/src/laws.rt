@@ -14,7 +14,7 @@ ghost use Rattle.desk_rules.specs.Confirmations.{AccountFor, Confirmation, SayCo
 ghost use Rattle.desk_rules.specs.Sent.{sent_of};
 ghost use Rattle.desk_rules.specs.Books.{Books};
 ghost use Rattle.desk_rules.specs.Verdict.{IsVerdict};
-ghost use Rattle.desk_rules.specs.WellFormed.{AreAccepted, IsWellFormed};
+ghost use Rattle.desk_rules.specs.WellFormed.{AreAccepted, AreWellFormed, IsWellFormed};
 ghost use Rattle.desk_engine.specs.Applied.{no_books};
 ghost use Rattle.desk_book.specs.declared.fault.Fault.{Fault};
 ghost use Rattle.desk_book.specs.declared.task.Task.{Task};
@@ -23,7 +23,11 @@ ghost use Rattle.desk_book.specs.Answered.{ActsOnce, IsRepeat, IsToldSums, Answe
 ghost use Rattle.desk_book.specs.Known.{Agree, IsKnown};
 ghost use Rattle.desk_book.specs.Sums.{sums_text};
 ghost use Rattle.desk_book.specs.declared.total.SecurityTotal.{SecurityTotal};
-ghost use Rattle.desk_book.specs.Asked.{Asked, sums};
+ghost use Rattle.desk_rules.specs.Content.{Content};
+ghost use Rattle.desk_rules.specs.Questions.{sent_reply, status_reply};
+ghost use Rattle.desk_book.specs.Headline.{Headline};
+ghost use Rattle.desk_book.specs.Held.{KeepsFormed};
+ghost use Rattle.desk_book.specs.Asked.{Asked, sent, status, sums};
 ghost use Rattle.desk_book.specs.Task.{IsTask};
 ghost use Rattle.desk_rules.specs.declared.entry.Entry.{Entry};
 ghost use Rattle.desk_book.specs.Command.{IsCommand, SpellsCommand};
@@ -100,6 +104,20 @@ pub fn sums_agree()
     ensures { (limit : ℕ) (was is : Bool) (books last next : Books) (requests : List Asked) (answers : List (Result Reply Fault)) (reply : Reply)
         → AreAccepted limit books → AnsweredInTurn limit was books requests answers is last → Step limit last sums (Ok reply) next
         → (told : IsToldSums last reply next) × Agree told.cash told.securities }
+{}
+
+/// What an open desk keeps has all that is promised of it.
+pub fn headline()
+    ensures { (limit : ℕ) (books : Books) (content : Content) → KeepsFormed limit books content → Headline limit books content }
+{}
+
+/// What a participant asks is answered by the books of now, whatever text it asks with: how its message stands, or what
+/// was sent to it. A text that is no reference is one that no well formed entry has.
+pub fn questions_answered()
+    ensures status { (limit : ℕ) (books after : Books) (sender text : List ℕ) (reply : Reply) → AreWellFormed books.history → Step limit books (status sender text) (Ok reply) after
+        → (reply ≡ status_reply books sender text) × (after ≡ books) }
+    ensures sent { (limit : ℕ) (books after : Books) (receiver : List ℕ) (number : ℕ) (reply : Reply) → Step limit books (sent receiver number) (Ok reply) after
+        → (reply ≡ sent_reply books receiver number) × (after ≡ books) }
 {}
 
 /// Each change is confirmed: after any list of requests to a desk whose entries were accepted in their turn and are well

@@ -3,7 +3,8 @@
 //!
 //! Begin with `Request` in `request.rt`. What a script asks stands in specs/Script.antt, which lines ask
 //! something in specs/Forms.antt; `first_item` of `script.rt` reads one. `task_of` says what a request is read as,
-//! `Desk::ask` (`desk.rt`, `answering.rt`) answers it, and `Desk::play` (`playing.rt`) a whole script.
+//! `Desk::ask` (`desk.rt`, `answering.rt`, `questions.rt`) answers it, and `Desk::play` (`playing.rt`) a whole script. What
+//! may be relied on after every answer stands in specs/Headline.antt.
 #![tactic(auto)]
 
 mod answering;
@@ -16,27 +17,30 @@ mod limits;
 mod line;
 mod member;
 mod operation;
+mod outbox;
 mod playing;
+mod questions;
 mod reading;
 mod request;
 mod script;
+mod statement;
 mod summing;
 mod task;
 mod total;
-mod writing;
 
 pub use command::read_command;
 pub use desk::Desk;
 pub use fault::{Fault, InputFault, PlayFault};
 pub use laws::{
-    accepted_again, accepted_stays, changes_are_confirmed, closed_for_good, known_replies,
-    one_command, one_reply, one_script, one_task, reads_well_formed, repeats_act_once, sums_agree,
+    accepted_again, accepted_stays, changes_are_confirmed, closed_for_good, headline,
+    known_replies, one_command, one_reply, one_script, one_task, questions_answered,
+    reads_well_formed, repeats_act_once, sums_agree,
 };
-pub use limits::{LONGEST_LINE, LONGEST_SCRIPT};
+pub use limits::{LONGEST_LINE, LONGEST_SCRIPT, PIECE};
+pub use outbox::Outbox;
 pub use reading::read_whole;
 pub use request::Request;
 pub use script::{Item, first_item, item_count};
-pub use summing::{security_totals, totals_text};
+pub use summing::{cash_totals, security_totals, totals};
 pub use task::{Task, task_of};
 pub use total::{CashTotal, SecurityTotal, sums_text, write_sums};
-pub use writing::{write_answer, write_bad_line, write_fault};

@@ -3,5 +3,11 @@
 /// The most bytes of a script.
 pub const LONGEST_SCRIPT: usize = 16_777_216;
 
+/// So many bytes of answers are written at once.
+pub const PIECE: usize = 8192;
+
 /// The most bytes of a line outside bodies.
 pub const LONGEST_LINE: usize = 1024;
+
+/// The most digits of the number of a sent message, as a line writes it.
+pub const MOST_DIGITS: usize = 9;

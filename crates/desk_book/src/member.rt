@@ -5,17 +5,19 @@ ghost use Rattle.serde_json.specs.Find.{as_object};
 ghost use Rattle.serde_json.specs.View.{view};
 ghost use Rattle.desk_codes.specs.Account.{IsAccount};
 ghost use Rattle.desk_codes.specs.CheckDigit.{IsIsin};
+ghost use Rattle.desk_codes.specs.Currency.{letters_of};
 ghost use Rattle.desk_codes.specs.Day.{IsDay};
 ghost use Rattle.desk_codes.specs.Reference.{IsReference};
+ghost use Rattle.desk_codes.specs.declared.currency.Ccy.{Ccy as CcyValue};
 ghost use Rattle.desk_msg.specs.declared.instruction.Kind.{Kind as KindValue};
 ghost use Rattle.desk_msg.specs.Profile.{code_of_kind};
 ghost use Rattle.desk_book.specs.Members.{text_at, number_at};
 ghost use Rattle.desk_book.specs.Forms.{SpellsBic};
 ghost use Rattle.desk_book.specs.Members.{IsOrderedObject};
 
-use desk_codes::{AccountId, Bic, Day, Isin, Reference};
+use desk_codes::{AccountId, Bic, Ccy, Day, Isin, Reference};
 use desk_msg::Kind;
-use desk_rules::MOST_QUANTITY;
+use desk_rules::{MOST_PAID, MOST_QUANTITY};
 use serde_json::Value;
 
 /// How many members an object has.
@@ -112,7 +114,7 @@ pub fn day_in(value: &Value) -> Option<Day>
     Day::read(&digits)
 }
 
-/// The quantity of an issue.
+/// The quantity of an issue or a redemption.
 pub fn quantity_in(value: &Value) -> Option<u64>
     ensures some { IfSome result (λ quantity. number_at (codes "quantity") (view value.now) ≡ Some quantity) }
     ensures least { IfSome result (λ quantity. 0 < quantity) }
@@ -125,4 +127,28 @@ pub fn quantity_in(value: &Value) -> Option<u64>
         return None;
     }
     Some(quantity)
+}
+
+/// The currency of a payment.
+pub fn ccy_in(value: &Value) -> Option<Ccy>
+    ensures some { IfSome result (λ ccy. text_at (codes "ccy") (view value.now) ≡ Some (letters_of ccy)) }
+    ensures none { IfNone result ((ccy : CcyValue)
+        → ¬ (text_at (codes "ccy") (view value.now) ≡ Some (letters_of ccy))) }
+{
+    Ccy::parse(text(value, "ccy")?.as_bytes())
+}
+
+/// The amount of a payment, in minor units.
+pub fn amount_in(value: &Value) -> Option<u64>
+    ensures some { IfSome result (λ amount. number_at (codes "amount") (view value.now) ≡ Some amount) }
+    ensures least { IfSome result (λ amount. 0 < amount) }
+    ensures most { IfSome result (λ amount. amount ≤ MOST_PAID) }
+    ensures none { IfNone result ((amount : ℕ) → 0 < amount → amount ≤ MOST_PAID
+        → ¬ (number_at (codes "amount") (view value.now) ≡ Some amount)) }
+{
+    let amount = whole(value, "amount")?;
+    if amount == 0 || MOST_PAID < amount {
+        return None;
+    }
+    Some(amount)
 }

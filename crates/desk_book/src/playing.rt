@@ -1,6 +1,6 @@
 //! A script, from a reader to a writer.
 ghost use Rattle.std.specs.Prelude.{◌≡◌, ℕ, ◌+◌, List, [], ◌∷◌, true, false, ◌<◌, ◌≤◌, length, IfSome, OnOk, Result, Err};
-ghost use Rattle.std.specs.Io.KnownBytes.{Consumes};
+ghost use Rattle.std.specs.Io.KnownBytes.{Consumes, append_known};
 ghost use Rattle.desk_rules.specs.declared.reply.Reply.{Reply};
 ghost use Rattle.desk_rules.specs.Books.{Books};
 ghost use Rattle.desk_register.specs.View.{IsLater};
@@ -9,22 +9,24 @@ ghost use Rattle.desk_book.specs.Held.{Holds};
 ghost use Rattle.desk_book.specs.Played.{HasPlayed, PlaysFront, PlaysScript};
 ghost use Rattle.desk_book.specs.Items.{PlaysItem};
 ghost use Rattle.desk_book.specs.Script.{item_of};
+ghost use Rattle.desk_book.specs.Waiting.{HasRoom};
 
 use crate::desk::Desk;
 use crate::fault::PlayFault;
 use crate::limits::LONGEST_SCRIPT;
+use crate::outbox::Outbox;
 use crate::reading::read_whole;
 use crate::script::{Item, first_item};
-use crate::writing::{write_answer, write_bad_line, write_fault};
 use desk_register::Register;
 use std::alloc::Global;
 use std::io;
 use std::io::{Read, Write};
 
 impl<R: Register> Desk<R> {
-    /// Reads a whole script, and then asks its requests one after another and writes each answer. After
-    /// `ReadFailed`, `TooLong` and `Memory` nothing was asked or written; after `WriteFailed` what
-    /// was asked before the failed write stands.
+    /// Reads a whole script, and then asks its requests one after another and writes the answers, in pieces of `PIECE`
+    /// bytes and what is left at the end. The room for a piece is taken before the first read. After `ReadFailed`,
+    /// `TooLong` and `Memory` nothing was asked or written; after `WriteFailed` what was asked before the failed write
+    /// stands.
     pub fn play<I: Read, O: Write>(
         &mut self,
         alloc: Global,
@@ -45,20 +47,26 @@ impl<R: Register> Desk<R> {
         ensures later { IsLater (R.view self.old.register) (R.view self.new.register) }
         ensures in_memory { R.in_memory ≡ true → self.old.is_closed ≡ false → self.new.is_closed ≡ false }
     {
+        let Ok(mut outbox) = Outbox::new(alloc) else {
+            return Err(PlayFault::Memory);
+        };
         let script = read_whole(alloc, reader, LONGEST_SCRIPT)?;
-        match self.answer_script(alloc, &script, writer) {
+        match self.answer_script(alloc, &script, &mut outbox, writer) {
             Ok(()) => Ok(()),
             Err(_) => Err(PlayFault::WriteFailed),
         }
     }
 
-    /// Asks a script's requests one after another, and writes each answer.
+    /// Asks a script's requests one after another, and writes the answers.
     fn answer_script<O: Write>(
         &mut self,
         alloc: Global,
         script: &[u8],
+        outbox: &mut Outbox,
         writer: &mut O,
     ) -> io::Result<()>
+        requires room { HasRoom outbox.old }
+        requires empty { outbox.old.waiting.items ≡ [] }
         ensures played { (books : Books) → (R.view self.new.register).is_honest → Holds self.old.is_closed (R.view self.old.register) books
             → OnOk result (PlaysScript self.old.is_closed books script.now (O.contents writer.old) (O.contents writer.new) self.new.is_closed (R.view self.old.register) (R.view self.new.register)) }
         ensures front { (books : Books) → (R.view self.new.register).is_honest → Holds self.old.is_closed (R.view self.old.register) books
@@ -70,20 +78,23 @@ impl<R: Register> Desk<R> {
         let mut rest = script;
         'items: while let Some((item, after)) = first_item(rest) {
             rest = after;
-            self.answer_item(alloc, &item, writer)?;
+            self.answer_item(alloc, &item, outbox, writer)?;
         }
-        Ok(())
+        outbox.finish(writer)
     }
 
-    /// Asks an item of a script, if it asks anything, and writes the answer.
+    /// Asks an item of a script, if it asks anything, and adds the answer to what waits.
     fn answer_item<O: Write>(
         &mut self,
         alloc: Global,
         item: &Item<'_>,
+        outbox: &mut Outbox,
         writer: &mut O,
     ) -> io::Result<()>
+        requires room { HasRoom outbox.old }
+        ensures room { OnOk result (HasRoom outbox.new) }
         ensures played { (books : Books) → (R.view self.new.register).is_honest → Holds self.old.is_closed (R.view self.old.register) books
-            → OnOk result (PlaysItem self.old.is_closed books (item_of item.now) (O.contents writer.old) (O.contents writer.new) self.new.is_closed (R.view self.old.register) (R.view self.new.register)) }
+            → OnOk result (PlaysItem self.old.is_closed books (item_of item.now) (append_known (O.contents writer.old) outbox.old.waiting.items) (append_known (O.contents writer.new) outbox.new.waiting.items) self.new.is_closed (R.view self.old.register) (R.view self.new.register)) }
         ensures front { (books : Books) → (R.view self.new.register).is_honest → Holds self.old.is_closed (R.view self.old.register) books
             → (answers : List (Result Reply Fault)) × HasPlayed self.old.is_closed books (item_of item.now ∷ []) answers self.new.is_closed (R.view self.old.register) (R.view self.new.register) }
         ensures stays { self.old.is_closed ≡ true → self.new.is_closed ≡ true }
@@ -92,10 +103,10 @@ impl<R: Register> Desk<R> {
     {
         match item {
             Item::Ask(request) => match self.ask(alloc, request) {
-                Ok(reply) => write_answer(writer, reply.status, reply.mt, reply.text.as_bytes()),
-                Err(fault) => write_fault(writer, fault),
+                Ok(reply) => outbox.answer(writer, reply.status, reply.mt, reply.text.as_bytes()),
+                Err(fault) => outbox.fault(writer, fault),
             },
-            Item::BadLine => write_bad_line(writer),
+            Item::BadLine => outbox.bad_line(writer),
         }
     }
 }

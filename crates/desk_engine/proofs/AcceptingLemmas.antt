@@ -48,7 +48,8 @@ use Rattle.desk_register.specs.declared.register.Fault.{Fault}
 use Rattle.desk_register.specs.declared.register.Fault.TheVariants.{Memory}
 use Rattle.desk_register.specs.declared.register.Stage.TheVariants.{Idle, Begun, Failed}
 use Rattle.desk_register.specs.View.{View, IsLater, IsRead, Stays, fallen}
-use Rattle.desk_register.proofs.ViewLemmas.{blames_memory, later_then, same_blame, stays_then}
+use Rattle.desk_register.proofs.ViewLemmas.{blames_memory, later_then, stays_then}
+use Rattle.desk_engine.proofs.StepLaws.{steps_blame}
 use Rattle.desk_engine.specs.Steps.{IsStep}
 use Rattle.desk_engine.specs.Applied.{HasPasses, Keeps, IsMateOf, IsNamed, IsApplied, CanApply, HasApplied}
 use Rattle.desk_engine.proofs.AppendLemmas.{accepted_new}
@@ -476,7 +477,7 @@ read_fails fault v0 v1 begun r = record {
     mark = r.err.mark;
   };
   later = r.later;
-  blame = same_blame fault v0 v1 r.blame;
+  blame = steps_blame fault v0 v1 r.blame;
 }
 
 -- want of memory, after calls that went well, which touches nothing
@@ -490,5 +491,5 @@ want_step fault v0 v1 v2 begun stays later more further is =
         mark = λ honest sure. (let whole = later_then v0 v1 v2 stays later further in all.mark honest (whole.sure honest sure));
       };
       later = later_then v0 v1 v2 stays later further;
-      blame = blames_memory fault v0 v2 is all.failures;
+      blame = steps_blame fault v0 v2 (blames_memory {X = Unit {0}} fault v0 v2 is all.failures);
     }

@@ -39,7 +39,7 @@ use Rattle.desk_register.specs.Changes.{CanCancel, CanCancelPair, appended, canc
 use Rattle.desk_engine.specs.declared.cancelling.CallsOff.{CallsOff}
 use Rattle.desk_engine.specs.declared.cancelling.CallsOff.TheVariants.{Alone, Both, Nothing}
 use Rattle.desk_engine.specs.Cancelling.{called_off, off_by, off_by_state, off_with, pair_with, state_then}
-use Rattle.desk_engine.specs.Deciding.{is_cancelled_state, is_settled_state}
+use Rattle.desk_register.specs.Checked.{is_cancelled_state, is_settled_state}
 use Rattle.desk_engine.specs.Tables.{Grown, IsAccepted, Tables}
 use Rattle.desk_rules.proofs.Decided.{In-from_Contains}
 use Rattle.desk_rules.proofs.HistoryLemmas.{before-all, entry_at-end, instruction_at-front, instruction_at-known, some_before}

@@ -32,9 +32,10 @@ use Rattle.desk_rules.specs.Facts.{is_participant}
 use Rattle.desk_rules.specs.Content.{Content, history_of}
 use Rattle.desk_rules.specs.Pairing.{pair_of}
 use Rattle.desk_rules.specs.Standing.{instruction_state, is_called_off, is_cancelled, open_state}
-use Rattle.desk_rules.specs.Tables.{AreTables}
+use Rattle.desk_rules.specs.Tables.{AreCashBalances, ArePositions, AreTables, HasStandings}
 use Rattle.desk_rules.specs.Verdict.{Check, check, checks_of, first_failing, holds_of, if_of_type, IsVerdict, IsVerdictAt, is_from_stranger, named_by, reused_by}
-use Rattle.desk_engine.specs.Deciding.{checks_in, first_refusal, is_cancelled_state, is_settled_state, with_history, IsVerdictOnKey}
+use Rattle.desk_engine.specs.Deciding.{IsVerdictOnKey}
+use Rattle.desk_register.specs.Checked.{checks_in, first_refusal, is_cancelled_state, is_settled_state, with_history}
 use Rattle.desk_register.proofs.CaseLemmas.{by_bool}
 
 -- a refusal is the verdict
@@ -157,9 +158,9 @@ tells_settled books n i =
     (λ yes. rw yes refl)
     (λ no. by_bool (is_called_off books.history n (pair_of books.pairs n)) (λ off. rw (no, off) refl) (λ on. rw (no, on) (open_not_settled books (pair_of books.pairs n))))
 
-module _ (books : Books) (content : Content) (tables : AreTables books content) where
+module _ (books : Books) (content : Content) (history : history_of content ≡ books.history) (standings : HasStandings books content) (positions : ArePositions books.history books.settled content.position) (cash : AreCashBalances books.history books.settled content.cash) where
   state_is : (n : ℕ) (i : Instructed) → instruction_at books.history n ≡ Some i → (content.standing n).state ≡ instruction_state books n (Some i)
-  state_is n i at = ap (λ (s : Standing). s.state) (tables.standings.each n) ∙ ap (instruction_state books n) at
+  state_is n i at = ap (λ (s : Standing). s.state) (standings.each n) ∙ ap (instruction_state books n) at
 
   cancel_checks : (sender : List ℕ) (order : CancelOrder) (named : Option ℕ) → ((n : ℕ) → named ≡ Some n → (i : Instructed) × (instruction_at books.history n ≡ Some i))
       → (check (is_none named) NoSuchInstruction
@@ -176,29 +177,29 @@ module _ (books : Books) (content : Content) (tables : AreTables books content) 
       let done : holds_of (λ k. is_settled_state (content.standing k).state) named ≡ holds_of (is_settled books) named =
       holds_same _ _ named (λ k is. let at = known k is in ap is_settled_state (state_is k at.0 at.1) ∙ tells_settled books k at.0) in
       let asked : holds_of (λ k. (content.standing k).cancel_requested) named ≡ holds_of (is_cancel_requested books.history) named =
-      holds_same _ _ named (λ k is. ap (λ (s : Standing). s.cancel_requested) (tables.standings.each k)) in
+      holds_same _ _ named (λ k is. ap (λ (s : Standing). s.cancel_requested) (standings.each k)) in
       rw (gone, done, asked) refl
 
   pub same_checks : (entry : Entry) → checks_in content entry ≡ checks_of books entry
-  same_checks (Participant reference bic) = rw tables.history refl
-  same_checks (Account reference bic account) = rw tables.history refl
-  same_checks (Security reference isin kind) = rw tables.history refl
-  same_checks (Issue movement) = rw tables.history refl
+  same_checks (Participant reference bic) = rw history refl
+  same_checks (Account reference bic account) = rw history refl
+  same_checks (Security reference isin kind) = rw history refl
+  same_checks (Issue movement) = rw history refl
   same_checks (Redeem movement) =
       let enough = less_same (content.position movement.account movement.isin) (debits books.history books.settled movement.account movement.isin) (credits books.history books.settled movement.account movement.isin) movement.quantity
-      (tables.positions movement.account movement.isin) in
-      rw (tables.history, enough) refl
-  same_checks (PayIn payment) = rw tables.history refl
+      (positions movement.account movement.isin) in
+      rw (history, enough) refl
+  same_checks (PayIn payment) = rw history refl
   same_checks (PayOut payment) =
       let enough = less_same (content.cash payment.bic payment.ccy) (cash_debits books.history books.settled payment.bic payment.ccy) (cash_credits books.history books.settled payment.bic payment.ccy) payment.amount
-      (tables.cash payment.bic payment.ccy) in
-      rw (tables.history, enough) refl
-  same_checks (Instruct sender instruction) = rw tables.history refl
+      (cash payment.bic payment.ccy) in
+      rw (history, enough) refl
+  same_checks (Instruct sender instruction) = rw history refl
   same_checks (Cancel sender order) =
-      rw tables.history
+      rw history
       (cancel_checks sender order (named_by books.history sender order)
       (λ n is. named_is books.history (number_of_type order.mt) (number_of_key books.history (FromParticipant sender) order.previous) n is))
-  same_checks (Run reference day rule) = rw tables.history refl
+  same_checks (Run reference day rule) = rw history refl
 
 at_some : (limit n : ℕ) (books : Books) (entry : Entry) (verdict : Verdict) → IsVerdictAt 0 (with_history books.history) entry (Some n) verdict → IsVerdictAt limit books entry (Some n) verdict
 at_some limit n books entry Accept is = is
@@ -218,7 +219,7 @@ pub verdict_new : (limit : ℕ) (books : Books) (content : Content) (entry : Ent
 verdict_new limit books content entry verdict tables friend new is =
     let friend' : is_from_stranger books.history (sender_of entry) ≡ false = rw tables.history at friend in
     let new' : number_of_key books.history (sender_of entry) (reference_of entry) ≡ None = rw tables.history at new in
-    let same = same_checks books content tables entry in
+    let same = same_checks books content tables.history tables.standings tables.positions tables.cash entry in
     let is' : verdict ≡ first_failing (checks_of books entry) (nat_le limit (length books.history)) = is ∙ ap (λ checks. first_failing checks (nat_le limit (length (history_of content)))) same
     ∙ ap (λ h. first_failing (checks_of books entry) (nat_le limit (length h))) tables.history in
     rw (friend', new') is'

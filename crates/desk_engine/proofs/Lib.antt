@@ -15,7 +15,7 @@ mod PassWhole
 mod ReplyLemmas
 mod SendingLemmas
 mod SentLemmas
-mod SoundLemmas
+pub mod SoundLemmas
 pub mod RunningLemmas
 mod StepLaws
 mod StepLemmas

@@ -2,7 +2,7 @@
 use Rattle.std.specs.Prelude.{nat_lt}
 use Rattle.std.proofs.lemmas.Bool.{ltb-true, ltb-false}
 use Rattle.desk_rules.specs.Settlement.{allows_more}
-use Rattle.std.proofs.Common.{◌≡◌, ◌⊎◌, inl, inr, ℕ, ◌+◌, ◌<◌, ◌≤◌, ◌^◌, true, false, ◌&&◌, refl, List, [], length, Option, Some, None, ap, sym, ◌∙◌, subst, arith}
+use Rattle.std.proofs.Common.{◌≡◌, ◌≢◌, ◌⊎◌, inl, inr, ℕ, ◌+◌, ◌<◌, ◌≤◌, ◌^◌, true, false, ◌&&◌, refl, List, [], length, Option, Some, None, ap, sym, ◌∙◌, subst, arith}
 use Rattle.desk_codes.specs.Number.{number_of}
 use Rattle.desk_rules.specs.declared.entry.Entry.TheVariants.{Run}
 use Rattle.desk_rules.specs.declared.entry.RunRule.{RunRule}
@@ -27,7 +27,7 @@ use Rattle.desk_register.proofs.ViewLemmas.{later_then, stays_then}
 use Rattle.desk_engine.proofs.FinishLemmas.{first_begins}
 use Rattle.desk_engine.proofs.KeepsLemmas.{tables_of}
 use Rattle.desk_engine.proofs.SentLemmas.{sent_none_yet}
-use Rattle.desk_engine.proofs.UnderwayLemmas.{Underway, settles_keeps, starts, can_try, goes_on, ends_none, ends_all, Ran, goes_again, run_over, enough, none_at_all, settled_few, first_over, again_over}
+use Rattle.desk_engine.proofs.UnderwayLemmas.{Underway, settles_keeps, starts, can_try, goes_on, ends_none, ends_all, none_after_all, Ran, goes_again, run_over, enough, none_at_all, settled_few, first_over, again_over}
 
 -- to try a pair changes no entry and no reply
 
@@ -105,6 +105,19 @@ running_ends_all room count v0 v day place tried settled waiting books reference
     let number = length_is v0.content books.history at.underway.passing.history in
     let is = r.entries honest sure in
     ends_all books reference day rule pass start place tried settled waiting v.content at.are_books (r.underway honest sure books reference rule pass start at) (omega arith)
+
+-- a store that shows what it holds has no due pair left then
+pub running_ends_so : (room count : ℕ) (v0 v w : View) (day : List ℕ) (place : Option Place) (tried settled waiting : ℕ) (next : Option Place) → room ≡ v0.room → Running room count v0 v day place tried settled waiting
+    → (v0.is_honest → v0.is_sure → CanPass room day v0.content) → count ≤ tried → IsLater v w → (w.is_honest → v.is_sure → IsDuePairAfter v.content (number_of day) place next) → next ≢ None → w.is_honest → v0.is_sure → ⊥
+running_ends_so room count v0 v w day place tried settled waiting None here r may all later due some honest sure = some refl
+running_ends_so room count v0 v w day place tried settled waiting (Some next) here r may all later due some honest sure =
+    let honest1 = later.honest honest in
+    let can = may (r.later.honest honest1) sure in
+    let at = can.at_pass in
+    let number = length_is v0.content can.books.history at.underway.passing.history in
+    let is = r.entries honest1 sure in
+    none_after_all room can.books can.reference day can.rule can.pass can.settled place tried settled waiting v.content at.are_books at.accepted
+    (r.underway honest1 sure can.books can.reference can.rule can.pass can.settled at) (omega arith) next (due honest (r.stays.sure honest1 sure))
 
 -- Pass by pass.
 
@@ -227,6 +240,25 @@ module _ (room count : ℕ) (v0 v : View) (day : List ℕ) (rule : RunRule) (aga
   pub passing_ends : (books : Books) (reference : List ℕ) → (rule ≡ OnePass) ⊎ (last ≡ 0) → v.is_honest → v0.is_sure → Tables room books v0.content → RanTo books (Run reference day rule) settled waiting (again + 1) v.content
   passing_ends books reference why honest sure tables =
       run_over books reference day rule again settled waiting last v.content tables.are_books (p.ran honest sure books reference tables) why
+
+  -- nor do more pairs settle
+  pub passing_settles_few : (v0.is_honest → v0.is_sure → CanRun room v0.content) → count < settled → v.is_honest → v0.is_sure → ⊥
+  passing_settles_few may many honest sure =
+      let can = may (p.later.honest honest) sure in
+      let ran = p.ran honest sure can.books [] can.tables in
+      let few = settled_few can.books [] day rule again settled waiting last v.content can.tables.are_books ran in
+      let number = length_is v0.content can.books.history can.tables.history in
+      let is = p.entries honest sure in
+      omega arith
+
+  pub passing_ends_none : (v0.is_honest → v0.is_sure → CanRun room v0.content) → count ≤ again → 0 < count → v.is_honest → v0.is_sure → ⊥
+  passing_ends_none may all some honest sure =
+      let can = may (p.later.honest honest) sure in
+      let ran = p.ran honest sure can.books [] can.tables in
+      let number = length_is v0.content can.books.history can.tables.history in
+      let is = p.entries honest sure in
+      let none : again ≡ 0 = none_at_all can.books [] day rule again settled waiting last v.content can.tables.are_books ran (omega arith) in
+      omega arith
 
   -- no more passes are needed than there are entries, and with none there is one pass
   pub passing_ends_all : (books : Books) (reference : List ℕ) → count ≤ again → v.is_honest → v0.is_sure → Tables room books v0.content → RanTo books (Run reference day rule) settled waiting 1 v.content

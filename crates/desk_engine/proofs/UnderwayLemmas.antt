@@ -345,6 +345,19 @@ ends_all books reference day rule pass start place tried count waiting content a
     let left = u.left in
     absurd (omega arith))
 
+-- after as many tries as there are entries no pair is left that is due
+pub none_after_all : (limit : ℕ) (books : Books) (reference day : List ℕ) (rule : RunRule) (pass : ℕ) (start : List Settled) (place : Option Place) (tried count waiting : ℕ) (content : Content) → AreBooks books → WasAccepted limit books.history
+    → Underway books reference day rule pass start place tried count waiting content → length books.history ≤ tried → (next : Place) → IsDuePairAfter content (number_of day) place (Some next) → ⊥
+none_after_all limit books reference day rule pass start place tried count waiting content are was u all next due =
+    let g = books.history ++ Run reference day rule ∷ [] in
+    let n = next_sides limit books reference day rule pass place (start ++ u.here) content are was u.underway next due.0 in
+    let f = next_facts limit books reference day rule pass place (start ++ u.here) content are was u.underway next due n in
+    let p = n.found.waiting.pair in
+    let i = filter-In (is_above g place) books.pairs p (In-from_Contains books.pairs p f.next_is.is_open.paired) f.next_is.is_open.above in
+    let some = member_some (filter (is_above g place) books.pairs) p i in
+    let left = u.left in
+    omega arith
+
 -- A run, pass by pass.
 
 -- The run has made its passes up to one that is over: it was made again so often, so many settled in all of them, and so

@@ -32,7 +32,8 @@ pub record Recovers (fault : Fault) (answer : Failure) (content : Content) (old 
   pub later : IsLater old new
   pub failures : answer ≢ Lost → IfCounted new (new.failures ≡ old.failures)
 
--- The device is blamed where it failed in the step, and nowhere else, unless the register is lost.
+-- The device is blamed where it failed in the step, and nowhere else, unless the register is lost. (A store that did not
+-- show what it holds is given up as one that failed, where it answers what it cannot.)
 pub record BlamesStep {X : Type 0} (result : Result X Failure) (old new : View) : Type 0 where
-  pub storage : result ≡ Err (Undone Storage) → IfCounted new (old.failures < new.failures)
+  pub storage : result ≡ Err (Undone Storage) → old.is_sure → IfCounted new (old.failures < new.failures)
   pub memory : result ≡ Err (Undone Memory) → IfCounted new (new.failures ≡ old.failures)

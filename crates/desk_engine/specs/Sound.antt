@@ -1,6 +1,6 @@
 -- What a settlement officer may rely on of a register that keeps the tables of a history in which each entry was
 -- accepted in its turn and is well formed.
-use Rattle.std.specs.Prelude.{◌≡◌, ℕ, ◌+◌, true, false, List, [], ◌∷◌, ◌++◌, length, sum_by, Contains}
+use Rattle.std.specs.Prelude.{◌≡◌, ℕ, ◌+◌, true, false, List, [], ◌∷◌, ◌++◌, length, sum_by, Contains, Result, Ok, Err}
 use Rattle.desk_codes.specs.declared.currency.Ccy.{Ccy}
 use Rattle.desk_rules.specs.declared.entry.Entry.{Entry}
 use Rattle.desk_rules.specs.declared.entry.Entry.TheVariants.{Run}
@@ -17,6 +17,9 @@ use Rattle.desk_rules.specs.Covered.{is_covered}
 use Rattle.desk_rules.specs.Laws.{AreNonNegative}
 use Rattle.desk_rules.specs.Settlement.{IsUnsettled, is_due, settled_before}
 use Rattle.desk_register.specs.Looked.{held_cash_of, held_of}
+use Rattle.desk_engine.specs.declared.accepting.Failure.{Failure}
+use Rattle.desk_engine.specs.declared.accepting.Failure.TheVariants.{Undone, Lost}
+use Rattle.desk_engine.specs.declared.applied.Accepted.{Accepted}
 
 -- what the sent messages confirm is what became of each account and of each participant's cash, beside what the operator
 -- books
@@ -52,3 +55,10 @@ pub record IsSound (books : Books) (content : Content) : Type 0 where
   -- after a run in passes no pair that is due in it, and not settled by then, is covered
   pub nothing_left : (front : List Entry) (reference day : List ℕ) (p : Pair) → books.history ≡ front ++ Run reference day Passes ∷ [] → Contains books.pairs p
       → is_due books.history (length books.history) p ≡ true → IsUnsettled books.settled p → is_covered books.history books.settled p ≡ false
+
+-- What a step leaves is sound: after an accepted entry of the longer history, and of the history as it was after a failure
+-- of which nothing is left. Of a register that is lost nothing is said.
+abbrev pub LeavesSound : Books → Entry → Result Accepted Failure → Content → Type 0
+LeavesSound books entry (Ok accepted) content = (after : Books) × (after.history ≡ books.history ++ entry ∷ []) × IsSound after content
+LeavesSound books entry (Err (Undone fault)) content = IsSound books content
+LeavesSound books entry (Err Lost) content = Unit {0}

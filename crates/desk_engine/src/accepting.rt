@@ -1,10 +1,12 @@
 //! The one step by which an accepted entry is taken in: begun, applied, and committed or taken back.
 ghost use Rattle.std.specs.Prelude.{◌≡◌, ◌≢◌, true, IfErr, IfOk, OnErr, OnOk};
 ghost use Rattle.desk_rules.specs.Books.{Books};
-ghost use Rattle.desk_register.specs.View.{Blames, IfTrusted, IsLater};
+ghost use Rattle.desk_rules.specs.WellFormed.{AreWellFormed, IsWellFormed};
+ghost use Rattle.desk_register.specs.View.{IfTrusted, IsLater};
 ghost use Rattle.desk_engine.specs.Accepting.{BlamesStep, IsDone, IsLeft, Recovers};
 ghost use Rattle.desk_engine.specs.Applied.{CanApply, HasApplied, Keeps};
-ghost use Rattle.desk_engine.specs.Steps.{Breaks};
+ghost use Rattle.desk_engine.specs.Sound.{LeavesSound};
+ghost use Rattle.desk_engine.specs.Steps.{BlamesSteps, Breaks};
 
 use crate::applied::Accepted;
 use crate::applying::apply;
@@ -55,7 +57,7 @@ fn put<R: Register>(alloc: Global, register: &mut R, entry: Entry) -> Result<Acc
     ensures ok { OnOk result (IsDone (R.view register.old) (R.view register.new)) }
     ensures err { OnErr result (Breaks (R.view register.old) (R.view register.new)) }
     ensures later { IsLater (R.view register.old) (R.view register.new) }
-    ensures blame { Blames result (R.view register.old) (R.view register.new) }
+    ensures blame { BlamesSteps result (R.view register.old) (R.view register.new) }
 {
     let accepted = apply(alloc, register, entry)?;
     register.commit(alloc)?;
@@ -63,7 +65,8 @@ fn put<R: Register>(alloc: Global, register: &mut R, entry: Entry) -> Result<Acc
 }
 
 /// Takes an entry that `decide` accepts into the tables, with all that follows from it, within a `begin` of its own, and
-/// keeps it. Answers how it fared, with its reply, as it is kept with it.
+/// keeps it. Answers how it fared, with its reply, as it is kept with it. What the register keeps then is sound, and stays
+/// so after a failure of which nothing is left.
 pub fn accept<R: Register>(
     alloc: Global,
     register: &mut R,
@@ -73,6 +76,8 @@ pub fn accept<R: Register>(
     requires accepted { IfTrusted (R.view register.old) (R.view register.old) (CanApply (R.view register.old).room entry (R.view register.old).content) }
     ensures accepted { (books : Books) → IfTrusted (R.view register.old) (R.view register.new) (Keeps (R.view register.old).room books (R.view register.old).content
         → IfOk result (λ accepted. HasApplied (R.view register.old).room books entry accepted (R.view register.new).content)) }
+    ensures sound { (books : Books) → IfTrusted (R.view register.old) (R.view register.new) (Keeps (R.view register.old).room books (R.view register.old).content
+        → AreWellFormed books.history → IsWellFormed entry → LeavesSound books entry result (R.view register.new).content) }
     ensures ok { OnOk result (IsDone (R.view register.old) (R.view register.new)) }
     ensures err { IfErr result (λ failure. IsLeft failure (R.view register.old).content (R.view register.new)) }
     ensures later { IsLater (R.view register.old) (R.view register.new) }

@@ -4,7 +4,7 @@ ghost use Rattle.desk_codes.specs.Number.{number_of};
 ghost use Rattle.desk_register.specs.Looked.{IsPaid};
 ghost use Rattle.desk_register.specs.View.{IsRead};
 ghost use Rattle.desk_rules.specs.Balances.{paid_in, paid_out};
-ghost use Rattle.desk_engine.specs.Deciding.{checks_in, first_refusal, is_cancelled_state, is_settled_state};
+ghost use Rattle.desk_register.specs.Checked.{checks_in, first_refusal, is_cancelled_state, is_settled_state};
 ghost use Rattle.desk_engine.specs.Decision.{Reading};
 ghost use Rattle.desk_msg.specs.Depository.{desk_bic};
 ghost use Rattle.desk_rules.specs.Content.{history_of};

@@ -2,7 +2,8 @@
 ghost use Rattle.std.specs.Prelude.{◌≡◌, ◌↔◌, nat_le, length, option_map, IfOk, IsTrue, Some};
 ghost use Rattle.desk_register.specs.View.{IsRead};
 ghost use Rattle.desk_rules.specs.History.{as_asked, sender_of};
-ghost use Rattle.desk_engine.specs.Deciding.{IsVerdictIfKnown, checks_in};
+ghost use Rattle.desk_engine.specs.Deciding.{IsVerdictIfKnown};
+ghost use Rattle.desk_register.specs.Checked.{checks_in};
 ghost use Rattle.desk_engine.specs.Decision.{Reading};
 ghost use Rattle.desk_rules.specs.Books.{Books};
 ghost use Rattle.desk_rules.specs.Content.{history_of};
@@ -15,7 +16,7 @@ use desk_rules::{Entry, Refusal, Sender, Verdict, same_entry};
 use std::alloc::Global;
 
 /// Whether an entry is a message of a sender that is no participant.
-fn is_from_stranger<R: Register>(
+pub fn is_from_stranger<R: Register>(
     alloc: Global,
     register: &mut R,
     entry: &Entry,

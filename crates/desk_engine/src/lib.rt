@@ -22,6 +22,8 @@ mod settlement_run;
 
 pub use accepting::{Failure, accept, recover};
 pub use applied::{Accepted, Applied};
-pub use decision::decide;
+pub use checks::refuse;
+pub use decision::{decide, is_from_stranger};
 pub use laws::{empty_keeps, positions_add_up, sound};
+pub use naming::instruction_named;
 pub use replies::refused_reply;

@@ -30,7 +30,8 @@ fn of_type(number: u64, found: &Option<Entry>, mt: Mt) -> Option<u64>
     }
 }
 
-/// The number of the instruction that a participant's cancellation names; None where it names none.
+/// The number of the instruction that a participant's cancellation names: its own, of the cancellation's type, under the
+/// reference that the cancellation gives (20C PREV). None where it names none.
 pub fn instruction_named<R: Register>(
     alloc: Global,
     register: &mut R,

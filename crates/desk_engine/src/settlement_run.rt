@@ -14,7 +14,7 @@ ghost use Rattle.desk_rules.specs.Books.{Books};
 
 use crate::sending::confirm_settlement;
 use desk_codes::{Day, Reference};
-use desk_register::{Fault, Outcome, Register, Stage};
+use desk_register::{Fault, Outcome, Register, Stage, is_past};
 use desk_rules::{Entry, Place, Reply, RunRule};
 use std::alloc::Global;
 
@@ -45,7 +45,8 @@ fn try_pair<R: Register>(
     Ok(outcome)
 }
 
-/// Tries the first due pair above a place; None where there is none.
+/// Tries the first due pair above a place; None where there is none. A store that answers one which is not above the place
+/// does not show what it holds: it is given up as one that failed.
 fn take_next<R: Register>(
     alloc: Global,
     register: &mut R,
@@ -61,6 +62,9 @@ fn take_next<R: Register>(
     match register.due_pair_after(alloc, day, place)? {
         None => Ok(None),
         Some(next) => {
+            if !is_past(&place, &next) {
+                return Err(Fault::Storage);
+            }
             let outcome = try_pair(alloc, register, next.number, day)?;
             Ok(Some(Taken {
                 place: next,
@@ -134,7 +138,8 @@ pub struct Ran {
     pub passes: u64,
 }
 
-/// Tries each due pair once, in order of settlement day and number, and settles those that are covered.
+/// Tries each due pair once, in order of settlement day and number, and settles those that are covered. A store that
+/// answers more pairs than it has entries is given up as one that failed.
 fn run_pass<R: Register>(alloc: Global, register: &mut R, day: Day) -> Result<Passed, Fault>
     requires stage { (R.view register.old).stage ≡ Stage.Begun }
     requires fits { IfTrusted (R.view register.old) (R.view register.old) (CanPass (R.view register.old).room day (R.view register.old).content) }
@@ -159,7 +164,11 @@ fn run_pass<R: Register>(alloc: Global, register: &mut R, day: Day) -> Result<Pa
             }
         }
     }
-    Ok(passed)
+    // there are fewer pairs than entries
+    match register.due_pair_after(alloc, day, place)? {
+        None => Ok(passed),
+        Some(_) => Err(Fault::Storage),
+    }
 }
 
 /// Whether a run goes over the due pairs again after a pass that settled so many.
@@ -172,7 +181,8 @@ fn makes_another(rule: RunRule, settled: u64) -> bool
     }
 }
 
-/// Makes the passes of a run: one, or where the rule allows it passes until one settles nothing.
+/// Makes the passes of a run: one, or where the rule allows it passes until one settles nothing. A store that settles more
+/// pairs than it has entries is given up as one that failed.
 pub fn run_passes<R: Register>(
     alloc: Global,
     register: &mut R,
@@ -196,8 +206,14 @@ pub fn run_passes<R: Register>(
         let further = run_pass(alloc, register, day)?;
         last = further.settled;
         passed = passed.with(further);
+        if count < passed.settled {
+            return Err(Fault::Storage);
+        }
     }
     // each pass but the last settles a pair, so only a run over no entries comes here
+    if 0 < count {
+        return Err(Fault::Storage);
+    }
     Ok(passed.in_all(1))
 }
 

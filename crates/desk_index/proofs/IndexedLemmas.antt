@@ -35,7 +35,6 @@ use Rattle.desk_index.specs.Indexed.{HoldsOn, IsIndexed}
 use Rattle.desk_index.specs.Known.{AreKnown}
 use Rattle.desk_lists.specs.ListView.{view_of_lists}
 use Rattle.desk_index.specs.Open.{HasOpen, HoldsOpen, OpensAt, key_of, match_cmp}
-use Rattle.desk_register.proofs.ViewLemmas.{blames_none}
 use Rattle.desk_register.specs.View.{View, Begins, Stays, Falls, IsRead, fallen}
 
 -- with no `begin` open, `back` would go back to what is held
@@ -144,16 +143,6 @@ module _ (known : Known) (numbers : BTreeSet (MatchKey × ℕ)) (places : BTreeS
 -- what is known is of what is held, where no call has failed
 pub now_known : (known : Known) (numbers : BTreeSet (MatchKey × ℕ)) (places : BTreeSet (ℕ × ℕ)) (noted : List Entry) (view : View) → view.stage ≢ Failed → IsIndexed view known numbers places noted → AreKnown known (history_of view.content)
 now_known known numbers places noted view up indexed = subst (AreKnown known) (sym (indexed.grown up)) indexed.keyed
-
--- a call that only read
-pub still_read : {X : Type 0} (x : X) (view : View) → IsRead {X = X} (Ok x) view view
-still_read x view = record {
-  same = λ honest sure. refl;
-  ok = record { stage = refl; sure = λ honest sure. sure; mark = λ honest sure. refl; failures = λ honest few. refl };
-  err = tt;
-  later = record { honest = λ honest. honest; sure = λ honest sure. sure; failures = omega arith; room = refl };
-  blame = blames_none x view view;
-}
 
 -- a reading call keeps the look-ups
 pub read_keeps : {T : Type 0} (r : Result T Fault) (known : Known) (numbers : BTreeSet (MatchKey × ℕ)) (places : BTreeSet (ℕ × ℕ)) (noted : List Entry) (old new : ListRegister)

@@ -79,14 +79,6 @@ pub on_err : {X E : Type 0} {P Q : Type 0} (r : Result X E) → (P → Q) → On
 on_err (Ok x) step p = p
 on_err (Err e) step p = step p
 
-pub on_ok_both : {X E : Type 0} {P Q R : Type 0} (r : Result X E) → (P → Q → R) → OnOk r P → OnOk r Q → OnOk r R
-on_ok_both (Ok x) step p q = step p q
-on_ok_both (Err e) step p q = p
-
-pub on_err_both : {X E : Type 0} {P Q R : Type 0} (r : Result X E) → (P → Q → R) → OnErr r P → OnErr r Q → OnErr r R
-on_err_both (Ok x) step p q = p
-on_err_both (Err e) step p q = step p q
-
 pub even_err : {X E : Type 0} {P : Type 0} (r : Result X E) → P → OnErr r P
 even_err (Ok x) p = tt
 even_err (Err e) p = p

@@ -16,7 +16,7 @@ use Rattle.desk_rules.specs.declared.entry.Entry.{Entry}
 use Rattle.desk_rules.specs.declared.entry.Entry.TheVariants.{Participant, Account, Security, Issue, Redeem, PayIn, PayOut, Instruct, Cancel, Run}
 use Rattle.desk_rules.specs.declared.entry.Payment.{Payment}
 use Rattle.desk_rules.specs.declared.entry.RunRule.{RunRule}
-use Rattle.desk_rules.specs.Facts.{account_by, accounts_of, adds_participant, participant_by, participants_of}
+use Rattle.desk_rules.specs.Facts.{adds_participant}
 use Rattle.desk_rules.specs.History.{run_day}
 use Rattle.desk_register.specs.Looked.{pays_in}
 use Rattle.desk_index.specs.declared.registered.Registered.{Registered}
@@ -96,8 +96,6 @@ pub record RegistersNothing (e : Entry) : Type 0 where
   pub adds_account : (q : List ℕ) → adds_account q e ≡ false
   pub adds_security : (q : List ℕ) → adds_security q e ≡ false
   pub pays_in : (q : Ccy) → pays_in q e ≡ false
-  pub participant_by : participant_by e ≡ None
-  pub account_by : account_by e ≡ None
   pub run_day : run_day e ≡ None
 
 pub nothing_else : (e : Entry) → ((r b : List ℕ) → e ≡ Participant r b → ⊥) → ((r b a : List ℕ) → e ≡ Account r b a → ⊥) → ((r i : List ℕ) (k : Kind) → e ≡ Security r i k → ⊥)
@@ -107,56 +105,48 @@ nothing_else (Account r b acc) p a s c d = absurd (a r b acc refl)
 nothing_else (Security r i k) p a s c d = absurd (s r i k refl)
 nothing_else (PayIn payment) p a s c d = absurd (c payment refl)
 nothing_else (Run r day rule) p a s c d = absurd (d r day rule refl)
-nothing_else (Issue m) p a s c d = record { adds_participant = λ q. refl; adds_account = λ q. refl; adds_security = λ q. refl; pays_in = λ q. refl; participant_by = refl; account_by = refl; run_day = refl }
-nothing_else (Redeem m) p a s c d = record { adds_participant = λ q. refl; adds_account = λ q. refl; adds_security = λ q. refl; pays_in = λ q. refl; participant_by = refl; account_by = refl; run_day = refl }
-nothing_else (PayOut m) p a s c d = record { adds_participant = λ q. refl; adds_account = λ q. refl; adds_security = λ q. refl; pays_in = λ q. refl; participant_by = refl; account_by = refl; run_day = refl }
-nothing_else (Instruct m i) p a s c d = record { adds_participant = λ q. refl; adds_account = λ q. refl; adds_security = λ q. refl; pays_in = λ q. refl; participant_by = refl; account_by = refl; run_day = refl }
-nothing_else (Cancel m o) p a s c d = record { adds_participant = λ q. refl; adds_account = λ q. refl; adds_security = λ q. refl; pays_in = λ q. refl; participant_by = refl; account_by = refl; run_day = refl }
+nothing_else (Issue m) p a s c d = record { adds_participant = λ q. refl; adds_account = λ q. refl; adds_security = λ q. refl; pays_in = λ q. refl; run_day = refl }
+nothing_else (Redeem m) p a s c d = record { adds_participant = λ q. refl; adds_account = λ q. refl; adds_security = λ q. refl; pays_in = λ q. refl; run_day = refl }
+nothing_else (PayOut m) p a s c d = record { adds_participant = λ q. refl; adds_account = λ q. refl; adds_security = λ q. refl; pays_in = λ q. refl; run_day = refl }
+nothing_else (Instruct m i) p a s c d = record { adds_participant = λ q. refl; adds_account = λ q. refl; adds_security = λ q. refl; pays_in = λ q. refl; run_day = refl }
+nothing_else (Cancel m o) p a s c d = record { adds_participant = λ q. refl; adds_account = λ q. refl; adds_security = λ q. refl; pays_in = λ q. refl; run_day = refl }
 
 module _ (old : Registered) (history : List Entry) (e : Entry) (n : ℕ) (is : n ≡ length history + 1) where
-  module _ (reference bic : List ℕ) (here : e ≡ Participant reference bic) (tree : BTreeMap (List ℕ) ℕ) (each : Vec (List ℕ) Global) where
-    pub noted_participant : AreRegistered old history → ((q : List ℕ) → get text_cmp tree q ≡ or_number (get text_cmp old.participants q) (number_if (is_eq (text_cmp bic q)) n)) → each.items ≡ old.each_participant.items ++ bic ∷ [] → AreRegistered (record old { participants = tree; each_participant = each }) (history ++ e ∷ [])
-    noted_participant are put more = record {
+  module _ (reference bic : List ℕ) (here : e ≡ Participant reference bic) (tree : BTreeMap (List ℕ) ℕ) where
+    pub noted_participant : AreRegistered old history → ((q : List ℕ) → get text_cmp tree q ≡ or_number (get text_cmp old.participants q) (number_if (is_eq (text_cmp bic q)) n)) → AreRegistered (record old { participants = tree }) (history ++ e ∷ [])
+    noted_participant are put = record {
       participants = first_noted text_cmp adds_participant old.participants history e n is tree bic (λ q. rw here (sym (is_eq-slice_cmp bic q))) put are.participants;
       accounts = first_kept text_cmp adds_account old.accounts history e n is (λ q. rw here refl) are.accounts;
       securities = first_kept text_cmp adds_security old.securities history e n is (λ q. rw here refl) are.securities;
       currencies = first_kept ccy_cmp pays_in old.currencies history e n is (λ q. rw here refl) are.currencies;
-      each_participant = more ∙ ap (λ z. z ++ bic ∷ []) are.each_participant ∙ sym (said_more participant_by history e bic (rw here refl));
-      each_account = are.each_account ∙ said_same account_by history e (rw here refl);
       runs = are.runs ∙ said_same run_day history e (rw here refl);
     }
 
-    pub forgot_participant : AreRegistered old (history ++ e ∷ []) → ((q : List ℕ) → get text_cmp tree q ≡ (if is_eq (text_cmp bic q) then without n (get text_cmp old.participants q) else get text_cmp old.participants q)) → ((keys : List (List ℕ)) → old.each_participant.items ≡ keys ++ bic ∷ [] → each.items ≡ keys) → AreRegistered (record old { participants = tree; each_participant = each }) history
-    forgot_participant are took less = record {
+    pub forgot_participant : AreRegistered old (history ++ e ∷ []) → ((q : List ℕ) → get text_cmp tree q ≡ (if is_eq (text_cmp bic q) then without n (get text_cmp old.participants q) else get text_cmp old.participants q)) → AreRegistered (record old { participants = tree }) history
+    forgot_participant are took = record {
       participants = first_forgotten text_cmp adds_participant old.participants history e n is tree bic (λ q. rw here (sym (is_eq-slice_cmp bic q))) took are.participants;
       accounts = first_stays text_cmp adds_account old.accounts history e n is (λ q. rw here refl) are.accounts;
       securities = first_stays text_cmp adds_security old.securities history e n is (λ q. rw here refl) are.securities;
       currencies = first_stays ccy_cmp pays_in old.currencies history e n is (λ q. rw here refl) are.currencies;
-      each_participant = less (participants_of history) (are.each_participant ∙ said_more participant_by history e bic (rw here refl));
-      each_account = are.each_account ∙ sym (said_same account_by history e (rw here refl));
       runs = are.runs ∙ sym (said_same run_day history e (rw here refl));
     }
 
-  module _ (reference bic account : List ℕ) (here : e ≡ Account reference bic account) (tree : BTreeMap (List ℕ) ℕ) (each : Vec (List ℕ) Global) where
-    pub noted_account : AreRegistered old history → ((q : List ℕ) → get text_cmp tree q ≡ or_number (get text_cmp old.accounts q) (number_if (is_eq (text_cmp account q)) n)) → each.items ≡ old.each_account.items ++ account ∷ [] → AreRegistered (record old { accounts = tree; each_account = each }) (history ++ e ∷ [])
-    noted_account are put more = record {
+  module _ (reference bic account : List ℕ) (here : e ≡ Account reference bic account) (tree : BTreeMap (List ℕ) ℕ) where
+    pub noted_account : AreRegistered old history → ((q : List ℕ) → get text_cmp tree q ≡ or_number (get text_cmp old.accounts q) (number_if (is_eq (text_cmp account q)) n)) → AreRegistered (record old { accounts = tree }) (history ++ e ∷ [])
+    noted_account are put = record {
       participants = first_kept text_cmp adds_participant old.participants history e n is (λ q. rw here refl) are.participants;
       accounts = first_noted text_cmp adds_account old.accounts history e n is tree account (λ q. rw here (sym (is_eq-slice_cmp account q))) put are.accounts;
       securities = first_kept text_cmp adds_security old.securities history e n is (λ q. rw here refl) are.securities;
       currencies = first_kept ccy_cmp pays_in old.currencies history e n is (λ q. rw here refl) are.currencies;
-      each_participant = are.each_participant ∙ said_same participant_by history e (rw here refl);
-      each_account = more ∙ ap (λ z. z ++ account ∷ []) are.each_account ∙ sym (said_more account_by history e account (rw here refl));
       runs = are.runs ∙ said_same run_day history e (rw here refl);
     }
 
-    pub forgot_account : AreRegistered old (history ++ e ∷ []) → ((q : List ℕ) → get text_cmp tree q ≡ (if is_eq (text_cmp account q) then without n (get text_cmp old.accounts q) else get text_cmp old.accounts q)) → ((keys : List (List ℕ)) → old.each_account.items ≡ keys ++ account ∷ [] → each.items ≡ keys) → AreRegistered (record old { accounts = tree; each_account = each }) history
-    forgot_account are took less = record {
+    pub forgot_account : AreRegistered old (history ++ e ∷ []) → ((q : List ℕ) → get text_cmp tree q ≡ (if is_eq (text_cmp account q) then without n (get text_cmp old.accounts q) else get text_cmp old.accounts q)) → AreRegistered (record old { accounts = tree }) history
+    forgot_account are took = record {
       participants = first_stays text_cmp adds_participant old.participants history e n is (λ q. rw here refl) are.participants;
       accounts = first_forgotten text_cmp adds_account old.accounts history e n is tree account (λ q. rw here (sym (is_eq-slice_cmp account q))) took are.accounts;
       securities = first_stays text_cmp adds_security old.securities history e n is (λ q. rw here refl) are.securities;
       currencies = first_stays ccy_cmp pays_in old.currencies history e n is (λ q. rw here refl) are.currencies;
-      each_participant = are.each_participant ∙ sym (said_same participant_by history e (rw here refl));
-      each_account = less (accounts_of history) (are.each_account ∙ said_more account_by history e account (rw here refl));
       runs = are.runs ∙ sym (said_same run_day history e (rw here refl));
     }
 
@@ -167,8 +157,6 @@ module _ (old : Registered) (history : List Entry) (e : Entry) (n : ℕ) (is : n
       accounts = first_kept text_cmp adds_account old.accounts history e n is (λ q. rw here refl) are.accounts;
       securities = first_noted text_cmp adds_security old.securities history e n is tree isin (λ q. rw here (sym (is_eq-slice_cmp isin q))) put are.securities;
       currencies = first_kept ccy_cmp pays_in old.currencies history e n is (λ q. rw here refl) are.currencies;
-      each_participant = are.each_participant ∙ said_same participant_by history e (rw here refl);
-      each_account = are.each_account ∙ said_same account_by history e (rw here refl);
       runs = are.runs ∙ said_same run_day history e (rw here refl);
     }
 
@@ -178,8 +166,6 @@ module _ (old : Registered) (history : List Entry) (e : Entry) (n : ℕ) (is : n
       accounts = first_stays text_cmp adds_account old.accounts history e n is (λ q. rw here refl) are.accounts;
       securities = first_forgotten text_cmp adds_security old.securities history e n is tree isin (λ q. rw here (sym (is_eq-slice_cmp isin q))) took are.securities;
       currencies = first_stays ccy_cmp pays_in old.currencies history e n is (λ q. rw here refl) are.currencies;
-      each_participant = are.each_participant ∙ sym (said_same participant_by history e (rw here refl));
-      each_account = are.each_account ∙ sym (said_same account_by history e (rw here refl));
       runs = are.runs ∙ sym (said_same run_day history e (rw here refl));
     }
 
@@ -190,8 +176,6 @@ module _ (old : Registered) (history : List Entry) (e : Entry) (n : ℕ) (is : n
       accounts = first_kept text_cmp adds_account old.accounts history e n is (λ q. rw here refl) are.accounts;
       securities = first_kept text_cmp adds_security old.securities history e n is (λ q. rw here refl) are.securities;
       currencies = first_noted ccy_cmp pays_in old.currencies history e n is tree payment.ccy (λ q. rw here (ccy_test payment.ccy q)) put are.currencies;
-      each_participant = are.each_participant ∙ said_same participant_by history e (rw here refl);
-      each_account = are.each_account ∙ said_same account_by history e (rw here refl);
       runs = are.runs ∙ said_same run_day history e (rw here refl);
     }
 
@@ -201,8 +185,6 @@ module _ (old : Registered) (history : List Entry) (e : Entry) (n : ℕ) (is : n
       accounts = first_stays text_cmp adds_account old.accounts history e n is (λ q. rw here refl) are.accounts;
       securities = first_stays text_cmp adds_security old.securities history e n is (λ q. rw here refl) are.securities;
       currencies = first_forgotten ccy_cmp pays_in old.currencies history e n is tree payment.ccy (λ q. rw here (ccy_test payment.ccy q)) took are.currencies;
-      each_participant = are.each_participant ∙ sym (said_same participant_by history e (rw here refl));
-      each_account = are.each_account ∙ sym (said_same account_by history e (rw here refl));
       runs = are.runs ∙ sym (said_same run_day history e (rw here refl));
     }
 
@@ -213,8 +195,6 @@ module _ (old : Registered) (history : List Entry) (e : Entry) (n : ℕ) (is : n
       accounts = first_kept text_cmp adds_account old.accounts history e n is (λ q. rw here refl) are.accounts;
       securities = first_kept text_cmp adds_security old.securities history e n is (λ q. rw here refl) are.securities;
       currencies = first_kept ccy_cmp pays_in old.currencies history e n is (λ q. rw here refl) are.currencies;
-      each_participant = are.each_participant ∙ said_same participant_by history e (rw here refl);
-      each_account = are.each_account ∙ said_same account_by history e (rw here refl);
       runs = ap (map number_of) more ∙ map-append number_of old.runs.items (day ∷ []) ∙ ap (λ z. z ++ number_of day ∷ []) are.runs ∙ sym (said_more run_day history e (number_of day) (rw here refl));
     }
 
@@ -224,8 +204,6 @@ module _ (old : Registered) (history : List Entry) (e : Entry) (n : ℕ) (is : n
       accounts = first_stays text_cmp adds_account old.accounts history e n is (λ q. rw here refl) are.accounts;
       securities = first_stays text_cmp adds_security old.securities history e n is (λ q. rw here refl) are.securities;
       currencies = first_stays ccy_cmp pays_in old.currencies history e n is (λ q. rw here refl) are.currencies;
-      each_participant = are.each_participant ∙ sym (said_same participant_by history e (rw here refl));
-      each_account = are.each_account ∙ sym (said_same account_by history e (rw here refl));
       runs = less (filter_map run_day history) (number_of day) (are.runs ∙ said_more run_day history e (number_of day) (rw here refl));
     }
 
@@ -236,8 +214,6 @@ module _ (old : Registered) (history : List Entry) (e : Entry) (n : ℕ) (is : n
       accounts = first_kept text_cmp adds_account old.accounts history e n is (none.adds_account) are.accounts;
       securities = first_kept text_cmp adds_security old.securities history e n is (none.adds_security) are.securities;
       currencies = first_kept ccy_cmp pays_in old.currencies history e n is (none.pays_in) are.currencies;
-      each_participant = are.each_participant ∙ said_same participant_by history e (none.participant_by);
-      each_account = are.each_account ∙ said_same account_by history e (none.account_by);
       runs = are.runs ∙ said_same run_day history e (none.run_day);
     }
 
@@ -247,7 +223,5 @@ module _ (old : Registered) (history : List Entry) (e : Entry) (n : ℕ) (is : n
       accounts = first_stays text_cmp adds_account old.accounts history e n is (none.adds_account) are.accounts;
       securities = first_stays text_cmp adds_security old.securities history e n is (none.adds_security) are.securities;
       currencies = first_stays ccy_cmp pays_in old.currencies history e n is (none.pays_in) are.currencies;
-      each_participant = are.each_participant ∙ sym (said_same participant_by history e (none.participant_by));
-      each_account = are.each_account ∙ sym (said_same account_by history e (none.account_by));
       runs = are.runs ∙ sym (said_same run_day history e (none.run_day));
     }

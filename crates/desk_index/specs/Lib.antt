@@ -12,3 +12,4 @@ pub mod Messages
 pub mod NumbersByKey
 pub mod Open
 pub mod Registered
+pub mod Touched

@@ -7,7 +7,7 @@ use Rattle.desk_codes.specs.contracts.currency.CcyOrd.TheImpl as ccy_ord
 use Rattle.desk_codes.specs.Number.{number_of}
 use Rattle.desk_rules.specs.declared.entry.Entry.{Entry}
 use Rattle.desk_rules.specs.declared.entry.Entry.TheVariants.{Account, Security}
-use Rattle.desk_rules.specs.Facts.{accounts_of, adds_participant, participants_of}
+use Rattle.desk_rules.specs.Facts.{adds_participant}
 use Rattle.desk_rules.specs.History.{run_day}
 use Rattle.desk_register.specs.Looked.{pays_in}
 use Rattle.desk_index.specs.FirstNumbers.{first_number}
@@ -27,12 +27,10 @@ adds_security isin entry = false
 abbrev pub ccy_cmp : Ccy → Ccy → Ordering
 ccy_cmp = (ccy_ord.ghosts).cmp
 
--- each is found by the number of the first entry that registers it, or pays it in, and is listed as often as the entries say it
+-- each is found by the number of the first entry that registers it, or pays it in, and the runs are those of the entries
 pub record AreRegistered (r : Registered) (history : List Entry) : Type 0 where
   pub participants : (bic : List ℕ) → get text_cmp r.participants bic ≡ first_number (adds_participant bic) history
   pub accounts : (account : List ℕ) → get text_cmp r.accounts account ≡ first_number (adds_account account) history
   pub securities : (isin : List ℕ) → get text_cmp r.securities isin ≡ first_number (adds_security isin) history
   pub currencies : (ccy : Ccy) → get ccy_cmp r.currencies ccy ≡ first_number (pays_in ccy) history
-  pub each_participant : r.each_participant.items ≡ participants_of history
-  pub each_account : r.each_account.items ≡ accounts_of history
   pub runs : map number_of r.runs.items ≡ filter_map run_day history

@@ -9,9 +9,8 @@ use crate::heading::heading_of;
 use crate::indexed_register::IndexedRegister;
 use crate::known::Known;
 use crate::messages::Messages;
-use crate::noting::{note_entry, note_message, note_pair, touch_both};
+use crate::noting::{note_entry, note_message, note_pair, touch_both, untouch_waiting};
 use crate::opposites::first_open_opposite;
-use crate::sums::{cash_of_all, held_on};
 use crate::tidying::{forget_all, forget_messages, tidy_all, tidy_new};
 use desk_codes::{AccountId, Bic, Ccy, Day, Isin, Reference};
 use desk_lists::ListRegister;
@@ -194,19 +193,11 @@ impl Register for IndexedRegister {
     }
 
     fn held(&mut self, _alloc: Global, isin: Isin) -> Result<u64, Fault> {
-        if let Stage::Failed = self.held.stage() {
-            return Ok(0);
-        }
-        let accounts = &self.known.registered.each_account;
-        Ok(held_on(&self.held, accounts, isin))
+        Ok(self.held.total_held(isin))
     }
 
     fn held_cash(&mut self, _alloc: Global, ccy: Ccy) -> Result<u64, Fault> {
-        if let Stage::Failed = self.held.stage() {
-            return Ok(0);
-        }
-        let participants = &self.known.registered.each_participant;
-        Ok(cash_of_all(&self.held, participants, ccy))
+        Ok(self.held.total_paid(ccy))
     }
 
     fn append(&mut self, _alloc: Global, entry: Entry, reply: Reply) -> Result<(), Fault> {
@@ -279,6 +270,7 @@ impl Register for IndexedRegister {
                     mate,
                     number,
                 );
+                untouch_waiting(&mut self.touched, outcome);
                 Ok(outcome)
             }
             Err(fault) => Err(fault),

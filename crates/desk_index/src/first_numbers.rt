@@ -1,5 +1,5 @@
 //! The number of the first entry that has each key.
-ghost use Rattle.std.specs.Prelude.{◌≡◌, ◌++◌, ◌∷◌, [], if◌then◌else◌, is_some, true, IfSome, IfNone, OnOk, OnErr, List};
+ghost use Rattle.std.specs.Prelude.{◌≡◌, if◌then◌else◌, is_some, true, IfSome, IfNone, OnOk, OnErr};
 ghost use Rattle.std.specs.BTreeMap.{get};
 ghost use Rattle.std.specs.BTreeMap.Range.{IsLeBy};
 ghost use Rattle.std.specs.Ordering.{is_eq};
@@ -31,33 +31,6 @@ pub fn take_number<K: Ord + Copy>(numbers: &mut BTreeMap<K, u64>, key: K, number
     if numbers.get(&key).copied() == Some(number) {
         let _ = numbers.remove(&key);
     }
-}
-
-/// Puts a number at a key that has none, and the key behind all others.
-pub fn name_first<K: Ord + Copy>(
-    numbers: &mut BTreeMap<K, u64>,
-    each: &mut Vec<K>,
-    key: K,
-    number: u64,
-) -> Result<(), AllocError>
-    ensures put { OnOk result ((q : K) → get K.cmp numbers.new q ≡ or_number (get K.cmp numbers.old q) (number_if (is_eq (K.cmp key q)) number)) }
-    ensures more { OnOk result (each.new.items ≡ each.old.items ++ key ∷ []) }
-    ensures err { OnErr result ((q : K) → get K.cmp numbers.new q ≡ get K.cmp numbers.old q) }
-    ensures err_each { OnErr result (each.new.items ≡ each.old.items) }
-{
-    each.reserve(1)?;
-    put_first(numbers, key, number)?;
-    each.push(key).unwrap();
-    Ok(())
-}
-
-/// Takes a key's number away, where it is this one, and the last key.
-pub fn unname<K: Ord + Copy>(numbers: &mut BTreeMap<K, u64>, each: &mut Vec<K>, key: K, number: u64)
-    ensures taken { (q : K) → get K.cmp numbers.new q ≡ (if is_eq (K.cmp key q) then without number (get K.cmp numbers.old q) else get K.cmp numbers.old q) }
-    ensures less { (keys : List K) → each.old.items ≡ keys ++ key ∷ [] → each.new.items ≡ keys }
-{
-    take_number(numbers, key, number);
-    let _ = each.pop();
 }
 
 /// The least key above one, or above none.

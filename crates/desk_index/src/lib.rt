@@ -6,7 +6,7 @@
 //! securities, currencies and runs. `opposites` finds unmatched instructions by what opposite ones have in common
 //! (`match_key`), and `due_places` matched pairs by their days. `messages` finds what was sent, by
 //! the headings of the messages (`heading`): `addressed` what was sent to a participant, and `confirmations` what
-//! confirms an instruction. `sums` adds up what accounts and participants hold. `noting` puts into the
+//! confirms an instruction. `noting` puts into the
 //! look-ups what a call adds, `tidying` takes out what a call or `back` ends. `first_numbers`, `counts`,
 //! `numbers_by_key` and `ordered` have the maps and sets beneath. Begin with specs/Indexed.antt, then `calls.rt`.
 #![tactic(auto)]
@@ -28,7 +28,6 @@ mod numbers_by_key;
 mod opposites;
 mod ordered;
 mod registered;
-mod sums;
 mod tidying;
 
 pub use indexed_register::IndexedRegister;

@@ -10,6 +10,7 @@ ghost use Rattle.desk_index.specs.DuePlaces.{HoldsDue, PlacedAt, place_cmp};
 ghost use Rattle.desk_index.specs.Known.{AreKnown};
 ghost use Rattle.desk_index.specs.Messages.{AreMessagesOf};
 ghost use Rattle.desk_index.specs.Open.{HoldsOpen, OpensAt};
+ghost use Rattle.desk_index.specs.Touched.{still_touched};
 
 use crate::heading::Heading;
 use crate::known::Known;
@@ -17,6 +18,7 @@ use crate::match_key::{MatchKey, key_of};
 use crate::messages::Messages;
 use crate::ordered::put_key;
 use desk_lists::ListRegister;
+use desk_register::Outcome;
 use desk_rules::{Entry, Instructed};
 use std::alloc::AllocError;
 use std::collections::BTreeSet;
@@ -101,6 +103,15 @@ pub fn touch_both(touched: &mut Vec<u64>, earlier: u64, later: u64) -> Result<()
     touched.push(earlier).unwrap();
     touched.push(later).unwrap();
     Ok(())
+}
+
+/// Forgets that the two of a pair, noted last, stand otherwise, where the pair was tried and has not settled.
+pub fn untouch_waiting(touched: &mut Vec<u64>, outcome: Outcome)
+    ensures { touched.new.items ≡ still_touched outcome touched.old.items }
+{
+    if let Outcome::Lacks(_) = outcome {
+        touched.truncate(touched.len().saturating_sub(2));
+    }
 }
 
 /// Notes a pair by its place, where its number is an instruction's.

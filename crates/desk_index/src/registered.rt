@@ -9,7 +9,7 @@ ghost use Rattle.desk_rules.specs.Facts.{is_participant, kind_of, last_run, owne
 ghost use Rattle.desk_lists.specs.ListView.{view_of_lists};
 ghost use Rattle.desk_index.specs.Registered.{AreRegistered};
 
-use crate::first_numbers::{name_first, next_above, put_first, take_number, unname};
+use crate::first_numbers::{next_above, put_first, take_number};
 use desk_codes::{AccountId, Bic, Ccy, Day, Isin};
 use desk_lists::ListRegister;
 use desk_msg::Kind;
@@ -18,15 +18,13 @@ use std::alloc::{AllocError, Global};
 use std::collections::BTreeMap;
 
 /// What the entries register: the number of the first entry that registers each participant, account or security, or
-/// pays in a currency, and the participants, the accounts and the days of the runs one after another.
+/// pays in a currency, and the days of the runs one after another.
 #[derive(Drop)]
 pub struct Registered {
     pub participants: BTreeMap<Bic, u64>,
     pub accounts: BTreeMap<AccountId, u64>,
     pub securities: BTreeMap<Isin, u64>,
     pub currencies: BTreeMap<Ccy, u64>,
-    pub each_participant: Vec<Bic>,
-    pub each_account: Vec<AccountId>,
     pub runs: Vec<Day>,
 }
 
@@ -40,8 +38,6 @@ impl Registered {
             accounts: BTreeMap::new(alloc),
             securities: BTreeMap::new(alloc),
             currencies: BTreeMap::new(alloc),
-            each_participant: Vec::new(alloc),
-            each_account: Vec::new(alloc),
             runs: Vec::new(alloc),
         }
     }
@@ -53,17 +49,8 @@ impl Registered {
         ensures err { (history : List EntryValue) → AreRegistered self.old history → OnErr result (AreRegistered self.new history) }
     {
         match entry {
-            Entry::Participant { bic, .. } => {
-                name_first(
-                    &mut self.participants,
-                    &mut self.each_participant,
-                    *bic,
-                    number,
-                )
-            }
-            Entry::Account { account, .. } => {
-                name_first(&mut self.accounts, &mut self.each_account, *account, number)
-            }
+            Entry::Participant { bic, .. } => put_first(&mut self.participants, *bic, number),
+            Entry::Account { account, .. } => put_first(&mut self.accounts, *account, number),
             Entry::Security { isin, .. } => put_first(&mut self.securities, *isin, number),
             Entry::PayIn(payment) => put_first(&mut self.currencies, payment.ccy, number),
             Entry::Run { day, .. } => {
@@ -81,17 +68,8 @@ impl Registered {
             → AreRegistered self.new history }
     {
         match entry {
-            Entry::Participant { bic, .. } => {
-                unname(
-                    &mut self.participants,
-                    &mut self.each_participant,
-                    *bic,
-                    number,
-                );
-            }
-            Entry::Account { account, .. } => {
-                unname(&mut self.accounts, &mut self.each_account, *account, number);
-            }
+            Entry::Participant { bic, .. } => take_number(&mut self.participants, *bic, number),
+            Entry::Account { account, .. } => take_number(&mut self.accounts, *account, number),
             Entry::Security { isin, .. } => take_number(&mut self.securities, *isin, number),
             Entry::PayIn(payment) => take_number(&mut self.currencies, payment.ccy, number),
             Entry::Run { .. } => drop_last(&mut self.runs),

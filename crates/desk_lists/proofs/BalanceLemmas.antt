@@ -1,9 +1,10 @@
 -- Balances by their keys.
-use Rattle.std.proofs.Common.{◌≡◌, ℕ, true, false, Option, Some, None, refl, ap, sym, ◌∙◌}
+use Rattle.std.proofs.Common.{◌≡◌, ◌≢◌, ℕ, zero, suc, true, false, eqb, Option, Some, None, refl, ap, sym, ◌∙◌, arith}
 use Rattle.std.specs.Prelude.{◌&&◌, bytes_eq, cond, option_map, unwrap_or, Result, Ok, Err, OnOk}
 use Rattle.std.specs.Cmp.{tied_then}
 use Rattle.std.specs.Ordering.{is_eq}
 use Rattle.std.proofs.lemmas.Bool.{and_parts, and_from}
+use Rattle.std.proofs.lemmas.Bool.Decides.{nat_tests}
 use Rattle.std.proofs.lemmas.Map.Text.{is_eq-slice_cmp}
 use Rattle.std.specs.declared.cmp.Ordering.{Ordering}
 use Rattle.desk_codes.specs.declared.currency.Ccy.{Ccy}
@@ -15,7 +16,7 @@ use Rattle.desk_rules.proofs.Deciding.{same_ccy-true}
 use Rattle.desk_register.proofs.CaseLemmas.{by_bool, same_bytes, bytes_refl}
 use Rattle.desk_lists.specs.declared.balance_key.BalanceKey.{BalanceKey}
 use Rattle.desk_lists.specs.declared.balance_key.BalanceKey.TheVariants.{Cash, Outstanding, Paid, Position}
-use Rattle.desk_lists.specs.BalanceKeys.{balance_cmp, is_key, put_back, text_cmp, with_record}
+use Rattle.desk_lists.specs.BalanceKeys.{balance_cmp, is_key, put_back, text_cmp, unless_nought, with_record, without_nought}
 use Rattle.desk_lists.specs.Lists.{Listed, balance_in}
 use Rattle.desk_lists.specs.Moves.{with_balance, with_less, with_more}
 
@@ -99,6 +100,41 @@ nothing_back old key was none = λ i k. at k i where
 
 pub amount_back : (old new : BalanceKey → Option ℕ) (key : BalanceKey) (was amount : ℕ) → old key ≡ Some amount → ((k : BalanceKey) → new k ≡ cond (is_eq (balance_cmp key k)) (Some was) (old k)) → new ≡ put_back old key (Some was)
 amount_back old new key was amount is put = recorded old new key (Some was) put ∙ ap (λ z. with_record old key (option_map (λ a. was) z)) (sym is)
+
+-- A balance that is recorded as 0 is taken out.
+
+is_recorded : (o : Option ℕ) → o ≢ Some 0 → unless_nought o ≡ o
+is_recorded None some = refl
+is_recorded (Some zero) some = absurd (some refl)
+is_recorded (Some (suc n)) some = let other : eqb (suc n) 0 ≡ false = grind (arith, nat_tests) in rw other refl
+
+pub nothing_dropped : (old : BalanceKey → Option ℕ) (key : BalanceKey) → old key ≢ Some 0 → old ≡ without_nought old key
+nothing_dropped old key some = λ i k. at k i where
+  at : (k : BalanceKey) → old k ≡ without_nought old key k
+  at k = by_bool (is_key key k) (λ t. let here : old k ≡ unless_nought (old key) = ap old (sym (key_true key k t)) ∙ sym (is_recorded (old key) some) in rw t here) (λ f. rw f refl)
+
+pub nought_dropped : (old new : BalanceKey → Option ℕ) (key : BalanceKey) → old key ≡ Some 0 → ((k : BalanceKey) → new k ≡ cond (is_eq (balance_cmp key k)) None (old k)) → new ≡ without_nought old key
+nought_dropped old new key is put = recorded old new key None put ∙ ap (λ z. with_record old key (unless_nought z)) (sym is)
+
+as_before : (o : Option ℕ) → unwrap_or (unless_nought o) 0 ≡ unwrap_or o 0
+as_before None = refl
+as_before (Some zero) = refl
+as_before (Some (suc n)) = let other : eqb (suc n) 0 ≡ false = grind (arith, nat_tests) in rw other refl
+
+-- the balances are the same
+pub same_without : (l : Listed) (key : BalanceKey) → balance_in (record l { balances = without_nought l.balances key }) ≡ balance_in l
+same_without l key = λ i k. at k i where
+  at : (k : BalanceKey) → unwrap_or (without_nought l.balances key k) 0 ≡ unwrap_or (l.balances k) 0
+  at k = by_bool (is_key key k) (λ t. let here : unwrap_or (l.balances key) 0 ≡ unwrap_or (l.balances k) 0 = ap (λ z. unwrap_or (l.balances z) 0) (key_true key k t) in rw t (as_before (l.balances key) ∙ here)) (λ f. rw f refl)
+
+-- none is recorded as 0 but those that were, and not this one
+pub nought_before : (old : BalanceKey → Option ℕ) (key k : BalanceKey) → without_nought old key k ≡ Some 0 → (is_key key k ≡ false) × (old k ≡ Some 0)
+nought_before old key k e = by_bool (is_key key k) (λ t. absurd (never (old key) (rw t at e))) (λ f. (f, rw f at e))
+  where
+    never : (o : Option ℕ) → unless_nought o ≡ Some 0 → ⊥
+    never None e = cc
+    never (Some zero) e = cc
+    never (Some (suc n)) e = let other : eqb (suc n) 0 ≡ false = grind (arith, nat_tests) in let same : Some (suc n) ≡ Some 0 = rw other at e in cc
 
 -- the balances, once one is recorded
 pub put_well : {T E : Type 0} (r : Result T E) (new l : Listed) (key : BalanceKey) (v : ℕ) → OnOk r (new ≡ record l { balances = with_record l.balances key (Some v) })

@@ -1,10 +1,15 @@
 mod AppendLemmas
 mod BalanceLemmas
+mod BalancedLemmas
 mod FloorLemmas
 mod HoldingLemmas
+mod KeepLemmas
 mod ListingLemmas
 mod ListsLemmas
 mod LookingLemmas
+mod OnceLemmas
+mod RegisteredLemmas
 mod SearchLemmas
 mod SettleLemmas
+mod SoundLemmas
 mod SumLemmas

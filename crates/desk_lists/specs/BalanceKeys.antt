@@ -1,5 +1,5 @@
 -- The keys of balances: when two are one, in which order they stand, and where the positions of an account begin.
-use Rattle.std.specs.Prelude.{◌≡◌, ℕ, Bool, true, false, ◌&&◌, List, bytes_eq, codes, Option, Some, None, is_some, option_map, if◌then◌else◌}
+use Rattle.std.specs.Prelude.{◌≡◌, ◌≢◌, ℕ, ◌==◌, Bool, true, false, ◌&&◌, List, bytes_eq, codes, Option, Some, None, is_some, option_map, if◌then◌else◌}
 use Rattle.std.specs.Cmp.Lexicographic.{slice_cmp}
 use Rattle.std.specs.Ordering.{nat_cmp}
 use Rattle.std.specs.declared.cmp.Ordering.{Ordering}
@@ -33,6 +33,19 @@ with_record balances key amount k = if is_key key k then amount else balances k
 abbrev pub put_back : (BalanceKey → Option ℕ) → BalanceKey → Option ℕ → BalanceKey → Option ℕ
 put_back balances key None = with_record balances key None
 put_back balances key (Some was) = with_record balances key (option_map (λ amount. was) (balances key))
+
+-- an amount that is recorded, unless it is 0
+abbrev pub unless_nought : Option ℕ → Option ℕ
+unless_nought None = None
+unless_nought (Some amount) = if amount == 0 then None else Some amount
+
+-- one balance is recorded no more where it is 0, and the rest is as before
+abbrev pub without_nought : (BalanceKey → Option ℕ) → BalanceKey → BalanceKey → Option ℕ
+without_nought balances key = with_record balances key (unless_nought (balances key))
+
+-- no balance is recorded as 0
+pub record HasNoNought (balances : BalanceKey → Option ℕ) : Type 0 where
+  pub each : (key : BalanceKey) → balances key ≢ Some 0
 
 -- the least of all ISINs: the least prefix, the least body, and its check digit
 abbrev pub least_isin : List ℕ

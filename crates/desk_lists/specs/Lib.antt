@@ -1,4 +1,5 @@
 pub mod BalanceKeys
+pub mod Balanced
 pub mod Lists
 pub mod ListView
 pub mod Moves

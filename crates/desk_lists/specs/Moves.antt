@@ -7,12 +7,19 @@ use Rattle.desk_rules.specs.declared.entry.Entry.{Entry}
 use Rattle.desk_rules.specs.declared.entry.Entry.TheVariants.{Issue, PayIn, PayOut, Redeem}
 use Rattle.desk_lists.specs.declared.balance_key.BalanceKey.{BalanceKey}
 use Rattle.desk_lists.specs.declared.balance_key.BalanceKey.TheVariants.{Cash, Outstanding, Paid, Position}
-use Rattle.desk_lists.specs.BalanceKeys.{is_key}
+use Rattle.desk_lists.specs.declared.lists.Change.{Change}
+use Rattle.desk_lists.specs.declared.lists.Change.TheVariants.{Moved}
+use Rattle.desk_lists.specs.BalanceKeys.{is_key, without_nought}
 use Rattle.desk_lists.specs.Lists.{Listed, balance_in}
 
 -- one balance is another, and the rest is as before
 abbrev pub with_balance : (BalanceKey → ℕ) → BalanceKey → ℕ → BalanceKey → ℕ
 with_balance balance key amount k = if is_key key k then amount else balance k
+
+-- the lists once a change is kept for good: a balance that it moved is not recorded where it is 0
+abbrev pub kept_for_good : Change → Listed → Listed
+kept_for_good (Moved key was) l = record l { balances = without_nought l.balances key }
+kept_for_good change l = l
 
 -- so much more of one, and so much less
 abbrev pub with_more : (BalanceKey → ℕ) → BalanceKey → ℕ → BalanceKey → ℕ

@@ -1,8 +1,9 @@
 //! An entry, added to the lists.
-ghost use Rattle.std.specs.Prelude.{◌≡◌, ◌+◌, ◌<◌, ◌≤◌, ◌^◌, false, OnOk};
-ghost use Rattle.desk_register.specs.Changes.{BalancesAllow, appended};
+ghost use Rattle.std.specs.Prelude.{◌≡◌, ◌+◌, ◌<◌, ◌≤◌, ◌^◌, ℕ, false, OnOk};
+ghost use Rattle.desk_register.specs.Changes.{BalancesAllow, CanAppend, appended};
 ghost use Rattle.desk_rules.specs.Content.{history_of};
 ghost use Rattle.desk_lists.specs.Named.{number_named};
+ghost use Rattle.desk_lists.specs.Balanced.{IsSound};
 ghost use Rattle.desk_lists.specs.Lists.{TotalsAreKept, balance_in, content_in, listed, undone};
 ghost use Rattle.desk_lists.specs.BalanceKeys.{is_key};
 ghost use Rattle.desk_lists.specs.Moves.{balances_after, with_less, with_more, SameEntries};
@@ -13,6 +14,7 @@ use crate::changes::push_entry;
 use crate::entries::first_standing;
 use crate::lists::{Change, Lists};
 use crate::requests::note_request;
+use crate::trimming::trimmed_reply;
 use desk_rules::{Entry, Kept, Movement, Payment, Reply};
 use std::alloc::AllocError;
 
@@ -118,15 +120,16 @@ pub fn append_entry(
     reply: Reply,
     named: Option<u64>,
 ) -> Result<(), AllocError>
-    requires fits { BalancesAllow entry (content_in (listed lists.old)) }
+    requires fits { (room : ℕ) × CanAppend room entry reply (content_in (listed lists.old)) }
     requires named { named ≡ number_named (history_of (content_in (listed lists.old))) entry }
-    requires totals { TotalsAreKept (listed lists.old) }
+    requires sound { IsSound (listed lists.old) }
     ensures added { OnOk result (content_in (listed lists.new) ≡ appended entry reply (content_in (listed lists.old))) }
-    ensures totals { OnOk result (TotalsAreKept (listed lists.new)) }
+    ensures sound { OnOk result (IsSound (listed lists.new)) }
     ensures before { undone changes.new.items (listed lists.new) ≡ undone changes.old.items (listed lists.old) }
 {
     move_balances(lists, changes, &entry)?;
     note_request(lists, changes, &entry, named)?;
     let standing = first_standing(&entry);
+    let reply = trimmed_reply(reply);
     push_entry(lists, changes, Kept { entry, reply }, standing)
 }

@@ -9,7 +9,7 @@ ghost use Rattle.desk_lists.specs.Named.{number_named};
 use crate::appending::append_entry;
 use crate::balance_key::BalanceKey;
 use crate::balances::balance_of;
-use crate::changes::undo_all;
+use crate::changes::{keep_all, undo_all};
 use crate::due_pairs::due_pair_after;
 use crate::holdings::{held, held_cash};
 use crate::list_register::ListRegister;
@@ -93,7 +93,7 @@ impl Register for ListRegister {
     }
 
     fn commit(&mut self, _alloc: Global) -> Result<(), Fault> {
-        self.changes.truncate(0);
+        keep_all(&mut self.lists, &mut self.changes);
         self.stage = Stage::Idle;
         Ok(())
     }
@@ -214,10 +214,16 @@ impl Register for ListRegister {
     }
 
     fn held(&mut self, _alloc: Global, isin: Isin) -> Result<u64, Fault> {
+        if let Stage::Failed = self.stage {
+            return Ok(0);
+        }
         Ok(held(&self.lists, &isin))
     }
 
     fn held_cash(&mut self, _alloc: Global, ccy: Ccy) -> Result<u64, Fault> {
+        if let Stage::Failed = self.stage {
+            return Ok(0);
+        }
         Ok(held_cash(&self.lists, &ccy))
     }
 

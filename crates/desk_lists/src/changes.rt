@@ -1,7 +1,8 @@
 //! Changes of the lists of a list register, each of which can be undone.
 ghost use Rattle.std.specs.Prelude.{◌≡◌, ◌<◌, ◌∷◌, ◌++◌, [], Some, length, IfOk, OnOk, OnErr, slice_set};
-ghost use Rattle.desk_lists.specs.BalanceKeys.{with_record};
-ghost use Rattle.desk_lists.specs.Lists.{listed, undo, undone};
+ghost use Rattle.desk_lists.specs.BalanceKeys.{with_record, HasNoNought};
+ghost use Rattle.desk_lists.specs.Lists.{balance_in, listed, undo, undone};
+ghost use Rattle.desk_lists.specs.Moves.{kept_for_good, SameEntries};
 
 use crate::balance_key::BalanceKey;
 use crate::lists::{Change, Lists};
@@ -31,6 +32,15 @@ impl Lists {
         }
     }
 
+    /// Keeps a change for good, and takes out the balance that it moved where that is 0.
+    fn keep(&mut self, change: &Change)
+        ensures { listed self.new ≡ kept_for_good change.now (listed self.old) }
+    {
+        if let Change::Moved { key, .. } = change {
+            recording::drop_nought(&mut self.balances, key);
+        }
+    }
+
     /// Records a balance, and gives what was recorded of it.
     fn record_balance(&mut self, key: &BalanceKey, amount: u64) -> Result<Option<u64>, AllocError>
         ensures put { OnOk result (listed self.new ≡ record (listed self.old) { balances = with_record (listed self.old).balances key.now (Some amount) }) }
@@ -48,6 +58,18 @@ pub fn undo_all(lists: &mut Lists, changes: &mut Vec<Change>)
 {
     while let Some(change) = changes.pop() {
         lists.undo(change);
+    }
+}
+
+/// Keeps all of these changes for good, and takes out the balances that they left at 0. No memory is taken.
+pub fn keep_all(lists: &mut Lists, changes: &mut Vec<Change>)
+    ensures amounts { balance_in (listed lists.new) ≡ balance_in (listed lists.old) }
+    ensures rest { SameEntries (listed lists.old) (listed lists.new) }
+    ensures lean { HasNoNought (undone changes.old.items (listed lists.old)).balances → HasNoNought (listed lists.new).balances }
+    ensures none { changes.new.items ≡ [] }
+{
+    while let Some(change) = changes.pop() {
+        lists.keep(&change);
     }
 }
 

@@ -3,11 +3,11 @@ ghost use Rattle.std.specs.Prelude.{◌≡◌, IfSome, IfNone};
 ghost use Rattle.desk_rules.specs.declared.pair.Place.{Place};
 ghost use Rattle.desk_lists.specs.Lists.{content_in, listed};
 ghost use Rattle.desk_register.specs.Looked.{IsDue, IsDuePairAfter};
-ghost use Rattle.desk_rules.specs.Settlement.{is_before, is_past};
 ghost use Rattle.desk_lists.specs.Search.{sooner_of};
 
 use crate::by_number::{instruction, standing};
 use crate::lists::Lists;
+use desk_register::{is_before, is_past};
 use desk_rules::{Place, State};
 
 /// The place of a number's matched pair, where it is due by a day and above a place.
@@ -32,23 +32,6 @@ pub fn due_place(lists: &Lists, number: u64, day: u64, above: &Option<Place>) ->
         return None;
     }
     Some(place)
-}
-
-/// Whether a place is past another one, or past none.
-fn is_past(last: &Option<Place>, place: &Place) -> bool
-    ensures { result ≡ is_past last.now place.now }
-{
-    match last {
-        None => true,
-        Some(last) => is_before(last, place),
-    }
-}
-
-/// Whether a place is before another: on an earlier day, or of a lower number on the day.
-fn is_before(a: &Place, b: &Place) -> bool
-    ensures { result ≡ is_before a.now b.now }
-{
-    a.day < b.day || (a.day == b.day && a.number < b.number)
 }
 
 /// The sooner of two places, where there are two.

@@ -2,6 +2,7 @@
 ghost use Rattle.std.specs.Prelude.{◌≡◌, ◌<◌, ◌^◌, length};
 ghost use Rattle.std.proofs.Common.{get_or};
 ghost use Rattle.desk_rules.specs.declared.reply.Kept.{Kept};
+ghost use Rattle.desk_lists.specs.Balanced.{IsBalanced};
 ghost use Rattle.desk_lists.specs.Lists.{balance_in, content_in, listed};
 ghost use Rattle.desk_register.specs.Looked.{held_cash_of, held_of};
 ghost use Rattle.desk_lists.specs.Search.{amount_by, key_by, sum_of};
@@ -24,7 +25,7 @@ enum Summed {
 
 /// What all registered accounts hold of a security.
 pub fn held(lists: &Lists, isin: &Isin) -> u64
-    requires { held_of (content_in (listed lists.now)) isin.now < 2 ^ 64 }
+    requires { IsBalanced (content_in (listed lists.now)) }
     ensures { result ≡ held_of (content_in (listed lists.now)) isin.now }
 {
     sum(lists, &Summed::Security(*isin))
@@ -32,7 +33,7 @@ pub fn held(lists: &Lists, isin: &Isin) -> u64
 
 /// What all registered participants have of a currency.
 pub fn held_cash(lists: &Lists, ccy: &Ccy) -> u64
-    requires { held_cash_of (content_in (listed lists.now)) ccy.now < 2 ^ 64 }
+    requires { IsBalanced (content_in (listed lists.now)) }
     ensures { result ≡ held_cash_of (content_in (listed lists.now)) ccy.now }
 {
     sum(lists, &Summed::Currency(*ccy))

@@ -3,8 +3,8 @@
 //! `ListRegister`, in `list_register.rt`, meets the law of `desk_register`; contracts see it by `view_of_lists` of
 //! specs/ListView.antt. `calls.rt` has its calls. `lists.rt` has the lists, with the changes that `back` undoes,
 //! and `balance_key.rt` what a balance is of;
-//! `changes.rt` makes each and undoes it, balances by `recording`. All that changes goes through it: `appending`, `requests`, `standings`,
-//! `balances`, `settling` and `messages`. The rest only reads: `by_number` and `history` the entries, `entries` what
+//! `changes.rt` makes each, undoes it, and keeps it for good, balances by `recording`. All that changes goes through it: `appending`, `requests`, `standings`,
+//! `balances`, `settling` and `messages`; `trimming` takes off the memory that a kept text does not need. The rest only reads: `by_number` and `history` the entries, `entries` what
 //! one entry says, `holdings` the balances, and `opposites`, `due_pairs`, `securities` and `next_holding` search in
 //! order. `wrapped` is what a register that keeps look-ups beside the lists asks of them. Begin with `calls.rt`.
 #![tactic(auto)]
@@ -29,6 +29,7 @@ mod requests;
 mod securities;
 mod settling;
 mod standings;
+mod trimming;
 mod wrapped;
 
 pub use list_register::ListRegister;

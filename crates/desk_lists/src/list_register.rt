@@ -1,6 +1,8 @@
 //! A register that keeps plain lists.
 ghost use Rattle.std.specs.Prelude.{◌≡◌, ◌≢◌, ◌≤◌, []};
-ghost use Rattle.desk_lists.specs.Lists.{listed, undone, TotalsAreKept};
+ghost use Rattle.desk_lists.specs.BalanceKeys.{HasNoNought};
+ghost use Rattle.desk_lists.specs.Balanced.{IsSound};
+ghost use Rattle.desk_lists.specs.Lists.{listed, undone};
 ghost use Rattle.desk_register.specs.declared.register.Stage.TheVariants.{Idle, Failed};
 ghost use Rattle.desk_rules.specs.declared.limits.TheConstants.{MOST_ENTRIES};
 
@@ -8,7 +10,7 @@ use crate::lists::{Change, Lists};
 use desk_register::Stage;
 
 /// A register in plain lists. What is changed since `begin` is noted, so that `back` undoes it without a copy of the
-/// whole. Contracts see it by `view_of_lists`.
+/// whole; a balance that fell to 0 stays recorded until `commit` takes it out. Contracts see it by `view_of_lists`.
 #[derive(Drop)]
 pub struct ListRegister {
     /// At most `MOST_ENTRIES`
@@ -18,6 +20,7 @@ pub struct ListRegister {
     pub(crate) stage: Stage,
     ghost limited: { limit ≤ MOST_ENTRIES },
     ghost idle: { stage ≡ Idle → changes.items ≡ [] },
-    ghost totals: { stage ≢ Failed → TotalsAreKept (listed lists) },
-    ghost totals_marked: { TotalsAreKept (undone changes.items (listed lists)) },
+    ghost sound: { stage ≢ Failed → IsSound (listed lists) },
+    ghost sound_marked: { IsSound (undone changes.items (listed lists)) },
+    ghost lean_marked: { HasNoNought (undone changes.items (listed lists)).balances },
 }

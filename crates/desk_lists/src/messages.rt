@@ -4,11 +4,12 @@ ghost use Rattle.std.specs.List.{find};
 ghost use Rattle.desk_register.specs.Changes.{with_sent};
 ghost use Rattle.desk_rules.specs.Confirmations.{is_confirmation};
 ghost use Rattle.desk_rules.specs.Questions.{confirms_it, sent_at};
+ghost use Rattle.desk_lists.specs.Balanced.{IsSound};
 ghost use Rattle.desk_lists.specs.Lists.{content_in, listed, undone};
-ghost use Rattle.desk_lists.specs.Moves.{SameTotals};
 
 use crate::changes::push_sent;
 use crate::lists::{Change, Lists};
+use crate::trimming::trimmed_message;
 use desk_codes::Bic;
 use desk_rules::{Sent, Text};
 use std::alloc::{AllocError, Global};
@@ -90,8 +91,8 @@ pub fn send_message(
     message: Sent,
 ) -> Result<(), AllocError>
     ensures sent { OnOk result (content_in (listed lists.new) ≡ with_sent message (content_in (listed lists.old))) }
-    ensures rest { OnOk result (SameTotals (listed lists.old) (listed lists.new)) }
+    ensures sound { IsSound (listed lists.old) → OnOk result (IsSound (listed lists.new)) }
     ensures before { undone changes.new.items (listed lists.new) ≡ undone changes.old.items (listed lists.old) }
 {
-    push_sent(lists, changes, message)
+    push_sent(lists, changes, trimmed_message(message))
 }

@@ -1,7 +1,7 @@
 //! The balances that are recorded, by their keys.
 ghost use Rattle.std.specs.Prelude.{◌≡◌, Some, IfOk, OnOk, OnErr};
 ghost use Rattle.std.specs.BTreeMap.{get};
-ghost use Rattle.desk_lists.specs.BalanceKeys.{balance_cmp, put_back, with_record, HasNoneBelow, IsFromLeast};
+ghost use Rattle.desk_lists.specs.BalanceKeys.{balance_cmp, put_back, with_record, without_nought, HasNoneBelow, IsFromLeast};
 
 use crate::balance_key::BalanceKey;
 use std::alloc::AllocError;
@@ -20,6 +20,16 @@ pub fn record(
 {
     is_from_least(key);
     Ok(balances.insert(*key, amount)?)
+}
+
+/// Takes a balance out that is recorded as 0. No memory is taken.
+pub fn drop_nought(balances: &mut BTreeMap<BalanceKey, u64>, key: &BalanceKey)
+    ensures dropped { get balance_cmp balances.new ≡ without_nought (get balance_cmp balances.old) key.now }
+    ensures floored { HasNoneBelow (get balance_cmp balances.old) → HasNoneBelow (get balance_cmp balances.new) }
+{
+    if balances.get(key).copied() == Some(0) {
+        let _ = balances.remove(key);
+    }
 }
 
 /// The key of a position has an ISIN, so none below the least.

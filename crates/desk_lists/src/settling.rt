@@ -1,8 +1,9 @@
 //! A pair, settled in the lists.
-ghost use Rattle.std.specs.Prelude.{◌≡◌, ◌<◌, ◌≤◌, ◌+◌, ◌^◌, ◌↔◌, ℕ, Some, None, false, length, IfOk, IsTrue, OnOk};
-ghost use Rattle.desk_register.specs.Changes.{CanSettle, FitsCash, HasCash, LacksCash, SidesFit, TriesPair, TriesSides, delivering_side, receiving_side};
-ghost use Rattle.desk_lists.specs.Lists.{balance_in, content_in, listed, undone};
-ghost use Rattle.desk_lists.specs.Moves.{with_less, with_more, SameEntries, SameTotals, moved_between, paid_between};
+ghost use Rattle.std.specs.Prelude.{◌≡◌, ◌<◌, ◌≤◌, ◌+◌, ◌^◌, ◌↔◌, ℕ, Some, None, false, length, IfOk, IsTrue, OnOk, true};
+ghost use Rattle.desk_register.specs.Changes.{CanSettle, FitsCash, HasCash, LacksCash, SidesFit, TriesPair, TriesSides, delivering_side, receiving_side, standing_both};
+ghost use Rattle.desk_lists.specs.Balanced.{IsSound};
+ghost use Rattle.desk_lists.specs.Lists.{balance_in, content_in, listed, standing_in, undone};
+ghost use Rattle.desk_lists.specs.Moves.{with_less, with_more, SameBooks, SameEntries, SameTotals, moved_between, paid_between};
 
 use crate::balance_key::BalanceKey;
 use crate::balances::{add_to, balance_of, take_from};
@@ -12,7 +13,7 @@ use crate::standings::stand_both;
 use desk_codes::Bic;
 use desk_msg::{Cash, Reason};
 use desk_register::Outcome;
-use desk_rules::{Instructed, Lack, State};
+use desk_rules::{Instructed, Lack, Standing, State};
 use std::alloc::AllocError;
 
 /// Takes so much off one balance and puts it on another, or on the same.
@@ -86,6 +87,39 @@ fn receipt<'a>(earlier: &'a Instructed, later: &'a Instructed) -> &'a Instructed
     earlier
 }
 
+/// Whether an instruction waits for a reason, with this mate.
+fn waits_for(standing: &Standing, mate: u64, reason: Reason) -> bool
+    ensures { result ≡ true → (standing.now.mate ≡ Some mate) × (standing.now.state ≡ State.Matched reason) }
+{
+    match (standing.mate, standing.state) {
+        (Some(other), State::Matched(found)) => other == mate && found == reason,
+        _ => false,
+    }
+}
+
+/// Lets a pair wait for a reason. Where it waits for it already, nothing is written: a run tries it in each pass.
+fn wait(
+    lists: &mut Lists,
+    changes: &mut Vec<Change>,
+    mate: u64,
+    number: u64,
+    reason: Reason,
+) -> Result<(), AllocError>
+    requires some { 0 < mate }
+    requires two { mate < number }
+    requires known { number ≤ length lists.old.kept.items }
+    ensures stands { OnOk result (standing_in (listed lists.new).standings ≡ standing_both (standing_in (listed lists.old).standings) mate number (State.Matched reason)) }
+    ensures rest { SameBooks (listed lists.old) (listed lists.new) }
+    ensures before { undone changes.new.items (listed lists.new) ≡ undone changes.old.items (listed lists.old) }
+{
+    let earlier = standing(lists, mate);
+    let later = standing(lists, number);
+    if waits_for(&earlier, number, reason) && waits_for(&later, mate, reason) {
+        return Ok(());
+    }
+    stand_both(lists, changes, mate, number, State::Matched(reason))
+}
+
 /// Tries a pair by its two instructions.
 fn settle_sides(
     lists: &mut Lists,
@@ -117,11 +151,11 @@ fn settle_sides(
         isin,
     };
     if balance_of(lists, &given) < quantity {
-        stand_both(lists, changes, mate, number, State::Matched(Reason::Lack))?;
+        wait(lists, changes, mate, number, Reason::Lack)?;
         return Ok(Outcome::Lacks(Lack::Securities));
     }
     if lacks_cash(lists, to.sender, cash) {
-        stand_both(lists, changes, mate, number, State::Matched(Reason::Money))?;
+        wait(lists, changes, mate, number, Reason::Money)?;
         return Ok(Outcome::Lacks(Lack::Money));
     }
     stand_both(lists, changes, mate, number, State::Settled)?;
@@ -137,9 +171,10 @@ pub fn try_settle(
     changes: &mut Vec<Change>,
     number: u64,
 ) -> Result<Outcome, AllocError>
-    requires { (day : ℕ) × CanSettle (content_in (listed lists.old)) number day }
+    requires fits { (day : ℕ) × CanSettle (content_in (listed lists.old)) number day }
+    requires sound { IsSound (listed lists.old) }
     ensures settled { IfOk result (λ outcome. TriesPair (content_in (listed lists.old)) number outcome (content_in (listed lists.new))) }
-    ensures rest { OnOk result (SameTotals (listed lists.old) (listed lists.new)) }
+    ensures sound { OnOk result (IsSound (listed lists.new)) }
     ensures before { undone changes.new.items (listed lists.new) ≡ undone changes.old.items (listed lists.old) }
 {
     let later = instruction(lists, number).unwrap();

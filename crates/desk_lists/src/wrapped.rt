@@ -6,7 +6,7 @@ ghost use Rattle.desk_rules.specs.Facts.{kind_by, owner_by};
 ghost use Rattle.desk_rules.specs.History.{entry_at, instruction_at};
 ghost use Rattle.desk_rules.specs.Content.{history_of};
 ghost use Rattle.desk_rules.specs.Questions.{sent_at};
-ghost use Rattle.desk_register.specs.Looked.{IsDue, IsOppositeAt};
+ghost use Rattle.desk_register.specs.Looked.{held_cash_of, held_of, IsDue, IsOppositeAt};
 ghost use Rattle.desk_register.specs.View.{Falls, IsLater, IsRead};
 ghost use Rattle.desk_lists.specs.ListView.{view_of_lists};
 
@@ -79,24 +79,18 @@ impl ListRegister {
         entries::kind_by(&self.entry_at(number)?, isin)
     }
 
-    /// What an account holds of a security.
-    pub fn position_of(&self, account: AccountId, isin: Isin) -> u64
-        ensures { result ≡ (view_of_lists self.now).content.position account isin }
+    /// What is outstanding of a security, which all registered accounts hold together.
+    pub fn total_held(&self, isin: Isin) -> u64
+        ensures { (view_of_lists self.now).stage ≢ Stage.Failed → result ≡ held_of (view_of_lists self.now).content isin }
     {
-        balance_of(&self.lists, &BalanceKey::Position { account, isin })
+        balance_of(&self.lists, &BalanceKey::Outstanding { isin })
     }
 
-    /// What a participant has of a currency.
-    pub fn cash_of(&self, bic: Bic, ccy: Ccy) -> u64
-        ensures { result ≡ (view_of_lists self.now).content.cash bic ccy }
-    {
-        balance_of(&self.lists, &BalanceKey::Cash { bic, ccy })
-    }
-
-    /// What was paid in of a currency less what was paid out; 0 before any pay in.
+    /// What was paid in of a currency less what was paid out, which all participants have together; 0 before any pay in.
     pub fn total_paid(&self, ccy: Ccy) -> u64
-        ensures { (view_of_lists self.now).stage ≢ Stage.Failed
+        ensures paid { (view_of_lists self.now).stage ≢ Stage.Failed
             → paid_out (history_of (view_of_lists self.now).content) ccy + result ≡ paid_in (history_of (view_of_lists self.now).content) ccy }
+        ensures had { (view_of_lists self.now).stage ≢ Stage.Failed → result ≡ held_cash_of (view_of_lists self.now).content ccy }
     {
         balance_of(&self.lists, &BalanceKey::Paid { ccy })
     }

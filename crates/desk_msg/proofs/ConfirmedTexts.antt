@@ -6,7 +6,7 @@ use Rattle.std.proofs.lemmas.List.{drop_all}
 use Rattle.std.proofs.lemmas.Nat.{mod_below}
 use Rattle.std.proofs.Math.Seq.{drop-cons}
 use Rattle.desk_codes.specs.Characters.{IsPrintable, IsCodeChar, IsDigit}
-use Rattle.desk_codes.specs.Number.{written_number, ReadsNumber}
+use Rattle.desk_codes.specs.Number.{written_number, ReadsNumber, SpellsNumber}
 use Rattle.desk_codes.specs.Currency.{letters_of, decimals_of}
 use Rattle.desk_codes.specs.declared.currency.Ccy.{Ccy}
 use Rattle.desk_codes.specs.declared.currency.Ccy.TheVariants.{Chf, Eur, Gbp, Jpy, Kwd, Usd}
@@ -66,12 +66,14 @@ number_back text value d few reads =
     let small = number_small text value d few reads in
     (written_spells value d small few, omega (arith, written_shortest text value d small few reads.0, reads.1), reads.2)
 
-pub number_text : (value d : ℕ) → ReadsNumber (written_number value d) d (Ok value) → list_all is_printable (written_number value d) ≡ true
-number_text value d reads =
-    let s = reads.0 in
+pub spelled_text : (value d : ℕ) → SpellsNumber (written_number value d) value d → list_all is_printable (written_number value d) ≡ true
+spelled_text value d s =
     let front : All IsPrintable s.whole = digits_printable s.whole s.shaped.whole_digits in
     let back : All IsPrintable (44 ∷ s.part) = All-cons IsPrintable 44 s.part (lit≤ tt, lit≤ tt) (digits_printable s.part s.shaped.part_digits) in
     printable_text (written_number value d) (subst (All IsPrintable) (sym s.shaped.split) (All-append IsPrintable s.whole (44 ∷ s.part) front back))
+
+pub number_text : (value d : ℕ) → ReadsNumber (written_number value d) d (Ok value) → list_all is_printable (written_number value d) ≡ true
+number_text value d reads = spelled_text value d reads.0
 
 pub few_decimals : (ccy : Ccy) → decimals_of ccy ≤ 3
 few_decimals Chf = lit≤ tt

@@ -17,3 +17,6 @@ pub mod SameMessages
 pub mod MessageLaws
 pub mod TextLaws
 pub mod OneConfirmation
+pub mod HoldingsLemmas
+pub mod TakenRows
+pub mod StatementLaws

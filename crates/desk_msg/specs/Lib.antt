@@ -14,3 +14,6 @@ pub mod Depository
 pub mod ConfirmationText
 pub mod Confirms
 pub mod ConfirmationParts
+pub mod HoldingsText
+pub mod HoldingsPieces
+pub mod TookRows

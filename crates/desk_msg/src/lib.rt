@@ -4,13 +4,14 @@
 //! message by the profile, and else the one refusal; `read_message` does the same for the fields of a block.
 //! Fields read as one message or have one fault, and never both (`one_reading`). An `Instruction` or a `CancelOrder`
 //! keeps the conditions of the profile in its type, so that nothing above tests them again. `fields_text`,
-//! `refusal_text`, `status_text` and `confirmation_text` each write one defined text; an advice and a confirmation are
-//! tables of parts, and so blocks whose fields are known. `read_confirmation` reads what a block confirms, and each
-//! confirmation that is written is read back as what was settled.
+//! `refusal_text`, `status_text`, `confirmation_text` and `holdings_text` each write one defined text; an advice, a
+//! confirmation and a statement of holdings are tables of parts, and so blocks whose fields are known. A `HoldingsWriter`
+//! writes a statement row by row, to any writer. `read_confirmation` reads what a block confirms, and each confirmation
+//! that is written is read back as what was settled.
 //!
 //! Begin with specs/Profile.antt (the used fields as a table, and what their values say) and specs/Reads.antt (which
 //! fields read as which message), which src/profile.rt and src/value.rt follow; then specs/StatusText.antt,
-//! specs/ConfirmationText.antt and specs/Confirms.antt.
+//! specs/ConfirmationText.antt, specs/Confirms.antt and specs/HoldingsText.antt.
 #![tactic(auto)]
 
 mod confirmation;
@@ -20,6 +21,7 @@ mod digits;
 mod fault;
 mod find;
 mod function;
+mod holdings;
 mod instruction;
 mod laws;
 mod lines;
@@ -29,6 +31,7 @@ mod profile;
 mod reading;
 mod refusal;
 mod rows;
+mod statement_row;
 mod status;
 mod value;
 
@@ -36,10 +39,15 @@ pub use confirmation::confirmation_text;
 pub use confirmed::{Confirmed, read_confirmation};
 pub use depository::DESK_BIC;
 pub use fault::{MsgFault, Word};
+pub use holdings::{HoldingsWriter, holdings_text};
 pub use instruction::{CancelOrder, Cash, Instruction, Kind, Message, SettlementType, UnknownKind};
-pub use laws::{confirmation_says, one_answer, one_confirmation, one_reading};
+pub use laws::{
+    confirmation_says, one_answer, one_confirmation, one_reading, rows_make_statement,
+    statement_is_block,
+};
 pub use lines::fields_text;
 pub use mt::{Mt, UnknownType};
 pub use reading::read_message;
 pub use refusal::{ReadFault, TextRefusal, read_instruction_text, refusal_text};
+pub use statement_row::{RowSink, SinkFault, StatementRow};
 pub use status::{Case, Own, Reason, status_text};

@@ -3,6 +3,8 @@
 #![tactic(auto)]
 
 #[cfg(test)]
+mod statements;
+#[cfg(test)]
 mod tests;
 #[cfg(test)]
 mod vectors;

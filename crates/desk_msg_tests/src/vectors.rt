@@ -245,6 +245,52 @@ pub const CONFIRMED_RECEIPT: &str = "\
 :16S:SETDET\r\n\
 -}";
 
+/// The statement of an account with two securities.
+pub const STATEMENT: &str = "\
+{4:\r\n\
+:16R:GENL\r\n\
+:28E:1/ONLY\r\n\
+:20C::SEME//S000000000000012\r\n\
+:23G:NEWM\r\n\
+:98A::STAT//20240229\r\n\
+:22F::SFRE//ADHO\r\n\
+:22F::CODE//COMP\r\n\
+:22F::STTY//CUST\r\n\
+:22F::STBA//SETT\r\n\
+:97A::SAFE//B-1\r\n\
+:17B::ACTI//Y\r\n\
+:17B::CONS//N\r\n\
+:16S:GENL\r\n\
+:16R:SUBSAFE\r\n\
+:16R:FIN\r\n\
+:35B:ISIN DE0007164600\r\n\
+:93B::AGGR//UNIT/400,\r\n\
+:16S:FIN\r\n\
+:16R:FIN\r\n\
+:35B:ISIN US0378331005\r\n\
+:93B::AGGR//UNIT/7,\r\n\
+:16S:FIN\r\n\
+:16S:SUBSAFE\r\n\
+-}";
+
+/// The same of an account without one.
+pub const EMPTY_STATEMENT: &str = "\
+{4:\r\n\
+:16R:GENL\r\n\
+:28E:1/ONLY\r\n\
+:20C::SEME//S000000000000012\r\n\
+:23G:NEWM\r\n\
+:98A::STAT//20240229\r\n\
+:22F::SFRE//ADHO\r\n\
+:22F::CODE//COMP\r\n\
+:22F::STTY//CUST\r\n\
+:22F::STBA//SETT\r\n\
+:97A::SAFE//B-1\r\n\
+:17B::ACTI//N\r\n\
+:17B::CONS//N\r\n\
+:16S:GENL\r\n\
+-}";
+
 /// Changes of the delivery against payment: what is changed, to what, and what is answered (`read`: the same
 /// fields). `~` stands for a line feed.
 pub const CHANGED_DELIVERIES: &str = "\

@@ -21,7 +21,8 @@ use Rattle.desk_rules.specs.Opposite.{AreOpposite}
 use Rattle.desk_rules.specs.Balances.{delivering, issued, paid_in, paid_out, receiving, redeemed, same_ccy}
 use Rattle.desk_rules.specs.Content.{CashBalances, Content, Positions, history_of}
 use Rattle.desk_rules.specs.Standing.{no_standing}
-use Rattle.desk_rules.specs.Verdict.{named_by}
+use Rattle.desk_rules.specs.Verdict.{is_from_stranger, named_by}
+use Rattle.desk_register.specs.Checked.{checks_in, first_refusal}
 use Rattle.desk_register.specs.declared.outcome.Outcome.{Outcome}
 use Rattle.desk_register.specs.declared.outcome.Outcome.TheVariants as outcomes
 use Rattle.desk_register.specs.declared.outcome.Outcome.TheVariants.{Lacks}
@@ -73,10 +74,13 @@ BalancesAllow (PayOut payment) content =
     (payment.amount ≤ content.cash payment.bic payment.ccy) × (paid_out (history_of content) payment.ccy + payment.amount ≤ paid_in (history_of content) payment.ccy)
 BalancesAllow entry content = Unit {0}
 
--- An entry can be added with its reply, where at most `room` entries fit: its sender has used its reference for none
--- before, there is room for it, the reply tells that it was accepted, and the balances allow it.
+-- An entry can be added with its reply, where at most `room` entries fit: its sender is known and has used its reference
+-- for none before, no refusal fits it, there is room for it, the reply tells that it was accepted, and the balances allow
+-- it. (That each of its values is one that a message or a command can say, its types say.)
 pub record CanAppend (room : ℕ) (entry : Entry) (reply : Reply) (content : Content) : Type 0 where
+  pub known_sender : is_from_stranger (history_of content) (sender_of entry) ≡ false
   pub new_key : number_of_key (history_of content) (sender_of entry) (reference_of entry) ≡ None
+  pub not_refused : first_refusal (checks_in content entry) ≡ None
   pub has_room : length content.register < room
   pub accepted : reply.status ≡ 200
   pub balances : BalancesAllow entry content

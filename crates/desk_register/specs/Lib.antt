@@ -1,4 +1,5 @@
 pub mod Changes
+pub mod Checked
 pub mod Looked
 pub mod Registered
 pub mod View

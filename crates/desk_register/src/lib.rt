@@ -7,8 +7,10 @@
 
 mod holding;
 mod outcome;
+mod places;
 mod register;
 
 pub use holding::Holding;
 pub use outcome::Outcome;
+pub use places::{is_before, is_past};
 pub use register::{Fault, MOST_FAILURES, Register, Stage};

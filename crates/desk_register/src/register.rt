@@ -1,5 +1,5 @@
 //! The register: the law by which every store of the desk is judged.
-ghost use Rattle.std.specs.Prelude.{◌≡◌, ◌≢◌, ℕ, true, Bool, ◌+◌, ◌<◌, ◌≤◌, ◌^◌, length, option_map, IfOk, IfErr, IsOk, OnOk, OnErr};
+ghost use Rattle.std.specs.Prelude.{◌≡◌, ◌≢◌, true, Bool, ◌+◌, ◌≤◌, length, option_map, IfOk, IfErr, IsOk, OnOk, OnErr};
 ghost use Rattle.desk_codes.specs.Number.{number_of};
 ghost use Rattle.desk_register.specs.View.{View, IfRead, IfTrusted, IsLater, Begins, Commits, GoesBack, Falls, Blames, IsRead, IsChange};
 ghost use Rattle.desk_rules.specs.Content.{history_of};
@@ -212,14 +212,12 @@ pub trait Register {
 
     /// What all registered accounts hold of a security.
     fn held(&mut self, alloc: Global, isin: Isin) -> Result<u64, Fault>
-        requires { IfTrusted (view self.old) (view self.old) (held_of (view self.old).content isin < 2 ^ 64) }
         ensures value { IfRead (view self.old) (view self.new) (IfOk result (λ r. r ≡ held_of (view self.old).content isin)) }
         ensures read { IsRead result (view self.old) (view self.new) }
         ensures in_memory { in_memory ≡ true → IsOk result };
 
     /// What all registered participants have of a currency, in minor units.
     fn held_cash(&mut self, alloc: Global, ccy: Ccy) -> Result<u64, Fault>
-        requires { IfTrusted (view self.old) (view self.old) (held_cash_of (view self.old).content ccy < 2 ^ 64) }
         ensures value { IfRead (view self.old) (view self.new) (IfOk result (λ r. r ≡ held_cash_of (view self.old).content ccy)) }
         ensures read { IsRead result (view self.old) (view self.new) }
         ensures in_memory { in_memory ≡ true → IsOk result };

@@ -59,7 +59,7 @@ read_memory (Err fault) old new was is blame = want_of_memory fault (λ same. no
 
 pub step_memory : {X : Type 0} (result : Result X Failure) (fault : Fault) (old new : View) → HasNoDevice old → HasNoDevice new → BlamesStep result old new → result ≡ Err (Undone fault) → fault ≡ Memory
 step_memory result fault old new was is blame failed =
-    want_of_memory fault (λ same. not_counted old new was is (blame.storage (failed ∙ ap (λ f. Err (Undone f)) same) is.honest (few new is)))
+    want_of_memory fault (λ same. not_counted old new was is (blame.storage (failed ∙ ap (λ f. Err (Undone f)) same) was.sure is.honest (few new is)))
 
 -- what the step that takes an entry in leaves of a register that keeps a history
 pub kept_after : (r : Result Accepted Failure) (old new : View) (books : Books) (entry : Entry) → HasNoDevice new → Keeps old.room books old.content

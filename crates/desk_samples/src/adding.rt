@@ -3,14 +3,16 @@ ghost use Rattle.std.specs.Prelude.{◌≡◌, [], true, IfOk};
 ghost use Rattle.desk_rules.specs.Reply.{untyped_reply};
 ghost use Rattle.desk_register.specs.Changes.{BalancesAllow, CanAppend};
 ghost use Rattle.desk_register.specs.View.{IfRead, IfTrusted, IsChange, IsRead};
-ghost use Rattle.desk_samples.specs.Adding.{AddsIf};
+ghost use Rattle.desk_samples.specs.Adding.{AddsIf, IsUnrefused};
 
+use desk_engine::{is_from_stranger, refuse};
 use desk_register::{Fault, Register, Stage};
 use desk_rules::{Entry, MOST_PAID, MOST_QUANTITY, Movement, Payment, Reply, Text};
 use std::alloc::Global;
 
-/// Adds an entry, within an open `begin`, with a reply of no text, and answers whether it did: where its key is used, or
-/// there is no room, or the balances may not allow it, nothing changes. An instruction is paired with none.
+/// Adds an entry, within an open `begin`, with a reply of no text, and answers whether it did: where the desk would refuse
+/// it, or its key is used, or there is no room, or the balances may not allow it, nothing changes. An instruction is paired
+/// with none.
 pub fn add<R: Register>(alloc: Global, register: &mut R, entry: Entry) -> Result<bool, Fault>
     requires stage { (R.view register.old).stage ≡ Stage.Begun }
     ensures added { IfTrusted (R.view register.old) (R.view register.new) (IfOk result (λ did. AddsIf entry (R.view register.old).content did (R.view register.new).content)) }
@@ -40,6 +42,9 @@ fn may_add<R: Register>(alloc: Global, register: &mut R, entry: &Entry) -> Resul
     ensures may { IfRead (R.view register.old) (R.view register.new) (IfOk result (λ may. may ≡ true → CanAppend (R.view register.old).room entry.now (untyped_reply 200 []) (R.view register.old).content)) }
     ensures read { IsRead result (R.view register.old) (R.view register.new) }
 {
+    if !is_unrefused(alloc, register, entry)? {
+        return Ok(false);
+    }
     let limit = register.limit();
     let used = register.number_of(alloc, entry.sender(), entry.reference())?;
     if used.is_some() {
@@ -50,6 +55,18 @@ fn may_add<R: Register>(alloc: Global, register: &mut R, entry: &Entry) -> Resul
         return Ok(false);
     }
     balances_allow(alloc, register, entry)
+}
+
+/// Whether no refusal fits an entry of a known sender.
+fn is_unrefused<R: Register>(alloc: Global, register: &mut R, entry: &Entry) -> Result<bool, Fault>
+    ensures unrefused { IfRead (R.view register.old) (R.view register.new) (IfOk result (λ is. is ≡ true → IsUnrefused (R.view register.old).content entry.now)) }
+    ensures read { IsRead result (R.view register.old) (R.view register.new) }
+{
+    if is_from_stranger(alloc, register, entry)? {
+        return Ok(false);
+    }
+    let refusal = refuse(alloc, register, entry)?;
+    Ok(refusal.is_none())
 }
 
 /// Whether the balances allow an entry.

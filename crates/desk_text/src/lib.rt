@@ -3,6 +3,7 @@
 //! `read_block` gives the fields of a text exactly where it is a block of at most `LONGEST_TEXT` bytes, and else the one
 //! fault that the text has, with its line. `BlockWriter` writes the one canonical text of the parts it is given, as
 //! `write_block` does of a list of them, and `reads_back` says that this text is a block of just these fields.
+//! `append_parts` writes the lines of some parts alone, for a text that is written piece by piece.
 //!
 //! Begin with specs/BlockGrammar.antt (the tree of a block and its lines), then Fields, BlockFault and Written; the
 //! laws above them are in `laws`. specs/Seen.antt says how contracts see what was read.
@@ -23,7 +24,7 @@ pub use fields::{Block, Field};
 pub use laws::{line_ends, one_fault, one_line, one_tree, parts_add_up, reads_back, right_lines};
 pub use limits::{DEEPEST, LONGEST_NAME, LONGEST_TEXT};
 pub use lines::{Line, read_line};
-pub use parts::{BlockPart, write_block};
+pub use parts::{BlockPart, append_parts, write_block};
 pub use reading::read_block;
 pub use spelling::{is_name, is_tag, is_value};
-pub use writing::BlockWriter;
+pub use writing::{BlockWriter, FIRST_LINE, LAST_LINE};

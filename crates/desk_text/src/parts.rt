@@ -1,11 +1,13 @@
-//! Writing a whole block from the list of its parts.
-ghost use Rattle.std.specs.Prelude.{◌≡◌, [], map, OnOk, OnErr, IfOk};
+//! Writing a whole block from the list of its parts, or the lines of some parts of one.
+ghost use Rattle.std.specs.Prelude.{◌≡◌, ◌++◌, [], map, OnOk, OnErr, IfOk};
+ghost use Rattle.std.specs.List.{flat_map};
 ghost use Rattle.desk_text.specs.Fields.{IsBlock};
-ghost use Rattle.desk_text.specs.Written.{AreParts, after, block_text, fields_written};
+ghost use Rattle.desk_text.specs.Lines.{written};
+ghost use Rattle.desk_text.specs.Written.{AreParts, after, block_text, fields_written, lines_of_part};
 ghost use Rattle.desk_text.specs.PartsSeen.{part_seen};
 ghost use Rattle.desk_text.specs.Writing.{CanFollow};
 
-use crate::writing::BlockWriter;
+use crate::writing::{BlockWriter, append_lines, append_name_line};
 use std::alloc::{AllocError, Global};
 
 /// A part of a block.
@@ -46,4 +48,33 @@ pub fn write_block(alloc: Global, parts: &[BlockPart<'_>]) -> Result<Vec<u8>, Al
         write_part(&mut writer, part)?;
     }
     writer.finish()
+}
+
+/// Adds the lines of one part.
+fn append_part(out: &mut Vec<u8>, part: &BlockPart<'_>) -> Result<(), AllocError>
+    ensures ok { OnOk result (out.new.items ≡ out.old.items ++ written (lines_of_part (part_seen part.now))) }
+    ensures err { OnErr result (out.new.items ≡ out.old.items) }
+{
+    match *part {
+        BlockPart::Open(name) => append_name_line(out, b":16R:", name),
+        BlockPart::Field(tag, value) => append_lines(out, tag, value),
+        BlockPart::Close(name) => append_name_line(out, b":16S:", name),
+    }
+}
+
+/// Adds the lines of parts, each with CR LF, or nothing where memory is wanting.
+///
+/// Neither the first line of a block nor its last is written. That the parts are right where they stand is not asked.
+pub fn append_parts(out: &mut Vec<u8>, parts: &[BlockPart<'_>]) -> Result<(), AllocError>
+    ensures ok { OnOk result (out.new.items ≡ out.old.items ++ written (flat_map lines_of_part (map part_seen parts.now))) }
+    ensures err { OnErr result (out.new.items ≡ out.old.items) }
+{
+    let start = out.len();
+    for part in parts {
+        if let Err(error) = append_part(out, part) {
+            out.truncate(start);
+            return Err(error);
+        }
+    }
+    Ok(())
 }

@@ -12,8 +12,11 @@ use std::alloc::{AllocError, Global};
 use std::marker::Model;
 use std::mem;
 
-/// The first line of a block.
-const FIRST_LINE: &[u8] = b"{4:\r\n";
+/// The first line of a block, with its end.
+pub const FIRST_LINE: &[u8] = b"{4:\r\n";
+
+/// The last line of a block, which has no end.
+pub const LAST_LINE: &[u8] = b"-}";
 
 /// Adds all pieces at the end, or none.
 fn append_all(out: &mut Vec<u8>, pieces: &[&[u8]]) -> Result<(), AllocError>
@@ -44,6 +47,14 @@ fn begin(buffer: &mut Vec<u8>) -> Result<(), AllocError>
 }
 
 /// Adds the line of an opening or a closing.
+pub fn append_name_line(out: &mut Vec<u8>, front: &[u8], name: &[u8]) -> Result<(), AllocError>
+    ensures ok { OnOk result (out.new.items ≡ out.old.items ++ written ((front.now ++ name.now) ∷ [])) }
+    ensures err { OnErr result (out.new.items ≡ out.old.items) }
+{
+    append_all(out, &[front, name, b"\r\n"])
+}
+
+/// Adds the line of an opening or a closing, behind the first line.
 fn append_name(buffer: &mut Vec<u8>, front: &[u8], name: &[u8]) -> Result<(), AllocError>
     requires { IsStarted buffer.old.items }
     ensures ok { OnOk result (drop 5 buffer.new.items ≡ drop 5 buffer.old.items ++ written ((front.now ++ name.now) ∷ [])) }
@@ -51,7 +62,7 @@ fn append_name(buffer: &mut Vec<u8>, front: &[u8], name: &[u8]) -> Result<(), Al
     ensures started { IsStarted buffer.new.items }
 {
     begin(buffer)?;
-    append_all(buffer, &[front, name, b"\r\n"])
+    append_name_line(buffer, front, name)
 }
 
 /// Adds the lines of a value, each with CR LF. What stood there stays in front, whatever the answer.
@@ -68,7 +79,7 @@ fn append_value(out: &mut Vec<u8>, value: &[u8]) -> Result<(), AllocError>
 }
 
 /// Adds the lines of a field.
-fn append_lines(out: &mut Vec<u8>, tag: &[u8], value: &[u8]) -> Result<(), AllocError>
+pub fn append_lines(out: &mut Vec<u8>, tag: &[u8], value: &[u8]) -> Result<(), AllocError>
     ensures ok { OnOk result (out.new.items ≡ out.old.items ++ written (lines_of_part (field_part tag.now value.now))) }
     ensures err { OnErr result (out.new.items ≡ out.old.items) }
 {
@@ -81,7 +92,7 @@ fn append_lines(out: &mut Vec<u8>, tag: &[u8], value: &[u8]) -> Result<(), Alloc
     Ok(())
 }
 
-/// Adds the lines of a field.
+/// Adds the lines of a field, behind the first line.
 fn append_field(buffer: &mut Vec<u8>, tag: &[u8], value: &[u8]) -> Result<(), AllocError>
     requires { IsStarted buffer.old.items }
     ensures ok { OnOk result (drop 5 buffer.new.items ≡ drop 5 buffer.old.items ++ written (lines_of_part (field_part tag.now value.now))) }
@@ -100,7 +111,7 @@ fn append_end(buffer: &mut Vec<u8>) -> Result<(), AllocError>
     ensures started { IsStarted buffer.new.items }
 {
     begin(buffer)?;
-    append_all(buffer, &[b"-}"])
+    append_all(buffer, &[LAST_LINE])
 }
 
 /// A block in the making, part by part (ISO 15022, block 4). It writes CR LF after each line, and nothing after `-}`.

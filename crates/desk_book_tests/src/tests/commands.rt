@@ -1,19 +1,25 @@
 //! Operator's commands: what is read, and what is none.
 use desk_book::*;
+use desk_codes::Ccy;
 use desk_msg::Kind;
-use desk_rules::Entry;
-use desk_samples::entries::{SHARE, issue, new_account, participant, run, security};
+use desk_rules::{Entry, Payment};
+use desk_samples::entries::{
+    SHARE, bic, issue, new_account, participant, redeem, reference, run, security,
+};
 use std::alloc::{AllocError, Global};
 use std::test::Fail;
 
-/// A letter a command, and - for what is none.
+/// A sign a command, and . for what is none.
 fn letter(alloc: Global, text: &[u8]) -> Result<char, AllocError> {
     let letter = match read_command(alloc, text)? {
-        None => '-',
+        None => '.',
         Some(Entry::Participant { .. }) => 'P',
         Some(Entry::Account { .. }) => 'A',
         Some(Entry::Security { .. }) => 'S',
         Some(Entry::Issue(_)) => 'I',
+        Some(Entry::Redeem(_)) => 'E',
+        Some(Entry::PayIn(_)) => '+',
+        Some(Entry::PayOut(_)) => '-',
         Some(Entry::Run { .. }) => 'R',
         Some(_) => '?',
     };
@@ -49,6 +55,26 @@ fn commands(rt: HostRuntime) -> Result<(), Fail> {
         br#"{"op":"issue","ref":"X1","account":"A-1","isin":"DE0007164600","quantity":1000}"#;
     let want = issue("X1", "A-1", SHARE, 1000)?;
     assert!(rt; read_command(alloc, text)? == Some(want));
+    let text =
+        br#"{"op":"redeem","ref":"X1","account":"A-1","isin":"DE0007164600","quantity":400}"#;
+    let want = redeem("X1", "A-1", SHARE, 400)?;
+    assert!(rt; read_command(alloc, text)? == Some(want));
+    let text = br#"{"op":"payin","ref":"X1","bic":"BETADEFFXXX","ccy":"EUR","amount":100050}"#;
+    let want = Entry::PayIn(Payment {
+        reference: reference("X1")?,
+        bic: bic("BETADEFF")?,
+        ccy: Ccy::Eur,
+        amount: 100_050,
+    });
+    assert!(rt; read_command(alloc, text)? == Some(want));
+    let text = br#"{"op":"payout","ref":"X1","bic":"BETADEFF","ccy":"JPY","amount":7}"#;
+    let want = Entry::PayOut(Payment {
+        reference: reference("X1")?,
+        bic: bic("BETADEFF")?,
+        ccy: Ccy::Jpy,
+        amount: 7,
+    });
+    assert!(rt; read_command(alloc, text)? == Some(want));
     let text = br#"{"op":"run","ref":"X1","day":"20240229"}"#;
     let want = run("X1", b"20240229")?;
     assert!(rt; read_command(alloc, text)? == Some(want));
@@ -78,16 +104,19 @@ fn no_commands(rt: HostRuntime) -> Result<(), Fail> {
         br#"{"op":"account","ref":"X1","bic":"ALPHDEFF","account":""}"#.as_slice(),
         br#"{"op":"security","ref":"X1","isin":"DE0007164601","kind":"UNIT"}"#.as_slice(),
         br#"{"op":"security","ref":"X1","isin":"DE0007164600","kind":"AMOR"}"#.as_slice(),
-        br#"{"op":"redeem","ref":"X1","account":"A-1","isin":"DE0007164600","quantity":1}"#.as_slice(),
-        br#"{"op":"payin","ref":"X1","bic":"BETADEFF","ccy":"EUR","amount":100050}"#.as_slice(),
-        br#"{"op":"payout","ref":"X1","bic":"ALPHDEFF","ccy":"EUR","amount":1}"#.as_slice(),
+        br#"{"op":"redeem","ref":"X1","account":"A-1","isin":"DE0007164600","amount":1}"#.as_slice(),
+        br#"{"op":"redeem","ref":"X1","bic":"ALPHDEFF","isin":"DE0007164600","quantity":1}"#.as_slice(),
+        br#"{"op":"payin","ref":"X1","bic":"BETADEFF","ccy":"eur","amount":100050}"#.as_slice(),
+        br#"{"op":"payin","ref":"X1","bic":"BETADEFF","ccy":"EUR","quantity":100050}"#.as_slice(),
+        br#"{"op":"payout","ref":"X1","bic":"ALPHDEFF","ccy":"SEK","amount":1}"#.as_slice(),
+        br#"{"op":"payout","ref":"X1","account":"A-1","ccy":"EUR","amount":1}"#.as_slice(),
         br#"{"op":"run","ref":"X1","day":20240229}"#.as_slice(),
         br#"{"op":"run","ref":"X1","day":"20230229"}"#.as_slice(),
         br#"{"op":"run","ref":"X1","day":"2024022"}"#.as_slice(),
         br#"{"op":"run","ref":"X1","day":"2024-02-29"}"#.as_slice(),
         br#"{"op":"close","ref":"X1"}"#.as_slice(),
     ] {
-        assert_eq!(rt; letter(rt.alloc(), text)?, '-', "at {text:?}");
+        assert_eq!(rt; letter(rt.alloc(), text)?, '.', "at {text:?}");
     }
     Ok(())
 }
@@ -97,16 +126,16 @@ fn quantities(rt: HostRuntime) -> Result<(), Fail> {
     for (quantity, want) in [
         ("1", 'I'),
         ("99999999999999", 'I'),
-        ("0", '-'),
-        ("100000000000000", '-'),
-        ("-1", '-'),
-        ("-0", '-'),
-        ("01", '-'),
-        ("1.0", '-'),
-        ("1e3", '-'),
-        ("18446744073709551616", '-'),
-        ("\"1\"", '-'),
-        ("null", '-'),
+        ("0", '.'),
+        ("100000000000000", '.'),
+        ("-1", '.'),
+        ("-0", '.'),
+        ("01", '.'),
+        ("1.0", '.'),
+        ("1e3", '.'),
+        ("18446744073709551616", '.'),
+        ("\"1\"", '.'),
+        ("null", '.'),
     ] {
         let text = format!(in rt.alloc();
             "{{\"op\":\"issue\",\"ref\":\"X1\",\"account\":\"A-1\",\"isin\":\"DE0007164600\",\"quantity\":{quantity}}}"
@@ -117,9 +146,27 @@ fn quantities(rt: HostRuntime) -> Result<(), Fail> {
 }
 
 #[test]
+fn amounts(rt: HostRuntime) -> Result<(), Fail> {
+    for (amount, want) in [
+        ("1", '+'),
+        ("999999999999999999", '+'),
+        ("0", '.'),
+        ("1000000000000000000", '.'),
+        ("-1", '.'),
+        ("1000.5", '.'),
+    ] {
+        let text = format!(in rt.alloc();
+            "{{\"op\":\"payin\",\"ref\":\"X1\",\"bic\":\"BETADEFF\",\"ccy\":\"KWD\",\"amount\":{amount}}}"
+        )?;
+        assert_eq!(rt; letter(rt.alloc(), text.as_bytes())?, want, "at {amount}");
+    }
+    Ok(())
+}
+
+#[test]
 fn long_commands(rt: HostRuntime) -> Result<(), Fail> {
     let command = br#"{"op":"run","ref":"X1","day":"20240229"}"#;
-    for (size, want) in [(65_536, 'R'), (65_537, '-')] {
+    for (size, want) in [(65_536, 'R'), (65_537, '.')] {
         let mut text = Vec::new(rt.alloc());
         text.extend_from_slice(command)?;
         for _ in command.len()..size {
@@ -134,6 +181,6 @@ fn long_commands(rt: HostRuntime) -> Result<(), Fail> {
     for _ in 0..200 {
         deep.push(b']')?;
     }
-    assert_eq!(rt; letter(rt.alloc(), &deep)?, '-');
+    assert_eq!(rt; letter(rt.alloc(), &deep)?, '.');
     Ok(())
 }

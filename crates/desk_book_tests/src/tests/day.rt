@@ -122,17 +122,71 @@ const MATCHED: &[u8] = b"{4:\r\n\
       :16S:GENL\r\n\
       -}";
 
+/// The advice that the delivery was matched, the first message that is sent.
+const TOLD: &[u8] = b"{4:\r\n\
+      :16R:GENL\r\n\
+      :20C::SEME//D000000000000001\r\n\
+      :23G:INST\r\n\
+      :16R:LINK\r\n\
+      :13A::LINK//542\r\n\
+      :20C::RELA//A1\r\n\
+      :16S:LINK\r\n\
+      :16R:STAT\r\n\
+      :25D::IPRC//PACK\r\n\
+      :16S:STAT\r\n\
+      :16R:STAT\r\n\
+      :25D::MTCH//MACH\r\n\
+      :16S:STAT\r\n\
+      :16R:STAT\r\n\
+      :25D::SETT//PEND\r\n\
+      :16R:REAS\r\n\
+      :24B::PEND//FUTU\r\n\
+      :16S:REAS\r\n\
+      :16S:STAT\r\n\
+      :16S:GENL\r\n\
+      -}";
+
+/// The confirmation of the delivery, the second message that is sent.
+const CONFIRMED: &[u8] = b"{4:\r\n\
+      :16R:GENL\r\n\
+      :20C::SEME//D000000000000002\r\n\
+      :23G:NEWM\r\n\
+      :16R:LINK\r\n\
+      :20C::RELA//A1\r\n\
+      :16S:LINK\r\n\
+      :16S:GENL\r\n\
+      :16R:TRADDET\r\n\
+      :98A::ESET//20240229\r\n\
+      :35B:ISIN DE0007164600\r\n\
+      :16S:TRADDET\r\n\
+      :16R:FIAC\r\n\
+      :36B::ESTT//UNIT/400,\r\n\
+      :97A::SAFE//A-1\r\n\
+      :16S:FIAC\r\n\
+      :16R:SETDET\r\n\
+      :22F::SETR//TRAD\r\n\
+      :16R:SETPRTY\r\n\
+      :95P::REAG//BETADEFF\r\n\
+      :16S:SETPRTY\r\n\
+      :16R:SETPRTY\r\n\
+      :95P::PSET//DESKDEFF\r\n\
+      :16S:SETPRTY\r\n\
+      :16S:SETDET\r\n\
+      -}";
+
 /// Who sends the delivery.
 pub const DELIVERER: &[u8] = b"ALPHDEFF";
 
 /// Who sends the receipt.
 pub const RECEIVER: &[u8] = b"BETADEFF";
 
-/// What is asked: a command, a participant's message, or the totals.
+/// What is asked: a command, a participant's message, how one stands, what was sent, or the totals.
 #[derive(Clone, Copy)]
 enum Form {
     Command,
     Message(Bic, Mt),
+    Status(Bic),
+    Sent(Bic, u64),
     Sums,
 }
 
@@ -166,6 +220,39 @@ fn message<'a>(sender: Bic, mt: Mt, text: &'a [u8], answer: &'a [u8]) -> Asked<'
     }
 }
 
+/// How the message with a reference stands, answered by a message of this type.
+fn standing<'a>(sender: Bic, reference: &'a [u8], mt: u16, answer: &'a [u8]) -> Asked<'a> {
+    Asked {
+        form: Form::Status(sender),
+        text: reference,
+        status: 200,
+        mt: Some(mt),
+        answer,
+    }
+}
+
+/// The sent message of a number, of this type.
+fn sent<'a>(receiver: Bic, number: u64, mt: u16, answer: &'a [u8]) -> Asked<'a> {
+    Asked {
+        form: Form::Sent(receiver, number),
+        text: b"",
+        status: 200,
+        mt: Some(mt),
+        answer,
+    }
+}
+
+/// A question that is refused.
+fn refused<'a>(form: Form, text: &'a [u8], answer: &'a [u8]) -> Asked<'a> {
+    Asked {
+        form,
+        text,
+        status: 422,
+        mt: None,
+        answer,
+    }
+}
+
 fn totals<'a>(answer: &'a [u8]) -> Asked<'a> {
     Asked {
         form: Form::Sums,
@@ -177,14 +264,14 @@ fn totals<'a>(answer: &'a [u8]) -> Asked<'a> {
 }
 
 /// How many of the day's requests are accepted.
-pub const ACCEPTED: u64 = 9;
+pub const ACCEPTED: u64 = 12;
 
 /// Which of them is no command, counted from 0, so that nothing is asked of the register.
-pub const NO_COMMAND: usize = 11;
+pub const NO_COMMAND: usize = 19;
 
-/// A short day: all that the desk takes once, a free pair, a run that settles it, a repeat, a refusal, what is no
-/// command, and the totals.
-pub fn day<'a>(deliverer: Bic, receiver: Bic) -> [Asked<'a>; 13] {
+/// A short day: all that the desk takes once, a free pair, how it stands, a run that settles it, the confirmation, what
+/// was sent, a repeat, refusals, what is no command, and the totals.
+pub fn day<'a>(deliverer: Bic, receiver: Bic) -> [Asked<'a>; 21] {
     [
         command(
             br#"{"op":"participant","ref":"P1","bic":"ALPHDEFF"}"#,
@@ -218,10 +305,30 @@ pub fn day<'a>(deliverer: Bic, receiver: Bic) -> [Asked<'a>; 13] {
         ),
         message(deliverer, Mt::Mt542, DELIVERY, UNMATCHED),
         message(receiver, Mt::Mt540, RECEIPT, MATCHED),
+        standing(receiver, b"B1", 548, MATCHED),
         command(
             br#"{"op":"run","ref":"R1","day":"20240229"}"#,
             200,
             b"accepted 9 settled 1 waiting 0",
+        ),
+        standing(deliverer, b"A1", 546, CONFIRMED),
+        refused(Form::Status(receiver), b"A1", b"refused 17"),
+        sent(deliverer, 1, 548, TOLD),
+        refused(Form::Sent(receiver, 2), b"", b"refused 42"),
+        command(
+            br#"{"op":"payin","ref":"M1","bic":"BETADEFF","ccy":"EUR","amount":100050}"#,
+            200,
+            b"accepted 10",
+        ),
+        command(
+            br#"{"op":"payout","ref":"M2","bic":"BETADEFF","ccy":"EUR","amount":100050}"#,
+            200,
+            b"accepted 11",
+        ),
+        command(
+            br#"{"op":"redeem","ref":"I2","account":"B-1","isin":"DE0007164600","quantity":100}"#,
+            200,
+            b"accepted 12",
         ),
         message(deliverer, Mt::Mt542, DELIVERY, UNMATCHED),
         command(
@@ -231,7 +338,7 @@ pub fn day<'a>(deliverer: Bic, receiver: Bic) -> [Asked<'a>; 13] {
         ),
         command(b"{}", 400, b"refused 30"),
         totals(
-            br#"{"cash":[],"securities":[{"held":1000,"isin":"DE0007164600","outstanding":1000}]}"#,
+            br#"{"cash":[{"ccy":"EUR","held":0,"net":0}],"securities":[{"held":900,"isin":"DE0007164600","outstanding":900}]}"#,
         ),
     ]
 }
@@ -250,6 +357,8 @@ pub fn ask<R: Register>(
     match asked.form {
         Form::Command => desk.ask(alloc, &Request::Operator(asked.text)),
         Form::Message(sender, mt) => desk.ask(alloc, &Request::Message(sender, mt, asked.text)),
+        Form::Status(sender) => desk.ask(alloc, &Request::Status(sender, asked.text)),
+        Form::Sent(receiver, number) => desk.ask(alloc, &Request::Sent(receiver, number)),
         Form::Sums => desk.ask(alloc, &Request::Sums),
     }
 }

@@ -21,7 +21,7 @@ fn a_day_is_answered(rt: HostRuntime) -> Result<(), Fail> {
     let to = AccountId::read(b"B-1").ok_or("account")?;
     let mut register = desk.into_register();
     assert_eq!(rt; register.position(alloc, from, isin)?, 600);
-    assert_eq!(rt; register.position(alloc, to, isin)?, 400);
+    assert_eq!(rt; register.position(alloc, to, isin)?, 300);
     assert_eq!(rt; register.count(alloc)?, ACCEPTED);
     Ok(())
 }

@@ -229,8 +229,8 @@ fn stage_of(alloc: Global, day: &[Asked<'_>], call: u64) -> Stage {
     desk.into_register().failed_in()
 }
 
-/// Nine requests of the day are accepted, and each is added and committed within a `begin`.
-const LEAST_WITHIN: u64 = 18;
+/// Twelve requests of the day are accepted, and each is added and committed within a `begin`.
+const LEAST_WITHIN: u64 = 24;
 
 /// Two calls fail, and the one between them goes well. With no `begin` open that one is the `begin` by which the desk
 /// sees what is held, and its `back` fails: the desk is closed. Within a `begin` it is the `back`: the fault is told, and

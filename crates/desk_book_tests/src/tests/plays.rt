@@ -4,6 +4,7 @@ use crate::tests::scripts::FREE_PAIR;
 use desk_book::*;
 use desk_register::Register;
 use desk_rules::MOST_ENTRIES;
+use std::alloc::Global;
 use std::io;
 use std::io::{ErrorKind, Read, Write};
 use std::test::Fail;
@@ -80,7 +81,10 @@ pub const ANSWERS: &[u8] = b"200\n\
       .\n";
 
 /// The free pair's requests that are accepted; the last of its script asks for the totals.
-const ACCEPTED: usize = 9;
+const ACCEPTED: u64 = 9;
+
+/// So many requests that their answers fill more than two pieces.
+const MANY: usize = 1000;
 
 /// Gives a text in pieces, and fails at one read, as one that is interrupted. It counts its reads.
 #[derive(Drop)]
@@ -217,7 +221,8 @@ fn each_failed_write(rt: HostRuntime) -> Result<(), Fail> {
         };
         desk.play(alloc, &mut reader, &mut writer)?;
         assert_eq!(rt; writer.taken.as_slice(), ANSWERS);
-        for fails_at in 1..writer.writes.saturating_add(1) {
+        let middle = (writer.writes / 2).saturating_add(1);
+        for fails_at in [1, middle, writer.writes] {
             let mut desk = new_desk(alloc, MOST_ENTRIES);
             let mut reader = FREE_PAIR;
             let mut failing = Taking {
@@ -234,14 +239,67 @@ fn each_failed_write(rt: HostRuntime) -> Result<(), Fail> {
             );
             assert_eq!(rt; failing.writes, fails_at);
             assert!(rt; ANSWERS.starts_with(&failing.taken), "at {fails_at}");
-            let asked = whole_answers(&failing.taken).saturating_add(1);
             let mut register = desk.into_register();
-            assert_eq!(rt;
-                register.count(alloc)?,
-                asked.min(ACCEPTED) as u64,
-                "at {fails_at}"
-            );
+            assert_eq!(rt; register.count(alloc)?, ACCEPTED, "at {fails_at}");
         }
+    }
+    Ok(())
+}
+
+/// A participant, and so many accounts of its own.
+fn many_accounts(alloc: Global) -> Result<Vec<u8>, Fail> {
+    let mut script = Vec::new(alloc);
+    script.extend_from_slice(
+        b"op\n{\"op\":\"participant\",\"ref\":\"P1\",\"bic\":\"ALPHDEFF\"}\n.\n",
+    )?;
+    for number in 1..MANY {
+        let command = format!(in alloc;
+            "op\n{{\"op\":\"account\",\"ref\":\"C{number}\",\"bic\":\"ALPHDEFF\",\"account\":\"A-{number}\"}}\n.\n"
+        )?;
+        script.extend_from_slice(command.as_bytes())?;
+    }
+    Ok(script)
+}
+
+/// Each write but the last is of a whole piece. Where one fails, what was asked by then stands: all whose answers were
+/// written or waited, and no more.
+#[test]
+fn answers_in_pieces(rt: HostRuntime) -> Result<(), Fail> {
+    let alloc = rt.alloc();
+    let script = many_accounts(alloc)?;
+    let mut answers = Vec::new(alloc);
+    let mut reader = script.as_slice();
+    new_desk(alloc, MOST_ENTRIES).play(alloc, &mut reader, &mut answers)?;
+    assert_eq!(rt; whole_answers(&answers), MANY);
+    let writes = answers.len().div_ceil(PIECE);
+    assert!(rt; writes >= 3);
+    for fails_at in 1..writes.saturating_add(2) {
+        let mut desk = new_desk(alloc, MOST_ENTRIES);
+        let mut reader = script.as_slice();
+        let mut writer = Taking {
+            taken: Vec::new(alloc),
+            piece: usize::MAX,
+            writes: 0,
+            fails_at,
+            is_full: false,
+        };
+        let answer = desk.play(alloc, &mut reader, &mut writer);
+        assert_eq!(rt; answer.is_ok(), fails_at > writes, "at {fails_at}");
+        assert_eq!(rt; writer.writes, fails_at.min(writes));
+        let whole = fails_at.saturating_sub(1).saturating_mul(PIECE);
+        let taken = whole.min(answers.len());
+        assert!(rt;
+            writer.taken.as_slice() == &answers[..taken],
+            "at {fails_at}"
+        );
+        let told = whole.saturating_add(PIECE).min(answers.len());
+        let asked = whole_answers(&answers[..told.saturating_sub(1)]).saturating_add(1);
+        let mut register = desk.into_register();
+        assert_eq!(rt;
+            register.count(alloc)?,
+            asked.min(MANY) as u64,
+            "at {fails_at}"
+        );
     }
     Ok(())
 }

@@ -100,7 +100,7 @@ pub const FREE_PAIR: &[u8] = b"op\n\
       .\n\
       sums\n";
 
-/// A letter an item: O a command, M a message, S sums, - what is no request.
+/// A letter an item: O a command, M a message, T a status, N a sent message, H holdings, S sums, - what is no request.
 fn shape(alloc: Global, script: &[u8]) -> Result<String, AllocError> {
     let mut letters = String::new(alloc);
     let mut rest = script;
@@ -118,8 +118,10 @@ fn letter(item: Item<'_>) -> char {
     match item {
         Item::Ask(Request::Operator(_)) => 'O',
         Item::Ask(Request::Message(..)) => 'M',
+        Item::Ask(Request::Status(..)) => 'T',
+        Item::Ask(Request::Sent(..)) => 'N',
+        Item::Ask(Request::Holdings(..)) => 'H',
         Item::Ask(Request::Sums) => 'S',
-        Item::Ask(_) => '?',
         Item::BadLine => '-',
     }
 }
@@ -158,6 +160,9 @@ fn first_words(rt: HostRuntime) -> Result<(), Fail> {
         (b"in ALPHDEFF\nsums\n.\nsums\n".as_slice(), "-S"),
         (b"in alphdeff 540\nsums\n.\nsums\n".as_slice(), "-S"),
         (b"in ALPHDEFFXXX 540\nsums\n.\nsums\n".as_slice(), "MS"),
+        (b"in ALPHDEFF 541\n.\nin ALPHDEFF 543\n.\n".as_slice(), "MM"),
+        (b"in ALPHDEFF 544\nsums\n.\nsums\n".as_slice(), "-S"),
+        (b"in ALPHDEFF 0540\nsums\n.\nsums\n".as_slice(), "-S"),
         (b" in ALPHDEFF 540\nsums\n.\nsums\n".as_slice(), "-S-S"),
         (b"input\nsums\n".as_slice(), "-S"),
         (b"IN ALPHDEFF 540\nsums\n".as_slice(), "-S"),
@@ -167,6 +172,58 @@ fn first_words(rt: HostRuntime) -> Result<(), Fail> {
     ] {
         assert_eq!(rt; shape(rt.alloc(), script)?.as_str(), want, "at {script:?}");
     }
+    Ok(())
+}
+
+#[test]
+fn questions(rt: HostRuntime) -> Result<(), Fail> {
+    for (script, want) in [
+        (
+            b"status ALPHDEFF A1\nstatus ALPHDEFFXXX A1\n".as_slice(),
+            "TT",
+        ),
+        (
+            b"status ALPHDEFF \nstatus ALPHDEFF  A 1 \r\n".as_slice(),
+            "TT",
+        ),
+        (
+            b"status ALPHDEFF\nstatus alphdeff A1\nstatus  ALPHDEFF A1".as_slice(),
+            "---",
+        ),
+        (
+            b"status\nstatus \nSTATUS ALPHDEFF A1\n status ALPHDEFF A1".as_slice(),
+            "----",
+        ),
+        (
+            b"sent ALPHDEFF 1\nsent ALPHDEFF 0\nsent ALPHDEFF 000000001".as_slice(),
+            "NNN",
+        ),
+        (
+            b"sent ALPHDEFF 999999999\nsent ALPHDEFF 0000000001".as_slice(),
+            "N-",
+        ),
+        (
+            b"sent ALPHDEFF \nsent ALPHDEFF\nsent ALPHDEFF 1 \nsent ALPHDEFF -1".as_slice(),
+            "----",
+        ),
+        (
+            b"holdings ALPHDEFF A-1\nholdings ALPHDEFF \nholdings ALPHDEFF".as_slice(),
+            "HH-",
+        ),
+    ] {
+        assert_eq!(rt; shape(rt.alloc(), script)?.as_str(), want, "at {script:?}");
+    }
+    let sender = Bic::parse(b"ALPHDEFF")?;
+    let Some((status, after)) = first_item(b"status ALPHDEFFXXX  A 1 \nsent ALPHDEFF 070") else {
+        assert!(rt; false, "no item");
+        return Ok(());
+    };
+    assert!(rt; status == Item::Ask(Request::Status(sender, b" A 1 ".as_slice())));
+    let Some((sent, _)) = first_item(after) else {
+        assert!(rt; false, "no item");
+        return Ok(());
+    };
+    assert!(rt; sent == Item::Ask(Request::Sent(sender, 70)));
     Ok(())
 }
 
@@ -215,6 +272,7 @@ fn long_bodies_and_lines(rt: HostRuntime) -> Result<(), Fail> {
         (b"in ALPHDEFF 540".as_slice(), "-S"),
         (b"#".as_slice(), "S-S"),
         (b"sums ".as_slice(), "-S-S"),
+        (b"status ALPHDEFF A1".as_slice(), "-S-S"),
     ] {
         let mut script = Vec::new(rt.alloc());
         script.extend_from_slice(start)?;

@@ -27,13 +27,16 @@ fn the_longest_script_and_more(rt: HostRuntime) -> Result<(), Fail> {
 #[test]
 fn answers_as_they_are_written(rt: HostRuntime) -> Result<(), Fail> {
     let mut out = Vec::new(rt.alloc());
-    write_answer(&mut out, 200, Some(548), b"{4:\r\n-}")?;
-    write_answer(&mut out, 200, None, b"accepted 1")?;
-    write_answer(&mut out, 422, None, b"")?;
-    write_bad_line(&mut out)?;
-    write_fault(&mut out, Fault::Memory)?;
-    write_fault(&mut out, Fault::Storage)?;
-    write_fault(&mut out, Fault::Closed)?;
+    let mut outbox = Outbox::new(rt.alloc())?;
+    outbox.answer(&mut out, 200, Some(548), b"{4:\r\n-}")?;
+    outbox.answer(&mut out, 200, None, b"accepted 1")?;
+    outbox.answer(&mut out, 422, None, b"")?;
+    outbox.bad_line(&mut out)?;
+    outbox.fault(&mut out, Fault::Memory)?;
+    outbox.fault(&mut out, Fault::Storage)?;
+    outbox.fault(&mut out, Fault::Closed)?;
+    assert!(rt; out.is_empty());
+    outbox.finish(&mut out)?;
     let want = b"200 548\n{4:\r\n-}\n.\n200\naccepted 1\n.\n422\n\n.\n400\nrefused 41\n.\n\
                  503\nfault 60\n.\n500\nfault 61\n.\n500\nfault 62\n.\n";
     assert_eq!(rt; out.as_slice(), want.as_slice());

@@ -1,7 +1,7 @@
 //! What each form of request is read as.
 use crate::tests::day::RECEIPT;
 use desk_book::*;
-use desk_codes::Bic;
+use desk_codes::{Bic, Reference};
 use desk_msg::{Message, Mt, fields_text};
 use desk_rules::Entry;
 use std::process::Abort;
@@ -18,6 +18,9 @@ const CANCELLATION: &[u8] = b"{4:\n\
       :16S:GENL\n\
       -}\n";
 
+/// What it says.
+const CANCELLED: &str = "function CANC\nreference B2\nprevious B1";
+
 /// What the receipt B1 says.
 const RECEIVED: &str =
     "function NEWM\nreference B1\ndate 20240229\nisin DE0007164600\nquantity UNIT 400,\naccount B-1\nsettlement TRAD\nplace DESKDEFF\ncounterparty ALPHDEFF";
@@ -26,7 +29,20 @@ const RECEIVED: &str =
 fn command_in(task: &Task) -> Option<Entry> {
     match task {
         Task::Decide(entry) => Some(*entry),
-        Task::Totals | Task::Answer(_) => None,
+        Task::Status(..) | Task::Sent(..) | Task::Holdings(..) | Task::Totals | Task::Answer(_) =>
+            None,
+    }
+}
+
+/// A participant's message, and who sent it.
+fn message_in(entry: Entry) -> Option<(Bic, Message)> {
+    match entry {
+        Entry::Instruct {
+            sender,
+            instruction,
+        } => Some((sender, Message::New(instruction))),
+        Entry::Cancel { sender, order } => Some((sender, Message::Cancel(order))),
+        _ => None,
     }
 }
 
@@ -36,19 +52,26 @@ fn message_to_decide_on(rt: HostRuntime) -> Result<(), Fail> {
     let sender = Bic::parse(b"BETADEFF")?;
     let task = task_of(alloc, &Request::Message(sender, Mt::Mt540, RECEIPT))?;
     let entry = command_in(&task).ok_or("no command")?;
-    let (from, message) = match entry {
-        Entry::Instruct {
-            sender,
-            instruction,
-        } => (sender, Message::New(instruction)),
-        _ => {
-            assert!(rt; false, "no instruction");
-            return Ok(());
-        }
-    };
+    let (from, message) = message_in(entry).ok_or("no message")?;
     assert!(rt; from == sender);
     let fields = fields_text(alloc, &message)?;
     assert_eq!(rt; fields.as_slice(), RECEIVED.as_bytes());
+    Ok(())
+}
+
+/// Instructions to receive and to deliver may be cancelled, free and against payment.
+#[test]
+fn cancellation_to_decide_on(rt: HostRuntime) -> Result<(), Fail> {
+    let alloc = rt.alloc();
+    let sender = Bic::parse(b"BETADEFF")?;
+    for mt in [Mt::Mt540, Mt::Mt541, Mt::Mt542, Mt::Mt543] {
+        let task = task_of(alloc, &Request::Message(sender, mt, CANCELLATION))?;
+        let entry = command_in(&task).ok_or("no command")?;
+        let (from, message) = message_in(entry).ok_or("no message")?;
+        assert!(rt; from == sender, "at {mt:?}");
+        let fields = fields_text(alloc, &message)?;
+        assert_eq!(rt; fields.as_slice(), CANCELLED.as_bytes(), "at {mt:?}");
+    }
     Ok(())
 }
 
@@ -77,10 +100,9 @@ fn refused_as_they_are_read(rt: HostRuntime) -> Result<(), Fail> {
         ),
         (Mt::Mt540, b"{4:\n-}\n".as_slice(), "refused 5 23G"),
         (Mt::Mt542, RECEIPT, "refused 5 REAG"),
-        (Mt::Mt540, CANCELLATION, "refused 8"),
-        (Mt::Mt542, CANCELLATION, "refused 8"),
-        (Mt::Mt541, RECEIPT, "refused 41"),
-        (Mt::Mt543, b"".as_slice(), "refused 41"),
+        (Mt::Mt543, RECEIPT, "refused 5 REAG"),
+        (Mt::Mt541, b"".as_slice(), "refused 1"),
+        (Mt::Mt544, CANCELLATION, "refused 41"),
         (Mt::Mt544, RECEIPT, "refused 41"),
         (Mt::Mt546, RECEIPT, "refused 41"),
     ] {
@@ -89,17 +111,41 @@ fn refused_as_they_are_read(rt: HostRuntime) -> Result<(), Fail> {
     }
     for text in [
         b"".as_slice(),
-        br#"{"op":"redeem","ref":"X1","account":"A-1","isin":"DE0007164600","quantity":1}"#.as_slice(),
+        br#"{"op":"close","ref":"X1"}"#.as_slice(),
         RECEIPT,
     ] {
         let task = task_of(alloc, &Request::Operator(text))?;
         is_refused(&rt, &task, "refused 30");
     }
-    let status = task_of(alloc, &Request::Status(bic, b"B1".as_slice()))?;
-    is_refused(&rt, &status, "refused 41");
-    let sent = task_of(alloc, &Request::Sent(bic, 1))?;
-    is_refused(&rt, &sent, "refused 41");
-    let holdings = task_of(alloc, &Request::Holdings(bic, b"B-1".as_slice()))?;
-    is_refused(&rt, &holdings, "refused 41");
+    Ok(())
+}
+
+/// What is asked about: a reference, or none where the text is none.
+#[test]
+fn questions(rt: HostRuntime) -> Result<(), Fail> {
+    let alloc = rt.alloc();
+    let bic = Bic::parse(b"BETADEFF")?;
+    for text in [
+        b"B1".as_slice(),
+        b"".as_slice(),
+        b"/B1".as_slice(),
+        b"B 1 ".as_slice(),
+    ] {
+        let task = task_of(alloc, &Request::Status(bic, text))?;
+        let Task::Status(sender, reference) = task else {
+            assert!(rt; false, "no status at {text:?}");
+            return Ok(());
+        };
+        assert!(rt;
+            sender == bic && reference == Reference::read(text),
+            "at {text:?}"
+        );
+    }
+    let task = task_of(alloc, &Request::Sent(bic, 7))?;
+    let Task::Sent(receiver, number) = task else {
+        assert!(rt; false, "no sent message");
+        return Ok(());
+    };
+    assert!(rt; receiver == bic && number == 7);
     Ok(())
 }

@@ -5,12 +5,12 @@ use desk_lists::ListRegister;
 use desk_msg::Kind;
 use desk_plain::{Books, credits, debits, pairing_of, reply_to, settlement_of, standing_of};
 use desk_register::Register;
-use desk_rules::{Entry, MOST_ENTRIES, Pair, Refusal, Reply, Settled, Standing};
+use desk_rules::{Entry, MOST_ENTRIES, Pair, Reply, Settled, Standing};
 use desk_samples::entries::{
-    EntryFault, InstructionTexts, SHARE, account, delivery, instruct, isin, issue, new_account,
-    participant, receipt, run, security,
+    InstructionTexts, SHARE, account, delivery, instruct, isin, issue, new_account, participant,
+    receipt, run, security,
 };
-use desk_samples::ledger::{Entered, Ledger};
+use desk_samples::ledger::Ledger;
 use std::alloc::{AllocError, Global};
 use std::process::Abort;
 use std::test::Fail;
@@ -348,56 +348,5 @@ fn waits_for_securities(rt: HostRuntime) -> Result<(), Fail> {
     enters(&rt, alloc, &mut ledger, more, (0, 0))?;
     enters(&rt, alloc, &mut ledger, second, (1, 0))?;
     assert_eq!(rt; compared(&rt, alloc, ledger)?, [0, 0, 1001, 0]);
-    Ok(())
-}
-
-/// One of sixteen entries.
-fn drawn(alloc: Global, number: u64) -> Result<Entry, EntryFault> {
-    let (given, taken) = onward();
-    match number {
-        0 => instruct(alloc, delivery("A1")),
-        1 => instruct(alloc, receipt("B1")),
-        2 => instruct(alloc, delivery("A2")),
-        3 => instruct(alloc, receipt("B3")),
-        4 => instruct(alloc, given),
-        5 => instruct(alloc, taken),
-        6 => instruct(alloc, of_day(delivery("A5"), "900", "20240301")),
-        7 => instruct(alloc, of_day(receipt("B5"), "900", "20240301")),
-        8 => instruct(alloc, own_delivery("300")),
-        9 => instruct(alloc, own_receipt("A-2", "300")),
-        10 => issue("I2", "B-1", SHARE, 200),
-        11 => issue("I3", "A-1", SHARE, 500),
-        12 => run("R1", b"20240229"),
-        13 => run("R2", b"20240301"),
-        14 => run("R3", b"20240301"),
-        _ => run("R4", b"20240302"),
-    }
-}
-
-/// A history of two dozen draws from a seed. What is drawn again is a repeat, and a run may be refused, since its day
-/// goes back; all else is accepted.
-fn drawn_day(rt: &impl Abort, alloc: Global, seed: u64) -> Result<[u64; 4], Fail> {
-    let mut ledger = base(alloc)?;
-    let mut state = seed;
-    for _draw in 0..24 {
-        state = state
-            .wrapping_mul(6_364_136_223_846_793_005)
-            .wrapping_add(1_442_695_040_888_963_407);
-        let entry = drawn(alloc, (state >> 32) % 16)?;
-        let is_run = matches!(entry, Entry::Run { .. });
-        match ledger.enter(alloc, entry)? {
-            Entered::Accepted(_) | Entered::Repeated(_) => {}
-            Entered::Refused(refusal) => assert!(rt; is_run && refusal == Refusal::DayGoesBack),
-        }
-    }
-    compared(rt, alloc, ledger)
-}
-
-#[test]
-fn drawn_days(rt: HostRuntime) -> Result<(), Fail> {
-    let alloc = rt.alloc();
-    for seed in 0..40 {
-        let _ = drawn_day(&rt, alloc, seed)?;
-    }
     Ok(())
 }

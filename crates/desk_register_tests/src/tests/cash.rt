@@ -3,6 +3,7 @@
 ghost use Rattle.std.specs.Prelude.{◌<◌, ◌≤◌};
 ghost use Rattle.desk_rules.specs.declared.limits.TheConstants.{MOST_PAID};
 
+use super::filled::named;
 use desk_codes::{Bic, Ccy};
 use desk_index::IndexedRegister;
 use desk_lists::ListRegister;
@@ -27,7 +28,7 @@ fn payment(key: &str, bic: Bic, ccy: Ccy, amount: u64) -> Result<Payment, Fail>
     })
 }
 
-fn pay_in(key: &str, bic: Bic, ccy: Ccy, amount: u64) -> Result<Entry, Fail>
+pub fn pay_in(key: &str, bic: Bic, ccy: Ccy, amount: u64) -> Result<Entry, Fail>
     requires some { 0 < amount }
     requires within { amount ≤ MOST_PAID }
 {
@@ -44,16 +45,25 @@ fn pay_out(key: &str, bic: Bic, ccy: Ccy, amount: u64) -> Result<Entry, Fail>
 fn pays_in_and_out_in<R: MemoryRegister>(rt: &impl Abort, alloc: Global) -> Result<(), Fail> {
     let alpha = bic("ALPHDEFF")?;
     let beta = bic("BETADEFF")?;
-    let mut register = R::empty(alloc, 10);
+    let mut register: R = named(alloc)?.into_register();
     assert_eq!(rt; register.held_cash(alloc, Ccy::Eur)?, 0);
     assert_eq!(rt; register.paid(alloc, Ccy::Eur)?, None);
     register.begin(alloc)?;
-    assert!(rt; add(alloc, &mut register, pay_in("C1", alpha, Ccy::Eur, 700)?)?);
-    assert!(rt; add(alloc, &mut register, pay_in("C2", beta, Ccy::Eur, 50)?)?);
-    assert!(rt; add(alloc, &mut register, pay_out("C3", alpha, Ccy::Eur, 300)?)?);
+    assert!(rt; add(alloc, &mut register, pay_in("M1", alpha, Ccy::Eur, 700)?)?);
+    assert!(rt; add(alloc, &mut register, pay_in("M2", beta, Ccy::Eur, 50)?)?);
+    assert!(rt; add(alloc, &mut register, pay_out("M3", alpha, Ccy::Eur, 300)?)?);
     assert_eq!(rt; register.cash(alloc, alpha, Ccy::Eur)?, 400);
     assert_eq!(rt; register.cash(alloc, beta, Ccy::Eur)?, 50);
     assert_eq!(rt; register.paid(alloc, Ccy::Eur)?, Some(450));
+    assert_eq!(rt; register.held_cash(alloc, Ccy::Eur)?, 450);
+    // of no participant
+    assert!(rt;
+        !add(
+            alloc,
+            &mut register,
+            pay_in("M4", bic("GAMMDEFF")?, Ccy::Eur, 1)?
+        )?
+    );
     // another currency
     assert_eq!(rt; register.cash(alloc, alpha, Ccy::Usd)?, 0);
     assert_eq!(rt; register.paid(alloc, Ccy::Usd)?, None);
@@ -68,24 +78,24 @@ fn pays_in_and_out(rt: HostRuntime) -> Result<(), Fail> {
 
 fn goes_back_in<R: MemoryRegister>(rt: &impl Abort, alloc: Global) -> Result<(), Fail> {
     let alpha = bic("ALPHDEFF")?;
-    let mut register = R::empty(alloc, 10);
+    let mut register: R = named(alloc)?.into_register();
     register.begin(alloc)?;
-    assert!(rt; add(alloc, &mut register, pay_in("C1", alpha, Ccy::Eur, 700)?)?);
+    assert!(rt; add(alloc, &mut register, pay_in("M1", alpha, Ccy::Eur, 700)?)?);
     register.commit(alloc)?;
     register.begin(alloc)?;
     // all of it, and no more
-    assert!(rt; !add(alloc, &mut register, pay_out("C2", alpha, Ccy::Eur, 701)?)?);
-    assert!(rt; add(alloc, &mut register, pay_out("C2", alpha, Ccy::Eur, 700)?)?);
+    assert!(rt; !add(alloc, &mut register, pay_out("M2", alpha, Ccy::Eur, 701)?)?);
+    assert!(rt; add(alloc, &mut register, pay_out("M2", alpha, Ccy::Eur, 700)?)?);
     assert_eq!(rt; register.paid(alloc, Ccy::Eur)?, Some(0));
     // up to the most, and no more
     assert!(rt;
         add(
             alloc,
             &mut register,
-            pay_in("C3", alpha, Ccy::Eur, MOST_PAID)?
+            pay_in("M3", alpha, Ccy::Eur, MOST_PAID)?
         )?
     );
-    assert!(rt; !add(alloc, &mut register, pay_in("C4", alpha, Ccy::Eur, 1)?)?);
+    assert!(rt; !add(alloc, &mut register, pay_in("M4", alpha, Ccy::Eur, 1)?)?);
     register.back(alloc)?;
     assert_eq!(rt; register.cash(alloc, alpha, Ccy::Eur)?, 700);
     assert_eq!(rt; register.paid(alloc, Ccy::Eur)?, Some(700));

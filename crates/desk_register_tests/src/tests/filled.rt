@@ -14,10 +14,8 @@ use desk_samples::memory::MemoryRegister;
 use std::alloc::Global;
 use std::test::Fail;
 
-/// Two participants, an account of each, a share and a bond, 1000 of the share on A-1 and 7 of the bond on B-1: the
-/// entries 1 to 8. Then 400 of the share from A-1 to B-1, due on 29 February 2024, as the pair of 9 and 10; 600 more
-/// that no one receives, as 11; and a run for the day before, as 12.
-pub fn filled<R: MemoryRegister>(alloc: Global) -> Result<Ledger<R>, Fail> {
+/// Two participants, an account of each, a share and a bond: the entries 1 to 6.
+pub fn named<R: MemoryRegister>(alloc: Global) -> Result<Ledger<R>, Fail> {
     let entries = [
         participant("P1", "ALPHDEFF")?,
         participant("P2", "BETADEFF")?,
@@ -25,6 +23,22 @@ pub fn filled<R: MemoryRegister>(alloc: Global) -> Result<Ledger<R>, Fail> {
         new_account("C2", "BETADEFF", "B-1")?,
         security("S1", SHARE, Kind::Unit)?,
         security("S2", BOND, Kind::FaceAmount)?,
+    ];
+    let mut ledger = Ledger::new(alloc, 1000);
+    for entry in entries {
+        let _applied = ledger
+            .enter(alloc, entry)?
+            .accepted()
+            .ok_or("not accepted")?;
+    }
+    Ok(ledger)
+}
+
+/// The same with 1000 of the share on A-1 and 7 of the bond on B-1: the entries 7 and 8. Then 400 of the share from A-1
+/// to B-1, due on 29 February 2024, as the pair of 9 and 10; 600 more that no one receives, as 11; and a run for the day
+/// before, as 12.
+pub fn filled<R: MemoryRegister>(alloc: Global) -> Result<Ledger<R>, Fail> {
+    let entries = [
         issue("I1", "A-1", SHARE, 1000)?,
         issue("I2", "B-1", BOND, 7)?,
         instruct(alloc, delivery("A1"))?,
@@ -32,7 +46,7 @@ pub fn filled<R: MemoryRegister>(alloc: Global) -> Result<Ledger<R>, Fail> {
         instruct(alloc, more(delivery("A2")))?,
         run("R1", b"20240228")?,
     ];
-    let mut ledger = Ledger::new(alloc, 1000);
+    let mut ledger = named(alloc)?;
     for entry in entries {
         let _applied = ledger
             .enter(alloc, entry)?

@@ -1,14 +1,17 @@
 //! A pair that is covered settles, and one that is short does not; `back` takes either back.
-ghost use Rattle.std.specs.Prelude.{◌≡◌, ◌≤◌, OnOk};
+ghost use Rattle.std.specs.Prelude.{◌≡◌, ◌<◌, ◌≤◌, OnOk};
+ghost use Rattle.desk_rules.specs.declared.limits.TheConstants.{MOST_PAID};
 
+use super::cash::pay_in;
 use super::filled::{at, filled, standing};
+use desk_codes::Ccy;
 use desk_index::IndexedRegister;
 use desk_lists::ListRegister;
 use desk_msg::Reason;
 use desk_register::{Outcome, Register};
 use desk_rules::{Lack, Standing, State};
 use desk_samples::entries::{
-    InstructionTexts, SHARE, account, day, delivery, instruct, isin, receipt,
+    InstructionTexts, SHARE, account, against_payment, bic, day, delivery, instruct, isin, receipt,
 };
 use desk_samples::ledger::Ledger;
 use desk_samples::memory::MemoryRegister;
@@ -122,4 +125,72 @@ fn waits_in<R: MemoryRegister>(rt: &impl Abort, alloc: Global) -> Result<(), Fai
 fn waits(rt: HostRuntime) -> Result<(), Fail> {
     waits_in::<ListRegister>(&rt, rt.alloc())?;
     waits_in::<IndexedRegister>(&rt, rt.alloc())
+}
+
+/// One of the share before it, against EUR 1000.50: the entries 14 and 15, after so much was paid in, as 13.
+fn owed<R: MemoryRegister>(alloc: Global, cents: u64) -> Result<Ledger<R>, Fail>
+    requires some { 0 < cents }
+    requires within { cents ≤ MOST_PAID }
+{
+    let given = InstructionTexts {
+        quantity: "1",
+        day: "20240201",
+        ..against_payment(delivery("A3"))
+    };
+    let taken = InstructionTexts {
+        quantity: "1",
+        day: "20240201",
+        ..against_payment(receipt("B3"))
+    };
+    let entries = [
+        pay_in("M1", bic("BETADEFF")?, Ccy::Eur, cents)?,
+        instruct(alloc, given)?,
+        instruct(alloc, taken)?,
+    ];
+    let mut ledger = filled(alloc)?;
+    for entry in entries {
+        let _applied = ledger
+            .enter(alloc, entry)?
+            .accepted()
+            .ok_or("not accepted")?;
+    }
+    Ok(ledger)
+}
+
+/// What the deliverer and the receiver have in cash.
+fn cash_of<R: Register>(alloc: Global, register: &mut R) -> Result<(u64, u64), Fail>
+    ensures { OnOk result ((R.view register.new).stage ≡ (R.view register.old).stage) }
+{
+    let alpha = bic("ALPHDEFF")?;
+    let beta = bic("BETADEFF")?;
+    let deliverer = register.cash(alloc, alpha, Ccy::Eur)?;
+    let receiver = register.cash(alloc, beta, Ccy::Eur)?;
+    Ok((deliverer, receiver))
+}
+
+fn settles_against_payment_in<R: MemoryRegister>(
+    rt: &impl Abort,
+    alloc: Global,
+) -> Result<(), Fail> {
+    let ledger = owed::<R>(alloc, 100_050)?;
+    let (mut register, outcome) = try_first(alloc, ledger, day(b"20240229")?)?;
+    assert_eq!(rt; outcome, Some(Outcome::Settled));
+    assert_eq!(rt; cash_of(alloc, &mut register)?, (100_050, 0));
+    register.back(alloc)?;
+    assert_eq!(rt; cash_of(alloc, &mut register)?, (0, 100_050));
+    let ledger = owed::<R>(alloc, 100_049)?;
+    let (mut register, outcome) = try_first(alloc, ledger, day(b"20240229")?)?;
+    assert_eq!(rt; outcome, Some(Outcome::Lacks(Lack::Money)));
+    assert_eq!(rt; cash_of(alloc, &mut register)?, (0, 100_049));
+    assert_eq!(rt;
+        register.standing(alloc, 15)?.state,
+        State::Matched(Reason::Money)
+    );
+    Ok(())
+}
+
+#[test]
+fn settles_against_payment(rt: HostRuntime) -> Result<(), Fail> {
+    settles_against_payment_in::<ListRegister>(&rt, rt.alloc())?;
+    settles_against_payment_in::<IndexedRegister>(&rt, rt.alloc())
 }

@@ -5,4 +5,4 @@ pub returns-in-Decide-clause-answered : goal.returns-in-Decide-clause-answered
 returns-in-Decide-clause-answered g c = λ books honest keeps.
     rw c.in-Decide.is
     (answers_decided (g.R.Register.view c.args.register.now).room books c.in-Decide.entry (g.R.Register.view c.rule.new.register).content c.rule.result
-    (rw c.in-Decide.is at c.requires.formed) (rw c.in-Decide.is at c.requires.supported) keeps.formed keeps.supported (c.rule.ensures.decides books honest keeps.tables))
+    (rw c.in-Decide.is at c.requires.formed) keeps.formed (c.rule.ensures.decides books honest keeps.tables))

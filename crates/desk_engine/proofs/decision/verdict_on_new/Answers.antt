@@ -2,7 +2,7 @@ use Rattle.std.proofs.Common.{◌≢◌, length, sym, ◌∙◌, ap, arith}
 use Rattle.desk_register.specs.declared.register.Stage.TheVariants.{Failed}
 use Rattle.std.specs.Prelude.{nat_le}
 use Rattle.desk_rules.specs.Content.{Content, history_of}
-use Rattle.desk_engine.specs.Deciding.{checks_in}
+use Rattle.desk_register.specs.Checked.{checks_in}
 use Rattle.desk_engine.proofs.DecisionLemmas.{refused, verdict_accept, verdict_full}
 use Rattle.desk_engine.proofs.decision.verdict_on_new.Goals as goal
 

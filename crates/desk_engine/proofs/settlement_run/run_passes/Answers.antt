@@ -1,6 +1,8 @@
-use Rattle.std.proofs.Common.{refl, sym, ◌<◌, ◌≤◌, ◌^◌, ◌∙◌, arith, rules}
+use Rattle.std.proofs.Common.{refl, sym, ◌+◌, ◌<◌, ◌≤◌, ◌^◌, ◌∙◌, arith, rules}
+use Rattle.desk_register.specs.declared.register.Fault.TheVariants.{Storage}
 use Rattle.desk_register.proofs.ViewLemmas.{begun_goes}
-use Rattle.desk_engine.proofs.RunningLemmas.{can_begin, passing_begins, passing_can_go, passing_goes_on, passing_ends, passing_ends_all, makes_another, makes_no_other}
+use Rattle.desk_engine.proofs.StepLaws.{gives_up}
+use Rattle.desk_engine.proofs.RunningLemmas.{can_begin, passing_begins, passing_can_go, passing_goes_on, passing_ends, passing_ends_all, passing_ends_none, passing_settles_few, makes_another, makes_no_other}
 use Rattle.desk_engine.proofs.settlement_run.run_passes.Goals as goal
 
 pub run_pass-requires-clause-fits : goal.run_pass-requires-clause-fits
@@ -50,3 +52,27 @@ returns-clause-ran g c = λ books reference honest sure tables.
     rw (c.in_all-2.ensures.settled, c.in_all-2.ensures.waiting, c.in_all-2.ensures.passes)
     (passing_ends_all v0.room c.in_ok-count.count v0 (g.R.Register.view c.passes.register) c.args.day c.args.rule c.passes.again c.passes.passed.settled c.passes.passed.waiting c.passes.last refl c.passes.invariant books reference
     all honest sure tables)
+
+pub returns-then-count-passed-clause-step : goal.returns-then-count-passed-clause-step
+returns-then-count-passed-clause-step g c =
+    let v0 = g.R.Register.view c.args.register.now in
+    let w = g.R.Register.view c.run_pass-in-passes.new.register in
+    let more = makes_another c.args.rule c.passes.last (sym c.makes_another.ensures ∙ c.if-not-makes_another.false) in
+    let p = c.in_ok-further.ensures in
+    let small : c.in_ok-count.count < 2 ^ 64 = search rules in
+    let many : c.in_ok-count.count < c.with-passed.result.settled = (let test = c.if-count-passed.true in omega arith) in
+    let on = passing_goes_on v0.room c.in_ok-count.count v0 (g.R.Register.view c.passes.register) c.args.day c.args.rule c.passes.again c.passes.passed.settled c.passes.passed.waiting c.passes.last refl c.passes.invariant
+    w c.with-passed.result.settled c.in_ok-further.further.settled c.in_ok-further.further.waiting more.0 more.1
+    p.step.ok p.step.later p.kept (λ books reference rule pass start honest sure. p.ran books reference rule pass start honest sure) c.with-passed.ensures.settled small in
+    gives_up Storage v0 w c.requires.stage on.stays on.later refl
+    (passing_settles_few v0.room c.in_ok-count.count v0 w c.args.day c.args.rule (c.passes.again + 1) c.with-passed.result.settled c.in_ok-further.further.waiting c.in_ok-further.further.settled refl on c.requires.tables many)
+
+pub returns-then-count-gt0-clause-step : goal.returns-then-count-gt0-clause-step
+returns-then-count-gt0-clause-step g c =
+    let v0 = g.R.Register.view c.args.register.now in
+    let v = g.R.Register.view c.passes.register in
+    let i = c.passes.invariant in
+    let all : c.in_ok-count.count ≤ c.passes.again = omega arith in
+    let some : 0 < c.in_ok-count.count = (let test = c.if-count-gt0.true in omega arith) in
+    gives_up Storage v0 v c.requires.stage i.stays i.later refl
+    (passing_ends_none v0.room c.in_ok-count.count v0 v c.args.day c.args.rule c.passes.again c.passes.passed.settled c.passes.passed.waiting c.passes.last refl i c.requires.tables all some)

@@ -13,7 +13,7 @@ returns-then-balance_of-quantity-clause-settled c =
     let l = c.args.lists.now in
     let later = c.args.later.now.instruction in
     let IsLess : Instructed → Type 0 = λ d. balance_in (listed l) (Position d.instruction.account later.isin) < later.quantity in
-    (subst IsLess c.delivery-from.ensures (omega (arith, c.balance_of.ensures)), stood_content (listed l) (listed c.stand_both.new.lists) _ c.in_ok-stand_both.ensures.rest c.in_ok-stand_both.ensures.stands)
+    (subst IsLess c.delivery-from.ensures (omega (arith, c.balance_of.ensures)), stood_content (listed l) (listed c.wait.new.lists) _ c.in_ok-wait.ensures.rest c.in_ok-wait.ensures.stands)
 
 pub returns-then-lacks_cash-clause-settled : goal.returns-then-lacks_cash-clause-settled
 returns-then-lacks_cash-clause-settled c =
@@ -21,22 +21,22 @@ returns-then-lacks_cash-clause-settled c =
     let later = c.args.later.now.instruction in
     let IsThere : Instructed → Type 0 = λ d. later.quantity ≤ balance_in (listed l) (Position d.instruction.account later.isin) in
     let Lacks : Instructed → Type 0 = λ r. LacksCash (λ p y. balance_in (listed l) (Cash p y)) r.sender later.cash in
-    let stood = c.in_ok-stand_both-2.ensures in (
+    let stood = c.in_ok-wait-2.ensures in (
       subst IsThere c.delivery-from.ensures (omega (arith, c.balance_of.ensures)),
       subst Lacks c.receipt-to.ensures (c.if-lacks_cash.ensures.lacks refl),
-      stood_content (listed l) (listed c.stand_both-then-lacks_cash.new.lists) _ stood.rest stood.stands,
+      stood_content (listed l) (listed c.wait-then-lacks_cash.new.lists) _ stood.rest stood.stands,
     )
 
 pub returns-then-balance_of-quantity-clause-rest : goal.returns-then-balance_of-quantity-clause-rest
-returns-then-balance_of-quantity-clause-rest c = stood_totals (listed c.args.lists.now) (listed c.stand_both.new.lists) c.in_ok-stand_both.ensures.rest
+returns-then-balance_of-quantity-clause-rest c = stood_totals (listed c.args.lists.now) (listed c.wait.new.lists) c.in_ok-wait.ensures.rest
 
 pub returns-then-lacks_cash-clause-rest : goal.returns-then-lacks_cash-clause-rest
-returns-then-lacks_cash-clause-rest c = stood_totals (listed c.args.lists.now) (listed c.stand_both-then-lacks_cash.new.lists) c.in_ok-stand_both-2.ensures.rest
+returns-then-lacks_cash-clause-rest c = stood_totals (listed c.args.lists.now) (listed c.wait-then-lacks_cash.new.lists) c.in_ok-wait-2.ensures.rest
 
 pub move_between-requires-clause-held : goal.move_between-requires-clause-held
 move_between-requires-clause-held c =
     let later = c.args.later.now.instruction in
-    let same = ap (λ b. b (Position c.delivery-from.result.now.instruction.account later.isin)) (same_balances (listed c.args.lists.now) (listed c.stand_both-2.new.lists) c.in_ok-stand_both-3.ensures.rest) in
+    let same = ap (λ b. b (Position c.delivery-from.result.now.instruction.account later.isin)) (same_balances (listed c.args.lists.now) (listed c.stand_both.new.lists) c.in_ok-stand_both.ensures.rest) in
     omega (arith, same, c.balance_of.ensures)
 
 pub move_between-requires-clause-fits : goal.move_between-requires-clause-fits
@@ -46,14 +46,14 @@ move_between-requires-clause-fits c =
     let IsThere : Instructed → Type 0 = λ d. later.quantity ≤ balance_in (listed l) (Position d.instruction.account later.isin) in
     let Fits : Instructed → Type 0 = λ r. balance_in (listed l) (Position r.instruction.account later.isin) + later.quantity < 2 ^ 63 in
     let fits = subst Fits (sym c.receipt-to.ensures) (c.requires.fits.securities (subst IsThere c.delivery-from.ensures (omega (arith, c.balance_of.ensures)))) in
-    let same = ap (λ b. b (Position c.receipt-to.result.now.instruction.account later.isin)) (same_balances (listed l) (listed c.stand_both-2.new.lists) c.in_ok-stand_both-3.ensures.rest) in
+    let same = ap (λ b. b (Position c.receipt-to.result.now.instruction.account later.isin)) (same_balances (listed l) (listed c.stand_both.new.lists) c.in_ok-stand_both.ensures.rest) in
     omega (arith, same, fits)
 
 pub pay-requires-clause-held : goal.pay-requires-clause-held
 pay-requires-clause-held c =
     let later = c.args.later.now.instruction in
-    let same = same_cash (listed c.args.lists.now) (listed c.stand_both-2.new.lists) (listed c.move_between.new.lists) c.delivery-from.result.now.instruction.account c.receipt-to.result.now.instruction.account later.isin later.quantity
-    c.in_ok-stand_both-3.ensures.rest c.in_ok-move_between.ensures.moved in
+    let same = same_cash (listed c.args.lists.now) (listed c.stand_both.new.lists) (listed c.move_between.new.lists) c.delivery-from.result.now.instruction.account c.receipt-to.result.now.instruction.account later.isin later.quantity
+    c.in_ok-stand_both.ensures.rest c.in_ok-move_between.ensures.moved in
     let Has : CashBalances → Type 0 = λ z. HasCash z c.receipt-to.result.now.sender later.cash in
     subst Has (sym same) (c.if-lacks_cash.ensures.has refl)
 
@@ -61,8 +61,8 @@ pub pay-requires-clause-fits : goal.pay-requires-clause-fits
 pay-requires-clause-fits c =
     let l = c.args.lists.now in
     let later = c.args.later.now.instruction in
-    let same = same_cash (listed c.args.lists.now) (listed c.stand_both-2.new.lists) (listed c.move_between.new.lists) c.delivery-from.result.now.instruction.account c.receipt-to.result.now.instruction.account later.isin later.quantity
-    c.in_ok-stand_both-3.ensures.rest c.in_ok-move_between.ensures.moved in
+    let same = same_cash (listed c.args.lists.now) (listed c.stand_both.new.lists) (listed c.move_between.new.lists) c.delivery-from.result.now.instruction.account c.receipt-to.result.now.instruction.account later.isin later.quantity
+    c.in_ok-stand_both.ensures.rest c.in_ok-move_between.ensures.moved in
     let Has : Instructed → Type 0 = λ r. HasCash (λ p y. balance_in (listed l) (Cash p y)) r.sender later.cash in
     let Fits : Instructed → Type 0 = λ d. FitsCash (λ p y. balance_in (listed l) (Cash p y)) d.sender later.cash in
     let FitsThen : CashBalances → Type 0 = λ z. FitsCash z c.delivery-from.result.now.sender later.cash in
@@ -74,12 +74,12 @@ returns-clause-settled c =
     let later = c.args.later.now.instruction in
     let IsThere : Instructed → Type 0 = λ d. later.quantity ≤ balance_in (listed l) (Position d.instruction.account later.isin) in
     let Has : Instructed → Type 0 = λ r. HasCash (λ p y. balance_in (listed l) (Cash p y)) r.sender later.cash in
-    let stood = c.in_ok-stand_both-3.ensures in
+    let stood = c.in_ok-stand_both.ensures in
     let moved = c.in_ok-move_between.ensures in
     let paid = c.in_ok-pay.ensures in (
       subst IsThere c.delivery-from.ensures (omega (arith, c.balance_of.ensures)),
       subst Has c.receipt-to.ensures (c.if-lacks_cash.ensures.has refl),
-      settled_content (listed l) (listed c.stand_both-2.new.lists) (listed c.move_between.new.lists) (listed c.pay.new.lists) c.delivery-from.result.now c.receipt-to.result.now _ _ later.isin later.quantity later.cash
+      settled_content (listed l) (listed c.stand_both.new.lists) (listed c.move_between.new.lists) (listed c.pay.new.lists) c.delivery-from.result.now c.receipt-to.result.now _ _ later.isin later.quantity later.cash
           stood.rest moved.rest paid.rest c.delivery-from.ensures c.receipt-to.ensures moved.moved paid.moved _ stood.stands,
     )
 
@@ -87,8 +87,8 @@ pub returns-clause-rest : goal.returns-clause-rest
 returns-clause-rest c =
     let l = c.args.lists.now in
     let later = c.args.later.now.instruction in
-    let stood = c.in_ok-stand_both-3.ensures in
+    let stood = c.in_ok-stand_both.ensures in
     let moved = c.in_ok-move_between.ensures in
     let paid = c.in_ok-pay.ensures in
-    settled_totals (listed l) (listed c.stand_both-2.new.lists) (listed c.move_between.new.lists) (listed c.pay.new.lists) c.delivery-from.result.now c.receipt-to.result.now _ _ later.isin later.quantity later.cash
+    settled_totals (listed l) (listed c.stand_both.new.lists) (listed c.move_between.new.lists) (listed c.pay.new.lists) c.delivery-from.result.now c.receipt-to.result.now _ _ later.isin later.quantity later.cash
     stood.rest moved.rest paid.rest c.delivery-from.ensures c.receipt-to.ensures moved.moved paid.moved

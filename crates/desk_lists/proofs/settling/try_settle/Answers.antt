@@ -4,6 +4,7 @@ use Rattle.desk_rules.specs.History.{instruction_at}
 use Rattle.desk_rules.specs.Content.{history_of}
 use Rattle.desk_register.specs.Changes.{TriesSides}
 use Rattle.desk_lists.specs.Lists.{content_in, listed, standing_in}
+use Rattle.desk_lists.proofs.SoundLemmas.{sound_tried}
 use Rattle.desk_lists.proofs.settling.try_settle.Goals as goal
 
 pub returns-clause-settled : goal.returns-clause-settled
@@ -21,3 +22,6 @@ returns-clause-settled c =
       ends = ends;
     })
     c.settle_sides.ensures.settled
+
+pub returns-clause-sound : goal.returns-clause-sound
+returns-clause-sound c = sound_tried c.settle_sides.result (listed c.args.lists.now) (listed c.settle_sides.new.lists) c.args.number c.requires.sound (returns-clause-settled c) c.settle_sides.ensures.rest

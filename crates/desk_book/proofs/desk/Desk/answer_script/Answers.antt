@@ -1,6 +1,7 @@
+use Rattle.std.specs.Io.KnownBytes.{append_known}
 use Rattle.desk_book.specs.Script.{item_of}
 use Rattle.desk_book.proofs.RunLemmas.{later_on, never_later}
-use Rattle.desk_book.proofs.PlayLemmas.{front_and_one, front_played, more_so_far, none_so_far, script_played}
+use Rattle.desk_book.proofs.PlayLemmas.{finished, front_and_one, front_played, more_so_far, none_so_far, script_played}
 use Rattle.desk_book.proofs.desk.Desk.answer_script.Goals as goal
 
 pub items-init : goal.items-init
@@ -9,8 +10,9 @@ items-init g c =
     record {
       closed = λ was. was;
       in_memory = λ is not_closed. not_closed;
+      room = c.requires.room;
       later = never_later v0;
-      played = λ books honest holds. none_so_far c.args.self.now.is_closed books c.args.script.now (g.O.Write.contents c.args.writer.now) v0 holds;
+      played = λ books honest holds. none_so_far c.args.self.now.is_closed books c.args.script.now (append_known (g.O.Write.contents c.args.writer.now) c.args.outbox.now.waiting.items) v0 holds;
     }
 
 pub items-preserved : goal.items-preserved
@@ -23,11 +25,12 @@ items-preserved g c =
     record {
       closed = λ was. a.stays (i.closed was);
       in_memory = λ is not_closed. a.in_memory is (i.in_memory is not_closed);
+      room = a.room;
       later = later_on v0 v1 v2 i.later a.later;
       played = λ books honest holds.
           let s = i.played books (a.later.honest honest) holds in
           more_so_far v0 v1 v2 c.args.self.now.is_closed c.items.self.is_closed c.answer_item.new.self.is_closed books c.args.script.now c.items.rest.now c.in-Some.after.now
-          (g.O.Write.contents c.args.writer.now) (g.O.Write.contents c.items.writer) (g.O.Write.contents c.answer_item.new.writer) (item_of c.in-Some.item) i.later a.later s c.in-Some.ensures.first
+          (append_known (g.O.Write.contents c.args.writer.now) c.args.outbox.now.waiting.items) (append_known (g.O.Write.contents c.items.writer) c.items.outbox.waiting.items) (append_known (g.O.Write.contents c.answer_item.new.writer) c.answer_item.new.outbox.waiting.items) (item_of c.in-Some.item) i.later a.later s c.in-Some.ensures.first
           (a.played s.played.last honest s.played.holds);
     }
 
@@ -38,14 +41,17 @@ returns-in_err-answer_item-clause-front g c = λ books honest holds.
     let s = i.played books (a.later.honest honest) holds in
     front_and_one (g.R.Register.view c.args.self.now.register) (g.R.Register.view c.items.self.register) (g.R.Register.view c.answer_item.new.self.register)
     c.args.self.now.is_closed c.items.self.is_closed c.answer_item.new.self.is_closed books c.args.script.now c.items.rest.now c.in-Some.after.now
-    (g.O.Write.contents c.args.writer.now) (g.O.Write.contents c.items.writer) (item_of c.in-Some.item) i.later a.later s c.in-Some.ensures.first (a.front s.played.last honest s.played.holds)
+    (append_known (g.O.Write.contents c.args.writer.now) c.args.outbox.now.waiting.items) (append_known (g.O.Write.contents c.items.writer) c.items.outbox.waiting.items) (item_of c.in-Some.item) i.later a.later s c.in-Some.ensures.first (a.front s.played.last honest s.played.holds)
 
 pub returns-clause-played : goal.returns-clause-played
 returns-clause-played g c = λ books honest holds.
-    script_played c.args.self.now.is_closed c.items.self.is_closed books c.args.script.now c.items.rest.now (g.O.Write.contents c.args.writer.now) (g.O.Write.contents c.items.writer)
-    (g.R.Register.view c.args.self.now.register) (g.R.Register.view c.items.self.register) (c.items.invariant.played books honest holds) c.in_default.ensures.none
+    finished c.finish.result c.args.self.now.is_closed c.items.self.is_closed books c.args.script.now (g.O.Write.contents c.args.writer.now) (g.O.Write.contents c.items.writer) (g.O.Write.contents c.finish.new.writer)
+    c.items.outbox.waiting.items (g.R.Register.view c.args.self.now.register) (g.R.Register.view c.items.self.register) c.requires.empty
+    (script_played c.args.self.now.is_closed c.items.self.is_closed books c.args.script.now c.items.rest.now (append_known (g.O.Write.contents c.args.writer.now) c.args.outbox.now.waiting.items) (append_known (g.O.Write.contents c.items.writer) c.items.outbox.waiting.items)
+    (g.R.Register.view c.args.self.now.register) (g.R.Register.view c.items.self.register) (c.items.invariant.played books honest holds) c.in_default.ensures.none)
+    c.finish.ensures
 
 pub returns-clause-front : goal.returns-clause-front
 returns-clause-front g c = λ books honest holds.
-    front_played c.args.self.now.is_closed c.items.self.is_closed books c.args.script.now c.items.rest.now (g.O.Write.contents c.args.writer.now) (g.O.Write.contents c.items.writer)
+    front_played c.args.self.now.is_closed c.items.self.is_closed books c.args.script.now c.items.rest.now (append_known (g.O.Write.contents c.args.writer.now) c.args.outbox.now.waiting.items) (append_known (g.O.Write.contents c.items.writer) c.items.outbox.waiting.items)
     (g.R.Register.view c.args.self.now.register) (g.R.Register.view c.items.self.register) (c.items.invariant.played books honest holds)

@@ -32,4 +32,4 @@ returns-clause-in_turn g c = λ books honest holds.
     let v0 = g.R.Register.view c.args.self.now.register in
     let run = run_all v0 (g.R.Register.view c.requests.self.register) c.args.self.now.is_closed c.requests.self.is_closed books c.args.requests.now c.requests.request-index c.requests.answers.items
     c.requests-test.false (c.requests.invariant.in_turn books honest holds) in
-    (run.0, run.1, run.2, act_once v0.room c.args.self.now.is_closed books run.0 (map asked_by c.args.requests.now) c.requests.answers.items c.requests.self.is_closed run.1)
+    (run.0, run.1, run.2, run.3, act_once v0.room c.args.self.now.is_closed books run.0 (map asked_by c.args.requests.now) c.requests.answers.items c.requests.self.is_closed run.1)

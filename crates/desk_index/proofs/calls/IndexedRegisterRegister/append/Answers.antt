@@ -1,4 +1,4 @@
-use Rattle.std.proofs.Common.{refl, sym, ap, ◌∙◌, ◌+◌, ◌++◌}
+use Rattle.std.proofs.Common.{refl, ap, ◌+◌, ◌++◌}
 use Rattle.desk_rules.specs.Content.{history_of}
 use Rattle.desk_register.specs.Changes.{appended}
 use Rattle.desk_lists.specs.ListView.{view_of_lists}

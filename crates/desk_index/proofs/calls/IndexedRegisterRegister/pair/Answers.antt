@@ -1,4 +1,4 @@
-use Rattle.std.proofs.Common.{sym, ◌∙◌, refl}
+use Rattle.std.proofs.Common.{refl}
 use Rattle.desk_register.specs.Changes.{paired}
 use Rattle.desk_lists.specs.ListView.{view_of_lists}
 use Rattle.desk_register.proofs.ViewLemmas.{blames_memory}

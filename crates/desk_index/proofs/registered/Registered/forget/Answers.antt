@@ -4,19 +4,19 @@ use Rattle.desk_index.proofs.registered.Registered.forget.Goals as goal
 pub returns-in-Participant : goal.returns-in-Participant
 returns-in-Participant c history are is =
     let k = c.in-Participant in
-    let taking = c.unname in
-    forgot_participant c.args.self.now history c.args.entry.now c.args.number is k.reference k.bic k.is taking.new.numbers taking.new.each are taking.ensures.taken taking.ensures.less
+    let taking = c.take_number in
+    forgot_participant c.args.self.now history c.args.entry.now c.args.number is k.reference k.bic k.is taking.new.numbers are taking.ensures
 
 pub returns-in-Account : goal.returns-in-Account
 returns-in-Account c history are is =
     let k = c.in-Account in
-    let taking = c.unname-in-Account in
-    forgot_account c.args.self.now history c.args.entry.now c.args.number is k.reference k.bic k.account k.is taking.new.numbers taking.new.each are taking.ensures.taken taking.ensures.less
+    let taking = c.take_number-in-Account in
+    forgot_account c.args.self.now history c.args.entry.now c.args.number is k.reference k.bic k.account k.is taking.new.numbers are taking.ensures
 
 pub returns-in-Security : goal.returns-in-Security
 returns-in-Security c history are is =
     let k = c.in-Security in
-    let taking = c.take_number in
+    let taking = c.take_number-in-Security in
     forgot_security c.args.self.now history c.args.entry.now c.args.number is k.reference k.isin k.kind k.is taking.new.numbers are taking.ensures
 
 pub returns-in-PayIn : goal.returns-in-PayIn

@@ -1,6 +1,4 @@
-use Rattle.std.proofs.Common.{◌<◌, ◌^◌, arith, lit<, sym}
-use Rattle.desk_rules.specs.declared.limits.TheConstants.{MOST_PAID}
-use Rattle.desk_engine.proofs.HeldLemmas.{held_cash_within}
+use Rattle.std.proofs.Common.{sym}
 use Rattle.desk_samples.proofs.LedgerLemmas.{still_kept, still_same}
 use Rattle.desk_samples.proofs.ledger.Ledger.held_cash.Goals as goal
 
@@ -8,13 +6,6 @@ pub invariant_of-self : goal.invariant_of-self
 invariant_of-self g c =
     let law = g.met.R.MemoryRegister.has_no_device in
     still_kept c.held_cash.result _ _ (law _) (law _) c.held_cash.ensures.read c.self.invariant
-
-pub held_cash-requires : goal.held_cash-requires
-held_cash-requires g c = λ honest sure.
-    let kept = c.self.invariant in
-    let within = held_cash_within _ kept.books _ c.args.ccy kept.keeps in
-    let small : MOST_PAID < 2 ^ 64 = lit< tt in
-    omega arith
 
 pub returns-clause-same : goal.returns-clause-same
 returns-clause-same g c =

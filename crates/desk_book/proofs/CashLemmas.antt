@@ -1,0 +1,189 @@
+-- The currencies that were paid in, gathered one by one in the order of their letters.
+use Rattle.std.proofs.Common.{◌≡◌, inl, inr, ℕ, zero, suc, ◌+◌, ◌<◌, ◌≤◌, true, false, List, [], ◌∷◌, ◌++◌, Contains, AllPairs, Some, None, cond, eqb, get_or, refl, sym, ap, ◌∙◌, subst, arith}
+use Rattle.std.specs.List.{list_any}
+use Rattle.std.specs.Prelude.{slice_index_or}
+use Rattle.std.proofs.lemmas.Bool.{cases_lt, or_cases, or_parts}
+use Rattle.std.proofs.lemmas.List.Elements.{Contains-get_or, Contains-append_left, Contains-push, Contains-push_cases}
+use Rattle.std.proofs.lemmas.List.Quantifiers.{all_pairs_push}
+use Rattle.std.proofs.lemmas.List.Sums.{sum_by-cons}
+use Rattle.desk_codes.specs.Currency.{letters_of}
+use Rattle.desk_codes.specs.declared.currency.Ccy.{Ccy}
+use Rattle.desk_codes.specs.declared.currency.Ccy.TheVariants.{Chf, Eur, Gbp, Jpy, Kwd, Usd}
+use Rattle.desk_rules.specs.declared.entry.Entry.{Entry}
+use Rattle.desk_rules.specs.declared.entry.Entry.TheVariants.{PayIn}
+use Rattle.desk_rules.specs.Balances.{paid_in, paid_in_by, payment_in, same_ccy}
+use Rattle.desk_rules.specs.Content.{Content, history_of}
+use Rattle.desk_rules.proofs.Conservation.{if_false, if_true}
+use Rattle.desk_register.specs.Looked.{IsLess, IsPaid, held_cash_of, pays_in}
+use Rattle.desk_book.specs.declared.total.CashTotal.{CashTotal}
+use Rattle.desk_book.specs.Totals.{AddsCash, AreCashTotals, IsCashTotal}
+use Rattle.desk_book.proofs.ListedLemmas.{contains_none}
+
+-- The order of the currencies.
+
+-- the place of a currency in the order of the letters, from 0
+abbrev pub place : Ccy → ℕ
+place Chf = 0
+place Eur = 1
+place Gbp = 2
+place Jpy = 3
+place Kwd = 4
+place Usd = 5
+
+ccy_at : ℕ → Ccy
+ccy_at k = cond (eqb k 0) Chf (cond (eqb k 1) Eur (cond (eqb k 2) Gbp (cond (eqb k 3) Jpy (cond (eqb k 4) Kwd Usd))))
+
+place_back : (ccy : Ccy) → ccy_at (place ccy) ≡ ccy
+unfolding ccy_at
+place_back Chf = refl
+place_back Eur = refl
+place_back Gbp = refl
+place_back Jpy = refl
+place_back Kwd = refl
+place_back Usd = refl
+
+same_place : (a b : Ccy) → place a ≡ place b → a ≡ b
+same_place a b e = sym (place_back a) ∙ ap ccy_at e ∙ place_back b
+
+below_six : (ccy : Ccy) → place ccy < 6
+below_six Chf = omega arith
+below_six Eur = omega arith
+below_six Gbp = omega arith
+below_six Jpy = omega arith
+below_six Kwd = omega arith
+below_six Usd = omega arith
+
+-- the list of all has each at its place
+pub place_of : (k : ℕ) → k < 6 → place (slice_index_or (Chf ∷ Eur ∷ Gbp ∷ Jpy ∷ Kwd ∷ Usd ∷ []) k Chf) ≡ k
+place_of zero lt = refl
+place_of (suc zero) lt = refl
+place_of (suc (suc zero)) lt = refl
+place_of (suc (suc (suc zero))) lt = refl
+place_of (suc (suc (suc (suc zero)))) lt = refl
+place_of (suc (suc (suc (suc (suc zero))))) lt = refl
+place_of (suc (suc (suc (suc (suc (suc k)))))) lt = absurd (omega arith)
+
+in_letters : (a b : Ccy) → place a < place b → IsLess (letters_of a) (letters_of b)
+in_letters Chf Eur lt = refl
+in_letters Chf Gbp lt = refl
+in_letters Chf Jpy lt = refl
+in_letters Chf Kwd lt = refl
+in_letters Chf Usd lt = refl
+in_letters Eur Gbp lt = refl
+in_letters Eur Jpy lt = refl
+in_letters Eur Kwd lt = refl
+in_letters Eur Usd lt = refl
+in_letters Gbp Jpy lt = refl
+in_letters Gbp Kwd lt = refl
+in_letters Gbp Usd lt = refl
+in_letters Jpy Kwd lt = refl
+in_letters Jpy Usd lt = refl
+in_letters Kwd Usd lt = refl
+in_letters Usd b lt = (let most = below_six b in absurd (omega arith))
+in_letters a b lt = absurd (omega arith)
+
+-- What was paid in.
+
+pays : (ccy : Ccy) (e : Entry) → pays_in ccy e ≡ true → 0 < paid_in_by (payment_in ccy) e
+pays ccy (PayIn payment) is =
+    let same : paid_in_by (payment_in ccy) (PayIn payment) ≡ payment.amount = if_true (same_ccy payment.ccy ccy) payment.amount is in
+    let some = payment.some in
+    omega arith
+pays ccy e is = absurd (cc)
+
+pays_nothing : (ccy : Ccy) (e : Entry) → pays_in ccy e ≡ false → paid_in_by (payment_in ccy) e ≡ 0
+pays_nothing ccy (PayIn payment) is = if_false (same_ccy payment.ccy ccy) payment.amount is
+pays_nothing ccy e is = refl
+
+was_paid_in : (h : List Entry) (ccy : Ccy) → list_any (pays_in ccy) h ≡ true → 0 < paid_in h ccy
+was_paid_in [] ccy is = absurd (cc)
+was_paid_in (e ∷ h) ccy is =
+    let sum = sum_by-cons (paid_in_by (payment_in ccy)) e h in
+    elim (or_cases (pays_in ccy e) (list_any (pays_in ccy) h) is) [
+      | inl now ↦ (let some = pays ccy e now in omega arith)
+      | inr later ↦ (let some = was_paid_in h ccy later in omega arith)
+    ]
+
+never_paid_in : (h : List Entry) (ccy : Ccy) → list_any (pays_in ccy) h ≡ false → paid_in h ccy ≡ 0
+never_paid_in [] ccy is = refl
+never_paid_in (e ∷ h) ccy is =
+    let sum = sum_by-cons (paid_in_by (payment_in ccy)) e h in
+    let both = or_parts (pays_in ccy e) (list_any (pays_in ccy) h) is in
+    let now = pays_nothing ccy e both.0 in
+    let later = never_paid_in h ccy both.1 in
+    omega arith
+
+-- One currency more.
+
+pub adds_none : (content : Content) (ccy : Ccy) (totals : List CashTotal) → IsPaid (history_of content) ccy None → AddsCash content ccy totals totals
+adds_none content ccy totals none = inl (never_paid_in (history_of content) ccy none, refl)
+
+pub adds_one : (content : Content) (ccy : Ccy) (net held : ℕ) (totals : List CashTotal) → IsPaid (history_of content) ccy (Some net) → held ≡ held_cash_of content ccy
+    → AddsCash content ccy totals (totals ++ record { ccy = ccy; held = held; net = net } ∷ [])
+adds_one content ccy net held totals paid is =
+    inr (record { ccy = ccy; held = held; net = net }, record { known = (ccy, refl, was_paid_in (history_of content) ccy paid.0); held = is; net = paid.1 }, refl, refl)
+
+-- the totals of the currencies of so many places
+pub record CashGathered (content : Content) (count : ℕ) (totals : List CashTotal) : Type 0 where
+  pub each : (total : CashTotal) → Contains totals total → IsCashTotal content total
+  pub below : (total : CashTotal) → Contains totals total → place total.ccy < count
+  pub all : (ccy : Ccy) → 0 < paid_in (history_of content) ccy → place ccy < count → (total : CashTotal) × Contains totals total × (total.ccy ≡ ccy)
+  pub in_order : AllPairs (λ a b. IsLess (letters_of a.ccy) (letters_of b.ccy)) totals
+
+pub cash_none : (content : Content) → CashGathered content 0 []
+cash_none content = record {
+  each = λ total c. absurd (contains_none total c);
+  below = λ total c. absurd (contains_none total c);
+  all = λ ccy paid lt. absurd (omega arith);
+  in_order = λ i j d lt within. absurd (omega arith);
+}
+
+module _ (content : Content) (count : ℕ) (totals : List CashTotal) (g : CashGathered content count totals) (ccy : Ccy) (at : place ccy ≡ count) where
+  cash_skips : paid_in (history_of content) ccy ≡ 0 → CashGathered content (count + 1) totals
+  cash_skips none = record {
+    each = g.each;
+    below = λ total c. (let lt = g.below total c in omega arith);
+    all = λ other paid lt. elim (cases_lt (place other) count) [
+      | inl before ↦ g.all other paid before
+      | inr now ↦
+          let same = same_place other ccy (omega arith) in
+          let P : Ccy → Type 0 = λ c. 0 < paid_in (history_of content) c in
+          let some = subst P same paid in
+          absurd (omega arith)
+    ];
+    in_order = g.in_order;
+  }
+
+  cash_takes : (total : CashTotal) → IsCashTotal content total → total.ccy ≡ ccy → CashGathered content (count + 1) (totals ++ total ∷ [])
+  cash_takes total is of_it =
+      let here : place total.ccy ≡ count = ap place of_it ∙ at in
+      record {
+        each = λ t c. elim (Contains-push_cases totals total t c) [ inl old ↦ g.each t old | inr new ↦ subst (λ z. IsCashTotal content z) new is ];
+        below = λ t c. elim (Contains-push_cases totals total t c) [
+          | inl old ↦ (let lt = g.below t old in omega arith)
+          | inr new ↦ (let same : place total.ccy ≡ place t.ccy = ap (λ z. place z.ccy) new in omega arith)
+        ];
+        all = λ other paid lt. elim (cases_lt (place other) count) [
+          | inl before ↦ (let old = g.all other paid before in (old.0, Contains-append_left totals (total ∷ []) old.0 old.1, old.2))
+          | inr now ↦ (total, Contains-push totals total, of_it ∙ sym (same_place other ccy (omega arith)))
+        ];
+        in_order = all_pairs_push (λ a b. IsLess (letters_of a.ccy) (letters_of b.ccy)) totals total g.in_order
+            (λ k d lt. (let before = g.below (get_or totals k d) (Contains-get_or totals k d lt) in in_letters (get_or totals k d).ccy total.ccy (omega arith)));
+      }
+
+  pub cash_one : (after : List CashTotal) → AddsCash content ccy totals after → CashGathered content (count + 1) after
+  cash_one after adds = elim adds [
+    | inl none ↦ subst (λ z. CashGathered content (count + 1) z) (sym none.1) (cash_skips none.0)
+    | inr new ↦ subst (λ z. CashGathered content (count + 1) z) (sym new.3) (cash_takes new.0 new.1 new.2)
+  ]
+
+-- all of them
+pub cash_all : (content : Content) (count : ℕ) (totals : List CashTotal) → 6 ≤ count → CashGathered content count totals → AreCashTotals content totals
+cash_all content count totals enough g = record {
+  each = g.each;
+  all = λ letters paid.
+      let lt = below_six paid.0 in
+      let found = g.all paid.0 paid.2 (omega arith) in
+      (found.0, found.1, ap letters_of found.2 ∙ paid.1);
+  in_order = g.in_order;
+}

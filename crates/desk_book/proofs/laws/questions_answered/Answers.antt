@@ -1,0 +1,8 @@
+use Rattle.desk_book.proofs.QuestionLaws.{status_told, sent_told}
+use Rattle.desk_book.proofs.laws.questions_answered.Goals as goal
+
+pub returns-clause-status : goal.returns-clause-status
+returns-clause-status c = status_told
+
+pub returns-clause-sent : goal.returns-clause-sent
+returns-clause-sent c = sent_told

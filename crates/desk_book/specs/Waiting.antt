@@ -1,0 +1,9 @@
+-- Bytes that wait to be written. Only private contracts speak of them.
+use Rattle.std.specs.Prelude.{◌<◌, ◌≤◌, vec_capacity, vec_len}
+use Rattle.desk_book.specs.declared.outbox.Outbox.{Outbox}
+use Rattle.desk_book.specs.declared.limits.TheConstants.{PIECE}
+
+-- fewer than a piece wait, and there is room for one
+pub record HasRoom (outbox : Outbox) : Type 0 where
+  pub few : vec_len outbox.waiting < PIECE
+  pub room : PIECE ≤ vec_capacity outbox.waiting

@@ -1,0 +1,5 @@
+pub mod Ends
+pub mod Holdings
+pub mod Statement
+pub mod Taking
+pub mod Walking

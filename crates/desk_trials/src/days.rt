@@ -1,0 +1,170 @@
+//! A drawn day, taken in by registers of both stores, and beside it the plain program.
+ghost use Rattle.std.specs.Prelude.{◌≡◌};
+
+use crate::draws::Draws;
+use crate::failure::Failure;
+use crate::market::{ACCOUNTS, PARTICIPANTS, SECURITIES, drawn, opening};
+use crate::plain::Plain;
+use crate::same::{same_message, same_registers, same_reply};
+use desk_codes::Ccy;
+use desk_index::IndexedRegister;
+use desk_lists::ListRegister;
+use desk_register::Register;
+use desk_rules::{Entry, Verdict};
+use desk_samples::entries::{account, bic, isin};
+use desk_samples::ledger::{Entered, Ledger};
+use std::alloc::Global;
+
+/// The desk holds so many entries at most, so that some days end with a desk that is full.
+const LIMIT: u64 = 100;
+
+/// How many entries a day is asked to take in.
+const ENTRIES: u64 = 130;
+
+/// Whether registers of both stores take in a day that is drawn from a seed as the plain program says: the verdict on
+/// each entry and the reply to it, and at the end where each entry stands, what each account holds, what cash each
+/// participant has, and what was sent.
+pub fn agrees(alloc: Global, seed: u32) -> Result<bool, Failure> {
+    let mut draws = Draws::new(seed);
+    let mut lists = Ledger::<ListRegister>::new(alloc, LIMIT);
+    let mut index = Ledger::<IndexedRegister>::new(alloc, LIMIT);
+    let mut history = Vec::new(alloc);
+    for number in 0..ENTRIES {
+        let entry = match opening(number)? {
+            Some(entry) => entry,
+            None => drawn(alloc, &mut draws, &history)?,
+        };
+        if !takes_in(alloc, &mut lists, &mut index, &mut history, entry)? {
+            return Ok(false);
+        }
+    }
+    let mut lists = lists.into_register();
+    let mut index = index.into_register();
+    Ok(same_registers(alloc, &mut lists, &mut index)? && is_as_plain(alloc, &mut lists, &history)?)
+}
+
+/// Whether both take in an entry, or refuse it, as the plain program says, with the same reply.
+fn takes_in(
+    alloc: Global,
+    lists: &mut Ledger<ListRegister>,
+    index: &mut Ledger<IndexedRegister>,
+    history: &mut Vec<Entry>,
+    entry: Entry,
+) -> Result<bool, Failure> {
+    let wanted = Plain::new(alloc, history)?.verdict(history, &entry, LIMIT);
+    let entered = lists.enter(alloc, entry)?;
+    if index.enter(alloc, entry)? != entered {
+        return Ok(false);
+    }
+    let applied = match (entered, wanted) {
+        (Entered::Accepted(applied), Verdict::Accept) => applied,
+        (Entered::Repeated(number), Verdict::Repeat(first)) => return Ok(number == first),
+        (Entered::Refused(refusal), Verdict::Refuse(reason)) => return Ok(refusal == reason),
+        _ => return Ok(false),
+    };
+    history.push(entry)?;
+    let plain = Plain::new(alloc, history)?;
+    let Some(wanted) = plain.last_reply(alloc, history)? else {
+        return Ok(false);
+    };
+    let Some(kept) = lists.reply(alloc, applied.number)? else {
+        return Ok(false);
+    };
+    Ok(same_reply(&kept, &wanted))
+}
+
+/// Whether a register holds what the plain program makes of a history.
+fn is_as_plain(
+    alloc: Global,
+    register: &mut ListRegister,
+    history: &[Entry],
+) -> Result<bool, Failure> {
+    let plain = Plain::new(alloc, history)?;
+    Ok(
+        stands_as_plain(alloc, register, history, &plain)?
+            && holds_as_plain(alloc, register, history, &plain)?
+            && has_as_plain(alloc, register, history, &plain)?
+            && sent_as_plain(alloc, register, history, &plain)?,
+    )
+}
+
+fn stands_as_plain(
+    alloc: Global,
+    register: &mut ListRegister,
+    history: &[Entry],
+    plain: &Plain,
+) -> Result<bool, Failure> {
+    for index in 0..history.len() {
+        let number = index as u64 + 1;
+        if register.standing(alloc, number)? != plain.standing(alloc, history, number)? {
+            return Ok(false);
+        }
+    }
+    Ok(register.count(alloc)? == history.len() as u64)
+}
+
+fn holds_as_plain(
+    alloc: Global,
+    register: &mut ListRegister,
+    history: &[Entry],
+    plain: &Plain,
+) -> Result<bool, Failure> {
+    for name in ACCOUNTS {
+        let account = account(name)?;
+        for code in SECURITIES {
+            let isin = isin(code)?;
+            let quantity = register.position(alloc, account, isin)?;
+            if !plain.holds(history, &account, &isin, quantity) {
+                return Ok(false);
+            }
+        }
+    }
+    Ok(true)
+}
+
+fn has_as_plain(
+    alloc: Global,
+    register: &mut ListRegister,
+    history: &[Entry],
+    plain: &Plain,
+) -> Result<bool, Failure> {
+    for party in PARTICIPANTS {
+        let bic = bic(party)?;
+        let euros = register.cash(alloc, bic, Ccy::Eur)?;
+        let dollars = register.cash(alloc, bic, Ccy::Usd)?;
+        if !plain.has(history, &bic, Ccy::Eur, euros)
+            || !plain.has(history, &bic, Ccy::Usd, dollars)
+        {
+            return Ok(false);
+        }
+    }
+    Ok(true)
+}
+
+fn sent_as_plain(
+    alloc: Global,
+    register: &mut ListRegister,
+    history: &[Entry],
+    plain: &Plain,
+) -> Result<bool, Failure> {
+    let Some(wanted) = plain.sent(alloc, history)? else {
+        return Ok(false);
+    };
+    for party in PARTICIPANTS {
+        let bic = bic(party)?;
+        let mut number = 0u64;
+        for message in wanted.iter().filter(|message| message.bic == bic) {
+            number = number.wrapping_add(1);
+            let Some(sent) = register.sent(alloc, bic, number)? else {
+                return Ok(false);
+            };
+            if !same_message(&sent, message) {
+                return Ok(false);
+            }
+        }
+        if register.sent(alloc, bic, number.wrapping_add(1))?.is_some() {
+            return Ok(false);
+        }
+    }
+    Ok(register.sent_count(alloc)? == wanted.len() as u64)
+}

@@ -1,0 +1,117 @@
+"""Trials of the random scripts: whether the plain program, playing some of them, gives each kind of answer."""
+
+import re
+
+from generate.chance import Chance
+from generate.scripts import random_script
+from generate.trial import DEFAULT_SEED
+from plain.scripts import answers_to
+
+SCRIPTS = 250
+
+
+def op(name, answer):
+    return rb'op\n.*"op"\s*:\s*"%s"' % name, answer
+
+
+def advice(function, *lines):
+    """What a status advice has: its function, and these further lines in their order."""
+    return b".*".join([rb".*:23G:" + function, *lines, b""])
+
+
+def narrative(number):
+    return rb":70D::REAS//DESK %d\r" % number
+
+
+# each kind of answer: what the request begins with and has, and what its answer is
+EVENTS = {
+    "no request": (rb"", rb"400\nrefused 41"),
+    "an unreadable command": (rb"op", rb"400\nrefused 30"),
+    **{f"a message refused with {it}": (rb"in ", rb"400\nrefused %d( .*)?" % it) for it in range(1, 9)},
+    **{
+        f"{name} accepted": op(name.encode(), rb"200\naccepted \d+")
+        for name in ("participant", "account", "security", "issue", "redeem", "payin", "payout")
+    },
+    **{
+        f"{name} refused with {it}": op(name.encode(), rb"422\nrefused %d" % it)
+        for name, numbers in {
+            "participant": (31, 32),
+            "account": (31, 32, 33),
+            "security": (31, 32),
+            "issue": (31, 34, 35, 36),
+            "redeem": (31, 34, 35, 37),
+            "payin": (31, 33, 36),
+            "payout": (31, 33, 37),
+            "run": (31, 38),
+        }.items()
+        for it in numbers
+    },
+    "a run that settles nothing": op(b"run", rb"200\naccepted \d+ settled 0 waiting 0"),
+    "a run that settles all": op(b"run", rb"200\naccepted \d+ settled [1-9] waiting 0"),
+    "a run that settles some": op(b"run", rb"200\naccepted \d+ settled [1-9] waiting [1-9]"),
+    "a run that settles none of some": op(b"run", rb"200\naccepted \d+ settled 0 waiting [1-9]"),
+    **{
+        f"an instruction refused with {it}": (rb"in ", rb"422 548\n" + advice(b"INST", narrative(it)))
+        for it in (10, 11, 12, 13, 14, 15, 16)
+    },
+    **{
+        f"a cancellation refused with {it}": (rb"in ", rb"422 548\n" + advice(b"CAST", narrative(it)))
+        for it in (10, 11, 17, 18, 19, 22)
+    },
+    **{
+        f"an MT{it} unmatched": (rb"in ", rb"200 548\n" + advice(b"INST", b":13A::LINK//%d" % it, rb"NMAT//CMIS"))
+        for it in (540, 541, 542, 543)
+    },
+    **{
+        f"an MT{it} matched": (rb"in ", rb"200 548\n" + advice(b"INST", b":13A::LINK//%d" % it, rb"PEND//FUTU"))
+        for it in (540, 541, 542, 543)
+    },
+    "a cancellation done": (rb"in ", rb"200 548\n" + advice(b"CAST", rb"CPRC//CAND")),
+    "a cancellation that waits": (rb"in ", rb"200 548\n" + advice(b"CAST", rb"CPRC//PACK")),
+    "a status of a stranger": (rb"status ", rb"422\nrefused 10"),
+    "a status of no message": (rb"status ", rb"422\nrefused 17"),
+    **{
+        f"an instruction's status {it.decode()}": (rb"status ", rb"200 548\n" + advice(b"INST", it))
+        for it in (b"NMAT//CMIS", b"PEND//FUTU", b"PEND//LACK", b"PEND//MONY", b"IPRC//CAND")
+    },
+    **{
+        f"a cancellation's status {it.decode()}": (rb"status ", rb"200 548\n" + advice(b"CAST", it))
+        for it in (b"CPRC//CAND", b"CPRC//PACK", b"CPRC//REJT.*DESK 19")
+    },
+    **{f"a status that is an MT{it}": (rb"status ", rb"200 %d\n.*" % it) for it in (544, 545, 546, 547)},
+    **{f"a sent MT{it}": (rb"sent ", rb"200 %d\n.*" % it) for it in (544, 545, 546, 547, 548)},
+    "a sent message of a stranger": (rb"sent ", rb"422\nrefused 10"),
+    "message 0": (rb"sent \w+ 0+\n", rb"422\nrefused 42"),
+    "no such message": (rb"sent \w+ 0*[1-9]", rb"422\nrefused 42"),
+    "holdings of a stranger": (rb"holdings ", rb"422\nrefused 10"),
+    "holdings of another's account": (rb"holdings \w+ [AB]-1\n", rb"422\nrefused 15"),
+    "holdings of no account": (rb"holdings \w+ ([^ABCa].*)?\n", rb"422\nrefused 15"),
+    "no holdings": (rb"holdings ", rb"200 535\n.*:17B::ACTI//N.*"),
+    "holdings before any run": (rb"holdings ", rb"200 535\n.*:98A::STAT//19700101.*ACTI//Y.*"),
+    "holdings after a run": (rb"holdings ", rb"200 535\n.*:98A::STAT//202.*ACTI//Y.*"),
+    "holdings in units and by face amount": (rb"holdings ", rb"200 535\n.*(//UNIT/.*//FAMT/|//FAMT/.*//UNIT/).*"),
+    "sums without cash": (rb"sums", rb'200\n{"cash":\[\],.*'),
+    "sums with a currency that is back at 0": (rb"sums", rb'200\n.*"held":0,"net":0.*'),
+    "sums of two currencies": (rb"sums", rb'200\n.*"net":\d+},{"ccy".*'),
+}
+
+
+def answered(script):
+    """The requests of a script and what the plain program answers, each as one text."""
+    return [(line + b"\n" + (body or b""), answer[: -len(b"\n.\n")]) for line, body, answer in answers_to(script)]
+
+
+def counts(scripts, seed=DEFAULT_SEED):
+    """How often each kind of answer comes in so many scripts of a seed."""
+    kinds = {name: [re.compile(it, re.DOTALL) for it in patterns] for name, patterns in EVENTS.items()}
+    seen = dict.fromkeys(EVENTS, 0)
+    for number in range(scripts):
+        for asked, answer in answered(b"".join(random_script(Chance(seed, number)))):
+            for name, (request, reply) in kinds.items():
+                seen[name] += bool(request.match(asked) and reply.fullmatch(answer))
+    return seen
+
+
+def trials(_):
+    for name, seen in counts(SCRIPTS).items():
+        yield f"in {SCRIPTS} random scripts there is {name}", seen > 0, (seen, "")
