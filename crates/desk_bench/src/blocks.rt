@@ -6,7 +6,7 @@ use std::alloc::Global;
 /// The number of a field's line, and the count and lengths of its parts, all added up modulo 2 ^ 64.
 fn size_of(field: &Field) -> u64 {
     let mut size = (field.line as u64).wrapping_add(field.tag.len() as u64);
-    for lines in [&field.path, &field.values] {
+    for lines in [field.path.as_slice(), field.values.as_slice()] {
         for line in lines {
             size = size.wrapping_add(line.len() as u64).wrapping_add(1);
         }

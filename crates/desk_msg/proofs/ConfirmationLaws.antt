@@ -17,7 +17,7 @@ use Rattle.desk_text.specs.Fields.{Found, IsBlock}
 use Rattle.desk_text.specs.Lines.{value_lines}
 use Rattle.desk_text.specs.Written.{AreParts, fields_written}
 use Rattle.desk_text.proofs.LawLemmas.{value-line}
-use Rattle.desk_text.proofs.PartLemmas.{parts-block}
+use Rattle.desk_text.proofs.PartLemmas.{parts_block}
 use Rattle.desk_msg.specs.declared.mt.Mt.{Mt}
 use Rattle.desk_msg.specs.declared.mt.Mt.TheVariants.{Mt540, Mt541, Mt542, Mt543, Mt544, Mt545, Mt546, Mt547}
 use Rattle.desk_msg.specs.declared.fault.Word.{Word}
@@ -125,7 +125,7 @@ parts_right n i day back = confirmation_right n i day (are_printed i day back) (
 pub said_back : (n : ℕ) (i : Instruction) (day : List ℕ) → AreReadBack i day → (said : List Found) × IsBlock (confirmation n i day) said × Confirms (confirming_type i.mt) said (Ok (confirmed_of i day))
 unfolding confirmation
 said_back n i day back =
-    let block = parts-block (confirmation_parts n i day) (parts_right n i day back) in
+    let block = parts_block (confirmation_parts n i day) (parts_right n i day back) in
     let against : is_some i.cash ≡ is_against_payment (confirming_type i.mt) = i.paid ∙ sym (against_same i.mt) in (
       said_fields n i day i.cash,
       subst (IsBlock (confirmation n i day)) (fields_are n i day (are_printed i day back) (printed_cash i.cash back.cash)) block,

@@ -10,7 +10,7 @@ use Rattle.desk_text.specs.BlockGrammar.{is_printable}
 use Rattle.desk_text.specs.Fields.{IsBlock}
 use Rattle.desk_text.specs.Written.{close_part, is_value, AreParts, fields_written}
 use Rattle.desk_text.proofs.LawLemmas.{value-right}
-use Rattle.desk_text.proofs.PartLemmas.{parts-block}
+use Rattle.desk_text.proofs.PartLemmas.{parts_block}
 use Rattle.desk_msg.specs.declared.status.Own.TheVariants.{Answer}
 use Rattle.desk_msg.specs.declared.instruction.Kind.{Kind}
 use Rattle.desk_msg.specs.declared.instruction.Kind.TheVariants.{Unit as Units, FaceAmount}
@@ -101,4 +101,4 @@ statement_right entries day account rows d a all = (
 
 pub statement_block : (entries : ℕ) (day account : List ℕ) (rows : List StatementRow) → IsDay day → IsAccount account → All IsStatementRow rows → IsBlock (holdings entries day account rows) (fields_written (holdings_parts entries day account rows))
 unfolding holdings
-statement_block entries day account rows d a all = parts-block (holdings_parts entries day account rows) (statement_right entries day account rows d a all)
+statement_block entries day account rows d a all = parts_block (holdings_parts entries day account rows) (statement_right entries day account rows d a all)

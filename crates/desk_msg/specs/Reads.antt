@@ -23,10 +23,10 @@ abbrev pub first_value : List (List ℕ) → List ℕ
 first_value [] = []
 first_value (line ∷ further) = line
 
--- a field belongs to a row: its path is the row's, its tag one of the row's, and its value begins as the row says
+-- a field belongs to a row: its tag is one of the row's, its value begins as the row says, and its path is the row's
 abbrev pub belongs : List (List ℕ) → List (List ℕ) → List ℕ → Found → Bool
 belongs path tags begins field =
-    pointwise bytes_eq field.path path && list_any (bytes_eq field.tag) tags && starts_with nat_eq (first_value field.values) begins
+    list_any (bytes_eq field.tag) tags && starts_with nat_eq (first_value field.values) begins && pointwise bytes_eq field.path path
 
 -- the fields that belong to a row
 abbrev pub belonging : Row → List Found → List Found

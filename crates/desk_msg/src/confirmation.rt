@@ -13,7 +13,7 @@ ghost use Rattle.desk_msg.specs.ConfirmationParts.{parts_with};
 ghost use Rattle.desk_msg.specs.Confirms.{Confirms, confirmed_of};
 
 use crate::instruction::{Cash, Instruction, Kind};
-use crate::pieces::{add_parts, value_of};
+use crate::pieces::{add_parts, new_parts, value_of};
 use crate::status::{Own, own_value};
 use desk_codes::{Day, write_number};
 use desk_text::{BlockPart, write_block};
@@ -42,7 +42,7 @@ fn write_confirmation(
     ensures text { IfOk result (λ text. text.items ≡ block_text (parts_with values.now (parts_seen paid.now))) }
     ensures block { IfOk result (λ text. IsBlock text.items (fields_written (parts_with values.now (parts_seen paid.now)))) }
 {
-    let mut parts = Vec::new(alloc);
+    let mut parts = new_parts(alloc)?;
     add_parts(
         &mut parts,
         &[

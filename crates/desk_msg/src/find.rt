@@ -40,14 +40,14 @@ fn has_tag(tags: &[&[u8]], tag: &[u8]) -> bool
     false
 }
 
-/// Whether a field belongs to a row: it stands in the row's sequences, has one of its tags, and its value begins as the
-/// row says.
+/// Whether a field belongs to a row: it has one of its tags, its value begins as the row says, and it stands in the row's
+/// sequences.
 fn belongs(field: &Field, row: &Row) -> bool
     ensures { result ≡ belongs_to (texts row.now.path.now) (texts row.now.tags.now) row.now.begins.now (found_of field.now) }
 {
-    is_same_path(&field.path, row.path)
-        && has_tag(row.tags, field.tag)
+    has_tag(row.tags, field.tag)
         && value_begins(field, row.begins)
+        && is_same_path(&field.path, row.path)
 }
 
 /// The first field that belongs to a row, and the fields after it.

@@ -11,7 +11,7 @@ ghost use Rattle.desk_msg.specs.AdviceParts.{parts_seen, header_of, status_with,
 
 use crate::digits::fifteen_digits;
 use crate::mt::Mt;
-use crate::pieces::{add_parts, value_of};
+use crate::pieces::{add_parts, new_parts, value_of};
 use desk_codes::Reference;
 use desk_text::{BlockPart, write_block};
 use std::alloc::{AllocError, Global};
@@ -200,7 +200,7 @@ fn write_advice<'a>(
     ensures text { IfOk result (λ text. text.items ≡ block_text (parts_of own.now link.now related.now about)) }
     ensures block { IfOk result (λ text. IsBlock text.items (fields_written (parts_of own.now link.now related.now about))) }
 {
-    let mut parts = Vec::new(alloc);
+    let mut parts = new_parts(alloc)?;
     add_parts(
         &mut parts,
         &[

@@ -263,7 +263,7 @@ impl Value for Isin {
     ghost said = { text_said };
 
     fn read(_row: &Row, field: &Field) -> Option<Isin> {
-        let line = field.values.first()?;
+        let line = field.values.as_slice().first()?;
         security_of(line)
     }
 }

@@ -17,7 +17,7 @@ use Rattle.desk_text.specs.Signs.{Sign, opens, closes, starts, further, ends, st
 use Rattle.desk_text.proofs.LinesLemmas.{lines_of-line, lines_of-last, value_lines-last, value_one, not_return}
 use Rattle.desk_text.proofs.ReadingLemmas.{signs_of, IsStop, at_close, at_end, items-signs, blank-signs}
 use Rattle.desk_text.proofs.ExactLemmas.{begins-front, begins-from_tree, reads_exactly, IsExact}
-use Rattle.desk_text.proofs.PartLemmas.{first_is_line, one_line, parts-block}
+use Rattle.desk_text.proofs.PartLemmas.{first_is_line, one_line, parts_block}
 
 -- One tree.
 
@@ -162,7 +162,7 @@ some-fault text no_block = go (read_text text) (reads_exactly text (read_text te
 -- Reading back.
 
 pub reads-back : (parts : List Part) (found : List Found) → AreParts [] parts → IsBlock (block_text parts) found → found ≡ fields_written parts
-reads-back parts found right b = one-fields (block_text parts) found (fields_written parts) b (parts-block parts right)
+reads-back parts found right b = one-fields (block_text parts) found (fields_written parts) b (parts_block parts right)
 
 -- Line ends.
 

@@ -163,8 +163,8 @@ parts-read (close_part name ∷ parts) (top ∷ within) goes_on k names right =
     ∙ parts-read parts within false (k + 1) names.1 right.1
 
 -- What is written is a block of what was written.
-pub parts-block : (parts : List Part) → AreParts [] parts → IsBlock (block_text parts) (fields_written parts)
-parts-block parts right =
+pub parts_block : (parts : List Part) → AreParts [] parts → IsBlock (block_text parts) (fields_written parts)
+parts_block parts right =
     let lines = flat_map lines_of_part parts in
     let first : lines_of (written (codes "{4:" ∷ []) ++ (written lines ++ codes "-}")) ≡ codes "{4:" ∷ lines_of (written lines ++ codes "-}") = refl in
     let are : lines_of (block_text parts) ≡ codes "{4:" ∷ (lines ++ codes "-}" ∷ []) =
@@ -175,4 +175,4 @@ parts-block parts right =
 
 pub finished-block : (text written_so_far : List ℕ) (parts : List Part) → text ≡ finished written_so_far → AreParts [] parts → written_so_far ≡ written (flat_map lines_of_part parts) → IsBlock text (fields_written parts)
 finished-block text so_far parts e right same =
-    subst (λ (z : List ℕ). IsBlock z (fields_written parts)) (sym (e ∙ ap finished same)) (parts-block parts right)
+    subst (λ (z : List ℕ). IsBlock z (fields_written parts)) (sym (e ∙ ap finished same)) (parts_block parts right)

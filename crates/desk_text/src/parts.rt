@@ -3,11 +3,10 @@ ghost use Rattle.std.specs.Prelude.{◌≡◌, ◌++◌, [], map, OnOk, OnErr, I
 ghost use Rattle.std.specs.List.{flat_map};
 ghost use Rattle.desk_text.specs.Fields.{IsBlock};
 ghost use Rattle.desk_text.specs.Lines.{written};
-ghost use Rattle.desk_text.specs.Written.{AreParts, after, block_text, fields_written, lines_of_part};
+ghost use Rattle.desk_text.specs.Written.{AreParts, block_text, fields_written, lines_of_part};
 ghost use Rattle.desk_text.specs.PartsSeen.{part_seen};
-ghost use Rattle.desk_text.specs.Writing.{CanFollow};
 
-use crate::writing::{BlockWriter, append_lines, append_name_line};
+use crate::writing::{FIRST_LINE, LAST_LINE, append_lines, append_name_line};
 use std::alloc::{AllocError, Global};
 
 /// A part of a block.
@@ -19,35 +18,6 @@ pub enum BlockPart<'a> {
     Field(&'a [u8], &'a [u8]),
     /// Closes the innermost sequence, which has this name.
     Close(&'a [u8]),
-}
-
-/// Writes one part.
-fn write_part(writer: &mut BlockWriter, part: &BlockPart<'_>) -> Result<(), AllocError>
-    requires { CanFollow (part_seen part.now) writer.old.names }
-    ensures ok { OnOk result (writer.new ≡ after (part_seen part.now) writer.old) }
-    ensures err { OnErr result (writer.new ≡ writer.old) }
-{
-    match *part {
-        BlockPart::Open(name) => writer.open(name),
-        BlockPart::Field(tag, value) => writer.field(tag, value),
-        BlockPart::Close(_) => writer.close(),
-    }
-}
-
-/// The one text of a block of these parts: CR LF after each line, and nothing after `-}`.
-///
-/// Its parts must be those of a block: right names, tags and values, at most 16 open sequences, each closed under its
-/// name.
-pub fn write_block(alloc: Global, parts: &[BlockPart<'_>]) -> Result<Vec<u8>, AllocError>
-    requires { AreParts [] (map part_seen parts.now) }
-    ensures text { IfOk result (λ text. text.items ≡ block_text (map part_seen parts.now)) }
-    ensures block { IfOk result (λ text. IsBlock text.items (fields_written (map part_seen parts.now))) }
-{
-    let mut writer = BlockWriter::new(alloc);
-    for part in parts {
-        write_part(&mut writer, part)?;
-    }
-    writer.finish()
 }
 
 /// Adds the lines of one part.
@@ -77,4 +47,38 @@ pub fn append_parts(out: &mut Vec<u8>, parts: &[BlockPart<'_>]) -> Result<(), Al
         }
     }
     Ok(())
+}
+
+/// How many bytes the lines of one part take, where its value has one line; a further line takes one more.
+fn room_of_part(part: &BlockPart<'_>) -> usize {
+    match *part {
+        BlockPart::Open(name) | BlockPart::Close(name) => name.len().saturating_add(7),
+        BlockPart::Field(tag, value) => tag.len().saturating_add(value.len()).saturating_add(4),
+    }
+}
+
+/// How many bytes a block of these parts takes, where each value has one line.
+fn room_of_block(parts: &[BlockPart<'_>]) -> usize {
+    let mut room = FIRST_LINE.len() + LAST_LINE.len();
+    for part in parts {
+        room = room.saturating_add(room_of_part(part));
+    }
+    room
+}
+
+/// The one text of a block of these parts: CR LF after each line, and nothing after `-}`.
+///
+/// Its parts must be those of a block: right names, tags and values, at most 16 open sequences, each closed under its
+/// name.
+#[tactic(auto, using(crate::proofs::PartLemmas::parts_block))]
+pub fn write_block(alloc: Global, parts: &[BlockPart<'_>]) -> Result<Vec<u8>, AllocError>
+    requires { AreParts [] (map part_seen parts.now) }
+    ensures text { IfOk result (λ text. text.items ≡ block_text (map part_seen parts.now)) }
+    ensures block { IfOk result (λ text. IsBlock text.items (fields_written (map part_seen parts.now))) }
+{
+    let mut text = Vec::with_capacity(alloc, room_of_block(parts))?;
+    text.extend_from_slice(FIRST_LINE)?;
+    append_parts(&mut text, parts)?;
+    text.extend_from_slice(LAST_LINE)?;
+    Ok(text)
 }

@@ -10,6 +10,7 @@ use crate::faults::TextFault;
 use crate::fields::{Block, Field};
 use crate::limits::{DEEPEST, LONGEST_TEXT};
 use crate::lines::{Line, next_line, read_line};
+use smallvec::SmallVec;
 use std::alloc::{AllocError, Global};
 
 /// What was read so far, before `-}`.
@@ -56,8 +57,8 @@ impl<'a> Reader<'a> {
                 _ => Err(TextFault::BadNesting(number)),
             },
             Line::Start(tag, first) => {
-                let path = self.names.clone()?;
-                let values = Vec::from_slice(alloc, &[first])?;
+                let path = SmallVec::from_slice(alloc, &self.names)?;
+                let values = SmallVec::from_slice(alloc, &[first])?;
                 self.fields.push(Field {
                     path,
                     tag,

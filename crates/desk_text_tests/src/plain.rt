@@ -2,6 +2,7 @@
 //! tests alone: `read_block` is compared with it.
 
 use desk_text::{Field, TextFault};
+use smallvec::SmallVec;
 use std::alloc::Global;
 
 /// What a line is by itself.
@@ -261,9 +262,9 @@ fn fields<'a>(alloc: Global, lines: &[&'a [u8]]) -> Result<Vec<Field<'a>>, TextF
                 values.push(*further)?;
             }
             fields.push(Field {
-                path: path(alloc, lines, index)?,
+                path: SmallVec::from_slice(alloc, &path(alloc, lines, index)?)?,
                 tag,
-                values,
+                values: SmallVec::from_slice(alloc, &values)?,
                 line: index + 1,
             })?;
         }
