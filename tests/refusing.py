@@ -1,5 +1,5 @@
-"""Runs a program while one growth of memory is refused: what tests/refuse_memory,
-tests/refuse_words and tests/refuse_register share."""
+"""Builds libraries that are loaded before the C library, and runs a program while one growth of memory is refused: what
+tests/refuse_memory, tests/refuse_words, tests/refuse_register and tests/bounded_memory share."""
 
 import os
 import subprocess
@@ -10,11 +10,11 @@ HERE = os.path.dirname(os.path.abspath(__file__))
 MOST_GROWTHS = 100_000
 
 
-def build(folder):
-    """Gives the library that refuses."""
-    library = os.path.join(folder, "refusing.so")
+def build(folder, name="refusing"):
+    """Gives the library of a name: the one that refuses, or the one that watches."""
+    library = os.path.join(folder, f"{name}.so")
     words = ["gcc", "-shared", "-fPIC", "-O2", "-Wall", "-Werror", "-fno-builtin", "-o", library]
-    subprocess.run([*words, os.path.join(HERE, "refusing.c")], check=True)
+    subprocess.run([*words, os.path.join(HERE, f"{name}.c")], check=True)
     return library
 
 

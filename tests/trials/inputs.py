@@ -4,6 +4,25 @@ from .room import TESTS, fails, passes, run, write
 
 SILENT = "int main(void) { return 0; }\n"
 
+# writes so many rows, and keeps each of them or none
+ROWS = """#include <stdlib.h>
+#include <string.h>
+#include <unistd.h>
+int main(int count, char **words)
+{
+    const char *text = strcmp(words[1], "sums") == 0 ? "\\"isin\\":\\n" : ":35B:ISIN \\n";
+    if (write(1, "begins\\n", 7) < 0)
+        return 1;
+    for (int left = atoi(words[2]); left > 0; left -= 1) {
+        char *row = strdup(text);
+        if (write(1, row, strlen(row)) < 0)
+            return 1;
+        KEEP(row);
+    }
+    return count != 3;
+}
+"""
+
 
 def trials(room):
     def tried(script, *words):
@@ -27,3 +46,9 @@ def trials(room):
     yield fails("refuse_words: no case", tried("refuse_words", silent), "there is no case to run\n")
     yield fails("refuse_words: an unknown case", tried("refuse_words", silent, "none"), "there is no none.stdout\n")
     yield fails("refuse_register: no growth", tried("refuse_register", silent), "\n0 passed, 2 failed\n")
+    yield fails("bounded_memory: a program that does nothing", tried("bounded_memory", silent), "\n0 passed, 10 failed\n")
+    write(f"{room}/rows.c", ROWS)
+    for name, keep in (("keeps", "-DKEEP(row)="), ("frees", "-DKEEP(row)=free(row)")):
+        run(room, "gcc", "-O0", "-fno-builtin", keep, "-o", f"{room}/{name}", f"{room}/rows.c")
+    yield passes("bounded_memory: a program that keeps no row", tried("bounded_memory", f"{room}/frees"), "\n10 passed, 0 failed\n")
+    yield fails("bounded_memory: a program that keeps its rows", tried("bounded_memory", f"{room}/keeps"), "\n8 passed, 2 failed\n")

@@ -1,5 +1,6 @@
 //! Why work was not done.
 
+use desk_book::{Fault as DeskFault, ToFault};
 use desk_register::Fault;
 use desk_samples::entries::EntryFault;
 use std::alloc::AllocError;
@@ -33,6 +34,25 @@ impl From<Fault> for Failure {
         match fault {
             Fault::Memory => Failure::Memory,
             Fault::Storage => Failure::Storage,
+        }
+    }
+}
+
+impl From<DeskFault> for Failure {
+    fn from(fault: DeskFault) -> Failure {
+        match fault {
+            DeskFault::Memory => Failure::Memory,
+            DeskFault::Storage | DeskFault::Closed => Failure::Storage,
+        }
+    }
+}
+
+impl From<ToFault> for Failure {
+    fn from(fault: ToFault) -> Failure {
+        match fault {
+            ToFault::WriteFailed => Failure::Output,
+            ToFault::Memory => Failure::Memory,
+            ToFault::Storage | ToFault::Closed => Failure::Storage,
         }
     }
 }

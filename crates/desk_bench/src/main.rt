@@ -4,6 +4,9 @@
 //!
 //! And work to be disturbed: `desk_bench day STORE` asks a register a day's entries, for tests/refuse_register, which
 //! refuses it growths of memory. STORE is `lists` or `index`.
+//!
+//! And work to be watched: `desk_bench statement COUNT` and `desk_bench sums COUNT` write the statement of an account that
+//! holds so many securities, or the totals of as many, straight to standard output, for tests/bounded_memory.
 #![tactic(auto)]
 
 mod blocks;
@@ -12,15 +15,17 @@ mod failure;
 mod market;
 mod mixed_day;
 mod shown;
+mod straight;
 mod trial;
 
 use crate::failure::Failure;
+use crate::straight::{Form, write_straight};
 use desk_index::IndexedRegister;
 use desk_lists::ListRegister;
-use std::env;
 use std::io::Read;
 use std::process::ExitCode;
 use std::rt::Env;
+use std::{env, io};
 
 /// The exit statuses: of what was done, of a register that a fault has changed, of other words, and of a fault.
 const DONE: u8 = 0;
@@ -43,6 +48,10 @@ fn answer(rt: &(impl Print + Input + AllocGlobal + Env)) -> Result<u8, Failure> 
     let words: Vec<String> = env::args(rt)?.collect(rt.alloc())?;
     match words.as_slice() {
         [_, kind, store] if kind.as_str() == "day" => try_day(rt, store.as_str()),
+        [_, kind, count] if kind.as_str() == "statement" => {
+            write_count(rt, Form::Statement, count.as_str())
+        }
+        [_, kind, count] if kind.as_str() == "sums" => write_count(rt, Form::Sums, count.as_str()),
         [_, kind, count] => tell_figure(rt, kind.as_str(), count.as_str()),
         _ => Ok(USAGE),
     }
@@ -56,6 +65,15 @@ fn try_day(rt: &(impl Print + AllocGlobal), store: &str) -> Result<u8, Failure> 
         _ => return Ok(USAGE),
     };
     Ok(if is_kept { DONE } else { CHANGED })
+}
+
+/// Writes the statement or the totals of so many securities.
+fn write_count(rt: &(impl Print + AllocGlobal), form: Form, count: &str) -> Result<u8, Failure> {
+    let Ok(count) = count.parse::<u32>() else {
+        return Ok(USAGE);
+    };
+    write_straight(rt.alloc(), form, count, &mut io::writer(rt))?;
+    Ok(DONE)
 }
 
 /// Prints the figure of so much work of a kind.

@@ -1,15 +1,13 @@
 -- What is answered to an entry, from what the register keeps.
-use Rattle.std.proofs.Common.{◌≡◌, inl, inr, ℕ, zero, suc, ◌+◌, ◌<◌, ◌≤◌, ◌^◌, Bool, true, false, List, [], ◌∷◌, length, Option, Some, None, option_map, refl, sym, ◌∙◌, subst, arith, lit<}
+use Rattle.std.proofs.Common.{◌≡◌, inl, inr, ℕ, zero, suc, ◌+◌, ◌<◌, ◌≤◌, Bool, true, false, List, [], ◌∷◌, length, Option, Some, None, option_map, refl, sym, ◌∙◌, subst, arith}
 use Rattle.std.specs.Prelude.{slice_get, is_some, nat_le, Result, Ok, Err, IfOk, OnOk}
 use Rattle.std.proofs.lemmas.Bool.{cases_Bool}
-use Rattle.desk_rules.specs.declared.limits.TheConstants.{MOST_PAID, MOST_QUANTITY}
 use Rattle.desk_rules.specs.declared.entry.Entry.{Entry}
 use Rattle.desk_rules.specs.declared.reply.Kept.{Kept}
 use Rattle.desk_rules.specs.declared.reply.Reply.{Reply}
 use Rattle.desk_rules.specs.declared.verdict.Verdict.TheVariants.{Accept, Repeat, Refuse}
 use Rattle.desk_rules.specs.declared.verdict.Refusal.TheVariants.{Full}
 use Rattle.desk_rules.specs.History.{as_asked, entry_at, sender_of, reference_of, number_of_key}
-use Rattle.desk_codes.specs.declared.currency.Ccy.{Ccy}
 use Rattle.desk_codes.specs.Currency.{letters_of}
 use Rattle.desk_rules.specs.Balances.{issued, paid_in, paid_out, redeemed}
 use Rattle.desk_rules.proofs.Conservation.{cash_adds_up}
@@ -22,12 +20,12 @@ use Rattle.desk_rules.specs.WellFormed.{AreWellFormed, IsWellFormed}
 use Rattle.desk_engine.specs.Applied.{Keeps}
 use Rattle.desk_book.proofs.FormedLemmas.{formed_after}
 use Rattle.desk_rules.specs.Content.{Content}
-use Rattle.desk_register.specs.Looked.{held_cash_of, held_of, reply_at}
+use Rattle.desk_register.specs.Looked.{reply_at}
 use Rattle.desk_register.specs.declared.register.Stage.{Stage}
 use Rattle.desk_register.specs.declared.register.Stage.TheVariants.{Idle, Failed}
 use Rattle.desk_register.specs.View.{View}
 use Rattle.desk_engine.proofs.AcceptingLemmas.{entries_within}
-use Rattle.desk_engine.proofs.HeldLemmas.{held_cash_adds_up, held_cash_within, held_is, held_within}
+use Rattle.desk_engine.proofs.HeldLemmas.{held_cash_adds_up, held_is}
 use Rattle.desk_engine.proofs.TablesLemmas.{length_is}
 use Rattle.desk_book.specs.declared.fault.Fault.{Fault}
 use Rattle.desk_book.specs.declared.total.CashTotal.{CashTotal}
@@ -145,18 +143,6 @@ decides_repeat limit books e old new n (Err fault) verdict first same keeps = fi
 
 -- The desk's totals.
 
-pub held_cash_small : (limit : ℕ) (books : Books) (content : Content) (ccy : Ccy) → Keeps limit books content → held_cash_of content ccy < 2 ^ 64
-held_cash_small limit books content ccy keeps =
-    let within = held_cash_within limit books content ccy keeps in
-    let small : MOST_PAID < 2 ^ 64 = lit< tt in
-    omega arith
-
-pub held_small : (limit : ℕ) (books : Books) (content : Content) (isin : List ℕ) → Keeps limit books content → held_of content isin < 2 ^ 64
-held_small limit books content isin keeps =
-    let within = held_within limit books content isin keeps in
-    let small : MOST_QUANTITY < 2 ^ 64 = lit< tt in
-    omega arith
-
 total_told : (limit : ℕ) (books : Books) (content : Content) (total : SecurityTotal) → Keeps limit books content → IsTotal content total → IsSum books total
 total_told limit books content total keeps is =
     let history = keeps.tables.history in
@@ -183,9 +169,9 @@ cash_told limit books content total keeps is =
       net = subst Q history is.net;
     }
 
-pub sums_told : (limit : ℕ) (books : Books) (content : Content) (cash : List CashTotal) (securities : List SecurityTotal) (reply : Reply) → Keeps limit books content
-    → AreCashTotals content cash → AreTotals content securities → reply ≡ untyped_reply 200 (sums_text cash securities) → IsToldSums books reply books
-sums_told limit books content cash securities reply keeps are_cash are is =
+pub sums_told : (limit : ℕ) (books : Books) (content : Content) (cash : List CashTotal) (securities : List SecurityTotal) → Keeps limit books content
+    → AreCashTotals content cash → AreTotals content securities → IsToldSums books (untyped_reply 200 (sums_text cash securities)) books
+sums_told limit books content cash securities keeps are_cash are =
     let history = keeps.tables.history in
     record {
       cash = cash;
@@ -200,7 +186,7 @@ sums_told limit books content cash securities reply keeps are_cash are is =
         all = λ isin known. are.all isin (let P : List Entry → Type 0 = λ h. is_some (kind_of h isin) ≡ true in subst P (sym history) known);
         in_order = are.in_order;
       };
-      replied = is;
+      replied = refl;
       stays = refl;
     }
 

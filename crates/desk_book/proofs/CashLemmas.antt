@@ -1,8 +1,8 @@
 -- The currencies that were paid in, gathered one by one in the order of their letters.
-use Rattle.std.proofs.Common.{◌≡◌, inl, inr, ℕ, zero, suc, ◌+◌, ◌<◌, ◌≤◌, true, false, List, [], ◌∷◌, ◌++◌, Contains, AllPairs, Some, None, cond, eqb, get_or, refl, sym, ap, ◌∙◌, subst, arith}
+use Rattle.std.proofs.Common.{◌≡◌, inl, inr, ℕ, zero, suc, ◌+◌, ◌<◌, ◌≤◌, true, false, List, [], ◌∷◌, ◌++◌, Contains, AllPairs, Some, None, cond, eqb, get_or, refl, sym, ap, ◌∙◌, subst, arith, append_assoc, append-nil}
 use Rattle.std.specs.List.{list_any}
 use Rattle.std.specs.Prelude.{slice_index_or}
-use Rattle.std.proofs.lemmas.Bool.{cases_lt, or_cases, or_parts}
+use Rattle.std.proofs.lemmas.Bool.{cases_Bool, cases_lt, or_cases, or_parts}
 use Rattle.std.proofs.lemmas.List.Elements.{Contains-get_or, Contains-append_left, Contains-push, Contains-push_cases}
 use Rattle.std.proofs.lemmas.List.Quantifiers.{all_pairs_push}
 use Rattle.std.proofs.lemmas.List.Sums.{sum_by-cons}
@@ -11,12 +11,15 @@ use Rattle.desk_codes.specs.declared.currency.Ccy.{Ccy}
 use Rattle.desk_codes.specs.declared.currency.Ccy.TheVariants.{Chf, Eur, Gbp, Jpy, Kwd, Usd}
 use Rattle.desk_rules.specs.declared.entry.Entry.{Entry}
 use Rattle.desk_rules.specs.declared.entry.Entry.TheVariants.{PayIn}
-use Rattle.desk_rules.specs.Balances.{paid_in, paid_in_by, payment_in, same_ccy}
+use Rattle.desk_rules.specs.Balances.{paid_in, paid_in_by, paid_out, payment_in, same_ccy}
+use Rattle.desk_rules.specs.Books.{Books}
 use Rattle.desk_rules.specs.Content.{Content, history_of}
 use Rattle.desk_rules.proofs.Conservation.{if_false, if_true}
 use Rattle.desk_register.specs.Looked.{IsLess, IsPaid, held_cash_of, pays_in}
+use Rattle.desk_engine.specs.Applied.{Keeps}
+use Rattle.desk_engine.proofs.HeldLemmas.{held_cash_adds_up}
 use Rattle.desk_book.specs.declared.total.CashTotal.{CashTotal}
-use Rattle.desk_book.specs.Totals.{AddsCash, AreCashTotals, IsCashTotal}
+use Rattle.desk_book.specs.Totals.{AreCashTotals, IsCashTotal, TotalsCash}
 use Rattle.desk_book.proofs.ListedLemmas.{contains_none}
 
 -- The order of the currencies.
@@ -41,6 +44,16 @@ place_back Gbp = refl
 place_back Jpy = refl
 place_back Kwd = refl
 place_back Usd = refl
+
+place_at : (k : ℕ) → k < 6 → place (ccy_at k) ≡ k
+unfolding ccy_at
+place_at zero lt = refl
+place_at (suc zero) lt = refl
+place_at (suc (suc zero)) lt = refl
+place_at (suc (suc (suc zero))) lt = refl
+place_at (suc (suc (suc (suc zero)))) lt = refl
+place_at (suc (suc (suc (suc (suc zero))))) lt = refl
+place_at (suc (suc (suc (suc (suc (suc k)))))) lt = absurd (omega arith)
 
 same_place : (a b : Ccy) → place a ≡ place b → a ≡ b
 same_place a b e = sym (place_back a) ∙ ap ccy_at e ∙ place_back b
@@ -113,15 +126,14 @@ never_paid_in (e ∷ h) ccy is =
     let later = never_paid_in h ccy both.1 in
     omega arith
 
--- One currency more.
+-- What a currency totals.
 
-pub adds_none : (content : Content) (ccy : Ccy) (totals : List CashTotal) → IsPaid (history_of content) ccy None → AddsCash content ccy totals totals
-adds_none content ccy totals none = inl (never_paid_in (history_of content) ccy none, refl)
+pub totals_none : (content : Content) (ccy : Ccy) → IsPaid (history_of content) ccy None → TotalsCash content ccy None
+totals_none content ccy none = never_paid_in (history_of content) ccy none
 
-pub adds_one : (content : Content) (ccy : Ccy) (net held : ℕ) (totals : List CashTotal) → IsPaid (history_of content) ccy (Some net) → held ≡ held_cash_of content ccy
-    → AddsCash content ccy totals (totals ++ record { ccy = ccy; held = held; net = net } ∷ [])
-adds_one content ccy net held totals paid is =
-    inr (record { ccy = ccy; held = held; net = net }, record { known = (ccy, refl, was_paid_in (history_of content) ccy paid.0); held = is; net = paid.1 }, refl, refl)
+pub totals_one : (content : Content) (ccy : Ccy) (net held : ℕ) → IsPaid (history_of content) ccy (Some net) → held ≡ held_cash_of content ccy
+    → TotalsCash content ccy (Some (record { ccy = ccy; held = held; net = net }))
+totals_one content ccy net held paid is = (record { known = (ccy, refl, was_paid_in (history_of content) ccy paid.0); held = is; net = paid.1 }, refl)
 
 -- the totals of the currencies of so many places
 pub record CashGathered (content : Content) (count : ℕ) (totals : List CashTotal) : Type 0 where
@@ -139,7 +151,7 @@ cash_none content = record {
 }
 
 module _ (content : Content) (count : ℕ) (totals : List CashTotal) (g : CashGathered content count totals) (ccy : Ccy) (at : place ccy ≡ count) where
-  cash_skips : paid_in (history_of content) ccy ≡ 0 → CashGathered content (count + 1) totals
+  pub cash_skips : paid_in (history_of content) ccy ≡ 0 → CashGathered content (count + 1) totals
   cash_skips none = record {
     each = g.each;
     below = λ total c. (let lt = g.below total c in omega arith);
@@ -154,7 +166,7 @@ module _ (content : Content) (count : ℕ) (totals : List CashTotal) (g : CashGa
     in_order = g.in_order;
   }
 
-  cash_takes : (total : CashTotal) → IsCashTotal content total → total.ccy ≡ ccy → CashGathered content (count + 1) (totals ++ total ∷ [])
+  pub cash_takes : (total : CashTotal) → IsCashTotal content total → total.ccy ≡ ccy → CashGathered content (count + 1) (totals ++ total ∷ [])
   cash_takes total is of_it =
       let here : place total.ccy ≡ count = ap place of_it ∙ at in
       record {
@@ -171,12 +183,6 @@ module _ (content : Content) (count : ℕ) (totals : List CashTotal) (g : CashGa
             (λ k d lt. (let before = g.below (get_or totals k d) (Contains-get_or totals k d lt) in in_letters (get_or totals k d).ccy total.ccy (omega arith)));
       }
 
-  pub cash_one : (after : List CashTotal) → AddsCash content ccy totals after → CashGathered content (count + 1) after
-  cash_one after adds = elim adds [
-    | inl none ↦ subst (λ z. CashGathered content (count + 1) z) (sym none.1) (cash_skips none.0)
-    | inr new ↦ subst (λ z. CashGathered content (count + 1) z) (sym new.3) (cash_takes new.0 new.1 new.2)
-  ]
-
 -- all of them
 pub cash_all : (content : Content) (count : ℕ) (totals : List CashTotal) → 6 ≤ count → CashGathered content count totals → AreCashTotals content totals
 cash_all content count totals enough g = record {
@@ -187,3 +193,39 @@ cash_all content count totals enough g = record {
       (found.0, found.1, ap letters_of found.2 ∙ paid.1);
   in_order = g.in_order;
 }
+
+-- What was gathered goes on to the totals of all currencies, where the tables are those of accepted entries.
+module _ (limit : ℕ) (books : Books) (content : Content) (keeps : Keeps limit books content) where
+  total_of : Ccy → CashTotal
+  total_of ccy = record { ccy = ccy; held = held_cash_of content ccy; net = held_cash_of content ccy }
+
+  is_total : (ccy : Ccy) → list_any (pays_in ccy) (history_of content) ≡ true → IsCashTotal content (total_of ccy)
+  unfolding total_of
+  is_total ccy some = record {
+    known = (ccy, refl, was_paid_in (history_of content) ccy some);
+    held = refl;
+    net = (let P : List Entry → Type 0 = λ h. paid_out h ccy + held_cash_of content ccy ≡ paid_in h ccy in subst P (sym keeps.tables.history) (held_cash_adds_up limit books content ccy keeps));
+  }
+
+  ends_here : (count : ℕ) (totals : List CashTotal) → 6 ≤ count → CashGathered content count totals → (more : List CashTotal) × AreCashTotals content (totals ++ more)
+  ends_here count totals enough g = ([], subst (λ z. AreCashTotals content z) (sym (append-nil totals)) (cash_all content count totals enough g))
+
+  goes_on : (turns count : ℕ) (totals : List CashTotal) → CashGathered content count totals → 6 ≤ count + turns → (more : List CashTotal) × AreCashTotals content (totals ++ more)
+  unfolding total_of
+  goes_on zero count totals g enough = ends_here count totals (omega arith) g
+  goes_on (suc turns) count totals g enough = elim (cases_lt count 6) [
+    | inr all ↦ ends_here count totals all g
+    | inl left ↦
+        let ccy = ccy_at count in
+        let at : place ccy ≡ count = place_at count left in
+        elim (cases_Bool (list_any (pays_in ccy) (history_of content))) [
+          | inr none ↦ goes_on turns (count + 1) totals (cash_skips content count totals g ccy at (never_paid_in (history_of content) ccy none)) (omega arith)
+          | inl some ↦
+              let total = total_of ccy in
+              let more = goes_on turns (count + 1) (totals ++ total ∷ []) (cash_takes content count totals g ccy at total (is_total ccy some) refl) (omega arith) in
+              (total ∷ more.0, subst (λ z. AreCashTotals content z) (append_assoc totals (total ∷ []) more.0) more.1)
+        ]
+  ]
+
+  pub cash_goes_on : (count : ℕ) (totals : List CashTotal) → CashGathered content count totals → (more : List CashTotal) × AreCashTotals content (totals ++ more)
+  cash_goes_on count totals g = goes_on 6 count totals g (omega arith)

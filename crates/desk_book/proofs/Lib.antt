@@ -5,6 +5,7 @@ mod PlayLemmas
 pub mod FormedLemmas
 mod AnsweringLemmas
 mod StatementLemmas
+mod TellingLemmas
 pub mod LineLemmas
 pub mod FormLemmas
 pub mod ScriptLemmas

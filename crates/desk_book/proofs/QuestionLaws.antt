@@ -2,6 +2,7 @@
 use Rattle.std.proofs.Common.{◌≡◌, inl, inr, ℕ, ◌+◌, List, [], ◌∷◌, Option, Some, None, bytes_eq, refl, ap, ◌∙◌, subst}
 use Rattle.std.specs.Prelude.{Ok}
 use Rattle.std.proofs.lemmas.Bool.{and_parts, cases_Bool}
+use Rattle.desk_codes.specs.Account.{IsAccount}
 use Rattle.desk_codes.specs.Reference.{IsReference}
 use Rattle.desk_msg.specs.declared.instruction.Message.TheVariants.{New, Cancel as CancelMessage}
 use Rattle.desk_msg.specs.Reads.{ReadsFields}
@@ -11,16 +12,18 @@ use Rattle.desk_rules.specs.declared.entry.Sender.{Sender}
 use Rattle.desk_rules.specs.declared.entry.Sender.TheVariants.{Participant as FromParticipant}
 use Rattle.desk_rules.specs.declared.reply.Reply.{Reply}
 use Rattle.desk_rules.specs.Books.{Books}
+use Rattle.desk_rules.specs.Facts.{owner_of}
 use Rattle.desk_rules.specs.History.{has_key, number_from, reference_of, same_sender, sender_of}
 use Rattle.desk_rules.specs.Questions.{sent_reply, status_reply}
 use Rattle.desk_rules.specs.WellFormed.{AreWellFormed, IsReadable, IsWellFormed}
 use Rattle.desk_rules.proofs.Decided.{Contains-from_In, In}
 use Rattle.desk_register.proofs.CaseLemmas.{same_bytes}
 use Rattle.desk_book.specs.declared.task.Task.{Task}
-use Rattle.desk_book.specs.declared.task.Task.TheVariants.{Status}
+use Rattle.desk_book.specs.declared.task.Task.TheVariants.{Holdings, Status}
 use Rattle.desk_book.specs.Answered.{IsAnswer, Step, status_answer}
-use Rattle.desk_book.specs.Asked.{sent, status}
-use Rattle.desk_book.specs.Task.{IsStatusTask}
+use Rattle.desk_book.specs.Asked.{holdings, sent, status}
+use Rattle.desk_book.specs.Statement.{TellsHoldings}
+use Rattle.desk_book.specs.Task.{IsHoldingsTask, IsStatusTask}
 
 -- each entry that is well formed has a reference
 reference_formed : (e : Entry) → IsWellFormed e → IsReference (reference_of e)
@@ -73,3 +76,43 @@ pub sent_told : (limit : ℕ) (books after : Books) (receiver : List ℕ) (numbe
 sent_told limit books after receiver number reply step =
     let P : Task → Type 0 = λ task. IsAnswer limit books task reply after in
     subst P step.1 step.2
+
+-- Holdings.
+
+-- what names no account is nobody's
+unowned : (text : List ℕ) (h : List Entry) → ¬ IsAccount text → ((e : Entry) → In h e → IsWellFormed e) → owner_of h text ≡ None
+unowned text [] none formed = refl
+unowned text (Account reference bic account ∷ h) none formed = elim (cases_Bool (bytes_eq account text)) [
+  | inl same ↦ absurd (none (subst IsAccount (same_bytes account text same) (formed (Account reference bic account) (inl refl)).2))
+  | inr other ↦ rw other (unowned text h none (λ x i. formed x (inr i)))
+]
+unowned text (Participant reference bic ∷ h) none formed = unowned text h none (λ x i. formed x (inr i))
+unowned text (Security reference isin kind ∷ h) none formed = unowned text h none (λ x i. formed x (inr i))
+unowned text (Issue movement ∷ h) none formed = unowned text h none (λ x i. formed x (inr i))
+unowned text (Redeem movement ∷ h) none formed = unowned text h none (λ x i. formed x (inr i))
+unowned text (PayIn payment ∷ h) none formed = unowned text h none (λ x i. formed x (inr i))
+unowned text (PayOut payment ∷ h) none formed = unowned text h none (λ x i. formed x (inr i))
+unowned text (Instruct sender i ∷ h) none formed = unowned text h none (λ x i. formed x (inr i))
+unowned text (Cancel sender order ∷ h) none formed = unowned text h none (λ x i. formed x (inr i))
+unowned text (Run reference day rule ∷ h) none formed = unowned text h none (λ x i. formed x (inr i))
+
+no_owner : (books : Books) (owner text : List ℕ) (reply : Reply) → AreWellFormed books.history → ¬ IsAccount text → TellsHoldings books owner None reply → TellsHoldings books owner (Some text) reply
+no_owner books owner text reply formed none told =
+    let nobody = unowned text books.history none (λ e i. formed.each e (Contains-from_In books.history e i)) in
+    rw nobody told
+
+holdings_by : (limit : ℕ) (books after : Books) (owner text : List ℕ) (task : Task) (reply : Reply) → AreWellFormed books.history → IsHoldingsTask owner text task → IsAnswer limit books task reply after
+    → TellsHoldings books owner (Some text) reply × (after ≡ books)
+holdings_by limit books after owner text (Holdings bic (Some account)) reply formed is answer = (
+  subst (λ b. TellsHoldings books b (Some text) reply) is.0 (subst (λ a. TellsHoldings books bic (Some a) reply) is.1 answer.0),
+  answer.1,
+)
+holdings_by limit books after owner text (Holdings bic None) reply formed is answer = (
+  subst (λ b. TellsHoldings books b (Some text) reply) is.0 (no_owner books bic text reply formed is.1 answer.0),
+  answer.1,
+)
+holdings_by limit books after owner text task reply formed is answer = absurd is
+
+pub holdings_told : (limit : ℕ) (books after : Books) (owner text : List ℕ) (reply : Reply) → AreWellFormed books.history → Step limit books (holdings owner text) (Ok reply) after
+    → TellsHoldings books owner (Some text) reply × (after ≡ books)
+holdings_told limit books after owner text reply formed step = holdings_by limit books after owner text step.0 reply formed step.1 step.2

@@ -10,8 +10,6 @@ use Rattle.desk_register.specs.declared.register.Fault.TheVariants as registers
 use Rattle.desk_register.specs.declared.register.Stage.TheVariants.{Idle}
 use Rattle.desk_register.specs.View.{View, IfCounted, IsLater}
 use Rattle.desk_engine.specs.declared.accepting.Failure.{Failure}
-use Rattle.desk_holdings.specs.declared.fault.WalkFault.{WalkFault}
-use Rattle.desk_holdings.specs.declared.fault.WalkFault.TheVariants as walks
 use Rattle.desk_engine.specs.declared.accepting.Failure.TheVariants.{Undone, Lost}
 use Rattle.desk_engine.specs.Applied.{Keeps}
 use Rattle.desk_book.specs.Answered.{says_closed, BlamesRequest, IsAnswer, IsDecided}
@@ -39,11 +37,6 @@ pub record Decides (limit : ℕ) (books : Books) (entry : Entry) (reply : Reply)
 abbrev pub fault_of_register : RegisterFault → Fault
 fault_of_register registers.Memory = Memory
 fault_of_register registers.Storage = Storage
-
--- the register's fault that a walk's is where a statement is written in memory, where a write fails for want of it alone
-abbrev pub fault_of_walk : WalkFault → RegisterFault
-fault_of_walk walks.Storage = registers.Storage
-fault_of_walk fault = registers.Memory
 
 -- what the desk answers to a failure of a step
 abbrev pub fault_of_failure : Failure → Fault

@@ -11,6 +11,7 @@ pub mod Known
 pub mod Lines
 pub mod Members
 pub mod Played
+pub mod RowByRow
 pub mod Script
 pub mod Statement
 pub mod Sums
@@ -18,3 +19,4 @@ pub mod Task
 pub mod Totals
 pub mod Waiting
 pub mod WrittenAnswers
+pub mod WrittenTo

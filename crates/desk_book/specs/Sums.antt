@@ -1,9 +1,8 @@
 -- The desk's totals as a JSON object. The members of an object stand in the order of their names.
-use Rattle.std.specs.Prelude.{List, map, codes}
+use Rattle.std.specs.Prelude.{ℕ, Bool, true, List, [], ◌∷◌, ◌++◌, map, codes}
 use Rattle.serde_json.specs.Data.{Data, object, array, no_members, member}
 use Rattle.serde_json.specs.View.{items_of}
-use Rattle.serde_json.specs.Written.{compact_text}
-use Rattle.std.specs.Prelude.{ℕ}
+use Rattle.serde_json.specs.Written.{comma_if, compact_text}
 use Rattle.desk_codes.specs.Currency.{letters_of}
 use Rattle.desk_book.specs.Command.{text_member, number_member}
 use Rattle.desk_book.specs.declared.total.CashTotal.{CashTotal}
@@ -26,3 +25,9 @@ sums_data cash securities =
 -- the object's text, without white space
 abbrev pub sums_text : List CashTotal → List SecurityTotal → List ℕ
 sums_text cash securities = compact_text (sums_data cash securities)
+
+-- The rows of an array, one after another, with a comma between two, and before the first where rows stand before it. Only
+-- private contracts speak of it.
+abbrev pub rows_text : Bool → List Data → List ℕ
+rows_text is_later [] = []
+rows_text is_later (row ∷ rows) = comma_if is_later ++ (compact_text row ++ rows_text true rows)

@@ -1,5 +1,5 @@
 -- The desk's totals: of each security that is registered, and of each currency that was paid in.
-use Rattle.std.specs.Prelude.{◌≡◌, ◌⊎◌, ℕ, ◌+◌, ◌<◌, true, List, [], ◌∷◌, ◌++◌, AllPairs, Contains, is_some, sum_by}
+use Rattle.std.specs.Prelude.{◌≡◌, ℕ, ◌+◌, ◌<◌, true, List, AllPairs, Contains, Option, Some, None, is_some, sum_by}
 use Rattle.desk_codes.specs.declared.currency.Ccy.{Ccy}
 use Rattle.desk_codes.specs.Currency.{letters_of}
 use Rattle.desk_rules.specs.declared.entry.Entry.{Entry}
@@ -64,8 +64,7 @@ pub record IsCashTotal (content : Content) (total : CashTotal) : Type 0 where
 abbrev pub AreCashTotals : Content → List CashTotal → Type 0
 AreCashTotals content totals = AreRows (λ total. letters_of total.ccy) (IsPaidIn (history_of content)) (IsCashTotal content) totals
 
--- Rows grew by the total of a currency, if any of it was paid in. Only private contracts speak of it.
-abbrev pub AddsCash : Content → Ccy → List CashTotal → List CashTotal → Type 0
-AddsCash content ccy before after =
-    ((paid_in (history_of content) ccy ≡ 0) × (after ≡ before))
-    ⊎ ((total : CashTotal) × IsCashTotal content total × (total.ccy ≡ ccy) × (after ≡ before ++ total ∷ []))
+-- What a currency totals: none before any of it was paid in. Only private contracts speak of it.
+abbrev pub TotalsCash : Content → Ccy → Option CashTotal → Type 0
+TotalsCash content ccy None = paid_in (history_of content) ccy ≡ 0
+TotalsCash content ccy (Some total) = IsCashTotal content total × (total.ccy ≡ ccy)

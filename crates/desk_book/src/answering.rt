@@ -6,22 +6,20 @@ ghost use Rattle.desk_rules.specs.Reply.{IsFirstReply, refused_reply};
 ghost use Rattle.desk_rules.specs.Verdict.{AsksTheSame};
 ghost use Rattle.desk_engine.specs.Applied.{CanApply, Keeps};
 ghost use Rattle.desk_rules.specs.Questions.{sent_reply};
-ghost use Rattle.desk_book.specs.Answered.{IsToldSums, says_closed, status_answer};
-ghost use Rattle.desk_book.specs.Statement.{TellsHoldings};
+ghost use Rattle.desk_book.specs.Answered.{says_closed, status_answer};
+ghost use Rattle.desk_book.specs.RowByRow.{IsReported, answer_in_memory};
 ghost use Rattle.desk_book.specs.Task.{IsFormed};
 ghost use Rattle.desk_book.specs.Held.{IsReady, KeepsFormed};
 ghost use Rattle.desk_book.specs.Answering.{Answers, Decides, Ends, IsPut, AnswersFault, fault_of_register, fault_of_failure};
 
-use crate::fault::Fault;
+use crate::fault::{Fault, ToFault};
 use crate::questions::{sent_message, status};
-use crate::statement::holdings;
-use crate::summing::totals;
 use crate::task::Task;
-use crate::total::sums_text;
-use desk_codes::{AccountId, Bic, Reference};
+use crate::telling::{Report, Written, tell_to};
+use desk_codes::{Bic, Reference};
 use desk_engine::{Failure, accept, decide, recover, refused_reply};
 use desk_register::{Fault as RegisterFault, Register, Stage};
-use desk_rules::{Entry, Refusal, Reply, Text, Verdict};
+use desk_rules::{Entry, Refusal, Reply, Verdict};
 use std::alloc::Global;
 
 /// The desk's fault of a register's.
@@ -131,28 +129,6 @@ fn rule<R: Register>(alloc: Global, register: &mut R, entry: Entry) -> Result<Re
     }
 }
 
-/// Tells the desk's totals.
-fn tell_totals<R: Register>(alloc: Global, register: &mut R) -> Result<Reply, Fault>
-    requires ready { IsReady false (R.view register.old) }
-    ensures told { (books : Books) → (R.view register.new).is_honest → KeepsFormed (R.view register.old).room books (R.view register.old).content
-        → IfOk result (λ reply. IsToldSums books reply books) }
-    ensures same { (R.view register.new).is_honest → OnOk result ((R.view register.new).content ≡ (R.view register.old).content) }
-    ensures ends { Ends result (R.view register.old) (R.view register.new) }
-    ensures in_memory { R.in_memory ≡ true → says_closed result ≡ false }
-{
-    match totals(alloc, register) {
-        Ok((cash, securities)) => match sums_text(alloc, &cash, &securities) {
-            Ok(text) => Ok(Reply {
-                status: 200,
-                mt: None,
-                text: Text::new(text),
-            }),
-            Err(_) => Err(Fault::Memory),
-        },
-        Err(fault) => Err(recovered(alloc, register, fault)),
-    }
-}
-
 /// Tells how a participant's message stands.
 fn tell_status<R: Register>(
     alloc: Global,
@@ -193,23 +169,32 @@ fn tell_sent<R: Register>(
     }
 }
 
-/// Tells what a participant's account holds.
-fn tell_holdings<R: Register>(
-    alloc: Global,
-    register: &mut R,
-    owner: Bic,
-    account: Option<AccountId>,
-) -> Result<Reply, Fault>
+/// Tells a report, which is written in memory.
+fn tell_report<R: Register>(alloc: Global, register: &mut R, report: Report) -> Result<Reply, Fault>
     requires ready { IsReady false (R.view register.old) }
     ensures told { (books : Books) → (R.view register.new).is_honest → Keeps (R.view register.old).room books (R.view register.old).content
-        → IfOk result (λ reply. TellsHoldings books owner account reply) }
+        → IfOk result (λ reply. IsReported (R.view register.old).room books report reply) }
     ensures same { (R.view register.new).is_honest → OnOk result ((R.view register.new).content ≡ (R.view register.old).content) }
     ensures ends { Ends result (R.view register.old) (R.view register.new) }
     ensures in_memory { R.in_memory ≡ true → says_closed result ≡ false }
 {
-    match holdings(alloc, register, owner, account) {
-        Ok(reply) => Ok(reply),
-        Err(fault) => Err(recovered(alloc, register, fault)),
+    let mut text = Vec::new(alloc);
+    let written = tell_to(alloc, register, report, &mut text);
+    answer_in_memory(written, text)
+}
+
+/// The answer whose text was written in memory, where a write fails for want of memory alone.
+fn answer_in_memory(written: Written, text: Vec<u8>) -> Result<Reply, Fault>
+    ensures { result ≡ answer_in_memory written text.items }
+{
+    if written.is_lost {
+        return Err(Fault::Closed);
+    }
+    match written.result {
+        Ok(head) => Ok(head.with_text(text)),
+        Err(ToFault::WriteFailed | ToFault::Memory) => Err(Fault::Memory),
+        Err(ToFault::Storage) => Err(Fault::Storage),
+        Err(ToFault::Closed) => Err(Fault::Closed),
     }
 }
 
@@ -226,8 +211,10 @@ pub fn answer<R: Register>(alloc: Global, register: &mut R, task: Task) -> Resul
         Task::Decide(entry) => rule(alloc, register, entry),
         Task::Status(sender, reference) => tell_status(alloc, register, sender, reference),
         Task::Sent(receiver, number) => tell_sent(alloc, register, receiver, number),
-        Task::Holdings(owner, account) => tell_holdings(alloc, register, owner, account),
-        Task::Totals => tell_totals(alloc, register),
+        Task::Holdings(owner, account) => {
+            tell_report(alloc, register, Report::Holdings(owner, account))
+        }
+        Task::Totals => tell_report(alloc, register, Report::Totals),
         Task::Answer(reply) => Ok(reply),
     }
 }

@@ -1,21 +1,27 @@
 //! The desk: requests, answered from a register's tables.
-ghost use Rattle.std.specs.Prelude.{◌≡◌, ◌+◌, ◌≤◌, true, false, map, All, count_by, IfErr, IfOk, OnErr};
+ghost use Rattle.std.specs.Prelude.{◌≡◌, ◌↔◌, ◌+◌, ◌≤◌, true, false, map, All, count_by, Err, IfErr, IfOk, OnErr};
 ghost use Rattle.desk_rules.specs.Books.{Books};
 ghost use Rattle.desk_register.specs.View.{IfCounted, IsLater};
 ghost use Rattle.desk_book.specs.Answered.{ActsOnce, AnsweredInTurn, BlamesRequest, says_closed, says_storage};
-ghost use Rattle.desk_book.specs.Asked.{asked_by};
+ghost use Rattle.desk_book.specs.Asked.{asked_by, holdings, sums};
 ghost use Rattle.desk_book.specs.Headline.{KeepsPromise};
 ghost use Rattle.desk_book.specs.Held.{Holds, IsReady, Steps};
 ghost use Rattle.desk_book.specs.Answering.{IsPerformed};
+ghost use Rattle.desk_book.specs.RowByRow.{IsReported};
 ghost use Rattle.desk_book.specs.Task.{IsFormed};
+ghost use Rattle.desk_book.specs.WrittenTo.{BlamesDevice, StaysOpen, Writes, WritesAsked};
 
 use crate::answering::answer;
-use crate::fault::Fault;
+use crate::fault::{Fault, ToFault};
+use crate::head::Head;
 use crate::request::Request;
 use crate::task::{Task, task_of};
+use crate::telling::{Report, tell_to};
+use desk_codes::{AccountId, Bic};
 use desk_register::Register;
 use desk_rules::Reply;
 use std::alloc::{AllocError, Global};
+use std::io::Write;
 use std::marker::Model;
 
 /// A desk over a register. Where what a request began cannot be taken back, or the register does not show after a
@@ -72,6 +78,83 @@ impl<R: Register> Desk<R> {
         ensures in_memory { R.in_memory ≡ true → self.old.is_closed ≡ false → says_closed result ≡ false }
     {
         self.perform(alloc, task_of(alloc, request))
+    }
+
+    /// Writes what a participant's account holds straight to a writer, row by row as it is read: the text that `ask` answers
+    /// to `Request::Holdings` of this participant and these bytes, which name the account. Gives its status and its type. No
+    /// row is kept, so that no more memory is wanted for many rows than for one. The desk's tables stay.
+    ///
+    /// A refusal is no fault: status 422, and `refused 10` (the participant is none) or `refused 15` (the account is not
+    /// its own, or none) is written.
+    ///
+    /// WriteFailed: the writer failed, or took no byte. Memory: a growth of memory was refused. Storage: the device failed.
+    /// After these two what was written, if anything, is a front of an answer, and where it cannot be shown that the tables
+    /// are as before, the desk is closed from then on. Closed: the desk was closed, and nothing was written.
+    pub fn holdings_to<W: Write>(
+        &mut self,
+        alloc: Global,
+        owner: Bic,
+        account: &[u8],
+        writer: &mut W,
+    ) -> Result<Head, ToFault>
+        ensures written { (books : Books) → (R.view self.new.register).is_honest → Holds self.old.is_closed (R.view self.old.register) books
+            → WritesAsked (R.view self.old.register).room books (holdings owner account.now) result (W.contents writer.old) (W.contents writer.new) }
+        ensures keeps { (books : Books) → (R.view self.new.register).is_honest → Holds self.old.is_closed (R.view self.old.register) books
+            → Holds self.new.is_closed (R.view self.new.register) books × KeepsPromise self.new.is_closed (R.view self.new.register) books }
+        ensures closed { result ≡ Err ToFault.Closed ↔ self.old.is_closed ≡ true }
+        ensures untouched { self.old.is_closed ≡ true → (self.new ≡ self.old) × (writer.new ≡ writer.old) }
+        ensures stays { StaysOpen result self.new.is_closed }
+        ensures later { IsLater (R.view self.old.register) (R.view self.new.register) }
+        ensures blame { BlamesDevice result self.new.is_closed (R.view self.old.register) (R.view self.new.register) }
+        ensures in_memory { R.in_memory ≡ true → self.old.is_closed ≡ false → self.new.is_closed ≡ false }
+    {
+        let account = AccountId::read(account);
+        self.report(alloc, Report::Holdings(owner, account), writer)
+    }
+
+    /// Writes the desk's totals straight to a writer, row by row as they are read: the text that `ask` answers to
+    /// `Request::Sums`. Gives its status, 200, and no type. No row is kept. The desk's tables stay.
+    ///
+    /// The faults are those of `holdings_to`.
+    pub fn sums_to<W: Write>(&mut self, alloc: Global, writer: &mut W) -> Result<Head, ToFault>
+        ensures written { (books : Books) → (R.view self.new.register).is_honest → Holds self.old.is_closed (R.view self.old.register) books
+            → WritesAsked (R.view self.old.register).room books sums result (W.contents writer.old) (W.contents writer.new) }
+        ensures keeps { (books : Books) → (R.view self.new.register).is_honest → Holds self.old.is_closed (R.view self.old.register) books
+            → Holds self.new.is_closed (R.view self.new.register) books × KeepsPromise self.new.is_closed (R.view self.new.register) books }
+        ensures closed { result ≡ Err ToFault.Closed ↔ self.old.is_closed ≡ true }
+        ensures untouched { self.old.is_closed ≡ true → (self.new ≡ self.old) × (writer.new ≡ writer.old) }
+        ensures stays { StaysOpen result self.new.is_closed }
+        ensures later { IsLater (R.view self.old.register) (R.view self.new.register) }
+        ensures blame { BlamesDevice result self.new.is_closed (R.view self.old.register) (R.view self.new.register) }
+        ensures in_memory { R.in_memory ≡ true → self.old.is_closed ≡ false → self.new.is_closed ≡ false }
+    {
+        self.report(alloc, Report::Totals, writer)
+    }
+
+    /// Writes a report straight to a writer.
+    fn report<W: Write>(
+        &mut self,
+        alloc: Global,
+        report: Report,
+        writer: &mut W,
+    ) -> Result<Head, ToFault>
+        ensures written { (books : Books) → (R.view self.new.register).is_honest → Holds self.old.is_closed (R.view self.old.register) books
+            → Writes (IsReported (R.view self.old.register).room books report) result (W.contents writer.old) (W.contents writer.new) }
+        ensures keeps { (books : Books) → (R.view self.new.register).is_honest → Holds self.old.is_closed (R.view self.old.register) books
+            → Holds self.new.is_closed (R.view self.new.register) books × KeepsPromise self.new.is_closed (R.view self.new.register) books }
+        ensures closed { result ≡ Err ToFault.Closed ↔ self.old.is_closed ≡ true }
+        ensures untouched { self.old.is_closed ≡ true → (self.new ≡ self.old) × (writer.new ≡ writer.old) }
+        ensures stays { StaysOpen result self.new.is_closed }
+        ensures later { IsLater (R.view self.old.register) (R.view self.new.register) }
+        ensures blame { BlamesDevice result self.new.is_closed (R.view self.old.register) (R.view self.new.register) }
+        ensures in_memory { R.in_memory ≡ true → self.old.is_closed ≡ false → self.new.is_closed ≡ false }
+    {
+        if self.is_closed {
+            return Err(ToFault::Closed);
+        }
+        let written = tell_to(alloc, &mut self.register, report, writer);
+        self.is_closed = written.is_lost;
+        written.result
     }
 
     /// Answers requests, one after another. Room for the answers is taken first: where there is none, nothing was

@@ -41,6 +41,23 @@ impl Fault {
     }
 }
 
+/// Why an answer was not written to its end. None of these has changed the tables.
+#[derive(Clone, Copy, Debug, PartialEq, Eq, Error)]
+pub enum ToFault {
+    /// The writer failed, or took no byte. Nothing is said of what was written.
+    #[error("writing failed")]
+    WriteFailed,
+    /// 60: a growth of memory was refused. What was written, if anything, is a front of the answer.
+    #[error("fault 60")]
+    Memory,
+    /// 61: the device under the tables failed. What was written, if anything, is a front of the answer.
+    #[error("fault 61")]
+    Storage,
+    /// 62: the desk was closed when it was asked. Nothing was written.
+    #[error("fault 62")]
+    Closed,
+}
+
 /// Why a reader gave no text.
 #[derive(Clone, Copy, Debug, PartialEq, Eq, Error)]
 pub enum InputFault {

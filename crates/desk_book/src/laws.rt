@@ -1,5 +1,5 @@
 //! Laws of the definitions, each the contract of a function with an empty body.
-ghost use Rattle.std.specs.Prelude.{◌≡◌, ℕ, Bool, false, List, [], All, Result, Ok};
+ghost use Rattle.std.specs.Prelude.{◌≡◌, ℕ, Bool, false, List, [], All, Some, Result, Ok};
 ghost use Rattle.serde_json.specs.Data.{Data};
 ghost use Rattle.desk_codes.specs.Bic.{IsBic};
 ghost use Rattle.desk_msg.specs.declared.instruction.CancelOrder.{CancelOrder};
@@ -27,7 +27,8 @@ ghost use Rattle.desk_rules.specs.Content.{Content};
 ghost use Rattle.desk_rules.specs.Questions.{sent_reply, status_reply};
 ghost use Rattle.desk_book.specs.Headline.{Headline};
 ghost use Rattle.desk_book.specs.Held.{KeepsFormed};
-ghost use Rattle.desk_book.specs.Asked.{Asked, sent, status, sums};
+ghost use Rattle.desk_book.specs.Asked.{Asked, holdings, sent, status, sums};
+ghost use Rattle.desk_book.specs.Statement.{TellsHoldings};
 ghost use Rattle.desk_book.specs.Task.{IsTask};
 ghost use Rattle.desk_rules.specs.declared.entry.Entry.{Entry};
 ghost use Rattle.desk_book.specs.Command.{IsCommand, SpellsCommand};
@@ -111,13 +112,16 @@ pub fn headline()
     ensures { (limit : ℕ) (books : Books) (content : Content) → KeepsFormed limit books content → Headline limit books content }
 {}
 
-/// What a participant asks is answered by the books of now, whatever text it asks with: how its message stands, or what
-/// was sent to it. A text that is no reference is one that no well formed entry has.
+/// What a participant asks is answered by the books of now, whatever text it asks with: how its message stands, what was
+/// sent to it, or what an account of its own holds. A text that is no reference, or names no account, is one that no well
+/// formed entry has.
 pub fn questions_answered()
     ensures status { (limit : ℕ) (books after : Books) (sender text : List ℕ) (reply : Reply) → AreWellFormed books.history → Step limit books (status sender text) (Ok reply) after
         → (reply ≡ status_reply books sender text) × (after ≡ books) }
     ensures sent { (limit : ℕ) (books after : Books) (receiver : List ℕ) (number : ℕ) (reply : Reply) → Step limit books (sent receiver number) (Ok reply) after
         → (reply ≡ sent_reply books receiver number) × (after ≡ books) }
+    ensures holdings { (limit : ℕ) (books after : Books) (owner text : List ℕ) (reply : Reply) → AreWellFormed books.history → Step limit books (holdings owner text) (Ok reply) after
+        → TellsHoldings books owner (Some text) reply × (after ≡ books) }
 {}
 
 /// Each change is confirmed: after any list of requests to a desk whose entries were accepted in their turn and are well

@@ -3,7 +3,9 @@
 //!
 //! Begin with `Request` in `request.rt`. What a script asks stands in specs/Script.antt, which lines ask
 //! something in specs/Forms.antt; `first_item` of `script.rt` reads one. `task_of` says what a request is read as,
-//! `Desk::ask` (`desk.rt`, `answering.rt`, `questions.rt`) answers it, and `Desk::play` (`playing.rt`) a whole script. What
+//! `Desk::ask` (`desk.rt`, `answering.rt`, `questions.rt`) answers it, and `Desk::play` (`playing.rt`) a whole script.
+//! Statements (`statement.rt`) and sums (`summing.rt`) are written row by row, as they are read: `Desk::holdings_to` and
+//! `Desk::sums_to` (`telling.rt`) write them to any writer, which specs/WrittenTo.antt speaks of, and `ask` to memory. What
 //! may be relied on after every answer stands in specs/Headline.antt.
 #![tactic(auto)]
 
@@ -12,6 +14,7 @@ mod command;
 mod desk;
 mod fault;
 mod form;
+mod head;
 mod laws;
 mod limits;
 mod line;
@@ -26,11 +29,14 @@ mod script;
 mod statement;
 mod summing;
 mod task;
+mod telling;
 mod total;
+mod writing;
 
 pub use command::read_command;
 pub use desk::Desk;
-pub use fault::{Fault, InputFault, PlayFault};
+pub use fault::{Fault, InputFault, PlayFault, ToFault};
+pub use head::Head;
 pub use laws::{
     accepted_again, accepted_stays, changes_are_confirmed, closed_for_good, headline,
     known_replies, one_command, one_reply, one_script, one_task, questions_answered,
@@ -41,6 +47,5 @@ pub use outbox::Outbox;
 pub use reading::read_whole;
 pub use request::Request;
 pub use script::{Item, first_item, item_count};
-pub use summing::{cash_totals, security_totals, totals};
 pub use task::{Task, task_of};
-pub use total::{CashTotal, SecurityTotal, sums_text, write_sums};
+pub use total::{CashTotal, SecurityTotal};

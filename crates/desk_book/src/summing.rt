@@ -1,54 +1,159 @@
-//! The totals of a register's currencies and securities.
-ghost use Rattle.std.specs.Prelude.{◌≡◌, ◌<◌, ◌^◌, ℕ, List, true, is_some, IfOk, OnOk};
-ghost use Rattle.desk_codes.specs.declared.currency.Ccy.{Ccy as CcyValue};
-ghost use Rattle.desk_register.specs.View.{IfTrusted, IsRead};
+//! The totals of a register's currencies and securities, written row by row as they are read. It only reads.
+ghost use Rattle.std.specs.Prelude.{◌≡◌, ◌∷◌, ◌++◌, List, ℕ, Bool, true, is_some, IfOk, OnOk};
+ghost use Rattle.desk_rules.specs.Books.{Books};
 ghost use Rattle.desk_rules.specs.Content.{history_of};
-ghost use Rattle.desk_register.specs.Looked.{held_cash_of, held_of};
 ghost use Rattle.desk_rules.specs.Facts.{kind_of};
-ghost use Rattle.desk_book.specs.Totals.{AddsCash, AreCashTotals, AreTotals, IsTotal};
+ghost use Rattle.desk_register.specs.View.{IfTrusted, IsRead};
+ghost use Rattle.desk_holdings.specs.Ends.{HaveRead, at_register};
+ghost use Rattle.desk_engine.specs.Applied.{Keeps};
+ghost use Rattle.desk_book.specs.Answered.{IsToldSums};
+ghost use Rattle.desk_book.specs.RowByRow.{IsCashText, IsSecuritiesText, WritesCurrency, WritesSecurity, WritesText, told_of_walk};
+ghost use Rattle.desk_book.specs.Totals.{IsTotal, TotalsCash};
+ghost use Rattle.desk_book.specs.WrittenTo.{Writes};
 
-use crate::total::{CashTotal, SecurityTotal};
+use crate::head::Head;
+use crate::total::{CashTotal, SecurityTotal, cash_text, security_text};
+use crate::writing::{write_row, write_text};
 use desk_codes::{Ccy, Isin};
+use desk_holdings::WalkFault;
+use desk_msg::SinkFault;
 use desk_register::{Fault, Register, Stage};
 use std::alloc::Global;
+use std::io::Write;
 
 /// The currencies of the desk, in the order of their letters.
 const CURRENCIES: [Ccy; 6] = [Ccy::Chf, Ccy::Eur, Ccy::Gbp, Ccy::Jpy, Ccy::Kwd, Ccy::Usd];
 
-/// The totals of all securities, in the order of their bytes. With no `begin` open, so a fault changes nothing.
-pub fn security_totals<R: Register>(
+/// Writes the totals of all currencies that were paid in and of all securities, each row as soon as it is read. No row is
+/// kept. With no `begin` open.
+pub fn write_sums<R: Register, W: Write>(
     alloc: Global,
     register: &mut R,
-) -> Result<Vec<SecurityTotal>, Fault>
+    writer: &mut W,
+) -> Result<Head, WalkFault>
     requires stage { (R.view register.old).stage ≡ Stage.Idle }
-    requires small { IfTrusted (R.view register.old) (R.view register.old) ((isin : List ℕ) → held_of (R.view register.old).content isin < 2 ^ 64) }
-    ensures totals { IfTrusted (R.view register.old) (R.view register.new) (IfOk result (λ totals. AreTotals (R.view register.old).content totals.items)) }
+    ensures written { (books : Books) → IfTrusted (R.view register.old) (R.view register.new) (Keeps (R.view register.old).room books (R.view register.old).content
+        → Writes (λ reply. IsToldSums books reply books) (told_of_walk result) (W.contents writer.old) (W.contents writer.new)) }
+    ensures read { HaveRead (at_register result) (R.view register.old) (R.view register.new) }
+{
+    write_text(writer, b"{\"cash\":[")?;
+    write_currencies(alloc, register, writer)?;
+    write_text(writer, b"],\"securities\":[")?;
+    write_securities(alloc, register, writer)?;
+    write_text(writer, b"]}")?;
+    Ok(Head {
+        status: 200,
+        mt: None,
+    })
+}
+
+/// Writes the rows of the currencies that were paid in, in the order of their letters.
+fn write_currencies<R: Register, W: Write>(
+    alloc: Global,
+    register: &mut R,
+    writer: &mut W,
+) -> Result<(), WalkFault>
+    requires stage { (R.view register.old).stage ≡ Stage.Idle }
+    ensures written { (books : Books) → IfTrusted (R.view register.old) (R.view register.new) (Keeps (R.view register.old).room books (R.view register.old).content
+        → WritesText (IsCashText (R.view register.old).content) result (W.contents writer.old) (W.contents writer.new)) }
+    ensures read { HaveRead (at_register result) (R.view register.old) (R.view register.new) }
+{
+    let mut is_later = false;
+    'currencies: for index in 0..CURRENCIES.len() {
+        is_later = write_currency(alloc, register, CURRENCIES[index], is_later, writer)?;
+    }
+    Ok(())
+}
+
+/// Writes the row of a currency, if any of it was paid in. Gives whether a row was written up to here.
+fn write_currency<R: Register, W: Write>(
+    alloc: Global,
+    register: &mut R,
+    ccy: Ccy,
+    is_later: bool,
+    writer: &mut W,
+) -> Result<bool, WalkFault>
+    requires stage { (R.view register.old).stage ≡ Stage.Idle }
+    ensures written { IfTrusted (R.view register.old) (R.view register.new) (WritesCurrency (R.view register.old).content ccy is_later result (W.contents writer.old) (W.contents writer.new)) }
+    ensures read { HaveRead (at_register result) (R.view register.old) (R.view register.new) }
+{
+    let Some(total) = cash_total(alloc, register, ccy)? else {
+        return Ok(is_later);
+    };
+    let Ok(text) = cash_text(alloc, &total) else {
+        return Err(WalkFault::Sink(SinkFault::Memory));
+    };
+    write_row(writer, is_later, text.as_bytes())?;
+    Ok(true)
+}
+
+/// The total of a currency; None where none of it was ever paid in. It has one where all of it was paid out.
+fn cash_total<R: Register>(
+    alloc: Global,
+    register: &mut R,
+    ccy: Ccy,
+) -> Result<Option<CashTotal>, Fault>
+    requires stage { (R.view register.old).stage ≡ Stage.Idle }
+    ensures total { IfTrusted (R.view register.old) (R.view register.new) (IfOk result (λ total. TotalsCash (R.view register.old).content ccy total)) }
     ensures read { IsRead result (R.view register.old) (R.view register.new) }
 {
+    let Some(net) = register.paid(alloc, ccy)? else {
+        return Ok(None);
+    };
+    let held = register.held_cash(alloc, ccy)?;
+    Ok(Some(CashTotal { ccy, held, net }))
+}
+
+/// Writes the rows of all securities, in the order of their bytes.
+fn write_securities<R: Register, W: Write>(
+    alloc: Global,
+    register: &mut R,
+    writer: &mut W,
+) -> Result<(), WalkFault>
+    requires stage { (R.view register.old).stage ≡ Stage.Idle }
+    ensures written { (books : Books) → IfTrusted (R.view register.old) (R.view register.new) (Keeps (R.view register.old).room books (R.view register.old).content
+        → WritesText (IsSecuritiesText (R.view register.old).content) result (W.contents writer.old) (W.contents writer.new)) }
+    ensures read { HaveRead (at_register result) (R.view register.old) (R.view register.new) }
+{
     let count = register.count(alloc)?;
-    let mut totals = Vec::new(alloc);
     let mut last = None;
-    'securities: for _gathered in 0..count {
+    'securities: for _told in 0..count {
         let Some(isin) = register.security_after(alloc, last)? else {
-            return Ok(totals);
+            return Ok(());
         };
-        let total = total_of(alloc, register, isin)?;
-        if totals.push(total).is_err() {
-            return Err(Fault::Memory);
-        }
+        write_security(alloc, register, isin, last.is_some(), writer)?;
         last = Some(isin);
     }
-    Ok(totals)
+    Ok(())
+}
+
+/// Writes the row of a registered security.
+fn write_security<R: Register, W: Write>(
+    alloc: Global,
+    register: &mut R,
+    isin: Isin,
+    is_later: bool,
+    writer: &mut W,
+) -> Result<(), WalkFault>
+    requires stage { (R.view register.old).stage ≡ Stage.Idle }
+    ensures written { IfTrusted (R.view register.old) (R.view register.new) (is_some (kind_of (history_of (R.view register.old).content) isin) ≡ true
+        → WritesSecurity (R.view register.old).content isin is_later result (W.contents writer.old) (W.contents writer.new)) }
+    ensures read { HaveRead (at_register result) (R.view register.old) (R.view register.new) }
+{
+    let total = security_total(alloc, register, isin)?;
+    let Ok(text) = security_text(alloc, &total) else {
+        return Err(WalkFault::Sink(SinkFault::Memory));
+    };
+    write_row(writer, is_later, text.as_bytes())
 }
 
 /// The total of a registered security.
-fn total_of<R: Register>(
+fn security_total<R: Register>(
     alloc: Global,
     register: &mut R,
     isin: Isin,
 ) -> Result<SecurityTotal, Fault>
     requires stage { (R.view register.old).stage ≡ Stage.Idle }
-    requires small { IfTrusted (R.view register.old) (R.view register.old) (held_of (R.view register.old).content isin < 2 ^ 64) }
     ensures isin { IfOk result (λ total. total.isin ≡ isin) }
     ensures total { IfTrusted (R.view register.old) (R.view register.new) (is_some (kind_of (history_of (R.view register.old).content) isin) ≡ true
         → IfOk result (λ total. IsTotal (R.view register.old).content total)) }
@@ -61,58 +166,4 @@ fn total_of<R: Register>(
         held,
         outstanding,
     })
-}
-
-/// The totals of the currencies that were paid in, in the order of their letters. With no `begin` open, so a fault
-/// changes nothing.
-pub fn cash_totals<R: Register>(alloc: Global, register: &mut R) -> Result<Vec<CashTotal>, Fault>
-    requires stage { (R.view register.old).stage ≡ Stage.Idle }
-    requires small { IfTrusted (R.view register.old) (R.view register.old) ((ccy : CcyValue) → held_cash_of (R.view register.old).content ccy < 2 ^ 64) }
-    ensures totals { IfTrusted (R.view register.old) (R.view register.new) (IfOk result (λ totals. AreCashTotals (R.view register.old).content totals.items)) }
-    ensures read { IsRead result (R.view register.old) (R.view register.new) }
-{
-    let mut totals = Vec::new(alloc);
-    'currencies: for index in 0..CURRENCIES.len() {
-        add_cash(alloc, register, CURRENCIES[index], &mut totals)?;
-    }
-    Ok(totals)
-}
-
-/// Adds the total of a currency, if any of it was paid in. A currency stays in the totals where all of it was paid out.
-fn add_cash<R: Register>(
-    alloc: Global,
-    register: &mut R,
-    ccy: Ccy,
-    totals: &mut Vec<CashTotal>,
-) -> Result<(), Fault>
-    requires stage { (R.view register.old).stage ≡ Stage.Idle }
-    requires small { IfTrusted (R.view register.old) (R.view register.old) (held_cash_of (R.view register.old).content ccy < 2 ^ 64) }
-    ensures added { IfTrusted (R.view register.old) (R.view register.new) (OnOk result (AddsCash (R.view register.old).content ccy totals.old.items totals.new.items)) }
-    ensures read { IsRead result (R.view register.old) (R.view register.new) }
-{
-    let Some(net) = register.paid(alloc, ccy)? else {
-        return Ok(());
-    };
-    let held = register.held_cash(alloc, ccy)?;
-    if totals.push(CashTotal { ccy, held, net }).is_err() {
-        return Err(Fault::Memory);
-    }
-    Ok(())
-}
-
-/// The desk's totals, of currencies and of securities. With no `begin` open, so a fault changes nothing.
-pub fn totals<R: Register>(
-    alloc: Global,
-    register: &mut R,
-) -> Result<(Vec<CashTotal>, Vec<SecurityTotal>), Fault>
-    requires stage { (R.view register.old).stage ≡ Stage.Idle }
-    requires small { IfTrusted (R.view register.old) (R.view register.old) ((isin : List ℕ) → held_of (R.view register.old).content isin < 2 ^ 64) }
-    requires small_cash { IfTrusted (R.view register.old) (R.view register.old) ((ccy : CcyValue) → held_cash_of (R.view register.old).content ccy < 2 ^ 64) }
-    ensures cash { IfTrusted (R.view register.old) (R.view register.new) (IfOk result (λ totals. AreCashTotals (R.view register.old).content totals.0.items)) }
-    ensures securities { IfTrusted (R.view register.old) (R.view register.new) (IfOk result (λ totals. AreTotals (R.view register.old).content totals.1.items)) }
-    ensures read { IsRead result (R.view register.old) (R.view register.new) }
-{
-    let cash = cash_totals(alloc, register)?;
-    let securities = security_totals(alloc, register)?;
-    Ok((cash, securities))
 }

@@ -8,7 +8,7 @@ mod faults;
 mod over_lists;
 mod plays;
 mod scripts;
+mod straight;
 mod streams;
 mod summed;
 mod tasks;
-mod totals;

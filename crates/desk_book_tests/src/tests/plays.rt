@@ -110,12 +110,12 @@ impl Read for Pieces<'_> {
 
 /// Takes a piece a write, and fails at one write, or takes nothing then. It counts its writes.
 #[derive(Drop)]
-struct Taking {
-    taken: Vec<u8>,
-    piece: usize,
-    writes: usize,
-    fails_at: usize,
-    is_full: bool,
+pub struct Taking {
+    pub taken: Vec<u8>,
+    pub piece: usize,
+    pub writes: usize,
+    pub fails_at: usize,
+    pub is_full: bool,
 }
 
 impl Write for Taking {

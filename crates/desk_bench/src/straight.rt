@@ -1,0 +1,81 @@
+//! Statements and sums written straight to a writer, for tests/bounded_memory, which looks at how much memory is in use
+//! while their rows are written.
+
+use crate::codes::digits;
+use crate::failure::Failure;
+use desk_book::{Desk, Request};
+use desk_codes::{Bic, check_digit};
+use desk_index::IndexedRegister;
+use desk_rules::MOST_ENTRIES;
+use std::alloc::Global;
+use std::io::Write;
+
+/// What is written.
+#[derive(Clone, Copy, Debug, PartialEq, Eq)]
+pub enum Form {
+    /// The statement of an account
+    Statement,
+    /// The totals
+    Sums,
+}
+
+/// A participant, its account, and a currency of which some is paid in.
+const OPENING: [&[u8]; 3] = [
+    br#"{"op":"participant","ref":"P1","bic":"ALPHDEFF"}"#,
+    br#"{"op":"account","ref":"C1","bic":"ALPHDEFF","account":"A-1"}"#,
+    br#"{"op":"payin","ref":"M1","bic":"ALPHDEFF","ccy":"EUR","amount":100050}"#,
+];
+
+/// Writes a line, once all is ready, and then the statement of an account that holds so many securities, or the totals of as
+/// many.
+pub fn write_straight<W: Write>(
+    alloc: Global,
+    form: Form,
+    count: u32,
+    writer: &mut W,
+) -> Result<(), Failure> {
+    let mut desk = Desk::new(IndexedRegister::new(alloc, MOST_ENTRIES));
+    for command in &OPENING {
+        order(alloc, &mut desk, command)?;
+    }
+    for number in 0..count {
+        issue(alloc, &mut desk, number)?;
+    }
+    writer.write_all(b"begins\n")?;
+    match form {
+        Form::Statement => {
+            let owner = Bic::parse(b"ALPHDEFF").map_err(|_| Failure::Form)?;
+            desk.holdings_to(alloc, owner, b"A-1", writer)?;
+        }
+        Form::Sums => {
+            desk.sums_to(alloc, writer)?;
+        }
+    }
+    Ok(())
+}
+
+/// Registers a security of its own for each number, and issues a million units of it.
+fn issue(alloc: Global, desk: &mut Desk<IndexedRegister>, number: u32) -> Result<(), Failure> {
+    let mut body = *b"US000000000";
+    body[2..].copy_from_slice(&digits(number));
+    let check = check_digit(body).ok_or(Failure::Form)?;
+    let isin = str::from_utf8(&body).map_err(|_| Failure::Form)?;
+    let security = format!(in alloc;
+        "{{\"op\":\"security\",\"ref\":\"S{number}\",\"isin\":\"{isin}{check}\",\"kind\":\"UNIT\"}}"
+    )?;
+    order(alloc, desk, security.as_bytes())?;
+    let issue = format!(in alloc;
+        "{{\"op\":\"issue\",\"ref\":\"I{number}\",\"account\":\"A-1\",\"isin\":\"{isin}{check}\",\"quantity\":1000000}}"
+    )?;
+    order(alloc, desk, issue.as_bytes())
+}
+
+/// Asks for an operator's command, which is accepted.
+fn order(alloc: Global, desk: &mut Desk<IndexedRegister>, command: &[u8]) -> Result<(), Failure> {
+    let reply = desk.ask(alloc, &Request::Operator(command))?;
+    if reply.status == 200 {
+        Ok(())
+    } else {
+        Err(Failure::Refused)
+    }
+}

@@ -1,0 +1,35 @@
+//! Texts and rows on their way to a writer.
+ghost use Rattle.std.specs.Prelude.{◌≡◌, ◌++◌, IfErr, OnOk};
+ghost use Rattle.std.specs.Io.KnownBytes.{Appends};
+ghost use Rattle.serde_json.specs.Written.{comma_if};
+
+use desk_holdings::WalkFault;
+use desk_msg::SinkFault;
+use std::io::Write;
+
+/// Writes a text.
+pub fn write_text<W: Write>(writer: &mut W, text: &[u8]) -> Result<(), WalkFault>
+    ensures written { OnOk result (Appends (W.contents writer.old) (W.contents writer.new) text.now) }
+    ensures fault { IfErr result (λ fault. fault ≡ WalkFault.Sink SinkFault.Write) }
+{
+    match writer.write_all(text) {
+        Ok(()) => Ok(()),
+        Err(_) => Err(WalkFault::Sink(SinkFault::Write)),
+    }
+}
+
+/// Writes a row, behind a comma where rows stand before it.
+pub fn write_row<W: Write>(writer: &mut W, is_later: bool, row: &[u8]) -> Result<(), WalkFault>
+    ensures written { OnOk result (Appends (W.contents writer.old) (W.contents writer.new) (comma_if is_later ++ row.now)) }
+    ensures fault { IfErr result (λ fault. fault ≡ WalkFault.Sink SinkFault.Write) }
+{
+    write_text(writer, comma_before(is_later))?;
+    write_text(writer, row)
+}
+
+/// The comma between two rows.
+fn comma_before(is_later: bool) -> &'static [u8]
+    ensures { result.now ≡ comma_if is_later }
+{
+    if is_later { b"," } else { b"" }
+}
