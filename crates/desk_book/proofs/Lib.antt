@@ -1,4 +1,4 @@
-mod HeadlineLemmas
+pub mod HeadlineLemmas
 pub mod RunLemmas
 mod OutboxLemmas
 mod PlayLemmas

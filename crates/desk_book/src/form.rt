@@ -8,7 +8,7 @@ ghost use Rattle.desk_book.specs.Asked.{holdings, message, sent, status};
 ghost use Rattle.desk_book.specs.Forms.{IsCount, IsLineOf, SpellsBic};
 ghost use Rattle.desk_book.specs.Script.{Means, item_of};
 
-use crate::limits::{LONGEST_LINE, MOST_DIGITS};
+use crate::limits::{LONGEST_LINE, LONGEST_NUMBER, MOST_DIGITS};
 use crate::line::COMMAND;
 use crate::request::Request;
 use crate::script::Item;
@@ -102,8 +102,8 @@ fn sent_line(said: &[u8]) -> Option<(Bic, u64)>
     Some((receiver, number))
 }
 
-/// The party of a BIC.
-fn party(bic: &[u8]) -> Option<Bic>
+/// The party of a BIC; None where the text is no BIC (ISO 9362).
+pub fn party(bic: &[u8]) -> Option<Bic>
     ensures some { IfSome result (λ party. SpellsBic bic.now party) }
     ensures none { IfNone result ((party : List ℕ) → ¬ SpellsBic bic.now party) }
 {
@@ -113,8 +113,9 @@ fn party(bic: &[u8]) -> Option<Bic>
     }
 }
 
-/// The number that digits write, of which there are some and few enough.
-fn count_of(digits: &[u8]) -> Option<u64>
+/// The number of a sent message as digits write it; None where there are none, or more than `MOST_DIGITS`, or where
+/// they are no digits.
+pub fn count_of(digits: &[u8]) -> Option<u64>
     ensures some { IfSome result (λ number. IsCount digits.now number) }
     ensures none { IfNone result ((number : ℕ) → ¬ IsCount digits.now number) }
 {
@@ -124,9 +125,9 @@ fn count_of(digits: &[u8]) -> Option<u64>
     Some(number_of(digits))
 }
 
-/// The number that digits write.
-fn number_of(digits: &[u8]) -> u64
-    requires short { length digits.now ≤ MOST_DIGITS }
+/// The number that digits write, of which there are few enough that it fits.
+pub fn number_of(digits: &[u8]) -> u64
+    requires short { length digits.now ≤ LONGEST_NUMBER }
     requires digits { All IsDigit digits.now }
     ensures { result ≡ number_by digits.now }
 {
@@ -137,8 +138,8 @@ fn number_of(digits: &[u8]) -> u64
     number
 }
 
-/// The type of three digits, of those that instruct.
-fn instruction_type(digits: &[u8]) -> Option<Mt>
+/// The type of three digits, of those that instruct: 540 to 543; None of any other text.
+pub fn instruction_type(digits: &[u8]) -> Option<Mt>
     ensures digits { IfSome result (λ mt. digits_of_type mt ≡ digits.now) }
     ensures instructs { IfSome result (λ mt. is_instruction mt ≡ true) }
     ensures none { IfNone result ((mt : Mt) → is_instruction mt ≡ true

@@ -36,15 +36,16 @@ mod writing;
 pub use command::read_command;
 pub use desk::Desk;
 pub use fault::{Fault, InputFault, PlayFault, ToFault};
+pub use form::{count_of, instruction_type, number_of, party};
 pub use head::Head;
 pub use laws::{
     accepted_again, accepted_stays, changes_are_confirmed, closed_for_good, headline,
     known_replies, one_command, one_reply, one_script, one_task, questions_answered,
     reads_well_formed, repeats_act_once, sums_agree,
 };
-pub use limits::{LONGEST_LINE, LONGEST_SCRIPT, PIECE};
+pub use limits::{LONGEST_LINE, LONGEST_NUMBER, LONGEST_SCRIPT, MOST_DIGITS, PIECE};
 pub use outbox::Outbox;
-pub use reading::read_whole;
+pub use reading::{CHUNK, read_more, read_whole};
 pub use request::Request;
 pub use script::{Item, first_item, item_count};
 pub use task::{Task, task_of};

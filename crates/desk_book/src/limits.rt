@@ -11,3 +11,6 @@ pub const LONGEST_LINE: usize = 1024;
 
 /// The most digits of the number of a sent message, as a line writes it.
 pub const MOST_DIGITS: usize = 9;
+
+/// So many digits write a number that fits in 64 bits, whatever they are.
+pub const LONGEST_NUMBER: usize = 17;

@@ -9,7 +9,7 @@ use std::io;
 use std::io::Read;
 
 /// So many bytes are asked for in one read.
-const CHUNK: usize = 4096;
+pub const CHUNK: usize = 4096;
 
 /// All that the reader gives, which may be so many bytes at most. The room is taken before the first read, and one
 /// byte at most is read past the longest text. Each read but the last gives a byte or more.
@@ -39,8 +39,9 @@ pub fn read_whole<R: Read>(
     Err(InputFault::TooLong)
 }
 
-/// Reads once through a chunk, into room that is there. Whether a byte came: if not, the reader is at its end.
-fn read_more<R: Read>(
+/// Reads once through a chunk, into room that is there, and so that the buffer has `limit` bytes at most. Whether a byte
+/// came: if not, the reader is at its end. An interrupted read counts as failed; after a failed one nothing was read.
+pub fn read_more<R: Read>(
     reader: &mut R,
     chunk: &mut [u8; CHUNK],
     buffer: &mut Vec<u8>,

@@ -1,0 +1,9 @@
+pub mod CallLemmas
+pub mod DecisionLemmas
+pub mod FieldLemmas
+pub mod OutcomeLemmas
+pub mod ResourceLemmas
+pub mod ResponseLemmas
+pub mod RouteLemmas
+pub mod ServeLemmas
+pub mod WalkLemmas

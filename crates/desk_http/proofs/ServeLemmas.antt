@@ -1,0 +1,75 @@
+-- A connection's request, asked once, and its response.
+use Rattle.std.proofs.Common.{◌≡◌, ℕ, ◌+◌, ◌≤◌, Bool, true, List, [], ◌∷◌, count_by, Option, Some, None, IfSome, Result, Ok, Err, OnOk, refl, sym, ap, subst, ◌∙◌, arith}
+use Rattle.std.specs.Io.KnownBytes.{Appends}
+use Rattle.desk_rules.specs.declared.reply.Reply.{Reply}
+use Rattle.desk_rules.specs.Books.{Books}
+use Rattle.desk_register.specs.View.{View, IfCounted, IsLater}
+use Rattle.desk_book.specs.declared.fault.Fault.{Fault}
+use Rattle.desk_book.specs.Answered.{BlamesRequest, says_closed, says_storage}
+use Rattle.desk_book.specs.Asked.{Asked}
+use Rattle.desk_book.specs.Held.{Holds, Steps}
+use Rattle.desk_book.proofs.HeadlineLemmas.{promised}
+use Rattle.desk_book.proofs.RunLemmas.{counted_one}
+use Rattle.desk_http.specs.declared.call.Call.{Call}
+use Rattle.desk_http.specs.declared.refusal.Refusal.{Refusal}
+use Rattle.desk_http.specs.Connection.{Connection}
+use Rattle.desk_http.specs.Decisions.{asked_at, asked_by_found}
+use Rattle.desk_http.specs.Served.{Responds, Serves, answer_response, refusal_response}
+
+abbrev pub Asks : Option (List ℕ) → Result Asked Refusal → Type 0
+Asks stream outcome = IfSome stream (λ bytes. Connection bytes outcome)
+
+pub one_served : (stream : Option (List ℕ)) (was : Bool) (books : Books) (asked : Asked) (answer : Result Reply Fault) (is : Bool) (old new : View) → Asks stream (Ok asked) → is ≡ says_closed answer → IsLater old new
+    → (was ≡ true → says_closed answer ≡ true) → BlamesRequest answer old new → Steps old.room books asked answer is new → Serves was books stream is old new
+one_served stream was books asked answer is old new asks closed later stays blame s = record {
+  outcome = Ok asked;
+  asks = asks;
+  answers = answer ∷ [];
+  last = s.next;
+  in_turn = (stays, (s.next, s.step, (closed, refl)));
+  holds = s.holds;
+  promise = s.promise;
+  blame = counted_one answer old new later blame;
+}
+
+pub one_responded : {E : Type 0} (r : Result (Unit {0}) E) (text : List ℕ) (before after : Option (List ℕ)) (stream : Option (List ℕ)) (was : Bool) (books : Books) (asked : Asked) (answer : Result Reply Fault) (is : Bool) (old new : View)
+    → text ≡ answer_response answer → OnOk r (Appends before after text) → Asks stream (Ok asked) → is ≡ says_closed answer → IsLater old new → (was ≡ true → says_closed answer ≡ true) → BlamesRequest answer old new
+    → Steps old.room books asked answer is new → OnOk r (Responds was books stream before after is old new)
+unfolding one_served
+one_responded (Ok done) text before after stream was books asked answer is old new shown written asks closed later stays blame s =
+    let P : List ℕ → Type 0 = λ t. Appends before after t in
+    record { served = one_served stream was books asked answer is old new asks closed later stays blame s; written = subst P shown written }
+one_responded (Err fault) text before after stream was books asked answer is old new shown written asks closed later stays blame s = tt
+
+none_counted : (view : View) → IfCounted view (count_by says_storage [] + view.failures ≤ view.failures)
+none_counted view honest few = omega arith
+
+pub none_served : (stream : Option (List ℕ)) (was : Bool) (books : Books) (refusal : Refusal) (view : View) → Asks stream (Err refusal) → Holds was view books → Serves was books stream was view view
+none_served stream was books refusal view asks holds = record {
+  outcome = Err refusal;
+  asks = asks;
+  answers = [];
+  last = books;
+  in_turn = (refl, refl);
+  holds = holds;
+  promise = promised was view books holds;
+  blame = none_counted view;
+}
+
+pub none_responded : {E : Type 0} (r : Result (Unit {0}) E) (before after : Option (List ℕ)) (stream : Option (List ℕ)) (was : Bool) (books : Books) (refusal : Refusal) (view : View)
+    → OnOk r (Appends before after (refusal_response refusal)) → Asks stream (Err refusal) → Holds was view books → OnOk r (Responds was books stream before after was view view)
+unfolding none_served
+none_responded (Ok done) before after stream was books refusal view written asks holds = record { served = none_served stream was books refusal view asks holds; written = written }
+none_responded (Err fault) before after stream was books refusal view written asks holds = tt
+
+-- what was found is asked
+pub found_asks : (stream : Option (List ℕ)) (input : List ℕ) (found : Result (Call × ℕ) Refusal) (call : Call) (start : ℕ) (asked : Asked) → found ≡ Ok (call, start) → asked ≡ asked_at input call start → Asks stream (asked_by_found input found)
+    → Asks stream (Ok asked)
+found_asks stream input found call start asked e same asks =
+    let P : Result Asked Refusal → Type 0 = Asks stream in
+    subst P (ap (asked_by_found input) e ∙ ap Ok (sym same)) asks
+
+pub found_refused : (stream : Option (List ℕ)) (input : List ℕ) (found : Result (Call × ℕ) Refusal) (refusal : Refusal) → found ≡ Err refusal → Asks stream (asked_by_found input found) → Asks stream (Err refusal)
+found_refused stream input found refusal e asks =
+    let P : Result Asked Refusal → Type 0 = Asks stream in
+    subst P (ap (asked_by_found input) e) asks

@@ -1,0 +1,10 @@
+pub mod Connection
+pub mod Decisions
+pub mod Length
+pub mod Paths
+pub mod Refusals
+pub mod Resources
+pub mod Response
+pub mod Rows
+pub mod Served
+pub mod Values
