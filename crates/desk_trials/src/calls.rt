@@ -3,41 +3,56 @@ ghost use Rattle.std.specs.Prelude.{◌<◌};
 
 use crate::draws::Draws;
 use crate::failure::Failure;
-use crate::market::{PARTICIPANTS, drawn, opening};
+use crate::market::{LAST_DAY, PARTICIPANTS, drawn, drawn_day, drawn_opposites, opening};
 use crate::same::same_registers;
-use desk_codes::Bic;
+use crate::settling::{cancel_matched, settle};
+use crate::tally::Tally;
+use desk_codes::{Bic, Day};
 use desk_index::IndexedRegister;
 use desk_lists::ListRegister;
-use desk_register::{Register, Stage};
+use desk_register::{Outcome, Register, Stage};
 use desk_rules::{Entry, MOST_SENT, Sent, Text};
 use desk_samples::adding::add;
 use desk_samples::cancelling::{cancel_unmatched, pair_and_cancel};
-use desk_samples::entries::bic;
+use desk_samples::entries::{bic, day};
 use desk_samples::memory::MemoryRegister;
 use desk_samples::pairing::pair_opposites;
 use std::alloc::Global;
 
 /// The registers hold so many entries at most, so that some are full at last.
-const LIMIT: u64 = 60;
+const LIMIT: u64 = 40;
 
 /// How many groups of calls there are, and how many calls a group has at most.
-const GROUPS: u64 = 60;
+const GROUPS: u64 = 70;
 
 const CALLS: u64 = 5;
 
-/// A call that changes a register.
+/// A call that changes a register, or two that add opposite instructions.
 #[derive(Clone, Copy, Debug)]
 enum Call {
     Add(Entry),
+    AddBoth(Entry, Entry),
     Pair { earlier: u64, later: u64 },
     Cancel { number: u64 },
+    CancelPair { number: u64 },
     PairAndCancel { earlier: u64, later: u64 },
+    Settle { number: u64, day: Day },
     Send { bic: Bic, about: u64 },
 }
 
+/// What came of a call.
+#[derive(Clone, Copy, Debug, PartialEq, Eq)]
+enum Answer {
+    /// Its conditions are not met, and nothing was changed.
+    NotMade,
+    Made,
+    /// A pair was tried, and fared so.
+    Tried(Outcome),
+}
+
 /// Whether registers of both stores answer the same to calls that are drawn from a seed, in groups that are kept or taken
-/// back. They are compared after each call, and after each group.
-pub fn agrees(alloc: Global, seed: u32) -> Result<bool, Failure> {
+/// back. They are compared after each call, and after each group. What came of the calls is counted.
+pub fn agrees(alloc: Global, seed: u32, tally: &mut Tally) -> Result<bool, Failure> {
     let mut draws = Draws::new(seed);
     let mut lists = ListRegister::new(alloc, LIMIT);
     let mut index = IndexedRegister::new(alloc, LIMIT);
@@ -46,8 +61,8 @@ pub fn agrees(alloc: Global, seed: u32) -> Result<bool, Failure> {
         begin(alloc, &mut index)?;
         let is_opening = opening(group)?.is_some();
         let is_same = match opening(group)? {
-            Some(entry) => same_answers(alloc, &mut lists, &mut index, &Call::Add(entry))?,
-            None => same_group(alloc, &mut draws, &mut lists, &mut index)?,
+            Some(entry) => same_answers(alloc, &mut lists, &mut index, &Call::Add(entry), tally)?,
+            None => same_group(alloc, &mut draws, &mut lists, &mut index, tally)?,
         };
         let is_kept = is_opening || !draws.is_one_in(3);
         end(alloc, &mut lists, is_kept)?;
@@ -65,10 +80,11 @@ fn same_group(
     draws: &mut Draws,
     lists: &mut ListRegister,
     index: &mut IndexedRegister,
+    tally: &mut Tally,
 ) -> Result<bool, Failure> {
     for _call in 0..draws.below(CALLS) {
         let call = drawn_call(alloc, draws, lists)?;
-        if !same_answers(alloc, lists, index, &call)? {
+        if !same_answers(alloc, lists, index, &call, tally)? {
             return Ok(false);
         }
     }
@@ -80,9 +96,41 @@ fn same_answers(
     lists: &mut ListRegister,
     index: &mut IndexedRegister,
     call: &Call,
+    tally: &mut Tally,
 ) -> Result<bool, Failure> {
-    let did = make(alloc, lists, call)?;
-    Ok(make(alloc, index, call)? == did && same_registers(alloc, lists, index)?)
+    let answer = make(alloc, lists, call)?;
+    count_answer(alloc, lists, call, answer, tally)?;
+    Ok(make(alloc, index, call)? == answer && same_registers(alloc, lists, index)?)
+}
+
+/// Counts what came of a call that tried a pair or cancelled one.
+fn count_answer(
+    alloc: Global,
+    register: &mut ListRegister,
+    call: &Call,
+    answer: Answer,
+    tally: &mut Tally,
+) -> Result<(), Failure> {
+    match (*call, answer) {
+        (Call::Settle { number, .. }, Answer::Tried(outcome)) => {
+            tally.count_tried(outcome, is_against_payment(alloc, register, number)?)
+        }
+        (Call::CancelPair { .. }, Answer::Made) => tally.count_cancelled(),
+        _ => (),
+    }
+    Ok(())
+}
+
+/// Whether an instruction is against payment.
+fn is_against_payment(
+    alloc: Global,
+    register: &mut ListRegister,
+    number: u64,
+) -> Result<bool, Failure> {
+    Ok(match register.entry(alloc, number)? {
+        Some(Entry::Instruct { instruction, .. }) => instruction.cash.is_some(),
+        _ => false,
+    })
 }
 
 fn drawn_call(
@@ -91,22 +139,33 @@ fn drawn_call(
     register: &mut ListRegister,
 ) -> Result<Call, Failure> {
     let count = register.count(alloc)?;
-    Ok(match draws.below(8) {
-        0 | 1 => {
+    Ok(match draws.below(14) {
+        0 | 1 | 2 => {
             let (earlier, later) = drawn_pair(alloc, draws, register, count)?;
             Call::Pair { earlier, later }
         }
-        2 => Call::Cancel {
+        3 => Call::Cancel {
             number: draws.below(count.saturating_add(2)),
         },
-        3 => {
+        4 => Call::CancelPair {
+            number: drawn_due(alloc, draws, register, count)?,
+        },
+        5 => {
             let (earlier, later) = drawn_pair(alloc, draws, register, count)?;
             Call::PairAndCancel { earlier, later }
         }
-        4 => Call::Send {
+        6 | 7 | 8 => Call::Settle {
+            number: drawn_due(alloc, draws, register, count)?,
+            day: drawn_day(draws)?,
+        },
+        9 => Call::Send {
             bic: drawn_party(draws)?,
             about: draws.below(count.saturating_add(2)),
         },
+        10 | 11 => {
+            let (first, second) = drawn_opposites(alloc, draws)?;
+            Call::AddBoth(first, second)
+        }
         _ => Call::Add(drawn(alloc, draws, &entries_of(alloc, register, count)?)?),
     })
 }
@@ -149,6 +208,28 @@ fn drawn_pair(
     Ok((draws.below(number.saturating_add(1)), number))
 }
 
+/// The number of one of the first two matched pairs; where there is none, and one time in four, a drawn number.
+fn drawn_due(
+    alloc: Global,
+    draws: &mut Draws,
+    register: &mut ListRegister,
+    count: u64,
+) -> Result<u64, Failure> {
+    let last_day = day(LAST_DAY)?;
+    let first = register.due_pair_after(alloc, last_day, None)?;
+    let second = register.due_pair_after(alloc, last_day, first)?;
+    let place = if draws.is_one_in(2) {
+        second.or(first)
+    } else {
+        first
+    };
+    let number = draws.below(count.saturating_add(2));
+    Ok(match place {
+        Some(place) if !draws.is_one_in(4) => place.number,
+        _ => number,
+    })
+}
+
 fn drawn_party(draws: &mut Draws) -> Result<Bic, Failure> {
     Ok(match draws.below(3) {
         0 => bic(PARTICIPANTS[0])?,
@@ -175,23 +256,54 @@ fn end<R: MemoryRegister>(alloc: Global, register: &mut R, is_kept: bool) -> Res
     Ok(register.back(alloc)?)
 }
 
-/// Makes a call, where its conditions are met, and answers whether it did.
-fn make<R: MemoryRegister>(alloc: Global, register: &mut R, call: &Call) -> Result<bool, Failure> {
+/// Makes a call, where its conditions are met.
+fn make<R: MemoryRegister>(
+    alloc: Global,
+    register: &mut R,
+    call: &Call,
+) -> Result<Answer, Failure> {
     let Stage::Begun = register.stage() else {
         return Err(Failure::Form);
     };
-    match *call {
-        Call::Add(entry) => Ok(add(alloc, register, entry)?),
+    Ok(match *call {
+        Call::Add(entry) => made(add(alloc, register, entry)?),
+        Call::AddBoth(first, second) => made(add_both(alloc, register, first, second)?),
         Call::Pair { earlier, later } if earlier < later => {
-            Ok(pair_opposites(alloc, register, earlier, later)?)
+            made(pair_opposites(alloc, register, earlier, later)?)
         }
-        Call::Cancel { number } => Ok(cancel_unmatched(alloc, register, number)?),
+        Call::Cancel { number } => made(cancel_unmatched(alloc, register, number)?),
+        Call::CancelPair { number } => made(cancel_matched(alloc, register, number)?),
         Call::PairAndCancel { earlier, later } if earlier < later => {
-            Ok(pair_and_cancel(alloc, register, earlier, later)?)
+            made(pair_and_cancel(alloc, register, earlier, later)?)
         }
-        Call::Send { bic, about } => send(alloc, register, bic, about),
-        Call::Pair { .. } | Call::PairAndCancel { .. } => Ok(false),
+        Call::Settle { number, day } => {
+            settle(alloc, register, number, day)?.map_or(Answer::NotMade, Answer::Tried)
+        }
+        Call::Send { bic, about } => made(send(alloc, register, bic, about)?),
+        Call::Pair { .. } | Call::PairAndCancel { .. } => Answer::NotMade,
+    })
+}
+
+fn made(is_made: bool) -> Answer {
+    if is_made {
+        Answer::Made
+    } else {
+        Answer::NotMade
     }
+}
+
+/// Adds two entries, as far as they may be added, and answers whether both were.
+fn add_both<R: MemoryRegister>(
+    alloc: Global,
+    register: &mut R,
+    first: Entry,
+    second: Entry,
+) -> Result<bool, Failure> {
+    let Stage::Begun = register.stage() else {
+        return Err(Failure::Form);
+    };
+    let is_first = add(alloc, register, first)?;
+    Ok(add(alloc, register, second)? && is_first)
 }
 
 /// Sends a confirmation of no text about an entry.

@@ -4,7 +4,7 @@ ghost use Rattle.std.specs.Prelude.{◌<◌, ◌≤◌};
 ghost use Rattle.desk_rules.specs.declared.limits.TheConstants.{MOST_PAID};
 
 use crate::draws::Draws;
-use desk_codes::Ccy;
+use desk_codes::{Ccy, Day};
 use desk_msg::{CancelOrder, Kind, Mt};
 use desk_rules::{Entry, Payment, RunRule};
 use desk_samples::entries::{
@@ -22,6 +22,9 @@ pub const ACCOUNTS: [&str; 5] = ["A-1", "A-2", "B-1", "C-1", "D-1"];
 /// The securities, a share and a bond.
 pub const SECURITIES: [&str; 2] = [SHARE, BOND];
 
+/// No instruction and no run is of a later day.
+pub const LAST_DAY: &[u8; 8] = b"20240301";
+
 /// The lines of EUR 10.00, and of USD 5.00.
 const EUROS: &str = ":16R:AMT\n:19A::SETT//EUR10,\n:16S:AMT\n";
 
@@ -34,6 +37,13 @@ struct Route {
     from: &'static str,
     receiver: &'static str,
     to: &'static str,
+}
+
+/// The texts of the two instructions of a pair.
+#[derive(Clone, Copy)]
+struct Sides<'a> {
+    delivery: InstructionTexts<'a>,
+    receipt: InstructionTexts<'a>,
 }
 
 /// What registers the participants, their accounts and the securities, and brings the first of them: the entry of a
@@ -57,11 +67,9 @@ pub fn opening(number: u64) -> Result<Option<Entry>, EntryFault> {
     }))
 }
 
-/// A drawn entry; a cancellation is of one of these that came before. Its reference is one of few more than there are
-/// draws, so that some come again.
+/// A drawn entry; a cancellation is of one of these that came before.
 pub fn drawn(alloc: Global, draws: &mut Draws, entries: &[Entry]) -> Result<Entry, EntryFault> {
-    let number = draws.below(160);
-    let key = format!(in alloc; "K{number}")?;
+    let key = drawn_key(alloc, draws)?;
     let key = key.as_str();
     match draws.below(20) {
         0 => drawn_name(key, draws),
@@ -76,6 +84,12 @@ pub fn drawn(alloc: Global, draws: &mut Draws, entries: &[Entry]) -> Result<Entr
             instruct(alloc, texts)
         }
     }
+}
+
+/// A reference: one of few more than there are draws, so that some come again.
+fn drawn_key(alloc: Global, draws: &mut Draws) -> Result<String, EntryFault> {
+    let number = draws.below(160);
+    Ok(format!(in alloc; "K{number}")?)
 }
 
 /// So many minor units paid in.
@@ -147,13 +161,18 @@ fn drawn_currency(draws: &mut Draws) -> Ccy {
     }
 }
 
+/// The day of a run, or one by which a pair is tried.
+pub fn drawn_day(draws: &mut Draws) -> Result<Day, EntryFault> {
+    match draws.below(6) {
+        0 => day(b"20240228"),
+        1 | 2 | 3 => day(b"20240229"),
+        _ => day(b"20240301"),
+    }
+}
+
 /// A run, in one pass or in passes.
 fn drawn_run(key: &str, draws: &mut Draws) -> Result<Entry, EntryFault> {
-    let day = match draws.below(6) {
-        0 => day(b"20240228")?,
-        1 | 2 | 3 => day(b"20240229")?,
-        _ => day(b"20240301")?,
-    };
+    let day = drawn_day(draws)?;
     let rule = if draws.is_one_in(4) {
         RunRule::OnePass
     } else {
@@ -184,6 +203,30 @@ fn drawn_route(draws: &mut Draws) -> Route {
 
 /// The texts of an instruction: of a side of a route, and now and then with a name that does not fit.
 fn drawn_instruction<'a>(key: &'a str, draws: &mut Draws) -> InstructionTexts<'a> {
+    let sides = drawn_sides(key, key, draws);
+    let texts = if draws.is_one_in(2) {
+        sides.delivery
+    } else {
+        sides.receipt
+    };
+    misfit(texts, draws)
+}
+
+/// Two drawn instructions that are opposite.
+pub fn drawn_opposites(alloc: Global, draws: &mut Draws) -> Result<(Entry, Entry), EntryFault> {
+    let delivery_key = drawn_key(alloc, draws)?;
+    let receipt_key = drawn_key(alloc, draws)?;
+    let sides = drawn_sides(delivery_key.as_str(), receipt_key.as_str(), draws);
+    let delivery = instruct(alloc, sides.delivery)?;
+    let receipt = instruct(alloc, sides.receipt)?;
+    if draws.is_one_in(2) {
+        return Ok((receipt, delivery));
+    }
+    Ok((delivery, receipt))
+}
+
+/// The texts of both sides of a drawn route, of these references.
+fn drawn_sides<'a>(delivery_key: &'a str, receipt_key: &'a str, draws: &mut Draws) -> Sides<'a> {
     let route = drawn_route(draws);
     let amount = match draws.below(8) {
         0 | 1 | 2 | 3 => "",
@@ -192,14 +235,14 @@ fn drawn_instruction<'a>(key: &'a str, draws: &mut Draws) -> InstructionTexts<'a
     };
     let isin = drawn_security(draws);
     let is_units = isin.as_bytes() == SHARE.as_bytes();
-    let texts = InstructionTexts {
+    let delivery = InstructionTexts {
         sender: route.deliverer,
         mt: if amount.is_empty() {
             Mt::Mt542
         } else {
             Mt::Mt543
         },
-        key,
+        key: delivery_key,
         account: route.from,
         isin,
         kind: if is_units { "UNIT" } else { "FAMT" },
@@ -213,9 +256,6 @@ fn drawn_instruction<'a>(key: &'a str, draws: &mut Draws) -> InstructionTexts<'a
         },
         amount,
     };
-    if draws.is_one_in(2) {
-        return misfit(texts, draws);
-    }
     let receipt = InstructionTexts {
         sender: route.receiver,
         mt: if amount.is_empty() {
@@ -223,11 +263,12 @@ fn drawn_instruction<'a>(key: &'a str, draws: &mut Draws) -> InstructionTexts<'a
         } else {
             Mt::Mt541
         },
+        key: receipt_key,
         account: route.to,
         other: route.deliverer,
-        ..texts
+        ..delivery
     };
-    misfit(receipt, draws)
+    Sides { delivery, receipt }
 }
 
 /// The same texts, or, one time in twenty each, with a name that the desk refuses.

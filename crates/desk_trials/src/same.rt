@@ -1,7 +1,7 @@
 //! Whether two registers answer the same.
 
 use crate::failure::Failure;
-use crate::market::{ACCOUNTS, PARTICIPANTS, SECURITIES};
+use crate::market::{ACCOUNTS, LAST_DAY, PARTICIPANTS, SECURITIES};
 use desk_codes::{AccountId, Bic, Ccy, Isin};
 use desk_register::Register;
 use desk_rules::{Entry, Reply, Sent};
@@ -249,7 +249,7 @@ fn same_due_pairs<A: Register, B: Register>(
     b: &mut B,
     count: u64,
 ) -> Result<bool, Failure> {
-    let last_day = day(b"20240301")?;
+    let last_day = day(LAST_DAY)?;
     let mut place = None;
     for _pair in 0..count {
         let next = a.due_pair_after(alloc, last_day, place)?;
