@@ -1,0 +1,77 @@
+//! A reader that gives its bytes in pieces, and a writer that takes them so; each fails where it is told to.
+
+use std::alloc::Global;
+use std::io;
+use std::io::{ErrorKind, Read, Write};
+
+/// Gives bytes in pieces, one of which ends at a cut, and fails at one read. It counts its reads.
+#[derive(Drop)]
+pub struct Pieces<'a> {
+    pub rest: &'a [u8],
+    pub piece: usize,
+    /// So many bytes stand before the cut.
+    pub before_cut: usize,
+    pub reads: usize,
+    pub fails_at: usize,
+}
+
+impl Read for Pieces<'_> {
+    fn read(&mut self, buf: &mut [u8]) -> io::Result<usize> {
+        self.reads = self.reads.wrapping_add(1);
+        if self.reads == self.fails_at {
+            return Err(io::Error::from(ErrorKind::Interrupted));
+        }
+        let most = if self.before_cut == 0 {
+            self.piece
+        } else {
+            self.piece.min(self.before_cut)
+        };
+        let count = most.min(self.rest.len()).min(buf.len());
+        buf[..count].copy_from_slice(&self.rest[..count]);
+        self.rest = &self.rest[count..];
+        self.before_cut = self.before_cut.saturating_sub(count);
+        Ok(count)
+    }
+}
+
+/// Takes a piece a write, and fails at one write, or takes nothing then. It counts its writes.
+#[derive(Drop)]
+pub struct Taking {
+    pub taken: Vec<u8>,
+    pub piece: usize,
+    pub writes: usize,
+    pub fails_at: usize,
+    pub is_full: bool,
+}
+
+impl Taking {
+    /// One that takes all.
+    pub fn all(alloc: Global) -> Taking {
+        Taking {
+            taken: Vec::new(alloc),
+            piece: usize::MAX,
+            writes: 0,
+            fails_at: 0,
+            is_full: false,
+        }
+    }
+}
+
+impl Write for Taking {
+    fn write(&mut self, buf: &[u8]) -> io::Result<usize> {
+        self.writes = self.writes.wrapping_add(1);
+        if self.writes == self.fails_at {
+            if self.is_full {
+                return Ok(0);
+            }
+            return Err(io::Error::from(ErrorKind::Other));
+        }
+        let count = self.piece.min(buf.len());
+        self.taken.extend_from_slice(&buf[..count])?;
+        Ok(count)
+    }
+
+    fn flush(&mut self) -> io::Result<()> {
+        Ok(())
+    }
+}
