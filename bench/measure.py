@@ -1,14 +1,24 @@
 """Times the bench program beside plain Python, the same work and the same figures in one run; and, with no Python
-beside them, a register that takes entries in, and the desk's program playing scripts."""
+beside them, a register that takes entries in, the desk's program playing scripts, and the same served over HTTP."""
 
 import functools
+import http.server
 import itertools
 import json
+import multiprocessing
+import os
 import re
 import resource
+import socket
 import string
 import subprocess
 import sys
+import time
+
+sys.dont_write_bytecode = True
+sys.path.insert(0, os.path.join(os.path.dirname(os.path.abspath(__file__)), "..", "tests"))
+
+from over_http import requests_of, sent_for  # noqa: E402
 
 
 def check_digit(body):
@@ -381,14 +391,74 @@ def measure_register(program):
         )
 
 
+# How many requests are asked over HTTP, one a connection; and what the server of Python's answers to each.
+ASKED = 2_000
+CONSTANT = b'{"cash":[],"securities":[]}'
+HOST = "127.0.0.1"
+
+
+class Constant(http.server.BaseHTTPRequestHandler):
+    """Answers each request by a constant."""
+
+    def do_POST(self):
+        self.rfile.read(int(self.headers.get("Content-Length", 0)))
+        self.send_response(200)
+        self.send_header("Content-Type", "text/plain")
+        self.send_header("Connection", "close")
+        self.end_headers()
+        self.wfile.write(CONSTANT)
+
+    do_GET = do_POST
+
+    def log_message(self, *_):
+        pass
+
+
+def seconds_over_loopback(port, requests):
+    """The seconds that it takes to ask all of them, one after another."""
+    started = time.monotonic()
+    for request in requests:
+        with socket.create_connection((HOST, port)) as connection:
+            connection.sendall(request)
+            while connection.recv(65_536):
+                pass
+    return time.monotonic() - started
+
+
+def measure_http():
+    """Requests of a mixed day over loopback, beside the same script by play, and beside a server of Python's."""
+    script, pairs = mixed_script(ASKED)
+    requests = [sent_for(*it) for it in requests_of(script)]
+    with socket.socket() as probe:
+        probe.bind((HOST, 0))
+        port = probe.getsockname()[1]
+    words = [DESK, "serve", "--port", str(port), "--count", str(len(requests))]
+    with subprocess.Popen(words, stdout=subprocess.PIPE) as desk:
+        desk.stdout.readline()
+        by_desk = len(requests) / seconds_over_loopback(port, requests)
+    by_play = len(requests) / played(DESK, script, pairs)
+    with http.server.HTTPServer((HOST, 0), Constant) as server:
+        peer = multiprocessing.Process(target=server.serve_forever)
+        peer.start()
+        by_python = len(requests) / seconds_over_loopback(server.server_port, requests)
+        peer.terminate()
+        peer.join()
+    print(
+        f"http, {len(requests):,} requests of a mixed day, one a connection over loopback: desk {by_desk:,.0f} requests/s; "
+        f"by play {by_play:,.0f}/s; a server of Python's that answers a constant {by_python:,.0f}/s"
+    )
+
+
 def main(program, kinds):
-    for kind in kinds or [*KINDS, "block", "register", "play"]:
+    for kind in kinds or [*KINDS, "block", "register", "play", "http"]:
         if kind == "block":
             measure_blocks(program)
         elif kind == "register":
             measure_register(program)
         elif kind == "play":
             measure_play()
+        elif kind == "http":
+            measure_http()
         else:
             compare(program, kind, *KINDS[kind])
 

@@ -13,7 +13,7 @@ use Rattle.clap.proofs.OnLiterals.{clap_on_literals}
 use Rattle.desk_msg.specs.MessageType.{digits_of_type, is_instruction}
 use Rattle.desk_msg.specs.declared.mt.Mt.{Mt}
 use Rattle.desk_msg.specs.declared.mt.Mt.TheVariants.{Mt540, Mt541, Mt542, Mt543, Mt544, Mt545, Mt546, Mt547}
-use Rattle.desk.specs.Words.{CallValue, IsAskable, IsSpelledOut, IsSaid, IsSaidBy, IsSaidIn, IsTypeText, value_of_call, desk_app, isin, play, read, words_for}
+use Rattle.desk.specs.Words.{CallValue, IsAskable, IsSpelledOut, IsSaid, IsSaidBy, IsSaidIn, IsTypeText, value_of_call, desk_app, IsNumberText, isin, play, read, serve, words_for}
 use Rattle.desk.specs.declared.words.Call.{Call}
 
 pub simple : is_simple desk_app ≡ true
@@ -66,6 +66,7 @@ pub takes_asked : (program : List ℕ) (asked : CallValue) → IsAskable asked �
 takes_asked program (isin code) other = takes_isin program code (no_dashes code other) (no_long code other) (no_short code other)
 takes_asked program (read mt) is = takes_read program mt is
 takes_asked program play is = takes_play program
+takes_asked program (serve port count) no = absurd no
 
 pub takes_nothing : (program : List ℕ) → takes desk_app (program ∷ []) ≡ true
 unfolding clap_on_literals
@@ -98,6 +99,7 @@ pub enters_asked : (program : List ℕ) (asked : CallValue) → IsAskable asked 
 enters_asked program (isin code) other = enters_isin program code (no_dashes code other) (no_long code other) (no_short code other)
 enters_asked program (read mt) is = enters_read program mt is
 enters_asked program play is = enters_play program
+enters_asked program (serve port count) no = absurd no
 
 pub enters_nothing : (program : List ℕ) → subcommand_of desk_app (program ∷ []) ≡ None
 unfolding clap_on_literals
@@ -135,6 +137,7 @@ module _ (asked : CallValue) (name : List ℕ) (f : Found) where
       go (isin code) h = (code, refl, first_value-rows f (codes "code") ∙ h.1)
       go (read mt) h = let bad : 114 ≡ 105 = ap (λ t. slice_index t 0) (sym h.0 ∙ is) in absurd (omega (arith, bad))
       go play h = let bad : 112 ≡ 105 = ap (λ t. slice_index t 0) (sym h ∙ is) in absurd (omega (arith, bad))
+      go (serve port count) h = absurd h
 
   named_read : name ≡ codes "read" → IsSpelledOut asked name (rows_of f) → (mt : Mt) × (asked ≡ read mt) × (one_text f (codes "mt") ≡ Some (digits_of_type mt)) × (is_instruction mt ≡ true)
   named_read is named = go asked named
@@ -143,6 +146,7 @@ module _ (asked : CallValue) (name : List ℕ) (f : Found) where
       go (isin code) h = let bad : 105 ≡ 114 = ap (λ t. slice_index t 0) (sym h.0 ∙ is) in absurd (omega (arith, bad))
       go (read mt) h = (mt, refl, one_text-rows f (codes "mt") ∙ h.1, h.2)
       go play h = let bad : 112 ≡ 114 = ap (λ t. slice_index t 0) (sym h ∙ is) in absurd (omega (arith, bad))
+      go (serve port count) h = absurd h
 
   pub no_code : name ≡ codes "isin" → None ≡ first_value f (codes "code") → IsSpelledOut asked name (rows_of f) → ⊥
   no_code is none named = let n = named_isin is named in let bad : None ≡ Some n.0 = none ∙ n.2 in cc
@@ -194,6 +198,12 @@ pub said_type : (name : List ℕ) (f : Found) (mt : Mt) → name ≡ codes "read
 said_type name f mt is text =
     let P : Option (List ℕ) → Type 0 = λ found. IsSomeAnd found (IsTypeText mt) in
     (is, subst P (one_text-rows f (codes "mt")) text)
+
+pub said_service : (name : List ℕ) (f : Found) (port count : ℕ) → name ≡ codes "serve" → IsSomeAnd (one_text f (codes "port")) (IsNumberText port) → IsSomeAnd (one_text f (codes "count")) (IsNumberText count)
+    → IsSaid (serve port count) name (rows_of f)
+said_service name f port count is ports counts =
+    let P : ℕ → Option (List ℕ) → Type 0 = λ number found. IsSomeAnd found (IsNumberText number) in
+    (is, subst (P port) (one_text-rows f (codes "port")) ports, subst (P count) (one_text-rows f (codes "count")) counts)
 
 said_parts : {S : Type 0} (found : Option S) (name_in : S → List ℕ) (rows_in : S → List Row) (asked : CallValue) (name : List ℕ) (rows : List Row)
     → Some name ≡ option_map name_in found → Some rows ≡ option_map (λ p. p.1) (option_map (pair name_in rows_in) found) → IsSaid asked name rows

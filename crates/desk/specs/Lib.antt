@@ -1,6 +1,7 @@
-pub mod Status
-pub mod IsinAnswer
-pub mod ReadAnswer
-pub mod PlayAnswer
-pub mod Words
 pub mod CallAnswer
+pub mod IsinAnswer
+pub mod PlayAnswer
+pub mod ReadAnswer
+pub mod ServeAnswer
+pub mod Status
+pub mod Words

@@ -1,5 +1,5 @@
 -- Which words ask for what.
-use Rattle.std.specs.Prelude.{◌≡◌, ◌≢◌, ℕ, List, [], ◌∷◌, Option, Some, pos, true, codes, slice_index, IsSomeAnd, MatchOption}
+use Rattle.std.specs.Prelude.{◌≡◌, ◌≢◌, ℕ, List, [], ◌∷◌, Option, Some, pos, true, codes, decimal, slice_index, IsSomeAnd, MatchOption}
 use Rattle.std.specs.Str.{byte}
 use Rattle.std.specs.Str.Parse.{IsNumeral, digits_value, without_leading_plus}
 use Rattle.clap.specs.Words.{App, Row, Rule, first_of, new_app, new_rule, fault_of, one_of, subcommand_of, with_rule, with_subcommand}
@@ -7,18 +7,21 @@ use Rattle.clap.specs.declared.builder.value_parser.ValueParser.TheVariants.{Sig
 use Rattle.desk_msg.specs.MessageType.{digits_of_type, is_instruction, number_of_type}
 use Rattle.desk_msg.specs.declared.mt.Mt.{Mt}
 use Rattle.desk.specs.declared.words.Call.{Call}
-use Rattle.desk.specs.declared.words.Call.TheVariants.{Isin, Read, Play}
+use Rattle.desk.specs.declared.words.Call.TheVariants.{Isin, Read, Play, Serve}
 
--- what is asked for: whether a code is an ISIN, what a message of a type says, or a script's answers
+-- what is asked for: whether a code is an ISIN, what a message of a type says, a script's answers, or to serve so many
+-- connections at a port
 pub data CallValue : Type 0 where
   isin : (code : List ℕ) → CallValue
   read : (mt : Mt) → CallValue
   play : CallValue
+  serve : (port count : ℕ) → CallValue
 
 abbrev pub value_of_call : Call → CallValue
 value_of_call (Isin code) = isin code.now
 value_of_call (Read mt) = read mt
 value_of_call Play = play
+value_of_call (Serve service) = serve service.port service.count
 
 -- a message that is read is an instruction
 abbrev pub ReadsOnlyInstructions : Call → Type 0
@@ -30,18 +33,22 @@ abbrev pub words_for : CallValue → List (List ℕ)
 words_for (isin code) = codes "isin" ∷ code ∷ []
 words_for (read mt) = codes "read" ∷ digits_of_type mt ∷ []
 words_for play = codes "play" ∷ []
+words_for (serve port count) = codes "serve" ∷ codes "--port" ∷ decimal port ∷ codes "--count" ∷ decimal count ∷ []
 
--- the code does not begin as an option, by a hyphen, and the type is one of an instruction
+-- The code does not begin as an option, by a hyphen, and the type is one of an instruction. Of words that ask to serve only
+-- the other way is said: what is taken for them says so (`IsSaid`).
 abbrev pub IsAskable : CallValue → Type 0
 IsAskable (isin code) = slice_index code 0 ≢ byte "-"
 IsAskable (read mt) = is_instruction mt ≡ true
 IsAskable play = Unit {0}
+IsAskable (serve port count) = ⊥
 
 -- what a subcommand's name and matches ask for, spelled out as `words_for` spells it
 abbrev pub IsSpelledOut : CallValue → List ℕ → List Row → Type 0
 IsSpelledOut (isin code) name rows = (name ≡ codes "isin") × (first_of (codes "code") rows ≡ Some code)
 IsSpelledOut (read mt) name rows = (name ≡ codes "read") × (one_of (codes "mt") rows ≡ Some (digits_of_type mt)) × (is_instruction mt ≡ true)
 IsSpelledOut play name rows = name ≡ codes "play"
+IsSpelledOut (serve port count) name rows = ⊥
 
 -- what the parser of words knows of the program
 abbrev pub code_rule : Rule
@@ -59,18 +66,33 @@ read_app = with_rule (new_app (codes "read")) type_rule
 abbrev pub play_app : App
 play_app = new_app (codes "play")
 
-abbrev pub desk_app : App
-desk_app = with_subcommand (with_subcommand (with_subcommand (new_app (codes "desk")) isin_app.top) read_app.top) play_app.top
+abbrev pub port_rule : Rule
+port_rule = record (new_rule (codes "port")) { long = Some (codes "port"); value_names = 1; required = true; parser = Some (Signed (pos 1) (pos 65535)) }
 
--- a numeral of a type's number; a plus and zeros may stand before it
+abbrev pub count_rule : Rule
+count_rule = record (new_rule (codes "count")) { long = Some (codes "count"); value_names = 1; required = true; parser = Some (Signed (pos 1) (pos 1000000)) }
+
+abbrev pub serve_app : App
+serve_app = with_rule (with_rule (new_app (codes "serve")) port_rule) count_rule
+
+abbrev pub desk_app : App
+desk_app = with_subcommand (with_subcommand (with_subcommand (with_subcommand (new_app (codes "desk")) isin_app.top) read_app.top) play_app.top) serve_app.top
+
+-- a numeral of a number; a plus and zeros may stand before it
+abbrev pub IsNumberText : ℕ → List ℕ → Type 0
+IsNumberText number text = IsNumeral 10 (without_leading_plus text) × (digits_value 10 (without_leading_plus text) ≡ number)
+
+-- a numeral of a type's number
 abbrev pub IsTypeText : Mt → List ℕ → Type 0
-IsTypeText mt text = IsNumeral 10 (without_leading_plus text) × (digits_value 10 (without_leading_plus text) ≡ number_of_type mt)
+IsTypeText mt text = IsNumberText (number_of_type mt) text
 
 -- what a subcommand's name and matches say, however a type is spelled
 abbrev pub IsSaid : CallValue → List ℕ → List Row → Type 0
 IsSaid (isin code) name rows = (name ≡ codes "isin") × (first_of (codes "code") rows ≡ Some code)
 IsSaid (read mt) name rows = (name ≡ codes "read") × IsSomeAnd (one_of (codes "mt") rows) (IsTypeText mt)
 IsSaid play name rows = name ≡ codes "play"
+IsSaid (serve port count) name rows =
+    (name ≡ codes "serve") × IsSomeAnd (one_of (codes "port") rows) (IsNumberText port) × IsSomeAnd (one_of (codes "count") rows) (IsNumberText count)
 
 -- what is said where this subcommand was found; with none, to play
 abbrev pub IsSaidIn : CallValue → Option (List ℕ × List Row) → Type 0

@@ -9,6 +9,7 @@ mod isin;
 mod play;
 mod read;
 mod run;
+mod serve;
 mod status;
 mod words;
 
@@ -21,7 +22,7 @@ fn main(rt: HostRuntime) -> ExitCode {
     let mut writer = io::writer(&rt);
     let words = env::args(&rt).and_then(|words| Ok(words.collect::<Vec<String>>(alloc)?));
     ExitCode::from(match words {
-        Ok(words) => run::run(alloc, words.as_slice(), &mut reader, &mut writer),
+        Ok(words) => run::run(&rt, alloc, words.as_slice(), &mut reader, &mut writer),
         Err(error) => run::tell_no_words(alloc, &error, &mut writer),
     })
 }

@@ -11,15 +11,18 @@ ghost use Rattle.desk.specs.Words.{CallValue, IsAskable, ReadsOnlyInstructions, 
 use crate::isin::answer_isin;
 use crate::play::answer_play;
 use crate::read::answer_read;
+use crate::serve::answer_serve;
 use crate::status::{Failure, Status, tell_failure};
 use crate::words::{Call, call_of, usage_error};
 use clap::error::{Error, ErrorKind};
 use std::alloc::Global;
 use std::convert::AsStr;
 use std::io::{self, Read, Write};
+use std::net::{Net, TcpListener, TcpStream};
 
 /// Answers what the words ask for, on the writer. It is a fault where the writer fails.
-pub fn run<S: AsStr, R: Read, W: Write>(
+pub fn run<N: Net<Listener = TcpListener, Stream = TcpStream>, S: AsStr, R: Read, W: Write>(
+    net: &N,
     alloc: Global,
     words: &[S],
     reader: &mut R,
@@ -32,11 +35,12 @@ pub fn run<S: AsStr, R: Read, W: Write>(
     ensures refused { result ≡ Status.Refused
         → (asked : CallValue) × IsSaidBy asked (map S.text words.now) × IsCallAnswer asked (R.remaining reader.old) result (W.contents writer.old) (W.contents writer.new) }
 {
-    answer_words(alloc, words, reader, writer).unwrap_or(Status::Fault)
+    answer_words(net, alloc, words, reader, writer).unwrap_or(Status::Fault)
 }
 
 /// As `run`, where the writer does not fail.
-fn answer_words<S: AsStr, R: Read, W: Write>(
+fn answer_words<N: Net<Listener = TcpListener, Stream = TcpStream>, S: AsStr, R: Read, W: Write>(
+    net: &N,
     alloc: Global,
     words: &[S],
     reader: &mut R,
@@ -50,13 +54,14 @@ fn answer_words<S: AsStr, R: Read, W: Write>(
         → (asked : CallValue) × IsSaidBy asked (map S.text words.now) × IsCallAnswer asked (R.remaining reader.old) status (W.contents writer.old) (W.contents writer.new)) }
 {
     match call_of(alloc, words) {
-        Ok(call) => answer(alloc, call, reader, writer),
+        Ok(call) => answer(net, alloc, call, reader, writer),
         Err(error) => tell_error(&error, writer),
     }
 }
 
 /// Answers a call on the writer.
-fn answer<R: Read, W: Write>(
+fn answer<N: Net<Listener = TcpListener, Stream = TcpStream>, R: Read, W: Write>(
+    net: &N,
     alloc: Global,
     call: Call,
     reader: &mut R,
@@ -69,6 +74,7 @@ fn answer<R: Read, W: Write>(
         Call::Isin(code) => answer_isin(code.as_bytes(), writer),
         Call::Read(mt) => answer_read(alloc, mt, reader, writer),
         Call::Play => answer_play(alloc, reader, writer),
+        Call::Serve(service) => answer_serve(net, alloc, service, writer),
     }
 }
 

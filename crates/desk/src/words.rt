@@ -4,7 +4,7 @@ ghost use Rattle.clap.specs.Words.{app_of, found_of, kind_of, one_text, rows_of,
 ghost use Rattle.clap.specs.declared.builder.command.Command.TheViews.{out-Command};
 ghost use Rattle.desk_msg.specs.MessageType.{digits_of_type, is_instruction, number_of_type};
 ghost use Rattle.desk_msg.specs.declared.mt.Mt.{Mt};
-ghost use Rattle.desk.specs.Words.{CallValue, IsAskable, IsSpelledOut, ReadsOnlyInstructions, IsSaid, IsSaidBy, IsSaidIn, IsTypeText, value_of_call, desk_app, isin_app, play_app, read_app, words_for};
+ghost use Rattle.desk.specs.Words.{CallValue, IsAskable, IsSpelledOut, ReadsOnlyInstructions, IsSaid, IsSaidBy, IsSaidIn, IsNumberText, IsTypeText, value_of_call, desk_app, isin_app, play_app, read_app, serve_app, words_for};
 
 use clap::error::{Error, ErrorKind};
 use clap::{Arg, ArgMatches, Command, value_parser};
@@ -21,7 +21,21 @@ pub enum Call<'a> {
     Read(Mt),
     /// A script's answers
     Play,
+    /// Requests over HTTP
+    Serve(Service),
 }
+
+/// What is served.
+#[derive(Clone, Copy, Debug, PartialEq, Eq)]
+pub struct Service {
+    /// The port of 127.0.0.1
+    pub port: u16,
+    /// How many connections
+    pub count: u32,
+}
+
+/// The most connections that are served.
+const MOST_CONNECTIONS: i64 = 1_000_000;
 
 /// What the help of the program says behind its subcommands.
 const EXIT_STATUS: &str = "\
@@ -81,6 +95,7 @@ fn subcommand_call<'a>(name: &str, inner: &ArgMatches<'a>) -> Option<Call<'a>>
         "isin" => Some(Call::Isin(inner.get_str("code")?)),
         "read" => Some(Call::Read(type_in(inner)?)),
         "play" => Some(Call::Play),
+        "serve" => Some(Call::Serve(service_in(inner)?)),
         _ => None,
     }
 }
@@ -95,6 +110,16 @@ fn type_in(inner: &ArgMatches) -> Option<Mt>
     instruction_type(inner.get_one::<u16>("mt")?)
 }
 
+/// What is to be served.
+fn service_in(inner: &ArgMatches) -> Option<Service>
+    ensures port { IfSome result (λ service. IsSomeAnd (one_text (found_of inner.now) (codes "port")) (IsNumberText service.port)) }
+    ensures count { IfSome result (λ service. IsSomeAnd (one_text (found_of inner.now) (codes "count")) (IsNumberText service.count)) }
+{
+    let port = inner.get_one::<u16>("port")?;
+    let count = inner.get_one::<u32>("count")?;
+    Some(Service { port, count })
+}
+
 fn desk<'a>(alloc: Global) -> Result<Command<'a>, AllocError>
     ensures { IfOk result (λ command. app_of command ≡ desk_app) }
 {
@@ -103,7 +128,8 @@ fn desk<'a>(alloc: Global) -> Result<Command<'a>, AllocError>
         .after_help(EXIT_STATUS)
         .subcommand(isin(alloc)?)?
         .subcommand(read(alloc)?)?
-        .subcommand(play(alloc)?)
+        .subcommand(play(alloc)?)?
+        .subcommand(serve(alloc)?)
 }
 
 fn isin<'a>(alloc: Global) -> Result<Command<'a>, AllocError>
@@ -142,6 +168,32 @@ fn play<'a>(alloc: Global) -> Result<Command<'a>, AllocError>
     Ok(Command::new(alloc, "play").about(
         "Plays a script of requests from standard input on a desk in memory (the default)",
     ))
+}
+
+fn serve<'a>(alloc: Global) -> Result<Command<'a>, AllocError>
+    ensures app { IfOk result (λ command. app_of command ≡ serve_app) }
+    ensures local { IfOk result (λ command. (out-Command command).has_globals ≡ false) }
+{
+    Command::new(alloc, "serve")
+        .about(
+            "Serves requests over HTTP on 127.0.0.1, one connection after another, on a desk in memory",
+        )
+        .arg(
+            Arg::new(alloc, "port")
+                .long("port")
+                .value_name("N")
+                .help("The port, 1 to 65535")
+                .required(true)
+                .value_parser(value_parser!(u16).range(1..=65535)),
+        )?
+        .arg(
+            Arg::new(alloc, "count")
+                .long("count")
+                .value_name("N")
+                .help("How many connections are served, 1 to 1000000")
+                .required(true)
+                .value_parser(value_parser!(u32).range(1..=MOST_CONNECTIONS)),
+        )
 }
 
 /// The type of an instruction by its number.

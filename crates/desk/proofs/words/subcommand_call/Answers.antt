@@ -1,5 +1,5 @@
 use Rattle.clap.specs.Words.{found_of}
-use Rattle.desk.proofs.WordsLemmas.{no_code, no_type, said_code, said_type, same_code, same_type}
+use Rattle.desk.proofs.WordsLemmas.{no_code, no_type, said_code, said_service, said_type, same_code, same_type}
 use Rattle.desk.proofs.words.subcommand_call.Goals as goal
 
 pub returns-in_err-get_str-in-isin-clause-asked : goal.returns-in_err-get_str-in-isin-clause-asked
@@ -19,3 +19,6 @@ returns-in_ok-get_str-in-isin-clause-said c = said_code c.args.name.now (found_o
 
 pub returns-in_ok-type_in-in-read-clause-said : goal.returns-in_ok-type_in-in-read-clause-said
 returns-in_ok-type_in-in-read-clause-said c = said_type c.args.name.now (found_of c.args.inner.now) _ c.in-read.is c.in_ok-type_in-in-read.ensures.said
+
+pub returns-in_ok-service_in-in-serve-clause-said : goal.returns-in_ok-service_in-in-serve-clause-said
+returns-in_ok-service_in-in-serve-clause-said c = said_service c.args.name.now (found_of c.args.inner.now) _ _ c.in-serve.is c.in_ok-service_in-in-serve.ensures.port c.in_ok-service_in-in-serve.ensures.count

@@ -1,0 +1,17 @@
+-- What is told by who serves.
+use Rattle.std.specs.Prelude.{◌≡◌, ℕ, List, ◌++◌, codes, decimal}
+use Rattle.desk.specs.Status.{failure_line}
+use Rattle.desk.specs.declared.status.Failure.{Failure}
+use Rattle.desk.specs.declared.status.Status.{Status}
+use Rattle.desk.specs.declared.status.Status.TheVariants.{Done, Fault}
+
+-- the line that tells where clients may come
+abbrev pub listening_line : ℕ → List ℕ
+listening_line port = codes "listening " ++ decimal port ++ codes "\n"
+
+-- It is done, and told where it listened, or it is a fault, and one is told: there is nobody at the port, or memory is
+-- wanting for the routes. What connections get is said of `serve_one`.
+abbrev pub IsServeAnswer : ℕ → Status → (List ℕ → Type 0) → Type 0
+IsServeAnswer port Done Told = Told (listening_line port)
+IsServeAnswer port Fault Told = (failure : Failure) × Told (failure_line failure ++ codes "\n")
+IsServeAnswer port status Told = ⊥

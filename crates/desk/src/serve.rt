@@ -1,0 +1,70 @@
+//! `desk serve`.
+ghost use Rattle.std.specs.Prelude.{IfOk, OnOk};
+ghost use Rattle.std.specs.Io.KnownBytes.{Appends};
+ghost use Rattle.desk.specs.ServeAnswer.{IsServeAnswer, listening_line};
+
+use crate::status::{Failure, Status, tell_failure};
+use crate::words::Service;
+use desk_book::Desk;
+use desk_http::{Routes, serve_one};
+use desk_index::IndexedRegister;
+use desk_rules::MOST_ENTRIES;
+use std::alloc::Global;
+use std::io::{self, Write};
+use std::net::{Ipv4Addr, Net, TcpListener, TcpStream};
+use std::time::Duration;
+
+/// So many seconds may a read, or a write, of a connection wait for its client.
+const PATIENCE: u64 = 10;
+
+/// Serves so many connections at a port of 127.0.0.1, one after another, on a new desk in memory, once it has told that it
+/// listens. A connection that fails, and one that could not be accepted, counts and is passed over. `fault 60` tells that
+/// memory is wanting for the routes, and `fault io` that it could not listen.
+pub fn answer_serve<N: Net<Listener = TcpListener, Stream = TcpStream>, W: Write>(
+    net: &N,
+    alloc: Global,
+    service: Service,
+    writer: &mut W,
+) -> io::Result<Status>
+    ensures { IfOk result (λ status. IsServeAnswer service.port status (Appends (W.contents writer.old) (W.contents writer.new))) }
+{
+    let Ok(routes) = Routes::new(alloc) else {
+        return tell_failure(Failure::Memory, writer);
+    };
+    let Ok(listener) = TcpListener::bind(net, (Ipv4Addr::LOCALHOST, service.port)) else {
+        return tell_failure(Failure::Input, writer);
+    };
+    tell_port(service.port, writer)?;
+    let mut desk = Desk::new(IndexedRegister::new(alloc, MOST_ENTRIES));
+    for _ in 0..service.count {
+        if let Ok((stream, _)) = listener.accept() {
+            serve_stream(alloc, &routes, &stream, &mut desk);
+        }
+    }
+    Ok(Status::Done)
+}
+
+/// Tells where clients may come, at once.
+fn tell_port<W: Write>(port: u16, writer: &mut W) -> io::Result<()>
+    ensures { OnOk result (Appends (W.contents writer.old) (W.contents writer.new) (listening_line port)) }
+{
+    writeln!(writer, "listening {port}")?;
+    writer.flush()
+}
+
+/// Serves one connection, whose client may keep a read or a write waiting so long. A fault is passed over: nothing was
+/// asked, or what was asked stands.
+fn serve_stream(
+    alloc: Global,
+    routes: &Routes,
+    stream: &TcpStream,
+    desk: &mut Desk<IndexedRegister>,
+) {
+    let patience = Some(Duration::from_secs(PATIENCE));
+    if stream.set_read_timeout(patience).is_err() || stream.set_write_timeout(patience).is_err() {
+        return;
+    }
+    let mut reader = stream;
+    let mut writer = stream;
+    let _ = serve_one(alloc, routes, &mut reader, &mut writer, desk);
+}

@@ -1,0 +1,56 @@
+"""Trials of tests/serve, with one case and a made-up program that serves it: as it must, and with one thing broken."""
+
+from .room import copy, fails, passes, run, write, write_script
+
+ASKED = b"GET /sums HTTP/1.1\r\n\r\n"
+ANSWERED = b'HTTP/1.1 200 OK\r\nContent-Type: text/plain\r\nConnection: close\r\n\r\n{"cash":[],"securities":[]}'
+
+SERVER = """
+import socket, sys
+try:
+    words = dict(zip(sys.argv[2::2], sys.argv[3::2]))
+    port, count = int(words["--port"]), int(words["--count"])
+    if not (0 < port < 65536 and 0 < count <= 1000000):
+        sys.exit(2)
+except (KeyError, ValueError):
+    sys.exit(2)
+listener = socket.create_server(("127.0.0.1", port))
+print("listening", port + ELSEWHERE, flush=True)
+for _ in range(count + FEWER):
+    client, _ = listener.accept()
+    client.settimeout(0.1)
+    got = b""
+    try:
+        while not got.endswith(b"\\r\\n\\r\\n") and (piece := client.recv(65536)):
+            got += piece
+        if got == ASKED:
+            client.sendall(ANSWERED)
+    except OSError:
+        pass
+    client.close()
+print(end=LAST)
+sys.exit(STATUS)
+"""
+
+SOUND = {"ELSEWHERE": 0, "FEWER": 0, "LAST": "", "STATUS": 0, "ASKED": ASKED, "ANSWERED": ANSWERED}
+
+
+def served(room, **broken):
+    """How tests/serve ends with a program of which this is broken."""
+    names = "\n".join(f"{name} = {value!r}" for name, value in {**SOUND, **broken}.items())
+    write(f"{room}/server.py", names + SERVER)
+    write_script(f"{room}/desk", f"exec python3 {room}/server.py \"$@\"")
+    return run(room, "tests/serve", f"{room}/desk", "cases")
+
+
+def trials(room):
+    for path in ("tests/serve", "tests/over_http.py"):
+        copy(path, room)
+    write(f"{room}/cases/sums.stdin", ASKED.decode())
+    write(f"{room}/cases/sums.stdout", ANSWERED.decode())
+    yield passes("a program that serves", served(room), "15 passed, 0 failed\n")
+    yield fails("another answer", served(room, ANSWERED=ANSWERED + b" "), "serve: cases/sums: not as it must be\n")
+    yield fails("it listens elsewhere", served(room, ELSEWHERE=1), "serve: cases/sums: not as it must be\n")
+    yield fails("it serves too few", served(room, FEWER=-1), "serve: cases/sums: not as it must be\n")
+    yield fails("it says more at its end", served(room, LAST="x"), "serve: cases/sums: not as it must be\n")
+    yield fails("it ends with another status", served(room, STATUS=1), "serve: cases/sums: not as it must be\n")
