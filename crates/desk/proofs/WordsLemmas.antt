@@ -66,7 +66,7 @@ pub takes_asked : (program : List ℕ) (asked : CallValue) → IsAskable asked �
 takes_asked program (isin code) other = takes_isin program code (no_dashes code other) (no_long code other) (no_short code other)
 takes_asked program (read mt) is = takes_read program mt is
 takes_asked program play is = takes_play program
-takes_asked program (serve port count) no = absurd no
+takes_asked program (serve port count) never = absurd never
 
 pub takes_nothing : (program : List ℕ) → takes desk_app (program ∷ []) ≡ true
 unfolding clap_on_literals
@@ -99,7 +99,7 @@ pub enters_asked : (program : List ℕ) (asked : CallValue) → IsAskable asked 
 enters_asked program (isin code) other = enters_isin program code (no_dashes code other) (no_long code other) (no_short code other)
 enters_asked program (read mt) is = enters_read program mt is
 enters_asked program play is = enters_play program
-enters_asked program (serve port count) no = absurd no
+enters_asked program (serve port count) never = absurd never
 
 pub enters_nothing : (program : List ℕ) → subcommand_of desk_app (program ∷ []) ≡ None
 unfolding clap_on_literals

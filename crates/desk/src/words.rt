@@ -1,10 +1,10 @@
 //! The words of the command line.
 ghost use Rattle.std.specs.Prelude.{◌≡◌, [], ◌∷◌, ℕ, List, false, true, codes, map, IfOk, IfSome, IsSomeAnd, MatchResult};
-ghost use Rattle.clap.specs.Words.{app_of, found_of, kind_of, one_text, rows_of, subcommand_rows_of};
+ghost use Rattle.clap.specs.Words.{app_of, found_of, kind_of, one_text, rows_of, rule_of, subcommand_rows_of};
 ghost use Rattle.clap.specs.declared.builder.command.Command.TheViews.{out-Command};
 ghost use Rattle.desk_msg.specs.MessageType.{digits_of_type, is_instruction, number_of_type};
 ghost use Rattle.desk_msg.specs.declared.mt.Mt.{Mt};
-ghost use Rattle.desk.specs.Words.{CallValue, IsAskable, IsSpelledOut, ReadsOnlyInstructions, IsSaid, IsSaidBy, IsSaidIn, IsNumberText, IsTypeText, value_of_call, desk_app, isin_app, play_app, read_app, serve_app, words_for};
+ghost use Rattle.desk.specs.Words.{CallValue, IsAskable, IsSpelledOut, ReadsOnlyInstructions, IsSaid, IsSaidBy, IsSaidIn, IsNumberText, IsTypeText, value_of_call, count_rule, desk_app, isin_app, play_app, port_rule, read_app, serve_app, words_for};
 
 use clap::error::{Error, ErrorKind};
 use clap::{Arg, ArgMatches, Command, value_parser};
@@ -178,22 +178,32 @@ fn serve<'a>(alloc: Global) -> Result<Command<'a>, AllocError>
         .about(
             "Serves requests over HTTP on 127.0.0.1, one connection after another, on a desk in memory",
         )
-        .arg(
-            Arg::new(alloc, "port")
-                .long("port")
-                .value_name("N")
-                .help("The port, 1 to 65535")
-                .required(true)
-                .value_parser(value_parser!(u16).range(1..=65535)),
-        )?
-        .arg(
-            Arg::new(alloc, "count")
-                .long("count")
-                .value_name("N")
-                .help("How many connections are served, 1 to 1000000")
-                .required(true)
-                .value_parser(value_parser!(u32).range(1..=MOST_CONNECTIONS)),
-        )
+        .arg(port(alloc))?
+        .arg(count(alloc))
+}
+
+fn port<'a>(alloc: Global) -> Arg<'a>
+    ensures rule { rule_of result ≡ port_rule }
+    ensures local { result.global ≡ false }
+{
+    Arg::new(alloc, "port")
+        .long("port")
+        .value_name("N")
+        .help("The port, 1 to 65535")
+        .required(true)
+        .value_parser(value_parser!(u16).range(1..=65535))
+}
+
+fn count<'a>(alloc: Global) -> Arg<'a>
+    ensures rule { rule_of result ≡ count_rule }
+    ensures local { result.global ≡ false }
+{
+    Arg::new(alloc, "count")
+        .long("count")
+        .value_name("N")
+        .help("How many connections are served, 1 to 1000000")
+        .required(true)
+        .value_parser(value_parser!(u32).range(1..=MOST_CONNECTIONS))
 }
 
 /// The type of an instruction by its number.
