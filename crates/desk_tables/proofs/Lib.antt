@@ -1,0 +1,3 @@
+pub mod EndLemmas
+pub mod ControlLemmas
+pub mod StatementLemmas

@@ -1,0 +1,4 @@
+pub mod Schema
+pub mod Ends
+pub mod Control
+pub mod Statements

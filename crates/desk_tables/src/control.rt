@@ -1,0 +1,49 @@
+//! What begins and ends a transaction, by text.
+
+ghost use Rattle.std.specs.Prelude.{◌≡◌, IsTrue, IfOk, OnOk, OnErr};
+ghost use Rattle.sqlite.specs.State.{HasCleanDisk};
+ghost use Rattle.sqlite.specs.Held.{state};
+ghost use Rattle.desk_tables.specs.Ends.{IfSound, IsLook, IsLater, FellLooking, IsUndone};
+ghost use Rattle.desk_tables.specs.Control.{Begins, Commits};
+
+use crate::statement::query;
+use sqlite::{Alter, Connection, Error};
+
+/// Begins a transaction. Inside one it is refused.
+pub fn begin<S: Alter>(conn: &mut Connection<S>) -> Result<usize, Error>
+    ensures ok { IfSound (state S.Store conn.old) (state S.Store conn.new) (OnOk result (Begins (state S.Store conn.old) (state S.Store conn.new))) }
+    ensures err { IfSound (state S.Store conn.old) (state S.Store conn.new) (OnErr result (FellLooking (state S.Store conn.old) (state S.Store conn.new))) }
+    ensures opened { HasCleanDisk (state S.Store conn.new) → IsTrue (state S.Store conn.new).is_open → IsTrue (state S.Store conn.old).is_open }
+    ensures later { IsLater (state S.Store conn.old) (state S.Store conn.new) }
+{
+    conn.execute("BEGIN", &[])
+}
+
+/// Commits the transaction. Outside one it is refused.
+pub fn commit<S: Alter>(conn: &mut Connection<S>) -> Result<usize, Error>
+    ensures ok { IfSound (state S.Store conn.old) (state S.Store conn.new) (OnOk result (Commits (state S.Store conn.old) (state S.Store conn.new))) }
+    ensures err { IfSound (state S.Store conn.old) (state S.Store conn.new) (OnErr result (FellLooking (state S.Store conn.old) (state S.Store conn.new))) }
+    ensures opened { HasCleanDisk (state S.Store conn.new) → IsTrue (state S.Store conn.new).is_open → IsTrue (state S.Store conn.old).is_open }
+    ensures later { IsLater (state S.Store conn.old) (state S.Store conn.new) }
+{
+    conn.execute("COMMIT", &[])
+}
+
+/// Takes back what the transaction has changed, and ends it. Outside one it is refused.
+pub fn roll_back<S: Alter>(conn: &mut Connection<S>) -> Result<usize, Error>
+    ensures ok { IfSound (state S.Store conn.old) (state S.Store conn.new) (OnOk result (IsUndone (state S.Store conn.old) (state S.Store conn.new))) }
+    ensures err { IfSound (state S.Store conn.old) (state S.Store conn.new) (OnErr result (FellLooking (state S.Store conn.old) (state S.Store conn.new))) }
+    ensures opened { HasCleanDisk (state S.Store conn.new) → IsTrue (state S.Store conn.new).is_open → IsTrue (state S.Store conn.old).is_open }
+    ensures later { IsLater (state S.Store conn.old) (state S.Store conn.new) }
+{
+    conn.execute("ROLLBACK", &[])
+}
+
+/// Reads no table: an answer shows that the connection is open.
+pub fn probe<S: Alter>(conn: &mut Connection<S>) -> Result<(), Error>
+    ensures look { IsLook result (state S.Store conn.old) (state S.Store conn.new) }
+    ensures shown { HasCleanDisk (state S.Store conn.new) → OnOk result (IsTrue (state S.Store conn.old).is_open) }
+{
+    query(conn, "SELECT 1", &[])?;
+    Ok(())
+}

@@ -1,0 +1,8 @@
+//! The desk's tables in SQL: which they are, how a call on them ends, and what begins and ends a transaction.
+//!
+//! `statement.rt` runs a text that changes rows of a table, or reads some; every call on the tables is made of these and
+//! of `control.rt`. Begin with specs/Schema.antt, the tables, and specs/Ends.antt, how a call ends.
+#![tactic(auto)]
+
+pub mod control;
+pub mod statement;
