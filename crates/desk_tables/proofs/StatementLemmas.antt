@@ -1,5 +1,5 @@
 -- What statements that change rows do, and what queries show, of any table.
-use Rattle.std.proofs.Common.{◌≡◌, ◌⊎◌, inl, inr, ℕ, List, [], ◌∷◌, true, false, Bool, cond, None, Some, Option, Ok, Err, Result, IfOk, IfErr, OnOk, OnErr, IsTrue, Vec, refl, sym, ap, subst, ◌∙◌}
+use Rattle.std.proofs.Common.{◌≡◌, ◌⊎◌, inl, inr, ℕ, List, [], ◌∷◌, true, false, Bool, cond, None, Some, Option, Ok, Err, Result, IfOk, IfErr, OnOk, OnErr, IsTrue, Vec, slice_get, refl, sym, ap, subst, ◌∙◌}
 use Rattle.std.specs.declared.alloc.Global.{Global}
 use Rattle.std.proofs.lemmas.Bool.{both_ways}
 use Rattle.sqlite.specs.Order.{Row}
@@ -8,7 +8,12 @@ use Rattle.sqlite.specs.Command.{Command}
 use Rattle.sqlite.specs.Command.TheVariants.{Select, Insert, InsertOr, Update, Delete, CreateTable, CreateIndex, DropTable, DropIndex, Begin, Commit, Rollback, Savepoint as Save, Release, RollbackTo, Nothing, CreateView, DropView, Rows}
 use Rattle.sqlite_resolve.specs.declared.compiled.Compiled.{Compiled}
 use Rattle.sqlite_resolve.specs.declared.error.CompileError.{CompileError}
-use Rattle.sqlite.specs.Does.{Tally, Does}
+use Rattle.sqlite.specs.Does.{Tally, Does, AtPlace, OnRows}
+use Rattle.sqlite.specs.Rows.{Task}
+use Rattle.sqlite.specs.declared.run.Mode.{Mode}
+use Rattle.sqlite.specs.Tree.{Trees}
+use Rattle.sqlite.specs.Schema.{Schema}
+use Rattle.sqlite.specs.Table.{Table}
 use Rattle.sqlite.specs.Effect.{Database}
 use Rattle.sqlite.specs.Listing.{understood, reads_listing}
 use Rattle.sqlite.specs.State.{State, HasCleanDisk, mode_of, Writes, Runs, Executes, Shown, FailsToQuery}
@@ -30,15 +35,23 @@ same_command : (r : Result Compiled CompileError) → command_in r ≡ command_o
 same_command (Ok c) = refl
 same_command (Err e) = refl
 
+concluded : (task : Task) (mode : Mode) (command : Command) (trees : Trees) (tally : Tally) (after : Database) → OnRows task mode None command trees (Ok (tally, after)) → after.schema ≡ task.schema
+concluded task mode command trees tally after h = ap (λ (p : Tally × Database). p.1.schema) (same_value (went (went (went h).2).2).2)
+
+on_place : (limit : Option ℕ) (mode : Mode) (params : Row) (schema : Schema) (command : Command) (trees : Trees) (tally : Tally) (after : Database) (found : Option Table)
+    → AtPlace (λ table. OnRows (record { limit = limit; keys = mode.keys; schema = schema; table = table; params = params }) mode None command trees) found (Ok (tally, after)) → after.schema ≡ schema
+on_place limit mode params schema command trees tally after None h = absurd (let e = h in cc)
+on_place limit mode params schema command trees tally after (Some table) h = concluded _ mode command trees tally after h
+
 module _ (old new : State) (has : old.now.schema ≡ desk_schema) (text : List ℕ) (params : Row) (count : ℕ) where
   module _ (command : Command) (changes : IsTrue (changes_rows command)) (w : Writes old new None command text params count) where
     keeps_schema : new.now.schema ≡ old.now.schema
     keeps_schema = go command changes w.changed
       where
         go : (c : Command) → IsTrue (changes_rows c) → Does old.step_limit (mode_of old) params old.now text None c (Ok (w.tally, new.now)) → new.now.schema ≡ old.now.schema
-        go (Insert at from) is done = sym (ap (λ (p : Tally × Database). p.1.schema) (same_value (went (went (went (went done).2).2).2).2))
-        go (Update at q) is done = sym (ap (λ (p : Tally × Database). p.1.schema) (same_value (went (went (went (went done).2).2).2).2))
-        go (Delete at q) is done = sym (ap (λ (p : Tally × Database). p.1.schema) (same_value (went (went (went (went done).2).2).2).2))
+        go (Insert at from) is done = on_place _ (mode_of old) params old.now.schema (Insert at from) old.now.trees w.tally new.now (slice_get old.now.schema.tables at) done
+        go (Update at q) is done = on_place _ (mode_of old) params old.now.schema (Update at q) old.now.trees w.tally new.now (slice_get old.now.schema.tables at) done
+        go (Delete at q) is done = on_place _ (mode_of old) params old.now.schema (Delete at q) old.now.trees w.tally new.now (slice_get old.now.schema.tables at) done
         go _ is done = absurd (both_ways _ refl is)
 
     stays_writing : Stays old new

@@ -184,13 +184,13 @@ desk_tables = balance_table ∷ cash_table ∷ total_table ∷ register_table �
 
 abbrev pub desk_indexes : List Index
 desk_indexes =
-    record { name = codes "sqlite_autoindex_balance_1"; tree = 1; table = 0; columns = 1 ∷ 2 ∷ []; order = ascending; is_unique = true } ∷ 
-    record { name = codes "sqlite_autoindex_cash_1"; tree = 3; table = 2; columns = 1 ∷ 2 ∷ []; order = ascending; is_unique = true } ∷ 
-    record { name = codes "sqlite_autoindex_total_1"; tree = 5; table = 4; columns = 1 ∷ 2 ∷ []; order = ascending; is_unique = true } ∷ 
-    record { name = codes "sqlite_autoindex_register_1"; tree = 7; table = 6; columns = 2 ∷ 3 ∷ []; order = ascending; is_unique = true } ∷ 
-    record { name = codes "register_about"; tree = 8; table = 6; columns = 4 ∷ 5 ∷ []; order = ascending; is_unique = false } ∷ 
-    record { name = codes "unmatched_key"; tree = 11; table = 10; columns = 2 ∷ 3 ∷ 4 ∷ 5 ∷ 6 ∷ 7 ∷ 8 ∷ 9 ∷ 10 ∷ []; order = ascending; is_unique = false } ∷ 
-    record { name = codes "sqlite_autoindex_sent_1"; tree = 14; table = 13; columns = 2 ∷ 3 ∷ []; order = ascending; is_unique = true } ∷ 
+    record { name = codes "sqlite_autoindex_balance_1"; tree = 1; table = 0; columns = 1 ∷ 2 ∷ []; order = ascending; is_unique = true } ∷
+    record { name = codes "sqlite_autoindex_cash_1"; tree = 3; table = 2; columns = 1 ∷ 2 ∷ []; order = ascending; is_unique = true } ∷
+    record { name = codes "sqlite_autoindex_total_1"; tree = 5; table = 4; columns = 1 ∷ 2 ∷ []; order = ascending; is_unique = true } ∷
+    record { name = codes "sqlite_autoindex_register_1"; tree = 7; table = 6; columns = 2 ∷ 3 ∷ []; order = ascending; is_unique = true } ∷
+    record { name = codes "register_about"; tree = 8; table = 6; columns = 4 ∷ 5 ∷ []; order = ascending; is_unique = false } ∷
+    record { name = codes "unmatched_key"; tree = 11; table = 10; columns = 2 ∷ 3 ∷ 4 ∷ 5 ∷ 6 ∷ 7 ∷ 8 ∷ 9 ∷ 10 ∷ []; order = ascending; is_unique = false } ∷
+    record { name = codes "sqlite_autoindex_sent_1"; tree = 14; table = 13; columns = 2 ∷ 3 ∷ []; order = ascending; is_unique = true } ∷
     record { name = codes "sent_about"; tree = 15; table = 13; columns = 5 ∷ []; order = ascending; is_unique = false }
     ∷ []
 

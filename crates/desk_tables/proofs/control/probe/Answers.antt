@@ -1,4 +1,3 @@
-use Rattle.std.proofs.Common.{[], ◌∷◌, arith}
 use Rattle.sqlite.specs.Held.{state}
 use Rattle.desk_tables.proofs.EndLemmas.{show_opened}
 use Rattle.desk_tables.proofs.ControlLemmas.{probes}
