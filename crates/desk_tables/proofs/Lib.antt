@@ -1,3 +1,4 @@
 pub mod EndLemmas
 pub mod ControlLemmas
 pub mod StatementLemmas
+pub mod MadeLemmas

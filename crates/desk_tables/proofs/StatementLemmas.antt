@@ -41,7 +41,8 @@ concluded task mode command trees tally after h = ap (λ (p : Tally × Database)
 on_place : (limit : Option ℕ) (mode : Mode) (params : Row) (schema : Schema) (command : Command) (trees : Trees) (tally : Tally) (after : Database) (found : Option Table)
     → AtPlace (λ table. OnRows (record { limit = limit; keys = mode.keys; schema = schema; table = table; params = params }) mode None command trees) found (Ok (tally, after)) → after.schema ≡ schema
 on_place limit mode params schema command trees tally after None h = absurd (let e = h in cc)
-on_place limit mode params schema command trees tally after (Some table) h = concluded _ mode command trees tally after h
+on_place limit mode params schema command trees tally after (Some table) h =
+    concluded (record { limit = limit; keys = mode.keys; schema = schema; table = table; params = params }) mode command trees tally after h
 
 module _ (old new : State) (has : old.now.schema ≡ desk_schema) (text : List ℕ) (params : Row) (count : ℕ) where
   module _ (command : Command) (changes : IsTrue (changes_rows command)) (w : Writes old new None command text params count) where

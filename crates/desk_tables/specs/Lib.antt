@@ -2,3 +2,4 @@ pub mod Schema
 pub mod Ends
 pub mod Control
 pub mod Statements
+pub mod Making

@@ -5,4 +5,5 @@
 #![tactic(auto)]
 
 pub mod control;
+pub mod making;
 pub mod statement;
