@@ -1,6 +1,6 @@
 -- How any statement ends.
-use Rattle.std.proofs.Common.{◌≡◌, ◌⊎◌, inl, inr, ℕ, ◌<◌, ◌≤◌, List, [], ◌∷◌, Ok, Err, Result, OnOk, OnErr, true, false, None, Some, Option, IsTrue, refl, sym, ap, subst, ◌∙◌, arith}
-use Rattle.std.proofs.lemmas.Bool.{cases_Bool, both_ways}
+use Rattle.std.proofs.Common.{◌≡◌, ◌⊎◌, inl, inr, ℕ, List, Ok, Err, Result, OnErr, false, None, Some, Option, IsTrue, ap, subst, ◌∙◌}
+use Rattle.std.proofs.lemmas.Bool.{cases_Bool}
 use Rattle.sqlite.specs.Command.{Command}
 use Rattle.sqlite.specs.Command.TheVariants.{Select, Insert, InsertOr, Update, Delete, CreateTable, CreateIndex, DropTable, DropIndex, Begin, Commit, Rollback, Savepoint as Save, Release, RollbackTo, Nothing, CreateView, DropView, Rows}
 use Rattle.sqlite.specs.Clock.{timed}
@@ -11,9 +11,9 @@ use Rattle.sqlite_trees.specs.Tree.{Trees}
 use Rattle.sqlite_resolve.specs.declared.compiled.Compiled.{Compiled}
 use Rattle.sqlite_schema.specs.declared.command.Returning.{Returning}
 use Rattle.sqlite.specs.declared.error.Error.{Error}
-use Rattle.sqlite.specs.State.{State, HasCleanDisk, IsUnchanged, IsRolledBack, Fails, IsNotRun, ExecutesIn, Executes, RunsAlone, RunsCommand, shows_rows, FailsToQuery, FailsToShow, Runs, Shown, ShowsRows, Survives}
+use Rattle.sqlite.specs.State.{State, IsUnchanged, IsRolledBack, Fails, IsNotRun, ExecutesIn, Executes, RunsAlone, RunsCommand, shows_rows, FailsToQuery, FailsToShow, Runs, Shown, ShowsRows, Survives}
 use Rattle.desk_tables.specs.Schema.{desk_schema}
-use Rattle.desk_tables.specs.Ends.{IfSound, IsLater, Stays, IsSame, IsUndone, FellLooking, FellWriting, IsLook, IsWrite}
+use Rattle.desk_tables.specs.Ends.{IsLater, Stays, IsSame, IsUndone, FellLooking}
 
 pub same_from : (old new : State) → IsUnchanged old new → IsSame old new
 same_from old new h = record { is_open = h.0.is_open; now = h.0.now_is; committed = h.0.committed_is; mode = h.0.mode; marks = h.2 }

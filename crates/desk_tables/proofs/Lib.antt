@@ -2,3 +2,4 @@ pub mod EndLemmas
 pub mod ControlLemmas
 pub mod StatementLemmas
 pub mod MadeLemmas
+pub mod MakingLemmas

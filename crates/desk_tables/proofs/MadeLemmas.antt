@@ -1,9 +1,9 @@
 -- What the texts make.
-use Rattle.std.proofs.Common.{◌≡◌, ◌⊎◌, inl, inr, ℕ, List, [], ◌∷◌, codes, Ok, Some, refl}
+use Rattle.std.proofs.Common.{inl, inr, codes, refl}
 use Rattle.sqlite.specs.Listing.{understood}
 use Rattle.sqlite_tied.specs.Compute.{everything}
 use Rattle.desk_tables.specs.Schema.{desk_schema, no_schema}
-use Rattle.desk_tables.specs.Making.{first_of, Makes, MakesTable, MakesIndex}
+use Rattle.desk_tables.specs.Making.{first_of, Makes}
 
 pub balance_made : Makes (codes "CREATE TABLE balance (account TEXT NOT NULL, isin TEXT NOT NULL, quantity INTEGER NOT NULL CHECK (quantity >= 0), PRIMARY KEY (account, isin)) STRICT") no_schema (first_of 1 1)
 unfolding understood everything

@@ -1,11 +1,11 @@
 -- What statements that change rows do, and what queries show, of any table.
-use Rattle.std.proofs.Common.{◌≡◌, ◌⊎◌, inl, inr, ℕ, List, [], ◌∷◌, true, false, Bool, cond, None, Some, Option, Ok, Err, Result, IfOk, IfErr, OnOk, OnErr, IsTrue, Vec, slice_get, refl, sym, ap, subst, ◌∙◌}
+use Rattle.std.proofs.Common.{◌≡◌, ◌⊎◌, inl, inr, ℕ, List, cond, None, Some, Option, Ok, Err, Result, IfOk, IfErr, OnOk, OnErr, IsTrue, Vec, slice_get, refl, sym, ap, subst, ◌∙◌}
 use Rattle.std.specs.declared.alloc.Global.{Global}
 use Rattle.std.proofs.lemmas.Bool.{both_ways}
 use Rattle.sqlite.specs.Order.{Row}
 use Rattle.sqlite.specs.declared.error.Error.{Error}
 use Rattle.sqlite.specs.Command.{Command}
-use Rattle.sqlite.specs.Command.TheVariants.{Select, Insert, InsertOr, Update, Delete, CreateTable, CreateIndex, DropTable, DropIndex, Begin, Commit, Rollback, Savepoint as Save, Release, RollbackTo, Nothing, CreateView, DropView, Rows}
+use Rattle.sqlite.specs.Command.TheVariants.{Insert, Update, Delete}
 use Rattle.sqlite_resolve.specs.declared.compiled.Compiled.{Compiled}
 use Rattle.sqlite_resolve.specs.declared.error.CompileError.{CompileError}
 use Rattle.sqlite.specs.Does.{Tally, Does, AtPlace, OnRows}
@@ -15,11 +15,11 @@ use Rattle.sqlite.specs.Tree.{Trees}
 use Rattle.sqlite.specs.Schema.{Schema}
 use Rattle.sqlite.specs.Table.{Table}
 use Rattle.sqlite.specs.Effect.{Database}
-use Rattle.sqlite.specs.Listing.{understood, reads_listing}
-use Rattle.sqlite.specs.State.{State, HasCleanDisk, mode_of, Writes, Runs, Executes, Shown, FailsToQuery}
+use Rattle.sqlite.specs.Listing.{understood}
+use Rattle.sqlite.specs.State.{State, mode_of, Writes, Runs, Executes, Shown, FailsToQuery}
 use Rattle.sqlite.proofs.Callers.{IsPlain, command_of, runs_as, statement_of}
 use Rattle.desk_tables.specs.Schema.{desk_schema}
-use Rattle.desk_tables.specs.Ends.{IfSound, Stays, IsSame, FellLooking, FellWriting}
+use Rattle.desk_tables.specs.Ends.{Stays, IsSame, FellLooking, FellWriting}
 use Rattle.desk_tables.specs.Statements.{command_in, changes_rows, IsEdit, IsQuery}
 use Rattle.desk_tables.proofs.EndLemmas.{same_from, stays_same, execute_fell, query_fell, query_opened, show_same, show_opened}
 
@@ -31,7 +31,7 @@ went (inr on) = on
 pub same_value : {B E : Type 0} {a b : B} → ◌≡◌ {A = Result B E} (Ok a) (Ok b) → a ≡ b
 same_value e = cc
 
-same_command : (r : Result Compiled CompileError) → command_in r ≡ command_of r
+pub same_command : (r : Result Compiled CompileError) → command_in r ≡ command_of r
 same_command (Ok c) = refl
 same_command (Err e) = refl
 

@@ -1,10 +1,11 @@
-//! What begins and ends a transaction, by text.
+//! What begins and ends a transaction, and the savepoint of a pair in it, by text.
 
-ghost use Rattle.std.specs.Prelude.{◌≡◌, IsTrue, IfOk, OnOk, OnErr};
+ghost use Rattle.std.specs.Prelude.{◌≡◌, [], ◌∷◌, true, IsTrue, OnOk, OnErr};
 ghost use Rattle.sqlite.specs.State.{HasCleanDisk};
 ghost use Rattle.sqlite.specs.Held.{state};
 ghost use Rattle.desk_tables.specs.Ends.{IfSound, IsLook, IsLater, FellLooking, IsUndone};
-ghost use Rattle.desk_tables.specs.Control.{Begins, Commits};
+ghost use Rattle.desk_tables.specs.Control.{Begins, Commits, Saves, Releases, GoesBack, mark_at};
+ghost use Rattle.sqlite.specs.Effect.{Database};
 
 use crate::statement::query;
 use sqlite::{Alter, Connection, Error};
@@ -46,4 +47,34 @@ pub fn probe<S: Alter>(conn: &mut Connection<S>) -> Result<(), Error>
 {
     query(conn, "SELECT 1", &[])?;
     Ok(())
+}
+
+/// Sets the savepoint of a pair, in a transaction that has none.
+pub fn save<S: Alter>(conn: &mut Connection<S>) -> Result<usize, Error>
+    ensures ok { IfSound (state S.Store conn.old) (state S.Store conn.new) ((state S.Store conn.old).in_transaction ≡ true → (state S.Store conn.old).marks ≡ [] → OnOk result (Saves (state S.Store conn.old) (state S.Store conn.new))) }
+    ensures err { IfSound (state S.Store conn.old) (state S.Store conn.new) (OnErr result (FellLooking (state S.Store conn.old) (state S.Store conn.new))) }
+    ensures opened { HasCleanDisk (state S.Store conn.new) → IsTrue (state S.Store conn.new).is_open → IsTrue (state S.Store conn.old).is_open }
+    ensures later { IsLater (state S.Store conn.old) (state S.Store conn.new) }
+{
+    conn.execute("SAVEPOINT pair", &[])
+}
+
+/// Gives up the savepoint of the pair, and keeps what was changed since.
+pub fn release<S: Alter>(conn: &mut Connection<S>) -> Result<usize, Error>
+    ensures ok { IfSound (state S.Store conn.old) (state S.Store conn.new) ((db : Database) → (state S.Store conn.old).marks ≡ mark_at db ∷ [] → OnOk result (Releases (state S.Store conn.old) (state S.Store conn.new))) }
+    ensures err { IfSound (state S.Store conn.old) (state S.Store conn.new) (OnErr result (FellLooking (state S.Store conn.old) (state S.Store conn.new))) }
+    ensures opened { HasCleanDisk (state S.Store conn.new) → IsTrue (state S.Store conn.new).is_open → IsTrue (state S.Store conn.old).is_open }
+    ensures later { IsLater (state S.Store conn.old) (state S.Store conn.new) }
+{
+    conn.execute("RELEASE pair", &[])
+}
+
+/// Takes back what was changed since the savepoint of the pair, which stays.
+pub fn go_back<S: Alter>(conn: &mut Connection<S>) -> Result<usize, Error>
+    ensures ok { IfSound (state S.Store conn.old) (state S.Store conn.new) ((db : Database) → (state S.Store conn.old).marks ≡ mark_at db ∷ [] → OnOk result (GoesBack (state S.Store conn.old) (state S.Store conn.new) db)) }
+    ensures err { IfSound (state S.Store conn.old) (state S.Store conn.new) (OnErr result (FellLooking (state S.Store conn.old) (state S.Store conn.new))) }
+    ensures opened { HasCleanDisk (state S.Store conn.new) → IsTrue (state S.Store conn.new).is_open → IsTrue (state S.Store conn.old).is_open }
+    ensures later { IsLater (state S.Store conn.old) (state S.Store conn.new) }
+{
+    conn.execute("ROLLBACK TO pair", &[])
 }

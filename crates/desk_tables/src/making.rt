@@ -71,10 +71,7 @@ fn make_instructions<S: Alter>(conn: &mut Connection<S>) -> Result<(), Error>
         conn,
         "CREATE INDEX unmatched_key ON unmatched (isin, day, quantity, sender, counterparty, mt, unit, currency, amount)",
     )?;
-    make(
-        conn,
-        "CREATE TABLE due (place INTEGER PRIMARY KEY) STRICT",
-    )?;
+    make(conn, "CREATE TABLE due (place INTEGER PRIMARY KEY) STRICT")?;
     Ok(())
 }
 
@@ -87,10 +84,7 @@ fn make_messages<S: Alter>(conn: &mut Connection<S>) -> Result<(), Error>
         conn,
         "CREATE TABLE sent (number INTEGER PRIMARY KEY, bic TEXT NOT NULL, place INTEGER NOT NULL, mt INTEGER NOT NULL, about INTEGER NOT NULL, text TEXT NOT NULL, UNIQUE (bic, place)) STRICT",
     )?;
-    make(
-        conn,
-        "CREATE INDEX sent_about ON sent (about)",
-    )?;
+    make(conn, "CREATE INDEX sent_about ON sent (about)")?;
     make(
         conn,
         "CREATE TABLE version (number INTEGER PRIMARY KEY) STRICT",

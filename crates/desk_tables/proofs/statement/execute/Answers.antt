@@ -1,6 +1,4 @@
-use Rattle.std.proofs.Common.{[], ◌∷◌, arith}
 use Rattle.sqlite.specs.Held.{state}
-use Rattle.sqlite.specs.Values.{bound}
 use Rattle.desk_tables.proofs.EndLemmas.{execute_opened, later_from}
 use Rattle.desk_tables.proofs.StatementLemmas.{edits, edit_fell}
 use Rattle.desk_tables.proofs.statement.execute.Goals as goal

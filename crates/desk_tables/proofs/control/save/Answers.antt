@@ -1,0 +1,16 @@
+use Rattle.sqlite.specs.Held.{state}
+use Rattle.desk_tables.proofs.EndLemmas.{execute_fell, execute_opened, later_from}
+use Rattle.desk_tables.proofs.ControlLemmas.{saved}
+use Rattle.desk_tables.proofs.control.save.Goals as goal
+
+pub returns-clause-ok : goal.returns-clause-ok
+returns-clause-ok g c clean is_open has inside none = saved (state g.S.Store c.args.conn.now) (state g.S.Store c.execute.new.self) has inside none c.execute.result (c.execute.ensures.runs clean)
+
+pub returns-clause-err : goal.returns-clause-err
+returns-clause-err g c clean is_open has = execute_fell (state g.S.Store c.args.conn.now) (state g.S.Store c.execute.new.self) _ _ c.execute.result (c.execute.ensures.runs clean)
+
+pub returns-clause-opened : goal.returns-clause-opened
+returns-clause-opened g c clean = execute_opened (state g.S.Store c.args.conn.now) (state g.S.Store c.execute.new.self) _ _ c.execute.result (c.execute.ensures.runs clean)
+
+pub returns-clause-later : goal.returns-clause-later
+returns-clause-later g c = later_from (state g.S.Store c.args.conn.now) (state g.S.Store c.execute.new.self) _ c.execute.ensures.survives
