@@ -1,6 +1,7 @@
 -- How a call on the desk's tables ends.
 use Rattle.std.specs.Prelude.{◌≡◌, ◌⊎◌, ℕ, ◌≤◌, ◌<◌, [], IsTrue, false, Result, OnOk, OnErr}
 use Rattle.sqlite_trees.specs.View.{doubt}
+use Rattle.sqlite_rules.specs.Edit.{IsNoIndex}
 use Rattle.sqlite.specs.Effect.{Database}
 use Rattle.sqlite.specs.declared.error.Error.{Error}
 use Rattle.sqlite.specs.State.{State, HasCleanDisk}
@@ -62,6 +63,7 @@ pub record IsWrite {X : Type 0} (result : Result X Error) (old new : State) : Ty
   pub opened : HasCleanDisk new → IsTrue new.is_open → IsTrue old.is_open
   pub later : IsLater old new
 
--- the trees from one place up to another may have changed, and no other has
+-- The tables whose trees stand before one place, or from another on, are as they were. (Of the tree of an index nothing is
+-- said but that it lists its table, which is sqlite's own promise.)
 abbrev pub SparesOthers : ℕ → ℕ → Database → Database → Type 0
-SparesOthers first end old new = (tree : ℕ) → (tree < first) ⊎ (end ≤ tree) → new.trees tree ≡ old.trees tree
+SparesOthers first end old new = (tree : ℕ) → (tree < first) ⊎ (end ≤ tree) → IsNoIndex desk_schema tree → new.trees tree ≡ old.trees tree
