@@ -1,0 +1,4 @@
+pub mod Key
+pub mod Unmatched
+pub mod Texts
+pub mod Columns
