@@ -1,1 +1,2 @@
 mod MeaningLemmas
+mod KeyLemmas
