@@ -1,2 +1,5 @@
 mod MeaningLemmas
 mod KeyLemmas
+mod GenericLemmas
+mod RowLemmas
+mod EffectLemmas

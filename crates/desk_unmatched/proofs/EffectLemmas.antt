@@ -1,0 +1,176 @@
+-- What the statements do to the table, and what they show of it.
+use Rattle.std.proofs.Common.{◌≡◌, ◌≢◌, ◌⊎◌, inl, inr, ℕ, ◌<◌, ◌≤◌, ◌==◌, ℤ, pos, List, [], ◌∷◌, map, filter, Bool, true, false, cond, ◌&&◌, None, Some, Option, Ok, Err, Result, OnOk, refl, sym, ap, subst, ◌∙◌, arith}
+use Rattle.std.specs.Prelude.{option_map, not}
+use Rattle.std.specs.List.{AllByRecursion, list_any}
+use Rattle.std.specs.Ordering.{is_eq, is_lt}
+use Rattle.std.specs.List.Sorted.{IsPermutation}
+use Rattle.std.proofs.lemmas.Bool.{cases_Bool, cases_lt, eqb-true, eqb-false, and_parts}
+use Rattle.std.proofs.lemmas.List.{nil_from_length}
+use Rattle.std.proofs.lemmas.List.Sorted.{length_permutation}
+use Rattle.sqlite.specs.Order.{Row, value_cmp}
+use Rattle.sqlite.specs.declared.error.Error.{Error}
+use Rattle.sqlite.specs.declared.types.Value.{Value}
+use Rattle.sqlite.specs.declared.types.Value.TheVariants.{Null, Int, Text as Words}
+use Rattle.sqlite.specs.Ops.{unary, binary, is_true, from_truth}
+use Rattle.sqlite.specs.Cast.{cast}
+use Rattle.sqlite.specs.Kind.TheVariants.{Integer}
+use Rattle.sqlite.specs.Edit.{Edit, edit_of, edited, put_all, is_taken, are_fresh}
+use Rattle.sqlite.specs.Rowids.TheVariants.{Chosen, Given}
+use Rattle.sqlite_rules.specs.Edit.{Applies, IsNoIndex, without_all, id_in}
+use Rattle.sqlite_rules.specs.Calls.{ids_of}
+use Rattle.sqlite.specs.Tree.{Trees, IsTable, rowid, has_rowid, put_row, without_rowid}
+use Rattle.sqlite_trees.proofs.TreeLemmas.{IsTable-put_row, all-put_row}
+use Rattle.sqlite_trees.proofs.ListLemmas.{ascending-filter}
+use Rattle.sqlite_sql.specs.declared.ops.BinaryOp.TheVariants.{Compare}
+use Rattle.sqlite_sql.specs.declared.ops.CompareOp.TheVariants.{Eq}
+use Rattle.sqlite.specs.Collation.TheVariants.{Binary}
+use Rattle.sqlite.specs.Term.{col, eval_all}
+use Rattle.sqlite.specs.Program.{overlay}
+use Rattle.sqlite.specs.Command.TheVariants.{Insert, Delete}
+use Rattle.sqlite.specs.Source.TheVariants.{Values}
+use Rattle.sqlite.specs.Does.{Tally, Does}
+use Rattle.sqlite.specs.Rows.{Written}
+use Rattle.sqlite.specs.Effect.{Database}
+use Rattle.sqlite.specs.Listing.{understood}
+use Rattle.sqlite.specs.State.{State, mode_of, Executes, Shown}
+use Rattle.sqlite.proofs.Callers.{IsPlain, command_of, runs_as, reads_as, one_step, one_permutation, statement_of}
+use Rattle.desk_rules.specs.declared.entry.Instructed.{Instructed}
+use Rattle.desk_tables.specs.Schema.{desk_schema, unmatched_table}
+use Rattle.desk_tables.specs.Ends.{SparesOthers}
+use Rattle.desk_tables.proofs.StatementLemmas.{went, same_value}
+use Rattle.desk_unmatched.specs.Key.{key_of}
+use Rattle.desk_unmatched.specs.Texts.{note_text, forget_text, note_terms, forget_query, equals}
+use Rattle.desk_unmatched.specs.Unmatched.{Noted, AreUnmatched, IsNumbered, Notes, Forgets, forgetting, noting, row_of, stored}
+use Rattle.desk_unmatched.proofs.GenericLemmas.{passes_all, plain_rows, same_found, truth_of}
+use Rattle.desk_unmatched.proofs.MeaningLemmas.{note_is, note_edits, forget_is, forget_edits}
+use Rattle.desk_unmatched.proofs.RowLemmas.{has_number, same_number, once, none_without, all_without, row_of-put_own, row_of-put_other, row_of-free, row_of-without_own, row_of-without_other}
+
+either : (b : Bool) (x : Value) → cond b x x ≡ x
+either true x = refl
+either false x = refl
+
+cast_int : (n : ℤ) → cast Integer (Int n) ≡ Int n
+unfolding unary
+cast_int n = either _ (Int n)
+
+cast_null : cast Integer Null ≡ Null
+unfolding unary
+cast_null = either _ Null
+
+spares : (old new : Database) (trees : Trees) (keys : _) (edit : Edit) → edit.table.tree ≡ 10 → new.trees ≡ trees → Applies desk_schema keys old.trees edit trees → SparesOthers 10 12 old new
+spares old new trees keys edit at to applied tree apart unlisted =
+    let other : tree ≢ edit.table.tree = λ same. elim apart [ inl low ↦ absurd (omega (arith, same, at)) | inr high ↦ absurd (omega (arith, same, at)) ] in
+    ap (λ (t : Trees). t tree) to ∙ applied.others tree other unlisted
+
+-- ---- an instruction is noted
+
+module _ (old new : Database) (number : ℕ) where
+  notes_row : (i : Instructed) → new.trees 10 ≡ put_row (stored number i) (old.trees 10) → list_any (λ r. is_eq (value_cmp (rowid r) (Int (pos number)))) (old.trees 10) ≡ false → (noted : Noted) → AreUnmatched old noted
+      → (noted number ≡ None) × AreUnmatched new (noting noted number i)
+  notes_row i put free noted was = (
+    free_of (noted number) (sym (was.each number) ∙ row_of-free number (old.trees 10) free),
+    record {
+      rising = subst IsTable (sym put) (IsTable-put_row (stored number i) (old.trees 10) was.rising);
+      numbered = subst (AllByRecursion IsNumbered) (sym put) (all-put_row IsNumbered (stored number i) (old.trees 10) (number, refl) was.numbered);
+      each = λ k. ap (row_of k) put ∙ elim (cases_Bool (k == number)) [
+        | inl here ↦ (let same : k ≡ number = eqb-true k number here in
+            ap (λ n. row_of n (put_row (stored number i) (old.trees 10))) same ∙ row_of-put_own (stored number i) number (old.trees 10) refl
+            ∙ ap (λ n. Some (stored n i)) (sym same) ∙ sym (ap (λ b. option_map (stored k) (cond b (Some i) (noted k))) here))
+        | inr apart ↦ row_of-put_other (stored number i) number k (old.trees 10) refl (eqb-false k number apart) was.numbered ∙ was.each k ∙ sym (ap (λ b. option_map (stored k) (cond b (Some i) (noted k))) apart)
+      ];
+    },
+  )
+    where
+      free_of : (found : Option Instructed) → option_map (stored number) found ≡ None → found ≡ None
+      free_of None h = refl
+      free_of (Some other) h = absurd (cc)
+
+  forgets_row : new.trees 10 ≡ without_rowid (pos number) (old.trees 10) → (noted : Noted) → AreUnmatched old noted → AreUnmatched new (forgetting noted number)
+  forgets_row left noted was = record {
+    rising = subst IsTable (sym left) (ascending-filter (λ a b. value_cmp (rowid a) (rowid b) ≡ _) (λ r. not (has_rowid (pos number) r)) (old.trees 10) was.rising);
+    numbered = subst (AllByRecursion IsNumbered) (sym left) (all_without IsNumbered (λ r. not (has_rowid (pos number) r)) (old.trees 10) was.numbered);
+    each = λ k. ap (row_of k) left ∙ elim (cases_Bool (k == number)) [
+      | inl here ↦ (let same : k ≡ number = eqb-true k number here in
+          ap (λ n. row_of n (without_rowid (pos number) (old.trees 10))) same ∙ row_of-without_own number (old.trees 10) ∙ sym (ap (λ b. option_map (stored k) (cond b None (noted k))) here))
+      | inr apart ↦ row_of-without_other number k (old.trees 10) (eqb-false k number apart) was.numbered ∙ was.each k ∙ sym (ap (λ b. option_map (stored k) (cond b None (noted k))) apart)
+    ];
+  }
+
+free_from : (b : Bool) → (not b && true) ≡ true → b ≡ false
+free_from true h = absurd (cc)
+free_from false h = refl
+
+-- the row that INSERT makes
+news_are : (db : Trees) (number : ℕ) (i : Instructed) (given : List Row) → given ≡ (Int (pos number) ∷ Null ∷ key_of i) ∷ [] → (edit_of db unmatched_table [] Chosen 0 given).news ≡ stored number i ∷ []
+news_are db number i given is = ap (λ all. (edit_of db unmatched_table [] Chosen 0 all).news) is ∙ rw (cast_int (pos number), cast_null) (simp cast_int)
+
+pub inserted : (old new : State) (number : ℕ) (i : Instructed) (count : ℕ) → old.now.schema ≡ desk_schema → Executes note_text (Int (pos number) ∷ key_of i) old new (Ok count) → Notes old.now new.now number i
+inserted old new number i count has h =
+    let params : Row = Int (pos number) ∷ key_of i in
+    let db = old.now.trees in
+    let command = Insert 5 (Values note_terms 11) in
+    let w = runs_as note_text params old new desk_schema has command note_is note_edits.plain count h in
+    let text = statement_of note_text (understood desk_schema note_text) in
+    let done = went (subst (λ s. Does old.step_limit (mode_of old) params (record old.now { schema = s }) text None command (Ok (w.tally, new.now))) has w.changed) in
+    let now = ap (λ (p : Tally × Database). p.1) (same_value (went (went done.2).2).2) in
+    let given = went done.1 in
+    let written = went (went given.2).2 in
+    let counted = went written.2 in
+    let trees : done.0.trees ≡ written.0 = ap (λ (it : Written). it.trees) (same_value counted.2) ∙ same_value counted.1 in
+    let edit : Edit = edit_of db unmatched_table [] Chosen 0 given.0 in
+    let applied = one_step desk_schema _ db written.0 edit refl written.1 in
+    let news : edit.news ≡ stored number i ∷ [] = news_are db number i given.0 given.1.1 in
+    let to : new.now.trees ≡ written.0 = ap (λ (d : Database). d.trees) now ∙ trees in
+    record {
+      notes = notes_row old.now new.now number i (ap (λ (t : Trees). t 10) to ∙ applied.rows ∙ ap (put_all (db 10)) news) (free_from _ (sym (ap (are_fresh (db 10)) news) ∙ applied.fresh));
+      spares = spares old.now new.now written.0 _ edit refl to applied;
+    }
+
+-- ---- an instruction is forgotten
+
+equal_int : (v : Value) (m n : ℕ) → v ≡ Int (pos m) → is_true (binary (Compare Eq Binary) v (Int (pos n))) ≡ (m == n)
+unfolding binary
+equal_int v m n is = ap (λ w. is_true (binary (Compare Eq Binary) w (Int (pos n)))) is ∙ truth_of (is_eq (value_cmp (Int (pos m)) (Int (pos n)))) ∙ same_number m n
+
+and_true : (b : Bool) → (b && true) ≡ b
+and_true true = refl
+and_true false = refl
+
+number_test : (number : ℕ) (row : Row) → IsNumbered row → passes_all (equals 0 0 ∷ []) (Int (pos number) ∷ []) row ≡ has_rowid (pos number) row
+number_test number row it = and_true _ ∙ equal_int (rowid row) it.0 number it.1 ∙ sym (has_number row it.0 number it.1)
+
+abbrev shows : ℕ → Row → Row
+shows number row = eval_all (col 1 0 ∷ []) ((Int (pos number) ∷ []) ∷ row ∷ [])
+
+-- what is left where a query has shown the row of the number, if there was one
+left_without : (number : ℕ) (rows found : List Row) → AllByRecursion IsNumbered rows → IsTable rows → IsPermutation (map (shows number) (filter (has_rowid (pos number)) rows)) found
+    → without_all rows (ids_of found) ≡ without_rowid (pos number) rows
+left_without number rows found all up same = elim (once number rows all up) [
+  | inl none ↦ (let nil : found ≡ [] = nil_from_length found (length_permutation [] found (subst (λ xs. IsPermutation (map (shows number) xs) found) none same)) in
+      ap (λ xs. without_all rows (ids_of xs)) nil ∙ sym (none_without number rows none))
+  | inr one ↦ (let single : found ≡ shows number one.0 ∷ [] = one_permutation (shows number one.0) found (subst (λ xs. IsPermutation (map (shows number) xs) found) one.1 same) in
+      ap (λ xs. without_all rows (ids_of xs)) single ∙ ap (λ v. without_rowid (id_in v) rows) one.2)
+]
+
+pub deleted : (old new : State) (number count : ℕ) → old.now.schema ≡ desk_schema → Executes forget_text (Int (pos number) ∷ []) old new (Ok count) → Forgets old.now new.now number
+deleted old new number count has h =
+    let params : Row = Int (pos number) ∷ [] in
+    let db = old.now.trees in
+    let command = Delete 5 (record { lets = []; body = forget_query }) in
+    let w = runs_as forget_text params old new desk_schema has command forget_is forget_edits.plain count h in
+    let text = statement_of forget_text (understood desk_schema forget_text) in
+    let done = went (subst (λ s. Does old.step_limit (mode_of old) params (record old.now { schema = s }) text None command (Ok (w.tally, new.now))) has w.changed) in
+    let now = ap (λ (p : Tally × Database). p.1) (same_value (went (went done.2).2).2) in
+    let given = went done.1 in
+    let written = went given.2 in
+    let made = same_value written.2 in
+    let edit : Edit = edit_of db unmatched_table (ids_of given.0) Given 0 [] in
+    let applied = one_step desk_schema _ db written.0 edit refl written.1 in
+    let to : new.now.trees ≡ written.0 = ap (λ (d : Database). d.trees) now ∙ ap (λ (it : Written). it.trees) made in
+    let found = plain_rows 10 (equals 0 0 ∷ []) (col 1 0 ∷ []) (overlay db []) params given.0 (given.1.answer Null) in
+    record {
+      forgets = λ noted was.
+      let same = same_found IsNumbered (passes_all (equals 0 0 ∷ []) params) (has_rowid (pos number)) (db 10) (number_test number) was.numbered in
+      forgets_row old.now new.now number (ap (λ (t : Trees). t 10) to ∙ applied.rows ∙ left_without number (db 10) given.0 was.numbered was.rising (subst (λ xs. IsPermutation (map (shows number) xs) given.0) same found)) noted was;
+      spares = spares old.now new.now written.0 _ edit refl to applied;
+    }
