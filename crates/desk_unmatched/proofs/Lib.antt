@@ -3,3 +3,4 @@ mod KeyLemmas
 mod GenericLemmas
 mod RowLemmas
 mod EffectLemmas
+mod FirstLemmas

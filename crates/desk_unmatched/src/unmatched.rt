@@ -6,6 +6,7 @@ ghost use Rattle.sqlite.specs.declared.types.Value.TheVariants.{Int};
 ghost use Rattle.desk_tables.specs.Ends.{IfSound, IsLook, IsWrite};
 ghost use Rattle.desk_unmatched.specs.Key.{key_of, wanted_key};
 ghost use Rattle.desk_unmatched.specs.Texts.{note_text, forget_text, first_text};
+ghost use Rattle.desk_unmatched.specs.Shown.{ReadsNumber};
 ghost use Rattle.desk_unmatched.specs.Unmatched.{Notes, Forgets, FindsFirst};
 
 use crate::key::{columns_of, integer, opposite_of};
@@ -75,4 +76,51 @@ fn first_of<S: Alter>(conn: &mut Connection<S>, like: &Instructed) -> Result<Vec
             columns.amount,
         ],
     )
+}
+
+/// The number in the first of these rows, where there is one.
+fn number_in(rows: &[Row]) -> Result<Option<u64>, Error>
+    ensures { IfOk result (ReadsNumber rows.now) }
+{
+    match rows.first() {
+        Some(row) => Ok(Some(row.get(0)?)),
+        None => Ok(None),
+    }
+}
+
+/// Notes an instruction as unmatched, under its number. Where one is noted under the number already it is refused.
+pub fn note_unmatched<S: Alter>(
+    conn: &mut Connection<S>,
+    number: u64,
+    instructed: &Instructed,
+) -> Result<(), Error>
+    requires { number < 2 ^ 63 }
+    ensures changed { IfSound (state S.Store conn.old) (state S.Store conn.new) (OnOk result (Notes (state S.Store conn.old).now (state S.Store conn.new).now number instructed.now)) }
+    ensures write { IsWrite result (state S.Store conn.old) (state S.Store conn.new) }
+{
+    put(conn, number, instructed)?;
+    Ok(())
+}
+
+/// Forgets the instruction that is noted under a number, where there is one.
+pub fn forget_unmatched<S: Alter>(conn: &mut Connection<S>, number: u64) -> Result<(), Error>
+    requires { number < 2 ^ 63 }
+    ensures changed { IfSound (state S.Store conn.old) (state S.Store conn.new) (OnOk result (Forgets (state S.Store conn.old).now (state S.Store conn.new).now number)) }
+    ensures write { IsWrite result (state S.Store conn.old) (state S.Store conn.new) }
+{
+    take_out(conn, number)?;
+    Ok(())
+}
+
+/// The least number under which an instruction is noted that is opposite to this one of this sender.
+pub fn first_unmatched<S: Alter>(
+    conn: &mut Connection<S>,
+    sender: Bic,
+    instruction: &Instruction,
+) -> Result<Option<u64>, Error>
+    ensures found { IfSound (state S.Store conn.old) (state S.Store conn.new) (IfOk result (FindsFirst (state S.Store conn.old).now (record { sender = sender; instruction = instruction.now }))) }
+    ensures look { IsLook result (state S.Store conn.old) (state S.Store conn.new) }
+{
+    let rows = first_of(conn, &opposite_of(sender, instruction))?;
+    number_in(&rows)
 }

@@ -1,0 +1,153 @@
+-- What the query for the first opposite instruction shows.
+use Rattle.std.proofs.Common.{◌≡◌, ◌≢◌, ◌⊎◌, inl, inr, ℕ, ◌<◌, ◌==◌, pos, List, [], ◌∷◌, filter, Bool, true, false, ◌&&◌, None, Some, Option, refl, sym, ap, subst, ◌∙◌, arith}
+use Rattle.std.specs.Prelude.{option_map}
+use Rattle.std.specs.List.{AllByRecursion}
+use Rattle.std.specs.Ordering.{is_eq, is_lt}
+use Rattle.std.specs.Str.{bytes_eq}
+use Rattle.std.proofs.lemmas.Bool.{and_parts, and_from, eqb-true, eq-eqb}
+use Rattle.std.proofs.lemmas.Slice.Eq.{bytes_eq-Decides}
+use Rattle.sqlite.specs.Order.{Row, value_cmp}
+use Rattle.sqlite.specs.declared.types.Value.TheVariants.{Null, Int, Text as Words}
+use Rattle.sqlite.specs.Ops.{binary, is_true, from_truth}
+use Rattle.sqlite.specs.Term.{col}
+use Rattle.sqlite.specs.Tree.{rowid}
+use Rattle.sqlite.specs.Program.{overlay}
+use Rattle.sqlite.specs.State.{State, Shown}
+use Rattle.sqlite.proofs.Callers.{reads_as}
+use Rattle.desk_msg.specs.MessageType.{number_of_type}
+use Rattle.desk_msg.specs.Profile.{code_of_kind}
+use Rattle.desk_rules.specs.declared.entry.Instructed.{Instructed}
+use Rattle.desk_tables.specs.Schema.{desk_schema}
+use Rattle.desk_unmatched.specs.Key.{currency_in, amount_in, key_of, wanted_key}
+use Rattle.desk_unmatched.specs.Texts.{first_text, key_tests}
+use Rattle.desk_unmatched.specs.Unmatched.{Noted, AreUnmatched, IsFirstNoted, IsOppositeNoted, stored}
+use Rattle.desk_unmatched.proofs.GenericLemmas.{Among, at_among, among_filter, filter_among, passes_all, least_shown, text_test, truth_of, IsLeastShown}
+use Rattle.desk_unmatched.proofs.KeyLemmas.{key_of_opposite, opposite_of_key}
+use Rattle.desk_unmatched.proofs.MeaningLemmas.{first_is, first_queries}
+use Rattle.desk_unmatched.proofs.RowLemmas.{same_number, lesser_number, found_by_number, among_found}
+
+-- ---- which rows pass
+
+number_test : (m n : ℕ) → is_true (from_truth (Some (is_eq (value_cmp (Int (pos m)) (Int (pos n)))))) ≡ (m == n)
+number_test m n = truth_of (is_eq (value_cmp (Int (pos m)) (Int (pos n)))) ∙ same_number m n
+
+-- the columns are the same, one by one
+abbrev same_key : Instructed → Instructed → Bool
+same_key a b =
+    bytes_eq a.instruction.isin b.instruction.isin
+    && (bytes_eq a.instruction.day b.instruction.day
+    && ((a.instruction.quantity == b.instruction.quantity)
+    && (bytes_eq a.sender b.sender
+    && (bytes_eq a.instruction.counterparty b.instruction.counterparty
+    && ((number_of_type a.instruction.mt == number_of_type b.instruction.mt)
+    && (bytes_eq (code_of_kind a.instruction.kind) (code_of_kind b.instruction.kind)
+    && (bytes_eq (currency_in a.instruction.cash) (currency_in b.instruction.cash)
+    && ((amount_in a.instruction.cash == amount_in b.instruction.cash)
+    && true))))))))
+
+key_test : (number : ℕ) (other like : Instructed) → passes_all key_tests (key_of like) (stored number other) ≡ same_key other like
+unfolding binary
+key_test number other like =
+    let a = other.instruction in
+    let b = like.instruction in
+    rw (text_test a.isin b.isin, text_test a.day b.day, number_test a.quantity b.quantity, text_test other.sender like.sender, text_test a.counterparty b.counterparty,
+        number_test (number_of_type a.mt) (number_of_type b.mt), text_test (code_of_kind a.kind) (code_of_kind b.kind), text_test (currency_in a.cash) (currency_in b.cash),
+        number_test (amount_in a.cash) (amount_in b.cash)) refl
+
+text_is : (s t : List ℕ) → bytes_eq s t ≡ true → s ≡ t
+text_is s t = (bytes_eq-Decides s t).0
+
+is_text : (s t : List ℕ) → s ≡ t → bytes_eq s t ≡ true
+is_text s t = (bytes_eq-Decides s t).1
+
+key_is : (a b : Instructed) → same_key a b ≡ true → key_of a ≡ key_of b
+key_is a b h =
+    let i = a.instruction in
+    let j = b.instruction in
+    let p0 = and_parts (bytes_eq i.isin j.isin) _ h in
+    let p1 = and_parts (bytes_eq i.day j.day) _ p0.1 in
+    let p2 = and_parts (i.quantity == j.quantity) _ p1.1 in
+    let p3 = and_parts (bytes_eq a.sender b.sender) _ p2.1 in
+    let p4 = and_parts (bytes_eq i.counterparty j.counterparty) _ p3.1 in
+    let p5 = and_parts (number_of_type i.mt == number_of_type j.mt) _ p4.1 in
+    let p6 = and_parts (bytes_eq (code_of_kind i.kind) (code_of_kind j.kind)) _ p5.1 in
+    let p7 = and_parts (bytes_eq (currency_in i.cash) (currency_in j.cash)) _ p6.1 in
+    let p8 = and_parts (amount_in i.cash == amount_in j.cash) _ p7.1 in
+    let isin : i.isin ≡ j.isin = text_is _ _ p0.0 in
+    let day : i.day ≡ j.day = text_is _ _ p1.0 in
+    let quantity : i.quantity ≡ j.quantity = eqb-true _ _ p2.0 in
+    let sender : a.sender ≡ b.sender = text_is _ _ p3.0 in
+    let counterparty : i.counterparty ≡ j.counterparty = text_is _ _ p4.0 in
+    let mt : number_of_type i.mt ≡ number_of_type j.mt = eqb-true _ _ p5.0 in
+    let unit : code_of_kind i.kind ≡ code_of_kind j.kind = text_is _ _ p6.0 in
+    let currency : currency_in i.cash ≡ currency_in j.cash = text_is _ _ p7.0 in
+    let amount : amount_in i.cash ≡ amount_in j.cash = eqb-true _ _ p8.0 in
+    cc
+
+is_key : (a b : Instructed) → key_of a ≡ key_of b → same_key a b ≡ true
+is_key a b e =
+    let i = a.instruction in
+    let j = b.instruction in
+    and_from _ _ (is_text i.isin j.isin (cc))
+    (and_from _ _ (is_text i.day j.day (cc))
+    (and_from _ _ (eq-eqb i.quantity j.quantity (cc))
+    (and_from _ _ (is_text a.sender b.sender (cc))
+    (and_from _ _ (is_text i.counterparty j.counterparty (cc))
+    (and_from _ _ (eq-eqb (number_of_type i.mt) (number_of_type j.mt) (cc))
+    (and_from _ _ (is_text (code_of_kind i.kind) (code_of_kind j.kind) (cc))
+    (and_from _ _ (is_text (currency_in i.cash) (currency_in j.cash) (cc))
+    (and_from _ _ (eq-eqb (amount_in i.cash) (amount_in j.cash) (cc)) refl))))))))
+
+-- ---- what is shown
+
+-- none is opposite and no row is shown, or the number of the first that is
+abbrev pub ShowsFirst : Noted → Instructed → List Row → Type 0
+ShowsFirst noted i rows = ((rows ≡ []) × IsFirstNoted noted i None) ⊎ ((number : ℕ) × (rows ≡ (Int (pos number) ∷ []) ∷ []) × IsFirstNoted noted i (Some number))
+
+noted_by_row : (number : ℕ) (r : Row) (found : Option Instructed) → option_map (stored number) found ≡ Some r → (other : Instructed) × (found ≡ Some other) × (r ≡ stored number other)
+noted_by_row number r None h = absurd (cc)
+noted_by_row number r (Some other) h = (other, refl, (let e = h in cc))
+
+module _ (old : _) (noted : Noted) (i like : Instructed) (was : AreUnmatched old noted) (wants : key_of like ≡ wanted_key i) where
+  abbrev held : List Row
+  held = old.trees 10
+
+  abbrev test : Row → Bool
+  test = passes_all key_tests (key_of like)
+
+  -- the row of an opposite instruction passes
+  shown_if_opposite : (number : ℕ) (o : IsOppositeNoted noted i number) → Among (filter test held) (stored number o.other)
+  shown_if_opposite number o =
+      let row = stored number o.other in
+      let there = among_found number held row (was.each number ∙ ap (option_map (stored number)) o.is_other) in
+      filter_among test held row there (key_test number o.other like ∙ is_key o.other like (key_of_opposite o.other i o.opposite ∙ sym wants))
+
+  -- a row that passes is that of an opposite instruction
+  opposite_if_shown : (r : Row) → Among (filter test held) r → (number : ℕ) × (rowid r ≡ Int (pos number)) × IsOppositeNoted noted i number
+  opposite_if_shown r among =
+      let it = among_filter test held r among in
+      let numbered = at_among _ held was.numbered r it.0 in
+      let number = numbered.0 in
+      let at = noted_by_row number r (noted number) (sym (was.each number) ∙ found_by_number number held r was.rising it.0 numbered.1) in
+      let passes = sym (key_test number at.0 like) ∙ ap test (sym at.2) ∙ it.1 in
+      (number, numbered.1, record { other = at.0; is_other = at.1; opposite = opposite_of_key at.0 i (key_is at.0 like passes ∙ wants) })
+
+  least : (number : ℕ) (r : Row) → rowid r ≡ Int (pos number) → ((s : Row) → Among (filter test held) s → is_lt (value_cmp (rowid s) (rowid r)) ≡ false)
+      → (lesser : ℕ) → lesser < number → IsOppositeNoted noted i lesser → ⊥
+  least number r is none lesser low o =
+      let fails = none (stored lesser o.other) (shown_if_opposite lesser o) in
+      let below : value_cmp (Int (pos lesser)) (rowid r) ≡ _ = ap (value_cmp (Int (pos lesser))) is ∙ lesser_number lesser number low in
+      let bad : true ≡ false = sym (ap is_lt below) ∙ fails in
+      cc
+
+  first_from : (rows : List Row) → IsLeastShown (filter test held) (key_of like) (col 1 0 ∷ []) (col 1 0) rows → ShowsFirst noted i rows
+  first_from rows (inl none) = inl (none.0, λ number o. subst (λ xs. Among xs (stored number o.other)) none.1 (shown_if_opposite number o))
+  first_from rows (inr one) =
+      let at = opposite_if_shown one.0 one.1 in
+      inr (at.0, one.2 ∙ ap (λ v. (v ∷ []) ∷ []) at.1, (at.2, least at.0 one.0 at.1 one.3))
+
+pub first_shown : (old new : State) (i like : Instructed) (rows : List Row) → old.now.schema ≡ desk_schema → key_of like ≡ wanted_key i → Shown first_text (key_of like) old new rows
+    → (noted : Noted) → AreUnmatched old.now noted → ShowsFirst noted i rows
+first_shown old new i like rows has wants h noted was =
+    let answers = reads_as first_text (key_of like) old new desk_schema has _ first_is first_queries.plain first_queries.unlisted rows h in
+    first_from old.now noted i like was wants rows (least_shown 10 key_tests (col 1 0 ∷ []) (col 1 0) (overlay old.now.trees []) (key_of like) rows (answers.answer Null))
