@@ -1,12 +1,14 @@
 -- What the query for the first opposite instruction shows.
-use Rattle.std.proofs.Common.{◌≡◌, ◌≢◌, ◌⊎◌, inl, inr, ℕ, ◌<◌, ◌==◌, pos, List, [], ◌∷◌, filter, Bool, true, false, ◌&&◌, None, Some, Option, refl, sym, ap, subst, ◌∙◌, arith}
+use Rattle.std.proofs.Common.{◌≡◌, ◌≢◌, ◌⊎◌, inl, inr, ℕ, ◌<◌, ◌==◌, pos, List, [], ◌∷◌, filter, Bool, true, false, ◌&&◌, None, Some, Option, Ok, Err, Result, IfOk, refl, sym, ap, subst, ◌∙◌, arith}
 use Rattle.std.specs.Prelude.{option_map}
 use Rattle.std.specs.List.{AllByRecursion}
 use Rattle.std.specs.Ordering.{is_eq, is_lt}
 use Rattle.std.specs.Str.{bytes_eq}
 use Rattle.std.proofs.lemmas.Bool.{and_parts, and_from, eqb-true, eq-eqb}
 use Rattle.std.proofs.lemmas.Slice.Eq.{bytes_eq-Decides}
-use Rattle.sqlite.specs.Order.{Row, value_cmp}
+use Rattle.sqlite.specs.Order.{Row, column, value_cmp}
+use Rattle.sqlite.specs.Effect.{Database}
+use Rattle.sqlite.specs.declared.error.Error.{Error}
 use Rattle.sqlite.specs.declared.types.Value.TheVariants.{Null, Int, Text as Words}
 use Rattle.sqlite.specs.Ops.{binary, is_true, from_truth}
 use Rattle.sqlite.specs.Term.{col}
@@ -19,8 +21,9 @@ use Rattle.desk_msg.specs.Profile.{code_of_kind}
 use Rattle.desk_rules.specs.declared.entry.Instructed.{Instructed}
 use Rattle.desk_tables.specs.Schema.{desk_schema}
 use Rattle.desk_unmatched.specs.Key.{currency_in, amount_in, key_of, wanted_key}
+use Rattle.desk_unmatched.specs.Shown.{ReadsNumber}
 use Rattle.desk_unmatched.specs.Texts.{first_text, key_tests}
-use Rattle.desk_unmatched.specs.Unmatched.{Noted, AreUnmatched, IsFirstNoted, IsOppositeNoted, stored}
+use Rattle.desk_unmatched.specs.Unmatched.{Noted, AreUnmatched, FindsFirst, IsFirstNoted, IsOppositeNoted, stored}
 use Rattle.desk_unmatched.proofs.GenericLemmas.{Among, at_among, among_filter, filter_among, passes_all, least_shown, text_test, truth_of, IsLeastShown}
 use Rattle.desk_unmatched.proofs.KeyLemmas.{key_of_opposite, opposite_of_key}
 use Rattle.desk_unmatched.proofs.MeaningLemmas.{first_is, first_queries}
@@ -151,3 +154,22 @@ pub first_shown : (old new : State) (i like : Instructed) (rows : List Row) → 
 first_shown old new i like rows has wants h noted was =
     let answers = reads_as first_text (key_of like) old new desk_schema has _ first_is first_queries.plain first_queries.unlisted rows h in
     first_from old.now noted i like was wants rows (least_shown 10 key_tests (col 1 0 ∷ []) (col 1 0) (overlay old.now.trees []) (key_of like) rows (answers.answer Null))
+
+-- ---- what is read of it
+
+read_first : (noted : Noted) (i : Instructed) (rows : List Row) (found : Option ℕ) → ReadsNumber rows found → ShowsFirst noted i rows → IsFirstNoted noted i found
+read_first noted i rows None read (inl none) = none.1
+read_first noted i rows None read (inr one) = absurd (let e = one.1 in cc)
+read_first noted i rows (Some number) read (inl none) = absurd (let e = none.0 in let f = read.2 in cc)
+read_first noted i rows (Some number) read (inr one) =
+    let e = one.1 in
+    let f = read.2 in
+    let row : read.0 ≡ Int (pos one.0) ∷ [] = cc in
+    let value : Int (pos number) ≡ Int (pos one.0) = sym read.3 ∙ ap (λ r. column r 0) row in
+    let same : one.0 ≡ number = cc in
+    subst (λ n. IsFirstNoted noted i (Some n)) same one.2
+
+pub finds_first : (db : Database) (i : Instructed) (seen rows : List Row) (result : Result (Option ℕ) Error) → seen ≡ rows → ((noted : Noted) → AreUnmatched db noted → ShowsFirst noted i rows) → IfOk result (ReadsNumber seen)
+    → IfOk result (FindsFirst db i)
+finds_first db i seen rows (Ok found) same shown read = λ noted was. read_first noted i rows found (subst (λ xs. ReadsNumber xs found) same read) (shown noted was)
+finds_first db i seen rows (Err e) same shown read = tt
