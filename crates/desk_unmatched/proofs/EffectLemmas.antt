@@ -39,7 +39,8 @@ use Rattle.desk_tables.specs.Schema.{desk_schema, unmatched_table}
 use Rattle.desk_tables.specs.Ends.{SparesOthers}
 use Rattle.desk_tables.proofs.StatementLemmas.{went, same_value}
 use Rattle.desk_unmatched.specs.Key.{key_of}
-use Rattle.desk_unmatched.specs.Texts.{note_text, forget_text, note_terms, forget_query, equals}
+use Rattle.desk_unmatched.specs.Queries.{equals}
+use Rattle.desk_unmatched.specs.Texts.{note_text, forget_text, note_terms, forget_query}
 use Rattle.desk_unmatched.specs.Unmatched.{Noted, AreUnmatched, IsNumbered, Notes, Forgets, forgetting, noting, row_of, stored}
 use Rattle.desk_unmatched.proofs.GenericLemmas.{passes_all, plain_rows, same_found, truth_of}
 use Rattle.desk_unmatched.proofs.MeaningLemmas.{note_is, note_edits, forget_is, forget_edits}

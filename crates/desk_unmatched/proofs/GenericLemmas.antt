@@ -17,7 +17,7 @@ use Rattle.sqlite.specs.Ops.{is_true, from_truth}
 use Rattle.sqlite.specs.Term.{Term, Env, eval, eval_all, holds}
 use Rattle.sqlite.specs.Query.{Query, inner, end, matches, IsAnswer, output, page, Output}
 use Rattle.sqlite.specs.Tree.{Trees}
-use Rattle.desk_unmatched.specs.Texts.{plain, least_of}
+use Rattle.desk_unmatched.specs.Queries.{plain, least_of}
 
 abbrev pub Among : {X : Type 0} → List X → X → Type 0
 Among [] x = ⊥

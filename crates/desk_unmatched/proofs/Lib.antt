@@ -4,3 +4,4 @@ mod GenericLemmas
 mod RowLemmas
 mod EffectLemmas
 mod FirstLemmas
+pub mod UnmatchedLaws

@@ -1,5 +1,7 @@
 pub mod Key
 pub mod Unmatched
-pub mod Texts
+pub mod InContent
 pub mod Columns
 pub mod Shown
+pub mod Queries
+pub mod Texts

@@ -1,11 +1,9 @@
 -- The statements on `unmatched`, and what they mean. Only private contracts and proofs speak of them.
-use Rattle.std.specs.Prelude.{ℕ, List, [], ◌∷◌, codes, false, None, pos, negsuc}
-use Rattle.sqlite.specs.declared.types.Value.TheVariants.{Null, Int}
-use Rattle.sqlite.specs.Term.{Term, lit, col, op2}
-use Rattle.sqlite.specs.Query.{Query, inner, end}
-use Rattle.sqlite.specs.Collation.TheVariants.{Binary}
-use Rattle.sqlite_sql.specs.declared.ops.BinaryOp.TheVariants.{Compare}
-use Rattle.sqlite_sql.specs.declared.ops.CompareOp.TheVariants.{Eq}
+use Rattle.std.specs.Prelude.{ℕ, List, [], ◌∷◌, codes}
+use Rattle.sqlite.specs.declared.types.Value.TheVariants.{Null}
+use Rattle.sqlite.specs.Term.{Term, lit, col}
+use Rattle.sqlite.specs.Query.{Query}
+use Rattle.desk_unmatched.specs.Queries.{plain, least_of, equals}
 
 abbrev pub note_text : List ℕ
 note_text = codes "INSERT INTO unmatched (number, isin, day, quantity, sender, counterparty, mt, unit, currency, amount) VALUES (?1, ?2, ?3, ?4, ?5, ?6, ?7, ?8, ?9, ?10)"
@@ -15,28 +13,6 @@ forget_text = codes "DELETE FROM unmatched WHERE number = ?1"
 
 abbrev pub first_text : List ℕ
 first_text = codes "SELECT number FROM unmatched WHERE isin = ?1 AND day = ?2 AND quantity = ?3 AND sender = ?4 AND counterparty = ?5 AND mt = ?6 AND unit = ?7 AND currency = ?8 AND amount = ?9 ORDER BY number LIMIT 1"
-
--- some columns of the rows of a tree that pass each test
-abbrev pub plain : ℕ → List Term → List Term → Query
-plain tree tests shown = record {
-  from = inner tree end;
-  filter = tests;
-  group = None;
-  project = shown;
-  distinct = false;
-  collations = [];
-  order = [];
-  limit = lit (Int (negsuc 0));
-  offset = lit (Int (pos 0));
-}
-
--- those of the row whose column is least
-abbrev pub least_of : ℕ → List Term → List Term → Term → Query
-least_of tree tests shown key = record (plain tree tests shown) { limit = lit (Int (pos 1)); order = (key, record { collation = Binary; descending = false }) ∷ [] }
-
--- a column of the row equals a parameter
-abbrev pub equals : ℕ → ℕ → Term
-equals at parameter = op2 (Compare Eq Binary) (col 1 at) (col 0 parameter)
 
 -- the values of a new row: its number is the rowid
 abbrev pub note_terms : List Term
