@@ -1,22 +1,21 @@
 -- What the statements do to the table, and what they show of it.
-use Rattle.std.proofs.Common.{◌≡◌, ◌≢◌, ◌⊎◌, inl, inr, ℕ, ◌<◌, ◌≤◌, ◌==◌, ℤ, pos, List, [], ◌∷◌, map, filter, Bool, true, false, cond, ◌&&◌, None, Some, Option, Ok, Err, Result, OnOk, refl, sym, ap, subst, ◌∙◌, arith}
+use Rattle.std.proofs.Common.{◌≡◌, ◌≢◌, inl, inr, ℕ, ◌==◌, ℤ, pos, List, [], ◌∷◌, map, filter, Bool, true, false, cond, ◌&&◌, None, Some, Option, Ok, refl, sym, ap, subst, ◌∙◌, arith}
 use Rattle.std.specs.Prelude.{option_map, not}
 use Rattle.std.specs.List.{AllByRecursion, list_any}
-use Rattle.std.specs.Ordering.{is_eq, is_lt}
+use Rattle.std.specs.Ordering.{is_eq}
 use Rattle.std.specs.List.Sorted.{IsPermutation}
-use Rattle.std.proofs.lemmas.Bool.{cases_Bool, cases_lt, eqb-true, eqb-false, and_parts}
+use Rattle.std.proofs.lemmas.Bool.{cases_Bool, eqb-true, eqb-false}
 use Rattle.std.proofs.lemmas.List.{nil_from_length}
 use Rattle.std.proofs.lemmas.List.Sorted.{length_permutation}
 use Rattle.sqlite.specs.Order.{Row, value_cmp}
-use Rattle.sqlite.specs.declared.error.Error.{Error}
 use Rattle.sqlite.specs.declared.types.Value.{Value}
-use Rattle.sqlite.specs.declared.types.Value.TheVariants.{Null, Int, Text as Words}
-use Rattle.sqlite.specs.Ops.{unary, binary, is_true, from_truth}
+use Rattle.sqlite.specs.declared.types.Value.TheVariants.{Null, Int}
+use Rattle.sqlite.specs.Ops.{unary, binary, is_true}
 use Rattle.sqlite.specs.Cast.{cast}
 use Rattle.sqlite.specs.Kind.TheVariants.{Integer}
-use Rattle.sqlite.specs.Edit.{Edit, edit_of, edited, put_all, is_taken, are_fresh}
+use Rattle.sqlite.specs.Edit.{Edit, edit_of, put_all, are_fresh}
 use Rattle.sqlite.specs.Rowids.TheVariants.{Chosen, Given}
-use Rattle.sqlite_rules.specs.Edit.{Applies, IsNoIndex, without_all, id_in}
+use Rattle.sqlite_rules.specs.Edit.{Applies, without_all, id_in}
 use Rattle.sqlite_rules.specs.Calls.{ids_of}
 use Rattle.sqlite.specs.Tree.{Trees, IsTable, rowid, has_rowid, put_row, without_rowid}
 use Rattle.sqlite_trees.proofs.TreeLemmas.{IsTable-put_row, all-put_row}
@@ -32,8 +31,8 @@ use Rattle.sqlite.specs.Does.{Tally, Does}
 use Rattle.sqlite.specs.Rows.{Written}
 use Rattle.sqlite.specs.Effect.{Database}
 use Rattle.sqlite.specs.Listing.{understood}
-use Rattle.sqlite.specs.State.{State, mode_of, Executes, Shown}
-use Rattle.sqlite.proofs.Callers.{IsPlain, command_of, runs_as, reads_as, one_step, one_permutation, statement_of}
+use Rattle.sqlite.specs.State.{State, mode_of, Executes}
+use Rattle.sqlite.proofs.Callers.{runs_as, one_step, one_permutation, statement_of}
 use Rattle.desk_rules.specs.declared.entry.Instructed.{Instructed}
 use Rattle.desk_tables.specs.Schema.{desk_schema, unmatched_table}
 use Rattle.desk_tables.specs.Ends.{SparesOthers}
@@ -171,7 +170,7 @@ deleted old new number count has h =
     let found = plain_rows 10 (equals 0 0 ∷ []) (col 1 0 ∷ []) (overlay db []) params given.0 (given.1.answer Null) in
     record {
       forgets = λ noted was.
-      let same = same_found IsNumbered (passes_all (equals 0 0 ∷ []) params) (has_rowid (pos number)) (db 10) (number_test number) was.numbered in
-      forgets_row old.now new.now number (ap (λ (t : Trees). t 10) to ∙ applied.rows ∙ left_without number (db 10) given.0 was.numbered was.rising (subst (λ xs. IsPermutation (map (shows number) xs) given.0) same found)) noted was;
+          let same = same_found IsNumbered (passes_all (equals 0 0 ∷ []) params) (has_rowid (pos number)) (db 10) (number_test number) was.numbered in
+          forgets_row old.now new.now number (ap (λ (t : Trees). t 10) to ∙ applied.rows ∙ left_without number (db 10) given.0 was.numbered was.rising (subst (λ xs. IsPermutation (map (shows number) xs) given.0) same found)) noted was;
       spares = spares old.now new.now written.0 _ edit refl to applied;
     }

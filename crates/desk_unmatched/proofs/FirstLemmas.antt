@@ -1,7 +1,6 @@
 -- What the query for the first opposite instruction shows.
-use Rattle.std.proofs.Common.{◌≡◌, ◌≢◌, ◌⊎◌, inl, inr, ℕ, ◌<◌, ◌==◌, pos, List, [], ◌∷◌, filter, Bool, true, false, ◌&&◌, None, Some, Option, Ok, Err, Result, IfOk, refl, sym, ap, subst, ◌∙◌, arith}
+use Rattle.std.proofs.Common.{◌≡◌, ◌⊎◌, inl, inr, ℕ, ◌<◌, ◌==◌, pos, List, [], ◌∷◌, filter, Bool, true, false, ◌&&◌, None, Some, Option, Ok, Err, Result, IfOk, refl, sym, ap, subst, ◌∙◌}
 use Rattle.std.specs.Prelude.{option_map}
-use Rattle.std.specs.List.{AllByRecursion}
 use Rattle.std.specs.Ordering.{is_eq, is_lt}
 use Rattle.std.specs.Str.{bytes_eq}
 use Rattle.std.proofs.lemmas.Bool.{and_parts, and_from, eqb-true, eq-eqb}
@@ -9,7 +8,7 @@ use Rattle.std.proofs.lemmas.Slice.Eq.{bytes_eq-Decides}
 use Rattle.sqlite.specs.Order.{Row, column, value_cmp}
 use Rattle.sqlite.specs.Effect.{Database}
 use Rattle.sqlite.specs.declared.error.Error.{Error}
-use Rattle.sqlite.specs.declared.types.Value.TheVariants.{Null, Int, Text as Words}
+use Rattle.sqlite.specs.declared.types.Value.TheVariants.{Null, Int}
 use Rattle.sqlite.specs.Ops.{binary, is_true, from_truth}
 use Rattle.sqlite.specs.Term.{col}
 use Rattle.sqlite.specs.Tree.{rowid}
@@ -53,9 +52,17 @@ unfolding binary
 key_test number other like =
     let a = other.instruction in
     let b = like.instruction in
-    rw (text_test a.isin b.isin, text_test a.day b.day, number_test a.quantity b.quantity, text_test other.sender like.sender, text_test a.counterparty b.counterparty,
-        number_test (number_of_type a.mt) (number_of_type b.mt), text_test (code_of_kind a.kind) (code_of_kind b.kind), text_test (currency_in a.cash) (currency_in b.cash),
-        number_test (amount_in a.cash) (amount_in b.cash)) refl
+    rw (
+      text_test a.isin b.isin,
+      text_test a.day b.day,
+      number_test a.quantity b.quantity,
+      text_test other.sender like.sender,
+      text_test a.counterparty b.counterparty,
+      number_test (number_of_type a.mt) (number_of_type b.mt),
+      text_test (code_of_kind a.kind) (code_of_kind b.kind),
+      text_test (currency_in a.cash) (currency_in b.cash),
+      number_test (amount_in a.cash) (amount_in b.cash),
+    ) refl
 
 text_is : (s t : List ℕ) → bytes_eq s t ≡ true → s ≡ t
 text_is s t = (bytes_eq-Decides s t).0

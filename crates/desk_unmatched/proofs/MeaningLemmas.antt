@@ -4,7 +4,7 @@ use Rattle.sqlite.specs.Command.TheVariants.{Select, Insert, Delete}
 use Rattle.sqlite.specs.Source.TheVariants.{Values}
 use Rattle.sqlite.specs.Listing.{understood}
 use Rattle.sqlite_tied.specs.Compute.{everything}
-use Rattle.sqlite.proofs.Callers.{IsPlain, command_of}
+use Rattle.sqlite.proofs.Callers.{command_of}
 use Rattle.desk_tables.specs.Schema.{desk_schema}
 use Rattle.desk_tables.specs.Statements.{IsEdit, IsQuery}
 use Rattle.desk_unmatched.specs.Texts.{note_text, forget_text, first_text, note_terms, forget_query, first_query}

@@ -1,11 +1,10 @@
 -- Rows by their numbers.
-use Rattle.std.proofs.Common.{◌≡◌, ◌≢◌, ◌⊎◌, inl, inr, ℕ, ◌<◌, ◌≤◌, ℤ, pos, ◌==◌, Bool, true, false, cond, ◌||◌, List, [], ◌∷◌, filter, Option, Some, None, refl, sym, ap, subst, ◌∙◌, arith}
-use Rattle.std.specs.Prelude.{find, not}
+use Rattle.std.proofs.Common.{◌≡◌, ◌≢◌, ◌⊎◌, inl, inr, ℕ, ◌<◌, pos, ◌==◌, Bool, true, false, cond, ◌||◌, List, [], ◌∷◌, filter, Some, None, refl, sym, ap, subst, ◌∙◌, arith}
 use Rattle.std.specs.List.{AllByRecursion, list_any}
 use Rattle.std.specs.declared.cmp.Ordering.{Ordering}
 use Rattle.std.specs.declared.cmp.Ordering.TheVariants.{Less, Equal, Greater}
 use Rattle.std.specs.Ordering.{is_eq, match_ordering}
-use Rattle.std.proofs.lemmas.Bool.{cases_Bool, cases_lt, lt-ltb, le-ltb, eq-eqb, ne_eqb, eqb-true, eqb-false, both_ways, false_from_ne_true, not_from_true, not_from_false, or_parts}
+use Rattle.std.proofs.lemmas.Bool.{cases_Bool, cases_lt, lt-ltb, le-ltb, eq-eqb, ne_eqb, eqb-true, false_from_ne_true, not_from_true, not_from_false, or_parts}
 use Rattle.std.proofs.Math.Dec.{ltb}
 use Rattle.sqlite.specs.Order.{Row, value_cmp}
 use Rattle.sqlite_value.proofs.OrderLemmas.{value_cmp-Int}
@@ -122,10 +121,10 @@ above_none : (n : ℕ) (v : Value) (rows : List Row) → v ≡ Int (pos n) → A
 above_none n v [] is all above = refl
 above_none n v (s ∷ more) is all above =
     let apart : has_rowid (pos n) s ≡ false = false_from_ne_true (has_rowid (pos n) s) (λ has.
-        let own = own_number s n all.0 has in
-        let less : value_cmp (Int (pos n)) (Int (pos n)) ≡ Less = ap (λ w. value_cmp w (Int (pos n))) (sym is) ∙ ap (value_cmp v) (sym own) ∙ above.0 in
-        let bad : true ≡ false = sym (eq-eqb n n refl) ∙ sym (same_number n n) ∙ ap is_eq less in
-        cc) in
+    let own = own_number s n all.0 has in
+    let less : value_cmp (Int (pos n)) (Int (pos n)) ≡ Less = ap (λ w. value_cmp w (Int (pos n))) (sym is) ∙ ap (value_cmp v) (sym own) ∙ above.0 in
+    let bad : true ≡ false = sym (eq-eqb n n refl) ∙ sym (same_number n n) ∙ ap is_eq less in
+    cc) in
     ap (λ b. cond b (s ∷ filter (has_rowid (pos n)) more) (filter (has_rowid (pos n)) more)) apart ∙ above_none n v more is all.1 above.1
 
 pub once : (n : ℕ) (rows : List Row) → AllByRecursion IsNumbered rows → IsTable rows → (filter (has_rowid (pos n)) rows ≡ []) ⊎ ((r : Row) × (filter (has_rowid (pos n)) rows ≡ r ∷ []) × (rowid r ≡ Int (pos n)))

@@ -1,5 +1,5 @@
 -- The unmatched instructions of a content, as the table notes them.
-use Rattle.std.specs.Prelude.{ℕ, Bool, true, false, if◌then◌else◌, Option, None}
+use Rattle.std.specs.Prelude.{Bool, true, false, if◌then◌else◌, None}
 use Rattle.desk_rules.specs.declared.standing.State.{State}
 use Rattle.desk_rules.specs.declared.standing.State.TheVariants.{Unmatched}
 use Rattle.desk_rules.specs.History.{instruction_at}

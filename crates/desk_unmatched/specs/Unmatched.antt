@@ -1,5 +1,5 @@
 -- The table of the unmatched instructions.
-use Rattle.std.specs.Prelude.{◌≡◌, ℕ, ◌<◌, ◌==◌, pos, if◌then◌else◌, List, [], ◌∷◌, Option, Some, None, option_map, find}
+use Rattle.std.specs.Prelude.{◌≡◌, ℕ, ◌<◌, ◌==◌, pos, if◌then◌else◌, List, ◌∷◌, Option, Some, None, option_map, find}
 use Rattle.std.specs.List.{AllByRecursion}
 use Rattle.sqlite.specs.Order.{Row}
 use Rattle.sqlite.specs.declared.types.Value.TheVariants.{Null, Int}

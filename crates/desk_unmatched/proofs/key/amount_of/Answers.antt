@@ -1,4 +1,4 @@
-use Rattle.std.proofs.Common.{◌≤◌, ◌<◌, ◌^◌, arith}
+use Rattle.std.proofs.Common.{◌≤◌, ◌^◌, arith}
 use Rattle.desk_rules.proofs.ShortNumbers.{short_amount}
 use Rattle.desk_unmatched.proofs.key.amount_of.Goals as goal
 

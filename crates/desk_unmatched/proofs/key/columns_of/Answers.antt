@@ -1,4 +1,4 @@
-use Rattle.std.proofs.Common.{◌≤◌, ◌<◌, ◌^◌, arith}
+use Rattle.std.proofs.Common.{◌≤◌, ◌^◌, arith}
 use Rattle.desk_rules.proofs.ShortNumbers.{short_quantity}
 use Rattle.desk_unmatched.proofs.key.columns_of.Goals as goal
 

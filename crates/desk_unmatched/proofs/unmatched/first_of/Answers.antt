@@ -1,4 +1,3 @@
-use Rattle.sqlite.specs.Held.{state}
 use Rattle.desk_unmatched.proofs.MeaningLemmas.{first_queries}
 use Rattle.desk_unmatched.proofs.unmatched.first_of.Goals as goal
 

@@ -1,5 +1,3 @@
-use Rattle.std.proofs.Common.{◌∷◌}
-use Rattle.sqlite.specs.Held.{state}
 use Rattle.desk_unmatched.proofs.MeaningLemmas.{note_edits}
 use Rattle.desk_unmatched.proofs.unmatched.put.Goals as goal
 

@@ -1,4 +1,3 @@
-use Rattle.sqlite.specs.Held.{state}
 use Rattle.desk_unmatched.proofs.MeaningLemmas.{forget_edits}
 use Rattle.desk_unmatched.proofs.unmatched.take_out.Goals as goal
 
