@@ -1,0 +1,107 @@
+//! How a state is written in two numbers, and read.
+
+ghost use Rattle.std.specs.Prelude.{◌≡◌, ◌≤◌, ◌==◌, ℕ, IfOk};
+ghost use Rattle.desk_standings.specs.Standings.{state_code, reason_code, state_written, mate_written, columns_of, standing_written, IsStandingShown, Written};
+ghost use Rattle.desk_rules.specs.declared.standing.Standing.{Standing};
+ghost use Rattle.desk_rules.specs.Standing.{no_standing};
+
+use crate::parameters::corrupt;
+use desk_msg::Reason;
+use desk_rules::{Standing, State};
+use sqlite::{Error, Row};
+
+/// Which state it is.
+pub fn state_code(state: State) -> u64
+    ensures code { result ≡ state_code state }
+    ensures small { result ≤ 4 }
+{
+    match state {
+        State::NoInstruction => 0,
+        State::Unmatched => 1,
+        State::Matched(_) => 2,
+        State::Cancelled => 3,
+        State::Settled => 4,
+    }
+}
+
+/// Why a matched instruction is not settled; 0 where it is not matched.
+pub fn reason_code(state: State) -> u64
+    ensures code { result ≡ reason_code state }
+    ensures small { result ≤ 3 }
+{
+    match state {
+        State::Matched(Reason::Future) => 1,
+        State::Matched(Reason::Lack) => 2,
+        State::Matched(Reason::Money) => 3,
+        _ => 0,
+    }
+}
+
+/// The state that two numbers write; an error where they write none.
+fn state_written(state: u64, reason: u64) -> Result<State, Error>
+    ensures { IfOk result (λ s. s ≡ state_written state reason) }
+{
+    match (state, reason) {
+        (1, 0) => Ok(State::Unmatched),
+        (2, 1) => Ok(State::Matched(Reason::Future)),
+        (2, 2) => Ok(State::Matched(Reason::Lack)),
+        (2, 3) => Ok(State::Matched(Reason::Money)),
+        (3, 0) => Ok(State::Cancelled),
+        (4, 0) => Ok(State::Settled),
+        _ => Err(corrupt()),
+    }
+}
+
+/// Whether a cancellation was requested; an error where the number is neither 0 nor 1.
+fn request_written(asked: u64) -> Result<bool, Error>
+    ensures { IfOk result (λ r. r ≡ (asked == 1)) }
+{
+    match asked {
+        0 => Ok(false),
+        1 => Ok(true),
+        _ => Err(corrupt()),
+    }
+}
+
+/// The mate of this number, 0 for none.
+fn mate_written(mate: u64) -> Option<u64>
+    ensures { result ≡ mate_written mate }
+{
+    if mate == 0 { None } else { Some(mate) }
+}
+
+/// The standing that the columns of a row say.
+fn standing_of_row(row: &Row) -> Result<Standing, Error>
+    ensures { (w : Written) → row.now ≡ columns_of w → IfOk result (λ s. s ≡ standing_written w) }
+{
+    let mate: u64 = row.get(0)?;
+    let state: u64 = row.get(1)?;
+    let reason: u64 = row.get(2)?;
+    let asked: u64 = row.get(3)?;
+    Ok(Standing {
+        mate: mate_written(mate),
+        state: state_written(state, reason)?,
+        cancel_requested: request_written(asked)?,
+    })
+}
+
+/// Where what is no instruction stands.
+pub fn no_standing() -> Standing
+    ensures { result ≡ no_standing }
+{
+    Standing {
+        mate: None,
+        state: State::NoInstruction,
+        cancel_requested: false,
+    }
+}
+
+/// The standing that the rows of one number show.
+pub fn standing_shown(rows: &[Row]) -> Result<Standing, Error>
+    ensures { (standing : Standing) → IsStandingShown rows.now standing → IfOk result (λ s. s ≡ standing) }
+{
+    match rows.first() {
+        None => Ok(no_standing()),
+        Some(row) => standing_of_row(row),
+    }
+}
