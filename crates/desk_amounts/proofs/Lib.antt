@@ -1,0 +1,3 @@
+pub mod GenericLemmas
+pub mod Meanings
+pub mod RowLemmas

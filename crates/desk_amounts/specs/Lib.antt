@@ -1,0 +1,5 @@
+pub mod Keys
+pub mod Texts
+pub mod Amounts
+pub mod Changes
+pub mod Holdings
