@@ -1,3 +1,4 @@
 pub mod GenericLemmas
 pub mod Meanings
 pub mod RowLemmas
+pub mod EffectLemmas
