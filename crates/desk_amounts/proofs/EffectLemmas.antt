@@ -98,7 +98,7 @@ table_at Balance = refl
 table_at Cash = refl
 table_at Total = refl
 
-no_index : (ledger : Ledger) → IsNoIndex desk_schema (tree_of ledger)
+pub no_index : (ledger : Ledger) → IsNoIndex desk_schema (tree_of ledger)
 no_index Balance = (λ e. absurd (cc), (λ e. absurd (cc), (λ e. absurd (cc), (λ e. absurd (cc), (λ e. absurd (cc), (λ e. absurd (cc), (λ e. absurd (cc), (λ e. absurd (cc), tt))))))))
 no_index Cash = (λ e. absurd (cc), (λ e. absurd (cc), (λ e. absurd (cc), (λ e. absurd (cc), (λ e. absurd (cc), (λ e. absurd (cc), (λ e. absurd (cc), (λ e. absurd (cc), tt))))))))
 no_index Total = (λ e. absurd (cc), (λ e. absurd (cc), (λ e. absurd (cc), (λ e. absurd (cc), (λ e. absurd (cc), (λ e. absurd (cc), (λ e. absurd (cc), (λ e. absurd (cc), tt))))))))
@@ -132,7 +132,7 @@ tree_apart Total Cash h e = absurd (omega arith)
 
 -- ---- which rows pass
 
-truth_of : (b : Bool) → is_true (from_truth (Some b)) ≡ b
+pub truth_of : (b : Bool) → is_true (from_truth (Some b)) ≡ b
 truth_of true = refl
 truth_of false = refl
 

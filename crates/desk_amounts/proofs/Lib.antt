@@ -1,4 +1,8 @@
 pub mod GenericLemmas
+pub mod CallLemmas
 pub mod Meanings
 pub mod RowLemmas
 pub mod EffectLemmas
+pub mod HoldingLemmas
+pub mod AmountLemmas
+pub mod ClauseLemmas

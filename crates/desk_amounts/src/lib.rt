@@ -1,9 +1,17 @@
 //! The three tables of amounts: what accounts hold of securities, what participants have of currencies, and what is
 //! outstanding of a security or was paid in of a currency.
+//!
+//! `amount` looks an amount up, `take` takes some off where there is as much, and `put` puts some on; `next_holding` walks
+//! over what an account holds. Begin with specs/Amounts.antt, what the tables say, and specs/Changes.antt, what a call
+//! makes of it.
 #![tactic(auto)]
 
+mod amounts;
+mod holdings;
 mod key;
 mod reading;
 mod texts;
 
+pub use amounts::{amount, put, take};
+pub use holdings::next_holding;
 pub use key::{AmountKey, Ledger};

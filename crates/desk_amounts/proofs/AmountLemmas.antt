@@ -1,0 +1,62 @@
+-- The tables of amounts beside the others, and by themselves.
+use Rattle.std.proofs.Common.{◌≡◌, ◌⊎◌, inl, inr, ℕ, ◌<◌, List, [], ◌∷◌, None, Some, Option, unwrap_or, false, sym, ap, subst, refl, ◌∙◌, arith}
+use Rattle.sqlite.specs.Effect.{Database}
+use Rattle.sqlite.specs.Tree.{IsAscending, IsTable}
+use Rattle.desk_amounts.specs.declared.key.Ledger.{Ledger}
+use Rattle.desk_amounts.specs.declared.key.Ledger.TheVariants.{Balance, Cash, Total}
+use Rattle.desk_amounts.specs.Keys.{tree_of}
+use Rattle.desk_amounts.specs.Amounts.{AreAmounts, AreAmountRows, amount_in, recorded}
+use Rattle.desk_amounts.specs.Changes.{IsShort, SparesTables}
+use Rattle.desk_amounts.specs.Holdings.{IsLess}
+use Rattle.desk_amounts.proofs.EffectLemmas.{no_index}
+
+-- the trees of two databases that have the tables of amounts
+pub record SameAmounts (a b : Database) : Type 0 where
+  pub balance : a.trees 0 ≡ b.trees 0
+  pub cash : a.trees 2 ≡ b.trees 2
+  pub total : a.trees 4 ≡ b.trees 4
+
+same_tree : (a b : Database) → SameAmounts a b → (ledger : Ledger) → a.trees (tree_of ledger) ≡ b.trees (tree_of ledger)
+same_tree a b same Balance = same.balance
+same_tree a b same Cash = same.cash
+same_tree a b same Total = same.total
+
+-- whatever else differs, the amounts are the same
+pub same_amounts : (a b : Database) → SameAmounts a b → AreAmounts a → AreAmounts b
+same_amounts a b same amounts ledger = subst AreAmountRows (same_tree a b same ledger) (amounts ledger)
+
+pub same_recorded : (a b : Database) → SameAmounts a b → (ledger : Ledger) (first second : List ℕ) → amount_in b ledger first second ≡ amount_in a ledger first second
+same_recorded a b same ledger first second = ap (λ rows. recorded rows (first, second)) (sym (same_tree a b same ledger))
+
+-- a change of later tables leaves the amounts as they are
+pub spared_amounts : (first end : ℕ) (old new : Database) → 4 < first → SparesTables first end old new → SameAmounts old new
+spared_amounts first end old new high spares = record {
+  balance = sym (spares 0 (inl (omega arith)) (no_index Balance));
+  cash = sym (spares 2 (inl (omega arith)) (no_index Cash));
+  total = sym (spares 4 (inl (omega arith)) (no_index Total));
+}
+
+-- and so does a change of none
+pub unchanged_amounts : (old new : Database) → SparesTables 0 0 old new → SameAmounts old new
+unchanged_amounts old new spares = record {
+  balance = sym (spares 0 (inr (omega arith)) (no_index Balance));
+  cash = sym (spares 2 (inr (omega arith)) (no_index Cash));
+  total = sym (spares 4 (inr (omega arith)) (no_index Total));
+}
+
+-- tables with no row are well formed
+pub empty_amounts : (db : Database) → ((ledger : Ledger) → db.trees (tree_of ledger) ≡ []) → AreAmounts db
+empty_amounts db none ledger = subst AreAmountRows (sym (none ledger)) (record { stored = tt; apart = tt })
+
+-- and record nothing
+pub empty_recorded : (db : Database) → ((ledger : Ledger) → db.trees (tree_of ledger) ≡ []) → (ledger : Ledger) (first second : List ℕ) → amount_in db ledger first second ≡ None
+empty_recorded db none ledger first second = ap (λ rows. recorded rows (first, second)) (none ledger)
+
+-- where less is recorded than some, what is recorded is less, where nothing counts as 0
+pub short_less : (recorded : Option ℕ) (amount : ℕ) → 0 < amount → IsShort recorded amount → unwrap_or recorded 0 < amount
+short_less None amount some short = some
+short_less (Some had) amount some short = short
+
+-- every text but the empty one is above it
+pub above_empty : (c : ℕ) (text : List ℕ) → IsLess [] (c ∷ text)
+above_empty c text = refl
