@@ -1,12 +1,12 @@
 -- The tables of amounts beside the others, and by themselves.
-use Rattle.std.proofs.Common.{◌≡◌, ◌⊎◌, inl, inr, ℕ, ◌<◌, List, [], ◌∷◌, None, Some, Option, unwrap_or, false, sym, ap, subst, refl, ◌∙◌, arith}
+use Rattle.std.proofs.Common.{◌≡◌, inl, inr, ℕ, ◌<◌, List, [], ◌∷◌, None, Some, Option, unwrap_or, sym, ap, subst, refl, arith}
 use Rattle.sqlite.specs.Effect.{Database}
-use Rattle.sqlite.specs.Tree.{IsAscending, IsTable}
 use Rattle.desk_amounts.specs.declared.key.Ledger.{Ledger}
 use Rattle.desk_amounts.specs.declared.key.Ledger.TheVariants.{Balance, Cash, Total}
 use Rattle.desk_amounts.specs.Keys.{tree_of}
 use Rattle.desk_amounts.specs.Amounts.{AreAmounts, AreAmountRows, amount_in, recorded}
-use Rattle.desk_amounts.specs.Changes.{IsShort, SparesTables}
+use Rattle.desk_amounts.specs.Changes.{IsShort}
+use Rattle.desk_tables.specs.Ends.{SparesOthers}
 use Rattle.desk_amounts.specs.Holdings.{IsLess}
 use Rattle.desk_amounts.proofs.EffectLemmas.{no_index}
 
@@ -29,7 +29,7 @@ pub same_recorded : (a b : Database) → SameAmounts a b → (ledger : Ledger) (
 same_recorded a b same ledger first second = ap (λ rows. recorded rows (first, second)) (sym (same_tree a b same ledger))
 
 -- a change of later tables leaves the amounts as they are
-pub spared_amounts : (first end : ℕ) (old new : Database) → 4 < first → SparesTables first end old new → SameAmounts old new
+pub spared_amounts : (first end : ℕ) (old new : Database) → 4 < first → SparesOthers first end old new → SameAmounts old new
 spared_amounts first end old new high spares = record {
   balance = sym (spares 0 (inl (omega arith)) (no_index Balance));
   cash = sym (spares 2 (inl (omega arith)) (no_index Cash));
@@ -37,7 +37,7 @@ spared_amounts first end old new high spares = record {
 }
 
 -- and so does a change of none
-pub unchanged_amounts : (old new : Database) → SparesTables 0 0 old new → SameAmounts old new
+pub unchanged_amounts : (old new : Database) → SparesOthers 0 0 old new → SameAmounts old new
 unchanged_amounts old new spares = record {
   balance = sym (spares 0 (inr (omega arith)) (no_index Balance));
   cash = sym (spares 2 (inr (omega arith)) (no_index Cash));

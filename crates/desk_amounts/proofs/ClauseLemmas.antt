@@ -1,5 +1,5 @@
 -- The effects in the form of the calls' clauses.
-use Rattle.std.proofs.Common.{◌≡◌, ℕ, ◌+◌, ◌<◌, ◌^◌, ◌==◌, pos, List, [], ◌∷◌, None, Some, Option, Ok, Err, Result, IfOk, OnOk, Vec, unwrap_or}
+use Rattle.std.proofs.Common.{◌≡◌, ℕ, ◌+◌, ◌<◌, ◌^◌, pos, List, [], ◌∷◌, None, Some, Option, Ok, Err, Result, IfOk, OnOk, Vec, unwrap_or}
 use Rattle.std.specs.declared.alloc.Global.{Global}
 use Rattle.sqlite.specs.Order.{Row}
 use Rattle.sqlite.specs.declared.error.Error.{Error}
@@ -8,11 +8,11 @@ use Rattle.sqlite.specs.State.{State, Executes, Shown}
 use Rattle.desk_tables.specs.Schema.{desk_schema}
 use Rattle.desk_amounts.specs.declared.key.AmountKey.{AmountKey}
 use Rattle.desk_amounts.specs.Keys.{ledger_of, texts_of}
-use Rattle.desk_amounts.specs.Texts.{amount_text, take_text, put_text, first_text, next_text}
+use Rattle.desk_amounts.specs.Statements.{amount_text, put_text, first_text, next_text}
 use Rattle.desk_amounts.specs.Amounts.{AreAmounts, amount_at}
-use Rattle.desk_amounts.specs.Changes.{SetsAmount, ShowsAmount, Takes}
+use Rattle.desk_amounts.specs.Changes.{SetsAmount, ShowsAmount}
 use Rattle.desk_amounts.specs.Holdings.{ShowsNext}
-use Rattle.desk_amounts.proofs.EffectLemmas.{inserts, of_texts, puts, shows_amount, takes}
+use Rattle.desk_amounts.proofs.EffectLemmas.{inserts, of_texts, puts, shows_amount}
 use Rattle.desk_amounts.proofs.HoldingLemmas.{shows_next}
 
 module _ (old new : State) (has : old.now.schema ≡ desk_schema) (amounts : AreAmounts old.now) where

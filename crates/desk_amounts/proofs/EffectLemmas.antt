@@ -1,12 +1,12 @@
 -- What the statements do to the tables of amounts, and what they show.
-use Rattle.std.proofs.Common.{◌≡◌, ◌≢◌, ◌⊎◌, inl, inr, ℕ, ◌+◌, ◌-◌, ◌<◌, ◌≤◌, ◌^◌, ℤ, pos, ◌+ℤ◌, ◌-ℤ◌, nat_le, ◌==◌, List, [], ◌∷◌, length, map, filter, Bool, true, false, cond, not, ◌&&◌, ◌||◌, None, Some, Option, Ok, Err, Result, IsTrue, unwrap_or, slice_get, codes, refl, sym, ap, subst, ◌∙◌, arith}
+use Rattle.std.proofs.Common.{◌≡◌, ◌≢◌, ◌⊎◌, inl, inr, ℕ, ◌+◌, ◌-◌, ◌<◌, ◌≤◌, ◌^◌, ℤ, pos, ◌+ℤ◌, ◌-ℤ◌, nat_le, ◌==◌, List, [], ◌∷◌, length, map, filter, Bool, true, false, cond, not, ◌&&◌, None, Some, Ok, unwrap_or, slice_get, codes, refl, sym, ap, subst, ◌∙◌, arith}
 use Rattle.std.specs.List.{AllByRecursion, list_any}
 use Rattle.std.specs.List.Sorted.{IsPermutation}
 use Rattle.std.specs.Str.{bytes_eq}
 use Rattle.std.specs.Ordering.{is_eq, is_ge, int_cmp}
 use Rattle.std.specs.declared.cmp.Ordering.TheVariants.{Less, Equal, Greater}
 use Rattle.std.proofs.Math.Dec.{ltb}
-use Rattle.std.proofs.lemmas.Bool.{cases_Bool, cases_lt, both_ways, lt-ltb, le-ltb, lt-leb, le-leb, leb-true, leb-false, not-true, and_parts}
+use Rattle.std.proofs.lemmas.Bool.{cases_Bool, cases_lt, lt-ltb, le-ltb, lt-leb, le-leb, leb-true, leb-false, not-true, and_parts}
 use Rattle.std.proofs.lemmas.Bool.Decides.{eqb_tells}
 use Rattle.std.proofs.lemmas.Int.{ints}
 use Rattle.std.proofs.lemmas.List.{nil_from_length}
@@ -17,24 +17,22 @@ use Rattle.sqlite_value.proofs.OrderLemmas.{value_cmp-Text, value_cmp-Int}
 use Rattle.sqlite.specs.declared.types.Value.{Value}
 use Rattle.sqlite.specs.declared.types.Value.TheVariants.{Null, Int, Text as Words}
 use Rattle.sqlite.specs.Cast.{cast, cast_row}
-use Rattle.sqlite.specs.Command.{Command}
-use Rattle.sqlite.specs.Command.TheVariants.{Select, Update, Insert}
+use Rattle.sqlite.specs.Command.TheVariants.{Update, Insert}
 use Rattle.sqlite.specs.Does.{Tally, Does, AtPlace, OnRows}
-use Rattle.sqlite.specs.declared.run.Mode.{Mode}
 use Rattle.sqlite.specs.Edit.{Edit, IsNoIndex, edit_of, edited, next_rowid, put_all, are_fresh}
 use Rattle.sqlite.specs.Effect.{Database}
 use Rattle.sqlite_rules.specs.Calls.{ids_of}
 use Rattle.sqlite.specs.Kind.TheVariants.{Integer, Text}
-use Rattle.sqlite.specs.Listing.{understood, reads_listing}
+use Rattle.sqlite.specs.Listing.{understood}
 use Rattle.sqlite.specs.Ops.{unary, binary, is_true, from_truth}
 use Rattle.sqlite.specs.Program.{overlay}
 use Rattle.sqlite.specs.Query.{Query, IsAnswer}
 use Rattle.sqlite.specs.Rowids.TheVariants.{Given, Chosen}
-use Rattle.sqlite.specs.Rows.{Written, Task}
+use Rattle.sqlite.specs.Rows.{Written}
 use Rattle.sqlite.specs.Source.TheVariants.{Values}
 use Rattle.sqlite.specs.State.{State, mode_of, Executes, Shown}
 use Rattle.sqlite.specs.Table.{Table}
-use Rattle.sqlite.specs.Term.{Term, col, op2, eval_all}
+use Rattle.sqlite.specs.Term.{Term, col, eval_all}
 use Rattle.sqlite.specs.Tree.{Trees, put_row, rowid, without_rowid}
 use Rattle.sqlite_sql.specs.declared.ops.BinaryOp.TheVariants.{Arith}
 use Rattle.sqlite_sql.specs.declared.ops.ArithOp.TheVariants.{Sub, Add}
@@ -45,11 +43,12 @@ use Rattle.desk_amounts.specs.declared.key.Ledger.{Ledger}
 use Rattle.desk_amounts.specs.declared.key.Ledger.TheVariants.{Balance, Cash, Total}
 use Rattle.desk_amounts.specs.declared.key.AmountKey.{AmountKey}
 use Rattle.desk_amounts.specs.Keys.{Texts, same_texts, same_ledger, ledger_of, texts_of, tree_of}
-use Rattle.desk_amounts.specs.Texts.{amount_text, take_text, put_text, first_text}
-use Rattle.desk_amounts.specs.Amounts.{AreAmounts, AreAmountRows, IsStored, amount_at, amount_in, amount_on, is_at, recorded, stored, number_in}
-use Rattle.desk_amounts.specs.Changes.{IsShort, SetsAmount, ShowsAmount, SparesTables, Takes, had}
+use Rattle.desk_amounts.specs.Statements.{amount_text, take_text, put_text, first_text}
+use Rattle.desk_amounts.specs.Amounts.{AreAmounts, AreAmountRows, IsStored, amount_at, amount_in, amount_on, is_at, recorded, stored}
+use Rattle.desk_amounts.specs.Changes.{IsShort, SetsAmount, ShowsAmount, Takes, had}
+use Rattle.desk_tables.specs.Ends.{SparesOthers}
 use Rattle.desk_amounts.proofs.GenericLemmas.{passes_all, plain, plain_rows}
-use Rattle.desk_amounts.proofs.Meanings.{by_first, by_second, enough, with_amount, less_shown, more_shown, key_terms, take_terms, first_terms, place_of, amount_is, amount_query, take_is, take_edit, put_is, put_edit, first_is, first_edit}
+use Rattle.desk_amounts.proofs.Meanings.{less_shown, more_shown, key_terms, take_terms, first_terms, place_of, amount_is, amount_query, take_is, take_edit, put_is, put_edit, first_is, first_edit}
 use Rattle.desk_amounts.proofs.RowLemmas.{once, recorded_none, recorded_one, found_stored, set_rows, set_all, set_recorded, first_all, first_recorded_by}
 
 -- ---- the three tables are of one form
@@ -263,7 +262,7 @@ module _ (old new : Database) (key : AmountKey) (amount : ℕ) (rows : List Row)
   }
 
 -- where the rows are as they were, every table is
-spares_all : (old new : Database) (ledger : Ledger) → LeavesRows old new ledger (old.trees (tree_of ledger)) → SparesTables 0 0 old new
+spares_all : (old new : Database) (ledger : Ledger) → LeavesRows old new ledger (old.trees (tree_of ledger)) → SparesOthers 0 0 old new
 spares_all old new ledger left tree outside none = elim (eqb_tells tree (tree_of ledger)) [
   | inl here ↦ ap new.trees here.1 ∙ left.are ∙ ap old.trees (sym here.1)
   | inr apart ↦ left.others tree apart.1 none

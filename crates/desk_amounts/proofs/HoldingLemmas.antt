@@ -1,6 +1,5 @@
 -- The next security that an account holds.
-use Rattle.std.proofs.Common.{◌≡◌, ◌⊎◌, inl, inr, ℕ, ◌<◌, pos, nat_lt, List, [], ◌∷◌, filter, Bool, true, false, cond, ◌&&◌, None, Some, Option, unwrap_or, refl, sym, ap, subst, ◌∙◌, arith}
-use Rattle.std.specs.List.{AllByRecursion}
+use Rattle.std.proofs.Common.{◌≡◌, ◌⊎◌, inl, inr, ℕ, ◌<◌, pos, nat_lt, List, [], ◌∷◌, filter, Bool, true, false, cond, ◌&&◌, Some, Option, unwrap_or, refl, sym, ap, subst, ◌∙◌, arith}
 use Rattle.std.specs.Str.{bytes_eq}
 use Rattle.std.specs.Cmp.Lexicographic.{slice_cmp}
 use Rattle.std.specs.Ordering.{is_gt, is_lt, nat_cmp, int_cmp, ordering_reverse}
@@ -18,14 +17,14 @@ use Rattle.sqlite.specs.Effect.{Database}
 use Rattle.sqlite.specs.Ops.{binary, is_true, from_truth}
 use Rattle.sqlite.specs.Program.{overlay}
 use Rattle.sqlite.specs.State.{State, Shown}
-use Rattle.sqlite.specs.Term.{Term, col, eval_all}
+use Rattle.sqlite.specs.Term.{col}
 use Rattle.sqlite.proofs.Callers.{reads_as}
 use Rattle.desk_tables.specs.Schema.{desk_schema}
 use Rattle.desk_amounts.specs.declared.key.Ledger.TheVariants.{Balance}
 use Rattle.desk_amounts.specs.Keys.{Texts, same_texts}
-use Rattle.desk_amounts.specs.Texts.{next_text}
-use Rattle.desk_amounts.specs.Amounts.{AreAmounts, AreAmountRows, IsStored, amount_on, is_at, recorded, stored, text_in, texts_in}
-use Rattle.desk_amounts.specs.Holdings.{IsHeldAbove, IsFirstAbove, IsLess, IsNextHolding, ShowsNext, held}
+use Rattle.desk_amounts.specs.Statements.{next_text}
+use Rattle.desk_amounts.specs.Amounts.{AreAmounts, AreAmountRows, IsStored, amount_on, is_at, recorded, text_in, texts_in}
+use Rattle.desk_amounts.specs.Holdings.{IsHeldAbove, IsFirstAbove, IsLess, ShowsNext, held}
 use Rattle.desk_amounts.proofs.GenericLemmas.{Among, IsFirst, at_among, passes_all, walk}
 use Rattle.desk_amounts.proofs.Meanings.{next_terms, next_is, next_query}
 use Rattle.desk_amounts.proofs.RowLemmas.{once, recorded_one, same_is, same_self}
@@ -157,10 +156,10 @@ module _ (db : Database) (account above : List ℕ) (all : AreAmountRows (db.tre
           is_held = (omega (arith, worth, some), low);
           worth = sym amount ∙ sym worth;
           is_first = λ other is_held less.
-            let there = stands other is_held in
-            let lower : is_lt (value_cmp (column there.0 2) (column r 2)) ≡ true =
-            ap (λ v. is_lt (value_cmp v (column r 2))) there.2 ∙ ap (λ v. is_lt (value_cmp (Words other) v)) second ∙ ap is_lt (value_cmp-Text other isin ∙ less) in
-            both_ways _ (least there.0 there.1) lower;
+              let there = stands other is_held in
+              let lower : is_lt (value_cmp (column there.0 2) (column r 2)) ≡ true =
+              ap (λ v. is_lt (value_cmp v (column r 2))) there.2 ∙ ap (λ v. is_lt (value_cmp (Words other) v)) second ∙ ap is_lt (value_cmp-Text other isin ∙ less) in
+              both_ways _ (least there.0 there.1) lower;
         },
       )
 

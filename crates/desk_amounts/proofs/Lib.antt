@@ -1,5 +1,4 @@
 pub mod GenericLemmas
-pub mod CallLemmas
 pub mod Meanings
 pub mod RowLemmas
 pub mod EffectLemmas

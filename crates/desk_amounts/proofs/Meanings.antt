@@ -1,23 +1,22 @@
 -- What the texts mean.
-use Rattle.std.proofs.Common.{◌≡◌, ℕ, pos, List, [], ◌∷◌, codes, false, refl}
+use Rattle.std.proofs.Common.{◌≡◌, ℕ, pos, List, [], ◌∷◌, codes, refl}
 use Rattle.sqlite.specs.declared.types.Value.TheVariants.{Null, Int}
 use Rattle.sqlite.specs.Collation.TheVariants.{Binary}
 use Rattle.sqlite.specs.Term.{Term, lit, col, op2}
-use Rattle.sqlite.specs.Query.{Query}
 use Rattle.sqlite_sql.specs.declared.ops.BinaryOp.TheVariants.{Compare, Arith}
 use Rattle.sqlite_sql.specs.declared.ops.CompareOp.TheVariants.{Eq, Ge, Gt}
 use Rattle.sqlite_sql.specs.declared.ops.ArithOp.TheVariants.{Sub, Add}
 use Rattle.sqlite.specs.Command.TheVariants.{Select, Update, Insert}
 use Rattle.sqlite.specs.Source.TheVariants.{Values}
-use Rattle.sqlite.specs.Listing.{understood, reads_listing}
+use Rattle.sqlite.specs.Listing.{understood}
 use Rattle.sqlite_tied.specs.Compute.{everything}
-use Rattle.sqlite.proofs.Callers.{IsPlain, command_of}
+use Rattle.sqlite.proofs.Callers.{command_of}
 use Rattle.desk_tables.specs.Schema.{desk_schema}
 use Rattle.desk_tables.specs.Statements.{IsEdit, IsQuery}
 use Rattle.desk_amounts.specs.declared.key.Ledger.{Ledger}
 use Rattle.desk_amounts.specs.declared.key.Ledger.TheVariants.{Balance, Cash, Total}
 use Rattle.desk_amounts.specs.Keys.{tree_of}
-use Rattle.desk_amounts.specs.Texts.{amount_text, take_text, put_text, first_text, next_text}
+use Rattle.desk_amounts.specs.Statements.{amount_text, take_text, put_text, first_text, next_text}
 use Rattle.desk_amounts.proofs.GenericLemmas.{plain, walk_query}
 
 -- ---- the terms, the same of each table

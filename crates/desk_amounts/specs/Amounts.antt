@@ -1,5 +1,5 @@
 -- What the three tables of amounts say.
-use Rattle.std.specs.Prelude.{◌≡◌, ℕ, ◌<◌, ◌^◌, ℤ, pos, Bool, false, List, [], ◌∷◌, Option, option_map, unwrap_or}
+use Rattle.std.specs.Prelude.{◌≡◌, ℕ, ◌<◌, ◌^◌, ℤ, pos, Bool, false, List, [], ◌∷◌, Option, option_map}
 use Rattle.std.specs.List.{AllByRecursion, find}
 use Rattle.std.specs.Ordering.{is_eq}
 use Rattle.sqlite.specs.declared.types.Value.{Value}

@@ -1,25 +1,19 @@
 -- What calls make of the tables of amounts.
-use Rattle.std.specs.Prelude.{◌≡◌, ◌⊎◌, ℕ, ◌+◌, ◌-◌, ◌<◌, ◌≤◌, ◌^◌, pos, Bool, true, false, List, [], ◌∷◌, Option, Some, None, unwrap_or, if◌then◌else◌}
-use Rattle.sqlite_rules.specs.Edit.{IsNoIndex}
+use Rattle.std.specs.Prelude.{◌≡◌, ℕ, ◌-◌, ◌<◌, ◌≤◌, pos, Bool, true, false, List, [], ◌∷◌, Option, Some, None, unwrap_or, if◌then◌else◌}
 use Rattle.sqlite.specs.declared.types.Value.TheVariants.{Int}
 use Rattle.sqlite.specs.Order.{Row}
 use Rattle.sqlite.specs.Effect.{Database}
-use Rattle.desk_tables.specs.Schema.{desk_schema}
+use Rattle.desk_tables.specs.Ends.{SparesOthers}
 use Rattle.desk_amounts.specs.declared.key.Ledger.{Ledger}
 use Rattle.desk_amounts.specs.declared.key.AmountKey.{AmountKey}
 use Rattle.desk_amounts.specs.Keys.{is_of}
 use Rattle.desk_amounts.specs.Amounts.{AreAmounts, amount_at, amount_in}
 
--- The tables whose trees stand before one place, or from another on, are as they were. (Of the tree of an index nothing is
--- said but that it lists its table.)
-abbrev pub SparesTables : ℕ → ℕ → Database → Database → Type 0
-SparesTables first end old new = (tree : ℕ) → (tree < first) ⊎ (end ≤ tree) → IsNoIndex desk_schema tree → new.trees tree ≡ old.trees tree
-
--- one amount is recorded, every other is as it was, and so are the tables that are none of amounts
+-- one amount is recorded under the key, every other is as it was, and so are the tables that are none of amounts
 pub record SetsAmount (old new : Database) (key : AmountKey) (amount : ℕ) : Type 0 where
   pub kept : AreAmounts new
   pub recorded : (ledger : Ledger) (first second : List ℕ) → amount_in new ledger first second ≡ (if is_of key ledger first second then Some amount else amount_in old ledger first second)
-  pub spares : SparesTables 0 6 old new
+  pub spares : SparesOthers 0 6 old new
 
 -- less is recorded than an amount, or nothing
 abbrev pub IsShort : Option ℕ → ℕ → Type 0
@@ -33,7 +27,7 @@ had db key = unwrap_or (amount_at db key) 0
 -- an amount is taken off, or there was too little and every table is as it was
 abbrev pub Takes : Database → Database → AmountKey → ℕ → Bool → Type 0
 Takes old new key amount true = (amount ≤ had old key) × SetsAmount old new key (had old key - amount)
-Takes old new key amount false = IsShort (amount_at old key) amount × SparesTables 0 0 old new
+Takes old new key amount false = IsShort (amount_at old key) amount × SparesOthers 0 0 old new
 
 -- the rows that show an amount, or that there is none
 abbrev pub ShowsAmount : List Row → Option ℕ → Type 0

@@ -1,5 +1,5 @@
 pub mod Keys
-pub mod Texts
+pub mod Statements
 pub mod Amounts
 pub mod Changes
 pub mod Holdings

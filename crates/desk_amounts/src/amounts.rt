@@ -10,7 +10,7 @@ ghost use Rattle.desk_amounts.specs.Changes.{SetsAmount, ShowsAmount, Takes, had
 
 use crate::key::AmountKey;
 use crate::reading::amount_shown;
-use crate::texts;
+use crate::statements;
 use desk_tables::statement::{execute, query};
 use sqlite::types::ValueRef;
 use sqlite::{Alter, Connection, Error, Row};
@@ -28,7 +28,7 @@ fn rows_of<S: Alter>(conn: &mut Connection<S>, key: &AmountKey) -> Result<Vec<Ro
     ensures value { IfSound (state S.Store conn.old) (state S.Store conn.new) (AreAmounts (state S.Store conn.old).now → IfOk result (λ rows. ShowsAmount rows.items (amount_at (state S.Store conn.old).now key.now))) }
     ensures look { IsLook result (state S.Store conn.old) (state S.Store conn.new) }
 {
-    let text = texts::amount_of_key(key.ledger());
+    let text = statements::amount_of_key(key.ledger());
     query(
         conn,
         text,
@@ -60,7 +60,7 @@ pub fn take<S: Alter>(conn: &mut Connection<S>, key: &AmountKey, amount: u64) ->
     ensures changed { IfSound (state S.Store conn.old) (state S.Store conn.new) (AreAmounts (state S.Store conn.old).now → IfOk result (Takes (state S.Store conn.old).now (state S.Store conn.new).now key.now amount)) }
     ensures write { IsWrite result (state S.Store conn.old) (state S.Store conn.new) }
 {
-    let text = texts::take_off(key.ledger());
+    let text = statements::take_off(key.ledger());
     let count = execute(
         conn,
         text,
@@ -79,7 +79,7 @@ fn raise<S: Alter>(conn: &mut Connection<S>, key: &AmountKey, amount: u64) -> Re
     ensures changed { IfSound (state S.Store conn.old) (state S.Store conn.new) (AreAmounts (state S.Store conn.old).now → (recorded : ℕ) → amount_at (state S.Store conn.old).now key.now ≡ Some recorded → recorded + amount < 2 ^ 63 → OnOk result (SetsAmount (state S.Store conn.old).now (state S.Store conn.new).now key.now (recorded + amount))) }
     ensures write { IsWrite result (state S.Store conn.old) (state S.Store conn.new) }
 {
-    let text = texts::put_on(key.ledger());
+    let text = statements::put_on(key.ledger());
     execute(
         conn,
         text,
@@ -97,7 +97,7 @@ fn insert<S: Alter>(conn: &mut Connection<S>, key: &AmountKey, amount: u64) -> R
     ensures changed { IfSound (state S.Store conn.old) (state S.Store conn.new) (AreAmounts (state S.Store conn.old).now → amount_at (state S.Store conn.old).now key.now ≡ None → OnOk result (SetsAmount (state S.Store conn.old).now (state S.Store conn.new).now key.now amount)) }
     ensures write { IsWrite result (state S.Store conn.old) (state S.Store conn.new) }
 {
-    let text = texts::first_row(key.ledger());
+    let text = statements::first_row(key.ledger());
     execute(
         conn,
         text,

@@ -34,7 +34,10 @@ fn next_rows<S: Alter>(
     query(
         conn,
         "SELECT isin, quantity FROM balance WHERE account = ?1 AND isin > ?2 AND quantity > 0 ORDER BY isin LIMIT 1",
-        &[ValueRef::Text(account.as_bytes()), ValueRef::Text(bytes_of(&above))],
+        &[
+            ValueRef::Text(account.as_bytes()),
+            ValueRef::Text(bytes_of(&above)),
+        ],
     )
 }
 

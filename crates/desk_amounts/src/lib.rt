@@ -10,7 +10,7 @@ mod amounts;
 mod holdings;
 mod key;
 mod reading;
-mod texts;
+mod statements;
 
 pub use amounts::{amount, put, take};
 pub use holdings::next_holding;

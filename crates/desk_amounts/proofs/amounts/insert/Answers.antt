@@ -1,8 +1,8 @@
-use Rattle.std.proofs.Common.{[], ◌∷◌, sym, ap, subst, ◌∙◌}
+use Rattle.std.proofs.Common.{sym, ap, subst, ◌∙◌}
 use Rattle.sqlite.specs.Held.{state}
 use Rattle.desk_tables.specs.Statements.{IsEdit}
 use Rattle.desk_amounts.specs.Keys.{ledger_of}
-use Rattle.desk_amounts.specs.Texts.{first_text}
+use Rattle.desk_amounts.specs.Statements.{first_text}
 use Rattle.desk_amounts.proofs.Meanings.{first_edit}
 use Rattle.desk_amounts.proofs.ClauseLemmas.{inserted}
 use Rattle.desk_amounts.proofs.amounts.insert.Goals as goal

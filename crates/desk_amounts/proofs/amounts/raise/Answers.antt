@@ -1,8 +1,8 @@
-use Rattle.std.proofs.Common.{[], ◌∷◌, sym, ap, subst, ◌∙◌}
+use Rattle.std.proofs.Common.{sym, ap, subst, ◌∙◌}
 use Rattle.sqlite.specs.Held.{state}
 use Rattle.desk_tables.specs.Statements.{IsEdit}
 use Rattle.desk_amounts.specs.Keys.{ledger_of}
-use Rattle.desk_amounts.specs.Texts.{put_text}
+use Rattle.desk_amounts.specs.Statements.{put_text}
 use Rattle.desk_amounts.proofs.Meanings.{put_edit}
 use Rattle.desk_amounts.proofs.ClauseLemmas.{raised}
 use Rattle.desk_amounts.proofs.amounts.raise.Goals as goal

@@ -1,8 +1,8 @@
-use Rattle.std.proofs.Common.{[], ◌∷◌, sym, ap, subst, ◌∙◌}
+use Rattle.std.proofs.Common.{sym, ap, subst, ◌∙◌}
 use Rattle.sqlite.specs.Held.{state}
 use Rattle.desk_tables.specs.Statements.{IsQuery}
 use Rattle.desk_amounts.specs.Keys.{ledger_of}
-use Rattle.desk_amounts.specs.Texts.{amount_text}
+use Rattle.desk_amounts.specs.Statements.{amount_text}
 use Rattle.desk_amounts.proofs.Meanings.{amount_query}
 use Rattle.desk_amounts.proofs.ClauseLemmas.{looked}
 use Rattle.desk_amounts.proofs.amounts.rows_of.Goals as goal

@@ -1,8 +1,8 @@
-use Rattle.std.proofs.Common.{[], ◌∷◌, sym, ap, subst, ◌∙◌}
+use Rattle.std.proofs.Common.{sym, ap, subst, ◌∙◌}
 use Rattle.sqlite.specs.Held.{state}
 use Rattle.desk_tables.specs.Statements.{IsEdit}
 use Rattle.desk_amounts.specs.Keys.{ledger_of}
-use Rattle.desk_amounts.specs.Texts.{take_text}
+use Rattle.desk_amounts.specs.Statements.{take_text}
 use Rattle.desk_amounts.proofs.Meanings.{take_edit}
 use Rattle.desk_amounts.proofs.EffectLemmas.{takes}
 use Rattle.desk_amounts.proofs.amounts.take.Goals as goal

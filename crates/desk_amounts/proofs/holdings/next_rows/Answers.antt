@@ -1,4 +1,3 @@
-use Rattle.std.proofs.Common.{[], ◌∷◌}
 use Rattle.sqlite.specs.Held.{state}
 use Rattle.desk_amounts.proofs.Meanings.{next_query}
 use Rattle.desk_amounts.proofs.ClauseLemmas.{walked}

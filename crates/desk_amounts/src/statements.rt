@@ -1,6 +1,6 @@
 //! The statements, as texts of SQL, of each table.
 ghost use Rattle.std.specs.Prelude.{◌≡◌};
-ghost use Rattle.desk_amounts.specs.Texts.{amount_text, take_text, put_text, first_text};
+ghost use Rattle.desk_amounts.specs.Statements.{amount_text, take_text, put_text, first_text};
 
 use crate::key::Ledger;
 
@@ -20,9 +20,12 @@ pub(crate) fn take_off(ledger: Ledger) -> &'static str
     ensures { result.now ≡ take_text ledger }
 {
     match ledger {
-        Ledger::Balance => "UPDATE balance SET quantity = quantity - ?3 WHERE account = ?1 AND isin = ?2 AND quantity >= ?3",
-        Ledger::Cash => "UPDATE cash SET amount = amount - ?3 WHERE bic = ?1 AND currency = ?2 AND amount >= ?3",
-        Ledger::Total => "UPDATE total SET amount = amount - ?3 WHERE subject = ?1 AND code = ?2 AND amount >= ?3",
+        Ledger::Balance =>
+            "UPDATE balance SET quantity = quantity - ?3 WHERE account = ?1 AND isin = ?2 AND quantity >= ?3",
+        Ledger::Cash =>
+            "UPDATE cash SET amount = amount - ?3 WHERE bic = ?1 AND currency = ?2 AND amount >= ?3",
+        Ledger::Total =>
+            "UPDATE total SET amount = amount - ?3 WHERE subject = ?1 AND code = ?2 AND amount >= ?3",
     }
 }
 
@@ -31,7 +34,8 @@ pub(crate) fn put_on(ledger: Ledger) -> &'static str
     ensures { result.now ≡ put_text ledger }
 {
     match ledger {
-        Ledger::Balance => "UPDATE balance SET quantity = quantity + ?3 WHERE account = ?1 AND isin = ?2",
+        Ledger::Balance =>
+            "UPDATE balance SET quantity = quantity + ?3 WHERE account = ?1 AND isin = ?2",
         Ledger::Cash => "UPDATE cash SET amount = amount + ?3 WHERE bic = ?1 AND currency = ?2",
         Ledger::Total => "UPDATE total SET amount = amount + ?3 WHERE subject = ?1 AND code = ?2",
     }
