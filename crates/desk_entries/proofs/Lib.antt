@@ -1,0 +1,6 @@
+pub mod GenericLemmas
+pub mod TextLemmas
+pub mod RegisterLemmas
+pub mod EffectLemmas
+pub mod ReadingLemmas
+pub mod SameLemmas

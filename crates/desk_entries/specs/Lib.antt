@@ -1,0 +1,5 @@
+pub mod Columns
+pub mod Entries
+pub mod Filled
+pub mod Shown
+pub mod Reading

@@ -1,0 +1,145 @@
+//! The entry that a shown row says.
+ghost use Rattle.std.specs.Prelude.{◌≡◌, IfOk};
+ghost use Rattle.sqlite_value.specs.Order.{column};
+ghost use Rattle.sqlite_value.specs.declared.value.Value.TheVariants.{Int};
+ghost use Rattle.std.specs.Prelude.{pos};
+ghost use Rattle.desk_entries.specs.Columns.{kind_number, number_of_rule};
+ghost use Rattle.desk_entries.specs.Reading.{Says, SaysMovement, SaysOf, SaysPayment};
+
+use crate::codes::{
+    ACCOUNT, AMOUNT, BIC, CORRUPT, CURRENCY, DAY, ISIN, KIND, PREVIOUS, QUANTITY, REFERENCE, RULE,
+    SENDER, UNIT, account_at, bic_at, currency_at, day_at, isin_at, kind_at, number_at,
+    reference_at,
+};
+use crate::instruction::{instruction_in, type_in};
+use crate::kind;
+use desk_msg::CancelOrder;
+use desk_rules::{Entry, MOST_PAID, MOST_QUANTITY, Movement, Payment, RunRule};
+use sqlite::{Error, Row};
+use std::alloc::Global;
+
+/// Of an issue or a redemption.
+fn movement_in(row: &Row) -> Result<Movement, Error>
+    ensures { IfOk result (λ movement. SaysMovement row.now movement) }
+{
+    let quantity = number_at(row, QUANTITY)?;
+    if quantity == 0 || quantity > MOST_QUANTITY {
+        return Err(CORRUPT);
+    }
+    Ok(Movement {
+        reference: reference_at(row, REFERENCE)?,
+        account: account_at(row, ACCOUNT)?,
+        isin: isin_at(row, ISIN)?,
+        quantity,
+    })
+}
+
+/// Of a pay in or a pay out.
+fn payment_in(row: &Row) -> Result<Payment, Error>
+    ensures { IfOk result (λ payment. SaysPayment row.now payment) }
+{
+    let amount = number_at(row, AMOUNT)?;
+    if amount == 0 || amount > MOST_PAID {
+        return Err(CORRUPT);
+    }
+    Ok(Payment {
+        reference: reference_at(row, REFERENCE)?,
+        bic: bic_at(row, BIC)?,
+        ccy: currency_at(row, CURRENCY)?,
+        amount,
+    })
+}
+
+fn participant_in(row: &Row) -> Result<Entry, Error>
+    ensures { IfOk result (λ entry. SaysOf 1 row.now entry) }
+{
+    Ok(Entry::Participant {
+        reference: reference_at(row, REFERENCE)?,
+        bic: bic_at(row, BIC)?,
+    })
+}
+
+fn account_in(row: &Row) -> Result<Entry, Error>
+    ensures { IfOk result (λ entry. SaysOf 2 row.now entry) }
+{
+    Ok(Entry::Account {
+        reference: reference_at(row, REFERENCE)?,
+        bic: bic_at(row, BIC)?,
+        account: account_at(row, ACCOUNT)?,
+    })
+}
+
+fn security_in(row: &Row) -> Result<Entry, Error>
+    ensures { IfOk result (λ entry. SaysOf 3 row.now entry) }
+{
+    Ok(Entry::Security {
+        reference: reference_at(row, REFERENCE)?,
+        isin: isin_at(row, ISIN)?,
+        kind: kind_at(row, UNIT)?,
+    })
+}
+
+fn cancellation_in(row: &Row) -> Result<Entry, Error>
+    ensures { IfOk result (λ entry. SaysOf 9 row.now entry) }
+{
+    Ok(Entry::Cancel {
+        sender: bic_at(row, SENDER)?,
+        order: CancelOrder {
+            mt: type_in(row)?,
+            reference: reference_at(row, REFERENCE)?,
+            previous: reference_at(row, PREVIOUS)?,
+        },
+    })
+}
+
+fn rule_in(row: &Row) -> Result<RunRule, Error>
+    ensures { IfOk result (λ rule. column row.now RULE ≡ Int (pos (number_of_rule rule))) }
+{
+    match number_at(row, RULE)? {
+        1 => Ok(RunRule::OnePass),
+        2 => Ok(RunRule::Passes),
+        _ => Err(CORRUPT),
+    }
+}
+
+fn run_in(row: &Row) -> Result<Entry, Error>
+    ensures { IfOk result (λ entry. SaysOf 10 row.now entry) }
+{
+    Ok(Entry::Run {
+        reference: reference_at(row, REFERENCE)?,
+        day: day_at(row, DAY)?,
+        rule: rule_in(row)?,
+    })
+}
+
+/// The entry of the operator's.
+fn command_in(row: &Row, kind: u64) -> Result<Entry, Error>
+    ensures { IfOk result (λ entry. SaysOf kind row.now entry) }
+{
+    match kind {
+        kind::PARTICIPANT => participant_in(row),
+        kind::ACCOUNT => account_in(row),
+        kind::SECURITY => security_in(row),
+        kind::ISSUE => Ok(Entry::Issue(movement_in(row)?)),
+        kind::REDEMPTION => Ok(Entry::Redeem(movement_in(row)?)),
+        kind::PAY_IN => Ok(Entry::PayIn(payment_in(row)?)),
+        kind::PAY_OUT => Ok(Entry::PayOut(payment_in(row)?)),
+        kind::RUN => run_in(row),
+        _ => Err(CORRUPT),
+    }
+}
+
+/// The entry.
+pub(crate) fn entry_in(alloc: Global, row: &Row) -> Result<Entry, Error>
+    ensures kind { IfOk result (λ entry. column row.now KIND ≡ Int (pos (kind_number entry))) }
+    ensures says { IfOk result (λ entry. Says row.now entry) }
+{
+    match number_at(row, KIND)? {
+        kind::INSTRUCTION => Ok(Entry::Instruct {
+            sender: bic_at(row, SENDER)?,
+            instruction: instruction_in(alloc, row)?,
+        }),
+        kind::CANCELLATION => cancellation_in(row),
+        other => command_in(row, other),
+    }
+}
