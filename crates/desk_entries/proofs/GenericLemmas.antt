@@ -1,5 +1,5 @@
 -- What queries and changes of one table do, of any table.
-use Rattle.std.proofs.Common.{◌≡◌, ◌⊎◌, inl, inr, ℕ, ◌+◌, ◌<◌, ◌≤◌, ℤ, pos, negsuc, List, [], ◌∷◌, ◌++◌, length, map, filter, get_or, Bool, true, false, cond, ◌==◌, Option, None, Some, Ok, Err, Result, OnOk, OnErr, All, refl, sym, ap, subst, ◌∙◌, arith}
+use Rattle.std.proofs.Common.{◌≡◌, ◌⊎◌, inl, inr, ℕ, ◌+◌, ◌<◌, ◌≤◌, ℤ, pos, negsuc, List, [], ◌∷◌, ◌++◌, length, map, filter, get_or, Bool, true, false, cond, ◌==◌, Option, None, Some, All, refl, sym, ap, subst, ◌∙◌, arith}
 use Rattle.std.specs.List.{AllByRecursion, flat_map, list_all}
 use Rattle.std.specs.List.Sorted.{IsPermutation}
 use Rattle.std.specs.Ordering.{is_lt, is_eq, int_cmp, match_ordering}
@@ -26,10 +26,7 @@ use Rattle.sqlite.specs.Tree.{Trees, put_row, rowid}
 use Rattle.sqlite.specs.Ops.{unary, is_true, from_truth}
 use Rattle.sqlite.specs.Cast.{cast}
 use Rattle.sqlite.specs.Kind.TheVariants.{Integer}
-use Rattle.sqlite.specs.State.{State}
-use Rattle.sqlite.specs.declared.error.Error.{Error}
 use Rattle.sqlite.proofs.Callers.{one_permutation}
-use Rattle.desk_tables.specs.Ends.{IsLook, IsSame, FellLooking}
 use Rattle.desk_entries.specs.Shown.{row_if}
 
 -- ---- the rows of a plain query
