@@ -1,0 +1,142 @@
+-- What the texts mean.
+use Rattle.std.proofs.Common.{◌≡◌, ℕ, pos, negsuc, List, [], ◌∷◌, codes, true, false, None, refl}
+use Rattle.sqlite.specs.declared.types.Value.TheVariants.{Null, Int}
+use Rattle.sqlite.specs.Term.{Term, lit, col, op2}
+use Rattle.sqlite.specs.Query.{Query, inner, end}
+use Rattle.sqlite.specs.Collation.TheVariants.{Binary}
+use Rattle.sqlite_value.specs.declared.keys.Key.{Key}
+use Rattle.sqlite_sql.specs.declared.ops.BinaryOp.TheVariants.{Compare}
+use Rattle.sqlite_sql.specs.declared.ops.CompareOp.TheVariants.{Eq, Ge, Le}
+use Rattle.sqlite.specs.Command.TheVariants.{Select, Insert}
+use Rattle.sqlite.specs.Source.TheVariants.{Values}
+use Rattle.sqlite.specs.Listing.{understood}
+use Rattle.sqlite_tied.specs.Compute.{everything}
+use Rattle.sqlite.proofs.Callers.{command_of}
+use Rattle.desk_tables.specs.Schema.{desk_schema}
+use Rattle.desk_tables.specs.Statements.{IsEdit, IsQuery}
+
+-- some columns of the rows of a table that pass a test
+abbrev pub plain : ℕ → List Term → List Term → Query
+plain tree filter project = record {
+  from = inner tree end;
+  filter = filter;
+  group = None;
+  project = project;
+  distinct = false;
+  collations = [];
+  order = [];
+  limit = lit (Int (negsuc 0));
+  offset = lit (Int (pos 0));
+}
+
+-- the first of those rows by one column
+abbrev pub first_of : ℕ → List Term → List Term → Term → Key → Query
+first_of tree filter project by key = record (plain tree filter project) { limit = lit (Int (pos 1)); order = (by, key) ∷ [] }
+
+abbrev pub rising : Key
+rising = record { collation = Binary; descending = false }
+
+abbrev pub falling : Key
+falling = record { collation = Binary; descending = true }
+
+abbrev pub number_text : List ℕ
+number_text = codes "SELECT number FROM sent ORDER BY number DESC LIMIT 1"
+
+abbrev pub place_text : List ℕ
+place_text = codes "SELECT place FROM sent WHERE bic = ?1 ORDER BY place DESC LIMIT 1"
+
+abbrev pub at_text : List ℕ
+at_text = codes "SELECT bic, mt, about, text FROM sent WHERE bic = ?1 AND place = ?2"
+
+abbrev pub confirmation_text : List ℕ
+confirmation_text = codes "SELECT bic, mt, about, text FROM sent WHERE about = ?1 AND mt >= 544 AND mt <= 547 ORDER BY number LIMIT 1"
+
+abbrev pub insert_text : List ℕ
+insert_text = codes "INSERT INTO sent (number, bic, place, mt, about, text) VALUES (?1, ?2, ?3, ?4, ?5, ?6)"
+
+abbrev pub version_text : List ℕ
+version_text = codes "SELECT number FROM version ORDER BY number LIMIT 1"
+
+abbrev pub set_text : List ℕ
+set_text = codes "INSERT INTO version (number) VALUES (?1)"
+
+abbrev pub by_bic : Term
+by_bic = op2 (Compare Eq Binary) (col 1 2) (col 0 0)
+
+abbrev pub by_place : Term
+by_place = op2 (Compare Eq Binary) (col 1 3) (col 0 1)
+
+abbrev pub by_about : Term
+by_about = op2 (Compare Eq Binary) (col 1 5) (col 0 0)
+
+abbrev pub from_544 : Term
+from_544 = op2 (Compare Ge Binary) (col 1 4) (lit (Int (pos 544)))
+
+abbrev pub to_547 : Term
+to_547 = op2 (Compare Le Binary) (col 1 4) (lit (Int (pos 547)))
+
+abbrev pub message_columns : List Term
+message_columns = col 1 2 ∷ col 1 4 ∷ col 1 5 ∷ col 1 6 ∷ []
+
+abbrev pub insert_terms : List Term
+insert_terms = col 0 0 ∷ lit Null ∷ col 0 1 ∷ col 0 2 ∷ col 0 3 ∷ col 0 4 ∷ col 0 5 ∷ []
+
+abbrev pub set_terms : List Term
+set_terms = col 0 0 ∷ lit Null ∷ []
+
+pub number_is : command_of (understood desk_schema number_text) ≡ Select (record { lets = []; body = first_of 13 [] (col 1 0 ∷ []) (col 1 0) falling }) (codes "number" ∷ [])
+unfolding understood everything
+number_is = refl
+
+pub number_query : IsQuery number_text
+unfolding understood everything
+number_query = record { selects = refl; plain = (refl, refl); unlisted = refl }
+
+pub place_is : command_of (understood desk_schema place_text) ≡ Select (record { lets = []; body = first_of 13 (by_bic ∷ []) (col 1 3 ∷ []) (col 1 3) falling }) (codes "place" ∷ [])
+unfolding understood everything
+place_is = refl
+
+pub place_query : IsQuery place_text
+unfolding understood everything
+place_query = record { selects = refl; plain = (refl, refl); unlisted = refl }
+
+pub at_is : command_of (understood desk_schema at_text) ≡ Select (record { lets = []; body = plain 13 (by_bic ∷ by_place ∷ []) message_columns }) (codes "bic" ∷ codes "mt" ∷ codes "about" ∷ codes "text" ∷ [])
+unfolding understood everything
+at_is = refl
+
+pub at_query : IsQuery at_text
+unfolding understood everything
+at_query = record { selects = refl; plain = (refl, refl); unlisted = refl }
+
+pub confirmation_is : command_of (understood desk_schema confirmation_text)
+    ≡ Select (record { lets = []; body = first_of 13 (by_about ∷ from_544 ∷ to_547 ∷ []) message_columns (col 1 0) rising }) (codes "bic" ∷ codes "mt" ∷ codes "about" ∷ codes "text" ∷ [])
+unfolding understood everything
+confirmation_is = refl
+
+pub confirmation_query : IsQuery confirmation_text
+unfolding understood everything
+confirmation_query = record { selects = refl; plain = (refl, refl); unlisted = refl }
+
+pub insert_is : command_of (understood desk_schema insert_text) ≡ Insert 7 (Values insert_terms 7)
+unfolding understood everything
+insert_is = refl
+
+pub insert_edit : IsEdit insert_text
+unfolding understood everything
+insert_edit = record { changes = refl; plain = (refl, refl) }
+
+pub version_is : command_of (understood desk_schema version_text) ≡ Select (record { lets = []; body = first_of 16 [] (col 1 0 ∷ []) (col 1 0) rising }) (codes "number" ∷ [])
+unfolding understood everything
+version_is = refl
+
+pub version_query : IsQuery version_text
+unfolding understood everything
+version_query = record { selects = refl; plain = (refl, refl); unlisted = refl }
+
+pub set_is : command_of (understood desk_schema set_text) ≡ Insert 8 (Values set_terms 2)
+unfolding understood everything
+set_is = refl
+
+pub set_edit : IsEdit set_text
+unfolding understood everything
+set_edit = record { changes = refl; plain = (refl, refl) }
