@@ -144,6 +144,9 @@ MOST_SECONDS = 600
 STORES = "lists", "index"
 REGISTER_OPENING, REGISTER_PAIRS = 5, 44
 
+# They are timed so often, the least time counting, unless that takes longer than so many seconds.
+MOST_TURNS, ENOUGH_SECONDS = 9, 10
+
 # The proved program; a script has so many bytes at most.
 DESK = "crates/desk/out/desk"
 LONGEST_SCRIPT = 16_777_216
@@ -366,12 +369,24 @@ def measure_play():
     measure_growing("play of free deliveries of", "request", "requests", functools.partial(script_timed, free_script))
 
 
+def least_timed(call):
+    """The figure, and the least processor seconds of several turns, of fewer where they take long."""
+    figure, least = timed(call)
+    spent, turn = least, 1
+    while turn < MOST_TURNS and spent < ENOUGH_SECONDS:
+        again, seconds = timed(call)
+        if again != figure:
+            sys.exit(f"the program's figure is {again}, and was {figure}")
+        least, spent, turn = min(least, seconds), spent + seconds, turn + 1
+    return figure, least
+
+
 def entries_timed(program, store, size):
     """So many entries, made and taken into a register. The start of the program isn't counted."""
     hundreds = (size - REGISTER_OPENING) // 100
     pairs = REGISTER_PAIRS * hundreds + hundreds // 2
-    _, start = timed(lambda: run(program, store, 0))
-    settled, seconds = timed(lambda: run(program, store, size))
+    _, start = least_timed(lambda: run(program, store, 0))
+    settled, seconds = least_timed(lambda: run(program, store, size))
     if settled != pairs:
         sys.exit(f"register in {store}: {settled} pairs settled of {pairs}")
     return pairs, seconds - start

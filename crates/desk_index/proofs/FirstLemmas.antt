@@ -76,6 +76,15 @@ module _ {K X : Type 0} (cmp : K → K → Ordering) (test : K → X → Bool) (
     pub first_stays : ((q : K) → get cmp old q ≡ first_number (test q) (history ++ e ∷ [])) → (q : K) → get cmp old q ≡ first_number (test q) history
     first_stays was q = was q ∙ same_first (test q) history e n is (tests q)
 
+-- The same at one key, where the tree has it behind something else.
+
+module _ {K X : Type 0} (cmp : K → K → Ordering) (t : X → Bool) (old new : BTreeMap K ℕ) (history : List X) (e : X) (n : ℕ) (is : n ≡ length history + 1) (key q : K) (tests : t e ≡ is_eq (cmp key q)) where
+  pub noted_at : get cmp new q ≡ or_number (get cmp old q) (number_if (is_eq (cmp key q)) n) → get cmp old q ≡ first_number t history → get cmp new q ≡ first_number t (history ++ e ∷ [])
+  noted_at put was = put ∙ rw (was, sym tests) (sym (pushed t history e n is))
+
+  pub forgotten_at : get cmp new q ≡ (if is_eq (cmp key q) then without n (get cmp old q) else get cmp old q) → get cmp old q ≡ first_number t (history ++ e ∷ []) → get cmp new q ≡ first_number t history
+  forgotten_at took was = took ∙ rw (was, pushed t history e n is, sym tests) (taken (first_number t history) (t e) n (below_of t history n is))
+
 -- What the first entry says.
 
 any_from : (n : ℕ) (t : Entry → Bool) (history : List Entry) → is_some (first_from n t history) ≡ list_any t history

@@ -1,38 +1,57 @@
 -- The numbers of keys, with one entry more, and with one less.
-use Rattle.std.proofs.Common.{◌≡◌, ℕ, ◌+◌, Bool, false, List, [], ◌∷◌, ◌++◌, length, refl, sym, ◌∙◌}
-use Rattle.std.specs.Prelude.{Result, Ok, Err, OnOk, OnErr, if◌then◌else◌}
-use Rattle.std.specs.Ordering.{is_eq}
+use Rattle.std.proofs.Common.{◌≡◌, ℕ, ◌+◌, Bool, true, false, List, [], ◌∷◌, ◌++◌, length, refl, subst, sym, ◌∙◌, arith}
+use Rattle.std.specs.Prelude.{Result, Ok, Err, OnOk, OnErr, if◌then◌else◌, ◌&&◌, bytes_eq}
+use Rattle.std.specs.Ordering.{is_eq, nat_cmp}
 use Rattle.std.specs.Cmp.{tied_then}
 use Rattle.std.specs.BTreeMap.{BTreeMap, get}
+use Rattle.std.specs.declared.cmp.Ordering.TheVariants.{Equal}
 use Rattle.std.proofs.lemmas.Map.Text.{is_eq-slice_cmp}
 use Rattle.desk_rules.specs.declared.entry.Entry.{Entry}
 use Rattle.desk_rules.specs.declared.entry.Sender.{Sender}
 use Rattle.desk_rules.specs.declared.entry.Sender.TheVariants.{Operator, Participant as FromParticipant}
 use Rattle.desk_rules.specs.History.{has_key, number_of_key, reference_of, sender_of}
+use Rattle.desk_register.proofs.CaseLemmas.{by_bool, same_bytes}
 use Rattle.desk_index.specs.declared.keys.Keys.{Keys}
 use Rattle.desk_index.specs.FirstNumbers.{number_if, or_number, without}
-use Rattle.desk_index.specs.Keys.{AreKeysOf, message_cmp, text_cmp}
-use Rattle.desk_index.proofs.FirstLemmas.{first_forgotten, first_noted, key_first, same_first}
+use Rattle.desk_index.specs.Keys.{AreKeysOf, command_cmp, command_key, message_cmp, message_key, sender_cmp, text_cmp}
+use Rattle.desk_index.specs.TailNumber.{tail_number}
+use Rattle.desk_index.proofs.FirstLemmas.{forgotten_at, key_first, noted_at, same_first}
 
 -- Whether an entry has a key, by the order of keys.
 
-command_key : (e : Entry) (r q : List ℕ) → sender_of e ≡ Operator → r ≡ reference_of e → has_key Operator q e ≡ is_eq (text_cmp r q)
-command_key e r q from same = rw (from, same) (sym (is_eq-slice_cmp (reference_of e) q))
+no_and_false : (a : Bool) → (a && false) ≡ false
+no_and_false true = refl
+no_and_false false = refl
+
+-- one text has one tail number
+same_tail : (r q : List ℕ) → bytes_eq r q ≡ true → is_eq (nat_cmp (tail_number r) (tail_number q)) ≡ true
+same_tail r q here = let one : nat_cmp (tail_number r) (tail_number r) ≡ Equal = grind arith in subst (λ z. is_eq (nat_cmp (tail_number r) (tail_number z)) ≡ true) (same_bytes r q here) (rw one refl)
+
+-- so tail numbers tell apart no more than the texts do
+with_tail : (a : Bool) (r q : List ℕ) → (is_eq (nat_cmp (tail_number r) (tail_number q)) && (a && bytes_eq r q)) ≡ (a && bytes_eq r q)
+with_tail a r q = by_bool (bytes_eq r q)
+    (λ here. rw (same_tail r q here) refl)
+    (λ other. rw (other, no_and_false a, no_and_false (is_eq (nat_cmp (tail_number r) (tail_number q)))) refl)
+
+command_same : (r q : List ℕ) → is_eq (command_cmp (command_key r) (command_key q)) ≡ bytes_eq r q
+command_same r q = sym (tied_then (nat_cmp (tail_number r) (tail_number q)) (text_cmp r q)) ∙ rw (is_eq-slice_cmp r q) (with_tail true r q)
+
+message_same : (bic r b q : List ℕ) → is_eq (message_cmp (message_key bic r) (message_key b q)) ≡ (bytes_eq bic b && bytes_eq r q)
+message_same bic r b q =
+    sym (tied_then (nat_cmp (tail_number r) (tail_number q)) (sender_cmp (bic, r) (b, q)))
+    ∙ rw (sym (tied_then (text_cmp bic b) (text_cmp r q)), is_eq-slice_cmp bic b, is_eq-slice_cmp r q) (with_tail (bytes_eq bic b) r q)
+
+is_command : (e : Entry) (key : ℕ × List ℕ) (q : List ℕ) → sender_of e ≡ Operator → key ≡ command_key (reference_of e) → has_key Operator q e ≡ is_eq (command_cmp key (command_key q))
+is_command e key q from is = rw (is, command_same (reference_of e) q, from) refl
 
 no_message_key : (e : Entry) (b q : List ℕ) → sender_of e ≡ Operator → has_key (FromParticipant b) q e ≡ false
 no_message_key e b q from = rw from refl
 
-message_key : (e : Entry) (bic r b q : List ℕ) → sender_of e ≡ FromParticipant bic → r ≡ reference_of e → has_key (FromParticipant b) q e ≡ is_eq (message_cmp (bic, r) (b, q))
-message_key e bic r b q from same =
-    let first = is_eq-slice_cmp bic b in
-    let second = is_eq-slice_cmp (reference_of e) q in
-    rw (from, same, sym first, sym second) (tied_then (text_cmp bic b) (text_cmp (reference_of e) q))
+is_message : (e : Entry) (bic : List ℕ) (key : ℕ × (List ℕ × List ℕ)) (b q : List ℕ) → sender_of e ≡ FromParticipant bic → key ≡ message_key bic (reference_of e) → has_key (FromParticipant b) q e ≡ is_eq (message_cmp key (message_key b q))
+is_message e bic key b q from is = rw (is, message_same bic (reference_of e) b q, from) refl
 
 no_command_key : (e : Entry) (bic q : List ℕ) → sender_of e ≡ FromParticipant bic → has_key Operator q e ≡ false
 no_command_key e bic q from = rw from refl
-
-abbrev message_test : List ℕ × List ℕ → Entry → Bool
-message_test key e = has_key (FromParticipant key.0) key.1 e
 
 -- With one entry more, and with one less, by the trees that change.
 
@@ -40,34 +59,48 @@ module _ (old : Keys) (history : List Entry) (e : Entry) (n : ℕ) (is : n ≡ l
   kept_number : (s : Sender) (r : List ℕ) → has_key s r e ≡ false → number_of_key history s r ≡ number_of_key (history ++ e ∷ []) s r
   kept_number s r other = key_first s r history ∙ sym (same_first (has_key s r) history e n is other) ∙ sym (key_first s r (history ++ e ∷ []))
 
-  module _ (r : List ℕ) (commands : BTreeMap (List ℕ) ℕ) (from : sender_of e ≡ Operator) (same : r ≡ reference_of e) where
-    pub noted_command : AreKeysOf old history → ((q : List ℕ) → get text_cmp commands q ≡ or_number (get text_cmp old.commands q) (number_if (is_eq (text_cmp r q)) n))
+  module _ (key : ℕ × List ℕ) (commands : BTreeMap (ℕ × List ℕ) ℕ) (from : sender_of e ≡ Operator) (key_is : key ≡ command_key (reference_of e)) where
+    pub noted_command : AreKeysOf old history → ((q : ℕ × List ℕ) → get command_cmp commands q ≡ or_number (get command_cmp old.commands q) (number_if (is_eq (command_cmp key q)) n))
         → AreKeysOf (record { commands = commands; messages = old.messages }) (history ++ e ∷ [])
     noted_command keys put = record {
-      commands = λ q. first_noted text_cmp (has_key Operator) old.commands history e n is commands r (λ k. command_key e r k from same) put (λ k. keys.commands k ∙ key_first Operator k history) q ∙ sym (key_first Operator q (history ++ e ∷ []));
+      commands = λ q.
+          noted_at command_cmp (has_key Operator q) old.commands commands history e n is key (command_key q) (is_command e key q from key_is) (put (command_key q)) (keys.commands q ∙ key_first Operator q history)
+          ∙ sym (key_first Operator q (history ++ e ∷ []));
       messages = λ b q. keys.messages b q ∙ kept_number (FromParticipant b) q (no_message_key e b q from);
     }
 
-    pub forgot_command : AreKeysOf old (history ++ e ∷ []) → ((q : List ℕ) → get text_cmp commands q ≡ (if is_eq (text_cmp r q) then without n (get text_cmp old.commands q) else get text_cmp old.commands q))
+    pub forgot_command : AreKeysOf old (history ++ e ∷ [])
+        → ((q : ℕ × List ℕ) → get command_cmp commands q ≡ (if is_eq (command_cmp key q) then without n (get command_cmp old.commands q) else get command_cmp old.commands q))
         → AreKeysOf (record { commands = commands; messages = old.messages }) history
     forgot_command keys took = record {
-      commands = λ q. first_forgotten text_cmp (has_key Operator) old.commands history e n is commands r (λ k. command_key e r k from same) took (λ k. keys.commands k ∙ key_first Operator k (history ++ e ∷ [])) q ∙ sym (key_first Operator q history);
+      commands = λ q.
+          forgotten_at command_cmp (has_key Operator q) old.commands commands history e n is key (command_key q) (is_command e key q from key_is) (took (command_key q))
+          (keys.commands q ∙ key_first Operator q (history ++ e ∷ []))
+          ∙ sym (key_first Operator q history);
       messages = λ b q. keys.messages b q ∙ sym (kept_number (FromParticipant b) q (no_message_key e b q from));
     }
 
-  module _ (bic r : List ℕ) (messages : BTreeMap (List ℕ × List ℕ) ℕ) (from : sender_of e ≡ FromParticipant bic) (same : r ≡ reference_of e) where
-    pub noted_message : AreKeysOf old history → ((q : List ℕ × List ℕ) → get message_cmp messages q ≡ or_number (get message_cmp old.messages q) (number_if (is_eq (message_cmp (bic, r) q)) n))
+  module _ (bic : List ℕ) (key : ℕ × (List ℕ × List ℕ)) (messages : BTreeMap (ℕ × (List ℕ × List ℕ)) ℕ) (from : sender_of e ≡ FromParticipant bic) (key_is : key ≡ message_key bic (reference_of e)) where
+    pub noted_message : AreKeysOf old history
+        → ((q : ℕ × (List ℕ × List ℕ)) → get message_cmp messages q ≡ or_number (get message_cmp old.messages q) (number_if (is_eq (message_cmp key q)) n))
         → AreKeysOf (record { commands = old.commands; messages = messages }) (history ++ e ∷ [])
     noted_message keys put = record {
       commands = λ q. keys.commands q ∙ kept_number Operator q (no_command_key e bic q from);
-      messages = λ b q. first_noted message_cmp message_test old.messages history e n is messages (bic, r) (λ k. message_key e bic r k.0 k.1 from same) put (λ k. keys.messages k.0 k.1 ∙ key_first (FromParticipant k.0) k.1 history) (b, q) ∙ sym (key_first (FromParticipant b) q (history ++ e ∷ []));
+      messages = λ b q.
+          noted_at message_cmp (has_key (FromParticipant b) q) old.messages messages history e n is key (message_key b q) (is_message e bic key b q from key_is) (put (message_key b q))
+          (keys.messages b q ∙ key_first (FromParticipant b) q history)
+          ∙ sym (key_first (FromParticipant b) q (history ++ e ∷ []));
     }
 
-    pub forgot_message : AreKeysOf old (history ++ e ∷ []) → ((q : List ℕ × List ℕ) → get message_cmp messages q ≡ (if is_eq (message_cmp (bic, r) q) then without n (get message_cmp old.messages q) else get message_cmp old.messages q))
+    pub forgot_message : AreKeysOf old (history ++ e ∷ [])
+        → ((q : ℕ × (List ℕ × List ℕ)) → get message_cmp messages q ≡ (if is_eq (message_cmp key q) then without n (get message_cmp old.messages q) else get message_cmp old.messages q))
         → AreKeysOf (record { commands = old.commands; messages = messages }) history
     forgot_message keys took = record {
       commands = λ q. keys.commands q ∙ sym (kept_number Operator q (no_command_key e bic q from));
-      messages = λ b q. first_forgotten message_cmp message_test old.messages history e n is messages (bic, r) (λ k. message_key e bic r k.0 k.1 from same) took (λ k. keys.messages k.0 k.1 ∙ key_first (FromParticipant k.0) k.1 (history ++ e ∷ [])) (b, q) ∙ sym (key_first (FromParticipant b) q history);
+      messages = λ b q.
+          forgotten_at message_cmp (has_key (FromParticipant b) q) old.messages messages history e n is key (message_key b q) (is_message e bic key b q from key_is) (took (message_key b q))
+          (keys.messages b q ∙ key_first (FromParticipant b) q (history ++ e ∷ []))
+          ∙ sym (key_first (FromParticipant b) q history);
     }
 
 -- a call's end, carried over

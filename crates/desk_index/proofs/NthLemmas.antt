@@ -1,54 +1,10 @@
--- The number of the k-th of which a test holds, with one more; what has this number.
-use Rattle.std.proofs.Common.{◌≡◌, ℕ, zero, suc, ◌+◌, ◌<◌, ◌≤◌, Bool, true, false, List, [], ◌∷◌, ◌++◌, length, map, Some, None, refl, sym, ◌∙◌, arith}
-use Rattle.std.specs.Prelude.{◌==◌, ◌&&◌, filter, slice_get}
+-- What has the number of the k-th of which a test holds.
+use Rattle.std.proofs.Common.{◌≡◌, ℕ, zero, suc, ◌+◌, ◌≤◌, Bool, List, [], ◌∷◌, map, Some, None, refl, sym, ◌∙◌, arith}
+use Rattle.std.specs.Prelude.{filter, slice_get}
 use Rattle.desk_rules.specs.declared.reply.Sent.{Sent}
 use Rattle.desk_rules.specs.Questions.{sent_at}
-use Rattle.desk_index.specs.FirstNumbers.{nth_from, nth_number, number_if, or_number}
+use Rattle.desk_index.specs.FirstNumbers.{nth_from, nth_number}
 use Rattle.desk_register.proofs.CaseLemmas.{by_bool}
-
-next_equal : (k m : ℕ) → (suc k == suc m) ≡ (k == m)
-next_equal k m = grind arith
-
-nothing_behind : {X : Type 0} (n k : ℕ) (t : X → Bool) (x : X) → nth_from n t k (x ∷ []) ≡ number_if (t x && (k == 0)) n
-nothing_behind n zero t x = by_bool (t x) (λ here. rw here refl) (λ other. rw other refl)
-nothing_behind n (suc k) t x = let apart : (suc k == 0) ≡ false = grind arith in by_bool (t x) (λ here. rw (here, apart) refl) (λ other. rw other refl)
-
-nth_pushed_from : {X : Type 0} (n k : ℕ) (t : X → Bool) (xs : List X) (x : X)
-    → nth_from n t k (xs ++ x ∷ []) ≡ or_number (nth_from n t k xs) (number_if (t x && (k == length (filter t xs))) (n + length xs))
-nth_pushed_from n k t [] x = let same : n + 0 ≡ n = omega arith in rw same (nothing_behind n k t x)
-nth_pushed_from n zero t (y ∷ xs) x = by_bool (t y)
-    (λ here. rw here refl)
-    (λ other. rw other (let more = nth_pushed_from (n + 1) zero t xs x in let same : n + 1 + length xs ≡ n + suc (length xs) = omega arith in rw same at more))
-nth_pushed_from n (suc k) t (y ∷ xs) x = by_bool (t y)
-    (λ here. rw (here, next_equal k (length (filter t xs))) (let more = nth_pushed_from (n + 1) k t xs x in let same : n + 1 + length xs ≡ n + suc (length xs) = omega arith in rw same at more))
-    (λ other. rw other (let more = nth_pushed_from (n + 1) (suc k) t xs x in let same : n + 1 + length xs ≡ n + suc (length xs) = omega arith in rw same at more))
-
-no_and_false : (a : Bool) → (a && false) ≡ false
-no_and_false true = refl
-no_and_false false = refl
-
--- with one more
-pub nth_pushed : {X : Type 0} (k : ℕ) (t : X → Bool) (xs : List X) (x : X) (n : ℕ) → n ≡ length xs + 1
-    → nth_number t k (xs ++ x ∷ []) ≡ or_number (nth_number t k xs) (number_if (t x && (k == length (filter t xs) + 1)) n)
-nth_pushed zero t xs x n is = let apart : (0 == length (filter t xs) + 1) ≡ false = grind arith in rw (apart, no_and_false (t x)) refl
-nth_pushed (suc k) t xs x n is =
-    let same : 1 + length xs ≡ n = omega arith in
-    let step : (suc k == length (filter t xs) + 1) ≡ (k == length (filter t xs)) = grind arith in
-    rw step (rw same at (nth_pushed_from 1 k t xs x))
-
-nth_below_from : {X : Type 0} (n k : ℕ) (t : X → Bool) (xs : List X) (m : ℕ) → nth_from n t k xs ≡ Some m → m < n + length xs
-nth_below_from n k t [] m e = cc
-nth_below_from n zero t (x ∷ xs) m e = by_bool (t x)
-    (λ here. let at : n ≡ m = let f = rw here at e in cc in omega arith)
-    (λ other. let later = nth_below_from (n + 1) zero t xs m (rw other at e) in omega arith)
-nth_below_from n (suc k) t (x ∷ xs) m e = by_bool (t x)
-    (λ here. let later = nth_below_from (n + 1) k t xs m (rw here at e) in omega arith)
-    (λ other. let later = nth_below_from (n + 1) (suc k) t xs m (rw other at e) in omega arith)
-
--- no number is past the end
-pub nth_below : {X : Type 0} (k : ℕ) (t : X → Bool) (xs : List X) (n : ℕ) → n ≡ length xs + 1 → (m : ℕ) → nth_number t k xs ≡ Some m → m < n
-nth_below zero t xs n is m e = cc
-nth_below (suc k) t xs n is m e = let lt = nth_below_from 1 k t xs m e in omega arith
 
 nth_least : {X : Type 0} (n k : ℕ) (t : X → Bool) (xs : List X) (m : ℕ) → nth_from n t k xs ≡ Some m → n ≤ m
 nth_least n k t [] m e = cc
@@ -93,10 +49,6 @@ nth_map_from f n (suc k) t (x ∷ xs) = by_bool (t (f x)) (λ here. rw here (nth
 nth_map : {A B : Type 0} (f : A → B) (k : ℕ) (t : B → Bool) (xs : List A) → nth_number t k (map f xs) ≡ nth_number (λ x. t (f x)) k xs
 nth_map f zero t xs = refl
 nth_map f (suc k) t xs = nth_map_from f 1 k t xs
-
-pub count_most : {X : Type 0} (t : X → Bool) (xs : List X) → length (filter t xs) ≤ length xs
-count_most t [] = omega arith
-count_most t (x ∷ xs) = let most = count_most t xs in by_bool (t x) (λ here. rw here (omega arith)) (λ other. rw other (omega arith))
 
 module _ {B : Type 0} (f : Sent → B) (t : B → Bool) (sent : List Sent) (k : ℕ) where
   -- with no k-th number there is no k-th message

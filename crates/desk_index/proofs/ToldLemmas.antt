@@ -115,11 +115,6 @@ module _ (messages : Messages) (told : List Heading) (view : View) (stage : view
   pub next_message : (n : ℕ) → n ≡ length view.content.sent → n + 1 ≡ length (headings_of view.mark ++ told) + 1
   next_message n is = ap (λ z. z + 1) (is ∙ sym (length-map view.content.sent heading_of) ∙ ap length (has.grown (begun_is_not_failed view.stage stage)))
 
-  pub room_for_message : (most : ℕ) → length view.content.sent + 1 < most → (headings : List Heading) × AreMessagesOf messages headings × (length headings + 1 < most)
-  room_for_message most room =
-      let size = length-map view.content.sent heading_of in
-      (headings_of view.content, now_told messages told view (begun_is_not_failed view.stage stage) has, rw size room)
-
 pub told_more : {T : Type 0} (r : Result T Fault) (messages messages' : Messages) (told told' : List Heading) (old new : ListRegister) (message : Sent) → (view_of_lists old).stage ≡ Begun
     → IsTold (view_of_lists old) messages told → told' ≡ told ++ heading_of message ∷ []
     → (AreMessagesOf messages (headings_of (view_of_lists old).mark ++ told) → AreMessagesOf messages' ((headings_of (view_of_lists old).mark ++ told) ++ heading_of message ∷ []))

@@ -1,6 +1,5 @@
 pub mod Addressed
 pub mod Confirmations
-pub mod Counts
 pub mod DuePlaces
 pub mod FirstNumbers
 pub mod Headings
@@ -9,7 +8,9 @@ pub mod Indexed
 pub mod Keys
 pub mod Known
 pub mod Messages
+pub mod NumbersAt
 pub mod NumbersByKey
 pub mod Open
 pub mod Registered
+pub mod TailNumber
 pub mod Touched

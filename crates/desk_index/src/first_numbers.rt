@@ -18,9 +18,7 @@ pub fn put_first<K: Ord + Copy>(
     ensures put { OnOk result ((q : K) → get K.cmp numbers.new q ≡ or_number (get K.cmp numbers.old q) (number_if (is_eq (K.cmp key q)) number)) }
     ensures err { OnErr result ((q : K) → get K.cmp numbers.new q ≡ get K.cmp numbers.old q) }
 {
-    if !numbers.contains_key(&key) {
-        numbers.insert(key, number)?;
-    }
+    numbers.entry(key)?.or_insert(number);
     Ok(())
 }
 

@@ -3,19 +3,35 @@ ghost use Rattle.std.specs.Prelude.{◌≡◌, ◌+◌, ◌++◌, ◌∷◌, [],
 ghost use Rattle.desk_rules.specs.declared.entry.Entry.{Entry as EntryValue};
 ghost use Rattle.desk_rules.specs.History.{number_of_key};
 ghost use Rattle.desk_lists.specs.Named.{number_named};
-ghost use Rattle.desk_index.specs.Keys.{AreKeysOf};
+ghost use Rattle.desk_index.specs.Keys.{AreKeysOf, command_key, message_key};
 
 use crate::first_numbers::{put_first, take_number};
+use crate::tail_number::tail_number;
 use desk_codes::{Bic, Reference};
 use desk_rules::{Entry, Sender};
 use std::alloc::{AllocError, Global};
 use std::collections::BTreeMap;
 
-/// The numbers of entries by their keys: the operator's by their references, participants' by sender and reference.
+/// The numbers of entries by their keys: the operator's by their references, participants' by sender and reference. Before
+/// each key stands the tail number of its reference, so that most keys are told apart by one comparison of numbers.
 #[derive(Drop)]
 pub struct Keys {
-    pub commands: BTreeMap<Reference, u64>,
-    pub messages: BTreeMap<(Bic, Reference), u64>,
+    pub commands: BTreeMap<(u64, Reference), u64>,
+    pub messages: BTreeMap<(u64, (Bic, Reference)), u64>,
+}
+
+/// A command's key, behind its tail number.
+fn command_key(reference: &Reference) -> (u64, Reference)
+    ensures { result ≡ command_key reference.now }
+{
+    (tail_number(reference.as_bytes()), *reference)
+}
+
+/// A message's key, behind its tail number.
+fn message_key(bic: &Bic, reference: &Reference) -> (u64, (Bic, Reference))
+    ensures { result ≡ message_key bic.now reference.now }
+{
+    (tail_number(reference.as_bytes()), (*bic, *reference))
 }
 
 impl Keys {
@@ -34,8 +50,8 @@ impl Keys {
         ensures { (history : List EntryValue) → AreKeysOf self.now history → result ≡ number_of_key history sender.now reference.now }
     {
         match sender {
-            Sender::Operator => self.commands.get(reference).copied(),
-            Sender::Participant(bic) => self.messages.get(&(*bic, *reference)).copied(),
+            Sender::Operator => self.commands.get(&command_key(reference)).copied(),
+            Sender::Participant(bic) => self.messages.get(&message_key(bic, reference)).copied(),
         }
     }
 
@@ -59,8 +75,10 @@ impl Keys {
     {
         let reference = entry.reference();
         match entry.sender() {
-            Sender::Operator => put_first(&mut self.commands, reference, number),
-            Sender::Participant(bic) => put_first(&mut self.messages, (bic, reference), number),
+            Sender::Operator => put_first(&mut self.commands, command_key(&reference), number),
+            Sender::Participant(bic) => {
+                put_first(&mut self.messages, message_key(&bic, &reference), number)
+            }
         }
     }
 
@@ -71,9 +89,11 @@ impl Keys {
     {
         let reference = entry.reference();
         match entry.sender() {
-            Sender::Operator => take_number(&mut self.commands, reference, number),
+            Sender::Operator => {
+                take_number(&mut self.commands, command_key(&reference), number);
+            }
             Sender::Participant(bic) => {
-                take_number(&mut self.messages, (bic, reference), number);
+                take_number(&mut self.messages, message_key(&bic, &reference), number);
             }
         }
     }

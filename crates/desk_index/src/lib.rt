@@ -7,14 +7,13 @@
 //! (`match_key`), and `due_places` matched pairs by their days. `messages` finds what was sent, by
 //! the headings of the messages (`heading`): `addressed` what was sent to a participant, and `confirmations` what
 //! confirms an instruction. `noting` puts into the
-//! look-ups what a call adds, `tidying` takes out what a call or `back` ends. `first_numbers`, `counts`,
-//! `numbers_by_key` and `ordered` have the maps and sets beneath. Begin with specs/Indexed.antt, then `calls.rt`.
+//! look-ups what a call adds, `tidying` takes out what a call or `back` ends. `first_numbers`, `numbers_at`,
+//! `numbers_by_key` and `ordered` have the maps and sets beneath, and `tail_number` what keys are compared by first. Begin with specs/Indexed.antt, then `calls.rt`.
 #![tactic(auto)]
 
 mod addressed;
 mod calls;
 mod confirmations;
-mod counts;
 mod due_places;
 mod first_numbers;
 mod heading;
@@ -24,10 +23,12 @@ mod known;
 mod match_key;
 mod messages;
 mod noting;
+mod numbers_at;
 mod numbers_by_key;
 mod opposites;
 mod ordered;
 mod registered;
+mod tail_number;
 mod tidying;
 
 pub use indexed_register::IndexedRegister;

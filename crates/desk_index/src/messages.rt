@@ -1,5 +1,5 @@
 //! Where the sent messages are found: by the participants that they were sent to, and by what they confirm.
-ghost use Rattle.std.specs.Prelude.{◌≡◌, ◌+◌, ◌++◌, ◌∷◌, ◌<◌, ◌^◌, [], List, length, OnOk, OnErr};
+ghost use Rattle.std.specs.Prelude.{◌≡◌, ◌+◌, ◌++◌, ◌∷◌, [], List, length, OnOk, OnErr};
 ghost use Rattle.desk_index.specs.declared.heading.Heading.{Heading as HeadingValue};
 ghost use Rattle.desk_index.specs.Messages.{AreMessagesOf};
 
@@ -28,7 +28,6 @@ impl Messages {
 
     /// Notes a message, which has this number among all.
     pub fn note(&mut self, heading: &Heading, number: u64) -> Result<(), AllocError>
-        requires { (headings : List HeadingValue) × AreMessagesOf self.old headings × (length headings + 1 < 2 ^ 64) }
         ensures noted { (headings : List HeadingValue) → AreMessagesOf self.old headings → number ≡ length headings + 1
             → OnOk result (AreMessagesOf self.new (headings ++ heading.now ∷ [])) }
         ensures err { (headings : List HeadingValue) → AreMessagesOf self.old headings → number ≡ length headings + 1
@@ -47,7 +46,7 @@ impl Messages {
         ensures { (headings : List HeadingValue) → AreMessagesOf self.old (headings ++ heading.now ∷ []) → number ≡ length headings + 1
             → AreMessagesOf self.new headings }
     {
-        self.addressed.forget(heading, number);
+        self.addressed.forget(heading);
         self.confirmations.forget(heading, number);
     }
 }

@@ -1,5 +1,5 @@
 //! What an entry, a pair, and a message add to the look-ups.
-ghost use Rattle.std.specs.Prelude.{◌≡◌, ◌+◌, ◌++◌, ◌∷◌, ◌<◌, ◌^◌, [], List, length, true, OnOk, OnErr, Some};
+ghost use Rattle.std.specs.Prelude.{◌≡◌, ◌+◌, ◌++◌, ◌∷◌, [], List, length, true, OnOk, OnErr, Some};
 ghost use Rattle.std.specs.BTreeSet.{contains};
 ghost use Rattle.desk_rules.specs.declared.entry.Entry.{Entry as EntryValue};
 ghost use Rattle.desk_rules.specs.History.{instructed, instruction_at};
@@ -136,7 +136,6 @@ pub fn note_message(
     heading: &Heading,
     number: u64,
 ) -> Result<(), AllocError>
-    requires { (headings : List HeadingValue) × AreMessagesOf messages.old headings × (length headings + 1 < 2 ^ 64) }
     ensures noted { (headings : List HeadingValue) → AreMessagesOf messages.old headings → number ≡ length headings + 1 → OnOk result (AreMessagesOf messages.new (headings ++ heading.now ∷ [])) }
     ensures more { OnOk result (told.new.items ≡ told.old.items ++ heading.now ∷ []) }
     ensures err_noted { (headings : List HeadingValue) → AreMessagesOf messages.old headings → number ≡ length headings + 1 → OnErr result (AreMessagesOf messages.new headings) }
