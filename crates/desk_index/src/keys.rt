@@ -1,5 +1,5 @@
 //! Where each key stands: the number of the first entry with it.
-ghost use Rattle.std.specs.Prelude.{◌≡◌, ◌+◌, ◌++◌, ◌∷◌, [], ℕ, List, length, OnOk, OnErr};
+ghost use Rattle.std.specs.Prelude.{◌≡◌, ◌+◌, ◌++◌, ◌∷◌, [], List, length, OnOk, OnErr};
 ghost use Rattle.desk_rules.specs.declared.entry.Entry.{Entry as EntryValue};
 ghost use Rattle.desk_rules.specs.History.{number_of_key};
 ghost use Rattle.desk_lists.specs.Named.{number_named};

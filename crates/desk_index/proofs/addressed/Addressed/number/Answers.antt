@@ -1,4 +1,4 @@
-use Rattle.std.proofs.Common.{rules, arith, ◌≡◌, ◌+◌, ◌∙◌, ap}
+use Rattle.std.proofs.Common.{arith, ◌≡◌, ◌+◌, ◌∙◌, ap}
 use Rattle.std.specs.Prelude.{slice_get}
 use Rattle.desk_index.specs.Addressed.{is_to}
 use Rattle.desk_index.proofs.AddressedLemmas.{nth_of}
