@@ -4,3 +4,4 @@ pub mod RegisterLemmas
 pub mod EffectLemmas
 pub mod ReadingLemmas
 pub mod SameLemmas
+pub mod RecordedLemmas
