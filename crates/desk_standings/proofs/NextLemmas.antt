@@ -5,6 +5,8 @@ use Rattle.sqlite.specs.Order.{Row}
 use Rattle.sqlite.specs.Effect.{Database}
 use Rattle.desk_rules.specs.declared.pair.Place.{Place}
 use Rattle.desk_rules.specs.Settlement.{is_before, is_past}
+use Rattle.desk_rules.specs.Content.{Content}
+use Rattle.desk_register.specs.Looked.{IsDuePairAfter, IsMatchedPair}
 use Rattle.desk_standings.specs.Standings.{number_of_row}
 use Rattle.desk_standings.specs.Due.{is_due_among, is_due_in, place_numbered, same_place, IsBetween, IsDueBy, IsFirstBetween, IsFloor, IsNextDue}
 use Rattle.desk_standings.proofs.DueLemmas.{place_is}
@@ -51,3 +53,14 @@ module _ (db : Database) (after : Option Place) (floor : ℤ) (day end : ℕ) wh
         },
         λ p by. (let other = between bound last small p by in subst (λ q. is_before q (place_numbered n) ≡ false) other.1 (not_before other.0 n (first.1 other.0 other.2))),
       )
+
+-- ---- for the store
+
+-- where the places that are due are those of the matched pairs, the next of them is the next due pair
+pub due_pair_after : (db : Database) (content : Content) → ((p : Place) → is_due_in db p ≡ true → IsMatchedPair content p) → ((p : Place) → IsMatchedPair content p → is_due_in db p ≡ true)
+    → (after : Option Place) (day : ℕ) (next : Option Place) → IsNextDue db after day next → IsDuePairAfter content day after next
+due_pair_after db content sound complete after day None none = λ p due. none p (record { due = complete p due.pair; by = due.by; past = due.above })
+due_pair_after db content sound complete after day (Some next) it = (
+  record { pair = sound next it.0.due; by = it.0.by; above = it.0.past },
+  λ p due. it.1 p (record { due = complete p due.pair; by = due.by; past = due.above }),
+)

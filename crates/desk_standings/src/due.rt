@@ -26,7 +26,8 @@ fn add_row<S: Alter>(conn: &mut Connection<S>, place: u64) -> Result<usize, Erro
     )
 }
 
-/// The pair of a later instruction's number is due on a day. It is an error where it is so already.
+/// The pair of a later instruction's number is due on a day. Where it is so already that is refused with
+/// `ConstraintViolation`, and nothing has changed.
 pub fn note_due<S: Alter>(conn: &mut Connection<S>, day: Day, number: u64) -> Result<(), Error>
     requires { number < 1_000_000_000 }
     ensures changed { IfSound (state S.Store conn.old) (state S.Store conn.new) (AreDue (state S.Store conn.old).now → OnOk result (DueChanged (state S.Store conn.old).now (state S.Store conn.new).now
@@ -70,7 +71,8 @@ fn first_row<S: Alter>(conn: &mut Connection<S>, floor: i64, end: u64) -> Result
     )
 }
 
-/// The first due pair past a place, with none the first of all, whose day is not after one; None where there is none.
+/// The place of the first due pair past another place, whose day is not after a given one; with none, of the first of all.
+/// None where there is none. A row that says no place is answered with an error of its column.
 pub fn next_due<S: Alter>(
     conn: &mut Connection<S>,
     after: Option<Place>,

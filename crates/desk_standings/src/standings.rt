@@ -30,7 +30,7 @@ fn rows_of<S: Alter>(conn: &mut Connection<S>, number: u64) -> Result<Vec<Row>, 
 }
 
 /// Where the instruction of a number stands; what is no instruction stands nowhere. A row that says no standing is
-/// answered as an error.
+/// answered with `DatabaseCorrupt`.
 pub fn standing<S: Alter>(conn: &mut Connection<S>, number: u64) -> Result<Standing, Error>
     ensures value { IfSound (state S.Store conn.old) (state S.Store conn.new) (AreStandings (state S.Store conn.old).now → IfOk result (λ r. r ≡ standing_in (state S.Store conn.old).now number)) }
     ensures look { IsLook result (state S.Store conn.old) (state S.Store conn.new) }
@@ -55,8 +55,8 @@ fn add_row<S: Alter>(conn: &mut Connection<S>, number: u64) -> Result<usize, Err
     )
 }
 
-/// A new instruction: unmatched, with no mate, its cancellation not requested. It is an error where the number has a
-/// standing already.
+/// A new instruction: unmatched, with no mate, its cancellation not requested. Where the number has a standing already it
+/// is refused with `ConstraintViolation`, and nothing has changed.
 pub fn add_standing<S: Alter>(conn: &mut Connection<S>, number: u64) -> Result<(), Error>
     requires { number < 2 ^ 63 }
     ensures changed { IfSound (state S.Store conn.old) (state S.Store conn.new) (AreStandings (state S.Store conn.old).now → OnOk result (StandingsChanged (state S.Store conn.old).now (state S.Store conn.new).now (standing_at (standing_in (state S.Store conn.old).now) number fresh_standing))) }
@@ -95,7 +95,8 @@ fn write_standing<S: Alter>(
     )
 }
 
-/// An instruction has a mate, and stands so. It is an error where the number has no standing yet.
+/// An instruction has a mate, and stands so. Where the number has no standing yet nothing has changed, and the answer is
+/// `DatabaseCorrupt`.
 pub fn set_standing<S: Alter>(
     conn: &mut Connection<S>,
     number: u64,
@@ -142,7 +143,8 @@ fn write_state<S: Alter>(
     )
 }
 
-/// An instruction stands so, with the mate that it has. It is an error where the number has no standing yet.
+/// An instruction stands so, with the mate that it has. Where the number has no standing yet nothing has changed, and the
+/// answer is `DatabaseCorrupt`.
 pub fn set_state<S: Alter>(
     conn: &mut Connection<S>,
     number: u64,
@@ -172,7 +174,8 @@ fn write_request<S: Alter>(conn: &mut Connection<S>, number: u64) -> Result<usiz
     )
 }
 
-/// The cancellation of an instruction is requested. It is an error where the number has no standing yet.
+/// The cancellation of an instruction is requested. Where the number has no standing yet nothing has changed, and the
+/// answer is `DatabaseCorrupt`.
 pub fn ask<S: Alter>(conn: &mut Connection<S>, number: u64) -> Result<(), Error>
     requires { number < 2 ^ 63 }
     ensures changed { IfSound (state S.Store conn.old) (state S.Store conn.new) (AreStandings (state S.Store conn.old).now → OnOk result (StandingsChanged (state S.Store conn.old).now (state S.Store conn.new).now
