@@ -1,5 +1,5 @@
 -- What queries and changes of one table do, of any table.
-use Rattle.std.proofs.Common.{◌≡◌, ◌⊎◌, inl, inr, ℕ, ◌+◌, ◌<◌, ◌≤◌, pos, negsuc, List, [], ◌∷◌, length, map, filter, get_or, Bool, false, cond, None, All, refl, sym, ap, subst, ◌∙◌, arith}
+use Rattle.std.proofs.Common.{◌≡◌, ◌⊎◌, inl, inr, ℕ, ◌+◌, ◌<◌, ◌≤◌, pos, negsuc, List, [], ◌∷◌, length, map, filter, get_or, Bool, true, false, cond, None, All, refl, sym, ap, subst, ◌∙◌, arith}
 use Rattle.std.specs.List.{AllByRecursion, flat_map, list_all}
 use Rattle.std.specs.List.Sorted.{IsPermutation}
 use Rattle.std.specs.Ordering.{is_lt}
@@ -73,7 +73,7 @@ all_later : {X : Type 0} (ys : List X) (y : X) (xs : List X) → AllByRecursion 
 all_later ys y [] all = tt
 all_later ys y (x ∷ xs) all = (inr all.0, all_later ys y xs all.1)
 
-all_among : {X : Type 0} (xs : List X) → AllByRecursion (Among xs) xs
+pub all_among : {X : Type 0} (xs : List X) → AllByRecursion (Among xs) xs
 all_among [] = tt
 all_among (x ∷ xs) = (inl refl, all_later xs x xs (all_among xs))
 
@@ -91,6 +91,35 @@ among_of : {X Y : Type 0} (f : X → Y) (xs : List X) (x : X) → Among xs x →
 among_of f [] x h = absurd h
 among_of f (y ∷ ys) x (inl here) = inl (ap f here)
 among_of f (y ∷ ys) x (inr later) = inr (among_of f ys x later)
+
+pub among_kept : (p : Row → Bool) (xs : List Row) (x : Row) → Among xs x → p x ≡ true → Among (filter p xs) x
+among_kept p [] x h pass = absurd h
+among_kept p (y ∷ ys) x (inl here) pass =
+    let own : p y ≡ true = ap p (sym here) ∙ pass in
+    subst (λ xs. Among xs x) (sym (ap (λ b. cond b (y ∷ filter p ys) (filter p ys)) own)) (inl here)
+among_kept p (y ∷ ys) x (inr later) pass =
+    let more = among_kept p ys x later pass in
+    elim (cases_Bool (p y)) [
+      | inl here ↦ subst (λ xs. Among xs x) (sym (ap (λ b. cond b (y ∷ filter p ys) (filter p ys)) here)) (inr more)
+      | inr apart ↦ subst (λ xs. Among xs x) (sym (ap (λ b. cond b (y ∷ filter p ys) (filter p ys)) apart)) more
+    ]
+
+pub among_whole : (p : Row → Bool) (xs : List Row) (x : Row) → Among (filter p xs) x → Among xs x × (p x ≡ true)
+among_whole p [] x h = absurd h
+among_whole p (y ∷ ys) x h = elim (cases_Bool (p y)) [
+  | inl here ↦ kept here (λ later. among_whole p ys x later) (subst (λ xs. Among xs x) (ap (λ b. cond b (y ∷ filter p ys) (filter p ys)) here) h)
+  | inr apart ↦ (let it = among_whole p ys x (subst (λ xs. Among xs x) (ap (λ b. cond b (y ∷ filter p ys) (filter p ys)) apart) h) in (inr it.0, it.1))
+]
+  where
+    kept : p y ≡ true → (Among (filter p ys) x → Among ys x × (p x ≡ true)) → (x ≡ y) ⊎ Among (filter p ys) x → Among (y ∷ ys) x × (p x ≡ true)
+    kept own whole (inl same) = (inl same, ap p same ∙ own)
+    kept own whole (inr later) = let it = whole later in (inr it.0, it.1)
+
+pub only_one : (xs : List Row) (r x : Row) → xs ≡ r ∷ [] → Among xs x → x ≡ r
+only_one xs r x one h = elim (subst (λ ys. Among ys x) one h) [ inl same ↦ same | inr none ↦ absurd none ]
+
+pub none_among : (xs : List Row) (x : Row) → xs ≡ [] → Among xs x → ⊥
+none_among xs x none h = subst (λ ys. Among ys x) none h
 
 map_nil : {X Y : Type 0} (f : X → Y) (xs : List X) → map f xs ≡ [] → xs ≡ []
 map_nil f [] h = refl

@@ -1,5 +1,5 @@
 -- The next security that an account holds.
-use Rattle.std.proofs.Common.{◌≡◌, ◌⊎◌, inl, inr, ℕ, ◌<◌, pos, nat_lt, List, [], ◌∷◌, filter, Bool, true, false, cond, ◌&&◌, Some, Option, unwrap_or, refl, sym, ap, subst, ◌∙◌, arith}
+use Rattle.std.proofs.Common.{◌≡◌, inl, inr, ℕ, ◌<◌, pos, nat_lt, List, [], ◌∷◌, filter, Bool, true, false, cond, ◌&&◌, Some, Option, unwrap_or, refl, sym, ap, subst, ◌∙◌, arith}
 use Rattle.std.specs.Str.{bytes_eq}
 use Rattle.std.specs.Cmp.Lexicographic.{slice_cmp}
 use Rattle.std.specs.Ordering.{is_gt, is_lt, nat_cmp, int_cmp, ordering_reverse}
@@ -25,41 +25,10 @@ use Rattle.desk_amounts.specs.Keys.{Texts, same_texts}
 use Rattle.desk_amounts.specs.Statements.{next_text}
 use Rattle.desk_amounts.specs.Amounts.{AreAmounts, AreAmountRows, IsStored, amount_on, is_at, recorded, text_in, texts_in}
 use Rattle.desk_amounts.specs.Holdings.{IsHeldAbove, IsFirstAbove, IsLess, ShowsNext, held}
-use Rattle.desk_amounts.proofs.GenericLemmas.{Among, IsFirst, at_among, passes_all, walk}
+use Rattle.desk_amounts.proofs.GenericLemmas.{Among, IsFirst, among_kept, among_whole, at_among, none_among, only_one, passes_all, walk}
 use Rattle.desk_amounts.proofs.Meanings.{next_terms, next_is, next_query}
 use Rattle.desk_amounts.proofs.RowLemmas.{once, recorded_one, same_is, same_self}
 use Rattle.desk_amounts.proofs.EffectLemmas.{and_true, of_texts, same_found, text_test, truth_of}
-
--- ---- rows among others
-
-among_kept : (p : Row → Bool) (xs : List Row) (x : Row) → Among xs x → p x ≡ true → Among (filter p xs) x
-among_kept p [] x h pass = absurd h
-among_kept p (y ∷ ys) x (inl here) pass =
-    let own : p y ≡ true = ap p (sym here) ∙ pass in
-    subst (λ xs. Among xs x) (sym (ap (λ b. cond b (y ∷ filter p ys) (filter p ys)) own)) (inl here)
-among_kept p (y ∷ ys) x (inr later) pass =
-    let more = among_kept p ys x later pass in
-    elim (cases_Bool (p y)) [
-      | inl here ↦ subst (λ xs. Among xs x) (sym (ap (λ b. cond b (y ∷ filter p ys) (filter p ys)) here)) (inr more)
-      | inr apart ↦ subst (λ xs. Among xs x) (sym (ap (λ b. cond b (y ∷ filter p ys) (filter p ys)) apart)) more
-    ]
-
-among_whole : (p : Row → Bool) (xs : List Row) (x : Row) → Among (filter p xs) x → Among xs x × (p x ≡ true)
-among_whole p [] x h = absurd h
-among_whole p (y ∷ ys) x h = elim (cases_Bool (p y)) [
-  | inl here ↦ kept here (λ later. among_whole p ys x later) (subst (λ xs. Among xs x) (ap (λ b. cond b (y ∷ filter p ys) (filter p ys)) here) h)
-  | inr apart ↦ (let it = among_whole p ys x (subst (λ xs. Among xs x) (ap (λ b. cond b (y ∷ filter p ys) (filter p ys)) apart) h) in (inr it.0, it.1))
-]
-  where
-    kept : p y ≡ true → (Among (filter p ys) x → Among ys x × (p x ≡ true)) → (x ≡ y) ⊎ Among (filter p ys) x → Among (y ∷ ys) x × (p x ≡ true)
-    kept own whole (inl same) = (inl same, ap p same ∙ own)
-    kept own whole (inr later) = let it = whole later in (inr it.0, it.1)
-
-only_one : (xs : List Row) (r x : Row) → xs ≡ r ∷ [] → Among xs x → x ≡ r
-only_one xs r x one h = elim (subst (λ ys. Among ys x) one h) [ inl same ↦ same | inr none ↦ absurd none ]
-
-none_among : (xs : List Row) (x : Row) → xs ≡ [] → Among xs x → ⊥
-none_among xs x none h = subst (λ ys. Among ys x) none h
 
 -- ---- which rows pass
 

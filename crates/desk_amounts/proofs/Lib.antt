@@ -5,3 +5,4 @@ pub mod EffectLemmas
 pub mod HoldingLemmas
 pub mod AmountLemmas
 pub mod ClauseLemmas
+pub mod PermutationLemmas
