@@ -1,0 +1,7 @@
+pub mod GenericLemmas
+pub mod NumberedLemmas
+pub mod TextLemmas
+pub mod RowLemmas
+pub mod EntryLemmas
+pub mod LookLemmas
+pub mod SecurityLemmas

@@ -1,0 +1,87 @@
+//! The look-ups.
+ghost use Rattle.std.specs.Prelude.{◌≡◌, List, option_map, IfOk};
+ghost use Rattle.sqlite.specs.Held.{state};
+ghost use Rattle.desk_codes.specs.Number.{number_of};
+ghost use Rattle.desk_rules.specs.declared.reply.Kept.{Kept};
+ghost use Rattle.desk_rules.specs.Facts.{is_participant, owner_of, kind_of, last_run};
+ghost use Rattle.desk_rules.specs.History.{number_of_key};
+ghost use Rattle.desk_register.specs.Looked.{IsSecurityAfter};
+ghost use Rattle.desk_tables.specs.Ends.{IfSound, IsLook};
+ghost use Rattle.desk_entries.specs.Entries.{AreEntries, entries_in};
+
+use crate::rows::{is_shown, only_bic, only_day, only_isin, only_kind, only_number};
+use crate::texts;
+use desk_codes::{AccountId, Bic, Day, Isin, Reference};
+use desk_msg::Kind;
+use desk_rules::Sender;
+use sqlite::{Alter, Connection, Error};
+
+/// The number of the first entry of this sender and reference; None where there is none.
+pub fn number_of<S: Alter>(
+    conn: &mut Connection<S>,
+    sender: Sender,
+    reference: Reference,
+) -> Result<Option<u64>, Error>
+    ensures value { IfSound (state S.Store conn.old) (state S.Store conn.new) ((register : List Kept) → AreEntries (state S.Store conn.old).now register → IfOk result (λ r. r ≡ number_of_key (entries_in register) sender reference)) }
+    ensures look { IsLook result (state S.Store conn.old) (state S.Store conn.new) }
+{
+    let rows = match sender {
+        Sender::Operator => texts::entry_of_operator(conn, reference)?,
+        Sender::Participant(bic) => texts::entry_of_participant(conn, bic, reference)?,
+    };
+    only_number(&rows)
+}
+
+/// Whether a BIC is a participant's.
+pub fn is_participant<S: Alter>(conn: &mut Connection<S>, bic: Bic) -> Result<bool, Error>
+    ensures value { IfSound (state S.Store conn.old) (state S.Store conn.new) ((register : List Kept) → AreEntries (state S.Store conn.old).now register → IfOk result (λ r. r ≡ is_participant (entries_in register) bic)) }
+    ensures look { IsLook result (state S.Store conn.old) (state S.Store conn.new) }
+{
+    let rows = texts::participant(conn, bic)?;
+    is_shown(&rows)
+}
+
+/// Whose an account is; None where there is no such account.
+pub fn owner_of<S: Alter>(
+    conn: &mut Connection<S>,
+    account: AccountId,
+) -> Result<Option<Bic>, Error>
+    ensures value { IfSound (state S.Store conn.old) (state S.Store conn.new) ((register : List Kept) → AreEntries (state S.Store conn.old).now register → IfOk result (λ r. r ≡ owner_of (entries_in register) account)) }
+    ensures look { IsLook result (state S.Store conn.old) (state S.Store conn.new) }
+{
+    let rows = texts::owner(conn, account)?;
+    only_bic(&rows)
+}
+
+/// How a security is counted; None where there is no such security.
+pub fn kind_of<S: Alter>(conn: &mut Connection<S>, isin: Isin) -> Result<Option<Kind>, Error>
+    ensures value { IfSound (state S.Store conn.old) (state S.Store conn.new) ((register : List Kept) → AreEntries (state S.Store conn.old).now register → IfOk result (λ r. r ≡ kind_of (entries_in register) isin)) }
+    ensures look { IsLook result (state S.Store conn.old) (state S.Store conn.new) }
+{
+    let rows = texts::security(conn, isin)?;
+    only_kind(&rows)
+}
+
+/// The first security, in order of its bytes, after one; with none, the first of all. None where there is none.
+pub fn security_after<S: Alter>(
+    conn: &mut Connection<S>,
+    isin: Option<Isin>,
+) -> Result<Option<Isin>, Error>
+    ensures value { IfSound (state S.Store conn.old) (state S.Store conn.new) ((register : List Kept) → AreEntries (state S.Store conn.old).now register → IfOk result (λ r. IsSecurityAfter (entries_in register) isin r)) }
+    ensures look { IsLook result (state S.Store conn.old) (state S.Store conn.new) }
+{
+    let rows = match isin {
+        Some(isin) => texts::security_above(conn, isin)?,
+        None => texts::first_security(conn)?,
+    };
+    only_isin(&rows)
+}
+
+/// The day of the last run; None before any.
+pub fn last_run<S: Alter>(conn: &mut Connection<S>) -> Result<Option<Day>, Error>
+    ensures value { IfSound (state S.Store conn.old) (state S.Store conn.new) ((register : List Kept) → AreEntries (state S.Store conn.old).now register → IfOk result (λ r. option_map number_of r ≡ last_run (entries_in register))) }
+    ensures look { IsLook result (state S.Store conn.old) (state S.Store conn.new) }
+{
+    let rows = texts::last_run_day(conn)?;
+    only_day(&rows)
+}
