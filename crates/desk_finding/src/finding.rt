@@ -1,4 +1,5 @@
-//! The look-ups.
+//! The look-ups. Each fails as its statement does; a row that says nothing that the desk writes is told as a damaged
+//! database, `ErrorCode::DatabaseCorrupt`.
 ghost use Rattle.std.specs.Prelude.{◌≡◌, List, option_map, IfOk};
 ghost use Rattle.sqlite.specs.Held.{state};
 ghost use Rattle.desk_codes.specs.Number.{number_of};
