@@ -36,7 +36,8 @@ fn rows_of<S: Alter>(conn: &mut Connection<S>, key: &AmountKey) -> Result<Vec<Ro
     )
 }
 
-/// What is recorded under a key; None where nothing is.
+/// What is recorded under a key; None where nothing is. An amount below 0, which no call writes, is answered with
+/// `DatabaseCorrupt`.
 pub fn amount<S: Alter>(conn: &mut Connection<S>, key: &AmountKey) -> Result<Option<u64>, Error>
     ensures value { IfSound (state S.Store conn.old) (state S.Store conn.new) (AreAmounts (state S.Store conn.old).now → IfOk result (λ r. r ≡ amount_at (state S.Store conn.old).now key.now)) }
     ensures look { IsLook result (state S.Store conn.old) (state S.Store conn.new) }
@@ -55,6 +56,7 @@ fn is_recorded<S: Alter>(conn: &mut Connection<S>, key: &AmountKey) -> Result<bo
 }
 
 /// Takes an amount off, where there is as much: true. Where there is less, or nothing: false, and nothing has changed.
+/// What is 0 then stays recorded.
 pub fn take<S: Alter>(conn: &mut Connection<S>, key: &AmountKey, amount: u64) -> Result<bool, Error>
     requires small { amount < 2 ^ 63 }
     ensures changed { IfSound (state S.Store conn.old) (state S.Store conn.new) (AreAmounts (state S.Store conn.old).now → IfOk result (Takes (state S.Store conn.old).now (state S.Store conn.new).now key.now amount)) }
@@ -109,7 +111,8 @@ fn insert<S: Alter>(conn: &mut Connection<S>, key: &AmountKey, amount: u64) -> R
     )
 }
 
-/// Puts an amount on, whether or not something is recorded under the key.
+/// Puts an amount on, whether or not something is recorded under the key. A sum that is not below 2^63 is refused with
+/// `ConstraintViolation`, and nothing has changed.
 pub fn put<S: Alter>(conn: &mut Connection<S>, key: &AmountKey, amount: u64) -> Result<(), Error>
     requires small { amount < 2 ^ 63 }
     ensures changed { IfSound (state S.Store conn.old) (state S.Store conn.new) (AreAmounts (state S.Store conn.old).now → had (state S.Store conn.old).now key.now + amount < 2 ^ 63 → OnOk result (SetsAmount (state S.Store conn.old).now (state S.Store conn.new).now key.now (had (state S.Store conn.old).now key.now + amount))) }

@@ -42,7 +42,8 @@ fn next_rows<S: Alter>(
 }
 
 /// The first security, in order of its bytes, above one of which the account holds some, and how much; with none, the
-/// first of all. None where there is none.
+/// first of all. None where there is none. A row of a text that is no ISIN, which no call writes, is answered with
+/// `DatabaseCorrupt`.
 pub fn next_holding<S: Alter>(
     conn: &mut Connection<S>,
     account: AccountId,
