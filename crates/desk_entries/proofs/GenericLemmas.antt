@@ -97,7 +97,7 @@ all_among : {X : Type 0} (xs : List X) → AllByRecursion (Among xs) xs
 all_among [] = tt
 all_among (x ∷ xs) = (inl refl, all_later xs x xs (all_among xs))
 
-among_map : {X Y : Type 0} (f : X → Y) (xs : List X) (y : Y) → Among (map f xs) y → (x : X) × Among xs x × (y ≡ f x)
+pub among_map : {X Y : Type 0} (f : X → Y) (xs : List X) (y : Y) → Among (map f xs) y → (x : X) × Among xs x × (y ≡ f x)
 among_map f [] y h = absurd h
 among_map f (x ∷ xs) y (inl here) = (x, inl refl, here)
 among_map f (x ∷ xs) y (inr later) = let it = among_map f xs y later in (it.0, inr it.1, it.2)
@@ -107,7 +107,7 @@ at_among P [] all x h = absurd h
 at_among P (y ∷ ys) all x (inl here) = subst P (sym here) all.0
 at_among P (y ∷ ys) all x (inr later) = at_among P ys all.1 x later
 
-among_of : {X Y : Type 0} (f : X → Y) (xs : List X) (x : X) → Among xs x → Among (map f xs) (f x)
+pub among_of : {X Y : Type 0} (f : X → Y) (xs : List X) (x : X) → Among xs x → Among (map f xs) (f x)
 among_of f [] x h = absurd h
 among_of f (y ∷ ys) x (inl here) = inl (ap f here)
 among_of f (y ∷ ys) x (inr later) = inr (among_of f ys x later)

@@ -45,9 +45,10 @@ pub(crate) const PLACE: usize = 14;
 pub(crate) const PREVIOUS: usize = 15;
 
 /// What is answered where a row says nothing that this desk has written.
-pub(crate) const CORRUPT: Error = Error::SqliteFailure(ErrorCode::DatabaseCorrupt);
+pub const CORRUPT: Error = Error::SqliteFailure(ErrorCode::DatabaseCorrupt);
 
-pub(crate) fn text_at(row: &Row, at: usize) -> Result<&[u8], Error>
+/// The text in a column.
+pub fn text_at(row: &Row, at: usize) -> Result<&[u8], Error>
     ensures { IfOk result (λ text. column row.now at ≡ Text text.now) }
 {
     match row.get_ref(at)? {
@@ -56,7 +57,8 @@ pub(crate) fn text_at(row: &Row, at: usize) -> Result<&[u8], Error>
     }
 }
 
-pub(crate) fn number_at(row: &Row, at: usize) -> Result<u64, Error>
+/// The number in a column, which is not below 0.
+pub fn number_at(row: &Row, at: usize) -> Result<u64, Error>
     ensures { IfOk result (λ number. column row.now at ≡ Int (pos number)) }
 {
     match row.get_ref(at)? {
@@ -86,7 +88,8 @@ pub(crate) fn account_at(row: &Row, at: usize) -> Result<AccountId, Error>
     }
 }
 
-pub(crate) fn isin_at(row: &Row, at: usize) -> Result<Isin, Error>
+/// The ISIN in a column.
+pub fn isin_at(row: &Row, at: usize) -> Result<Isin, Error>
     ensures { IfOk result (λ isin. column row.now at ≡ Text isin) }
 {
     match Isin::parse(text_at(row, at)?) {
@@ -96,7 +99,7 @@ pub(crate) fn isin_at(row: &Row, at: usize) -> Result<Isin, Error>
 }
 
 /// A BIC in its one spelling, without the branch XXX.
-pub(crate) fn bic_at(row: &Row, at: usize) -> Result<Bic, Error>
+pub fn bic_at(row: &Row, at: usize) -> Result<Bic, Error>
     ensures { IfOk result (λ bic. column row.now at ≡ Text bic) }
 {
     let text = text_at(row, at)?;
@@ -111,7 +114,8 @@ pub(crate) fn bic_at(row: &Row, at: usize) -> Result<Bic, Error>
     }
 }
 
-pub(crate) fn day_at(row: &Row, at: usize) -> Result<Day, Error>
+/// The day in a column.
+pub fn day_at(row: &Row, at: usize) -> Result<Day, Error>
     ensures { IfOk result (λ day. column row.now at ≡ Text day) }
 {
     let text = text_at(row, at)?;
@@ -135,7 +139,8 @@ pub(crate) fn currency_at(row: &Row, at: usize) -> Result<Ccy, Error>
     }
 }
 
-pub(crate) fn kind_at(row: &Row, at: usize) -> Result<Kind, Error>
+/// The quantity type in a column.
+pub fn kind_at(row: &Row, at: usize) -> Result<Kind, Error>
     ensures { IfOk result (λ kind. column row.now at ≡ Text (code_of_kind kind)) }
 {
     match Kind::try_from(text_at(row, at)?) {

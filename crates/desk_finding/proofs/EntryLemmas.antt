@@ -22,7 +22,7 @@ use Rattle.desk_tables.specs.Schema.{desk_schema}
 use Rattle.desk_entries.specs.Columns.{kind_number, about_of, columns_of}
 use Rattle.desk_entries.specs.Entries.{AreEntries, entries_in, row_of, rows_from}
 use Rattle.desk_finding.specs.Rows.{number_rows, text_rows}
-use Rattle.desk_finding.proofs.GenericLemmas.{passes_all, walk, IsFirst}
+use Rattle.desk_entries.proofs.GenericLemmas.{passes_all, walk, IsFirst}
 use Rattle.desk_finding.proofs.NumberedLemmas.{Numbered, numbered, found, row_at, show_first, show_last, filter_numbered, found_rise, first_shown, last_shown}
 use Rattle.desk_finding.proofs.TextLemmas.{Finds}
 
@@ -43,7 +43,7 @@ module _ (old new : State) (has : old.now.schema ≡ desk_schema) (register : Li
   pub first_found : (key : Term) (descending : Bool) → Finds text key descending terms shown → IsFirst (map (row_at row_with) (found passes 0 register)) params shown key descending rows
   first_found key descending finds =
       let answers = reads_as text params old new desk_schema has _ finds.is finds.query.plain finds.query.unlisted rows h in
-      subst (λ mine. IsFirst mine params shown key descending rows) here (walk key descending 6 terms shown (overlay old.now.trees []) params rows (answers.answer Null))
+      subst (λ mine. IsFirst mine params shown key descending rows) here (walk 6 terms shown key descending (overlay old.now.trees []) params rows (answers.answer Null))
 
   module _ (shows : Numbered Kept → Row) (shows_is : (it : Numbered Kept) → eval_all shown (params ∷ row_at row_with it ∷ []) ≡ shows it) where
     pub shows_first : Finds text (col 1 0) false terms shown → rows ≡ show_first shows (found passes 0 register)

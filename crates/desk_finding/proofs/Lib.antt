@@ -1,4 +1,3 @@
-pub mod GenericLemmas
 pub mod NumberedLemmas
 pub mod TextLemmas
 pub mod RowLemmas

@@ -1,16 +1,14 @@
 -- The first and the last of numbered rows that pass a test.
 use Rattle.std.proofs.Common.{◌≡◌, inl, inr, ℕ, ◌+◌, ◌<◌, ◌≤◌, pos, List, [], ◌∷◌, map, filter, Bool, true, false, cond, refl, sym, ap, subst, ◌∙◌, arith}
 use Rattle.std.specs.List.{AllByRecursion}
-use Rattle.std.specs.declared.cmp.Ordering.TheVariants.{Less, Equal, Greater}
 use Rattle.std.specs.Ordering.{is_lt}
-use Rattle.std.proofs.lemmas.Bool.{cases_Bool, lt-ltb, both_ways}
-use Rattle.std.proofs.Math.Dec.{ltb}
-use Rattle.sqlite.specs.Order.{Row, value_cmp}
-use Rattle.sqlite_value.proofs.OrderLemmas.{value_cmp-Int}
+use Rattle.std.proofs.lemmas.Bool.{cases_Bool, both_ways}
+use Rattle.sqlite.specs.Order.{Row}
+use Rattle.sqlite.specs.declared.types.Value.{Value}
 use Rattle.sqlite.specs.declared.types.Value.TheVariants.{Int}
 use Rattle.sqlite.specs.Term.{Term, eval, eval_all}
 use Rattle.sqlite.specs.Tree.{IsAscending}
-use Rattle.desk_finding.proofs.GenericLemmas.{Among, among_map, among_of, at_among, is_before, IsFirst}
+use Rattle.desk_entries.proofs.GenericLemmas.{Among, among_map, among_of, at_among, below, ranked, IsFirst}
 
 -- what a row is made of, with its number
 abbrev pub Numbered : Type 0 → Type 0
@@ -62,8 +60,12 @@ found_rise passes n (x ∷ xs) = elim (cases_Bool (passes x)) [
   | inr apart ↦ rw apart (found_rise passes (n + 1) xs)
 ]
 
-before_by_number : (m n : ℕ) → m < n → is_lt (value_cmp (Int (pos m)) (Int (pos n))) ≡ true
-before_by_number m n low = ap is_lt (value_cmp-Int (pos m) (pos n) ∙ ap (λ b. cond b Less (cond (ltb n m) Greater Equal)) (lt-ltb m n low))
+-- one value stands before another in the order of a query
+abbrev pub is_before : Bool → Value → Value → Bool
+is_before descending a b = is_lt (ranked descending a b)
+
+before_by_number : (m n : ℕ) → m < n → is_before false (Int (pos m)) (Int (pos n)) ≡ true
+before_by_number m n low = ap is_lt (below m n low)
 
 -- ---- the first and the last
 

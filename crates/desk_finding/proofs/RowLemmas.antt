@@ -17,12 +17,8 @@ use Rattle.desk_rules.specs.declared.reply.Reply.{Reply}
 use Rattle.desk_rules.specs.History.{sender_of, reference_of, same_sender, has_key}
 use Rattle.desk_entries.specs.Columns.{sender_text, kind_number, about_of}
 use Rattle.desk_entries.specs.Entries.{row_of}
-use Rattle.desk_finding.proofs.GenericLemmas.{passes_all}
+use Rattle.desk_entries.proofs.GenericLemmas.{passes_all, number_test, truth_of}
 use Rattle.desk_finding.proofs.TextLemmas.{is_param, is_number, is_other, is_empty, is_above}
-
-truth_of : (b : Bool) → is_true (from_truth (Some b)) ≡ b
-truth_of true = refl
-truth_of false = refl
 
 and_true : (b : Bool) → (b && true) ≡ b
 and_true true = refl
@@ -36,14 +32,8 @@ text_test s t = truth_of (is_eq (value_cmp (Words s) (Words t))) ∙ ap is_eq (v
 above_test : (s t : List ℕ) → is_true (from_truth (Some (is_gt (value_cmp (Words s) (Words t))))) ≡ is_gt (slice_cmp nat_cmp s t)
 above_test s t = truth_of (is_gt (value_cmp (Words s) (Words t))) ∙ ap is_gt (value_cmp-Text s t)
 
-nat_equal : (m n : ℕ) → is_eq (int_cmp (pos m) (pos n)) ≡ nat_eq m n
-nat_equal m n = grind (arith, nat_tests)
-
 nat_unequal : (m n : ℕ) → is_ne (int_cmp (pos m) (pos n)) ≡ not (nat_eq m n)
 nat_unequal m n = grind (arith, nat_tests)
-
-number_test : (m n : ℕ) → is_true (from_truth (Some (is_eq (value_cmp (Int (pos m)) (Int (pos n)))))) ≡ nat_eq m n
-number_test m n = truth_of (is_eq (value_cmp (Int (pos m)) (Int (pos n)))) ∙ ap is_eq (value_cmp-Int (pos m) (pos n)) ∙ nat_equal m n
 
 other_test : (m n : ℕ) → is_true (from_truth (Some (is_ne (value_cmp (Int (pos m)) (Int (pos n)))))) ≡ not (nat_eq m n)
 other_test m n = truth_of (is_ne (value_cmp (Int (pos m)) (Int (pos n)))) ∙ ap is_ne (value_cmp-Int (pos m) (pos n)) ∙ nat_unequal m n

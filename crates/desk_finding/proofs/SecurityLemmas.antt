@@ -27,8 +27,8 @@ use Rattle.desk_tables.specs.Schema.{desk_schema}
 use Rattle.desk_entries.specs.Columns.{kind_number, about_of}
 use Rattle.desk_entries.specs.Entries.{AreEntries, entries_in}
 use Rattle.desk_finding.specs.Rows.{text_rows}
-use Rattle.desk_finding.proofs.GenericLemmas.{Among, among_map, among_of, is_before, IsFirst}
-use Rattle.desk_finding.proofs.NumberedLemmas.{Numbered, found, row_at}
+use Rattle.desk_entries.proofs.GenericLemmas.{Among, among_map, among_of, IsFirst}
+use Rattle.desk_finding.proofs.NumberedLemmas.{Numbered, found, row_at, is_before}
 use Rattle.desk_finding.proofs.TextLemmas.{first_security_text, finds_first_security, next_security_text, finds_next_security}
 use Rattle.desk_finding.proofs.RowLemmas.{kind_test, later_test}
 use Rattle.desk_finding.proofs.EntryLemmas.{row_with, first_found}

@@ -11,7 +11,7 @@ use Rattle.sqlite_tied.specs.Compute.{everything}
 use Rattle.sqlite.proofs.Callers.{command_of}
 use Rattle.desk_tables.specs.Schema.{desk_schema}
 use Rattle.desk_tables.specs.Statements.{IsQuery}
-use Rattle.desk_finding.proofs.GenericLemmas.{first_by}
+use Rattle.desk_entries.proofs.GenericLemmas.{walk_query}
 
 -- a column of the table is a parameter, or a literal
 abbrev pub is_param : ℕ → ℕ → Term
@@ -32,7 +32,7 @@ is_above at param = op2 (Compare Gt Binary) (col 1 at) (col 0 param)
 -- what a text means: the first row, in order of a column, that passes some tests
 pub record Finds (text : List ℕ) (key : Term) (descending : Bool) (terms shown : List Term) : Type 0 where
   pub names : List (List ℕ)
-  pub is : command_of (understood desk_schema text) ≡ Select (record { lets = []; body = first_by key descending 6 terms shown }) names
+  pub is : command_of (understood desk_schema text) ≡ Select (record { lets = []; body = walk_query 6 terms shown key descending }) names
   pub query : IsQuery text
 
 -- ---- numbers
