@@ -137,7 +137,7 @@ def trials_of_proofs(room):
     status, told = run(room, script)
     yield "a failed proof", status == 3 and told.endswith(f"  a note\nfn desk_text::b: not proved\ndesk: what is not proved, \
 the goals (the clauses are in their names) and then the functions:\n{OPEN}"), (status, told)
-    yield "how far it was", "desk:   1 of 2 functions checked\n" in told, (status, told)
+    yield "how far it was", "desk:   1 of 2 functions\n" in told, (status, told)
     yield "no file is left", not kept_in(room), (status, kept_in(room))
     for tool in TOOLS:
         os.makedirs(f"{room}/tools", exist_ok=True)

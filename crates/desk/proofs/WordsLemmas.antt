@@ -13,8 +13,10 @@ use Rattle.clap.proofs.OnLiterals.{clap_on_literals}
 use Rattle.desk_msg.specs.MessageType.{digits_of_type, is_instruction}
 use Rattle.desk_msg.specs.declared.mt.Mt.{Mt}
 use Rattle.desk_msg.specs.declared.mt.Mt.TheVariants.{Mt540, Mt541, Mt542, Mt543, Mt544, Mt545, Mt546, Mt547}
-use Rattle.desk.specs.Words.{CallValue, IsAskable, IsSpelledOut, IsSaid, IsSaidBy, IsSaidIn, IsTypeText, value_of_call, desk_app, IsNumberText, isin, play, read, serve, words_for}
+use Rattle.desk.specs.Words.{CallValue, IsAskable, IsSpelledOut, IsSaid, IsSaidBy, IsSaidIn, IsTypeText, value_of_call, desk_app, IsNumberText, IsTopic, explain, isin, play, read, serve, words_for}
 use Rattle.desk.specs.declared.words.Call.{Call}
+use Rattle.desk.specs.declared.words.Topic.{Topic}
+use Rattle.desk.specs.declared.words.Topic.TheVariants.{Catalogue, Number}
 
 pub simple : is_simple desk_app ≡ true
 unfolding clap_on_literals
@@ -62,10 +64,16 @@ takes_play : (program : List ℕ) → takes desk_app (program ∷ words_for play
 unfolding clap_on_literals
 takes_play program = refl
 
+takes_explain : (program : List ℕ) → takes desk_app (program ∷ words_for (explain Catalogue)) ≡ true
+unfolding clap_on_literals
+takes_explain program = refl
+
 pub takes_asked : (program : List ℕ) (asked : CallValue) → IsAskable asked → takes desk_app (program ∷ words_for asked) ≡ true
 takes_asked program (isin code) other = takes_isin program code (no_dashes code other) (no_long code other) (no_short code other)
 takes_asked program (read mt) is = takes_read program mt is
 takes_asked program play is = takes_play program
+takes_asked program (explain Catalogue) is = takes_explain program
+takes_asked program (explain (Number number)) never = absurd never
 takes_asked program (serve port count) never = absurd never
 
 pub takes_nothing : (program : List ℕ) → takes desk_app (program ∷ []) ≡ true
@@ -95,10 +103,16 @@ enters_play : (program : List ℕ) → IsSomeAnd (subcommand_of desk_app (progra
 unfolding clap_on_literals
 enters_play program = refl
 
+enters_explain : (program : List ℕ) → IsSomeAnd (subcommand_of desk_app (program ∷ words_for (explain Catalogue))) (λ p. (p.0 ≡ codes "explain") × (first_of (codes "number") p.1 ≡ None))
+unfolding clap_on_literals
+enters_explain program = (refl, refl)
+
 pub enters_asked : (program : List ℕ) (asked : CallValue) → IsAskable asked → IsSomeAnd (subcommand_of desk_app (program ∷ words_for asked)) (λ p. IsSpelledOut asked p.0 p.1)
 enters_asked program (isin code) other = enters_isin program code (no_dashes code other) (no_long code other) (no_short code other)
 enters_asked program (read mt) is = enters_read program mt is
 enters_asked program play is = enters_play program
+enters_asked program (explain Catalogue) is = enters_explain program
+enters_asked program (explain (Number number)) never = absurd never
 enters_asked program (serve port count) never = absurd never
 
 pub enters_nothing : (program : List ℕ) → subcommand_of desk_app (program ∷ []) ≡ None
@@ -137,6 +151,8 @@ module _ (asked : CallValue) (name : List ℕ) (f : Found) where
       go (isin code) h = (code, refl, first_value-rows f (codes "code") ∙ h.1)
       go (read mt) h = let bad : 114 ≡ 105 = ap (λ t. slice_index t 0) (sym h.0 ∙ is) in absurd (omega (arith, bad))
       go play h = let bad : 112 ≡ 105 = ap (λ t. slice_index t 0) (sym h ∙ is) in absurd (omega (arith, bad))
+      go (explain Catalogue) h = let bad : 101 ≡ 105 = ap (λ t. slice_index t 0) (sym h.0 ∙ is) in absurd (omega (arith, bad))
+      go (explain (Number number)) h = absurd h
       go (serve port count) h = absurd h
 
   named_read : name ≡ codes "read" → IsSpelledOut asked name (rows_of f) → (mt : Mt) × (asked ≡ read mt) × (one_text f (codes "mt") ≡ Some (digits_of_type mt)) × (is_instruction mt ≡ true)
@@ -146,7 +162,26 @@ module _ (asked : CallValue) (name : List ℕ) (f : Found) where
       go (isin code) h = let bad : 105 ≡ 114 = ap (λ t. slice_index t 0) (sym h.0 ∙ is) in absurd (omega (arith, bad))
       go (read mt) h = (mt, refl, one_text-rows f (codes "mt") ∙ h.1, h.2)
       go play h = let bad : 112 ≡ 114 = ap (λ t. slice_index t 0) (sym h ∙ is) in absurd (omega (arith, bad))
+      go (explain Catalogue) h = let bad : 101 ≡ 114 = ap (λ t. slice_index t 0) (sym h.0 ∙ is) in absurd (omega (arith, bad))
+      go (explain (Number number)) h = absurd h
       go (serve port count) h = absurd h
+
+  named_explain : name ≡ codes "explain" → IsSpelledOut asked name (rows_of f) → (asked ≡ explain Catalogue) × (first_value f (codes "number") ≡ None)
+  named_explain is named = go asked named
+    where
+      go : (a : CallValue) → IsSpelledOut a name (rows_of f) → (a ≡ explain Catalogue) × (first_value f (codes "number") ≡ None)
+      go (isin code) h = let bad : 105 ≡ 101 = ap (λ t. slice_index t 0) (sym h.0 ∙ is) in absurd (omega (arith, bad))
+      go (read mt) h = let bad : 114 ≡ 101 = ap (λ t. slice_index t 0) (sym h.0 ∙ is) in absurd (omega (arith, bad))
+      go play h = let bad : 112 ≡ 101 = ap (λ t. slice_index t 0) (sym h ∙ is) in absurd (omega (arith, bad))
+      go (explain Catalogue) h = (refl, first_value-rows f (codes "number") ∙ h.1)
+      go (explain (Number number)) h = absurd h
+      go (serve port count) h = absurd h
+
+  pub no_topic : name ≡ codes "explain" → (first_value f (codes "number") ≡ None → ⊥) → IsSpelledOut asked name (rows_of f) → ⊥
+  no_topic is some named = some (named_explain is named).1
+
+  pub same_topic : (found : Topic) → name ≡ codes "explain" → (first_value f (codes "number") ≡ None → found ≡ Catalogue) → IsSpelledOut asked name (rows_of f) → explain found ≡ asked
+  same_topic found is one named = let n = named_explain is named in ap explain (one n.1) ∙ sym n.0
 
   pub no_code : name ≡ codes "isin" → None ≡ first_value f (codes "code") → IsSpelledOut asked name (rows_of f) → ⊥
   no_code is none named = let n = named_isin is named in let bad : None ≡ Some n.0 = none ∙ n.2 in cc
@@ -198,6 +233,12 @@ pub said_type : (name : List ℕ) (f : Found) (mt : Mt) → name ≡ codes "read
 said_type name f mt is text =
     let P : Option (List ℕ) → Type 0 = λ found. IsSomeAnd found (IsTypeText mt) in
     (is, subst P (one_text-rows f (codes "mt")) text)
+
+pub said_topic : (name : List ℕ) (f : Found) (topic : Topic) → name ≡ codes "explain" → IsTopic topic (first_value f (codes "number")) (one_text f (codes "number")) → IsSaid (explain topic) name (rows_of f)
+said_topic name f Catalogue is none = (is, sym (first_value-rows f (codes "number")) ∙ none)
+said_topic name f (Number number) is text =
+    let P : Option (List ℕ) → Type 0 = λ found. IsSomeAnd found (IsNumberText number) in
+    (is, subst P (one_text-rows f (codes "number")) text)
 
 pub said_service : (name : List ℕ) (f : Found) (port count : ℕ) → name ≡ codes "serve" → IsSomeAnd (one_text f (codes "port")) (IsNumberText port) → IsSomeAnd (one_text f (codes "count")) (IsNumberText count)
     → IsSaid (serve port count) name (rows_of f)

@@ -1,4 +1,5 @@
 pub mod CallAnswer
+pub mod ExplainAnswer
 pub mod IsinAnswer
 pub mod PlayAnswer
 pub mod ReadAnswer

@@ -1,26 +1,30 @@
 -- Which words ask for what.
-use Rattle.std.specs.Prelude.{◌≡◌, ◌≢◌, ℕ, List, [], ◌∷◌, Option, Some, pos, true, codes, decimal, slice_index, IsSomeAnd, MatchOption}
+use Rattle.std.specs.Prelude.{◌≡◌, ◌≢◌, ℕ, List, [], ◌∷◌, Option, Some, None, pos, true, codes, decimal, slice_index, IsSomeAnd, MatchOption}
 use Rattle.std.specs.Str.{byte}
 use Rattle.std.specs.Str.Parse.{IsNumeral, digits_value, without_leading_plus}
-use Rattle.clap.specs.Words.{App, Row, Rule, first_of, new_app, new_rule, fault_of, one_of, subcommand_of, with_rule, with_subcommand}
+use Rattle.clap.specs.Words.{App, Row, Rule, Shape, first_of, new_app, new_rule, fault_of, one_of, subcommand_of, with_rule, with_subcommand}
 use Rattle.clap.specs.declared.builder.value_parser.ValueParser.TheVariants.{Signed}
 use Rattle.desk_msg.specs.MessageType.{digits_of_type, is_instruction, number_of_type}
 use Rattle.desk_msg.specs.declared.mt.Mt.{Mt}
 use Rattle.desk.specs.declared.words.Call.{Call}
-use Rattle.desk.specs.declared.words.Call.TheVariants.{Isin, Read, Play, Serve}
+use Rattle.desk.specs.declared.words.Topic.{Topic}
+use Rattle.desk.specs.declared.words.Topic.TheVariants.{Catalogue, Number}
+use Rattle.desk.specs.declared.words.Call.TheVariants.{Isin, Read, Play, Explain, Serve}
 
--- what is asked for: whether a code is an ISIN, what a message of a type says, a script's answers, or to serve so many
--- connections at a port
+-- what is asked for: whether a code is an ISIN, what a message of a type says, a script's answers, what a number means or
+-- all of them, or to serve so many connections at a port
 pub data CallValue : Type 0 where
   isin : (code : List ℕ) → CallValue
   read : (mt : Mt) → CallValue
   play : CallValue
+  explain : (topic : Topic) → CallValue
   serve : (port count : ℕ) → CallValue
 
 abbrev pub value_of_call : Call → CallValue
 value_of_call (Isin code) = isin code.now
 value_of_call (Read mt) = read mt
 value_of_call Play = play
+value_of_call (Explain topic) = explain topic
 value_of_call (Serve service) = serve service.port service.count
 
 -- a message that is read is an instruction
@@ -33,14 +37,18 @@ abbrev pub words_for : CallValue → List (List ℕ)
 words_for (isin code) = codes "isin" ∷ code ∷ []
 words_for (read mt) = codes "read" ∷ digits_of_type mt ∷ []
 words_for play = codes "play" ∷ []
+words_for (explain Catalogue) = codes "explain" ∷ []
+words_for (explain (Number number)) = codes "explain" ∷ decimal number ∷ []
 words_for (serve port count) = codes "serve" ∷ codes "--port" ∷ decimal port ∷ codes "--count" ∷ decimal count ∷ []
 
--- The code does not begin as an option, by a hyphen, and the type is one of an instruction. Of words that ask to serve only
--- the other way is said: what is taken for them says so (`IsSaid`).
+-- The code does not begin as an option, by a hyphen, and the type is one of an instruction. Of words that ask to
+-- serve, or for one number, only the other way is said: what is taken for them says so (`IsSaid`).
 abbrev pub IsAskable : CallValue → Type 0
 IsAskable (isin code) = slice_index code 0 ≢ byte "-"
 IsAskable (read mt) = is_instruction mt ≡ true
 IsAskable play = Unit {0}
+IsAskable (explain Catalogue) = Unit {0}
+IsAskable (explain (Number number)) = ⊥
 IsAskable (serve port count) = ⊥
 
 -- what a subcommand's name and matches ask for, spelled out as `words_for` spells it
@@ -48,6 +56,8 @@ abbrev pub IsSpelledOut : CallValue → List ℕ → List Row → Type 0
 IsSpelledOut (isin code) name rows = (name ≡ codes "isin") × (first_of (codes "code") rows ≡ Some code)
 IsSpelledOut (read mt) name rows = (name ≡ codes "read") × (one_of (codes "mt") rows ≡ Some (digits_of_type mt)) × (is_instruction mt ≡ true)
 IsSpelledOut play name rows = name ≡ codes "play"
+IsSpelledOut (explain Catalogue) name rows = (name ≡ codes "explain") × (first_of (codes "number") rows ≡ None)
+IsSpelledOut (explain (Number number)) name rows = ⊥
 IsSpelledOut (serve port count) name rows = ⊥
 
 -- what the parser of words knows of the program
@@ -66,6 +76,12 @@ read_app = with_rule (new_app (codes "read")) type_rule
 abbrev pub play_app : App
 play_app = new_app (codes "play")
 
+abbrev pub cause_rule : Rule
+cause_rule = record (new_rule (codes "number")) { value_names = 1; parser = Some (Signed (pos 1) (pos 99)) }
+
+abbrev pub explain_app : App
+explain_app = with_rule (new_app (codes "explain")) cause_rule
+
 abbrev pub port_rule : Rule
 port_rule = record (new_rule (codes "port")) { long = Some (codes "port"); value_names = 1; required = true; parser = Some (Signed (pos 1) (pos 65535)) }
 
@@ -75,8 +91,12 @@ count_rule = record (new_rule (codes "count")) { long = Some (codes "count"); va
 abbrev pub serve_app : App
 serve_app = with_rule (with_rule (new_app (codes "serve")) port_rule) count_rule
 
+-- the program, which tells its version
+abbrev pub bare_app : App
+bare_app = record (new_app (codes "desk")) { top = record (new_app (codes "desk")).top { has_version = true } }
+
 abbrev pub desk_app : App
-desk_app = with_subcommand (with_subcommand (with_subcommand (with_subcommand (new_app (codes "desk")) isin_app.top) read_app.top) play_app.top) serve_app.top
+desk_app = with_subcommand (with_subcommand (with_subcommand (with_subcommand (with_subcommand bare_app isin_app.top) read_app.top) play_app.top) explain_app.top) serve_app.top
 
 -- a numeral of a number; a plus and zeros may stand before it
 abbrev pub IsNumberText : ℕ → List ℕ → Type 0
@@ -86,11 +106,17 @@ IsNumberText number text = IsNumeral 10 (without_leading_plus text) × (digits_v
 abbrev pub IsTypeText : Mt → List ℕ → Type 0
 IsTypeText mt text = IsNumberText (number_of_type mt) text
 
+-- what is to be explained, by the words that were found for it
+abbrev pub IsTopic : Topic → Option (List ℕ) → Option (List ℕ) → Type 0
+IsTopic Catalogue first one = first ≡ None
+IsTopic (Number number) first one = IsSomeAnd one (IsNumberText number)
+
 -- what a subcommand's name and matches say, however a type is spelled
 abbrev pub IsSaid : CallValue → List ℕ → List Row → Type 0
 IsSaid (isin code) name rows = (name ≡ codes "isin") × (first_of (codes "code") rows ≡ Some code)
 IsSaid (read mt) name rows = (name ≡ codes "read") × IsSomeAnd (one_of (codes "mt") rows) (IsTypeText mt)
 IsSaid play name rows = name ≡ codes "play"
+IsSaid (explain topic) name rows = (name ≡ codes "explain") × IsTopic topic (first_of (codes "number") rows) (one_of (codes "number") rows)
 IsSaid (serve port count) name rows =
     (name ≡ codes "serve") × IsSomeAnd (one_of (codes "port") rows) (IsNumberText port) × IsSomeAnd (one_of (codes "count") rows) (IsNumberText count)
 

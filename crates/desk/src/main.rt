@@ -5,6 +5,8 @@
 //! run ends, and `run.rt` joins them. Begin with `run.rt`.
 #![tactic(auto)]
 
+mod explain;
+mod helps;
 mod isin;
 mod play;
 mod read;
@@ -13,8 +15,13 @@ mod serve;
 mod status;
 mod words;
 
+use std::io::IsTerminal;
 use std::process::ExitCode;
 use std::{env, io};
+
+/// What is told on standard error where no words were given, and a script is to be typed in.
+const WAITING: &str =
+    "desk: waiting for a script on standard input; Control-D on a line of its own ends it (desk --help)";
 
 fn main(rt: HostRuntime) -> ExitCode {
     let alloc = rt.alloc();
@@ -22,7 +29,12 @@ fn main(rt: HostRuntime) -> ExitCode {
     let mut writer = io::writer(&rt);
     let words = env::args(&rt).and_then(|words| Ok(words.collect::<Vec<String>>(alloc)?));
     ExitCode::from(match words {
-        Ok(words) => run::run(&rt, alloc, words.as_slice(), &mut reader, &mut writer),
+        Ok(words) => {
+            if words.len() <= 1 && reader.is_terminal() {
+                let _ = eprintln!(rt; "{WAITING}");
+            }
+            run::run(&rt, alloc, words.as_slice(), &mut reader, &mut writer)
+        }
         Err(error) => run::tell_no_words(alloc, &error, &mut writer),
     })
 }

@@ -1,11 +1,12 @@
 //! The words of the command line.
 ghost use Rattle.std.specs.Prelude.{◌≡◌, [], ◌∷◌, ℕ, List, false, true, codes, map, IfOk, IfSome, IsSomeAnd, MatchResult};
-ghost use Rattle.clap.specs.Words.{app_of, found_of, kind_of, one_text, rows_of, rule_of, subcommand_rows_of};
+ghost use Rattle.clap.specs.Words.{app_of, first_value, found_of, kind_of, one_text, rows_of, rule_of, subcommand_rows_of};
 ghost use Rattle.clap.specs.declared.builder.command.Command.TheViews.{out-Command};
 ghost use Rattle.desk_msg.specs.MessageType.{digits_of_type, is_instruction, number_of_type};
 ghost use Rattle.desk_msg.specs.declared.mt.Mt.{Mt};
-ghost use Rattle.desk.specs.Words.{CallValue, IsAskable, IsSpelledOut, ReadsOnlyInstructions, IsSaid, IsSaidBy, IsSaidIn, IsNumberText, IsTypeText, value_of_call, count_rule, desk_app, isin_app, play_app, port_rule, read_app, serve_app, words_for};
+ghost use Rattle.desk.specs.Words.{CallValue, IsAskable, IsSpelledOut, ReadsOnlyInstructions, IsSaid, IsSaidBy, IsSaidIn, IsNumberText, IsTopic, IsTypeText, value_of_call, bare_app, cause_rule, count_rule, desk_app, explain_app, isin_app, play_app, port_rule, read_app, serve_app, words_for};
 
+use crate::helps::{EXPLAIN, ISIN, PLAY, PROGRAM, READ, SERVE, VERSION};
 use clap::error::{Error, ErrorKind};
 use clap::{Arg, ArgMatches, Command, value_parser};
 use desk_msg::Mt;
@@ -21,8 +22,19 @@ pub enum Call<'a> {
     Read(Mt),
     /// A script's answers
     Play,
+    /// What is told in place of an answer, explained
+    Explain(Topic),
     /// Requests over HTTP
     Serve(Service),
+}
+
+/// What is explained.
+#[derive(Clone, Copy, Debug, PartialEq, Eq)]
+pub enum Topic {
+    /// Each refusal and each fault
+    Catalogue,
+    /// What a number means
+    Number(u8),
 }
 
 /// What is served.
@@ -36,14 +48,6 @@ pub struct Service {
 
 /// The most connections that are served.
 const MOST_CONNECTIONS: i64 = 1_000_000;
-
-/// What the help of the program says behind its subcommands.
-const EXIT_STATUS: &str = "\
-Exit status:
-  0  done
-  1  refused: the code is no ISIN, or the text is no message
-  2  usage: the words are wrong
-  3  fault: memory, the input or the output failed";
 
 /// Reads the words, the program's own name first. An error is help that was asked for, words that fit no
 /// subcommand, or want of memory.
@@ -95,6 +99,7 @@ fn subcommand_call<'a>(name: &str, inner: &ArgMatches<'a>) -> Option<Call<'a>>
         "isin" => Some(Call::Isin(inner.get_str("code")?)),
         "read" => Some(Call::Read(type_in(inner)?)),
         "play" => Some(Call::Play),
+        "explain" => Some(Call::Explain(topic_in(inner)?)),
         "serve" => Some(Call::Serve(service_in(inner)?)),
         _ => None,
     }
@@ -108,6 +113,17 @@ fn type_in(inner: &ArgMatches) -> Option<Mt>
         → IsSomeAnd result (λ found. found ≡ mt) }
 {
     instruction_type(inner.get_one::<u16>("mt")?)
+}
+
+/// What is to be explained.
+fn topic_in(inner: &ArgMatches) -> Option<Topic>
+    ensures said { IfSome result (λ topic. IsTopic topic (first_value (found_of inner.now) (codes "number")) (one_text (found_of inner.now) (codes "number"))) }
+    ensures asked { first_value (found_of inner.now) (codes "number") ≡ None → IsSomeAnd result (λ topic. topic ≡ Topic.Catalogue) }
+{
+    match inner.get_str("number") {
+        None => Some(Topic::Catalogue),
+        Some(_) => Some(Topic::Number(inner.get_one::<u8>("number")?)),
+    }
 }
 
 /// What is to be served.
@@ -125,10 +141,12 @@ fn desk<'a>(alloc: Global) -> Result<Command<'a>, AllocError>
 {
     Command::new(alloc, "desk")
         .about("The settlement desk of a small securities depository")
-        .after_help(EXIT_STATUS)
+        .after_help(PROGRAM)
+        .version(VERSION)
         .subcommand(isin(alloc)?)?
         .subcommand(read(alloc)?)?
         .subcommand(play(alloc)?)?
+        .subcommand(explain(alloc)?)?
         .subcommand(serve(alloc)?)
 }
 
@@ -138,6 +156,7 @@ fn isin<'a>(alloc: Global) -> Result<Command<'a>, AllocError>
 {
     Command::new(alloc, "isin")
         .about("Checks the identification number of a security")
+        .after_help(ISIN)
         .arg(
             Arg::new(alloc, "code")
                 .value_name("CODE")
@@ -152,6 +171,7 @@ fn read<'a>(alloc: Global) -> Result<Command<'a>, AllocError>
 {
     Command::new(alloc, "read")
         .about("Reads a settlement instruction, block 4, from standard input")
+        .after_help(READ)
         .arg(
             Arg::new(alloc, "mt")
                 .value_name("MT")
@@ -165,9 +185,28 @@ fn play<'a>(alloc: Global) -> Result<Command<'a>, AllocError>
     ensures app { IfOk result (λ command. app_of command ≡ play_app) }
     ensures local { IfOk result (λ command. (out-Command command).has_globals ≡ false) }
 {
-    Ok(Command::new(alloc, "play").about(
-        "Plays a script of requests from standard input on a desk in memory (the default)",
-    ))
+    Ok(
+        Command::new(alloc, "play")
+            .about(
+                "Plays a script of requests from standard input on a desk in memory (the default)",
+            )
+            .after_help(PLAY),
+    )
+}
+
+fn explain<'a>(alloc: Global) -> Result<Command<'a>, AllocError>
+    ensures app { IfOk result (λ command. app_of command ≡ explain_app) }
+    ensures local { IfOk result (λ command. (out-Command command).has_globals ≡ false) }
+{
+    Command::new(alloc, "explain")
+        .about("Tells what a refusal or a fault means, and what to do about it")
+        .after_help(EXPLAIN)
+        .arg(
+            Arg::new(alloc, "number")
+                .value_name("N")
+                .help("Its number, as 12 of `refused 12`; without it all are told")
+                .value_parser(value_parser!(u8).range(1..=99)),
+        )
 }
 
 fn serve<'a>(alloc: Global) -> Result<Command<'a>, AllocError>
@@ -178,6 +217,7 @@ fn serve<'a>(alloc: Global) -> Result<Command<'a>, AllocError>
         .about(
             "Serves requests over HTTP on 127.0.0.1, one connection after another, on a desk in memory",
         )
+        .after_help(SERVE)
         .arg(port(alloc))?
         .arg(count(alloc))
 }

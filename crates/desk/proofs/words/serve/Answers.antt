@@ -7,13 +7,13 @@ use Rattle.desk.proofs.words.serve.Goals as goal
 
 pub returns-clause-app : goal.returns-clause-app
 returns-clause-app c =
-    let named : app_of c.about.result ≡ new_app (codes "serve") = search rules in
+    let named : app_of c.after_help.result ≡ new_app (codes "serve") = search rules in
     let first : app_of c.in_ok-arg.field-0 ≡ with_rule (new_app (codes "serve")) port_rule = c.in_ok-arg.ensures.shape c.port.ensures.local ∙ ap₂ with_rule named c.port.ensures.rule in
     IfOk-weaker c.arg-2.result _ _ (λ command added. added.shape c.count.ensures.local ∙ ap₂ with_rule first c.count.ensures.rule) c.arg-2.ensures
 
 pub returns-clause-local : goal.returns-clause-local
 returns-clause-local c =
     let both : Bool → Bool → Bool = λ a b. a || b in
-    let named : (out-Command c.about.result).has_globals ≡ false = search rules in
+    let named : (out-Command c.after_help.result).has_globals ≡ false = search rules in
     let first : (out-Command c.in_ok-arg.field-0).has_globals ≡ false = c.in_ok-arg.ensures.globals ∙ ap₂ both named c.port.ensures.local in
     IfOk-weaker c.arg-2.result _ _ (λ command added. added.globals ∙ ap₂ both first c.count.ensures.local) c.arg-2.ensures

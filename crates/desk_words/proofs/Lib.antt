@@ -1,0 +1,2 @@
+mod CatalogueLemmas
+mod WritingLemmas
