@@ -3,3 +3,4 @@ pub mod Ends
 pub mod Control
 pub mod Statements
 pub mod Making
+pub mod Queries

@@ -1,9 +1,12 @@
 //! The desk's tables in SQL: which they are, how a call on them ends, and what begins and ends a transaction.
 //!
 //! `statement.rt` runs a text that changes rows of a table, or reads some; every call on the tables is made of these and
-//! of `control.rt`. Begin with specs/Schema.antt, the tables, and specs/Ends.antt, how a call ends.
+//! of `control.rt`. Begin with specs/Schema.antt, the tables, and specs/Ends.antt, how a call ends. Proofs on the
+//! statements of one table, whichever it is, cite proofs/QueryLemmas.antt, what queries show, EditLemmas.antt, what edits
+//! do, and ValueLemmas.antt, how values compare.
 #![tactic(auto)]
 
 pub mod control;
 pub mod making;
 pub mod statement;
+pub mod values;
