@@ -1,5 +1,5 @@
 -- What the statements do to the table, and what they show of it.
-use Rattle.std.proofs.Common.{◌≡◌, ◌≢◌, inl, inr, ℕ, ◌==◌, ℤ, pos, List, [], ◌∷◌, map, filter, Bool, true, false, cond, ◌&&◌, None, Some, Option, Ok, refl, sym, ap, subst, ◌∙◌, arith}
+use Rattle.std.proofs.Common.{◌≡◌, inl, inr, ℕ, ◌==◌, pos, List, [], ◌∷◌, map, filter, Bool, true, false, cond, ◌&&◌, None, Some, Option, Ok, refl, sym, ap, subst, ◌∙◌, arith}
 use Rattle.std.specs.Prelude.{option_map, not}
 use Rattle.std.specs.List.{AllByRecursion, list_any}
 use Rattle.std.specs.Ordering.{is_eq}
@@ -10,12 +10,10 @@ use Rattle.std.proofs.lemmas.List.Sorted.{length_permutation}
 use Rattle.sqlite.specs.Order.{Row, value_cmp}
 use Rattle.sqlite.specs.declared.types.Value.{Value}
 use Rattle.sqlite.specs.declared.types.Value.TheVariants.{Null, Int}
-use Rattle.sqlite.specs.Ops.{unary, binary, is_true}
-use Rattle.sqlite.specs.Cast.{cast}
-use Rattle.sqlite.specs.Kind.TheVariants.{Integer}
-use Rattle.sqlite.specs.Edit.{Edit, edit_of, put_all, are_fresh}
+use Rattle.sqlite.specs.Ops.{binary, is_true}
+use Rattle.sqlite.specs.Edit.{edit_of, put_all, are_fresh}
 use Rattle.sqlite.specs.Rowids.TheVariants.{Chosen, Given}
-use Rattle.sqlite_rules.specs.Edit.{Applies, without_all, id_in}
+use Rattle.sqlite_rules.specs.Edit.{without_all, id_in}
 use Rattle.sqlite_rules.specs.Calls.{ids_of}
 use Rattle.sqlite.specs.Tree.{Trees, IsTable, rowid, has_rowid, put_row, without_rowid}
 use Rattle.sqlite_trees.proofs.TreeLemmas.{IsTable-put_row, all-put_row}
@@ -25,42 +23,20 @@ use Rattle.sqlite_sql.specs.declared.ops.CompareOp.TheVariants.{Eq}
 use Rattle.sqlite.specs.Collation.TheVariants.{Binary}
 use Rattle.sqlite.specs.Term.{col, eval_all}
 use Rattle.sqlite.specs.Program.{overlay}
-use Rattle.sqlite.specs.Command.TheVariants.{Insert, Delete}
-use Rattle.sqlite.specs.Source.TheVariants.{Values}
-use Rattle.sqlite.specs.Does.{Tally, Does}
-use Rattle.sqlite.specs.Rows.{Written}
 use Rattle.sqlite.specs.Effect.{Database}
-use Rattle.sqlite.specs.Listing.{understood}
-use Rattle.sqlite.specs.State.{State, mode_of, Executes}
-use Rattle.sqlite.proofs.Callers.{runs_as, one_step, one_permutation, statement_of}
+use Rattle.sqlite.specs.State.{State, Executes}
+use Rattle.sqlite.proofs.Callers.{one_permutation}
 use Rattle.desk_rules.specs.declared.entry.Instructed.{Instructed}
 use Rattle.desk_tables.specs.Schema.{desk_schema, unmatched_table}
-use Rattle.desk_tables.specs.Ends.{SparesOthers}
-use Rattle.desk_tables.proofs.StatementLemmas.{went, same_value}
+use Rattle.desk_tables.specs.Queries.{equals, passes_all}
+use Rattle.desk_tables.proofs.QueryLemmas.{all_found, plain_rows, same_found}
+use Rattle.desk_tables.proofs.ValueLemmas.{and_true, equal_test, cast_int, cast_null}
+use Rattle.desk_tables.proofs.EditLemmas.{inserts, deletes, spares}
 use Rattle.desk_unmatched.specs.Key.{key_of}
-use Rattle.desk_unmatched.specs.Queries.{equals}
 use Rattle.desk_unmatched.specs.Texts.{note_text, forget_text, note_terms, forget_query}
 use Rattle.desk_unmatched.specs.Unmatched.{Noted, AreUnmatched, IsNumbered, Notes, Forgets, forgetting, noting, row_of, stored}
-use Rattle.desk_unmatched.proofs.GenericLemmas.{passes_all, plain_rows, same_found, truth_of}
 use Rattle.desk_unmatched.proofs.MeaningLemmas.{note_is, note_edits, forget_is, forget_edits}
-use Rattle.desk_unmatched.proofs.RowLemmas.{has_number, same_number, once, none_without, all_without, row_of-put_own, row_of-put_other, row_of-free, row_of-without_own, row_of-without_other}
-
-either : (b : Bool) (x : Value) → cond b x x ≡ x
-either true x = refl
-either false x = refl
-
-cast_int : (n : ℤ) → cast Integer (Int n) ≡ Int n
-unfolding unary
-cast_int n = either _ (Int n)
-
-cast_null : cast Integer Null ≡ Null
-unfolding unary
-cast_null = either _ Null
-
-spares : (old new : Database) (trees : Trees) (keys : _) (edit : Edit) → edit.table.tree ≡ 10 → new.trees ≡ trees → Applies desk_schema keys old.trees edit trees → SparesOthers 10 12 old new
-spares old new trees keys edit at to applied tree apart unlisted =
-    let other : tree ≢ edit.table.tree = λ same. elim apart [ inl low ↦ absurd (omega (arith, same, at)) | inr high ↦ absurd (omega (arith, same, at)) ] in
-    ap (λ (t : Trees). t tree) to ∙ applied.others tree other unlisted
+use Rattle.desk_unmatched.proofs.RowLemmas.{has_number, once, none_without, row_of-put_own, row_of-put_other, row_of-free, row_of-without_own, row_of-without_other}
 
 -- ---- an instruction is noted
 
@@ -88,7 +64,7 @@ module _ (old new : Database) (number : ℕ) where
   forgets_row : new.trees 10 ≡ without_rowid (pos number) (old.trees 10) → (noted : Noted) → AreUnmatched old noted → AreUnmatched new (forgetting noted number)
   forgets_row left noted was = record {
     rising = subst IsTable (sym left) (ascending-filter (λ a b. value_cmp (rowid a) (rowid b) ≡ _) (λ r. not (has_rowid (pos number) r)) (old.trees 10) was.rising);
-    numbered = subst (AllByRecursion IsNumbered) (sym left) (all_without IsNumbered (λ r. not (has_rowid (pos number) r)) (old.trees 10) was.numbered);
+    numbered = subst (AllByRecursion IsNumbered) (sym left) (all_found IsNumbered (λ r. not (has_rowid (pos number) r)) (old.trees 10) was.numbered);
     each = λ k. ap (row_of k) left ∙ elim (cases_Bool (k == number)) [
       | inl here ↦ (let same : k ≡ number = eqb-true k number here in
           ap (λ n. row_of n (without_rowid (pos number) (old.trees 10))) same ∙ row_of-without_own number (old.trees 10) ∙ sym (ap (λ b. option_map (stored k) (cond b None (noted k))) here))
@@ -108,33 +84,19 @@ pub inserted : (old new : State) (number : ℕ) (i : Instructed) (count : ℕ) �
 inserted old new number i count has h =
     let params : Row = Int (pos number) ∷ key_of i in
     let db = old.now.trees in
-    let command = Insert 5 (Values note_terms 11) in
-    let w = runs_as note_text params old new desk_schema has command note_is note_edits.plain count h in
-    let text = statement_of note_text (understood desk_schema note_text) in
-    let done = went (subst (λ s. Does old.step_limit (mode_of old) params (record old.now { schema = s }) text None command (Ok (w.tally, new.now))) has w.changed) in
-    let now = ap (λ (p : Tally × Database). p.1) (same_value (went (went done.2).2).2) in
-    let given = went done.1 in
-    let written = went (went given.2).2 in
-    let counted = went written.2 in
-    let trees : done.0.trees ≡ written.0 = ap (λ (it : Written). it.trees) (same_value counted.2) ∙ same_value counted.1 in
-    let edit : Edit = edit_of db unmatched_table [] Chosen 0 given.0 in
-    let applied = one_step desk_schema _ db written.0 edit refl written.1 in
-    let news : edit.news ≡ stored number i ∷ [] = news_are db number i given.0 given.1.1 in
-    let to : new.now.trees ≡ written.0 = ap (λ (d : Database). d.trees) now ∙ trees in
+    let made = inserts old new has note_text params count 5 unmatched_table refl note_edits.plain h note_terms 11 refl note_is in
+    let edit = edit_of db unmatched_table [] Chosen 0 made.0 in
+    let news : edit.news ≡ stored number i ∷ [] = news_are db number i made.0 made.1 in
     record {
-      notes = notes_row old.now new.now number i (ap (λ (t : Trees). t 10) to ∙ applied.rows ∙ ap (put_all (db 10)) news) (free_from _ (sym (ap (are_fresh (db 10)) news) ∙ applied.fresh));
-      spares = spares old.now new.now written.0 _ edit refl to applied;
+      notes = notes_row old.now new.now number i (made.2.rows ∙ ap (put_all (db 10)) news) (free_from _ (sym (ap (are_fresh (db 10)) news) ∙ made.2.fresh));
+      spares = spares 10 12 old.now new.now edit (omega arith) (omega arith) made.2;
     }
 
 -- ---- an instruction is forgotten
 
 equal_int : (v : Value) (m n : ℕ) → v ≡ Int (pos m) → is_true (binary (Compare Eq Binary) v (Int (pos n))) ≡ (m == n)
 unfolding binary
-equal_int v m n is = ap (λ w. is_true (binary (Compare Eq Binary) w (Int (pos n)))) is ∙ truth_of (is_eq (value_cmp (Int (pos m)) (Int (pos n)))) ∙ same_number m n
-
-and_true : (b : Bool) → (b && true) ≡ b
-and_true true = refl
-and_true false = refl
+equal_int v m n is = ap (λ w. is_true (binary (Compare Eq Binary) w (Int (pos n)))) is ∙ equal_test m n
 
 number_test : (number : ℕ) (row : Row) → IsNumbered row → passes_all (equals 0 0 ∷ []) (Int (pos number) ∷ []) row ≡ has_rowid (pos number) row
 number_test number row it = and_true _ ∙ equal_int (rowid row) it.0 number it.1 ∙ sym (has_number row it.0 number it.1)
@@ -156,21 +118,11 @@ pub deleted : (old new : State) (number count : ℕ) → old.now.schema ≡ desk
 deleted old new number count has h =
     let params : Row = Int (pos number) ∷ [] in
     let db = old.now.trees in
-    let command = Delete 5 (record { lets = []; body = forget_query }) in
-    let w = runs_as forget_text params old new desk_schema has command forget_is forget_edits.plain count h in
-    let text = statement_of forget_text (understood desk_schema forget_text) in
-    let done = went (subst (λ s. Does old.step_limit (mode_of old) params (record old.now { schema = s }) text None command (Ok (w.tally, new.now))) has w.changed) in
-    let now = ap (λ (p : Tally × Database). p.1) (same_value (went (went done.2).2).2) in
-    let given = went done.1 in
-    let written = went given.2 in
-    let made = same_value written.2 in
-    let edit : Edit = edit_of db unmatched_table (ids_of given.0) Given 0 [] in
-    let applied = one_step desk_schema _ db written.0 edit refl written.1 in
-    let to : new.now.trees ≡ written.0 = ap (λ (d : Database). d.trees) now ∙ ap (λ (it : Written). it.trees) made in
-    let found = plain_rows 10 (equals 0 0 ∷ []) (col 1 0 ∷ []) (overlay db []) params given.0 (given.1.answer Null) in
+    let made = deletes old new has forget_text params count 5 unmatched_table refl forget_edits.plain h forget_query forget_is in
+    let found = plain_rows 10 (equals 0 0 ∷ []) (col 1 0 ∷ []) (overlay db []) params made.0 made.1 in
     record {
       forgets = λ noted was.
           let same = same_found IsNumbered (passes_all (equals 0 0 ∷ []) params) (has_rowid (pos number)) (db 10) (number_test number) was.numbered in
-          forgets_row old.now new.now number (ap (λ (t : Trees). t 10) to ∙ applied.rows ∙ left_without number (db 10) given.0 was.numbered was.rising (subst (λ xs. IsPermutation (map (shows number) xs) given.0) same found)) noted was;
-      spares = spares old.now new.now written.0 _ edit refl to applied;
+          forgets_row old.now new.now number (made.2.rows ∙ left_without number (db 10) made.0 was.numbered was.rising (subst (λ xs. IsPermutation (map (shows number) xs) made.0) same found)) noted was;
+      spares = spares 10 12 old.now new.now (edit_of db unmatched_table (ids_of made.0) Given 0 []) (omega arith) (omega arith) made.2;
     }

@@ -1,7 +1,7 @@
 -- What the query for the first opposite instruction shows.
 use Rattle.std.proofs.Common.{◌≡◌, ◌⊎◌, inl, inr, ℕ, ◌<◌, ◌==◌, pos, List, [], ◌∷◌, filter, Bool, true, false, ◌&&◌, None, Some, Option, Ok, Err, Result, IfOk, refl, sym, ap, subst, ◌∙◌}
 use Rattle.std.specs.Prelude.{option_map}
-use Rattle.std.specs.Ordering.{is_eq, is_lt}
+use Rattle.std.specs.Ordering.{is_lt}
 use Rattle.std.specs.Str.{bytes_eq}
 use Rattle.std.proofs.lemmas.Bool.{and_parts, and_from, eqb-true, eq-eqb}
 use Rattle.std.proofs.lemmas.Slice.Eq.{bytes_eq-Decides}
@@ -9,7 +9,7 @@ use Rattle.sqlite.specs.Order.{Row, column, value_cmp}
 use Rattle.sqlite.specs.Effect.{Database}
 use Rattle.sqlite.specs.declared.error.Error.{Error}
 use Rattle.sqlite.specs.declared.types.Value.TheVariants.{Null, Int}
-use Rattle.sqlite.specs.Ops.{binary, is_true, from_truth}
+use Rattle.sqlite.specs.Ops.{binary}
 use Rattle.sqlite.specs.Term.{col}
 use Rattle.sqlite.specs.Tree.{rowid}
 use Rattle.sqlite.specs.Program.{overlay}
@@ -19,19 +19,18 @@ use Rattle.desk_msg.specs.MessageType.{number_of_type}
 use Rattle.desk_msg.specs.Profile.{code_of_kind}
 use Rattle.desk_rules.specs.declared.entry.Instructed.{Instructed}
 use Rattle.desk_tables.specs.Schema.{desk_schema}
+use Rattle.desk_tables.specs.Queries.{passes_all, rising, Among, IsFirst}
+use Rattle.desk_tables.proofs.QueryLemmas.{at_among, among_filter, filter_among, first_row}
+use Rattle.desk_tables.proofs.ValueLemmas.{equal_test, number_less, text_test}
 use Rattle.desk_unmatched.specs.Key.{currency_in, amount_in, key_of, wanted_key}
 use Rattle.desk_unmatched.specs.Shown.{ReadsNumber}
 use Rattle.desk_unmatched.specs.Texts.{first_text, key_tests}
 use Rattle.desk_unmatched.specs.Unmatched.{Noted, AreUnmatched, FindsFirst, IsFirstNoted, IsOppositeNoted, stored}
-use Rattle.desk_unmatched.proofs.GenericLemmas.{Among, at_among, among_filter, filter_among, passes_all, least_shown, text_test, truth_of, IsLeastShown}
 use Rattle.desk_unmatched.proofs.KeyLemmas.{key_of_opposite, opposite_of_key}
 use Rattle.desk_unmatched.proofs.MeaningLemmas.{first_is, first_queries}
-use Rattle.desk_unmatched.proofs.RowLemmas.{same_number, lesser_number, found_by_number, among_found}
+use Rattle.desk_unmatched.proofs.RowLemmas.{found_by_number, among_found}
 
 -- ---- which rows pass
-
-number_test : (m n : ℕ) → is_true (from_truth (Some (is_eq (value_cmp (Int (pos m)) (Int (pos n)))))) ≡ (m == n)
-number_test m n = truth_of (is_eq (value_cmp (Int (pos m)) (Int (pos n)))) ∙ same_number m n
 
 -- the columns are the same, one by one
 abbrev same_key : Instructed → Instructed → Bool
@@ -55,13 +54,13 @@ key_test number other like =
     rw (
       text_test a.isin b.isin,
       text_test a.day b.day,
-      number_test a.quantity b.quantity,
+      equal_test a.quantity b.quantity,
       text_test other.sender like.sender,
       text_test a.counterparty b.counterparty,
-      number_test (number_of_type a.mt) (number_of_type b.mt),
+      equal_test (number_of_type a.mt) (number_of_type b.mt),
       text_test (code_of_kind a.kind) (code_of_kind b.kind),
       text_test (currency_in a.cash) (currency_in b.cash),
-      number_test (amount_in a.cash) (amount_in b.cash),
+      equal_test (amount_in a.cash) (amount_in b.cash),
     ) refl
 
 text_is : (s t : List ℕ) → bytes_eq s t ≡ true → s ≡ t
@@ -146,11 +145,11 @@ module _ (old : _) (noted : Noted) (i like : Instructed) (was : AreUnmatched old
       → (lesser : ℕ) → lesser < number → IsOppositeNoted noted i lesser → ⊥
   least number r is none lesser low o =
       let fails = none (stored lesser o.other) (shown_if_opposite lesser o) in
-      let below : value_cmp (Int (pos lesser)) (rowid r) ≡ _ = ap (value_cmp (Int (pos lesser))) is ∙ lesser_number lesser number low in
+      let below : value_cmp (Int (pos lesser)) (rowid r) ≡ _ = ap (value_cmp (Int (pos lesser))) is ∙ number_less lesser number low in
       let bad : true ≡ false = sym (ap is_lt below) ∙ fails in
       cc
 
-  first_from : (rows : List Row) → IsLeastShown (filter test held) (key_of like) (col 1 0 ∷ []) (col 1 0) rows → ShowsFirst noted i rows
+  first_from : (rows : List Row) → IsFirst (filter test held) (key_of like) (col 1 0 ∷ []) (col 1 0) rising rows → ShowsFirst noted i rows
   first_from rows (inl none) = inl (none.0, λ number o. subst (λ xs. Among xs (stored number o.other)) none.1 (shown_if_opposite number o))
   first_from rows (inr one) =
       let at = opposite_if_shown one.0 one.1 in
@@ -160,7 +159,7 @@ pub first_shown : (old new : State) (i like : Instructed) (rows : List Row) → 
     → (noted : Noted) → AreUnmatched old.now noted → ShowsFirst noted i rows
 first_shown old new i like rows has wants h noted was =
     let answers = reads_as first_text (key_of like) old new desk_schema has _ first_is first_queries.plain first_queries.unlisted rows h in
-    first_from old.now noted i like was wants rows (least_shown 10 key_tests (col 1 0 ∷ []) (col 1 0) (overlay old.now.trees []) (key_of like) rows (answers.answer Null))
+    first_from old.now noted i like was wants rows (first_row 10 key_tests (col 1 0 ∷ []) (col 1 0) rising (overlay old.now.trees []) (key_of like) rows (answers.answer Null))
 
 -- ---- what is read of it
 

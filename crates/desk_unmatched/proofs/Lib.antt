@@ -1,6 +1,5 @@
 mod MeaningLemmas
 mod KeyLemmas
-mod GenericLemmas
 mod RowLemmas
 mod EffectLemmas
 mod FirstLemmas

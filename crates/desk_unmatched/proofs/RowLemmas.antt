@@ -1,33 +1,21 @@
 -- Rows by their numbers.
-use Rattle.std.proofs.Common.{◌≡◌, ◌≢◌, ◌⊎◌, inl, inr, ℕ, ◌<◌, pos, ◌==◌, Bool, true, false, cond, ◌||◌, List, [], ◌∷◌, filter, Some, None, refl, sym, ap, subst, ◌∙◌, arith}
+use Rattle.std.proofs.Common.{◌≡◌, ◌≢◌, ◌⊎◌, inl, inr, ℕ, pos, ◌==◌, true, false, cond, ◌||◌, List, [], ◌∷◌, filter, Some, None, refl, sym, ap, ◌∙◌}
 use Rattle.std.specs.List.{AllByRecursion, list_any}
 use Rattle.std.specs.declared.cmp.Ordering.{Ordering}
 use Rattle.std.specs.declared.cmp.Ordering.TheVariants.{Less, Equal, Greater}
 use Rattle.std.specs.Ordering.{is_eq, match_ordering}
-use Rattle.std.proofs.lemmas.Bool.{cases_Bool, cases_lt, lt-ltb, le-ltb, eq-eqb, ne_eqb, eqb-true, false_from_ne_true, not_from_true, not_from_false, or_parts}
-use Rattle.std.proofs.Math.Dec.{ltb}
+use Rattle.std.proofs.lemmas.Bool.{cases_Bool, eq-eqb, ne_eqb, eqb-true, false_from_ne_true, not_from_true, not_from_false, or_parts}
 use Rattle.sqlite.specs.Order.{Row, value_cmp}
-use Rattle.sqlite_value.proofs.OrderLemmas.{value_cmp-Int}
 use Rattle.sqlite.specs.declared.types.Value.{Value}
 use Rattle.sqlite.specs.declared.types.Value.TheVariants.{Int}
 use Rattle.sqlite.specs.Tree.{IsTable, rowid, has_rowid, put_row, without_rowid}
 use Rattle.desk_unmatched.specs.Unmatched.{IsNumbered, row_of}
-use Rattle.desk_unmatched.proofs.GenericLemmas.{Among, at_among}
-
-pub same_number : (m n : ℕ) → is_eq (value_cmp (Int (pos m)) (Int (pos n))) ≡ (m == n)
-same_number m n = ap is_eq (value_cmp-Int (pos m) (pos n)) ∙ elim (cases_lt m n) [
-  | inl low ↦ ap (λ b. is_eq (cond b Less (cond (ltb n m) Greater Equal))) (lt-ltb m n low) ∙ sym (ne_eqb m n (omega arith))
-  | inr high ↦ ap (λ b. is_eq (cond b Less (cond (ltb n m) Greater Equal))) (le-ltb m n high) ∙ elim (cases_lt n m) [
-    | inl low ↦ ap (λ b. is_eq (cond b Greater Equal)) (lt-ltb n m low) ∙ sym (ne_eqb m n (omega arith))
-    | inr same ↦ ap (λ b. is_eq (cond b Greater Equal)) (le-ltb n m same) ∙ sym (eq-eqb m n (omega arith))
-  ]
-]
-
-pub lesser_number : (m n : ℕ) → m < n → value_cmp (Int (pos m)) (Int (pos n)) ≡ Less
-lesser_number m n low = value_cmp-Int (pos m) (pos n) ∙ ap (λ b. cond b Less (cond (ltb n m) Greater Equal)) (lt-ltb m n low)
+use Rattle.desk_tables.specs.Queries.{Among}
+use Rattle.desk_tables.proofs.QueryLemmas.{at_among}
+use Rattle.desk_tables.proofs.ValueLemmas.{number_same}
 
 pub has_number : (row : Row) (n k : ℕ) → rowid row ≡ Int (pos n) → has_rowid (pos k) row ≡ (n == k)
-has_number row n k is = ap (λ v. is_eq (value_cmp v (Int (pos k)))) is ∙ same_number n k
+has_number row n k is = ap (λ v. is_eq (value_cmp v (Int (pos k)))) is ∙ number_same n k
 
 pub has_own : (row : Row) (n : ℕ) → rowid row ≡ Int (pos n) → has_rowid (pos n) row ≡ true
 has_own row n is = has_number row n n is ∙ eq-eqb n n refl
@@ -99,13 +87,6 @@ row_of-without_other n k (r ∷ rs) other all = elim (cases_Bool (has_rowid (pos
       ∙ ap (λ found. cond (has_rowid (pos k) r) (Some r) found) (row_of-without_other n k rs other all.1)
 ]
 
-pub all_without : (P : Row → Type 0) (p : Row → Bool) (rows : List Row) → AllByRecursion P rows → AllByRecursion P (filter p rows)
-all_without P p [] all = tt
-all_without P p (r ∷ rs) all = elim (cases_Bool (p r)) [
-  | inl here ↦ subst (AllByRecursion P) (sym (ap (λ b. cond b (r ∷ filter p rs) (filter p rs)) here)) (all.0, all_without P p rs all.1)
-  | inr apart ↦ subst (AllByRecursion P) (sym (ap (λ b. cond b (r ∷ filter p rs) (filter p rs)) apart)) (all_without P p rs all.1)
-]
-
 -- where no row has the number, none goes
 pub none_without : (n : ℕ) (rows : List Row) → filter (has_rowid (pos n)) rows ≡ [] → without_rowid (pos n) rows ≡ rows
 none_without n [] none = refl
@@ -123,7 +104,7 @@ above_none n v (s ∷ more) is all above =
     let apart : has_rowid (pos n) s ≡ false = false_from_ne_true (has_rowid (pos n) s) (λ has.
     let own = own_number s n all.0 has in
     let less : value_cmp (Int (pos n)) (Int (pos n)) ≡ Less = ap (λ w. value_cmp w (Int (pos n))) (sym is) ∙ ap (value_cmp v) (sym own) ∙ above.0 in
-    let bad : true ≡ false = sym (eq-eqb n n refl) ∙ sym (same_number n n) ∙ ap is_eq less in
+    let bad : true ≡ false = sym (eq-eqb n n refl) ∙ sym (number_same n n) ∙ ap is_eq less in
     cc) in
     ap (λ b. cond b (s ∷ filter (has_rowid (pos n)) more) (filter (has_rowid (pos n)) more)) apart ∙ above_none n v more is all.1 above.1
 

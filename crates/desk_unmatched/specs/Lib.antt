@@ -3,5 +3,4 @@ pub mod Unmatched
 pub mod InContent
 pub mod Columns
 pub mod Shown
-pub mod Queries
 pub mod Texts

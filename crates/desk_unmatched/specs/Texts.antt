@@ -3,7 +3,7 @@ use Rattle.std.specs.Prelude.{ℕ, List, [], ◌∷◌, codes}
 use Rattle.sqlite.specs.declared.types.Value.TheVariants.{Null}
 use Rattle.sqlite.specs.Term.{Term, lit, col}
 use Rattle.sqlite.specs.Query.{Query}
-use Rattle.desk_unmatched.specs.Queries.{plain, least_of, equals}
+use Rattle.desk_tables.specs.Queries.{plain, first_of, rising, equals}
 
 abbrev pub note_text : List ℕ
 note_text = codes "INSERT INTO unmatched (number, isin, day, quantity, sender, counterparty, mt, unit, currency, amount) VALUES (?1, ?2, ?3, ?4, ?5, ?6, ?7, ?8, ?9, ?10)"
@@ -25,4 +25,4 @@ abbrev pub key_tests : List Term
 key_tests = equals 2 0 ∷ equals 3 1 ∷ equals 4 2 ∷ equals 5 3 ∷ equals 6 4 ∷ equals 7 5 ∷ equals 8 6 ∷ equals 9 7 ∷ equals 10 8 ∷ []
 
 abbrev pub first_query : Query
-first_query = least_of 10 key_tests (col 1 0 ∷ []) (col 1 0)
+first_query = first_of 10 key_tests (col 1 0 ∷ []) (col 1 0) rising

@@ -10,15 +10,8 @@ ghost use Rattle.desk_unmatched.specs.Key.{key_of, wanted_key, opposite_type, cu
 use desk_codes::Bic;
 use desk_msg::{Cash, Instruction, Mt};
 use desk_rules::Instructed;
+use desk_tables::values::integer;
 use sqlite::types::ValueRef;
-
-/// An integer of SQL.
-pub(crate) fn integer(number: u64) -> ValueRef<'static>
-    requires { number < 2 ^ 63 }
-    ensures { owned result ≡ Int (pos number) }
-{
-    ValueRef::Int(number as i64)
-}
 
 /// The type of a message on the other side.
 fn opposite_type(mt: Mt) -> Mt

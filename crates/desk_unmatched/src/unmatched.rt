@@ -9,11 +9,12 @@ ghost use Rattle.desk_unmatched.specs.Texts.{note_text, forget_text, first_text}
 ghost use Rattle.desk_unmatched.specs.Shown.{ReadsNumber};
 ghost use Rattle.desk_unmatched.specs.Unmatched.{Notes, Forgets, FindsFirst};
 
-use crate::key::{columns_of, integer, opposite_of};
+use crate::key::{columns_of, opposite_of};
 use desk_codes::Bic;
 use desk_msg::Instruction;
 use desk_rules::Instructed;
 use desk_tables::statement::{execute, query};
+use desk_tables::values::integer;
 use sqlite::{Alter, Connection, Error, Row};
 
 fn put<S: Alter>(
