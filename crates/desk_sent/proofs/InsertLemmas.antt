@@ -1,27 +1,20 @@
 -- What the texts do that put in a row.
-use Rattle.std.proofs.Common.{◌≡◌, inl, inr, ℕ, ◌+◌, ◌<◌, ◌^◌, pos, List, [], ◌∷◌, ◌++◌, length, None, Ok, refl, sym, ap, subst, ◌∙◌, arith, length-append}
+use Rattle.std.proofs.Common.{◌≡◌, ℕ, ◌+◌, ◌<◌, ◌^◌, pos, List, [], ◌∷◌, ◌++◌, length, None, Ok, refl, sym, ap, ◌∙◌, arith, length-append}
 use Rattle.std.specs.Int.{w64, cast_signed}
 use Rattle.sqlite.specs.Order.{Row}
 use Rattle.sqlite.specs.declared.types.Value.TheVariants.{Null, Int, Text as Words}
 use Rattle.sqlite.specs.Edit.{edit_of, put_all}
 use Rattle.sqlite.specs.Rowids.TheVariants.{Chosen}
-use Rattle.sqlite.specs.Tree.{Trees, put_row}
-use Rattle.sqlite.specs.Command.TheVariants.{Insert}
-use Rattle.sqlite.specs.Source.TheVariants.{Values}
-use Rattle.sqlite.specs.Does.{Tally, Does}
-use Rattle.sqlite.specs.Rows.{Written}
-use Rattle.sqlite.specs.Effect.{Database}
-use Rattle.sqlite.specs.Listing.{understood}
-use Rattle.sqlite.specs.State.{State, mode_of, Executes}
-use Rattle.sqlite.proofs.Callers.{runs_as, one_step, statement_of}
+use Rattle.sqlite.specs.Tree.{put_row}
+use Rattle.sqlite.specs.State.{State, Executes}
 use Rattle.desk_rules.specs.declared.reply.Sent.{Sent}
 use Rattle.desk_tables.specs.Schema.{desk_schema, sent_table, version_table}
 use Rattle.desk_tables.specs.Ends.{SparesOthers}
-use Rattle.desk_tables.proofs.StatementLemmas.{went, same_value}
+use Rattle.desk_tables.proofs.ValueLemmas.{cast_int, cast_null}
+use Rattle.desk_tables.proofs.EditLemmas.{inserts, put_last, spares}
 use Rattle.desk_sent.specs.Messages.{stored, rows_after, AreSent, Adds}
 use Rattle.desk_sent.specs.Version.{HasVersion, SetsVersion}
 use Rattle.desk_sent.proofs.TextLemmas.{insert_text, insert_terms, insert_is, insert_edit, set_text, set_terms, set_is, set_edit}
-use Rattle.desk_sent.proofs.GenericLemmas.{cast_int, cast_null, put_last}
 use Rattle.desk_sent.proofs.RowLemmas.{count_to, all_below, rows_more, all_more}
 
 module _ (old new : State) (has : old.now.schema ≡ desk_schema) where
@@ -32,44 +25,21 @@ module _ (old new : State) (has : old.now.schema ≡ desk_schema) where
   message_put number place m count h =
       let params : Row = Int (pos number) ∷ Words m.bic ∷ Int (pos place) ∷ Int (pos m.mt) ∷ Int (cast_signed w64 m.about) ∷ Words m.text ∷ [] in
       let db = old.now.trees in
-      let command = Insert 7 (Values insert_terms 7) in
-      let w = runs_as insert_text params old new desk_schema has command insert_is insert_edit.plain count h in
-      let text = statement_of insert_text (understood desk_schema insert_text) in
-      let done = went (subst (λ s. Does old.step_limit (mode_of old) params (record old.now { schema = s }) text None command (Ok (w.tally, new.now))) has w.changed) in
-      let now = ap (λ (p : Tally × Database). p.1) (same_value (went (went done.2).2).2) in
-      let given = went done.1 in
-      let written = went (went given.2).2 in
-      let counted = went written.2 in
-      let trees : done.0.trees ≡ written.0 = ap (λ (it : Written). it.trees) (same_value counted.2) ∙ same_value counted.1 in
-      let applied = one_step desk_schema _ db written.0 (edit_of db sent_table [] Chosen 0 given.0) refl written.1 in
-      let news : (edit_of db sent_table [] Chosen 0 given.0).news ≡ stored number place m ∷ [] =
-      ap (λ all. (edit_of db sent_table [] Chosen 0 all).news) given.1.1 ∙ rw (cast_int (pos number), cast_null, cast_int (pos place), cast_int (pos m.mt), cast_int (cast_signed w64 m.about)) refl in
-      let to : new.now.trees ≡ written.0 = ap (λ (d : Database). d.trees) now ∙ trees in (
-        ap (λ (t : Trees). t 13) to ∙ applied.rows ∙ ap (put_all (db 13)) news,
-        λ tree outside plain. ap (λ (t : Trees). t tree) to ∙ applied.others tree (λ is. elim outside [ inl low ↦ omega (arith, is, low) | inr high ↦ omega (arith, is, high) ]) plain,
-      )
+      let made = inserts old new has insert_text params count 7 sent_table refl insert_edit.plain h insert_terms 7 refl insert_is in
+      let edit = edit_of db sent_table [] Chosen 0 made.0 in
+      let news : edit.news ≡ stored number place m ∷ [] =
+      ap (λ all. (edit_of db sent_table [] Chosen 0 all).news) made.1 ∙ rw (cast_int (pos number), cast_null, cast_int (pos place), cast_int (pos m.mt), cast_int (cast_signed w64 m.about)) refl in
+      (made.2.rows ∙ ap (put_all (db 13)) news, spares 13 16 old.now new.now edit (omega arith) (omega arith) made.2)
 
   version_put : (number count : ℕ) → Executes set_text (Int (pos number) ∷ []) old new (Ok count)
       → (new.now.trees 16 ≡ put_row (Int (pos number) ∷ Null ∷ []) (old.now.trees 16)) × SparesOthers 16 17 old.now new.now
   version_put number count h =
       let params : Row = Int (pos number) ∷ [] in
       let db = old.now.trees in
-      let command = Insert 8 (Values set_terms 2) in
-      let w = runs_as set_text params old new desk_schema has command set_is set_edit.plain count h in
-      let text = statement_of set_text (understood desk_schema set_text) in
-      let done = went (subst (λ s. Does old.step_limit (mode_of old) params (record old.now { schema = s }) text None command (Ok (w.tally, new.now))) has w.changed) in
-      let now = ap (λ (p : Tally × Database). p.1) (same_value (went (went done.2).2).2) in
-      let given = went done.1 in
-      let written = went (went given.2).2 in
-      let counted = went written.2 in
-      let trees : done.0.trees ≡ written.0 = ap (λ (it : Written). it.trees) (same_value counted.2) ∙ same_value counted.1 in
-      let applied = one_step desk_schema _ db written.0 (edit_of db version_table [] Chosen 0 given.0) refl written.1 in
-      let news : (edit_of db version_table [] Chosen 0 given.0).news ≡ (Int (pos number) ∷ Null ∷ []) ∷ [] =
-      ap (λ all. (edit_of db version_table [] Chosen 0 all).news) given.1.1 ∙ rw (cast_int (pos number), cast_null) refl in
-      let to : new.now.trees ≡ written.0 = ap (λ (d : Database). d.trees) now ∙ trees in (
-        ap (λ (t : Trees). t 16) to ∙ applied.rows ∙ ap (put_all (db 16)) news,
-        λ tree outside plain. ap (λ (t : Trees). t tree) to ∙ applied.others tree (λ is. elim outside [ inl low ↦ omega (arith, is, low) | inr high ↦ omega (arith, is, high) ]) plain,
-      )
+      let made = inserts old new has set_text params count 8 version_table refl set_edit.plain h set_terms 2 refl set_is in
+      let edit = edit_of db version_table [] Chosen 0 made.0 in
+      let news : edit.news ≡ (Int (pos number) ∷ Null ∷ []) ∷ [] = ap (λ all. (edit_of db version_table [] Chosen 0 all).news) made.1 ∙ rw (cast_int (pos number), cast_null) refl in
+      (made.2.rows ∙ ap (put_all (db 16)) news, spares 16 17 old.now new.now edit (omega arith) (omega arith) made.2)
 
   pub adds : (messages : List Sent) (m : Sent) (count : ℕ) → AreSent old.now messages → m.about < 2 ^ 64 → length messages + 1 < 2 ^ 63
       → Executes insert_text (Int (pos (length messages + 1)) ∷ Words m.bic ∷ Int (pos (count_to messages m.bic + 1)) ∷ Int (pos m.mt) ∷ Int (cast_signed w64 m.about) ∷ Words m.text ∷ []) old new (Ok count)

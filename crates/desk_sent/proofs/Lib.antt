@@ -1,5 +1,5 @@
 pub mod TextLemmas
-pub mod GenericLemmas
+pub mod ResultLemmas
 pub mod RowLemmas
 pub mod MessageLemmas
 pub mod InsertLemmas

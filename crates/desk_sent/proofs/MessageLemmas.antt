@@ -4,7 +4,7 @@ use Rattle.std.specs.List.{AllByRecursion, find}
 use Rattle.std.specs.List.Sorted.{IsPermutation}
 use Rattle.std.specs.Str.{bytes_eq}
 use Rattle.std.specs.Int.{w64, cast_signed, cast_unsigned}
-use Rattle.std.specs.Ordering.{is_eq, is_ge, is_le, is_lt, int_cmp, int_eq}
+use Rattle.std.specs.Ordering.{is_eq, is_le, is_lt, int_cmp, int_eq}
 use Rattle.std.specs.declared.cmp.Ordering.TheVariants.{Less, Equal, Greater}
 use Rattle.std.proofs.Math.Dec.{ltb}
 use Rattle.std.proofs.lemmas.Bool.{cases_lt, lt-ltb, le-ltb, lt-leb, le-leb}
@@ -25,16 +25,18 @@ use Rattle.sqlite.proofs.Callers.{reads_as, one_permutation}
 use Rattle.desk_rules.specs.declared.reply.Sent.{Sent}
 use Rattle.desk_rules.specs.Questions.{sent_at, confirms_it}
 use Rattle.desk_tables.specs.Schema.{desk_schema}
+use Rattle.desk_tables.specs.Queries.{passes_all, rising, falling, Among, IsFirst}
+use Rattle.desk_tables.proofs.QueryLemmas.{at_among, all_kept, plain_rows, first_row}
+use Rattle.desk_tables.proofs.ValueLemmas.{number_less, truth_of, and_true, text_test, at_least_test}
 use Rattle.desk_sent.specs.Messages.{sent_to, stored, rows_after, AreSent, IsMessage, IsLast}
-use Rattle.desk_sent.proofs.TextLemmas.{number_text, number_is, number_query, place_text, place_is, place_query, at_text, at_is, at_query, confirmation_text, confirmation_is, confirmation_query, by_bic, by_place, by_about, from_544, to_547, message_columns, rising, falling}
-use Rattle.desk_sent.proofs.GenericLemmas.{Among, at_among, all_kept, passes_all, plain_rows, IsFirst, walk, truth_of, text_test, and_true}
+use Rattle.desk_sent.proofs.TextLemmas.{number_text, number_is, number_query, place_text, place_is, place_query, at_text, at_is, at_query, confirmation_text, confirmation_is, confirmation_query, by_bic, by_place, by_about, from_544, to_547, message_columns}
 use Rattle.desk_sent.proofs.RowLemmas.{count_to, IsUpTo, HasLast, numbers_up_to, has_last_number, places_up_to, has_last_place, rows_rise, AreRowsOf, found_at, BeginsWith, found_first}
 
 -- ---- tests of numbers
 
 not_less : (p n : ℕ) → is_lt (value_cmp (Int (pos p)) (Int (pos n))) ≡ false → n ≤ p
 not_less p n is = elim (cases_lt p n) [
-  | inl low ↦ absurd (let e = ap is_lt (value_cmp-Int (pos p) (pos n) ∙ ap (λ b. cond b Less (cond (ltb n p) Greater Equal)) (lt-ltb p n low)) in let f : true ≡ false = sym e ∙ is in cc)
+  | inl low ↦ absurd (let e = ap is_lt (number_less p n low) in let f : true ≡ false = sym e ∙ is in cc)
   | inr high ↦ high
 ]
 
@@ -49,19 +51,6 @@ signed_test m n low high = same_from_decides (int_eq (cast_signed w64 m) (cast_s
 
 pos_test : (m n : ℕ) → m < 2 ^ 63 → n < 2 ^ 64 → int_eq (pos m) (cast_signed w64 n) ≡ (m == n)
 pos_test m n low high = ap (λ z. int_eq z (cast_signed w64 n)) (sym (to_z_pos w64 m low)) ∙ signed_test m n (omega arith) high
-
-either_ge : (b : Bool) → is_ge (cond b Greater Equal) ≡ true
-either_ge true = refl
-either_ge false = refl
-
-nat_at_least : (m n : ℕ) → is_ge (int_cmp (pos m) (pos n)) ≡ nat_le n m
-nat_at_least m n = elim (cases_lt m n) [
-  | inl low ↦ ap (λ b. is_ge (cond b Less (cond (ltb n m) Greater Equal))) (lt-ltb m n low) ∙ sym (lt-leb n m low)
-  | inr high ↦ ap (λ b. is_ge (cond b Less (cond (ltb n m) Greater Equal))) (le-ltb m n high) ∙ either_ge (ltb n m) ∙ sym (le-leb n m high)
-]
-
-at_least : (m n : ℕ) → is_true (from_truth (Some (is_ge (value_cmp (Int (pos m)) (Int (pos n)))))) ≡ nat_le n m
-at_least m n = truth_of (is_ge (value_cmp (Int (pos m)) (Int (pos n)))) ∙ ap is_ge (value_cmp-Int (pos m) (pos n)) ∙ nat_at_least m n
 
 nat_at_most : (m n : ℕ) → is_le (int_cmp (pos m) (pos n)) ≡ nat_le m n
 nat_at_most m n = elim (cases_lt n m) [
@@ -98,7 +87,7 @@ confirms_test : (n : ℕ) → n < 2 ^ 64 → (number place : ℕ) (m : Sent) →
     → passes_all (by_about ∷ from_544 ∷ to_547 ∷ []) (Int (cast_signed w64 n) ∷ []) (stored number place m) ≡ confirms_it n m
 unfolding binary
 confirms_test n fits number place m low =
-    rw (int_test (cast_signed w64 m.about) (cast_signed w64 n), signed_test m.about n low fits, at_least m.mt 544, at_most m.mt 547)
+    rw (int_test (cast_signed w64 m.about) (cast_signed w64 n), signed_test m.about n low fits, at_least_test m.mt 544, at_most m.mt 547)
     (confirming (m.about == n) (nat_le 544 m.mt) (nat_le m.mt 547))
 
 -- ---- the last of some rows
@@ -142,7 +131,7 @@ module _ (old new : State) (has : old.now.schema ≡ desk_schema) (messages : Li
   pub numbers_shown : (rows : List Row) → Shown number_text [] old new rows → IsLast rows (length messages)
   numbers_shown rows h =
       let answers = reads_as number_text [] old new desk_schema has _ number_is number_query.plain number_query.unlisted rows h in
-      let first = walk 13 [] (col 1 0 ∷ []) (col 1 0) falling (overlay old.now.trees []) [] rows (answers.answer Null) in
+      let first = first_row 13 [] (col 1 0 ∷ []) (col 1 0) falling (overlay old.now.trees []) [] rows (answers.answer Null) in
       let mine = all_kept (old.now.trees 13) ∙ are.rows in
       greatest 0 (length messages) (rows_after [] messages) [] rows (subst (λ xs. IsFirst xs [] (col 1 0 ∷ []) (col 1 0) falling rows) mine first) (has_last_number messages)
       (numbers_up_to (length messages) [] messages (omega arith))
@@ -151,7 +140,7 @@ module _ (old new : State) (has : old.now.schema ≡ desk_schema) (messages : Li
   places_shown bic rows h =
       let answers = reads_as place_text (Words bic ∷ []) old new desk_schema has _ place_is place_query.plain place_query.unlisted rows h in
       let test = passes_all (by_bic ∷ []) (Words bic ∷ []) in
-      let first = walk 13 (by_bic ∷ []) (col 1 3 ∷ []) (col 1 3) falling (overlay old.now.trees []) (Words bic ∷ []) rows (answers.answer Null) in
+      let first = first_row 13 (by_bic ∷ []) (col 1 3 ∷ []) (col 1 3) falling (overlay old.now.trees []) (Words bic ∷ []) rows (answers.answer Null) in
       let mine = ap (filter test) are.rows in
       greatest 3 (count_to messages bic) (filter test (rows_after [] messages)) (Words bic ∷ []) rows (subst (λ xs. IsFirst xs (Words bic ∷ []) (col 1 3 ∷ []) (col 1 3) falling rows) mine first)
       (has_last_place bic test (to_test bic) messages) (places_up_to bic test (to_test bic) (count_to messages bic) [] messages (omega arith))
@@ -171,7 +160,7 @@ module _ (old new : State) (has : old.now.schema ≡ desk_schema) (messages : Li
       let params : Row = Int (cast_signed w64 n) ∷ [] in
       let answers = reads_as confirmation_text params old new desk_schema has _ confirmation_is confirmation_query.plain confirmation_query.unlisted rows h in
       let test = passes_all (by_about ∷ from_544 ∷ to_547 ∷ []) params in
-      let first = walk 13 (by_about ∷ from_544 ∷ to_547 ∷ []) message_columns (col 1 0) rising (overlay old.now.trees []) params rows (answers.answer Null) in
+      let first = first_row 13 (by_about ∷ from_544 ∷ to_547 ∷ []) message_columns (col 1 0) rising (overlay old.now.trees []) params rows (answers.answer Null) in
       let mine = ap (filter test) are.rows in
       least_shown (filter test (rows_after [] messages)) params rows (find (confirms_it n) messages)
       (ascending-filter (λ a b. value_cmp (rowid a) (rowid b) ≡ Less) test (rows_after [] messages) (rows_rise [] messages))

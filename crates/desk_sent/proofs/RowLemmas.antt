@@ -2,20 +2,19 @@
 use Rattle.std.proofs.Common.{◌≡◌, ◌⊎◌, inl, inr, ℕ, zero, suc, ◌+◌, ◌<◌, ◌≤◌, ◌==◌, ◌^◌, pos, List, [], ◌∷◌, ◌++◌, length, filter, Bool, true, false, cond, ◌&&◌, None, Some, Option, slice_get, refl, sym, ap, subst, ◌∙◌, arith, append-nil, append_assoc, length-append}
 use Rattle.std.specs.List.{AllByRecursion, find}
 use Rattle.std.specs.Str.{bytes_eq}
-use Rattle.std.specs.declared.cmp.Ordering.TheVariants.{Less, Equal, Greater}
-use Rattle.std.proofs.Math.Dec.{ltb}
-use Rattle.std.proofs.lemmas.Bool.{cases_Bool, lt-ltb}
+use Rattle.std.specs.declared.cmp.Ordering.TheVariants.{Less}
+use Rattle.std.proofs.lemmas.Bool.{cases_Bool}
 use Rattle.std.proofs.lemmas.Bool.Decides.{Decides-eqb}
 use Rattle.std.proofs.lemmas.List.Elements.{filter-append}
 use Rattle.std.proofs.lemmas.Slice.Eq.{bytes_eq-Decides}
 use Rattle.sqlite.specs.Order.{Row, column, value_cmp}
-use Rattle.sqlite_value.proofs.OrderLemmas.{value_cmp-Int}
 use Rattle.sqlite.specs.declared.types.Value.TheVariants.{Int}
 use Rattle.sqlite.specs.Tree.{rowid, IsTable}
 use Rattle.desk_rules.specs.declared.reply.Sent.{Sent}
 use Rattle.desk_rules.specs.Questions.{sent_at}
 use Rattle.desk_sent.specs.Messages.{sent_to, stored, rows_after}
-use Rattle.desk_sent.proofs.GenericLemmas.{Among}
+use Rattle.desk_tables.specs.Queries.{Among}
+use Rattle.desk_tables.proofs.ValueLemmas.{number_less}
 
 same_text : (s t : List ℕ) → bytes_eq s t ≡ true → s ≡ t
 same_text s t is = (bytes_eq-Decides s t).0 is
@@ -93,17 +92,14 @@ has_last_number ms = elim (last_number [] ms) [
   | inr one ↦ inr (one.0, one.1, one.2 ∙ ap (λ n. Int (pos n)) (omega arith))
 ]
 
-less_number : (k n : ℕ) → k < n → value_cmp (Int (pos k)) (Int (pos n)) ≡ Less
-less_number k n low = value_cmp-Int (pos k) (pos n) ∙ ap (λ b. cond b Less (cond (ltb n k) Greater Equal)) (lt-ltb k n low)
-
 -- all rows are below a higher number, and above a lower one
 pub all_below : (last : ℕ) (before ms : List Sent) → length before + length ms < last → AllByRecursion (λ r. value_cmp (rowid r) (Int (pos last)) ≡ Less) (rows_after before ms)
 all_below last before [] low = tt
-all_below last before (m ∷ ms) low = (less_number (length before + 1) last (omega arith), all_below last (before ++ m ∷ []) ms (omega (arith, longer before m)))
+all_below last before (m ∷ ms) low = (number_less (length before + 1) last (omega arith), all_below last (before ++ m ∷ []) ms (omega (arith, longer before m)))
 
 all_above : (first : ℕ) (before ms : List Sent) → first ≤ length before → AllByRecursion (λ r. value_cmp (Int (pos first)) (rowid r) ≡ Less) (rows_after before ms)
 all_above first before [] low = tt
-all_above first before (m ∷ ms) low = (less_number first (length before + 1) (omega arith), all_above first (before ++ m ∷ []) ms (omega (arith, longer before m)))
+all_above first before (m ∷ ms) low = (number_less first (length before + 1) (omega arith), all_above first (before ++ m ∷ []) ms (omega (arith, longer before m)))
 
 pub rows_rise : (before ms : List Sent) → IsTable (rows_after before ms)
 rows_rise before [] = tt

@@ -1,12 +1,10 @@
 -- What the texts mean.
-use Rattle.std.proofs.Common.{◌≡◌, ℕ, pos, negsuc, List, [], ◌∷◌, codes, true, false, None, refl}
+use Rattle.std.proofs.Common.{◌≡◌, ℕ, pos, List, [], ◌∷◌, codes, refl}
 use Rattle.sqlite.specs.declared.types.Value.TheVariants.{Null, Int}
 use Rattle.sqlite.specs.Term.{Term, lit, col, op2}
-use Rattle.sqlite.specs.Query.{Query, inner, end}
 use Rattle.sqlite.specs.Collation.TheVariants.{Binary}
-use Rattle.sqlite_value.specs.declared.keys.Key.{Key}
 use Rattle.sqlite_sql.specs.declared.ops.BinaryOp.TheVariants.{Compare}
-use Rattle.sqlite_sql.specs.declared.ops.CompareOp.TheVariants.{Eq, Ge, Le}
+use Rattle.sqlite_sql.specs.declared.ops.CompareOp.TheVariants.{Ge, Le}
 use Rattle.sqlite.specs.Command.TheVariants.{Select, Insert}
 use Rattle.sqlite.specs.Source.TheVariants.{Values}
 use Rattle.sqlite.specs.Listing.{understood}
@@ -14,30 +12,7 @@ use Rattle.sqlite_tied.specs.Compute.{everything}
 use Rattle.sqlite.proofs.Callers.{command_of}
 use Rattle.desk_tables.specs.Schema.{desk_schema}
 use Rattle.desk_tables.specs.Statements.{IsEdit, IsQuery}
-
--- some columns of the rows of a table that pass a test
-abbrev pub plain : ℕ → List Term → List Term → Query
-plain tree filter project = record {
-  from = inner tree end;
-  filter = filter;
-  group = None;
-  project = project;
-  distinct = false;
-  collations = [];
-  order = [];
-  limit = lit (Int (negsuc 0));
-  offset = lit (Int (pos 0));
-}
-
--- the first of those rows by one column
-abbrev pub first_of : ℕ → List Term → List Term → Term → Key → Query
-first_of tree filter project by key = record (plain tree filter project) { limit = lit (Int (pos 1)); order = (by, key) ∷ [] }
-
-abbrev pub rising : Key
-rising = record { collation = Binary; descending = false }
-
-abbrev pub falling : Key
-falling = record { collation = Binary; descending = true }
+use Rattle.desk_tables.specs.Queries.{plain, first_of, rising, falling, equals}
 
 abbrev pub number_text : List ℕ
 number_text = codes "SELECT number FROM sent ORDER BY number DESC LIMIT 1"
@@ -61,13 +36,13 @@ abbrev pub set_text : List ℕ
 set_text = codes "INSERT INTO version (number) VALUES (?1)"
 
 abbrev pub by_bic : Term
-by_bic = op2 (Compare Eq Binary) (col 1 2) (col 0 0)
+by_bic = equals 2 0
 
 abbrev pub by_place : Term
-by_place = op2 (Compare Eq Binary) (col 1 3) (col 0 1)
+by_place = equals 3 1
 
 abbrev pub by_about : Term
-by_about = op2 (Compare Eq Binary) (col 1 5) (col 0 0)
+by_about = equals 5 0
 
 abbrev pub from_544 : Term
 from_544 = op2 (Compare Ge Binary) (col 1 4) (lit (Int (pos 544)))

@@ -8,12 +8,10 @@ ghost use Rattle.desk_sent.specs.Messages.{IsMessage, IsNumber, shown};
 
 use desk_codes::Bic;
 use desk_rules::{Sent, Text};
+use desk_tables::values::CORRUPT;
 use sqlite::types::ValueRef;
-use sqlite::{Error, ErrorCode, Row};
+use sqlite::{Error, Row};
 use std::alloc::Global;
-
-/// For a row that says nothing that these tables would say.
-const CORRUPT: Error = Error::SqliteFailure(ErrorCode::DatabaseCorrupt);
 
 /// The number that the first row shows; None where there is no row.
 pub fn number_in(rows: &[Row]) -> Result<Option<u64>, Error>

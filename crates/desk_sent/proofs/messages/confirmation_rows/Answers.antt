@@ -1,7 +1,7 @@
 use Rattle.std.proofs.Common.{arith}
 use Rattle.sqlite.specs.Held.{state}
 use Rattle.desk_sent.proofs.TextLemmas.{confirmation_query}
-use Rattle.desk_sent.proofs.GenericLemmas.{on_value}
+use Rattle.desk_sent.proofs.ResultLemmas.{on_value}
 use Rattle.desk_sent.proofs.MessageLemmas.{confirmation_shown}
 use Rattle.desk_sent.proofs.messages.confirmation_rows.Goals as goal
 

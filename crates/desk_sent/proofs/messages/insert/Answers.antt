@@ -5,7 +5,7 @@ use Rattle.sqlite.specs.Order.{Row}
 use Rattle.sqlite.specs.declared.types.Value.TheVariants.{Int, Text as Words}
 use Rattle.sqlite.specs.Held.{state}
 use Rattle.desk_sent.proofs.TextLemmas.{insert_text, insert_edit}
-use Rattle.desk_sent.proofs.GenericLemmas.{on_done}
+use Rattle.desk_sent.proofs.ResultLemmas.{on_done}
 use Rattle.desk_sent.proofs.RowLemmas.{count_to, count_below}
 use Rattle.desk_sent.proofs.InsertLemmas.{adds}
 use Rattle.desk_sent.proofs.messages.insert.Goals as goal

@@ -1,6 +1,6 @@
 use Rattle.sqlite.specs.Held.{state}
 use Rattle.desk_sent.proofs.TextLemmas.{number_query}
-use Rattle.desk_sent.proofs.GenericLemmas.{on_value}
+use Rattle.desk_sent.proofs.ResultLemmas.{on_value}
 use Rattle.desk_sent.proofs.MessageLemmas.{numbers_shown}
 use Rattle.desk_sent.proofs.messages.last_number_rows.Goals as goal
 

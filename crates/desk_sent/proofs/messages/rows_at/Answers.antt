@@ -1,7 +1,7 @@
 use Rattle.std.proofs.Common.{arith}
 use Rattle.sqlite.specs.Held.{state}
 use Rattle.desk_sent.proofs.TextLemmas.{at_query}
-use Rattle.desk_sent.proofs.GenericLemmas.{on_value}
+use Rattle.desk_sent.proofs.ResultLemmas.{on_value}
 use Rattle.desk_sent.proofs.MessageLemmas.{place_shown}
 use Rattle.desk_sent.proofs.messages.rows_at.Goals as goal
 

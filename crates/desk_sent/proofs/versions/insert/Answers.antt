@@ -2,7 +2,7 @@ use Rattle.std.proofs.Common.{pos, [], ◌∷◌}
 use Rattle.sqlite.specs.declared.types.Value.TheVariants.{Int}
 use Rattle.sqlite.specs.Held.{state}
 use Rattle.desk_sent.proofs.TextLemmas.{set_text, set_edit}
-use Rattle.desk_sent.proofs.GenericLemmas.{on_done}
+use Rattle.desk_sent.proofs.ResultLemmas.{on_done}
 use Rattle.desk_sent.proofs.InsertLemmas.{sets}
 use Rattle.desk_sent.proofs.versions.insert.Goals as goal
 

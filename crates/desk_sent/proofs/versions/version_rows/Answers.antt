@@ -1,6 +1,6 @@
 use Rattle.sqlite.specs.Held.{state}
 use Rattle.desk_sent.proofs.TextLemmas.{version_query}
-use Rattle.desk_sent.proofs.GenericLemmas.{on_value}
+use Rattle.desk_sent.proofs.ResultLemmas.{on_value}
 use Rattle.desk_sent.proofs.VersionLemmas.{version_shown}
 use Rattle.desk_sent.proofs.versions.version_rows.Goals as goal
 

@@ -1,0 +1,15 @@
+-- What is known of a result.
+use Rattle.std.proofs.Common.{ℕ, List, Ok, Err, Result, OnOk, IfOk}
+use Rattle.sqlite.specs.Order.{Row}
+use Rattle.sqlite.specs.State.{State, Executes}
+use Rattle.sqlite.specs.declared.error.Error.{Error}
+
+-- what a value is, and so something else of it
+pub on_value : {X E : Type 0} {A B : X → Type 0} (r : Result X E) → ((x : X) → A x → B x) → IfOk r A → IfOk r B
+on_value (Ok x) f h = f x h
+on_value (Err e) f h = tt
+
+-- what a text has done where it ran to its end
+pub on_done : {B : Type 0} (text : List ℕ) (params : Row) (old new : State) (r : Result ℕ Error) → ((count : ℕ) → Executes text params old new (Ok count) → B) → Executes text params old new r → OnOk r B
+on_done text params old new (Ok count) f h = f count h
+on_done text params old new (Err e) f h = tt
