@@ -1,5 +1,5 @@
 -- What the statements do to the due places, and what the query shows of them.
-use Rattle.std.proofs.Common.{◌≡◌, ◌≢◌, inl, inr, ℕ, ◌/◌, ◌%◌, ◌<◌, ◌^◌, ◌==◌, nat_lt, ℤ, pos, List, [], ◌∷◌, map, filter, Bool, true, false, cond, not, ◌&&◌, ◌||◌, None, Some, Ok, refl, sym, ap, subst, ◌∙◌, arith}
+use Rattle.std.proofs.Common.{◌≡◌, inl, inr, ℕ, ◌/◌, ◌%◌, ◌<◌, ◌^◌, ◌==◌, nat_lt, ℤ, pos, List, [], ◌∷◌, map, filter, Bool, true, false, cond, not, ◌&&◌, ◌||◌, None, Some, Ok, refl, sym, ap, subst, ◌∙◌, arith}
 use Rattle.std.specs.List.{AllByRecursion}
 use Rattle.std.specs.List.Sorted.{IsPermutation}
 use Rattle.std.specs.Ordering.{is_eq, is_lt, is_gt, int_cmp, match_ordering}
@@ -11,8 +11,8 @@ use Rattle.sqlite.specs.Order.{Row, value_cmp}
 use Rattle.sqlite.specs.declared.types.Value.TheVariants.{Null, Int}
 use Rattle.sqlite.specs.Term.{col, eval_all}
 use Rattle.sqlite.specs.Ops.{binary}
-use Rattle.sqlite.specs.Edit.{edit_of, put_all, without_all, id_in, IsNoIndex}
-use Rattle.sqlite.specs.Rowids.TheVariants.{Chosen}
+use Rattle.sqlite.specs.Edit.{edit_of, put_all, without_all, id_in}
+use Rattle.sqlite.specs.Rowids.TheVariants.{Chosen, Given}
 use Rattle.sqlite_rules.specs.Calls.{ids_of}
 use Rattle.sqlite.specs.Program.{overlay}
 use Rattle.sqlite.specs.Tree.{IsTable, rowid, put_row, without_rowid, has_rowid}
@@ -23,12 +23,13 @@ use Rattle.sqlite.specs.State.{State, Executes, Shown}
 use Rattle.sqlite.proofs.Callers.{reads_as}
 use Rattle.desk_rules.specs.declared.pair.Place.{Place}
 use Rattle.desk_tables.specs.Schema.{desk_schema, due_table}
-use Rattle.desk_tables.specs.Ends.{SparesOthers}
 use Rattle.desk_standings.specs.Standings.{number_of_row}
 use Rattle.desk_standings.specs.Due.{due_at, due_row, is_due_among, is_due_in, place_numbered, same_place, AreDue, DueChanged, IsDueRow, IsFirstShown}
-use Rattle.desk_standings.proofs.GenericLemmas.{plain, passes_all, plain_rows, same_found, walk, IsFirst, Among, deletes, inserts}
 use Rattle.desk_standings.proofs.MeaningLemmas.{above, below, by_number, forget_text, forgets, forget_is, note_text, notes, note_is, note_terms, next_text, finds_next, next_is}
-use Rattle.desk_standings.proofs.NumberLemmas.{three_ways, number_less, number_equal, number_greater, number_same, number_below, above_test, below_test, equal_test, and_true, cast_int, cast_null}
+use Rattle.desk_tables.specs.Queries.{plain, passes_all, rising, Among, IsFirst}
+use Rattle.desk_tables.proofs.QueryLemmas.{map_nil, plain_rows, same_found, first_row}
+use Rattle.desk_tables.proofs.EditLemmas.{deletes, inserts, spares}
+use Rattle.desk_tables.proofs.ValueLemmas.{three_ways, number_less, number_equal, number_greater, number_same, number_below, above_test, below_test, equal_test, and_true, cast_int, cast_null}
 
 -- ---- places and their numbers
 
@@ -170,9 +171,6 @@ left_due n p (id ∷ ids) rows formed all none = ap (λ k. is_due_among (without
 
 -- ---- the statements
 
-spares : (old new : Database) → ((t : ℕ) → t ≢ 12 → IsNoIndex desk_schema t → new.trees t ≡ old.trees t) → SparesOthers 12 13 old new
-spares old new others tree outside unindexed = others tree (λ is. elim outside [ inl low ↦ omega (arith, low, is) | inr high ↦ omega (arith, high, is) ]) unindexed
-
 pub notes_due : (old new : State) (n count : ℕ) → n < 2 ^ 63 → old.now.schema ≡ desk_schema → AreDue old.now → Executes note_text (Int (pos n) ∷ []) old new (Ok count)
     → DueChanged old.now new.now (due_at (is_due_in old.now) (place_numbered n) true)
 notes_due old new n count small has were h =
@@ -188,7 +186,7 @@ notes_due old new n count small has were h =
         formed = subst (AllByRecursion IsDueRow) (sym rows_are) (all-put_row IsDueRow (due_row n) held (record { place = n; is = refl; small = small }) were.formed);
       };
       due_are = ap is_due_among rows_are ∙ put_due n held were.formed;
-      others = spares old.now new.now made.2.others;
+      others = spares 12 13 old.now new.now (edit_of old.now.trees due_table [] Chosen 0 made.0) (omega arith) (omega arith) made.2;
     }
 
 -- the row of the number passes
@@ -209,10 +207,6 @@ own_ids n (r ∷ rs) formed =
       | inr apart ↦ subst (λ b. AllByRecursion (λ x. id_in (rowid x) ≡ pos n) (map show (cond b (r ∷ rest) rest))) (sym apart) (own_ids n rs formed.1)
     ]
 
-empty_map : {X Y : Type 0} (f : X → Y) (xs : List X) → map f xs ≡ [] → xs ≡ []
-empty_map f [] h = refl
-empty_map f (x ∷ xs) h = absurd (cc)
-
 ids_are : (n : ℕ) (rows : List Row) → AllByRecursion (λ x. id_in (rowid x) ≡ pos n) rows → AllByRecursion (λ id. id ≡ pos n) (ids_of rows)
 ids_are n [] all = tt
 ids_are n (x ∷ xs) all = (all.0, ids_are n xs all.1)
@@ -231,15 +225,15 @@ forgets_due old new n count has were h =
     let all : AllByRecursion (λ id. id ≡ pos n) ids =
     ids_are n made.0 (all-permutation (λ x. id_in (rowid x) ≡ pos n) (map show (filter (λ r. number_of_row r == n) held)) made.0 found (own_ids n held were.formed)) in
     let none : ids ≡ [] → filter (λ r. number_of_row r == n) held ≡ [] = λ empty.
-    empty_map show (filter (λ r. number_of_row r == n) held)
-    (nil_from_length _ (length_permutation [] _ (IsPermutation-sym _ _ (subst (λ xs. IsPermutation (map show (filter (λ r. number_of_row r == n) held)) xs) (empty_map _ made.0 empty) found)))) in
+    map_nil show (filter (λ r. number_of_row r == n) held)
+    (nil_from_length _ (length_permutation [] _ (IsPermutation-sym _ _ (subst (λ xs. IsPermutation (map show (filter (λ r. number_of_row r == n) held)) xs) (map_nil _ made.0 empty) found)))) in
     record {
       kept = record {
         rising = subst IsTable (sym made.2.rows) (left_rising ids held were.rising);
         formed = subst (AllByRecursion IsDueRow) (sym made.2.rows) (left_formed ids held were.formed);
       };
       due_are = ap is_due_among made.2.rows ∙ (λ i p. (left_due n p ids held were.formed all none) i);
-      others = spares old.now new.now made.2.others;
+      others = spares 12 13 old.now new.now (edit_of old.now.trees due_table (ids_of made.0) Given 0 []) (omega arith) (omega arith) made.2;
     }
 
 -- ---- the query
@@ -311,9 +305,9 @@ shows_first old new floor end rows has were h =
     let tests = above ∷ below ∷ [] in
     let shown = col 1 0 ∷ [] in
     let answers = reads_as next_text params old new desk_schema has _ next_is finds_next.plain finds_next.unlisted rows h in
-    let first : IsFirst (filter (is_between floor end) held) params shown (col 1 0) rows =
-    subst (λ mine. IsFirst mine params shown (col 1 0) rows) (same_found IsDueRow (passes_all tests params) (is_between floor end) held (between_test floor end) were.formed)
-    (walk 12 tests shown (col 1 0) (overlay old.now.trees []) params rows (answers.answer Null)) in
+    let first : IsFirst (filter (is_between floor end) held) params shown (col 1 0) rising rows =
+    subst (λ mine. IsFirst mine params shown (col 1 0) rising rows) (same_found IsDueRow (passes_all tests params) (is_between floor end) held (between_test floor end) were.formed)
+    (first_row 12 tests shown (col 1 0) rising (overlay old.now.trees []) params rows (answers.answer Null)) in
     elim first [
       | inl none ↦ record {
         found = None;

@@ -1,6 +1,4 @@
-pub mod GenericLemmas
 pub mod MeaningLemmas
-pub mod NumberLemmas
 pub mod StandingLemmas
 pub mod StandingCalls
 pub mod DueLemmas

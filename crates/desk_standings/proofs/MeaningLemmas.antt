@@ -4,7 +4,7 @@ use Rattle.sqlite.specs.declared.types.Value.TheVariants.{Null, Int}
 use Rattle.sqlite.specs.Term.{Term, lit, col, op2}
 use Rattle.sqlite.specs.Collation.TheVariants.{Binary}
 use Rattle.sqlite_sql.specs.declared.ops.BinaryOp.TheVariants.{Compare}
-use Rattle.sqlite_sql.specs.declared.ops.CompareOp.TheVariants.{Eq, Gt, Lt}
+use Rattle.sqlite_sql.specs.declared.ops.CompareOp.TheVariants.{Gt, Lt}
 use Rattle.sqlite.specs.Command.TheVariants.{Select, Insert, Update, Delete}
 use Rattle.sqlite.specs.Source.TheVariants.{Values}
 use Rattle.sqlite.specs.Listing.{understood}
@@ -12,7 +12,7 @@ use Rattle.sqlite_tied.specs.Compute.{everything}
 use Rattle.sqlite.proofs.Callers.{command_of}
 use Rattle.desk_tables.specs.Schema.{desk_schema}
 use Rattle.desk_tables.specs.Statements.{IsEdit, IsQuery}
-use Rattle.desk_standings.proofs.GenericLemmas.{plain, walk_query}
+use Rattle.desk_tables.specs.Queries.{plain, first_of, rising, equals}
 
 -- ---- where instructions stand
 
@@ -33,7 +33,7 @@ ask_text = codes "UPDATE state SET asked = 1 WHERE number = ?1"
 
 -- the row of a number
 abbrev pub by_number : Term
-by_number = op2 (Compare Eq Binary) (col 1 0) (col 0 0)
+by_number = equals 0 0
 
 abbrev pub read_shown : List Term
 read_shown = col 1 2 ∷ col 1 3 ∷ col 1 4 ∷ col 1 5 ∷ []
@@ -130,6 +130,6 @@ pub finds_next : IsQuery next_text
 unfolding understood everything
 finds_next = record { selects = refl; plain = (refl, refl); unlisted = refl }
 
-pub next_is : command_of (understood desk_schema next_text) ≡ Select (record { lets = []; body = walk_query 12 (above ∷ below ∷ []) (col 1 0 ∷ []) (col 1 0) }) (codes "place" ∷ [])
+pub next_is : command_of (understood desk_schema next_text) ≡ Select (record { lets = []; body = first_of 12 (above ∷ below ∷ []) (col 1 0 ∷ []) (col 1 0) rising }) (codes "place" ∷ [])
 unfolding understood everything
 next_is = refl

@@ -13,7 +13,7 @@ use Rattle.sqlite.specs.declared.types.Value.TheVariants.{Null, Int}
 use Rattle.sqlite.specs.Term.{Term, eval_all}
 use Rattle.sqlite.specs.Ops.{binary}
 use Rattle.sqlite.specs.Cast.{cast_row}
-use Rattle.sqlite.specs.Edit.{edit_of, edited, put_all, IsNoIndex}
+use Rattle.sqlite.specs.Edit.{edit_of, edited, put_all}
 use Rattle.sqlite.specs.Rowids.TheVariants.{Chosen, Given}
 use Rattle.sqlite_rules.specs.Calls.{ids_of}
 use Rattle.sqlite.specs.Program.{overlay}
@@ -31,11 +31,12 @@ use Rattle.desk_rules.specs.declared.standing.Standing.{Standing}
 use Rattle.desk_rules.specs.Standing.{no_standing}
 use Rattle.desk_register.specs.Changes.{standing_at}
 use Rattle.desk_tables.specs.Schema.{desk_schema, state_table}
-use Rattle.desk_tables.specs.Ends.{SparesOthers}
 use Rattle.desk_standings.specs.Standings.{fresh_standing, number_of_row, standing_among, standing_in, standing_row, standing_written, state_written, written_in, AreStandings, IsStandingRow, IsStandingShown, StandingsChanged, Written}
-use Rattle.desk_standings.proofs.GenericLemmas.{plain, passes_all, plain_rows, same_found, updates, inserts, IsEdited}
 use Rattle.desk_standings.proofs.MeaningLemmas.{by_number, read_text, reads, read_is, read_shown, add_text, adds, add_is, add_terms}
-use Rattle.desk_standings.proofs.NumberLemmas.{three_ways, number_less, number_equal, number_greater, number_same, equal_test, and_true, cast_int, cast_null}
+use Rattle.desk_tables.specs.Queries.{plain, passes_all}
+use Rattle.desk_tables.proofs.QueryLemmas.{plain_rows, same_found}
+use Rattle.desk_tables.proofs.EditLemmas.{updates, inserts, spares, IsEdited}
+use Rattle.desk_tables.proofs.ValueLemmas.{three_ways, number_less, number_equal, number_greater, number_same, equal_test, and_true, cast_int, cast_null}
 
 -- ---- one row
 
@@ -206,9 +207,6 @@ one_edit : (db : Trees) (n : ℕ) (w : Written)
     → edited db (edit_of db state_table (ids_of ((Int (pos n) ∷ standing_row n w) ∷ [])) Given 1 ((Int (pos n) ∷ standing_row n w) ∷ [])) ≡ put_row (standing_row n w) (without_rowid (pos n) (db 9))
 one_edit db n w = ap (λ r. put_row r (without_rowid (pos n) (db 9))) (cast_standing n w)
 
-spares : (old new : Database) → ((t : ℕ) → t ≢ 9 → IsNoIndex desk_schema t → new.trees t ≡ old.trees t) → SparesOthers 9 10 old new
-spares old new others tree outside unindexed = others tree (λ is. elim outside [ inl low ↦ omega (arith, low, is) | inr high ↦ omega (arith, high, is) ]) unindexed
-
 -- An UPDATE of the row of a number changes what is written of it.
 pub record Changes (shown : List Term) (params : Row) (change : Written → Written) : Type 0 where
   pub shows : (m : ℕ) (w : Written) → eval_all shown (params ∷ standing_row m w ∷ []) ≡ Int (pos m) ∷ standing_row m (change w)
@@ -257,7 +255,7 @@ changes_standing old new text shown n more change f count is plain' changes read
             formed = subst (AllByRecursion IsStandingRow) (sym rows_are) (all-put_row IsStandingRow (standing_row n w) left row (all-filter IsStandingRow (λ r. not (has_rowid (pos n) r)) held were.formed));
           };
           standings_are = ap standing_among rows_are ∙ replaced_standings n w held were.formed ∙ ap (standing_at (standing_among held) n) says;
-          others = spares old.now new.now made.3.others;
+          others = spares 9 10 old.now new.now (edit_of old.now.trees state_table (ids_of made.0) Given 1 made.0) (omega arith) (omega arith) made.3;
         }
 
 -- ---- a row is put in
@@ -282,7 +280,7 @@ adds_standing old new n count small has were h =
         formed = subst (AllByRecursion IsStandingRow) (sym rows_are) (all-put_row IsStandingRow row held formed were.formed);
       };
       standings_are = ap standing_among rows_are ∙ put_standings n fresh_written held were.formed;
-      others = spares old.now new.now made.2.others;
+      others = spares 9 10 old.now new.now (edit_of old.now.trees state_table [] Chosen 0 made.0) (omega arith) (omega arith) made.2;
     }
 
 -- ---- for the stores

@@ -6,11 +6,12 @@ ghost use Rattle.desk_codes.specs.Number.{number_of};
 ghost use Rattle.desk_tables.specs.Ends.{IfSound, IsLook, IsWrite};
 ghost use Rattle.desk_standings.specs.Due.{due_at, is_due_in, place_numbered, AreDue, DueChanged, IsFirstShown, IsNextDue};
 
-use crate::parameters::{integer, signed};
+use crate::parameters::signed;
 use crate::places::{end_of, floor_of, place_number, place_shown};
 use desk_codes::Day;
 use desk_rules::Place;
 use desk_tables::statement::{execute, query};
+use desk_tables::values::integer;
 use sqlite::{Alter, Connection, Error, Row};
 
 /// A row for a place, and how many rows there are more.

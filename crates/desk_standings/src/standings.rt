@@ -7,10 +7,11 @@ ghost use Rattle.desk_register.specs.Changes.{standing_at};
 ghost use Rattle.desk_tables.specs.Ends.{IfSound, IsLook, IsWrite};
 ghost use Rattle.desk_standings.specs.Standings.{fresh_standing, mate_written, standing_in, state_written, AreStandings, IsStandingShown, StandingsChanged};
 
-use crate::parameters::{integer, one_row};
+use crate::parameters::one_row;
 use crate::states::{no_standing, reason_code, standing_shown, state_code};
 use desk_rules::{Standing, State};
 use desk_tables::statement::{execute, query};
+use desk_tables::values::integer;
 use sqlite::{Alter, Connection, Error, Row};
 
 /// No row has a number above it.

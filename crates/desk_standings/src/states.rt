@@ -5,9 +5,9 @@ ghost use Rattle.desk_standings.specs.Standings.{state_code, reason_code, state_
 ghost use Rattle.desk_rules.specs.declared.standing.Standing.{Standing};
 ghost use Rattle.desk_rules.specs.Standing.{no_standing};
 
-use crate::parameters::corrupt;
 use desk_msg::Reason;
 use desk_rules::{Standing, State};
+use desk_tables::values::CORRUPT;
 use sqlite::{Error, Row};
 
 /// Which state it is.
@@ -48,7 +48,7 @@ fn state_written(state: u64, reason: u64) -> Result<State, Error>
         (2, 3) => Ok(State::Matched(Reason::Money)),
         (3, 0) => Ok(State::Cancelled),
         (4, 0) => Ok(State::Settled),
-        _ => Err(corrupt()),
+        _ => Err(CORRUPT),
     }
 }
 
@@ -59,7 +59,7 @@ fn request_written(asked: u64) -> Result<bool, Error>
     match asked {
         0 => Ok(false),
         1 => Ok(true),
-        _ => Err(corrupt()),
+        _ => Err(CORRUPT),
     }
 }
 

@@ -82,14 +82,6 @@ pub all_kept : {X : Type 0} (xs : List X) → filter (λ x. true) xs ≡ xs
 all_kept [] = refl
 all_kept (x ∷ xs) = ap (λ ys. x ∷ ys) (all_kept xs)
 
--- what holds of each row holds of each that is found
-pub all_found : {X : Type 0} (P : X → Type 0) (p : X → Bool) (xs : List X) → AllByRecursion P xs → AllByRecursion P (filter p xs)
-all_found P p [] all = tt
-all_found P p (x ∷ xs) all = elim (cases_Bool (p x)) [
-  | inl here ↦ subst (AllByRecursion P) (sym (ap (λ b. cond b (x ∷ filter p xs) (filter p xs)) here)) (all.0, all_found P p xs all.1)
-  | inr apart ↦ subst (AllByRecursion P) (sym (ap (λ b. cond b (x ∷ filter p xs) (filter p xs)) apart)) (all_found P p xs all.1)
-]
-
 -- ---- what a query shows
 
 one_each : {X Y : Type 0} (p : X → Bool) (f : X → Y) (xs : List X) → flat_map (λ x. cond (p x) (f x ∷ []) []) xs ≡ map f (filter p xs)

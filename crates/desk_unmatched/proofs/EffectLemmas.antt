@@ -17,7 +17,7 @@ use Rattle.sqlite_rules.specs.Edit.{without_all, id_in}
 use Rattle.sqlite_rules.specs.Calls.{ids_of}
 use Rattle.sqlite.specs.Tree.{Trees, IsTable, rowid, has_rowid, put_row, without_rowid}
 use Rattle.sqlite_trees.proofs.TreeLemmas.{IsTable-put_row, all-put_row}
-use Rattle.sqlite_trees.proofs.ListLemmas.{ascending-filter}
+use Rattle.sqlite_trees.proofs.ListLemmas.{all-filter, ascending-filter}
 use Rattle.sqlite_sql.specs.declared.ops.BinaryOp.TheVariants.{Compare}
 use Rattle.sqlite_sql.specs.declared.ops.CompareOp.TheVariants.{Eq}
 use Rattle.sqlite.specs.Collation.TheVariants.{Binary}
@@ -29,7 +29,7 @@ use Rattle.sqlite.proofs.Callers.{one_permutation}
 use Rattle.desk_rules.specs.declared.entry.Instructed.{Instructed}
 use Rattle.desk_tables.specs.Schema.{desk_schema, unmatched_table}
 use Rattle.desk_tables.specs.Queries.{equals, passes_all}
-use Rattle.desk_tables.proofs.QueryLemmas.{all_found, plain_rows, same_found}
+use Rattle.desk_tables.proofs.QueryLemmas.{plain_rows, same_found}
 use Rattle.desk_tables.proofs.ValueLemmas.{and_true, equal_test, cast_int, cast_null}
 use Rattle.desk_tables.proofs.EditLemmas.{inserts, deletes, spares}
 use Rattle.desk_unmatched.specs.Key.{key_of}
@@ -64,7 +64,7 @@ module _ (old new : Database) (number : ℕ) where
   forgets_row : new.trees 10 ≡ without_rowid (pos number) (old.trees 10) → (noted : Noted) → AreUnmatched old noted → AreUnmatched new (forgetting noted number)
   forgets_row left noted was = record {
     rising = subst IsTable (sym left) (ascending-filter (λ a b. value_cmp (rowid a) (rowid b) ≡ _) (λ r. not (has_rowid (pos number) r)) (old.trees 10) was.rising);
-    numbered = subst (AllByRecursion IsNumbered) (sym left) (all_found IsNumbered (λ r. not (has_rowid (pos number) r)) (old.trees 10) was.numbered);
+    numbered = subst (AllByRecursion IsNumbered) (sym left) (all-filter IsNumbered (λ r. not (has_rowid (pos number) r)) (old.trees 10) was.numbered);
     each = λ k. ap (row_of k) left ∙ elim (cases_Bool (k == number)) [
       | inl here ↦ (let same : k ≡ number = eqb-true k number here in
           ap (λ n. row_of n (without_rowid (pos number) (old.trees 10))) same ∙ row_of-without_own number (old.trees 10) ∙ sym (ap (λ b. option_map (stored k) (cond b None (noted k))) here))
