@@ -12,7 +12,7 @@ use Rattle.desk_amounts.specs.Statements.{amount_text, put_text, first_text, nex
 use Rattle.desk_amounts.specs.Amounts.{AreAmounts, amount_at}
 use Rattle.desk_amounts.specs.Changes.{SetsAmount, ShowsAmount}
 use Rattle.desk_amounts.specs.Holdings.{ShowsNext}
-use Rattle.desk_amounts.proofs.EffectLemmas.{inserts, of_texts, puts, shows_amount}
+use Rattle.desk_amounts.proofs.EffectLemmas.{of_texts, puts, sets_first, shows_amount}
 use Rattle.desk_amounts.proofs.HoldingLemmas.{shows_next}
 
 module _ (old new : State) (has : old.now.schema ≡ desk_schema) (amounts : AreAmounts old.now) where
@@ -34,5 +34,5 @@ module _ (old new : State) (has : old.now.schema ≡ desk_schema) (amounts : Are
 
     pub inserted : amount_at old.now key ≡ None → d < 2 ^ 63 → (r : Result ℕ Error) → Executes (first_text (ledger_of key)) (of_texts (texts_of key) (Int (pos d) ∷ [])) old new r
         → OnOk r (SetsAmount old.now new.now key d)
-    inserted absent small (Ok count) h = inserts old new key d count has amounts absent small h
+    inserted absent small (Ok count) h = sets_first old new key d count has amounts absent small h
     inserted absent small (Err e) h = tt

@@ -1,44 +1,38 @@
 -- What the statements do to the tables of amounts, and what they show.
 use Rattle.std.proofs.Common.{◌≡◌, ◌≢◌, ◌⊎◌, inl, inr, ℕ, ◌+◌, ◌-◌, ◌<◌, ◌≤◌, ◌^◌, ℤ, pos, ◌+ℤ◌, ◌-ℤ◌, nat_le, ◌==◌, List, [], ◌∷◌, length, map, filter, Bool, true, false, cond, not, ◌&&◌, None, Some, Ok, unwrap_or, slice_get, codes, refl, sym, ap, subst, ◌∙◌, arith}
-use Rattle.std.specs.List.{AllByRecursion, list_any}
+use Rattle.std.specs.List.{list_any}
 use Rattle.std.specs.List.Sorted.{IsPermutation}
 use Rattle.std.specs.Str.{bytes_eq}
-use Rattle.std.specs.Ordering.{is_eq, is_ge, int_cmp}
-use Rattle.std.specs.declared.cmp.Ordering.TheVariants.{Less, Equal, Greater}
-use Rattle.std.proofs.Math.Dec.{ltb}
-use Rattle.std.proofs.lemmas.Bool.{cases_Bool, cases_lt, lt-ltb, le-ltb, lt-leb, le-leb, leb-true, leb-false, not-true, and_parts}
+use Rattle.std.specs.Ordering.{is_eq}
+use Rattle.std.proofs.lemmas.Bool.{cases_Bool, lt-ltb, leb-true, leb-false, not-true, and_parts}
 use Rattle.std.proofs.lemmas.Bool.Decides.{eqb_tells}
 use Rattle.std.proofs.lemmas.Int.{ints}
 use Rattle.std.proofs.lemmas.List.{nil_from_length}
 use Rattle.std.proofs.lemmas.List.Sorted.{length_permutation}
-use Rattle.std.proofs.lemmas.Map.Text.{is_eq-slice_cmp}
 use Rattle.sqlite.specs.Order.{Row, column, value_cmp}
-use Rattle.sqlite_value.proofs.OrderLemmas.{value_cmp-Text, value_cmp-Int}
 use Rattle.sqlite.specs.declared.types.Value.{Value}
 use Rattle.sqlite.specs.declared.types.Value.TheVariants.{Null, Int, Text as Words}
-use Rattle.sqlite.specs.Cast.{cast, cast_row}
-use Rattle.sqlite.specs.Command.TheVariants.{Update, Insert}
-use Rattle.sqlite.specs.Does.{Tally, Does, AtPlace, OnRows}
+use Rattle.sqlite.specs.Cast.{cast_row}
 use Rattle.sqlite.specs.Edit.{Edit, IsNoIndex, edit_of, edited, next_rowid, put_all, are_fresh}
 use Rattle.sqlite.specs.Effect.{Database}
 use Rattle.sqlite_rules.specs.Calls.{ids_of}
 use Rattle.sqlite.specs.Kind.TheVariants.{Integer, Text}
-use Rattle.sqlite.specs.Listing.{understood}
-use Rattle.sqlite.specs.Ops.{unary, binary, is_true, from_truth}
+use Rattle.sqlite.specs.Ops.{binary}
 use Rattle.sqlite.specs.Program.{overlay}
-use Rattle.sqlite.specs.Query.{Query, IsAnswer}
+use Rattle.sqlite.specs.Query.{IsAnswer}
 use Rattle.sqlite.specs.Rowids.TheVariants.{Given, Chosen}
-use Rattle.sqlite.specs.Rows.{Written}
-use Rattle.sqlite.specs.Source.TheVariants.{Values}
-use Rattle.sqlite.specs.State.{State, mode_of, Executes, Shown}
+use Rattle.sqlite.specs.State.{State, Executes, Shown}
 use Rattle.sqlite.specs.Table.{Table}
 use Rattle.sqlite.specs.Term.{Term, col, eval_all}
 use Rattle.sqlite.specs.Tree.{Trees, put_row, rowid, without_rowid}
 use Rattle.sqlite_sql.specs.declared.ops.BinaryOp.TheVariants.{Arith}
 use Rattle.sqlite_sql.specs.declared.ops.ArithOp.TheVariants.{Sub, Add}
-use Rattle.sqlite.proofs.Callers.{IsPlain, command_of, runs_as, reads_as, one_step, one_permutation, statement_of}
+use Rattle.sqlite.proofs.Callers.{reads_as, one_permutation}
 use Rattle.desk_tables.specs.Schema.{desk_schema, needed, not_below_nought, ascending, unstamped}
-use Rattle.desk_tables.proofs.StatementLemmas.{went, same_value}
+use Rattle.desk_tables.specs.Queries.{passes_all, plain}
+use Rattle.desk_tables.proofs.QueryLemmas.{plain_rows, same_found}
+use Rattle.desk_tables.proofs.ValueLemmas.{and_true, text_test, at_least_test, cast_int, cast_null}
+use Rattle.desk_tables.proofs.EditLemmas.{inserts, updates, IsEdited}
 use Rattle.desk_amounts.specs.declared.key.Ledger.{Ledger}
 use Rattle.desk_amounts.specs.declared.key.Ledger.TheVariants.{Balance, Cash, Total}
 use Rattle.desk_amounts.specs.declared.key.AmountKey.{AmountKey}
@@ -47,7 +41,6 @@ use Rattle.desk_amounts.specs.Statements.{amount_text, take_text, put_text, firs
 use Rattle.desk_amounts.specs.Amounts.{AreAmounts, AreAmountRows, IsStored, amount_at, amount_in, amount_on, is_at, recorded, stored}
 use Rattle.desk_amounts.specs.Changes.{IsShort, SetsAmount, ShowsAmount, Takes, had}
 use Rattle.desk_tables.specs.Ends.{SparesOthers}
-use Rattle.desk_amounts.proofs.GenericLemmas.{passes_all, plain, plain_rows}
 use Rattle.desk_amounts.proofs.Meanings.{less_shown, more_shown, key_terms, take_terms, first_terms, place_of, amount_is, amount_query, take_is, take_edit, put_is, put_edit, first_is, first_edit}
 use Rattle.desk_amounts.proofs.RowLemmas.{once, recorded_none, recorded_one, found_stored, set_rows, set_all, set_recorded, first_all, first_recorded_by}
 
@@ -131,17 +124,6 @@ tree_apart Total Cash h e = absurd (omega arith)
 
 -- ---- which rows pass
 
-pub truth_of : (b : Bool) → is_true (from_truth (Some b)) ≡ b
-truth_of true = refl
-truth_of false = refl
-
-pub text_test : (s t : List ℕ) → is_true (from_truth (Some (is_eq (value_cmp (Words s) (Words t))))) ≡ bytes_eq s t
-text_test s t = truth_of (is_eq (value_cmp (Words s) (Words t))) ∙ ap is_eq (value_cmp-Text s t) ∙ is_eq-slice_cmp s t
-
-pub and_true : (b : Bool) → (b && true) ≡ b
-and_true true = refl
-and_true false = refl
-
 abbrev pub of_texts : Texts → Row → Row
 of_texts texts more = Words texts.0 ∷ Words texts.1 ∷ more
 
@@ -151,36 +133,18 @@ key_test texts more row it =
     subst (λ r. passes_all key_terms (of_texts texts more) r ≡ is_at texts r) (sym it.is)
     (rw (text_test it.texts.0 texts.0, text_test it.texts.1 texts.1) (ap (λ b. bytes_eq it.texts.0 texts.0 && b) (and_true (bytes_eq it.texts.1 texts.1))))
 
-either_way : (b : Bool) → is_ge (cond b Greater Equal) ≡ true
-either_way true = refl
-either_way false = refl
-
-nat_at_least : (m n : ℕ) → is_ge (int_cmp (pos m) (pos n)) ≡ nat_le n m
-nat_at_least m n = elim (cases_lt m n) [
-  | inl low ↦ ap (λ b. is_ge (cond b Less (cond (ltb n m) Greater Equal))) (lt-ltb m n low) ∙ sym (lt-leb n m low)
-  | inr high ↦ ap (λ b. is_ge (cond b Less (cond (ltb n m) Greater Equal))) (le-ltb m n high) ∙ either_way (ltb n m) ∙ sym (le-leb n m high)
-]
-
-at_least : (m n : ℕ) → is_true (from_truth (Some (is_ge (value_cmp (Int (pos m)) (Int (pos n)))))) ≡ nat_le n m
-at_least m n = truth_of (is_ge (value_cmp (Int (pos m)) (Int (pos n)))) ∙ ap is_ge (value_cmp-Int (pos m) (pos n)) ∙ nat_at_least m n
-
 -- the row of the two texts, where it has enough
 take_test : (texts : Texts) (d : ℕ) (row : Row) → IsStored row → passes_all take_terms (of_texts texts (Int (pos d) ∷ [])) row ≡ (is_at texts row && nat_le d (amount_on row))
 unfolding binary
 take_test texts d row it =
     subst (λ r. passes_all take_terms (of_texts texts (Int (pos d) ∷ [])) r ≡ (is_at texts r && nat_le d (amount_on r))) (sym it.is)
-    (rw (text_test it.texts.0 texts.0, text_test it.texts.1 texts.1, at_least it.amount d)
+    (rw (text_test it.texts.0 texts.0, text_test it.texts.1 texts.1, at_least_test it.amount d)
     (three (bytes_eq it.texts.0 texts.0) (bytes_eq it.texts.1 texts.1) (nat_le d it.amount)))
   where
     three : (a b c : Bool) → (a && (b && (c && true))) ≡ ((a && b) && c)
     three true true c = and_true c
     three true false c = refl
     three false b c = refl
-
--- tests that agree on the rows find the same
-pub same_found : (p q : Row → Bool) (rows : List Row) → ((row : Row) → IsStored row → p row ≡ q row) → AllByRecursion IsStored rows → filter p rows ≡ filter q rows
-same_found p q [] same all = refl
-same_found p q (x ∷ xs) same all = ap (λ b. cond b (x ∷ filter p xs) (filter p xs)) (same x all.0) ∙ ap (λ ys. cond (q x) (x ∷ ys) ys) (same_found p q xs same all.1)
 
 narrow : (p q : Row → Bool) (rows : List Row) → filter (λ row. p row && q row) rows ≡ filter q (filter p rows)
 narrow p q [] = refl
@@ -226,7 +190,7 @@ shows_amount old new key rows has amounts h =
     let query = amount_query ledger in
     let answers = reads_as (amount_text ledger) (of_texts texts []) old new desk_schema has _ (amount_is ledger) query.plain query.unlisted rows h in
     let some = table_rows ledger key_terms (col 1 3 ∷ []) old.now.trees (of_texts texts []) rows (answers.answer Null) in
-    let same = same_found (passes_all key_terms (of_texts texts [])) (is_at texts) held (λ row it. key_test texts [] row it) all.stored in
+    let same = same_found IsStored (passes_all key_terms (of_texts texts [])) (is_at texts) held (λ row it. key_test texts [] row it) all.stored in
     one_amount texts held rows all (once texts held all.apart) (subst (λ xs. IsPermutation (map (λ (row : Row). column row 3 ∷ []) xs) rows) same some)
 
 -- ---- a change of one table
@@ -274,54 +238,6 @@ spares_all old new ledger left tree outside none = elim (eqb_tells tree (tree_of
 abbrev update_edit : Trees → Ledger → List Row → Edit
 update_edit db ledger rows = edit_of db (table_of ledger) (ids_of rows) Given 1 rows
 
--- what one that went through has done
-record Updated (old new : Database) (ledger : Ledger) (found : List Row) (count : ℕ) : Type 0 where
-  are : new.trees (tree_of ledger) ≡ edited old.trees (update_edit old.trees ledger found)
-  others : (tree : ℕ) → tree ≢ tree_of ledger → IsNoIndex desk_schema tree → new.trees tree ≡ old.trees tree
-  count_is : count ≡ length (update_edit old.trees ledger found).news
-
-module _ (sql : List ℕ) (params : Row) (old new : State) (ledger : Ledger) (q : Query) (has : old.now.schema ≡ desk_schema)
-    (is : command_of (understood desk_schema sql) ≡ Update (place_of ledger) (record { lets = []; body = q })) (plain' : IsPlain (understood desk_schema sql)) where
-  updates : (count : ℕ) → Executes sql params old new (Ok count) → (found : List Row) × IsAnswer q (overlay old.now.trees []) params found × Updated old.now new.now ledger found count
-  updates count h =
-      let db = old.now.trees in
-      let command = Update (place_of ledger) (record { lets = []; body = q }) in
-      let w = runs_as sql params old new desk_schema has command is plain' count h in
-      let text = statement_of sql (understood desk_schema sql) in
-      let mode = mode_of old in
-      let does = subst (λ s. Does old.step_limit mode params (record old.now { schema = s }) text None command (Ok (w.tally, new.now))) has w.changed in
-      let on : OnRows (record { limit = old.step_limit; keys = mode.keys; schema = desk_schema; table = table_of ledger; params = params }) mode None command db (Ok (w.tally, new.now)) =
-      subst (λ found. AtPlace (λ table. OnRows (record { limit = old.step_limit; keys = mode.keys; schema = desk_schema; table = table; params = params }) mode None command db) found (Ok (w.tally, new.now))) (table_at ledger) does in
-      let done = went on in
-      let concluded = same_value (went (went done.2).2).2 in
-      let now = ap (λ (p : Tally × Database). p.1) concluded in
-      let tally = ap (λ (p : Tally × Database). p.0) concluded in
-      let given = went done.1 in
-      let written = went given.2 in
-      let made : done.0 ≡ record { trees = written.0; rows = (update_edit db ledger given.0).news; last = None } = same_value written.2 in
-      let applied = one_step desk_schema _ db written.0 (update_edit db ledger given.0) refl written.1 in
-      let to : new.now.trees ≡ written.0 = ap (λ (d : Database). d.trees) now ∙ ap (λ (it : Written). it.trees) made in (
-        given.0,
-        given.1.answer Null,
-        record {
-          are = ap (λ (t : Trees). t (tree_of ledger)) to ∙ applied.rows;
-          others = λ tree apart none. ap (λ (t : Trees). t tree) to ∙ applied.others tree apart none;
-          count_is = w.counted ∙ ap (λ (t : Tally). unwrap_or t.rows 0) tally ∙ ap (λ (it : Written). length it.rows) made;
-        },
-      )
-
-either : (b : Bool) (x : Value) → cond b x x ≡ x
-either true x = refl
-either false x = refl
-
-cast_int : (n : ℤ) → cast Integer (Int n) ≡ Int n
-unfolding unary
-cast_int n = either _ (Int n)
-
-cast_null : cast Integer Null ≡ Null
-unfolding unary
-cast_null = either _ Null
-
 -- the row that UPDATE shows, as it is written
 cast_stored : (ledger : Ledger) (id : ℤ) (texts : Texts) (n : ℕ) → cast_row (table_of ledger) (Int id ∷ Words texts.0 ∷ Words texts.1 ∷ Int (pos n) ∷ []) ≡ stored id texts n
 cast_stored ledger id texts n = rw (cast_int id, cast_int (pos n)) refl
@@ -333,18 +249,15 @@ shown_row id texts n = Int id ∷ Int id ∷ Words texts.0 ∷ Words texts.1 ∷
 one_edit : (db : Trees) (ledger : Ledger) (id : ℤ) (texts : Texts) (n : ℕ) → edited db (update_edit db ledger (shown_row id texts n ∷ [])) ≡ put_row (stored id texts n) (without_rowid id (db (tree_of ledger)))
 one_edit db ledger id texts n = ap (λ r. put_row r (without_rowid id (db (tree_of ledger)))) (cast_stored ledger id texts n)
 
-module _ (old new : Database) (ledger : Ledger) (found : List Row) (count : ℕ) (up : Updated old new ledger found count) where
+module _ (old new : Database) (ledger : Ledger) (found : List Row) (count : ℕ) (counted : count ≡ length found) (up : IsEdited old new (update_edit old.trees ledger found)) where
   left_none : found ≡ [] → LeavesRows old new ledger (old.trees (tree_of ledger)) × (count ≡ 0)
-  left_none none = (
-    record { are = up.are ∙ ap (λ f. edited old.trees (update_edit old.trees ledger f)) none; others = up.others },
-    up.count_is ∙ ap (λ f. length (update_edit old.trees ledger f).news) none,
-  )
+  left_none none = (record { are = up.rows ∙ ap (λ f. edited old.trees (update_edit old.trees ledger f)) none; others = up.others }, counted ∙ ap length none)
 
   left_one : (id : ℤ) (texts : Texts) (n : ℕ) → found ≡ shown_row id texts n ∷ []
       → LeavesRows old new ledger (put_row (stored id texts n) (without_rowid id (old.trees (tree_of ledger)))) × (count ≡ 1)
   left_one id texts n one = (
-    record { are = up.are ∙ ap (λ f. edited old.trees (update_edit old.trees ledger f)) one ∙ one_edit old.trees ledger id texts n; others = up.others },
-    up.count_is ∙ ap (λ f. length (update_edit old.trees ledger f).news) one,
+    record { are = up.rows ∙ ap (λ f. edited old.trees (update_edit old.trees ledger f)) one ∙ one_edit old.trees ledger id texts n; others = up.others },
+    counted ∙ ap length one,
   )
 
 -- ---- taking off
@@ -388,8 +301,8 @@ module _ (old new : State) (key : AmountKey) (d count : ℕ) (has : old.now.sche
   all = amounts own
 
   module _ (h : Executes (take_text own) params old new (Ok count)) where
-    taken : (found : List Row) × IsAnswer (plain (tree_of own) take_terms less_shown) (overlay old.now.trees []) params found × Updated old.now new.now own found count
-    taken = updates (take_text own) params old new own (plain (tree_of own) take_terms less_shown) has (take_is own) (take_edit own).plain count h
+    taken : (found : List Row) × IsAnswer (plain (tree_of own) take_terms less_shown) (overlay old.now.trees []) params found × (count ≡ length found) × IsEdited old.now new.now (update_edit old.now.trees own found)
+    taken = updates old new has (take_text own) params count (place_of own) (table_of own) (table_at own) (take_edit own).plain h (plain (tree_of own) take_terms less_shown) (take_is own)
 
     shows : Row → Row
     shows row = eval_all less_shown (params ∷ row ∷ [])
@@ -398,14 +311,14 @@ module _ (old new : State) (key : AmountKey) (d count : ℕ) (has : old.now.sche
     unfolding shows
     taken_are =
         subst (λ xs. IsPermutation (map shows xs) taken.0)
-        (same_found (passes_all take_terms params) (λ row. is_at texts row && nat_le d (amount_on row)) held (take_test texts d) all.stored ∙ narrow (is_at texts) (λ row. nat_le d (amount_on row)) held)
+        (same_found IsStored (passes_all take_terms params) (λ row. is_at texts row && nat_le d (amount_on row)) held (take_test texts d) all.stored ∙ narrow (is_at texts) (λ row. nat_le d (amount_on row)) held)
         (table_rows own take_terms less_shown old.now.trees params taken.0 taken.1)
 
     -- nothing is taken off
     lacks : IsShort (amount_at old.now key) d → filter (λ row. nat_le d (amount_on row)) (filter (is_at texts) held) ≡ [] → Takes old.now new.now key d (count == 1)
     lacks short none =
         let empty = nil_from_length taken.0 (length_permutation [] taken.0 (subst (λ xs. IsPermutation (map shows xs) taken.0) none taken_are)) in
-        let left = left_none old.now new.now own taken.0 count taken.2 empty in
+        let left = left_none old.now new.now own taken.0 count taken.2 taken.3 empty in
         subst (λ n. Takes old.now new.now key d (n == 1)) (sym left.1) (short, spares_all old.now new.now own left.0)
 
     takes_off : (r : Row) → filter (is_at texts) held ≡ r ∷ [] → d ≤ amount_on r → filter (λ row. nat_le d (amount_on row)) (filter (is_at texts) held) ≡ r ∷ [] → Takes old.now new.now key d (count == 1)
@@ -414,7 +327,7 @@ module _ (old new : State) (key : AmountKey) (d count : ℕ) (has : old.now.sche
         let it = found_stored texts held r all.stored one in
         let worth : amount_on r ≡ it.amount = ap amount_on it.is in
         let found = one_permutation _ taken.0 (subst (λ xs. IsPermutation (map shows xs) taken.0) passes' taken_are) ∙ ap (λ (x : Row). x ∷ []) (less_row texts d r it (omega (arith, worth))) in
-        let left = left_one old.now new.now own taken.0 count taken.2 it.id it.texts (it.amount - d) found in
+        let left = left_one old.now new.now own taken.0 count taken.2 taken.3 it.id it.texts (it.amount - d) found in
         let small : it.amount - d < 2 ^ 63 = omega (arith, it.small) in
         let had_it : amount_at old.now key ≡ Some it.amount = recorded_one texts held r [] one ∙ ap Some worth in
         let set = sets_amount old.now new.now key (it.amount - d) (set_rows held all texts r one it (it.amount - d) small) amounts left.0
@@ -436,8 +349,8 @@ module _ (old new : State) (key : AmountKey) (d count : ℕ) (has : old.now.sche
   -- ---- putting on
 
   module _ (q : ℕ) (was : amount_at old.now key ≡ Some q) (small : q + d < 2 ^ 63) (h : Executes (put_text own) params old new (Ok count)) where
-    raised : (found : List Row) × IsAnswer (plain (tree_of own) key_terms more_shown) (overlay old.now.trees []) params found × Updated old.now new.now own found count
-    raised = updates (put_text own) params old new own (plain (tree_of own) key_terms more_shown) has (put_is own) (put_edit own).plain count h
+    raised : (found : List Row) × IsAnswer (plain (tree_of own) key_terms more_shown) (overlay old.now.trees []) params found × (count ≡ length found) × IsEdited old.now new.now (update_edit old.now.trees own found)
+    raised = updates old new has (put_text own) params count (place_of own) (table_of own) (table_at own) (put_edit own).plain h (plain (tree_of own) key_terms more_shown) (put_is own)
 
     shown_more : Row → Row
     shown_more row = eval_all more_shown (params ∷ row ∷ [])
@@ -445,7 +358,7 @@ module _ (old new : State) (key : AmountKey) (d count : ℕ) (has : old.now.sche
     raised_are : IsPermutation (map shown_more (filter (is_at texts) held)) raised.0
     unfolding shown_more
     raised_are =
-        subst (λ xs. IsPermutation (map shown_more xs) raised.0) (same_found (passes_all key_terms params) (is_at texts) held (λ row it. key_test texts (Int (pos d) ∷ []) row it) all.stored)
+        subst (λ xs. IsPermutation (map shown_more xs) raised.0) (same_found IsStored (passes_all key_terms params) (is_at texts) held (λ row it. key_test texts (Int (pos d) ∷ []) row it) all.stored)
         (table_rows own key_terms more_shown old.now.trees params raised.0 raised.1)
 
     puts_on : (r : Row) → filter (is_at texts) held ≡ r ∷ [] → SetsAmount old.now new.now key (q + d)
@@ -457,7 +370,7 @@ module _ (old new : State) (key : AmountKey) (d count : ℕ) (has : old.now.sche
         let had_is : it.amount ≡ q = sym worth ∙ ap (λ o. unwrap_or o 0) (sym same) in
         let fits : it.amount + d < 2 ^ 63 = omega (arith, had_is, small) in
         let found = one_permutation _ raised.0 (subst (λ xs. IsPermutation (map shown_more xs) raised.0) one raised_are) ∙ ap (λ (x : Row). x ∷ []) (more_row texts d r it fits) in
-        let left = left_one old.now new.now own raised.0 count raised.2 it.id it.texts (it.amount + d) found in
+        let left = left_one old.now new.now own raised.0 count raised.2 raised.3 it.id it.texts (it.amount + d) found in
         let set = sets_amount old.now new.now key (it.amount + d) (set_rows held all texts r one it (it.amount + d) fits) amounts left.0
         (set_all held all texts r one it (it.amount + d) fits) (set_recorded held all texts r one it (it.amount + d) fits) in
         subst (λ n. SetsAmount old.now new.now key (n + d)) had_is set
@@ -477,29 +390,14 @@ module _ (old new : State) (key : AmountKey) (d count : ℕ) (has : old.now.sche
       | inr one ↦ absurd (let e : None ≡ Some (amount_on one.0) = sym absent ∙ recorded_one texts held one.0 [] one.1 in cc)
     ]
 
-    pub inserts : SetsAmount old.now new.now key d
-    inserts =
+    pub sets_first : SetsAmount old.now new.now key d
+    sets_first =
         let db = old.now.trees in
         let table = table_of own in
-        let command = Insert (place_of own) (Values first_terms 4) in
-        let w = runs_as (first_text own) params old new desk_schema has command (first_is own) (first_edit own).plain count h in
-        let text = statement_of (first_text own) (understood desk_schema (first_text own)) in
-        let mode = mode_of old in
-        let does = subst (λ s. Does old.step_limit mode params (record old.now { schema = s }) text None command (Ok (w.tally, new.now))) has w.changed in
-        let on : OnRows (record { limit = old.step_limit; keys = mode.keys; schema = desk_schema; table = table; params = params }) mode None command db (Ok (w.tally, new.now)) =
-        subst (λ found. AtPlace (λ t. OnRows (record { limit = old.step_limit; keys = mode.keys; schema = desk_schema; table = t; params = params }) mode None command db) found (Ok (w.tally, new.now))) (table_at own) does in
-        let done = went on in
-        let now = ap (λ (p : Tally × Database). p.1) (same_value (went (went done.2).2).2) in
-        let given = went done.1 in
-        let written = went (went given.2).2 in
-        let counted = went written.2 in
-        let trees : done.0.trees ≡ written.0 = ap (λ (it : Written). it.trees) (same_value counted.2) ∙ same_value counted.1 in
-        let applied = one_step desk_schema _ db written.0 (edit_of db table [] Chosen 0 given.0) refl written.1 in
+        let made = inserts old new has (first_text own) params count (place_of own) table (table_at own) (first_edit own).plain h first_terms 4 refl (first_is own) in
         let id = next_rowid held in
-        let news : (edit_of db table [] Chosen 0 given.0).news ≡ stored id texts d ∷ [] = ap (λ rows. (edit_of db table [] Chosen 0 rows).news) given.1.1 ∙ rw (cast_null, cast_int (pos d)) refl in
-        let free : not (list_any (λ r. is_eq (value_cmp (rowid r) (Int id))) held) && true ≡ true = ap (are_fresh held) (sym news) ∙ applied.fresh in
+        let news : (edit_of db table [] Chosen 0 made.0).news ≡ stored id texts d ∷ [] = ap (λ rows. (edit_of db table [] Chosen 0 rows).news) made.1 ∙ rw (cast_null, cast_int (pos d)) refl in
+        let free : not (list_any (λ r. is_eq (value_cmp (rowid r) (Int id))) held) && true ≡ true = ap (are_fresh held) (sym news) ∙ made.2.fresh in
         let fresh : list_any (λ r. is_eq (value_cmp (rowid r) (Int id))) held ≡ false = not-true _ (and_parts _ _ free).0 in
-        let to : new.now.trees ≡ written.0 = ap (λ (t : Database). t.trees) now ∙ trees in
-        let rows : new.now.trees (tree_of own) ≡ put_row (stored id texts d) held = ap (λ (t : Trees). t (tree_of own)) to ∙ applied.rows ∙ ap (put_all held) news in
-        let left : LeavesRows old.now new.now own (put_row (stored id texts d) held) = record { are = rows; others = λ tree apart none. ap (λ (t : Trees). t tree) to ∙ applied.others tree apart none } in
+        let left : LeavesRows old.now new.now own (put_row (stored id texts d) held) = record { are = made.2.rows ∙ ap (put_all held) news; others = made.2.others } in
         sets_amount old.now new.now key d (put_row (stored id texts d) held) amounts left (first_all held all texts none_found id d small fresh) (first_recorded_by held all texts none_found id d small fresh)

@@ -20,24 +20,23 @@ use Rattle.sqlite.specs.State.{State, Shown}
 use Rattle.sqlite.specs.Term.{col}
 use Rattle.sqlite.proofs.Callers.{reads_as}
 use Rattle.desk_tables.specs.Schema.{desk_schema}
+use Rattle.desk_tables.specs.Queries.{passes_all, rising, Among, IsFirst}
+use Rattle.desk_tables.proofs.QueryLemmas.{among_filter, at_among, filter_among, first_row, none_among, only_one, same_found}
+use Rattle.desk_tables.proofs.ValueLemmas.{and_true, text_above_test, text_test, truth_of}
 use Rattle.desk_amounts.specs.declared.key.Ledger.TheVariants.{Balance}
 use Rattle.desk_amounts.specs.Keys.{Texts, same_texts}
 use Rattle.desk_amounts.specs.Statements.{next_text}
 use Rattle.desk_amounts.specs.Amounts.{AreAmounts, AreAmountRows, IsStored, amount_on, is_at, recorded, text_in, texts_in}
 use Rattle.desk_amounts.specs.Holdings.{IsHeldAbove, IsFirstAbove, IsLess, ShowsNext, held}
-use Rattle.desk_amounts.proofs.GenericLemmas.{Among, IsFirst, among_kept, among_whole, at_among, none_among, only_one, passes_all, walk}
 use Rattle.desk_amounts.proofs.Meanings.{next_terms, next_is, next_query}
 use Rattle.desk_amounts.proofs.RowLemmas.{once, recorded_one, same_is, same_self}
-use Rattle.desk_amounts.proofs.EffectLemmas.{and_true, of_texts, same_found, text_test, truth_of}
+use Rattle.desk_amounts.proofs.EffectLemmas.{of_texts}
 
 -- ---- which rows pass
 
 -- a row of the account with a greater ISIN, and something held
 abbrev is_next : Texts → Row → Bool
 is_next texts row = bytes_eq (text_in (column row 1)) texts.0 && (is_gt (slice_cmp nat_cmp (text_in (column row 2)) texts.1) && nat_lt 0 (amount_on row))
-
-above_test : (s t : List ℕ) → is_true (from_truth (Some (is_gt (value_cmp (Words s) (Words t))))) ≡ is_gt (slice_cmp nat_cmp s t)
-above_test s t = truth_of (is_gt (value_cmp (Words s) (Words t))) ∙ ap is_gt (value_cmp-Text s t)
 
 nat_some : (n : ℕ) → is_gt (int_cmp (pos n) (pos 0)) ≡ nat_lt 0 n
 nat_some n = elim (cases_lt 0 n) [
@@ -52,7 +51,7 @@ next_test : (texts : Texts) (row : Row) → IsStored row → passes_all next_ter
 unfolding binary
 next_test texts row it =
     subst (λ r. passes_all next_terms (of_texts texts []) r ≡ is_next texts r) (sym it.is)
-    (rw (text_test it.texts.0 texts.0, above_test it.texts.1 texts.1, some_test it.amount)
+    (rw (text_test it.texts.0 texts.0, text_above_test it.texts.1 texts.1, some_test it.amount)
     (ap (λ b. bytes_eq it.texts.0 texts.0 && (is_gt (slice_cmp nat_cmp it.texts.1 texts.1) && b)) (and_true (nat_lt 0 it.amount))))
 
 greater : (s t : List ℕ) → IsLess t s → is_gt (slice_cmp nat_cmp s t) ≡ true
@@ -93,14 +92,14 @@ module _ (db : Database) (account above : List ℕ) (all : AreAmountRows (db.tre
       let three : nat_lt 0 (amount_on it.0) ≡ true = lt-ltb 0 (amount_on it.0) it.3 in
       let second : column it.0 2 ≡ Words (text_in (column it.0 2)) = subst (λ (r : Row). column r 2 ≡ Words (text_in (column r 2))) (sym form.is) refl in (
         it.0,
-        among_kept (is_next (account, above)) rows it.0 it.1 (and_from _ _ one (and_from _ _ two three)),
+        filter_among (is_next (account, above)) rows it.0 it.1 (and_from _ _ one (and_from _ _ two three)),
         second ∙ ap (λ (t : Texts). Words t.1) texts,
       )
 
   first_of : (r : Row) → Among mine r → ((s : Row) → Among mine s → is_lt (value_cmp (column s 2) (column r 2)) ≡ false)
       → (isin : List ℕ) × (quantity : ℕ) × (column r 2 ≡ Words isin) × (column r 3 ≡ Int (pos quantity)) × IsFirstAbove db account above isin quantity
   first_of r here least =
-      let at = among_whole (is_next (account, above)) rows r here in
+      let at = among_filter (is_next (account, above)) rows r here in
       let it = at_among IsStored rows all.stored r at.0 in
       let isin = it.texts.1 in
       let tests = and_parts (bytes_eq (text_in (column r 1)) account) (is_gt (slice_cmp nat_cmp (text_in (column r 2)) above) && nat_lt 0 (amount_on r)) at.1 in
@@ -109,7 +108,7 @@ module _ (db : Database) (account above : List ℕ) (all : AreAmountRows (db.tre
       let second : column r 2 ≡ Words isin = ap (λ (row : Row). column row 2) it.is in
       let texts : texts_in r ≡ (account, isin) = ap (λ t. (t, text_in (column r 2))) first ∙ ap (λ v. (account, text_in v)) second in
       let own : is_at (account, isin) r ≡ true = ap (λ t. same_texts t (account, isin)) texts ∙ same_self (account, isin) in
-      let found = among_kept (is_at (account, isin)) rows r at.0 own in
+      let found = filter_among (is_at (account, isin)) rows r at.0 own in
       let worth : held db account isin ≡ amount_on r = elim (once (account, isin) rows all.apart) [
         | inl none ↦ absurd (none_among (filter (is_at (account, isin)) rows) r none found)
         | inr one ↦ ap (λ o. unwrap_or o 0) (recorded_one (account, isin) rows one.0 [] one.1) ∙ ap amount_on (sym (only_one (filter (is_at (account, isin)) rows) one.0 r one.1 found))
@@ -139,9 +138,9 @@ shows_next old new account above rows has amounts h =
     let from = unwrap_or above [] in
     let texts : Texts = (account, from) in
     let answers = reads_as next_text (of_texts texts []) old new desk_schema has _ next_is next_query.plain next_query.unlisted rows h in
-    let first = walk 0 next_terms (col 1 2 ∷ col 1 3 ∷ []) (col 1 2) (overlay old.now.trees []) (of_texts texts []) rows (answers.answer Null) in
-    let same = same_found (passes_all next_terms (of_texts texts [])) (is_next texts) (old.now.trees 0) (next_test texts) all.stored in
-    let it : IsFirst (filter (is_next texts) (old.now.trees 0)) (of_texts texts []) (col 1 2 ∷ col 1 3 ∷ []) (col 1 2) rows = subst (λ mine. IsFirst mine (of_texts texts []) (col 1 2 ∷ col 1 3 ∷ []) (col 1 2) rows) same first in
+    let first = first_row 0 next_terms (col 1 2 ∷ col 1 3 ∷ []) (col 1 2) rising (overlay old.now.trees []) (of_texts texts []) rows (answers.answer Null) in
+    let same = same_found IsStored (passes_all next_terms (of_texts texts [])) (is_next texts) (old.now.trees 0) (next_test texts) all.stored in
+    let it : IsFirst (filter (is_next texts) (old.now.trees 0)) (of_texts texts []) (col 1 2 ∷ col 1 3 ∷ []) (col 1 2) rising rows = subst (λ mine. IsFirst mine (of_texts texts []) (col 1 2 ∷ col 1 3 ∷ []) (col 1 2) rising rows) same first in
     elim it [
       | inl none ↦ inl (none.0, λ isin is_held. let there = stands old.now account from all isin is_held in none_among (filter (is_next texts) (old.now.trees 0)) there.0 none.1 there.1)
       | inr one ↦ (let found = first_of old.now account from all one.0 one.1 one.3 in

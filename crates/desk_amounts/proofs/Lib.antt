@@ -1,4 +1,3 @@
-pub mod GenericLemmas
 pub mod Meanings
 pub mod RowLemmas
 pub mod EffectLemmas

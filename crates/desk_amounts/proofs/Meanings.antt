@@ -4,7 +4,7 @@ use Rattle.sqlite.specs.declared.types.Value.TheVariants.{Null, Int}
 use Rattle.sqlite.specs.Collation.TheVariants.{Binary}
 use Rattle.sqlite.specs.Term.{Term, lit, col, op2}
 use Rattle.sqlite_sql.specs.declared.ops.BinaryOp.TheVariants.{Compare, Arith}
-use Rattle.sqlite_sql.specs.declared.ops.CompareOp.TheVariants.{Eq, Ge, Gt}
+use Rattle.sqlite_sql.specs.declared.ops.CompareOp.TheVariants.{Ge, Gt}
 use Rattle.sqlite_sql.specs.declared.ops.ArithOp.TheVariants.{Sub, Add}
 use Rattle.sqlite.specs.Command.TheVariants.{Select, Update, Insert}
 use Rattle.sqlite.specs.Source.TheVariants.{Values}
@@ -13,19 +13,19 @@ use Rattle.sqlite_tied.specs.Compute.{everything}
 use Rattle.sqlite.proofs.Callers.{command_of}
 use Rattle.desk_tables.specs.Schema.{desk_schema}
 use Rattle.desk_tables.specs.Statements.{IsEdit, IsQuery}
+use Rattle.desk_tables.specs.Queries.{plain, first_of, rising, equals}
 use Rattle.desk_amounts.specs.declared.key.Ledger.{Ledger}
 use Rattle.desk_amounts.specs.declared.key.Ledger.TheVariants.{Balance, Cash, Total}
 use Rattle.desk_amounts.specs.Keys.{tree_of}
 use Rattle.desk_amounts.specs.Statements.{amount_text, take_text, put_text, first_text, next_text}
-use Rattle.desk_amounts.proofs.GenericLemmas.{plain, walk_query}
 
 -- ---- the terms, the same of each table
 
 abbrev pub by_first : Term
-by_first = op2 (Compare Eq Binary) (col 1 1) (col 0 0)
+by_first = equals 1 0
 
 abbrev pub by_second : Term
-by_second = op2 (Compare Eq Binary) (col 1 2) (col 0 1)
+by_second = equals 2 1
 
 abbrev pub enough : Term
 enough = op2 (Compare Ge Binary) (col 1 3) (col 0 2)
@@ -119,7 +119,7 @@ first_edit Balance = record { changes = refl; plain = (refl, refl) }
 first_edit Cash = record { changes = refl; plain = (refl, refl) }
 first_edit Total = record { changes = refl; plain = (refl, refl) }
 
-pub next_is : command_of (understood desk_schema next_text) ≡ Select (record { lets = []; body = walk_query 0 next_terms (col 1 2 ∷ col 1 3 ∷ []) (col 1 2) }) (codes "isin" ∷ codes "quantity" ∷ [])
+pub next_is : command_of (understood desk_schema next_text) ≡ Select (record { lets = []; body = first_of 0 next_terms (col 1 2 ∷ col 1 3 ∷ []) (col 1 2) rising }) (codes "isin" ∷ codes "quantity" ∷ [])
 unfolding understood everything
 next_is = refl
 

@@ -11,7 +11,8 @@ use Rattle.sqlite.specs.Order.{Row, value_cmp}
 use Rattle.sqlite.specs.Tree.{IsAscending, rowid}
 use Rattle.desk_amounts.specs.Keys.{Texts, same_texts}
 use Rattle.desk_amounts.specs.Amounts.{AreAmountRows, AreApart, IsStored, amount_on, is_at, recorded, texts_in}
-use Rattle.desk_amounts.proofs.GenericLemmas.{Among, all_among, among_kept, among_whole, at_among, none_among, only_one}
+use Rattle.desk_tables.specs.Queries.{Among}
+use Rattle.desk_tables.proofs.QueryLemmas.{all_among, among_filter, at_among, filter_among, none_among, only_one}
 use Rattle.desk_amounts.proofs.RowLemmas.{flip_apart, once, recorded_none, recorded_one, same_self}
 
 -- ---- rows are apart exactly where none conflicts with one but itself
@@ -110,9 +111,9 @@ permuted_rows rows others same all = record {
 
 found_in : (rows others : List Row) (texts : Texts) (r : Row) → IsPermutation rows others → filter (is_at texts) rows ≡ r ∷ [] → Among (filter (is_at texts) others) r
 found_in rows others texts r same one =
-    let at = among_whole (is_at texts) rows r (subst (λ xs. Among xs r) (sym one) (inl refl)) in
+    let at = among_filter (is_at texts) rows r (subst (λ xs. Among xs r) (sym one) (inl refl)) in
     let back = all_permuted (Among others) others rows (IsPermutation-sym rows others same) (all_among others) in
-    among_kept (is_at texts) others r (at_among (Among others) rows back r at.0) at.1
+    filter_among (is_at texts) others r (at_among (Among others) rows back r at.0) at.1
 
 -- and it records the same
 pub permuted_recorded : (rows others : List Row) → IsPermutation rows others → AreAmountRows rows → (texts : Texts) → recorded others texts ≡ recorded rows texts

@@ -11,6 +11,7 @@ use Rattle.sqlite.specs.Order.{Row, value_cmp}
 use Rattle.sqlite_value.proofs.OrderLemmas.{value_cmp_total}
 use Rattle.sqlite.specs.declared.types.Value.{Value}
 use Rattle.sqlite.specs.declared.types.Value.TheVariants.{Int}
+use Rattle.sqlite_trees.proofs.ListLemmas.{all-filter}
 use Rattle.sqlite.specs.Tree.{IsAscending, rowid, put_row, without_rowid, has_rowid}
 use Rattle.desk_amounts.specs.Keys.{Texts, same_texts}
 use Rattle.desk_amounts.specs.Amounts.{texts_in, amount_on, is_at, recorded, IsStored, AreApart, AreAmountRows, stored}
@@ -217,15 +218,8 @@ recorded_one texts (x ∷ xs) r more h = elim (cases_Bool (is_at texts x)) [
   | inr apart ↦ (let e : filter (is_at texts) xs ≡ r ∷ more = rw apart at h in rw apart (recorded_one texts xs r more e))
 ]
 
-all_found : (P : Row → Type 0) (p : Row → Bool) (rows : List Row) → AllByRecursion P rows → AllByRecursion P (filter p rows)
-all_found P p [] all = tt
-all_found P p (x ∷ xs) all = elim (cases_Bool (p x)) [
-  | inl here ↦ subst (AllByRecursion P) (sym (ap (λ b. cond b (x ∷ filter p xs) (filter p xs)) here)) (all.0, all_found P p xs all.1)
-  | inr apart ↦ subst (AllByRecursion P) (sym (ap (λ b. cond b (x ∷ filter p xs) (filter p xs)) apart)) (all_found P p xs all.1)
-]
-
 pub found_stored : (texts : Texts) (rows : List Row) (r : Row) → AllByRecursion IsStored rows → filter (is_at texts) rows ≡ r ∷ [] → IsStored r
-found_stored texts rows r all one = (subst (AllByRecursion IsStored) one (all_found IsStored (is_at texts) rows all)).0
+found_stored texts rows r all one = (subst (AllByRecursion IsStored) one (all-filter IsStored (is_at texts) rows all)).0
 
 -- ---- a row gets another amount
 

@@ -1,7 +1,5 @@
 //! The calls on one amount.
 ghost use Rattle.std.specs.Prelude.{◌≡◌, ℕ, ◌+◌, ◌<◌, ◌^◌, pos, is_some, IfOk, OnOk};
-ghost use Rattle.sqlite_value.specs.Value.{owned};
-ghost use Rattle.sqlite.specs.declared.types.Value.TheVariants.{Int};
 ghost use Rattle.sqlite.specs.State.{HasCleanDisk};
 ghost use Rattle.sqlite.specs.Held.{state};
 ghost use Rattle.desk_tables.specs.Ends.{IfSound, IsLook, IsWrite};
@@ -12,16 +10,9 @@ use crate::key::AmountKey;
 use crate::reading::amount_shown;
 use crate::statements;
 use desk_tables::statement::{execute, query};
+use desk_tables::values::integer;
 use sqlite::types::ValueRef;
 use sqlite::{Alter, Connection, Error, Row};
-
-/// An amount as an integer of SQL.
-fn integer(amount: u64) -> ValueRef<'static>
-    requires { amount < 2 ^ 63 }
-    ensures { owned result ≡ Int (pos amount) }
-{
-    ValueRef::Int(amount as i64)
-}
 
 /// The rows of a key: one, or none.
 fn rows_of<S: Alter>(conn: &mut Connection<S>, key: &AmountKey) -> Result<Vec<Row>, Error>

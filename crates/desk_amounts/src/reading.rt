@@ -7,11 +7,9 @@ ghost use Rattle.desk_amounts.specs.Changes.{ShowsAmount};
 ghost use Rattle.desk_amounts.specs.Holdings.{ShowsNext, IsNextHolding};
 
 use desk_codes::Isin;
+use desk_tables::values::CORRUPT;
 use sqlite::types::ValueRef;
-use sqlite::{Error, ErrorCode, Row};
-
-/// What a row that does not read is answered as.
-const UNREADABLE: Error = Error::SqliteFailure(ErrorCode::DatabaseCorrupt);
+use sqlite::{Error, Row};
 
 /// The number in a column.
 fn number_at(row: &Row, at: usize) -> Result<u64, Error>
@@ -19,7 +17,7 @@ fn number_at(row: &Row, at: usize) -> Result<u64, Error>
 {
     match row.get_ref(at)? {
         ValueRef::Int(number) if number >= 0 => Ok(number as u64),
-        _ => Err(UNREADABLE),
+        _ => Err(CORRUPT),
     }
 }
 
@@ -30,9 +28,9 @@ fn isin_at(row: &Row, at: usize) -> Result<Isin, Error>
     match row.get_ref(at)? {
         ValueRef::Text(text) => match Isin::parse(text) {
             Ok(isin) => Ok(isin),
-            Err(_) => Err(UNREADABLE),
+            Err(_) => Err(CORRUPT),
         },
-        _ => Err(UNREADABLE),
+        _ => Err(CORRUPT),
     }
 }
 
