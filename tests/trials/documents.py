@@ -1,0 +1,46 @@
+"""Trials of tests/documents, with a made-up program."""
+
+from .room import TESTS, fails, passes, run, write, write_script
+
+SHOWN = "A page.\n\n    $ ./desk tell 1\n    told 1\n\n    at once\n    $ ./desk tell 3 | tr 3 4\n    told 4\n\n    at once\n"
+OTHER = "\nA paragraph:\n\n    $ ls\n    any\n\n- an item\n    $ ./desk tell 5\n"
+
+
+def trials(room):
+    def documents(text):
+        write(f"{room}/page.md", text)
+        return run(room, f"{TESTS}/documents", f"{room}/program", f"{room}/page.md")
+
+    tell = "tell) printf 'told %s\\r\\n\\nat once\\n' \"$2\" ;;"
+    write_script(f"{room}/program", 'case "$1" in', tell, "refuse) echo refused; exit 1 ;;", "*) exit 2 ;;", "esac")
+    write(f"{room}/file", "first\n  second\n    third\nlast")
+    cited = f"From `{room}/file`, where it stands deeper:\n\n    second\n      third\n"
+
+    yield passes("a sound document", documents(SHOWN), "2 passed, 0 failed\n")
+    yield passes("a command that is refused", documents("    $ ./desk refuse\n    refused\n"), "1 passed, 0 failed\n")
+    yield passes("a block that stands in a file", documents(cited), "1 passed, 0 failed\n")
+    yield passes("blocks that show no command for ./desk", documents(SHOWN + OTHER), "2 passed, 0 failed\n")
+    why = "page.md:3: ./desk tell 1: line 1 of what it prints is 'told 1'\n1 passed, 1 failed\n"
+    yield fails("another output", documents(SHOWN.replace("told 1", "told 2")), why)
+    why = "page.md:7: ./desk tell 3 | tr 3 4: it prints 3 lines, and 1 are shown\n1 passed, 1 failed\n"
+    yield fails("an output that is cut off", documents(SHOWN.replace("told 4\n\n    at once\n", "told 4\n")), why)
+    why = "page.md:1: ./desk refuse: it prints 1 lines, and 2 are shown\n0 passed, 1 failed\n"
+    yield fails("an output that is too long", documents("    $ ./desk refuse\n    refused\n    so\n"), why)
+    why = "page.md:1: ./desk refuse: nothing is shown behind it\n0 passed, 1 failed\n"
+    yield fails("a command without its output", documents("    $ ./desk refuse\n"), why)
+    why = "page.md:1: ./desk other: status 2\n0 passed, 1 failed\n"
+    yield fails("a command of no subcommand", documents("    $ ./desk other\n    usage\n"), why)
+    why = "page.md:1: ./desk refuse < none: it prints 0 lines, and 1 are shown\n0 passed, 1 failed\n"
+    yield fails("a command of no file", documents("    $ ./desk refuse < none\n    refused\n"), why)
+    why = f"page.md:3: it does not stand in {room}/file\n0 passed, 1 failed\n"
+    yield fails("a block that stands in no file", documents(cited.replace("third", "fourth")), why)
+    why = f"page.md:3: there is no {room}/none\n0 passed, 1 failed\n"
+    yield fails("a block of no file", documents(cited.replace("/file", "/none")), why)
+    why = "page.md: the link none.md leads nowhere\n2 passed, 1 failed\n"
+    yield fails("a link to no file", documents(f"{SHOWN}\nSee [it](none.md) and [this](page.md#part).\n"), why)
+    yield fails("nothing shown", documents("A page.\n"), "documents: nothing is shown\n0 passed, 1 failed\n")
+    no_page = run(room, f"{TESTS}/documents", f"{room}/program", f"{room}/none.md")
+    yield fails("no document", no_page, f"documents: there is no {room}/none.md\n0 passed, 1 failed\n")
+    no_program = run(room, f"{TESTS}/documents", f"{room}/none", f"{room}/page.md")
+    yield fails("no program", no_program, "documents: there is no program")
+    yield fails("no word", run(room, f"{TESTS}/documents"), "the words are PROGRAM [DOCUMENT..]\n")
