@@ -1,0 +1,5 @@
+pub mod SaidLemmas
+pub mod StageLemmas
+pub mod LookLemmas
+pub mod ReadLemmas
+pub mod FrameLemmas

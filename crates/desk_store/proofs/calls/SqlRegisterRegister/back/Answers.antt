@@ -1,0 +1,12 @@
+use Rattle.std.proofs.Common.{arith}
+use Rattle.sqlite.specs.Held.{state}
+use Rattle.desk_store.proofs.StageLemmas.{failed_desk}
+use Rattle.desk_store.proofs.calls.SqlRegisterRegister.back.Goals as goal
+
+pub invariant_of-self-in-Err : goal.invariant_of-self-in-Err
+invariant_of-self-in-Err g c = (
+  λ clean is_open.
+      failed_desk (state g.S.Store c.self.inside.conn) (state g.S.Store c.take_back.new.conn) c.self.inside.stage
+      (c.self.invariant.0 (omega (arith, clean, c.take_back.ensures.later.clean)) (c.take_back.ensures.opened clean is_open)) (c.in-Err.ensures.err clean is_open),
+  c.self.invariant.1,
+)

@@ -1,0 +1,6 @@
+pub mod RowsSaid
+pub mod Content
+pub mod Holds
+pub mod Kept
+pub mod Undone
+pub mod Told

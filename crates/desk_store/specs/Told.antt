@@ -1,0 +1,19 @@
+-- What is told of a register where a call on its tables has failed.
+use Rattle.std.specs.Prelude.{◌≡◌, ℕ, ◌<◌, ◌≤◌, Result, Ok, Err}
+use Rattle.sqlite.specs.declared.error.Error.{Error}
+use Rattle.desk_register.specs.View.{fallen}
+use Rattle.desk_register.specs.declared.register.Fault.{Fault}
+use Rattle.desk_register.specs.declared.register.Fault.TheVariants.{Memory, Storage}
+use Rattle.desk_register.specs.declared.register.Stage.{Stage}
+use Rattle.desk_register.specs.declared.register.TheConstants.{MOST_FAILURES}
+
+-- an answer that names the device is counted, up to the greatest number, and no other is
+pub record Counts (fault : Fault) (before after : ℕ) : Type 0 where
+  pub storage : fault ≡ Storage → after < MOST_FAILURES → before < after
+  pub memory : fault ≡ Memory → after ≡ before
+  pub grows : before ≤ after
+
+-- what was given, or a fault, with the stage and the count after it
+abbrev pub IsTold : {X : Type 0} → Result X Error → Result X Fault → Stage → Stage → ℕ → ℕ → Type 0
+IsTold (Ok value) told stage new_stage failures new_failures = (told ≡ Ok value) × (new_stage ≡ stage) × (new_failures ≡ failures)
+IsTold (Err error) told stage new_stage failures new_failures = (fault : Fault) × (told ≡ Err fault) × (new_stage ≡ fallen stage) × Counts fault failures new_failures

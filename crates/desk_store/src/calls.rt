@@ -1,0 +1,258 @@
+//! The calls of a register in SQL.
+
+use crate::fault::{fallen, fault_of, told};
+use crate::looking;
+use crate::sql_register::SqlRegister;
+use crate::undoing::take_back;
+use desk_codes::{AccountId, Bic, Ccy, Day, Isin, Reference};
+use desk_msg::{Instruction, Kind};
+use desk_register::{Fault, Holding, Outcome, Register, Stage};
+use desk_rules::{Entry, Place, Reply, Sender, Sent, Standing};
+use desk_tables::control;
+use sqlite::Alter;
+use std::alloc::Global;
+
+impl<S: Alter> Register for SqlRegister<S> {
+    ghost use Rattle.std.specs.Prelude.{false};
+    ghost use Rattle.desk_store.specs.Kept.{shown};
+    ghost use Rattle.sqlite.specs.Held.{state};
+
+    ghost view = { λ r. shown (state S.Store r.connection) r.stage r.failures r.room };
+
+    ghost in_memory = { false };
+
+    fn begin(&mut self, _alloc: Global) -> Result<(), Fault> {
+        match control::begin(&mut self.conn) {
+            Ok(_) => {
+                self.stage = Stage::Begun;
+                Ok(())
+            }
+            Err(error) => Err(fault_of(error, &mut self.failures)),
+        }
+    }
+
+    fn commit(&mut self, _alloc: Global) -> Result<(), Fault> {
+        match control::commit(&mut self.conn) {
+            Ok(_) => {
+                self.stage = Stage::Idle;
+                Ok(())
+            }
+            Err(error) => {
+                self.stage = Stage::Failed;
+                Err(fault_of(error, &mut self.failures))
+            }
+        }
+    }
+
+    fn back(&mut self, _alloc: Global) -> Result<(), Fault> {
+        self.stage = Stage::Failed;
+        match take_back(&mut self.conn) {
+            Ok(()) => {
+                self.stage = Stage::Idle;
+                Ok(())
+            }
+            Err(error) => Err(fault_of(error, &mut self.failures)),
+        }
+    }
+
+    fn limit(&self) -> u64 {
+        self.limit
+    }
+
+    fn count(&mut self, _alloc: Global) -> Result<u64, Fault> {
+        self.stage = fallen(self.stage);
+        Err(Fault::Memory)
+    }
+
+    fn participant(&mut self, _alloc: Global, _bic: Bic) -> Result<bool, Fault> {
+        self.stage = fallen(self.stage);
+        Err(Fault::Memory)
+    }
+
+    fn owner(&mut self, _alloc: Global, _account: AccountId) -> Result<Option<Bic>, Fault> {
+        self.stage = fallen(self.stage);
+        Err(Fault::Memory)
+    }
+
+    fn security(&mut self, _alloc: Global, _isin: Isin) -> Result<Option<Kind>, Fault> {
+        self.stage = fallen(self.stage);
+        Err(Fault::Memory)
+    }
+
+    fn outstanding(&mut self, _alloc: Global, isin: Isin) -> Result<u64, Fault> {
+        told(
+            looking::outstanding(&mut self.conn, isin),
+            &mut self.stage,
+            &mut self.failures,
+        )
+    }
+
+    fn paid(&mut self, _alloc: Global, ccy: Ccy) -> Result<Option<u64>, Fault> {
+        told(
+            looking::paid(&mut self.conn, ccy),
+            &mut self.stage,
+            &mut self.failures,
+        )
+    }
+
+    fn last_run(&mut self, _alloc: Global) -> Result<Option<Day>, Fault> {
+        self.stage = fallen(self.stage);
+        Err(Fault::Memory)
+    }
+
+    fn number_of(
+        &mut self,
+        _alloc: Global,
+        _sender: Sender,
+        _reference: Reference,
+    ) -> Result<Option<u64>, Fault> {
+        self.stage = fallen(self.stage);
+        Err(Fault::Memory)
+    }
+
+    fn entry(&mut self, _alloc: Global, _number: u64) -> Result<Option<Entry>, Fault> {
+        self.stage = fallen(self.stage);
+        Err(Fault::Memory)
+    }
+
+    fn standing(&mut self, _alloc: Global, _number: u64) -> Result<Standing, Fault> {
+        self.stage = fallen(self.stage);
+        Err(Fault::Memory)
+    }
+
+    fn reply(&mut self, _alloc: Global, _number: u64) -> Result<Option<Reply>, Fault> {
+        self.stage = fallen(self.stage);
+        Err(Fault::Memory)
+    }
+
+    fn first_opposite(
+        &mut self,
+        _alloc: Global,
+        sender: Bic,
+        instruction: &Instruction,
+    ) -> Result<Option<u64>, Fault> {
+        told(
+            looking::first_opposite(&mut self.conn, sender, instruction),
+            &mut self.stage,
+            &mut self.failures,
+        )
+    }
+
+    fn position(&mut self, _alloc: Global, account: AccountId, isin: Isin) -> Result<u64, Fault> {
+        told(
+            looking::position(&mut self.conn, account, isin),
+            &mut self.stage,
+            &mut self.failures,
+        )
+    }
+
+    fn cash(&mut self, _alloc: Global, bic: Bic, ccy: Ccy) -> Result<u64, Fault> {
+        told(
+            looking::cash(&mut self.conn, bic, ccy),
+            &mut self.stage,
+            &mut self.failures,
+        )
+    }
+
+    fn due_pair_after(
+        &mut self,
+        _alloc: Global,
+        _day: Day,
+        _place: Option<Place>,
+    ) -> Result<Option<Place>, Fault> {
+        self.stage = fallen(self.stage);
+        Err(Fault::Memory)
+    }
+
+    fn security_after(
+        &mut self,
+        _alloc: Global,
+        _isin: Option<Isin>,
+    ) -> Result<Option<Isin>, Fault> {
+        self.stage = fallen(self.stage);
+        Err(Fault::Memory)
+    }
+
+    fn holding_after(
+        &mut self,
+        _alloc: Global,
+        account: AccountId,
+        isin: Option<Isin>,
+    ) -> Result<Option<Holding>, Fault> {
+        told(
+            looking::holding_after(&mut self.conn, account, isin),
+            &mut self.stage,
+            &mut self.failures,
+        )
+    }
+
+    fn held(&mut self, _alloc: Global, isin: Isin) -> Result<u64, Fault> {
+        told(
+            looking::held(&mut self.conn, isin),
+            &mut self.stage,
+            &mut self.failures,
+        )
+    }
+
+    fn held_cash(&mut self, _alloc: Global, ccy: Ccy) -> Result<u64, Fault> {
+        told(
+            looking::held_cash(&mut self.conn, ccy),
+            &mut self.stage,
+            &mut self.failures,
+        )
+    }
+
+    fn sent_count(&mut self, _alloc: Global) -> Result<u64, Fault> {
+        told(
+            looking::count_sent(&mut self.conn),
+            &mut self.stage,
+            &mut self.failures,
+        )
+    }
+
+    fn sent(&mut self, alloc: Global, bic: Bic, number: u64) -> Result<Option<Sent>, Fault> {
+        told(
+            looking::sent(&mut self.conn, alloc, bic, number),
+            &mut self.stage,
+            &mut self.failures,
+        )
+    }
+
+    fn confirmation(&mut self, alloc: Global, number: u64) -> Result<Option<Sent>, Fault> {
+        told(
+            looking::confirmation(&mut self.conn, alloc, number),
+            &mut self.stage,
+            &mut self.failures,
+        )
+    }
+
+    fn append(&mut self, _alloc: Global, _entry: Entry, _reply: Reply) -> Result<(), Fault> {
+        self.stage = fallen(self.stage);
+        Err(Fault::Memory)
+    }
+
+    fn pair(&mut self, _alloc: Global, _earlier: u64, _later: u64) -> Result<(), Fault> {
+        self.stage = fallen(self.stage);
+        Err(Fault::Memory)
+    }
+
+    fn settle_pair(&mut self, _alloc: Global, _number: u64, _day: Day) -> Result<Outcome, Fault> {
+        self.stage = fallen(self.stage);
+        Err(Fault::Memory)
+    }
+
+    fn cancel(&mut self, _alloc: Global, _number: u64) -> Result<(), Fault> {
+        self.stage = fallen(self.stage);
+        Err(Fault::Memory)
+    }
+
+    fn cancel_pair(&mut self, _alloc: Global, _earlier: u64, _later: u64) -> Result<(), Fault> {
+        self.stage = fallen(self.stage);
+        Err(Fault::Memory)
+    }
+
+    fn send(&mut self, _alloc: Global, _message: Sent) -> Result<(), Fault> {
+        self.stage = fallen(self.stage);
+        Err(Fault::Memory)
+    }
+}

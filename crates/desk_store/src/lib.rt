@@ -1,0 +1,8 @@
+//! The register in SQL tables.
+#![tactic(auto)]
+
+pub mod calls;
+pub mod fault;
+pub mod looking;
+pub mod sql_register;
+pub mod undoing;

@@ -1,0 +1,139 @@
+//! What is looked up in the tables, as the register says it.
+ghost use Rattle.std.specs.Prelude.{◌≡◌, ◌+◌, length, IfOk};
+ghost use Rattle.sqlite.specs.Held.{state};
+ghost use Rattle.desk_tables.specs.Ends.{IfSound, IsLook};
+ghost use Rattle.desk_rules.specs.Content.{history_of};
+ghost use Rattle.desk_rules.specs.Balances.{issued, redeemed};
+ghost use Rattle.desk_rules.specs.Questions.{sent_at};
+ghost use Rattle.desk_register.specs.Looked.{confirmation_in, held_cash_of, held_of, sent_to, IsFirstOpposite, IsHoldingAfter, IsPaid};
+ghost use Rattle.desk_store.specs.Content.{content_in};
+ghost use Rattle.desk_store.specs.Holds.{IsDesk, holding_found};
+
+use desk_amounts::{AmountKey, amount, next_holding};
+use desk_codes::{AccountId, Bic, Ccy, Isin};
+use desk_msg::Instruction;
+use desk_register::Holding;
+use desk_rules::Sent;
+use desk_sent::{confirmation_of, sent_at, sent_count};
+use desk_unmatched::unmatched::first_unmatched;
+use sqlite::{Alter, Connection, Error};
+use std::alloc::Global;
+
+/// What an account holds of a security; 0 where nothing is recorded.
+pub fn position<S: Alter>(
+    conn: &mut Connection<S>,
+    account: AccountId,
+    isin: Isin,
+) -> Result<u64, Error>
+    ensures value { IfSound (state S.Store conn.old) (state S.Store conn.new) (IsDesk (state S.Store conn.old).now → IfOk result (λ r. r ≡ (content_in (state S.Store conn.old).now).position account isin)) }
+    ensures look { IsLook result (state S.Store conn.old) (state S.Store conn.new) }
+{
+    Ok(amount(conn, &AmountKey::Balance(account, isin))?.unwrap_or(0))
+}
+
+/// What a participant has of a currency, in minor units; 0 where nothing is recorded.
+pub fn cash<S: Alter>(conn: &mut Connection<S>, bic: Bic, ccy: Ccy) -> Result<u64, Error>
+    ensures value { IfSound (state S.Store conn.old) (state S.Store conn.new) (IsDesk (state S.Store conn.old).now → IfOk result (λ r. r ≡ (content_in (state S.Store conn.old).now).cash bic ccy)) }
+    ensures look { IsLook result (state S.Store conn.old) (state S.Store conn.new) }
+{
+    Ok(amount(conn, &AmountKey::Cash(bic, ccy))?.unwrap_or(0))
+}
+
+/// What was issued of a security less what was redeemed.
+pub fn outstanding<S: Alter>(conn: &mut Connection<S>, isin: Isin) -> Result<u64, Error>
+    ensures value { IfSound (state S.Store conn.old) (state S.Store conn.new) (IsDesk (state S.Store conn.old).now → IfOk result (λ r. redeemed (history_of (content_in (state S.Store conn.old).now)) isin + r ≡ issued (history_of (content_in (state S.Store conn.old).now)) isin)) }
+    ensures look { IsLook result (state S.Store conn.old) (state S.Store conn.new) }
+{
+    Ok(amount(conn, &AmountKey::Security(isin))?.unwrap_or(0))
+}
+
+/// What all registered accounts hold of a security: what is outstanding of it.
+pub fn held<S: Alter>(conn: &mut Connection<S>, isin: Isin) -> Result<u64, Error>
+    ensures value { IfSound (state S.Store conn.old) (state S.Store conn.new) (IsDesk (state S.Store conn.old).now → IfOk result (λ r. r ≡ held_of (content_in (state S.Store conn.old).now) isin)) }
+    ensures look { IsLook result (state S.Store conn.old) (state S.Store conn.new) }
+{
+    Ok(amount(conn, &AmountKey::Security(isin))?.unwrap_or(0))
+}
+
+/// What was paid in of a currency less what was paid out, in minor units; None before any pay in.
+pub fn paid<S: Alter>(conn: &mut Connection<S>, ccy: Ccy) -> Result<Option<u64>, Error>
+    ensures value { IfSound (state S.Store conn.old) (state S.Store conn.new) (IsDesk (state S.Store conn.old).now → IfOk result (λ r. IsPaid (history_of (content_in (state S.Store conn.old).now)) ccy r)) }
+    ensures look { IsLook result (state S.Store conn.old) (state S.Store conn.new) }
+{
+    amount(conn, &AmountKey::Currency(ccy))
+}
+
+/// What all registered participants have of a currency, in minor units: what is paid of it.
+pub fn held_cash<S: Alter>(conn: &mut Connection<S>, ccy: Ccy) -> Result<u64, Error>
+    ensures value { IfSound (state S.Store conn.old) (state S.Store conn.new) (IsDesk (state S.Store conn.old).now → IfOk result (λ r. r ≡ held_cash_of (content_in (state S.Store conn.old).now) ccy)) }
+    ensures look { IsLook result (state S.Store conn.old) (state S.Store conn.new) }
+{
+    Ok(amount(conn, &AmountKey::Currency(ccy))?.unwrap_or(0))
+}
+
+/// The least number of an unmatched instruction that is opposite to one of this sender.
+pub fn first_opposite<S: Alter>(
+    conn: &mut Connection<S>,
+    sender: Bic,
+    instruction: &Instruction,
+) -> Result<Option<u64>, Error>
+    ensures value { IfSound (state S.Store conn.old) (state S.Store conn.new) (IsDesk (state S.Store conn.old).now → IfOk result (λ r. IsFirstOpposite (content_in (state S.Store conn.old).now) (record { sender = sender; instruction = instruction.now }) r)) }
+    ensures look { IsLook result (state S.Store conn.old) (state S.Store conn.new) }
+{
+    first_unmatched(conn, sender, instruction)
+}
+
+fn holding_of(found: Option<(Isin, u64)>) -> Option<Holding>
+    ensures { result ≡ holding_found found }
+{
+    match found {
+        Some((isin, quantity)) => Some(Holding { isin, quantity }),
+        None => None,
+    }
+}
+
+/// The first security, in order of its bytes, after one, of which an account holds some, and how much.
+pub fn holding_after<S: Alter>(
+    conn: &mut Connection<S>,
+    account: AccountId,
+    isin: Option<Isin>,
+) -> Result<Option<Holding>, Error>
+    ensures value { IfSound (state S.Store conn.old) (state S.Store conn.new) (IsDesk (state S.Store conn.old).now → IfOk result (λ r. IsHoldingAfter (content_in (state S.Store conn.old).now) account isin r)) }
+    ensures look { IsLook result (state S.Store conn.old) (state S.Store conn.new) }
+{
+    let found = next_holding(conn, account, isin)?;
+    Ok(holding_of(found))
+}
+
+/// How many messages were sent.
+pub fn count_sent<S: Alter>(conn: &mut Connection<S>) -> Result<u64, Error>
+    ensures value { IfSound (state S.Store conn.old) (state S.Store conn.new) (IsDesk (state S.Store conn.old).now → IfOk result (λ r. r ≡ length (content_in (state S.Store conn.old).now).sent)) }
+    ensures look { IsLook result (state S.Store conn.old) (state S.Store conn.new) }
+{
+    sent_count(conn)
+}
+
+/// The message of this number among those that were sent to a participant, counted from 1.
+pub fn sent<S: Alter>(
+    conn: &mut Connection<S>,
+    alloc: Global,
+    bic: Bic,
+    number: u64,
+) -> Result<Option<Sent>, Error>
+    ensures value { IfSound (state S.Store conn.old) (state S.Store conn.new) (IsDesk (state S.Store conn.old).now → IfOk result (λ r. r ≡ sent_at (sent_to (content_in (state S.Store conn.old).now) bic) number)) }
+    ensures look { IsLook result (state S.Store conn.old) (state S.Store conn.new) }
+{
+    sent_at(conn, alloc, bic, number)
+}
+
+/// The message that confirms the instruction of this number.
+pub fn confirmation<S: Alter>(
+    conn: &mut Connection<S>,
+    alloc: Global,
+    number: u64,
+) -> Result<Option<Sent>, Error>
+    ensures value { IfSound (state S.Store conn.old) (state S.Store conn.new) (IsDesk (state S.Store conn.old).now → IfOk result (λ r. r ≡ confirmation_in (content_in (state S.Store conn.old).now) number)) }
+    ensures look { IsLook result (state S.Store conn.old) (state S.Store conn.new) }
+{
+    confirmation_of(conn, alloc, number)
+}
