@@ -1,10 +1,9 @@
 -- What a change of one table leaves as it was, table by table.
-use Rattle.std.proofs.Common.{◌≡◌, ◌≢◌, ◌⊎◌, inl, inr, refl, sym, ap, subst, ◌∙◌, ℕ, ◌<◌, ◌≤◌, List, [], ◌∷◌, map, unwrap_or, Option, None, Some, arith}
+use Rattle.std.proofs.Common.{◌≡◌, ◌≢◌, ◌⊎◌, sym, ℕ, ◌<◌, ◌≤◌, arith}
 use Rattle.sqlite_rules.specs.Edit.{IsNoIndex}
 use Rattle.sqlite.specs.Effect.{Database}
 use Rattle.desk_tables.specs.Ends.{SparesOthers}
 use Rattle.desk_tables.specs.Schema.{desk_schema}
-use Rattle.desk_store.specs.Content.{content_in}
 
 no_index : (tree : ℕ) → tree ≢ 1 → tree ≢ 3 → tree ≢ 5 → tree ≢ 7 → tree ≢ 8 → tree ≢ 11 → tree ≢ 14 → tree ≢ 15 → IsNoIndex desk_schema tree
 no_index tree n1 n3 n5 n7 n8 n11 n14 n15 = (λ e. n1 (sym e), (λ e. n3 (sym e), (λ e. n5 (sym e), (λ e. n7 (sym e), (λ e. n8 (sym e), (λ e. n11 (sym e), (λ e. n14 (sym e), (λ e. n15 (sym e), tt))))))))

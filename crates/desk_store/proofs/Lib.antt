@@ -3,3 +3,5 @@ pub mod StageLemmas
 pub mod LookLemmas
 pub mod ReadLemmas
 pub mod FrameLemmas
+pub mod ContentLemmas
+pub mod SentContent

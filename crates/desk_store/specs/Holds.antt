@@ -1,11 +1,9 @@
 -- What the desk's tables keep true.
-use Rattle.std.specs.Prelude.{◌≡◌, ◌≢◌, ℕ, ◌+◌, ◌<◌, ◌≤◌, true, false, [], codes, Bool, List, Option, None, Some, unwrap_or}
+use Rattle.std.specs.Prelude.{◌≡◌, ℕ, ◌+◌, true, false, [], codes, List, Option, None, Some, unwrap_or}
 use Rattle.sqlite.specs.Effect.{Database}
 use Rattle.desk_codes.specs.declared.currency.Ccy.{Ccy}
 use Rattle.desk_codes.specs.Currency.{letters_of}
-use Rattle.desk_rules.specs.declared.entry.Entry.{Entry}
 use Rattle.desk_rules.specs.declared.entry.Instructed.{Instructed}
-use Rattle.desk_rules.specs.declared.limits.TheConstants.{MOST_ENTRIES}
 use Rattle.desk_rules.specs.declared.standing.State.{State}
 use Rattle.desk_rules.specs.declared.standing.State.TheVariants.{Unmatched}
 use Rattle.desk_rules.specs.declared.pair.Place.{Place}
@@ -42,32 +40,41 @@ abbrev pub paid_in_table : Database → Ccy → Option ℕ
 paid_in_table db ccy = amount_in db Total (codes "currency") (letters_of ccy)
 
 -- Each total is what it is of, and what all that are registered hold or have; nobody else holds or has anything.
-pub record AreTotals (db : Database) : Type 0 where
-  pub outstanding : (isin : List ℕ) → redeemed (history_of (content_in db)) isin + outstanding_in db isin ≡ issued (history_of (content_in db)) isin
-  pub paid : (ccy : Ccy) → IsPaid (history_of (content_in db)) ccy (paid_in_table db ccy)
-  pub held : (isin : List ℕ) → held_of (content_in db) isin ≡ outstanding_in db isin
-  pub held_cash : (ccy : Ccy) → held_cash_of (content_in db) ccy ≡ unwrap_or (paid_in_table db ccy) 0
-  pub no_stranger : (account isin : List ℕ) → owner_of (history_of (content_in db)) account ≡ None → (content_in db).position account isin ≡ 0
-  pub no_stranger_pays : (bic : List ℕ) (ccy : Ccy) → is_participant (history_of (content_in db)) bic ≡ false → (content_in db).cash bic ccy ≡ 0
+pub record AreTotals (db : Database) (content : Content) : Type 0 where
+  pub outstanding : (isin : List ℕ) → redeemed (history_of content) isin + outstanding_in db isin ≡ issued (history_of content) isin
+  pub paid : (ccy : Ccy) → IsPaid (history_of content) ccy (paid_in_table db ccy)
+  pub held : (isin : List ℕ) → held_of content isin ≡ outstanding_in db isin
+  pub held_cash : (ccy : Ccy) → held_cash_of content ccy ≡ unwrap_or (paid_in_table db ccy) 0
+  pub no_stranger : (account isin : List ℕ) → owner_of (history_of content) account ≡ None → content.position account isin ≡ 0
+  pub no_stranger_pays : (bic : List ℕ) (ccy : Ccy) → is_participant (history_of content) bic ≡ false → content.cash bic ccy ≡ 0
 
--- Each table says what the content has: entries and messages in their order, where each instruction stands, the unmatched ones,
--- the places of matched pairs, the amounts.
-pub record IsDesk (db : Database) : Type 0 where
+-- Each table says what a content has: entries and messages in their order, where each instruction stands, the unmatched
+-- ones, the places of matched pairs, the amounts.
+pub record Keeps (db : Database) (content : Content) : Type 0 where
   pub schema : db.schema ≡ desk_schema
   pub amounts : AreAmounts db
-  pub entries : AreEntries db (content_in db).register
+  pub entries : AreEntries db content.register
   pub standings : AreStandings db
-  pub instructions : (n : ℕ) → instruction_at (history_of (content_in db)) n ≡ None → (content_in db).standing n ≡ no_standing
-  pub unmatched : AreUnmatched db (unmatched_of (content_in db))
+  pub instructions : (n : ℕ) → instruction_at (history_of content) n ≡ None → content.standing n ≡ no_standing
+  pub unmatched : AreUnmatched db (unmatched_of content)
   pub due_rows : AreDue db
-  pub due : (place : Place) → is_due_in db place ≡ true → IsMatchedPair (content_in db) place
-  pub due_all : (place : Place) → IsMatchedPair (content_in db) place → is_due_in db place ≡ true
-  pub sent : AreSent db (content_in db).sent
-  pub totals : AreTotals db
+  pub due : (place : Place) → is_due_in db place ≡ true → IsMatchedPair content place
+  pub due_all : (place : Place) → IsMatchedPair content place → is_due_in db place ≡ true
+  pub sent : AreSent db content.sent
+  pub totals : AreTotals db content
   -- nothing is held of a security without a name
-  pub named : (account : List ℕ) → (content_in db).position account [] ≡ 0
+  pub named : (account : List ℕ) → content.position account [] ≡ 0
+
+-- the tables are a desk's: they keep what they say
+abbrev pub IsDesk : Database → Type 0
+IsDesk db = Keeps db (content_in db)
 
 -- a holding that was found
 abbrev pub holding_found : Option (List ℕ × ℕ) → Option Holding
 holding_found None = None
 holding_found (Some found) = Some (record { isin = found.0; quantity = found.1 })
+
+-- the tables are the desk's, and say this content
+pub record Becomes (db : Database) (content : Content) : Type 0 where
+  pub desk : IsDesk db
+  pub content_is : content_in db ≡ content

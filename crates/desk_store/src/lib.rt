@@ -4,5 +4,6 @@
 pub mod calls;
 pub mod fault;
 pub mod looking;
+pub mod sending;
 pub mod sql_register;
 pub mod undoing;
