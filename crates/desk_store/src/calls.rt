@@ -1,9 +1,9 @@
 //! The calls of a register in SQL.
 
 use crate::fault::{fallen, fault_of, told};
-use crate::looking;
 use crate::sql_register::SqlRegister;
 use crate::undoing::take_back;
+use crate::{looking, sending};
 use desk_codes::{AccountId, Bic, Ccy, Day, Isin, Reference};
 use desk_msg::{Instruction, Kind};
 use desk_register::{Fault, Holding, Outcome, Register, Stage};
@@ -251,8 +251,11 @@ impl<S: Alter> Register for SqlRegister<S> {
         Err(Fault::Memory)
     }
 
-    fn send(&mut self, _alloc: Global, _message: Sent) -> Result<(), Fault> {
-        self.stage = fallen(self.stage);
-        Err(Fault::Memory)
+    fn send(&mut self, _alloc: Global, message: Sent) -> Result<(), Fault> {
+        told(
+            sending::send(&mut self.conn, &message),
+            &mut self.stage,
+            &mut self.failures,
+        )
     }
 }

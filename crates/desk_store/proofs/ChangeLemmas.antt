@@ -1,0 +1,118 @@
+-- A call that changes the tables, told of the register, is a changing call.
+use Rattle.std.proofs.Common.{◌≡◌, ◌≢◌, ◌⊎◌, inl, inr, refl, sym, ap, subst, ◌∙◌, ℕ, ◌<◌, ◌≤◌, [], true, false, IsTrue, Result, Ok, Err, IfOk, OnOk, OnErr, arith}
+use Rattle.sqlite.specs.declared.error.Error.{Error}
+use Rattle.sqlite.specs.State.{State, HasCleanDisk}
+use Rattle.desk_register.specs.declared.register.Fault.{Fault}
+use Rattle.desk_register.specs.declared.register.Fault.TheVariants.{Memory, Storage}
+use Rattle.desk_register.specs.declared.register.Stage.{Stage}
+use Rattle.desk_register.specs.declared.register.Stage.TheVariants.{Idle, Begun, Failed}
+use Rattle.desk_register.specs.View.{IsChange}
+use Rattle.desk_tables.specs.Ends.{IfSound, Stays, IsUndone, FellWriting, IsWrite}
+use Rattle.desk_store.specs.Content.{content_in}
+use Rattle.desk_store.specs.Holds.{IsDesk}
+use Rattle.desk_store.specs.Kept.{IsOpenDesk, IsKept, shown}
+use Rattle.desk_store.specs.Told.{Counts, IsTold}
+use Rattle.desk_store.proofs.ReadLemmas.{later_view, was_clean}
+
+module _ (old new : State) (new_stage : Stage) (failures new_failures room : ℕ) {X : Type 0} (given : Result X Error) (kept : IsKept old Begun) (write : IsWrite given old new) where
+  -- what is kept of a register whose connection is open now
+  was_kept : HasCleanDisk new → IsTrue new.is_open → IsOpenDesk old Begun
+  was_kept clean is_open = kept (was_clean old new write.later clean) (write.opened clean is_open)
+
+  stays : (x : X) → given ≡ Ok x → HasCleanDisk new → IsTrue old.is_open → Stays old new
+  stays x is clean was_open =
+      let desk = kept (was_clean old new write.later clean) was_open in
+      subst (λ (r : Result X Error). OnOk r (Stays old new)) is (write.ok clean was_open desk.schema)
+
+  fell : (e : Error) → given ≡ Err e → HasCleanDisk new → IsTrue new.is_open → Stays old new ⊎ IsUndone old new
+  fell e is clean is_open =
+      let desk = was_kept clean is_open in
+      subst (λ (r : Result X Error). OnErr r (FellWriting old new)) is (write.err clean (write.opened clean is_open) desk.schema) (desk.begun refl)
+
+  mark_stays : Stays old new → IsOpenDesk old Begun → content_in new.committed ≡ content_in old.committed
+  mark_stays stays desk = ap content_in (stays.committed (desk.begun refl))
+
+  pub change_told : (result : Result X Fault) → IsTold given result Begun new_stage failures new_failures → IsChange result (shown old Begun failures room) (shown new new_stage new_failures room)
+  change_told result told = go given refl told
+    where
+      go : (r : Result X Error) → given ≡ r → IsTold r result Begun new_stage failures new_failures → IsChange result (shown old Begun failures room) (shown new new_stage new_failures room)
+      go (Ok x) is told = subst (λ r. IsChange r (shown old Begun failures room) (shown new new_stage new_failures room)) (sym told.0) (record {
+        ok = record {
+          stage = told.1;
+          sure = λ clean was_open. (stays x is clean was_open).is_open;
+          mark = λ clean was_open. mark_stays (stays x is clean was_open) (kept (was_clean old new write.later clean) was_open);
+          failures = λ clean few. told.2;
+        };
+        err = tt;
+        later = later_view old new Begun new_stage failures new_failures room write.later write.opened (omega (arith, told.2));
+        blame = record { storage = λ e. absurd (cc); memory = λ e. absurd (cc) };
+      })
+      go (Err e) is told = subst (λ r. IsChange r (shown old Begun failures room) (shown new new_stage new_failures room)) (sym told.1) (record {
+        ok = tt;
+        err = record {
+          stage = told.2;
+          mark = λ clean is_open. elim (fell e is clean is_open) [ inl stays ↦ mark_stays stays (was_kept clean is_open) | inr undone ↦ ap content_in (undone.committed is_open) ];
+          content = λ clean is_open idle. absurd (cc);
+        };
+        later = later_view old new Begun new_stage failures new_failures room write.later write.opened told.3.grows;
+        blame = record {
+          storage = λ same clean few. told.3.storage (let it : told.0 ≡ Storage = cc in it) few;
+          memory = λ same clean few. told.3.memory (let it : told.0 ≡ Memory = cc in it);
+        };
+      })
+
+  -- what is kept stays so after a change
+  pub kept_changed : (result : Result X Fault) → IsTold given result Begun new_stage failures new_failures → IfSound old new (IsDesk old.now → OnOk given (IsDesk new.now)) → IsKept new new_stage
+  kept_changed result told desks clean is_open = go given refl told
+    where
+      desk : IsOpenDesk old Begun
+      desk = was_kept clean is_open
+
+      well : Stays old new → IsDesk new.now → IsOpenDesk new Begun
+      well stays now = record {
+        committed = subst IsDesk (sym (stays.committed (desk.begun refl))) desk.committed;
+        schema = stays.schema;
+        now = λ goes. now;
+        idle = λ e. absurd (cc);
+        closed = λ e. absurd (cc);
+        begun = λ e. stays.mode ∙ desk.begun refl;
+        unmarked = λ e. stays.marks ∙ desk.unmarked refl;
+        outside = λ out. absurd (let e = sym (stays.mode ∙ desk.begun refl) ∙ out in cc);
+      }
+
+      lost : Stays old new ⊎ IsUndone old new → IsOpenDesk new Failed
+      lost (inl stays) = record {
+        committed = subst IsDesk (sym (stays.committed (desk.begun refl))) desk.committed;
+        schema = stays.schema;
+        now = λ goes. absurd (goes refl);
+        idle = λ e. absurd (cc);
+        closed = λ e. absurd (cc);
+        begun = λ e. absurd (cc);
+        unmarked = λ e. absurd (cc);
+        outside = λ out. absurd (let e = sym (stays.mode ∙ desk.begun refl) ∙ out in cc);
+      }
+      lost (inr undone) = record {
+        committed = subst IsDesk (sym (undone.committed is_open)) desk.committed;
+        schema = ap (λ d. d.schema) (undone.now is_open) ∙ desk.committed.schema;
+        now = λ goes. absurd (goes refl);
+        idle = λ e. absurd (cc);
+        closed = λ e. absurd (cc);
+        begun = λ e. absurd (cc);
+        unmarked = λ e. absurd (cc);
+        outside = λ out. undone.marks;
+      }
+
+      go : (r : Result X Error) → given ≡ r → IsTold r result Begun new_stage failures new_failures → IsOpenDesk new new_stage
+      go (Ok x) is told = subst (IsOpenDesk new) (sym told.1) (well (stays x is clean (write.opened clean is_open))
+          (subst (λ (r : Result X Error). OnOk r (IsDesk new.now)) is (desks clean (write.opened clean is_open) desk.schema (desk.now (λ e. absurd (cc))))))
+      go (Err e) is told = subst (IsOpenDesk new) (sym told.2) (lost (fell e is clean is_open))
+
+  -- what is said of what was given is said of what is told
+  pub on_told : (P : Type 0) (result : Result X Fault) → IsTold given result Begun new_stage failures new_failures → IfSound old new (IsDesk old.now → OnOk given P) → HasCleanDisk new → IsTrue old.is_open → OnOk result P
+  on_told P result told says clean was_open = go given refl told
+    where
+      go : (r : Result X Error) → given ≡ r → IsTold r result Begun new_stage failures new_failures → OnOk result P
+      go (Ok x) is told =
+          let desk = kept (was_clean old new write.later clean) was_open in
+          subst (λ r. OnOk r P) (sym told.0) (subst (λ (r : Result X Error). OnOk r P) is (says clean was_open desk.schema (desk.now (λ e. absurd (cc)))))
+      go (Err e) is told = subst (λ r. OnOk r P) (sym told.1) tt
