@@ -6,12 +6,14 @@ use Rattle.std.specs.Cmp.Lexicographic.{slice_cmp}
 use Rattle.sqlite.specs.Effect.{Database}
 use Rattle.desk_amounts.specs.Holdings.{IsNextHolding, IsHeldAbove, IsFirstAbove}
 use Rattle.desk_register.specs.declared.holding.Holding.{Holding}
-use Rattle.desk_register.specs.Looked.{HoldsAbove, IsAboveText, IsFirstOpposite, IsHoldingAfter, IsLess, IsOppositeAt}
+use Rattle.desk_register.specs.Looked.{HoldsAbove, IsAboveText, IsDue, IsDuePairAfter, IsFirstOpposite, IsHoldingAfter, IsLess, IsOppositeAt}
 use Rattle.desk_rules.specs.Content.{Content, history_of}
 use Rattle.desk_rules.specs.declared.entry.Instructed.{Instructed}
 use Rattle.desk_rules.specs.History.{instruction_at}
 use Rattle.desk_rules.specs.declared.standing.State.{State}
 use Rattle.desk_rules.specs.declared.standing.State.TheVariants.{Cancelled, Matched, NoInstruction, Settled, Unmatched}
+use Rattle.desk_rules.specs.declared.pair.Place.{Place}
+use Rattle.desk_standings.specs.Due.{IsDueBy, IsNextDue}
 use Rattle.desk_unmatched.specs.Unmatched.{FindsFirst, IsFirstNoted, IsOppositeNoted}
 use Rattle.desk_store.specs.Content.{content_in}
 use Rattle.desk_store.specs.Holds.{IsDesk, holding_found, if_unmatched, unmatched_of}
@@ -73,3 +75,16 @@ module _ (db : Database) (desk : IsDesk db) (account : List ℕ) (above : Option
 pub found_holding : (db : Database) → IsDesk db → (account : List ℕ) (above : Option (List ℕ)) (found : Option (List ℕ × ℕ)) → IsNextHolding db account above found → IsHoldingAfter (content_in db) account above (holding_found found)
 found_holding db desk account above None none = none_held db desk account above none
 found_holding db desk account above (Some found) first = next_held db desk account above (record { isin = found.0; quantity = found.1 }) first
+
+-- ---- due pairs
+
+module _ (db : Database) (desk : IsDesk db) (after : Option Place) (day : ℕ) where
+  due_from : (place : Place) → IsDueBy db after day place → IsDue (content_in db) day after place
+  due_from place due = record { pair = desk.due place due.due; by = due.by; above = due.past }
+
+  due_by : (place : Place) → IsDue (content_in db) day after place → IsDueBy db after day place
+  due_by place due = record { due = desk.due_all place due.pair; by = due.by; past = due.above }
+
+  pub next_pair : (next : Option Place) → IsNextDue db after day next → IsDuePairAfter (content_in db) day after next
+  next_pair None none = λ place due. none place (due_by place due)
+  next_pair (Some place) next = (due_from place next.0, λ other due. next.1 other (due_by other due))

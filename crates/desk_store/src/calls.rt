@@ -60,8 +60,11 @@ impl<S: Alter> Register for SqlRegister<S> {
     }
 
     fn count(&mut self, _alloc: Global) -> Result<u64, Fault> {
-        self.stage = fallen(self.stage);
-        Err(Fault::Memory)
+        told(
+            looking::count(&mut self.conn),
+            &mut self.stage,
+            &mut self.failures,
+        )
     }
 
     fn participant(&mut self, _alloc: Global, _bic: Bic) -> Result<bool, Fault> {
@@ -110,19 +113,28 @@ impl<S: Alter> Register for SqlRegister<S> {
         Err(Fault::Memory)
     }
 
-    fn entry(&mut self, _alloc: Global, _number: u64) -> Result<Option<Entry>, Fault> {
-        self.stage = fallen(self.stage);
-        Err(Fault::Memory)
+    fn entry(&mut self, alloc: Global, number: u64) -> Result<Option<Entry>, Fault> {
+        told(
+            looking::entry(&mut self.conn, alloc, number),
+            &mut self.stage,
+            &mut self.failures,
+        )
     }
 
-    fn standing(&mut self, _alloc: Global, _number: u64) -> Result<Standing, Fault> {
-        self.stage = fallen(self.stage);
-        Err(Fault::Memory)
+    fn standing(&mut self, _alloc: Global, number: u64) -> Result<Standing, Fault> {
+        told(
+            looking::standing_of(&mut self.conn, number),
+            &mut self.stage,
+            &mut self.failures,
+        )
     }
 
-    fn reply(&mut self, _alloc: Global, _number: u64) -> Result<Option<Reply>, Fault> {
-        self.stage = fallen(self.stage);
-        Err(Fault::Memory)
+    fn reply(&mut self, alloc: Global, number: u64) -> Result<Option<Reply>, Fault> {
+        told(
+            looking::reply(&mut self.conn, alloc, number),
+            &mut self.stage,
+            &mut self.failures,
+        )
     }
 
     fn first_opposite(
@@ -157,11 +169,14 @@ impl<S: Alter> Register for SqlRegister<S> {
     fn due_pair_after(
         &mut self,
         _alloc: Global,
-        _day: Day,
-        _place: Option<Place>,
+        day: Day,
+        place: Option<Place>,
     ) -> Result<Option<Place>, Fault> {
-        self.stage = fallen(self.stage);
-        Err(Fault::Memory)
+        told(
+            looking::due_pair_after(&mut self.conn, day, place),
+            &mut self.stage,
+            &mut self.failures,
+        )
     }
 
     fn security_after(

@@ -5,16 +5,21 @@ ghost use Rattle.desk_tables.specs.Ends.{IfSound, IsLook};
 ghost use Rattle.desk_rules.specs.Content.{history_of};
 ghost use Rattle.desk_rules.specs.Balances.{issued, redeemed};
 ghost use Rattle.desk_rules.specs.Questions.{sent_at};
-ghost use Rattle.desk_register.specs.Looked.{confirmation_in, held_cash_of, held_of, sent_to, IsFirstOpposite, IsHoldingAfter, IsPaid};
+ghost use Rattle.desk_rules.specs.History.{entry_at};
+ghost use Rattle.desk_codes.specs.Number.{number_of};
+ghost use Rattle.desk_register.specs.Looked.{confirmation_in, held_cash_of, held_of, reply_at, sent_to, IsDuePairAfter, IsFirstOpposite, IsHoldingAfter, IsPaid};
 ghost use Rattle.desk_store.specs.Content.{content_in};
 ghost use Rattle.desk_store.specs.Holds.{IsDesk, holding_found};
 
 use desk_amounts::{AmountKey, amount, next_holding};
-use desk_codes::{AccountId, Bic, Ccy, Isin};
+use desk_codes::{AccountId, Bic, Ccy, Day, Isin};
+use desk_entries::{entry_at, entry_count, reply_at};
 use desk_msg::Instruction;
 use desk_register::Holding;
-use desk_rules::Sent;
+use desk_rules::{Entry, Place, Reply, Sent, Standing};
 use desk_sent::{confirmation_of, sent_at, sent_count};
+use desk_standings::due::next_due;
+use desk_standings::standings::standing;
 use desk_unmatched::unmatched::first_unmatched;
 use sqlite::{Alter, Connection, Error};
 use std::alloc::Global;
@@ -136,4 +141,56 @@ pub fn confirmation<S: Alter>(
     ensures look { IsLook result (state S.Store conn.old) (state S.Store conn.new) }
 {
     confirmation_of(conn, alloc, number)
+}
+
+/// How many entries there are.
+pub fn count<S: Alter>(conn: &mut Connection<S>) -> Result<u64, Error>
+    ensures value { IfSound (state S.Store conn.old) (state S.Store conn.new) (IsDesk (state S.Store conn.old).now → IfOk result (λ r. r ≡ length (content_in (state S.Store conn.old).now).register)) }
+    ensures look { IsLook result (state S.Store conn.old) (state S.Store conn.new) }
+{
+    entry_count(conn)
+}
+
+/// The entry of this number, counted from 1.
+pub fn entry<S: Alter>(
+    conn: &mut Connection<S>,
+    alloc: Global,
+    number: u64,
+) -> Result<Option<Entry>, Error>
+    ensures value { IfSound (state S.Store conn.old) (state S.Store conn.new) (IsDesk (state S.Store conn.old).now → IfOk result (λ r. r ≡ entry_at (history_of (content_in (state S.Store conn.old).now)) number)) }
+    ensures look { IsLook result (state S.Store conn.old) (state S.Store conn.new) }
+{
+    entry_at(conn, alloc, number)
+}
+
+/// The reply that is kept with the entry of this number.
+pub fn reply<S: Alter>(
+    conn: &mut Connection<S>,
+    alloc: Global,
+    number: u64,
+) -> Result<Option<Reply>, Error>
+    ensures value { IfSound (state S.Store conn.old) (state S.Store conn.new) (IsDesk (state S.Store conn.old).now → IfOk result (λ r. r ≡ reply_at (content_in (state S.Store conn.old).now) number)) }
+    ensures look { IsLook result (state S.Store conn.old) (state S.Store conn.new) }
+{
+    reply_at(conn, alloc, number)
+}
+
+/// Where the entry of this number stands.
+pub fn standing_of<S: Alter>(conn: &mut Connection<S>, number: u64) -> Result<Standing, Error>
+    ensures value { IfSound (state S.Store conn.old) (state S.Store conn.new) (IsDesk (state S.Store conn.old).now → IfOk result (λ r. r ≡ (content_in (state S.Store conn.old).now).standing number)) }
+    ensures look { IsLook result (state S.Store conn.old) (state S.Store conn.new) }
+{
+    standing(conn, number)
+}
+
+/// The first matched pair due by a day, after a place.
+pub fn due_pair_after<S: Alter>(
+    conn: &mut Connection<S>,
+    day: Day,
+    place: Option<Place>,
+) -> Result<Option<Place>, Error>
+    ensures value { IfSound (state S.Store conn.old) (state S.Store conn.new) (IsDesk (state S.Store conn.old).now → IfOk result (λ r. IsDuePairAfter (content_in (state S.Store conn.old).now) (number_of day) place r)) }
+    ensures look { IsLook result (state S.Store conn.old) (state S.Store conn.new) }
+{
+    next_due(conn, place, day)
 }
