@@ -6,3 +6,5 @@ pub mod ChangeLemmas
 pub mod FrameLemmas
 pub mod ContentLemmas
 pub mod SentContent
+pub mod WriteLemmas
+pub mod StandingContent

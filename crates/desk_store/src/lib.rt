@@ -2,8 +2,10 @@
 #![tactic(auto)]
 
 pub mod calls;
+pub mod cancelling;
 pub mod fault;
 pub mod looking;
+pub mod numbers;
 pub mod sending;
 pub mod sql_register;
 pub mod undoing;
