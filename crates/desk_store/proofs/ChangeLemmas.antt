@@ -9,7 +9,9 @@ use Rattle.desk_register.specs.declared.register.Stage.TheVariants.{Idle, Begun,
 use Rattle.desk_register.specs.View.{IsChange}
 use Rattle.desk_tables.specs.Ends.{IfSound, Stays, IsUndone, FellWriting, IsWrite}
 use Rattle.desk_store.specs.Content.{content_in}
-use Rattle.desk_store.specs.Holds.{IsDesk}
+use Rattle.sqlite.specs.Effect.{Database}
+use Rattle.desk_rules.specs.Content.{Content}
+use Rattle.desk_store.specs.Holds.{Becomes, IsDesk}
 use Rattle.desk_store.specs.Kept.{IsOpenDesk, IsKept, shown}
 use Rattle.desk_store.specs.Told.{Counts, IsTold}
 use Rattle.desk_store.proofs.ReadLemmas.{later_view, was_clean}
@@ -116,3 +118,13 @@ module _ (old new : State) (new_stage : Stage) (failures new_failures room : ℕ
           let desk = kept (was_clean old new write.later clean) was_open in
           subst (λ r. OnOk r P) (sym told.0) (subst (λ (r : Result X Error). OnOk r P) is (says clean was_open desk.schema (desk.now (λ e. absurd (cc)))))
       go (Err e) is told = subst (λ r. OnOk r P) (sym told.1) tt
+
+-- the same at whatever stage is known to be that of an open `begin`
+pub changed_kept : (old new : State) (stage new_stage : Stage) (failures new_failures room : ℕ) {X : Type 0} (given : Result X Error) (result : Result X Fault) → stage ≡ Begun → IsKept old stage → IsWrite given old new
+    → IsTold given result stage new_stage failures new_failures → IfSound old new (IsDesk old.now → OnOk given (IsDesk new.now)) → IsKept new new_stage
+changed_kept old new stage new_stage failures new_failures room {X = X} given result begun kept write told desks =
+    kept_changed old new new_stage failures new_failures room given (subst (IsKept old) begun kept) write result (subst (λ s. IsTold given result s new_stage failures new_failures) begun told) desks
+
+pub on_becomes : {X : Type 0} (db : Database) (content : Content) (r : Result X Error) → OnOk r (Becomes db content) → OnOk r (IsDesk db)
+on_becomes db content (Ok x) becomes = becomes.desk
+on_becomes db content (Err e) becomes = tt

@@ -30,7 +30,7 @@ undone_after a b c p inside q = record {
 
 -- a call that went well, and one after it
 pub write_then : {X Y : Type 0} (x : X) (r : Result Y Error) (a b c : State) → IsWrite (Ok x) a b → IsWrite r b c → IsWrite r a c
-write_then x r a b c p q = record {
+write_then {X = X} {Y = Y} x r a b c p q = record {
   ok = λ clean is_open has. onward r (q.ok clean (mid clean is_open has).is_open (mid clean is_open has).schema) (mid clean is_open has);
   err = λ clean is_open has. back r (q.err clean (mid clean is_open has).is_open (mid clean is_open has).schema) (mid clean is_open has);
   opened = λ clean is. p.opened (was clean) (q.opened clean is);
@@ -53,7 +53,7 @@ write_then x r a b c p q = record {
 
 -- a look is a change of nothing
 pub look_write : {X : Type 0} (r : Result X Error) (a b : State) → IsLook r a b → IsWrite r a b
-look_write r a b look = record {
+look_write {X = X} r a b look = record {
   ok = λ clean is_open has. onward r (look.ok clean is_open has) has;
   err = λ clean is_open has. back r (look.err clean is_open has) has;
   opened = look.opened;

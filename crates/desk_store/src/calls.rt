@@ -3,7 +3,7 @@
 use crate::fault::{fallen, fault_of, told};
 use crate::sql_register::SqlRegister;
 use crate::undoing::take_back;
-use crate::{looking, sending};
+use crate::{cancelling, looking, sending};
 use desk_codes::{AccountId, Bic, Ccy, Day, Isin, Reference};
 use desk_msg::{Instruction, Kind};
 use desk_register::{Fault, Holding, Outcome, Register, Stage};
@@ -67,19 +67,28 @@ impl<S: Alter> Register for SqlRegister<S> {
         )
     }
 
-    fn participant(&mut self, _alloc: Global, _bic: Bic) -> Result<bool, Fault> {
-        self.stage = fallen(self.stage);
-        Err(Fault::Memory)
+    fn participant(&mut self, _alloc: Global, bic: Bic) -> Result<bool, Fault> {
+        told(
+            looking::participant(&mut self.conn, bic),
+            &mut self.stage,
+            &mut self.failures,
+        )
     }
 
-    fn owner(&mut self, _alloc: Global, _account: AccountId) -> Result<Option<Bic>, Fault> {
-        self.stage = fallen(self.stage);
-        Err(Fault::Memory)
+    fn owner(&mut self, _alloc: Global, account: AccountId) -> Result<Option<Bic>, Fault> {
+        told(
+            looking::owner(&mut self.conn, account),
+            &mut self.stage,
+            &mut self.failures,
+        )
     }
 
-    fn security(&mut self, _alloc: Global, _isin: Isin) -> Result<Option<Kind>, Fault> {
-        self.stage = fallen(self.stage);
-        Err(Fault::Memory)
+    fn security(&mut self, _alloc: Global, isin: Isin) -> Result<Option<Kind>, Fault> {
+        told(
+            looking::security(&mut self.conn, isin),
+            &mut self.stage,
+            &mut self.failures,
+        )
     }
 
     fn outstanding(&mut self, _alloc: Global, isin: Isin) -> Result<u64, Fault> {
@@ -99,18 +108,24 @@ impl<S: Alter> Register for SqlRegister<S> {
     }
 
     fn last_run(&mut self, _alloc: Global) -> Result<Option<Day>, Fault> {
-        self.stage = fallen(self.stage);
-        Err(Fault::Memory)
+        told(
+            looking::day_of_last_run(&mut self.conn),
+            &mut self.stage,
+            &mut self.failures,
+        )
     }
 
     fn number_of(
         &mut self,
         _alloc: Global,
-        _sender: Sender,
-        _reference: Reference,
+        sender: Sender,
+        reference: Reference,
     ) -> Result<Option<u64>, Fault> {
-        self.stage = fallen(self.stage);
-        Err(Fault::Memory)
+        told(
+            looking::number(&mut self.conn, sender, reference),
+            &mut self.stage,
+            &mut self.failures,
+        )
     }
 
     fn entry(&mut self, alloc: Global, number: u64) -> Result<Option<Entry>, Fault> {
@@ -182,10 +197,13 @@ impl<S: Alter> Register for SqlRegister<S> {
     fn security_after(
         &mut self,
         _alloc: Global,
-        _isin: Option<Isin>,
+        isin: Option<Isin>,
     ) -> Result<Option<Isin>, Fault> {
-        self.stage = fallen(self.stage);
-        Err(Fault::Memory)
+        told(
+            looking::next_security(&mut self.conn, isin),
+            &mut self.stage,
+            &mut self.failures,
+        )
     }
 
     fn holding_after(
@@ -256,9 +274,12 @@ impl<S: Alter> Register for SqlRegister<S> {
         Err(Fault::Memory)
     }
 
-    fn cancel(&mut self, _alloc: Global, _number: u64) -> Result<(), Fault> {
-        self.stage = fallen(self.stage);
-        Err(Fault::Memory)
+    fn cancel(&mut self, _alloc: Global, number: u64) -> Result<(), Fault> {
+        told(
+            cancelling::cancel(&mut self.conn, number),
+            &mut self.stage,
+            &mut self.failures,
+        )
     }
 
     fn cancel_pair(&mut self, _alloc: Global, _earlier: u64, _later: u64) -> Result<(), Fault> {

@@ -1,22 +1,24 @@
 //! What is looked up in the tables, as the register says it.
-ghost use Rattle.std.specs.Prelude.{◌≡◌, ◌+◌, length, IfOk};
+ghost use Rattle.std.specs.Prelude.{◌≡◌, ◌+◌, length, option_map, IfOk};
 ghost use Rattle.sqlite.specs.Held.{state};
 ghost use Rattle.desk_tables.specs.Ends.{IfSound, IsLook};
 ghost use Rattle.desk_rules.specs.Content.{history_of};
 ghost use Rattle.desk_rules.specs.Balances.{issued, redeemed};
 ghost use Rattle.desk_rules.specs.Questions.{sent_at};
-ghost use Rattle.desk_rules.specs.History.{entry_at};
+ghost use Rattle.desk_rules.specs.History.{entry_at, number_of_key};
+ghost use Rattle.desk_rules.specs.Facts.{is_participant, owner_of, kind_of, last_run};
 ghost use Rattle.desk_codes.specs.Number.{number_of};
-ghost use Rattle.desk_register.specs.Looked.{confirmation_in, held_cash_of, held_of, reply_at, sent_to, IsDuePairAfter, IsFirstOpposite, IsHoldingAfter, IsPaid};
+ghost use Rattle.desk_register.specs.Looked.{confirmation_in, held_cash_of, held_of, reply_at, sent_to, IsDuePairAfter, IsFirstOpposite, IsHoldingAfter, IsPaid, IsSecurityAfter};
 ghost use Rattle.desk_store.specs.Content.{content_in};
 ghost use Rattle.desk_store.specs.Holds.{IsDesk, holding_found};
 
 use desk_amounts::{AmountKey, amount, next_holding};
-use desk_codes::{AccountId, Bic, Ccy, Day, Isin};
+use desk_codes::{AccountId, Bic, Ccy, Day, Isin, Reference};
 use desk_entries::{entry_at, entry_count, reply_at};
-use desk_msg::Instruction;
+use desk_finding::{is_participant, kind_of, last_run, number_of, owner_of, security_after};
+use desk_msg::{Instruction, Kind};
 use desk_register::Holding;
-use desk_rules::{Entry, Place, Reply, Sent, Standing};
+use desk_rules::{Entry, Place, Reply, Sender, Sent, Standing};
 use desk_sent::{confirmation_of, sent_at, sent_count};
 use desk_standings::due::next_due;
 use desk_standings::standings::standing;
@@ -193,4 +195,59 @@ pub fn due_pair_after<S: Alter>(
     ensures look { IsLook result (state S.Store conn.old) (state S.Store conn.new) }
 {
     next_due(conn, place, day)
+}
+
+/// Whether a BIC is a participant's.
+pub fn participant<S: Alter>(conn: &mut Connection<S>, bic: Bic) -> Result<bool, Error>
+    ensures value { IfSound (state S.Store conn.old) (state S.Store conn.new) (IsDesk (state S.Store conn.old).now → IfOk result (λ r. r ≡ is_participant (history_of (content_in (state S.Store conn.old).now)) bic)) }
+    ensures look { IsLook result (state S.Store conn.old) (state S.Store conn.new) }
+{
+    is_participant(conn, bic)
+}
+
+/// Whose an account is; None where there is no such account.
+pub fn owner<S: Alter>(conn: &mut Connection<S>, account: AccountId) -> Result<Option<Bic>, Error>
+    ensures value { IfSound (state S.Store conn.old) (state S.Store conn.new) (IsDesk (state S.Store conn.old).now → IfOk result (λ r. r ≡ owner_of (history_of (content_in (state S.Store conn.old).now)) account)) }
+    ensures look { IsLook result (state S.Store conn.old) (state S.Store conn.new) }
+{
+    owner_of(conn, account)
+}
+
+/// How a security is counted; None where there is no such security.
+pub fn security<S: Alter>(conn: &mut Connection<S>, isin: Isin) -> Result<Option<Kind>, Error>
+    ensures value { IfSound (state S.Store conn.old) (state S.Store conn.new) (IsDesk (state S.Store conn.old).now → IfOk result (λ r. r ≡ kind_of (history_of (content_in (state S.Store conn.old).now)) isin)) }
+    ensures look { IsLook result (state S.Store conn.old) (state S.Store conn.new) }
+{
+    kind_of(conn, isin)
+}
+
+/// The first security, in order of its bytes, after one; with none, the first of all.
+pub fn next_security<S: Alter>(
+    conn: &mut Connection<S>,
+    isin: Option<Isin>,
+) -> Result<Option<Isin>, Error>
+    ensures value { IfSound (state S.Store conn.old) (state S.Store conn.new) (IsDesk (state S.Store conn.old).now → IfOk result (λ r. IsSecurityAfter (history_of (content_in (state S.Store conn.old).now)) isin r)) }
+    ensures look { IsLook result (state S.Store conn.old) (state S.Store conn.new) }
+{
+    security_after(conn, isin)
+}
+
+/// The day of the last run; None before any.
+pub fn day_of_last_run<S: Alter>(conn: &mut Connection<S>) -> Result<Option<Day>, Error>
+    ensures value { IfSound (state S.Store conn.old) (state S.Store conn.new) (IsDesk (state S.Store conn.old).now → IfOk result (λ r. option_map number_of r ≡ last_run (history_of (content_in (state S.Store conn.old).now)))) }
+    ensures look { IsLook result (state S.Store conn.old) (state S.Store conn.new) }
+{
+    last_run(conn)
+}
+
+/// The number of the first entry with this key.
+pub fn number<S: Alter>(
+    conn: &mut Connection<S>,
+    sender: Sender,
+    reference: Reference,
+) -> Result<Option<u64>, Error>
+    ensures value { IfSound (state S.Store conn.old) (state S.Store conn.new) (IsDesk (state S.Store conn.old).now → IfOk result (λ r. r ≡ number_of_key (history_of (content_in (state S.Store conn.old).now)) sender reference)) }
+    ensures look { IsLook result (state S.Store conn.old) (state S.Store conn.new) }
+{
+    number_of(conn, sender, reference)
 }

@@ -22,8 +22,8 @@ returns-clause-changed g c clean is_open has desk can =
     let clean_mid : HasCleanDisk (state g.S.Store c.set_state.new.conn) = omega (arith, clean, c.forget_unmatched.ensures.write.later.clean) in
     let mid = c.in_ok-set_state.ensures.write.ok clean_mid is_open has in
     let stood = subst (λ k. StandingsChanged (state g.S.Store c.args.conn.now).now (state g.S.Store c.set_state.new.conn).now (standing_at (standing_in (state g.S.Store c.args.conn.now).now) k (record (standing_in (state g.S.Store c.args.conn.now).now k) { state = Cancelled })))
-        c.in_ok-number.ensures.same (c.in_ok-set_state.ensures.changed clean_mid is_open has desk.standings) in
+    c.in_ok-number.ensures.same (c.in_ok-set_state.ensures.changed clean_mid is_open has desk.standings) in
     let forgot = subst (λ k. OnOk c.forget_unmatched.result (Forgets (state g.S.Store c.set_state.new.conn).now (state g.S.Store c.forget_unmatched.new.conn).now k)) c.in_ok-number.ensures.same
-        (c.forget_unmatched.ensures.changed clean mid.is_open mid.schema) in
+    (c.forget_unmatched.ensures.changed clean mid.is_open mid.schema) in
     becomes (state g.S.Store c.args.conn.now) (state g.S.Store c.set_state.new.conn) (state g.S.Store c.forget_unmatched.new.conn) c.args.number c.forget_unmatched.result desk can
     (c.forget_unmatched.ensures.write.ok clean mid.is_open mid.schema) stood forgot
