@@ -8,3 +8,5 @@ pub mod ContentLemmas
 pub mod SentContent
 pub mod WriteLemmas
 pub mod StandingContent
+pub mod BothContent
+pub mod PairCalls

@@ -4,3 +4,4 @@ pub mod Holds
 pub mod Kept
 pub mod Undone
 pub mod Told
+pub mod Pairs

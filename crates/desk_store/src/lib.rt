@@ -6,6 +6,7 @@ pub mod cancelling;
 pub mod fault;
 pub mod looking;
 pub mod numbers;
+pub mod pairing;
 pub mod sending;
 pub mod sql_register;
 pub mod undoing;

@@ -11,9 +11,9 @@ use Rattle.desk_store.proofs.calls.SqlRegisterRegister.cancel.Goals as goal
 pub invariant_of-self : goal.invariant_of-self
 invariant_of-self g c = (
   changed_kept (state g.S.Store c.self.inside.conn) (state g.S.Store c.cancel.new.conn) c.self.inside.stage c.told.new.stage c.self.inside.failures c.told.new.failures c.self.inside.limit c.cancel.result c.told.result
-  (ap (λ k. k.stage) c.self.view_is ∙ c.requires.stage) c.self.invariant.0 c.cancel.ensures.write c.told.ensures
-  (λ clean is_open has desk. on_becomes _ _ c.cancel.result (c.cancel.ensures.changed clean is_open has desk
-    (subst (λ (k : Kept _). HasCleanDisk (state g.S.Store k.connection) → IsTrue (state g.S.Store k.connection).is_open → CanCancel (content_in (state g.S.Store k.connection).now) c.args.number) (sym c.self.view_is) c.requires.fits
-    (was_clean _ _ c.cancel.ensures.write.later clean) is_open))),
+      (ap (λ k. k.stage) c.self.view_is ∙ c.requires.stage) c.self.invariant.0 c.cancel.ensures.write c.told.ensures
+      (λ clean is_open has desk. on_becomes _ _ c.cancel.result (c.cancel.ensures.changed clean is_open has desk
+      (subst (λ (k : Kept _). HasCleanDisk (state g.S.Store k.connection) → IsTrue (state g.S.Store k.connection).is_open → CanCancel (content_in (state g.S.Store k.connection).now) c.args.number) (sym c.self.view_is) c.requires.fits
+      (was_clean _ _ c.cancel.ensures.write.later clean) is_open))),
   c.self.invariant.1,
 )
