@@ -117,13 +117,13 @@ module _ (content : Content) (m n : ℕ) (can : CanPair content m n) where
   pair_forgotten : (k : ℕ) → forgetting (forgetting (unmatched_of content) m) n k ≡ unmatched_of (standing_so content matched) k
   pair_forgotten k = which k m n
       (λ e. subst (λ j. forgetting (forgetting (unmatched_of content) m) n j ≡ unmatched_of (standing_so content matched) j) (sym e)
-        (ap (λ b. cond b None (forgetting (unmatched_of content) m m)) (apart_false m n (λ t. omega (arith, t, can.two))) ∙ ap (λ b. cond b None (unmatched_of content m)) (eq-eqb m m refl)
-        ∙ sym (ap (λ (s : Standing). if_unmatched s.state (instruction_at (history_of content) m)) (earlier_stands content.standing m n can.two (Matched Future)))))
+      (ap (λ b. cond b None (forgetting (unmatched_of content) m m)) (apart_false m n (λ t. omega (arith, t, can.two))) ∙ ap (λ b. cond b None (unmatched_of content m)) (eq-eqb m m refl)
+      ∙ sym (ap (λ (s : Standing). if_unmatched s.state (instruction_at (history_of content) m)) (earlier_stands content.standing m n can.two (Matched Future)))))
       (λ e. subst (λ j. forgetting (forgetting (unmatched_of content) m) n j ≡ unmatched_of (standing_so content matched) j) (sym e)
-        (ap (λ b. cond b None (forgetting (unmatched_of content) m n)) (eq-eqb n n refl)
-        ∙ sym (ap (λ (s : Standing). if_unmatched s.state (instruction_at (history_of content) n)) (later_stands content.standing m n can.two (Matched Future)))))
+      (ap (λ b. cond b None (forgetting (unmatched_of content) m n)) (eq-eqb n n refl)
+      ∙ sym (ap (λ (s : Standing). if_unmatched s.state (instruction_at (history_of content) n)) (later_stands content.standing m n can.two (Matched Future)))))
       (λ not_m not_n. ap (λ b. cond b None (forgetting (unmatched_of content) m k)) (apart_false k n not_n) ∙ ap (λ b. cond b None (unmatched_of content k)) (apart_false k m not_m)
-        ∙ sym (ap (λ (s : Standing). if_unmatched s.state (instruction_at (history_of content) k)) (other_stands content.standing m n can.two (Matched Future) k not_m not_n)))
+      ∙ sym (ap (λ (s : Standing). if_unmatched s.state (instruction_at (history_of content) k)) (other_stands content.standing m n can.two (Matched Future) k not_m not_n)))
 
   -- the new pair
   new_pair : IsMatchedPair (standing_so content matched) its_place
@@ -148,10 +148,10 @@ module _ (content : Content) (m n : ℕ) (can : CanPair content m n) where
   pair_due is_due due p is = elim (cases_Bool (same_place its_place p)) [
     | inl same ↦ subst (IsMatchedPair (standing_so content matched)) (same_is_place its_place p same) new_pair
     | inr other ↦ (
-      let before = due p (sym (ap (λ b. cond b true (is_due p)) other) ∙ is) in
-      let out = not_matched_before p before in
-      pair_still content matched p (other_stands content.standing m n can.two (Matched Future) p.number out.0 out.1) before
-    )
+        let before = due p (sym (ap (λ b. cond b true (is_due p)) other) ∙ is) in
+        let out = not_matched_before p before in
+        pair_still content matched p (other_stands content.standing m n can.two (Matched Future) p.number out.0 out.1) before
+        )
   ]
 
   due_or_new : (is_due : Place → Bool) (p : Place) → is_due p ≡ true → due_at is_due its_place true p ≡ true
@@ -161,11 +161,11 @@ module _ (content : Content) (m n : ℕ) (can : CanPair content m n) where
   pair_due_all is_due all p pair = which p.number m n
       (λ e. absurd (let mate = sym (ap (λ s. s.mate) (earlier_stands content.standing m n can.two (Matched Future))) ∙ ap (λ k. (matched k).mate) (sym e) ∙ pair.has_mate in let same : n ≡ pair.mate = cc in omega (arith, same, e, pair.is_earlier, can.two)))
       (λ e.
-        let later : Some can.later ≡ Some pair.later = sym can.is_later ∙ ap (instruction_at (history_of content)) (sym e) ∙ pair.is_later in
-        let same : can.later ≡ pair.later = cc in
-        let day : number_of can.later.instruction.day ≡ p.day = ap (λ (i : Instructed). number_of i.instruction.day) same ∙ pair.day in
-        let place : its_place ≡ p = place_by its_place p day (sym e) in
-        ap (λ b. cond b true (is_due p)) (subst (λ q. same_place its_place q ≡ true) place (place_itself its_place)))
+      let later : Some can.later ≡ Some pair.later = sym can.is_later ∙ ap (instruction_at (history_of content)) (sym e) ∙ pair.is_later in
+      let same : can.later ≡ pair.later = cc in
+      let day : number_of can.later.instruction.day ≡ p.day = ap (λ (i : Instructed). number_of i.instruction.day) same ∙ pair.day in
+      let place : its_place ≡ p = place_by its_place p day (sym e) in
+      ap (λ b. cond b true (is_due p)) (subst (λ q. same_place its_place q ≡ true) place (place_itself its_place)))
       (λ not_m not_n. due_or_new is_due p (all p (pair_at content matched p (other_stands content.standing m n can.two (Matched Future) p.number not_m not_n) pair)))
 
 pub pairs : (old s2 s3 new : Database) (m n : ℕ) → IsDesk old → (can : CanPair (content_in old) m n) → new.schema ≡ desk_schema → StandBoth old s2 m n (Matched Future) → ForgetsBoth s2 s3 m n
@@ -214,28 +214,28 @@ module _ (content : Content) (m n : ℕ) (can : CanCancelPair content m n) where
   drop_unmatched : (k : ℕ) → unmatched_of content k ≡ unmatched_of (standing_so content dropped) k
   drop_unmatched k = which k m n
       (λ e. subst (λ j. unmatched_of content j ≡ unmatched_of (standing_so content dropped) j) (sym e)
-        (ap (λ s. if_unmatched s (instruction_at (history_of content) m)) can.earlier_matched
-        ∙ sym (ap (λ (s : Standing). if_unmatched s.state (instruction_at (history_of content) m)) (earlier_stands content.standing m n can.two Cancelled))))
+      (ap (λ s. if_unmatched s (instruction_at (history_of content) m)) can.earlier_matched
+      ∙ sym (ap (λ (s : Standing). if_unmatched s.state (instruction_at (history_of content) m)) (earlier_stands content.standing m n can.two Cancelled))))
       (λ e. subst (λ j. unmatched_of content j ≡ unmatched_of (standing_so content dropped) j) (sym e)
-        (ap (λ s. if_unmatched s (instruction_at (history_of content) n)) can.later_matched
-        ∙ sym (ap (λ (s : Standing). if_unmatched s.state (instruction_at (history_of content) n)) (later_stands content.standing m n can.two Cancelled))))
+      (ap (λ s. if_unmatched s (instruction_at (history_of content) n)) can.later_matched
+      ∙ sym (ap (λ (s : Standing). if_unmatched s.state (instruction_at (history_of content) n)) (later_stands content.standing m n can.two Cancelled))))
       (λ not_m not_n. sym (ap (λ (s : Standing). if_unmatched s.state (instruction_at (history_of content) k)) (other_stands content.standing m n can.two Cancelled k not_m not_n)))
 
   drop_due : (is_due : Place → Bool) → ((p : Place) → is_due p ≡ true → IsMatchedPair content p) → (p : Place) → due_at is_due old_place false p ≡ true → IsMatchedPair (standing_so content dropped) p
   drop_due is_due due p is = elim (cases_Bool (same_place old_place p)) [
     | inl same ↦ absurd (let e = sym (ap (λ b. cond b false (is_due p)) same) ∙ is in cc)
     | inr other ↦ (
-      let before = due p (sym (ap (λ b. cond b false (is_due p)) other) ∙ is) in
-      which p.number m n
-      (λ e. absurd (let mate = sym can.back ∙ ap (λ k. (content.standing k).mate) (sym e) ∙ before.has_mate in let same : n ≡ before.mate = cc in omega (arith, same, e, before.is_earlier, can.two)))
-      (λ e. absurd (
+        let before = due p (sym (ap (λ b. cond b false (is_due p)) other) ∙ is) in
+        which p.number m n
+        (λ e. absurd (let mate = sym can.back ∙ ap (λ k. (content.standing k).mate) (sym e) ∙ before.has_mate in let same : n ≡ before.mate = cc in omega (arith, same, e, before.is_earlier, can.two)))
+        (λ e. absurd (
         let later : Some can.later ≡ Some before.later = sym can.pair.is_later ∙ ap (instruction_at (history_of content)) (sym e) ∙ before.is_later in
         let same : can.later ≡ before.later = cc in
         let day : number_of can.later.instruction.day ≡ p.day = ap (λ (i : Instructed). number_of i.instruction.day) same ∙ before.day in
         let place : old_place ≡ p = place_by old_place p day (sym e) in
         let t = sym other ∙ subst (λ q. same_place old_place q ≡ true) place (place_itself old_place) in cc))
-      (λ not_m not_n. pair_still content dropped p (other_stands content.standing m n can.two Cancelled p.number not_m not_n) before)
-    )
+        (λ not_m not_n. pair_still content dropped p (other_stands content.standing m n can.two Cancelled p.number not_m not_n) before)
+        )
   ]
 
   drop_due_all : (is_due : Place → Bool) → ((p : Place) → IsMatchedPair content p → is_due p ≡ true) → (p : Place) → IsMatchedPair (standing_so content dropped) p → due_at is_due old_place false p ≡ true
@@ -243,11 +243,11 @@ module _ (content : Content) (m n : ℕ) (can : CanCancelPair content m n) where
       (λ e. absurd (let t = sym (ap (λ s. s.state) (earlier_stands content.standing m n can.two Cancelled)) ∙ ap (λ k. (dropped k).state) (sym e) ∙ pair.matched in cc))
       (λ e. absurd (let t = sym (ap (λ s. s.state) (later_stands content.standing m n can.two Cancelled)) ∙ ap (λ k. (dropped k).state) (sym e) ∙ pair.matched in cc))
       (λ not_m not_n.
-        let before = all p (pair_at content dropped p (other_stands content.standing m n can.two Cancelled p.number not_m not_n) pair) in
-        elim (cases_Bool (same_place old_place p)) [
-          | inl same ↦ absurd (not_n (sym (ap (λ (q : Place). q.number) (same_is_place old_place p same))))
-          | inr other ↦ ap (λ b. cond b false (is_due p)) other ∙ before
-        ])
+      let before = all p (pair_at content dropped p (other_stands content.standing m n can.two Cancelled p.number not_m not_n) pair) in
+      elim (cases_Bool (same_place old_place p)) [
+        | inl same ↦ absurd (not_n (sym (ap (λ (q : Place). q.number) (same_is_place old_place p same))))
+        | inr other ↦ ap (λ b. cond b false (is_due p)) other ∙ before
+      ])
 
 pub drops_pair : (old s2 new : Database) (m n : ℕ) → IsDesk old → (can : CanCancelPair (content_in old) m n) → new.schema ≡ desk_schema → StandBoth old s2 m n Cancelled
     → DueChanged s2 new (due_at (is_due_in s2) (record { day = number_of can.later.instruction.day; number = n }) false) → Becomes new (pair_cancelled m n (content_in old))

@@ -3,7 +3,7 @@
 use crate::fault::{fallen, fault_of, told};
 use crate::sql_register::SqlRegister;
 use crate::undoing::take_back;
-use crate::{cancelling, looking, sending};
+use crate::{cancelling, looking, pairing, sending};
 use desk_codes::{AccountId, Bic, Ccy, Day, Isin, Reference};
 use desk_msg::{Instruction, Kind};
 use desk_register::{Fault, Holding, Outcome, Register, Stage};
@@ -264,9 +264,12 @@ impl<S: Alter> Register for SqlRegister<S> {
         Err(Fault::Memory)
     }
 
-    fn pair(&mut self, _alloc: Global, _earlier: u64, _later: u64) -> Result<(), Fault> {
-        self.stage = fallen(self.stage);
-        Err(Fault::Memory)
+    fn pair(&mut self, alloc: Global, earlier: u64, later: u64) -> Result<(), Fault> {
+        told(
+            pairing::pair(&mut self.conn, alloc, earlier, later),
+            &mut self.stage,
+            &mut self.failures,
+        )
     }
 
     fn settle_pair(&mut self, _alloc: Global, _number: u64, _day: Day) -> Result<Outcome, Fault> {
@@ -282,9 +285,12 @@ impl<S: Alter> Register for SqlRegister<S> {
         )
     }
 
-    fn cancel_pair(&mut self, _alloc: Global, _earlier: u64, _later: u64) -> Result<(), Fault> {
-        self.stage = fallen(self.stage);
-        Err(Fault::Memory)
+    fn cancel_pair(&mut self, alloc: Global, earlier: u64, later: u64) -> Result<(), Fault> {
+        told(
+            pairing::cancel_pair(&mut self.conn, alloc, earlier, later),
+            &mut self.stage,
+            &mut self.failures,
+        )
     }
 
     fn send(&mut self, _alloc: Global, message: Sent) -> Result<(), Fault> {
