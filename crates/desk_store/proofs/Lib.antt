@@ -10,3 +10,4 @@ pub mod WriteLemmas
 pub mod StandingContent
 pub mod BothContent
 pub mod PairCalls
+pub mod OnceLemmas

@@ -66,6 +66,7 @@ module _ (old new : Database) (message : Sent) (desk : IsDesk old) (adds : Adds 
     due_all = λ place pair. subst (λ f. f place ≡ true) (sym (same_due_in new old e12)) (desk.due_all place (same_pair (with_sent message (content_in old)) (content_in old) refl refl place pair));
     sent = adds.sent;
     totals = same_sums new (content_in old) (with_sent message (content_in old)) refl refl refl (same_total_parts old new amounts (content_in old) desk.totals);
+    registered = desk.registered;
     named = desk.named;
   }
 

@@ -65,6 +65,7 @@ standings_alone old new standing desk so =
       due_all = so.due_all;
       sent = same_sent old new so.messages (content_in old).sent desk.sent;
       totals = same_sums new (content_in old) (standing_so (content_in old) standing) refl refl refl (same_total_parts old new amounts (content_in old) desk.totals);
+      registered = desk.registered;
       named = desk.named;
     } in
     record { desk = subst (Keeps new) (sym content) keeps; content_is = content }

@@ -23,6 +23,7 @@ use Rattle.desk_standings.specs.Standings.{AreStandings}
 use Rattle.desk_unmatched.specs.Unmatched.{AreUnmatched}
 use Rattle.desk_tables.specs.Schema.{desk_schema}
 use Rattle.desk_store.specs.Content.{content_in}
+use Rattle.desk_store.specs.Registered.{AreRegisteredOnce}
 
 -- the instruction of a number, where it is unmatched
 abbrev pub if_unmatched : State → Option Instructed → Option Instructed
@@ -62,6 +63,7 @@ pub record Keeps (db : Database) (content : Content) : Type 0 where
   pub due_all : (place : Place) → IsMatchedPair content place → is_due_in db place ≡ true
   pub sent : AreSent db content.sent
   pub totals : AreTotals db content
+  pub registered : AreRegisteredOnce (history_of content)
   -- nothing is held of a security without a name
   pub named : (account : List ℕ) → content.position account [] ≡ 0
 

@@ -1,5 +1,6 @@
 pub mod RowsSaid
 pub mod Content
+pub mod Registered
 pub mod Holds
 pub mod Kept
 pub mod Undone
