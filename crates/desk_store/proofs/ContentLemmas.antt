@@ -5,7 +5,7 @@ use Rattle.desk_amounts.specs.declared.key.Ledger.TheVariants.{Balance, Cash, To
 use Rattle.desk_amounts.proofs.AmountLemmas.{SameAmounts, same_recorded}
 use Rattle.desk_codes.specs.Currency.{letters_of}
 use Rattle.desk_codes.specs.declared.currency.Ccy.{Ccy}
-use Rattle.desk_rules.specs.Balances.{issued, redeemed}
+use Rattle.desk_rules.specs.Balances.{issued, paid_in, paid_out, redeemed}
 use Rattle.desk_rules.specs.Content.{CashBalances, Content, Positions, history_of}
 use Rattle.desk_rules.specs.declared.reply.Kept.{Kept}
 use Rattle.desk_rules.specs.declared.standing.Standing.{Standing}
@@ -34,6 +34,7 @@ pub same_total_parts : (old new : Database) → SameAmounts old new → (content
 same_total_parts old new same content totals = record {
   outstanding = λ isin. ap (λ n. redeemed (history_of content) isin + n) (same_outstanding old new same isin) ∙ totals.outstanding isin;
   paid = λ ccy. subst (IsPaid (history_of content) ccy) (sym (same_paid old new same ccy)) (totals.paid ccy);
+  paid_sum = λ ccy. ap (λ a. paid_out (history_of content) ccy + unwrap_or a 0) (same_paid old new same ccy) ∙ totals.paid_sum ccy;
   held = λ isin. totals.held isin ∙ sym (same_outstanding old new same isin);
   held_cash = λ ccy. totals.held_cash ccy ∙ ap (λ a. unwrap_or a 0) (sym (same_paid old new same ccy));
   no_stranger = totals.no_stranger;
@@ -58,6 +59,7 @@ pub same_sums : (db : Database) (a b : Content) → a.register ≡ b.register �
 same_sums db a b register position cash totals = record {
   outstanding = λ isin. subst (λ (r : List Kept). redeemed (map (λ kept. kept.entry) r) isin + outstanding_in db isin ≡ issued (map (λ kept. kept.entry) r) isin) register (totals.outstanding isin);
   paid = λ ccy. subst (λ (r : List Kept). IsPaid (map (λ kept. kept.entry) r) ccy (paid_in_table db ccy)) register (totals.paid ccy);
+  paid_sum = λ ccy. subst (λ (r : List Kept). paid_out (map (λ kept. kept.entry) r) ccy + unwrap_or (paid_in_table db ccy) 0 ≡ paid_in (map (λ kept. kept.entry) r) ccy) register (totals.paid_sum ccy);
   held = λ isin. held register position isin;
   held_cash = λ ccy. had register cash ccy;
   no_stranger = λ account isin none. stranger register position account isin none;

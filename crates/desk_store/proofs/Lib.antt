@@ -11,3 +11,9 @@ pub mod StandingContent
 pub mod BothContent
 pub mod PairCalls
 pub mod OnceLemmas
+pub mod RegisteredLemmas
+pub mod AppendedHistory
+pub mod AppendedTotals
+pub mod AppendedContent
+pub mod AppendedAmounts
+pub mod AppendedRow

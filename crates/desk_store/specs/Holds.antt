@@ -7,7 +7,7 @@ use Rattle.desk_rules.specs.declared.entry.Instructed.{Instructed}
 use Rattle.desk_rules.specs.declared.standing.State.{State}
 use Rattle.desk_rules.specs.declared.standing.State.TheVariants.{Unmatched}
 use Rattle.desk_rules.specs.declared.pair.Place.{Place}
-use Rattle.desk_rules.specs.Balances.{issued, redeemed}
+use Rattle.desk_rules.specs.Balances.{issued, paid_in, paid_out, redeemed}
 use Rattle.desk_rules.specs.Content.{Content, history_of}
 use Rattle.desk_rules.specs.Facts.{is_participant, owner_of}
 use Rattle.desk_rules.specs.History.{instruction_at}
@@ -44,6 +44,8 @@ paid_in_table db ccy = amount_in db Total (codes "currency") (letters_of ccy)
 pub record AreTotals (db : Database) (content : Content) : Type 0 where
   pub outstanding : (isin : List ℕ) → redeemed (history_of content) isin + outstanding_in db isin ≡ issued (history_of content) isin
   pub paid : (ccy : Ccy) → IsPaid (history_of content) ccy (paid_in_table db ccy)
+  -- what was paid out is never more than what was paid in
+  pub paid_sum : (ccy : Ccy) → paid_out (history_of content) ccy + unwrap_or (paid_in_table db ccy) 0 ≡ paid_in (history_of content) ccy
   pub held : (isin : List ℕ) → held_of content isin ≡ outstanding_in db isin
   pub held_cash : (ccy : Ccy) → held_cash_of content ccy ≡ unwrap_or (paid_in_table db ccy) 0
   pub no_stranger : (account isin : List ℕ) → owner_of (history_of content) account ≡ None → content.position account isin ≡ 0

@@ -2,7 +2,9 @@ pub mod RowsSaid
 pub mod Content
 pub mod Registered
 pub mod Holds
+pub mod Appending
 pub mod Kept
 pub mod Undone
 pub mod Told
 pub mod Pairs
+pub mod Made

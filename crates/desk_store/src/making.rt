@@ -1,0 +1,43 @@
+//! A register is made in a database that has no table.
+ghost use Rattle.std.specs.Prelude.{◌≡◌, ◌≤◌, [], false, true, IsTrue, IfOk, OnOk};
+ghost use Rattle.sqlite.specs.State.{HasCleanDisk};
+ghost use Rattle.sqlite.specs.Held.{state};
+ghost use Rattle.sqlite.specs.Steps.{over_memory};
+ghost use Rattle.desk_register.specs.Changes.{empty_content};
+ghost use Rattle.desk_register.specs.declared.register.Stage.TheVariants.{Idle};
+ghost use Rattle.desk_rules.specs.declared.limits.TheConstants.{MOST_ENTRIES};
+ghost use Rattle.desk_tables.specs.Control.{Begins};
+ghost use Rattle.desk_tables.specs.Ends.{IsLater};
+ghost use Rattle.desk_tables.specs.Making.{IsEmpty};
+ghost use Rattle.desk_tables.specs.Schema.{no_schema};
+ghost use Rattle.desk_store.specs.Content.{content_in};
+ghost use Rattle.desk_store.specs.Kept.{shown};
+ghost use Rattle.desk_store.specs.Made.{IsBlank, IsMade};
+
+use crate::sql_register::SqlRegister;
+use desk_register::Stage;
+use desk_sent::set_version;
+use desk_tables::control::commit;
+use desk_tables::making::make_tables;
+use sqlite::{Alter, Connection, Error, MemStore};
+use std::alloc::Global;
+
+/// Begins the transaction in which the tables are made: where there are none yet, `begin` of the desk's tables says nothing.
+fn begin_making<S: Alter>(conn: &mut Connection<S>) -> Result<usize, Error>
+    ensures ok { HasCleanDisk (state S.Store conn.new) → IsTrue (state S.Store conn.old).is_open → (state S.Store conn.old).now.schema ≡ no_schema → OnOk result (Begins (state S.Store conn.old) (state S.Store conn.new)) }
+    ensures later { IsLater (state S.Store conn.old) (state S.Store conn.new) }
+{
+    conn.execute("BEGIN", &[])
+}
+
+/// Makes the tables, in one transaction, and says their version.
+fn make<S: Alter>(conn: &mut Connection<S>) -> Result<(), Error>
+    ensures made { HasCleanDisk (state S.Store conn.new) → IsTrue (state S.Store conn.old).is_open → IsBlank (state S.Store conn.old) → OnOk result (IsMade (state S.Store conn.new)) }
+    ensures later { IsLater (state S.Store conn.old) (state S.Store conn.new) }
+{
+    begin_making(conn)?;
+    make_tables(conn)?;
+    set_version(conn)?;
+    commit(conn)?;
+    Ok(())
+}
