@@ -162,8 +162,8 @@ module _ (content : Content) (e : Entry) (reply : Reply) where
   pub pair_before : (place : Place) → IsMatchedPair after place → IsMatchedPair content place
   pair_before place pair = elim (cases_Bool (place.number == last)) [
     | inl here ↦ absurd (
-      let first : (first_standing e).state ≡ Matched pair.reason = ap (λ (s : Standing). s.state) (sym (stands_last place.number here)) ∙ pair.matched in
-      elim (never_matched e (Matched pair.reason) first) [ inl bad ↦ (let it : ⊥ = cc in it) | inr bad ↦ (let it : ⊥ = cc in it) ])
+        let first : (first_standing e).state ≡ Matched pair.reason = ap (λ (s : Standing). s.state) (sym (stands_last place.number here)) ∙ pair.matched in
+        elim (never_matched e (Matched pair.reason) first) [ inl bad ↦ (let it : ⊥ = cc in it) | inr bad ↦ (let it : ⊥ = cc in it) ])
     | inr apart ↦
         let stands = stands_front place.number apart in
         record {

@@ -318,36 +318,36 @@ paid_allows (Run reference day rule) content paid fits sum = tt
 module _ (old new : Database) (content : Content) (totals : AreTotals old content) (registered : AreRegisteredOnce (history_of content)) (e : Entry) (reply : Reply) (founded : IsFounded (history_of content) e) (fits : BalancesAllow e content)
     (more : TotalsMore old new e)
   where
-  abbrev now : Content
-  now = appended e reply content
+    abbrev now : Content
+    now = appended e reply content
 
-  up : AddsUp now
-  up = adds_up_more content (adds_up old content totals registered) e reply founded fits
+    up : AddsUp now
+    up = adds_up_more content (adds_up old content totals registered) e reply founded fits
 
-  outstanding : (isin : List ℕ) → redeemed (history_of now) isin + outstanding_in new isin ≡ issued (history_of now) isin
-  outstanding isin =
-      let longer_in = sum_by_push (issued_by (movement_of isin)) (history_of content) e in
-      let longer_out = sum_by_push (redeemed_by (movement_of isin)) (history_of content) e in
-      let was = totals.outstanding isin in
-      let step = more.outstanding isin in
-      subst (λ z. redeemed z isin + outstanding_in new isin ≡ issued z isin) (sym (longer content e reply)) (omega arith)
+    outstanding : (isin : List ℕ) → redeemed (history_of now) isin + outstanding_in new isin ≡ issued (history_of now) isin
+    outstanding isin =
+        let longer_in = sum_by_push (issued_by (movement_of isin)) (history_of content) e in
+        let longer_out = sum_by_push (redeemed_by (movement_of isin)) (history_of content) e in
+        let was = totals.outstanding isin in
+        let step = more.outstanding isin in
+        subst (λ z. redeemed z isin + outstanding_in new isin ≡ issued z isin) (sym (longer content e reply)) (omega arith)
 
-  paid : (c : Ccy) → IsPaid (history_of now) c (paid_in_table new c) × (paid_out (history_of now) c + unwrap_or (paid_in_table new c) 0 ≡ paid_in (history_of now) c)
-  paid c =
-      let ends = paid_more (history_of content) c (paid_in_table old) (totals.paid c) (totals.paid_sum c) e (paid_allows e content (paid_in_table old) fits totals.paid_sum) in
-      subst (λ z. IsPaid z c (paid_in_table new c) × (paid_out z c + unwrap_or (paid_in_table new c) 0 ≡ paid_in z c)) (sym (longer content e reply))
-      (subst (λ o. IsPaid (history_of content ++ e ∷ []) c o × (paid_out (history_of content ++ e ∷ []) c + unwrap_or o 0 ≡ paid_in (history_of content ++ e ∷ []) c)) (sym (more.paid c)) ends)
+    paid : (c : Ccy) → IsPaid (history_of now) c (paid_in_table new c) × (paid_out (history_of now) c + unwrap_or (paid_in_table new c) 0 ≡ paid_in (history_of now) c)
+    paid c =
+        let ends = paid_more (history_of content) c (paid_in_table old) (totals.paid c) (totals.paid_sum c) e (paid_allows e content (paid_in_table old) fits totals.paid_sum) in
+        subst (λ z. IsPaid z c (paid_in_table new c) × (paid_out z c + unwrap_or (paid_in_table new c) 0 ≡ paid_in z c)) (sym (longer content e reply))
+        (subst (λ o. IsPaid (history_of content ++ e ∷ []) c o × (paid_out (history_of content ++ e ∷ []) c + unwrap_or o 0 ≡ paid_in (history_of content ++ e ∷ []) c)) (sym (more.paid c)) ends)
 
-  pub registered_more : AreRegisteredOnce (history_of now)
-  registered_more = up.registered
+    pub registered_more : AreRegisteredOnce (history_of now)
+    registered_more = up.registered
 
-  pub totals_more : AreTotals new now
-  totals_more = record {
-    outstanding = outstanding;
-    paid = λ c. (paid c).0;
-    paid_sum = λ c. (paid c).1;
-    held = λ isin. (let a = up.securities isin in let b = outstanding isin in omega arith);
-    held_cash = λ c. (let a = up.currencies c in let b = (paid c).1 in omega arith);
-    no_stranger = λ account isin none. up.no_other_account account isin (ap is_some none);
-    no_stranger_pays = up.no_other_participant;
-  }
+    pub totals_more : AreTotals new now
+    totals_more = record {
+      outstanding = outstanding;
+      paid = λ c. (paid c).0;
+      paid_sum = λ c. (paid c).1;
+      held = λ isin. (let a = up.securities isin in let b = outstanding isin in omega arith);
+      held_cash = λ c. (let a = up.currencies c in let b = (paid c).1 in omega arith);
+      no_stranger = λ account isin none. up.no_other_account account isin (ap is_some none);
+      no_stranger_pays = up.no_other_participant;
+    }

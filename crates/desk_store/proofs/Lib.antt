@@ -8,6 +8,7 @@ pub mod ContentLemmas
 pub mod SentContent
 pub mod WriteLemmas
 pub mod StandingContent
+pub mod EmptyContent
 pub mod BothContent
 pub mod PairCalls
 pub mod OnceLemmas

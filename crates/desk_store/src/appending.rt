@@ -18,11 +18,7 @@ use desk_rules::{Entry, Reply};
 use sqlite::{Alter, Connection, Error};
 
 /// Adds the row of an entry with its reply, and gives its number.
-fn add_row<S: Alter>(
-    conn: &mut Connection<S>,
-    entry: &Entry,
-    reply: &Reply,
-) -> Result<u64, Error>
+fn add_row<S: Alter>(conn: &mut Connection<S>, entry: &Entry, reply: &Reply) -> Result<u64, Error>
     ensures added { IfSound (state S.Store conn.old) (state S.Store conn.new) ((register : List Kept) → AreEntries (state S.Store conn.old).now register → IfOk result (λ number. (number ≡ length register + 1) × EntryAdded (state S.Store conn.old).now (state S.Store conn.new).now register entry.now reply.now)) }
     ensures small { IfOk result (λ number. number < 2 ^ 63) }
     ensures write { IsWrite result (state S.Store conn.old) (state S.Store conn.new) }

@@ -41,3 +41,54 @@ fn make<S: Alter>(conn: &mut Connection<S>) -> Result<(), Error>
     commit(conn)?;
     Ok(())
 }
+
+impl<S: Alter + Drop> SqlRegister<S> {
+    ghost use Rattle.desk_store.specs.Kept.{shown};
+    ghost use Rattle.sqlite.specs.Held.{state};
+
+    /// A register for at most `limit` entries, which are `MOST_ENTRIES` at most, in a database that has no table. Where its
+    /// tables cannot be made, the connection is given up, and the database is as it was.
+    pub fn new(mut conn: Connection<S>, limit: u64) -> Result<SqlRegister<S>, Error>
+        requires limit { limit ≤ MOST_ENTRIES }
+        requires open { HasCleanDisk (state S.Store conn) → IsTrue (state S.Store conn).is_open }
+        requires blank { HasCleanDisk (state S.Store conn) → IsBlank (state S.Store conn) }
+        ensures empty { IfOk result (λ r. HasCleanDisk (state S.Store r.connection) → (shown (state S.Store r.connection) r.stage r.failures r.room).content ≡ empty_content) }
+        ensures sure { IfOk result (λ r. HasCleanDisk (state S.Store r.connection) → (shown (state S.Store r.connection) r.stage r.failures r.room).is_sure) }
+        ensures limit { IfOk result (λ r. r.room ≡ limit) }
+        ensures stage { IfOk result (λ r. r.stage ≡ Stage.Idle) }
+    {
+        make(&mut conn)?;
+        Ok(SqlRegister {
+            conn,
+            stage: Stage::Idle,
+            failures: 0,
+            limit,
+        })
+    }
+
+    /// The connection, handed back.
+    pub fn into_connection(self) -> Connection<S>
+        ensures { result ≡ self.connection }
+    {
+        self.conn
+    }
+}
+
+impl SqlRegister<MemStore> {
+    ghost use Rattle.desk_store.specs.Kept.{shown};
+    ghost use Rattle.sqlite.specs.Held.{state};
+    ghost use Rattle.sqlite.specs.Steps.{over_memory};
+
+    /// A register in memory, which holds nothing, for at most `limit` entries, which are `MOST_ENTRIES` at most.
+    pub fn in_memory(alloc: Global, limit: u64) -> Result<SqlRegister<MemStore>, Error>
+        requires { limit ≤ MOST_ENTRIES }
+        ensures empty { IfOk result (λ r. (shown (state over_memory r.connection) r.stage r.failures r.room).content ≡ empty_content) }
+        ensures sure { IfOk result (λ r. (shown (state over_memory r.connection) r.stage r.failures r.room).is_sure) }
+        ensures honest { IfOk result (λ r. (shown (state over_memory r.connection) r.stage r.failures r.room).is_honest) }
+        ensures limit { IfOk result (λ r. r.room ≡ limit) }
+        ensures stage { IfOk result (λ r. r.stage ≡ Stage.Idle) }
+    {
+        let conn = Connection::open_in_memory(alloc)?;
+        SqlRegister::new(conn, limit)
+    }
+}

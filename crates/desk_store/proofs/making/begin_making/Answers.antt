@@ -1,0 +1,7 @@
+use Rattle.std.proofs.Common.{[]}
+use Rattle.sqlite.specs.Held.{state}
+use Rattle.desk_store.proofs.EmptyContent.{begun_making}
+use Rattle.desk_store.proofs.making.begin_making.Goals as goal
+
+pub returns-clause-ok : goal.returns-clause-ok
+returns-clause-ok g c clean is_open has = begun_making (state g.S.Store c.args.conn.now) (state g.S.Store c.execute.new.self) has c.execute.result (c.execute.ensures.runs clean)
