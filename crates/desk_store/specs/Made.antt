@@ -1,15 +1,8 @@
--- A database with no table, and what is made in it.
+-- What is made in a database with no table.
 use Rattle.std.specs.Prelude.{◌≡◌, [], false, IsTrue}
 use Rattle.sqlite.specs.State.{State}
 use Rattle.desk_register.specs.Changes.{empty_content}
-use Rattle.desk_tables.specs.Schema.{no_schema}
 use Rattle.desk_store.specs.Holds.{Becomes}
-
--- no table is there, and no transaction is open
-pub record IsBlank (s : State) : Type 0 where
-  pub schema : s.now.schema ≡ no_schema
-  pub mode : s.in_transaction ≡ false
-  pub marks : s.marks ≡ []
 
 -- the desk's tables are there and committed, and say nothing
 pub record IsMade (s : State) : Type 0 where

@@ -12,14 +12,14 @@ ghost use Rattle.desk_tables.specs.Making.{IsEmpty};
 ghost use Rattle.desk_tables.specs.Schema.{no_schema};
 ghost use Rattle.desk_store.specs.Content.{content_in};
 ghost use Rattle.desk_store.specs.Kept.{shown};
-ghost use Rattle.desk_store.specs.Made.{IsBlank, IsMade};
+ghost use Rattle.desk_store.specs.Made.{IsMade};
 
 use crate::sql_register::SqlRegister;
 use desk_register::Stage;
 use desk_sent::set_version;
 use desk_tables::control::commit;
 use desk_tables::making::make_tables;
-use sqlite::{Alter, Connection, Error, MemStore};
+use sqlite::{Alter, Connection, Error, ErrorCode, MemStore};
 use std::alloc::Global;
 
 /// Begins the transaction in which the tables are made: where there are none yet, `begin` of the desk's tables says nothing.
@@ -30,9 +30,19 @@ fn begin_making<S: Alter>(conn: &mut Connection<S>) -> Result<usize, Error>
     conn.execute("BEGIN", &[])
 }
 
+/// Whether a database has no table, no index and no view.
+fn has_no_table<S: Alter>(conn: &Connection<S>) -> bool
+    ensures { IsTrue result → (state S.Store conn.now).now.schema ≡ no_schema }
+{
+    let schema = conn.schema();
+    schema.tables.as_slice().is_empty()
+        && schema.indexes.as_slice().is_empty()
+        && schema.views.as_slice().is_empty()
+}
+
 /// Makes the tables, in one transaction, and says their version.
 fn make<S: Alter>(conn: &mut Connection<S>) -> Result<(), Error>
-    ensures made { HasCleanDisk (state S.Store conn.new) → IsTrue (state S.Store conn.old).is_open → IsBlank (state S.Store conn.old) → OnOk result (IsMade (state S.Store conn.new)) }
+    ensures made { HasCleanDisk (state S.Store conn.new) → IsTrue (state S.Store conn.old).is_open → (state S.Store conn.old).now.schema ≡ no_schema → OnOk result (IsMade (state S.Store conn.new)) }
     ensures later { IsLater (state S.Store conn.old) (state S.Store conn.new) }
 {
     begin_making(conn)?;
@@ -46,17 +56,20 @@ impl<S: Alter + Drop> SqlRegister<S> {
     ghost use Rattle.desk_store.specs.Kept.{shown};
     ghost use Rattle.sqlite.specs.Held.{state};
 
-    /// A register for at most `limit` entries, which are `MOST_ENTRIES` at most, in a database that has no table. Where its
-    /// tables cannot be made, the connection is given up, and the database is as it was.
+    /// A register for at most `limit` entries, which are `MOST_ENTRIES` at most, in a database that has no table, index or
+    /// view; any other, one in which a transaction is open too, is refused. Where the tables cannot be made, the connection
+    /// is given up, and the database is as it was.
     pub fn new(mut conn: Connection<S>, limit: u64) -> Result<SqlRegister<S>, Error>
         requires limit { limit ≤ MOST_ENTRIES }
         requires open { HasCleanDisk (state S.Store conn) → IsTrue (state S.Store conn).is_open }
-        requires blank { HasCleanDisk (state S.Store conn) → IsBlank (state S.Store conn) }
         ensures empty { IfOk result (λ r. HasCleanDisk (state S.Store r.connection) → (shown (state S.Store r.connection) r.stage r.failures r.room).content ≡ empty_content) }
         ensures sure { IfOk result (λ r. HasCleanDisk (state S.Store r.connection) → (shown (state S.Store r.connection) r.stage r.failures r.room).is_sure) }
         ensures limit { IfOk result (λ r. r.room ≡ limit) }
         ensures stage { IfOk result (λ r. r.stage ≡ Stage.Idle) }
     {
+        if !has_no_table(&conn) {
+            return Err(Error::SqliteFailure(ErrorCode::CannotOpen));
+        }
         make(&mut conn)?;
         Ok(SqlRegister {
             conn,
