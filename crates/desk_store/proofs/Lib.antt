@@ -18,3 +18,4 @@ pub mod AppendedTotals
 pub mod AppendedContent
 pub mod AppendedAmounts
 pub mod AppendedRow
+pub mod AppendedMoves

@@ -13,9 +13,11 @@ ghost use Rattle.desk_store.specs.Content.{content_in};
 ghost use Rattle.desk_store.specs.Holds.{Becomes, IsDesk};
 
 use crate::numbers::checked;
+use desk_amounts::{AmountKey, put, take};
+use desk_codes::Isin;
 use desk_entries::{add_entry, entry_count};
-use desk_rules::{Entry, Reply};
-use sqlite::{Alter, Connection, Error};
+use desk_rules::{Entry, Movement, Payment, Reply};
+use sqlite::{Alter, Connection, Error, ErrorCode};
 
 /// Adds the row of an entry with its reply, and gives its number.
 fn add_row<S: Alter>(conn: &mut Connection<S>, entry: &Entry, reply: &Reply) -> Result<u64, Error>
@@ -40,4 +42,90 @@ fn append_alone<S: Alter>(
 {
     add_row(conn, entry, reply)?;
     Ok(())
+}
+
+/// Takes an amount off what is recorded under a key. Where there is less, the tables have broken their word.
+fn take_off<S: Alter>(conn: &mut Connection<S>, key: &AmountKey, amount: u64) -> Result<(), Error>
+    requires small { amount < 2 ^ 63 }
+    ensures changed { IfSound (state S.Store conn.old) (state S.Store conn.new) (AreAmounts (state S.Store conn.old).now → OnOk result ((amount ≤ had (state S.Store conn.old).now key.now) × SetsAmount (state S.Store conn.old).now (state S.Store conn.new).now key.now (had (state S.Store conn.old).now key.now - amount))) }
+    ensures write { IsWrite result (state S.Store conn.old) (state S.Store conn.new) }
+{
+    if take(conn, key, amount)? {
+        Ok(())
+    } else {
+        Err(Error::SqliteFailure(ErrorCode::DatabaseCorrupt))
+    }
+}
+
+/// No ISIN is an empty text.
+fn named(isin: Isin)
+    ensures { length isin ≡ 12 }
+{
+    let _ = isin.as_bytes();
+}
+
+/// Adds an issue, and puts its quantity on the account and on what is outstanding.
+fn append_issue<S: Alter>(
+    conn: &mut Connection<S>,
+    movement: &Movement,
+    reply: &Reply,
+) -> Result<(), Error>
+    ensures changed { IfSound (state S.Store conn.old) (state S.Store conn.new) (IsDesk (state S.Store conn.old).now → (room : ℕ) → CanAppend room (Issue movement.now) reply.now (content_in (state S.Store conn.old).now) → OnOk result (Becomes (state S.Store conn.new).now (appended (Issue movement.now) reply.now (content_in (state S.Store conn.old).now)))) }
+    ensures write { IsWrite result (state S.Store conn.old) (state S.Store conn.new) }
+{
+    named(movement.isin);
+    let held = AmountKey::Balance(movement.account, movement.isin);
+    let outstanding = AmountKey::Security(movement.isin);
+    add_row(conn, &Entry::Issue(*movement), reply)?;
+    put(conn, &held, movement.quantity)?;
+    put(conn, &outstanding, movement.quantity)
+}
+
+/// Adds a redemption, and takes its quantity off the account and off what is outstanding.
+fn append_redeem<S: Alter>(
+    conn: &mut Connection<S>,
+    movement: &Movement,
+    reply: &Reply,
+) -> Result<(), Error>
+    ensures changed { IfSound (state S.Store conn.old) (state S.Store conn.new) (IsDesk (state S.Store conn.old).now → (room : ℕ) → CanAppend room (Redeem movement.now) reply.now (content_in (state S.Store conn.old).now) → OnOk result (Becomes (state S.Store conn.new).now (appended (Redeem movement.now) reply.now (content_in (state S.Store conn.old).now)))) }
+    ensures write { IsWrite result (state S.Store conn.old) (state S.Store conn.new) }
+{
+    named(movement.isin);
+    let held = AmountKey::Balance(movement.account, movement.isin);
+    let outstanding = AmountKey::Security(movement.isin);
+    add_row(conn, &Entry::Redeem(*movement), reply)?;
+    take_off(conn, &held, movement.quantity)?;
+    take_off(conn, &outstanding, movement.quantity)
+}
+
+/// Adds a pay in, and puts its amount on the participant's balance and on what is paid of the currency.
+fn append_pay_in<S: Alter>(
+    conn: &mut Connection<S>,
+    payment: &Payment,
+    reply: &Reply,
+) -> Result<(), Error>
+    ensures changed { IfSound (state S.Store conn.old) (state S.Store conn.new) (IsDesk (state S.Store conn.old).now → (room : ℕ) → CanAppend room (PayIn payment.now) reply.now (content_in (state S.Store conn.old).now) → OnOk result (Becomes (state S.Store conn.new).now (appended (PayIn payment.now) reply.now (content_in (state S.Store conn.old).now)))) }
+    ensures write { IsWrite result (state S.Store conn.old) (state S.Store conn.new) }
+{
+    let cash = AmountKey::Cash(payment.bic, payment.ccy);
+    let paid = AmountKey::Currency(payment.ccy);
+    add_row(conn, &Entry::PayIn(*payment), reply)?;
+    put(conn, &cash, payment.amount)?;
+    put(conn, &paid, payment.amount)
+}
+
+/// Adds a pay out, and takes its amount off the participant's balance and off what is paid of the currency.
+fn append_pay_out<S: Alter>(
+    conn: &mut Connection<S>,
+    payment: &Payment,
+    reply: &Reply,
+) -> Result<(), Error>
+    ensures changed { IfSound (state S.Store conn.old) (state S.Store conn.new) (IsDesk (state S.Store conn.old).now → (room : ℕ) → CanAppend room (PayOut payment.now) reply.now (content_in (state S.Store conn.old).now) → OnOk result (Becomes (state S.Store conn.new).now (appended (PayOut payment.now) reply.now (content_in (state S.Store conn.old).now)))) }
+    ensures write { IsWrite result (state S.Store conn.old) (state S.Store conn.new) }
+{
+    let cash = AmountKey::Cash(payment.bic, payment.ccy);
+    let paid = AmountKey::Currency(payment.ccy);
+    add_row(conn, &Entry::PayOut(*payment), reply)?;
+    take_off(conn, &cash, payment.amount)?;
+    take_off(conn, &paid, payment.amount)
 }
