@@ -1,7 +1,9 @@
 -- What is made in a database with no table.
-use Rattle.std.specs.Prelude.{◌≡◌, [], false, IsTrue}
+use Rattle.std.specs.Prelude.{◌≡◌, [], false, IsTrue, Some}
 use Rattle.sqlite.specs.State.{State}
 use Rattle.desk_register.specs.Changes.{empty_content}
+use Rattle.desk_sent.specs.declared.versions.TheConstants.{VERSION}
+use Rattle.desk_sent.specs.Version.{HasVersion}
 use Rattle.desk_store.specs.Holds.{Becomes}
 
 -- the desk's tables are there and committed, and say nothing
@@ -9,5 +11,6 @@ pub record IsMade (s : State) : Type 0 where
   pub is_open : IsTrue s.is_open
   pub settled : s.now ≡ s.committed
   pub empty : Becomes s.now empty_content
+  pub version : HasVersion s.now (Some VERSION)
   pub mode : s.in_transaction ≡ false
   pub marks : s.marks ≡ []

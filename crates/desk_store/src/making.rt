@@ -1,5 +1,7 @@
 //! A register is made in a database that has no table.
-ghost use Rattle.std.specs.Prelude.{◌≡◌, ◌≤◌, [], false, true, IsTrue, IfOk, OnOk};
+ghost use Rattle.desk_sent.specs.declared.versions.TheConstants.{VERSION};
+ghost use Rattle.desk_sent.specs.Version.{HasVersion};
+ghost use Rattle.std.specs.Prelude.{Some, ◌≡◌, ◌≤◌, [], false, true, IsTrue, IfOk, OnOk};
 ghost use Rattle.sqlite.specs.State.{HasCleanDisk};
 ghost use Rattle.sqlite.specs.Held.{state};
 ghost use Rattle.sqlite.specs.Steps.{over_memory};
@@ -63,6 +65,7 @@ impl<S: Alter + Drop> SqlRegister<S> {
         requires limit { limit ≤ MOST_ENTRIES }
         requires open { HasCleanDisk (state S.Store conn) → IsTrue (state S.Store conn).is_open }
         ensures empty { IfOk result (λ r. HasCleanDisk (state S.Store r.connection) → (shown (state S.Store r.connection) r.stage r.failures r.room).content ≡ empty_content) }
+        ensures version { IfOk result (λ r. HasCleanDisk (state S.Store r.connection) → HasVersion (state S.Store r.connection).now (Some VERSION)) }
         ensures sure { IfOk result (λ r. HasCleanDisk (state S.Store r.connection) → (shown (state S.Store r.connection) r.stage r.failures r.room).is_sure) }
         ensures limit { IfOk result (λ r. r.room ≡ limit) }
         ensures stage { IfOk result (λ r. r.stage ≡ Stage.Idle) }

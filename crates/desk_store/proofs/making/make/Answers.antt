@@ -1,7 +1,9 @@
-use Rattle.std.proofs.Common.{◌≡◌, ◌∙◌, arith, ap, sym, subst}
+use Rattle.std.proofs.Common.{◌≡◌, ◌∙◌, arith, ap, sym, subst, Some}
 use Rattle.sqlite.specs.Held.{state}
 use Rattle.sqlite.specs.State.{HasCleanDisk}
 use Rattle.desk_register.specs.Changes.{empty_content}
+use Rattle.desk_sent.specs.declared.versions.TheConstants.{VERSION}
+use Rattle.desk_sent.specs.Version.{HasVersion}
 use Rattle.desk_sent.proofs.TableLemmas.{no_version}
 use Rattle.desk_tables.specs.Schema.{no_schema}
 use Rattle.desk_store.specs.Holds.{Becomes}
@@ -26,6 +28,7 @@ returns-clause-made g c clean is_open blank =
       is_open = done.is_open;
       settled = done.now ∙ sym done.committed;
       empty = subst (λ d. Becomes d empty_content) (sym done.now) (empty_becomes s3.now (version_empty s2.now s3.now made.empty stays.schema set));
+      version = subst (λ d. HasVersion d (Some VERSION)) (sym done.now) set.version;
       mode = done.mode;
       marks = done.marks;
     }
