@@ -19,3 +19,5 @@ pub mod AppendedContent
 pub mod AppendedAmounts
 pub mod AppendedRow
 pub mod AppendedMoves
+pub mod AppendedInstruction
+pub mod AppendedCancellation

@@ -5,6 +5,7 @@ use Rattle.std.proofs.lemmas.Bool.{both_ways, cases_lt, not-false}
 use Rattle.std.proofs.lemmas.List.Elements.{filter_map-append}
 use Rattle.std.proofs.lemmas.List.Folds.{list_any-append}
 use Rattle.std.proofs.lemmas.List.Sums.{sum_by_push}
+use Rattle.desk_msg.specs.declared.instruction.CancelOrder.{CancelOrder}
 use Rattle.desk_rules.specs.declared.entry.Entry.{Entry}
 use Rattle.desk_rules.specs.declared.entry.Entry.TheVariants.{Participant, Account, Security, Issue, Redeem, PayIn, PayOut, Instruct, Cancel, Run}
 use Rattle.desk_rules.specs.declared.entry.Instructed.{Instructed}
@@ -12,7 +13,7 @@ use Rattle.desk_rules.specs.Balances.{quantity_if}
 use Rattle.desk_rules.specs.Content.{Content, history_of}
 use Rattle.desk_rules.specs.Facts.{account_by, accounts_of, adds_participant, first_said, is_owner, is_participant, or_else, owner_by, owner_of, participant_by, participants_of}
 use Rattle.desk_rules.specs.History.{instructed, instruction_at, sender_of}
-use Rattle.desk_rules.specs.Verdict.{Check, is_from_stranger}
+use Rattle.desk_rules.specs.Verdict.{Check, is_from_stranger, named_by}
 use Rattle.desk_rules.proofs.Conservation.{if_false, if_true}
 use Rattle.desk_rules.proofs.HistoryLemmas.{entry_at-end, instruction_at-front, instruction_at-known}
 use Rattle.desk_register.specs.Checked.{checks_in, first_refusal}
@@ -54,6 +55,10 @@ module _ (content : Content) where
   -- where no refusal fits an entry
   passes : (e : Entry) → first_refusal (checks_in content e) ≡ None → AllPass (checks_in content e)
   passes e none = all_pass (checks_in content e) none
+
+  -- a cancellation that no refusal fits names an instruction
+  pub names_one : (sender : List ℕ) (order : CancelOrder) → first_refusal (checks_in content (Cancel sender order)) ≡ None → is_none (named_by (history_of content) sender order) ≡ false
+  names_one sender order none = (passes (Cancel sender order) none).0
 
   pub founded : (e : Entry) → is_from_stranger (history_of content) (sender_of e) ≡ false → first_refusal (checks_in content e) ≡ None → IsFounded (history_of content) e
   founded (Participant reference bic) known none = (passes (Participant reference bic) none).0

@@ -2,7 +2,7 @@
 ghost use Rattle.std.specs.Prelude.{◌≡◌, ℕ, ◌+◌, ◌-◌, ◌<◌, ◌≤◌, ◌^◌, List, length, IfOk, OnOk};
 ghost use Rattle.sqlite.specs.Held.{state};
 ghost use Rattle.desk_rules.specs.declared.reply.Kept.{Kept};
-ghost use Rattle.desk_rules.specs.declared.entry.Entry.TheVariants.{Instruct, Issue, PayIn, PayOut, Redeem};
+ghost use Rattle.desk_rules.specs.declared.entry.Entry.TheVariants.{Cancel, Instruct, Issue, PayIn, PayOut, Redeem};
 ghost use Rattle.desk_tables.specs.Ends.{IfSound, IsWrite};
 ghost use Rattle.desk_amounts.specs.Amounts.{AreAmounts};
 ghost use Rattle.desk_amounts.specs.Changes.{SetsAmount, had};
@@ -12,12 +12,16 @@ ghost use Rattle.desk_store.specs.Appending.{IsAlone};
 ghost use Rattle.desk_store.specs.Content.{content_in};
 ghost use Rattle.desk_store.specs.Holds.{Becomes, IsDesk};
 
-use crate::numbers::checked;
+use crate::numbers::{checked, corrupt};
 use desk_amounts::{AmountKey, put, take};
-use desk_codes::Isin;
+use desk_codes::{Bic, Isin};
 use desk_entries::{add_entry, entry_count};
-use desk_rules::{Entry, Movement, Payment, Reply};
-use sqlite::{Alter, Connection, Error, ErrorCode};
+use desk_finding::number_of;
+use desk_msg::CancelOrder;
+use desk_rules::{Entry, Instructed, Movement, Payment, Reply, Sender};
+use desk_standings::standings::{add_standing, ask};
+use desk_unmatched::unmatched::note_unmatched;
+use sqlite::{Alter, Connection, Error};
 
 /// Adds the row of an entry with its reply, and gives its number.
 fn add_row<S: Alter>(conn: &mut Connection<S>, entry: &Entry, reply: &Reply) -> Result<u64, Error>
@@ -26,7 +30,7 @@ fn add_row<S: Alter>(conn: &mut Connection<S>, entry: &Entry, reply: &Reply) -> 
     ensures write { IsWrite result (state S.Store conn.old) (state S.Store conn.new) }
 {
     let count = entry_count(conn)?;
-    let number = checked(count)? + 1;
+    let number = checked(count.saturating_add(1))?;
     add_entry(conn, number, entry, reply)?;
     Ok(number)
 }
@@ -53,7 +57,7 @@ fn take_off<S: Alter>(conn: &mut Connection<S>, key: &AmountKey, amount: u64) ->
     if take(conn, key, amount)? {
         Ok(())
     } else {
-        Err(Error::SqliteFailure(ErrorCode::DatabaseCorrupt))
+        Err(corrupt())
     }
 }
 
@@ -128,4 +132,45 @@ fn append_pay_out<S: Alter>(
     add_row(conn, &Entry::PayOut(*payment), reply)?;
     take_off(conn, &cash, payment.amount)?;
     take_off(conn, &paid, payment.amount)
+}
+
+/// Adds an instruction, which is unmatched yet.
+fn append_instruct<S: Alter>(
+    conn: &mut Connection<S>,
+    instructed: &Instructed,
+    reply: &Reply,
+) -> Result<(), Error>
+    ensures changed { IfSound (state S.Store conn.old) (state S.Store conn.new) (IsDesk (state S.Store conn.old).now → (room : ℕ) → CanAppend room (Instruct instructed.now.sender instructed.now.instruction) reply.now (content_in (state S.Store conn.old).now) → OnOk result (Becomes (state S.Store conn.new).now (appended (Instruct instructed.now.sender instructed.now.instruction) reply.now (content_in (state S.Store conn.old).now)))) }
+    ensures write { IsWrite result (state S.Store conn.old) (state S.Store conn.new) }
+{
+    let entry = Entry::Instruct {
+        sender: instructed.sender,
+        instruction: instructed.instruction,
+    };
+    let number = add_row(conn, &entry, reply)?;
+    add_standing(conn, number)?;
+    note_unmatched(conn, number, instructed)
+}
+
+/// Adds a cancellation, and notes the request at the instruction that it names: of those that can be added, each names
+/// one, by its sender and its reference.
+fn append_cancel<S: Alter>(
+    conn: &mut Connection<S>,
+    sender: Bic,
+    order: &CancelOrder,
+    reply: &Reply,
+) -> Result<(), Error>
+    ensures changed { IfSound (state S.Store conn.old) (state S.Store conn.new) (IsDesk (state S.Store conn.old).now → (room : ℕ) → CanAppend room (Cancel sender order.now) reply.now (content_in (state S.Store conn.old).now) → OnOk result (Becomes (state S.Store conn.new).now (appended (Cancel sender order.now) reply.now (content_in (state S.Store conn.old).now)))) }
+    ensures write { IsWrite result (state S.Store conn.old) (state S.Store conn.new) }
+{
+    let Some(number) = number_of(conn, Sender::Participant(sender), order.previous)? else {
+        return Err(corrupt());
+    };
+    let named = checked(number)?;
+    let entry = Entry::Cancel {
+        sender,
+        order: *order,
+    };
+    add_row(conn, &entry, reply)?;
+    ask(conn, named)
 }
