@@ -174,3 +174,35 @@ fn append_cancel<S: Alter>(
     add_row(conn, &entry, reply)?;
     ask(conn, named)
 }
+
+/// Adds an entry with its reply, and what it moves, asks for and waits for.
+pub fn append<S: Alter>(
+    conn: &mut Connection<S>,
+    entry: &Entry,
+    reply: &Reply,
+) -> Result<(), Error>
+    ensures changed { IfSound (state S.Store conn.old) (state S.Store conn.new) (IsDesk (state S.Store conn.old).now → (room : ℕ) → CanAppend room entry.now reply.now (content_in (state S.Store conn.old).now) → OnOk result (Becomes (state S.Store conn.new).now (appended entry.now reply.now (content_in (state S.Store conn.old).now)))) }
+    ensures write { IsWrite result (state S.Store conn.old) (state S.Store conn.new) }
+{
+    match entry {
+        Entry::Participant { .. }
+        | Entry::Account { .. }
+        | Entry::Security { .. }
+        | Entry::Run { .. } => append_alone(conn, entry, reply),
+        Entry::Issue(movement) => append_issue(conn, movement, reply),
+        Entry::Redeem(movement) => append_redeem(conn, movement, reply),
+        Entry::PayIn(payment) => append_pay_in(conn, payment, reply),
+        Entry::PayOut(payment) => append_pay_out(conn, payment, reply),
+        Entry::Instruct {
+            sender,
+            instruction,
+        } => {
+            let instructed = Instructed {
+                sender: *sender,
+                instruction: *instruction,
+            };
+            append_instruct(conn, &instructed, reply)
+        }
+        Entry::Cancel { sender, order } => append_cancel(conn, *sender, order, reply),
+    }
+}
