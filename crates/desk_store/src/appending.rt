@@ -176,11 +176,7 @@ fn append_cancel<S: Alter>(
 }
 
 /// Adds an entry with its reply, and what it moves, asks for and waits for.
-pub fn append<S: Alter>(
-    conn: &mut Connection<S>,
-    entry: &Entry,
-    reply: &Reply,
-) -> Result<(), Error>
+pub fn append<S: Alter>(conn: &mut Connection<S>, entry: &Entry, reply: &Reply) -> Result<(), Error>
     ensures changed { IfSound (state S.Store conn.old) (state S.Store conn.new) (IsDesk (state S.Store conn.old).now → (room : ℕ) → CanAppend room entry.now reply.now (content_in (state S.Store conn.old).now) → OnOk result (Becomes (state S.Store conn.new).now (appended entry.now reply.now (content_in (state S.Store conn.old).now)))) }
     ensures write { IsWrite result (state S.Store conn.old) (state S.Store conn.new) }
 {
