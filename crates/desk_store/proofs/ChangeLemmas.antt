@@ -128,3 +128,14 @@ changed_kept old new stage new_stage failures new_failures room {X = X} given re
 pub on_becomes : {X : Type 0} (db : Database) (content : Content) (r : Result X Error) → OnOk r (Becomes db content) → OnOk r (IsDesk db)
 on_becomes db content (Ok x) becomes = becomes.desk
 on_becomes db content (Err e) becomes = tt
+
+on_content : {X : Type 0} (db : Database) (content : Content) (r : Result X Error) → OnOk r (Becomes db content) → OnOk r (content_in db ≡ content)
+on_content db content (Ok x) becomes = becomes.content_is
+on_content db content (Err e) becomes = tt
+
+-- what the tables became is what the register holds
+pub told_content : (old new : State) (stage new_stage : Stage) (failures new_failures room : ℕ) {X : Type 0} (given : Result X Error) (result : Result X Fault) (content : Content) → stage ≡ Begun → IsKept old stage → IsWrite given old new
+    → IsTold given result stage new_stage failures new_failures → IfSound old new (IsDesk old.now → OnOk given (Becomes new.now content)) → HasCleanDisk new → IsTrue old.is_open → OnOk result (content_in new.now ≡ content)
+told_content old new stage new_stage failures new_failures room {X = X} given result content begun kept write told becomes =
+    on_told old new new_stage failures new_failures room given (subst (IsKept old) begun kept) write (content_in new.now ≡ content) result (subst (λ s. IsTold given result s new_stage failures new_failures) begun told)
+    (λ clean is_open has desk. on_content new.now content given (becomes clean is_open has desk))

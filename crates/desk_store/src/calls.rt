@@ -3,7 +3,7 @@
 use crate::fault::{fallen, fault_of, told};
 use crate::sql_register::SqlRegister;
 use crate::undoing::take_back;
-use crate::{cancelling, looking, pairing, sending};
+use crate::{appending, cancelling, looking, pairing, sending};
 use desk_codes::{AccountId, Bic, Ccy, Day, Isin, Reference};
 use desk_msg::{Instruction, Kind};
 use desk_register::{Fault, Holding, Outcome, Register, Stage};
@@ -259,9 +259,12 @@ impl<S: Alter> Register for SqlRegister<S> {
         )
     }
 
-    fn append(&mut self, _alloc: Global, _entry: Entry, _reply: Reply) -> Result<(), Fault> {
-        self.stage = fallen(self.stage);
-        Err(Fault::Memory)
+    fn append(&mut self, _alloc: Global, entry: Entry, reply: Reply) -> Result<(), Fault> {
+        told(
+            appending::append(&mut self.conn, &entry, &reply),
+            &mut self.stage,
+            &mut self.failures,
+        )
     }
 
     fn pair(&mut self, alloc: Global, earlier: u64, later: u64) -> Result<(), Fault> {
