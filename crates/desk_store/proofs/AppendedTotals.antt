@@ -36,36 +36,36 @@ pub record AddsUp (content : Content) : Type 0 where
 -- One balance changed, at each account and at each participant.
 
 module _ (position : Positions) (account isin a i : List ℕ) (q : ℕ) where
-  put_more : moved_to position account isin (position account isin + q) a i ≡ position a i + quantity_if (bytes_eq account a) (quantity_if (bytes_eq isin i) q)
+  pub put_more : moved_to position account isin (position account isin + q) a i ≡ position a i + quantity_if (bytes_eq account a) (quantity_if (bytes_eq isin i) q)
   put_more = more_at (position a i) (position account isin + q) q (bytes_eq account a) (bytes_eq isin i)
       (λ x y. let same : position account isin ≡ position a i = (λ k. position (same_bytes account a x k) (same_bytes isin i y k)) in omega arith)
 
-  put_less : q ≤ position account isin → moved_to position account isin (position account isin - q) a i + quantity_if (bytes_eq account a) (quantity_if (bytes_eq isin i) q) ≡ position a i
+  pub put_less : q ≤ position account isin → moved_to position account isin (position account isin - q) a i + quantity_if (bytes_eq account a) (quantity_if (bytes_eq isin i) q) ≡ position a i
   put_less le = less_at (position a i) (position account isin - q) q (bytes_eq account a) (bytes_eq isin i)
       (λ x y. let same : position account isin ≡ position a i = (λ k. position (same_bytes account a x k) (same_bytes isin i y k)) in omega arith)
 
 module _ (cash : CashBalances) (bic : List ℕ) (ccy : Ccy) (b : List ℕ) (c : Ccy) (q : ℕ) where
-  pay_more : cash_at cash bic ccy (cash bic ccy + q) b c ≡ cash b c + quantity_if (bytes_eq bic b) (quantity_if (same_ccy ccy c) q)
+  pub pay_more : cash_at cash bic ccy (cash bic ccy + q) b c ≡ cash b c + quantity_if (bytes_eq bic b) (quantity_if (same_ccy ccy c) q)
   pay_more = more_at (cash b c) (cash bic ccy + q) q (bytes_eq bic b) (same_ccy ccy c)
       (λ x y. let same : cash bic ccy ≡ cash b c = (λ k. cash (same_bytes bic b x k) (same_ccy-true ccy c y k)) in omega arith)
 
-  pay_less : q ≤ cash bic ccy → cash_at cash bic ccy (cash bic ccy - q) b c + quantity_if (bytes_eq bic b) (quantity_if (same_ccy ccy c) q) ≡ cash b c
+  pub pay_less : q ≤ cash bic ccy → cash_at cash bic ccy (cash bic ccy - q) b c + quantity_if (bytes_eq bic b) (quantity_if (same_ccy ccy c) q) ≡ cash b c
   pay_less le = less_at (cash b c) (cash bic ccy - q) q (bytes_eq bic b) (same_ccy ccy c)
       (λ x y. let same : cash bic ccy ≡ cash b c = (λ k. cash (same_bytes bic b x k) (same_ccy-true ccy c y k)) in omega arith)
 
 -- what stands elsewhere stays
-elsewhere : (account a isin i : List ℕ) (position : Positions) (new : ℕ) → bytes_eq account a ≡ false → moved_to position account isin new a i ≡ position a i
+pub elsewhere : (account a isin i : List ℕ) (position : Positions) (new : ℕ) → bytes_eq account a ≡ false → moved_to position account isin new a i ≡ position a i
 elsewhere account a isin i position new f = rw f refl
 
-cash_elsewhere : (bic b : List ℕ) (ccy c : Ccy) (cash : CashBalances) (new : ℕ) → bytes_eq bic b ≡ false → cash_at cash bic ccy new b c ≡ cash b c
+pub cash_elsewhere : (bic b : List ℕ) (ccy c : Ccy) (cash : CashBalances) (new : ℕ) → bytes_eq bic b ≡ false → cash_at cash bic ccy new b c ≡ cash b c
 cash_elsewhere bic b ccy c cash new f = rw f refl
 
 -- one that is registered is no other that is not
-apart : (is : List ℕ → Bool) (x y : List ℕ) → is x ≡ true → is y ≡ false → bytes_eq x y ≡ false
+pub apart : (is : List ℕ → Bool) (x y : List ℕ) → is x ≡ true → is y ≡ false → bytes_eq x y ≡ false
 apart is x y there none = by_bool (bytes_eq x y) (λ t. absurd (both_ways (is x) (ap is (same_bytes x y t) ∙ none) there)) (λ f. f)
 
 -- what stands once, where it is registered
-one_of : (is : List ℕ → Bool) (xs : List (List ℕ)) → ((x : List ℕ) → times_in xs x ≡ quantity_if (is x) 1) → (x : List ℕ) → is x ≡ true → times_in xs x ≡ 1
+pub one_of : (is : List ℕ → Bool) (xs : List (List ℕ)) → ((x : List ℕ) → times_in xs x ≡ quantity_if (is x) 1) → (x : List ℕ) → is x ≡ true → times_in xs x ≡ 1
 one_of is xs each x there = each x ∙ rw there refl
 
 -- One entry more.

@@ -21,3 +21,8 @@ pub mod AppendedRow
 pub mod AppendedMoves
 pub mod AppendedInstruction
 pub mod AppendedCancellation
+pub mod LegLemmas
+pub mod WithinLemmas
+pub mod TriedContent
+pub mod EndedContent
+pub mod TrialLemmas

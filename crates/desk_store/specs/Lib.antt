@@ -7,4 +7,5 @@ pub mod Kept
 pub mod Undone
 pub mod Told
 pub mod Pairs
+pub mod Settling
 pub mod Made

@@ -10,5 +10,6 @@ pub mod making;
 pub mod numbers;
 pub mod pairing;
 pub mod sending;
+pub mod settling;
 pub mod sql_register;
 pub mod undoing;

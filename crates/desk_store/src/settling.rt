@@ -1,0 +1,295 @@
+//! A matched pair is tried: it settles, or it lacks something.
+ghost use Rattle.std.specs.Prelude.{◌≡◌, ◌≢◌, ℕ, ◌+◌, ◌<◌, ◌^◌, [], true, Some, option_and_then, IfOk, OnOk};
+ghost use Rattle.sqlite.specs.Held.{state};
+ghost use Rattle.desk_codes.specs.Number.{number_of};
+ghost use Rattle.desk_tables.specs.Ends.{IfSound, IsLook, IsWrite, Stays};
+ghost use Rattle.desk_amounts.specs.Amounts.{AreAmounts};
+ghost use Rattle.desk_rules.specs.Content.{history_of};
+ghost use Rattle.desk_rules.specs.History.{instructed, instruction_at};
+ghost use Rattle.desk_register.specs.Changes.{CanSettle, FitsCash, IsPairAt, SidesFit, TriesPair, delivering_side, receiving_side};
+ghost use Rattle.desk_standings.specs.Due.{AreDue};
+ghost use Rattle.desk_standings.specs.Standings.{AreStandings};
+ghost use Rattle.desk_store.specs.Content.{content_in};
+ghost use Rattle.desk_store.specs.Holds.{IsDesk};
+ghost use Rattle.desk_store.specs.Pairs.{StandBoth};
+ghost use Rattle.desk_store.specs.Settling.{state_then, more_held, more_cash, AmountsSo, Closes, Frees, IsMarked, IsTrial, MovesBoth, MovesLegs, TakesCash, TakesHeld};
+
+use crate::looking::{entry, standing_of};
+use crate::numbers::corrupt;
+use crate::pairing::stand_both;
+use desk_amounts::{AmountKey, put, take};
+use desk_codes::{AccountId, Bic, Day, Isin};
+use desk_msg::{Cash, Reason};
+use desk_register::Outcome;
+use desk_rules::{Entry, Instructed, Lack, MOST_ENTRIES, State};
+use desk_standings::due::forget_due;
+use desk_tables::control::{go_back, release, save};
+use sqlite::{Alter, Connection, Error};
+use std::alloc::Global;
+
+/// Takes a quantity off an account, where it holds as much: true.
+fn take_held<S: Alter>(
+    conn: &mut Connection<S>,
+    account: AccountId,
+    isin: Isin,
+    quantity: u64,
+) -> Result<bool, Error>
+    requires some { 0 < quantity }
+    requires small { quantity < 2 ^ 63 }
+    ensures changed { IfSound (state S.Store conn.old) (state S.Store conn.new) (AreAmounts (state S.Store conn.old).now → IfOk result (TakesHeld (state S.Store conn.old).now (state S.Store conn.new).now account isin quantity)) }
+    ensures write { IsWrite result (state S.Store conn.old) (state S.Store conn.new) }
+{
+    take(conn, &AmountKey::Balance(account, isin), quantity)
+}
+
+/// Puts a quantity on an account.
+fn put_held<S: Alter>(
+    conn: &mut Connection<S>,
+    account: AccountId,
+    isin: Isin,
+    quantity: u64,
+) -> Result<(), Error>
+    requires small { quantity < 2 ^ 63 }
+    ensures changed { IfSound (state S.Store conn.old) (state S.Store conn.new) (AreAmounts (state S.Store conn.old).now → (content_in (state S.Store conn.old).now).position account isin + quantity < 2 ^ 63
+        → OnOk result (AmountsSo (state S.Store conn.old).now (state S.Store conn.new).now (more_held (content_in (state S.Store conn.old).now).position account isin quantity) (content_in (state S.Store conn.old).now).cash)) }
+    ensures write { IsWrite result (state S.Store conn.old) (state S.Store conn.new) }
+{
+    put(conn, &AmountKey::Balance(account, isin), quantity)
+}
+
+/// Takes the cash that is asked for off a participant, where it has as much, or where none is asked for: true.
+fn take_cash<S: Alter>(
+    conn: &mut Connection<S>,
+    bic: Bic,
+    asked: Option<Cash>,
+) -> Result<bool, Error>
+    ensures changed { IfSound (state S.Store conn.old) (state S.Store conn.new) (AreAmounts (state S.Store conn.old).now → IfOk result (TakesCash (state S.Store conn.old).now (state S.Store conn.new).now bic asked)) }
+    ensures write { IsWrite result (state S.Store conn.old) (state S.Store conn.new) }
+{
+    match asked {
+        None => Ok(true),
+        Some(Cash { ccy, amount, .. }) => take(conn, &AmountKey::Cash(bic, ccy), amount),
+    }
+}
+
+/// Puts the cash that is asked for on a participant's balance.
+fn put_cash<S: Alter>(
+    conn: &mut Connection<S>,
+    bic: Bic,
+    asked: Option<Cash>,
+) -> Result<(), Error>
+    ensures changed { IfSound (state S.Store conn.old) (state S.Store conn.new) (AreAmounts (state S.Store conn.old).now → FitsCash (content_in (state S.Store conn.old).now).cash bic asked
+        → OnOk result (AmountsSo (state S.Store conn.old).now (state S.Store conn.new).now (content_in (state S.Store conn.old).now).position (more_cash (content_in (state S.Store conn.old).now).cash bic asked))) }
+    ensures write { IsWrite result (state S.Store conn.old) (state S.Store conn.new) }
+{
+    match asked {
+        None => Ok(()),
+        Some(Cash { ccy, amount, .. }) => put(conn, &AmountKey::Cash(bic, ccy), amount),
+    }
+}
+
+/// The instruction of two that delivers.
+fn delivery<'a>(earlier: &'a Instructed, later: &'a Instructed) -> &'a Instructed
+    ensures { result.now ≡ delivering_side earlier.now later.now }
+{
+    if earlier.instruction.mt.is_delivery() {
+        return earlier;
+    }
+    later
+}
+
+/// The instruction of two that receives.
+fn receipt<'a>(earlier: &'a Instructed, later: &'a Instructed) -> &'a Instructed
+    ensures { result.now ≡ receiving_side earlier.now later.now }
+{
+    if earlier.instruction.mt.is_delivery() {
+        return later;
+    }
+    earlier
+}
+
+/// Moves the quantity of a pair from its deliverer's account to its receiver's, and its cash the other way. What is lacking
+/// is asked for first, securities before money; where money is, the quantity was taken, and is not put back here.
+fn move_legs<S: Alter>(
+    conn: &mut Connection<S>,
+    earlier: &Instructed,
+    later: &Instructed,
+) -> Result<Outcome, Error>
+    ensures changed { IfSound (state S.Store conn.old) (state S.Store conn.new) (AreAmounts (state S.Store conn.old).now → SidesFit (content_in (state S.Store conn.old).now) earlier.now later.now
+        → IfOk result (MovesLegs (state S.Store conn.old).now (state S.Store conn.new).now earlier.now later.now)) }
+    ensures write { IsWrite result (state S.Store conn.old) (state S.Store conn.new) }
+{
+    let from = delivery(earlier, later);
+    let to = receipt(earlier, later);
+    let isin = later.instruction.isin;
+    let quantity = later.instruction.quantity;
+    let cash = later.instruction.cash;
+    if !take_held(conn, from.instruction.account, isin, quantity)? {
+        return Ok(Outcome::Lacks(Lack::Securities));
+    }
+    if !take_cash(conn, to.sender, cash)? {
+        return Ok(Outcome::Lacks(Lack::Money));
+    }
+    put_held(conn, to.instruction.account, isin, quantity)?;
+    put_cash(conn, from.sender, cash)?;
+    Ok(Outcome::Settled)
+}
+
+/// Sets the savepoint of the pair, and moves both of its legs or none. The savepoint stays.
+fn move_both<S: Alter>(
+    conn: &mut Connection<S>,
+    earlier: &Instructed,
+    later: &Instructed,
+) -> Result<Outcome, Error>
+    ensures changed { IfSound (state S.Store conn.old) (state S.Store conn.new) (AreAmounts (state S.Store conn.old).now → SidesFit (content_in (state S.Store conn.old).now) earlier.now later.now
+        → (state S.Store conn.old).in_transaction ≡ true → (state S.Store conn.old).marks ≡ [] → IfOk result (MovesBoth (state S.Store conn.old).now (state S.Store conn.new).now earlier.now later.now)) }
+    ensures trial { IsTrial result (state S.Store conn.old) (state S.Store conn.new) (IsMarked (state S.Store conn.old) (state S.Store conn.new)) }
+{
+    save(conn)?;
+    let outcome = move_legs(conn, earlier, later)?;
+    if matches!(outcome, Outcome::Lacks(Lack::Money)) {
+        go_back(conn)?;
+    }
+    Ok(outcome)
+}
+
+/// How both instructions of a pair stand that has fared so.
+fn state_then(outcome: Outcome) -> State
+    ensures same { result ≡ state_then outcome }
+    ensures instruction { result ≢ State.NoInstruction }
+{
+    match outcome {
+        Outcome::Settled => State::Settled,
+        Outcome::Lacks(Lack::Securities) => State::Matched(Reason::Lack),
+        Outcome::Lacks(Lack::Money) => State::Matched(Reason::Money),
+    }
+}
+
+/// Lets a pair that is settled be due no more.
+fn free<S: Alter>(
+    conn: &mut Connection<S>,
+    day: Day,
+    number: u64,
+    outcome: Outcome,
+) -> Result<(), Error>
+    requires { number < 1_000_000_000 }
+    ensures changed { IfSound (state S.Store conn.old) (state S.Store conn.new) (AreDue (state S.Store conn.old).now → OnOk result (Frees (state S.Store conn.old).now (state S.Store conn.new).now (number_of day) number outcome)) }
+    ensures write { IsWrite result (state S.Store conn.old) (state S.Store conn.new) }
+{
+    match outcome {
+        Outcome::Settled => forget_due(conn, day, number),
+        Outcome::Lacks(_) => Ok(()),
+    }
+}
+
+/// A pair, by the numbers of its two instructions.
+#[derive(Clone, Copy, Debug, PartialEq, Eq)]
+pub struct FoundPair {
+    /// Of the earlier instruction
+    mate: u64,
+    /// Of the later one
+    number: u64,
+    earlier: Instructed,
+    later: Instructed,
+    ghost first: { 0 < mate },
+    ghost two: { mate < number },
+    ghost small: { number < 1_000_000_000 },
+}
+
+fn instructed_by(entry: Option<Entry>) -> Result<Instructed, Error>
+    ensures { IfOk result (λ i. option_and_then instructed entry ≡ Some i) }
+{
+    match entry {
+        Some(entry) => entry.instructed().ok_or(corrupt()),
+        None => Err(corrupt()),
+    }
+}
+
+/// The instruction of this number.
+fn instruction<S: Alter>(
+    conn: &mut Connection<S>,
+    alloc: Global,
+    number: u64,
+) -> Result<Instructed, Error>
+    ensures value { IfSound (state S.Store conn.old) (state S.Store conn.new) (IsDesk (state S.Store conn.old).now → IfOk result (λ i. instruction_at (history_of (content_in (state S.Store conn.old).now)) number ≡ Some i)) }
+    ensures look { IsLook result (state S.Store conn.old) (state S.Store conn.new) }
+{
+    let found = entry(conn, alloc, number)?;
+    instructed_by(found)
+}
+
+/// The number of the mate of an instruction.
+fn mate_of<S: Alter>(conn: &mut Connection<S>, number: u64) -> Result<u64, Error>
+    ensures value { IfSound (state S.Store conn.old) (state S.Store conn.new) (IsDesk (state S.Store conn.old).now → IfOk result (λ mate. ((content_in (state S.Store conn.old).now).standing number).mate ≡ Some mate)) }
+    ensures look { IsLook result (state S.Store conn.old) (state S.Store conn.new) }
+{
+    let standing = standing_of(conn, number)?;
+    match standing.mate {
+        Some(mate) => Ok(mate),
+        None => Err(corrupt()),
+    }
+}
+
+fn pair_of(mate: u64, number: u64, earlier: Instructed, later: Instructed) -> Result<FoundPair, Error>
+    ensures { IfOk result (λ p. (p.mate ≡ mate) × (p.number ≡ number) × (p.earlier ≡ earlier) × (p.later ≡ later)) }
+{
+    if 0 < mate && mate < number && number <= MOST_ENTRIES {
+        Ok(FoundPair {
+            mate,
+            number,
+            earlier,
+            later,
+        })
+    } else {
+        Err(corrupt())
+    }
+}
+
+/// The pair of the later instruction's number.
+fn pair_at<S: Alter>(
+    conn: &mut Connection<S>,
+    alloc: Global,
+    number: u64,
+) -> Result<FoundPair, Error>
+    ensures value { IfSound (state S.Store conn.old) (state S.Store conn.new) (IsDesk (state S.Store conn.old).now → IfOk result (λ p. (p.number ≡ number) × IsPairAt (content_in (state S.Store conn.old).now) number p.mate p.earlier p.later)) }
+    ensures look { IsLook result (state S.Store conn.old) (state S.Store conn.new) }
+{
+    let later = instruction(conn, alloc, number)?;
+    let mate = mate_of(conn, number)?;
+    let earlier = instruction(conn, alloc, mate)?;
+    pair_of(mate, number, earlier, later)
+}
+
+/// Lets both instructions of a pair stand as it fared.
+fn close<S: Alter>(
+    conn: &mut Connection<S>,
+    pair: &FoundPair,
+    outcome: Outcome,
+) -> Result<(), Error>
+    ensures changed { IfSound (state S.Store conn.old) (state S.Store conn.new) (AreStandings (state S.Store conn.old).now → AreDue (state S.Store conn.old).now
+        → OnOk result (Closes (state S.Store conn.old).now (state S.Store conn.new).now pair.now.mate pair.now.number (number_of pair.now.later.instruction.day) outcome)) }
+    ensures write { IsWrite result (state S.Store conn.old) (state S.Store conn.new) }
+{
+    stand_both(conn, pair.mate, pair.number, state_then(outcome))?;
+    free(conn, pair.later.instruction.day, pair.number, outcome)
+}
+
+/// Tries the matched pair of a number, due by a day: settles it, and moves its quantity between the accounts and its cash
+/// between the participants, where it is covered, else changes the reason alone. It works in a savepoint of its own, so it
+/// is of a transaction that has none.
+pub fn settle_pair<S: Alter>(
+    conn: &mut Connection<S>,
+    alloc: Global,
+    number: u64,
+    day: Day,
+) -> Result<Outcome, Error>
+    ensures changed { IfSound (state S.Store conn.old) (state S.Store conn.new) (IsDesk (state S.Store conn.old).now → CanSettle (content_in (state S.Store conn.old).now) number (number_of day)
+        → (state S.Store conn.old).in_transaction ≡ true → (state S.Store conn.old).marks ≡ [] → IfOk result (λ outcome. IsDesk (state S.Store conn.new).now × TriesPair (content_in (state S.Store conn.old).now) number outcome (content_in (state S.Store conn.new).now))) }
+    ensures trial { IsTrial result (state S.Store conn.old) (state S.Store conn.new) (Stays (state S.Store conn.old) (state S.Store conn.new)) }
+{
+    let pair = pair_at(conn, alloc, number)?;
+    let outcome = move_both(conn, &pair.earlier, &pair.later)?;
+    close(conn, &pair, outcome)?;
+    release(conn)?;
+    Ok(outcome)
+}
