@@ -3,7 +3,7 @@
 use crate::fault::{fallen, fault_of, told};
 use crate::sql_register::SqlRegister;
 use crate::undoing::take_back;
-use crate::{appending, cancelling, looking, pairing, sending};
+use crate::{appending, cancelling, looking, pairing, sending, settling};
 use desk_codes::{AccountId, Bic, Ccy, Day, Isin, Reference};
 use desk_msg::{Instruction, Kind};
 use desk_register::{Fault, Holding, Outcome, Register, Stage};
@@ -275,9 +275,12 @@ impl<S: Alter> Register for SqlRegister<S> {
         )
     }
 
-    fn settle_pair(&mut self, _alloc: Global, _number: u64, _day: Day) -> Result<Outcome, Fault> {
-        self.stage = fallen(self.stage);
-        Err(Fault::Memory)
+    fn settle_pair(&mut self, alloc: Global, number: u64, day: Day) -> Result<Outcome, Fault> {
+        told(
+            settling::settle_pair(&mut self.conn, alloc, number, day),
+            &mut self.stage,
+            &mut self.failures,
+        )
     }
 
     fn cancel(&mut self, _alloc: Global, number: u64) -> Result<(), Fault> {
