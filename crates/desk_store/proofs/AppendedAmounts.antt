@@ -1,8 +1,8 @@
 -- What an entry moves, in the tables of amounts.
-use Rattle.std.proofs.Common.{◌≡◌, inl, inr, refl, sym, ap, subst, ◌∙◌, ℕ, ◌+◌, ◌-◌, ◌<◌, ◌≤◌, cond, Bool, List, [], ◌∷◌, Option, None, Some, true, false, unwrap_or, codes, length, arith}
-use Rattle.std.specs.Prelude.{◌&&◌, bytes_eq, if◌then◌else◌}
+use Rattle.std.proofs.Common.{◌≡◌, refl, sym, ap, ◌∙◌, ℕ, ◌+◌, cond, Bool, List, [], Option, Some, true, false, unwrap_or, codes, length, arith}
+use Rattle.std.specs.Prelude.{◌&&◌, bytes_eq}
 use Rattle.sqlite.specs.Effect.{Database}
-use Rattle.desk_amounts.specs.Amounts.{AreAmounts, amount_at, amount_in}
+use Rattle.desk_amounts.specs.Amounts.{amount_in}
 use Rattle.desk_amounts.specs.Changes.{SetsAmount, had}
 use Rattle.desk_amounts.specs.Keys.{is_of}
 use Rattle.desk_amounts.specs.declared.key.AmountKey.{AmountKey}
@@ -17,8 +17,6 @@ use Rattle.desk_register.specs.Changes.{cash_after, cash_at, moved_to, positions
 use Rattle.desk_register.proofs.CaseLemmas.{by_bool, same_bytes}
 use Rattle.desk_rules.specs.declared.entry.Entry.{Entry}
 use Rattle.desk_rules.specs.declared.entry.Entry.TheVariants.{Participant, Account, Security, Issue, Redeem, PayIn, PayOut, Instruct, Cancel, Run}
-use Rattle.desk_rules.specs.declared.entry.Movement.{Movement}
-use Rattle.desk_rules.specs.declared.entry.Payment.{Payment}
 use Rattle.desk_rules.specs.Balances.{issued_by, movement_of, quantity_if, redeemed_by, same_ccy}
 use Rattle.desk_rules.specs.Content.{CashBalances, Positions}
 use Rattle.desk_rules.proofs.Conservation.{if_false, if_true}

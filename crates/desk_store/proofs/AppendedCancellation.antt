@@ -1,5 +1,5 @@
 -- A cancellation more: its row, and the request at the instruction that it names.
-use Rattle.std.proofs.Common.{◌≡◌, inl, inr, refl, sym, ap, subst, ◌∙◌, ℕ, ◌+◌, ◌<◌, ◌≤◌, ◌==◌, cond, List, [], ◌∷◌, length, Option, None, Some, true, false, arith}
+use Rattle.std.proofs.Common.{◌≡◌, inl, inr, refl, sym, ap, ◌∙◌, ℕ, ◌==◌, List, Option, None, Some, true, false, arith}
 use Rattle.std.specs.Prelude.{is_none, option_and_then}
 use Rattle.sqlite.specs.Effect.{Database}
 use Rattle.desk_amounts.proofs.AmountLemmas.{SameAmounts, same_amounts}
@@ -28,7 +28,7 @@ use Rattle.desk_store.proofs.AppendedContent.{takes_entry}
 use Rattle.desk_store.proofs.AppendedHistory.{stands_same, unmatched_same}
 use Rattle.desk_store.proofs.AppendedRow.{row_moves}
 use Rattle.desk_store.proofs.ContentLemmas.{same_totals}
-use Rattle.desk_store.proofs.FrameLemmas.{balance_spared, cash_spared, total_spared, register_spared, state_spared, unmatched_spared, due_spared, sent_spared}
+use Rattle.desk_store.proofs.FrameLemmas.{balance_spared, cash_spared, total_spared, register_spared, unmatched_spared, due_spared, sent_spared}
 use Rattle.desk_store.proofs.RegisteredLemmas.{names_one}
 
 of_type_some : (mt k : ℕ) (o : Option Instructed) → is_none (if_of_type mt k o) ≡ false → if_of_type mt k o ≡ Some k

@@ -1,19 +1,15 @@
 -- What the tables have become says the content with one entry more.
-use Rattle.std.proofs.Common.{◌≡◌, inl, inr, refl, sym, ap, subst, ◌∙◌, ℕ, ◌+◌, ◌<◌, ◌≤◌, List, [], ◌∷◌, ◌++◌, length, map, Option, None, Some, true, false, unwrap_or, arith}
+use Rattle.std.proofs.Common.{◌≡◌, sym, ap, subst, ◌∙◌, ℕ, List, [], map, true}
 use Rattle.sqlite.specs.Effect.{Database}
-use Rattle.desk_amounts.specs.Amounts.{AreAmounts, amount_in}
+use Rattle.desk_amounts.specs.Amounts.{AreAmounts}
 use Rattle.desk_codes.specs.declared.currency.Ccy.{Ccy}
 use Rattle.desk_entries.specs.Entries.{AreEntries, with_entry}
-use Rattle.desk_msg.specs.declared.instruction.Instruction.{Instruction}
-use Rattle.desk_register.specs.Changes.{CanAppend, appended, cash_after, first_standing, positions_after, requests_noted, standing_at}
-use Rattle.desk_register.specs.Looked.{IsMatchedPair}
+use Rattle.desk_register.specs.Changes.{CanAppend, appended, cash_after, positions_after}
 use Rattle.desk_rules.specs.declared.entry.Entry.{Entry}
-use Rattle.desk_rules.specs.declared.pair.Place.{Place}
 use Rattle.desk_rules.specs.declared.reply.Reply.{Reply}
-use Rattle.desk_rules.specs.Content.{Content, history_of}
+use Rattle.desk_rules.specs.Content.{history_of}
 use Rattle.desk_sent.proofs.TableLemmas.{same_sent}
 use Rattle.desk_standings.proofs.DueLemmas.{same_due, same_due_in}
-use Rattle.desk_standings.specs.Due.{is_due_in}
 use Rattle.desk_standings.specs.Standings.{AreStandings, standing_in}
 use Rattle.desk_tables.specs.Schema.{desk_schema}
 use Rattle.desk_unmatched.specs.Unmatched.{AreUnmatched}

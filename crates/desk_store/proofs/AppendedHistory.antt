@@ -1,5 +1,5 @@
 -- What the history says with one entry more: which number instructs, what is unmatched, which pairs are matched.
-use Rattle.std.proofs.Common.{◌≡◌, ◌≢◌, ◌⊎◌, inl, inr, refl, sym, ap, subst, ◌∙◌, ℕ, ◌+◌, ◌<◌, ◌≤◌, ◌==◌, cond, Bool, true, false, List, [], ◌∷◌, ◌++◌, length, map, Option, None, Some, arith, eq-eqb, eqb-true, length-append}
+use Rattle.std.proofs.Common.{◌≡◌, ◌≢◌, ◌⊎◌, inl, inr, refl, sym, ap, ◌∙◌, ℕ, ◌+◌, ◌<◌, ◌==◌, cond, true, false, List, [], ◌∷◌, ◌++◌, length, Option, None, Some, arith, eq-eqb, eqb-true, length-append}
 use Rattle.std.specs.Prelude.{option_and_then}
 use Rattle.std.proofs.lemmas.Bool.{cases_Bool, cases_lt}
 use Rattle.std.proofs.lemmas.List.{map-append, length-map}
@@ -16,10 +16,10 @@ use Rattle.desk_rules.specs.Content.{Content, history_of}
 use Rattle.desk_rules.specs.declared.entry.Sender.TheVariants.{Participant as FromParticipant}
 use Rattle.desk_rules.specs.History.{instructed, instruction_at, number_of_key}
 use Rattle.desk_rules.specs.Standing.{no_standing}
-use Rattle.desk_rules.specs.Verdict.{if_of_type, named_by}
+use Rattle.desk_rules.specs.Verdict.{if_of_type}
 use Rattle.desk_rules.proofs.HistoryLemmas.{entry_at-end, instruction_at-front, instruction_at-known, some_before}
 use Rattle.desk_msg.specs.MessageType.{number_of_type}
-use Rattle.desk_register.specs.Changes.{appended, first_standing, requested_by, requests_noted, standing_at, with_request}
+use Rattle.desk_register.specs.Changes.{appended, first_standing, requested_by, requests_noted, with_request}
 use Rattle.desk_register.specs.Looked.{IsMatchedPair}
 use Rattle.desk_register.proofs.CaseLemmas.{by_bool}
 use Rattle.desk_store.specs.Holds.{if_unmatched, unmatched_of}

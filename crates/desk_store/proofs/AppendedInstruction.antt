@@ -1,5 +1,5 @@
 -- An instruction more: its row, where it stands, and that it is unmatched.
-use Rattle.std.proofs.Common.{◌≡◌, inl, inr, refl, sym, ap, subst, ◌∙◌, ℕ, ◌+◌, ◌<◌, ◌≤◌, ◌==◌, cond, List, [], ◌∷◌, length, Option, None, Some, true, false, arith}
+use Rattle.std.proofs.Common.{◌≡◌, inl, inr, refl, sym, ap, ◌∙◌, ℕ, ◌+◌, ◌==◌, cond, length, Some, arith}
 use Rattle.std.proofs.lemmas.Bool.{cases_Bool}
 use Rattle.sqlite.specs.Effect.{Database}
 use Rattle.desk_amounts.proofs.AmountLemmas.{SameAmounts, same_amounts}
@@ -21,7 +21,7 @@ use Rattle.desk_store.specs.Holds.{Becomes, IsDesk, unmatched_of}
 use Rattle.desk_store.proofs.AppendedAmounts.{cash_same, securities_same, totals_of}
 use Rattle.desk_store.proofs.AppendedContent.{takes_entry}
 use Rattle.desk_store.proofs.AppendedHistory.{unmatched_front, unmatched_last}
-use Rattle.desk_store.proofs.AppendedRow.{row_amounts, row_moves}
+use Rattle.desk_store.proofs.AppendedRow.{row_moves}
 use Rattle.desk_store.proofs.ContentLemmas.{same_totals}
 use Rattle.desk_store.proofs.FrameLemmas.{balance_spared, cash_spared, total_spared, register_spared, state_spared, unmatched_spared, due_spared, sent_spared}
 

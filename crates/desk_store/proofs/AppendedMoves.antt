@@ -1,5 +1,5 @@
 -- Movements and payments: the row, and two amounts.
-use Rattle.std.proofs.Common.{◌≡◌, inl, inr, refl, sym, ap, subst, ◌∙◌, ℕ, ◌+◌, ◌-◌, ◌<◌, ◌≤◌, ◌^◌, Bool, true, false, cond, List, [], ◌∷◌, length, Option, None, Some, unwrap_or, arith, lit<}
+use Rattle.std.proofs.Common.{◌≡◌, inr, refl, sym, ap, ◌∙◌, ℕ, ◌+◌, ◌-◌, ◌<◌, ◌≤◌, ◌^◌, Bool, true, false, cond, length, Some, unwrap_or, arith, lit<}
 use Rattle.std.specs.Prelude.{bytes_eq}
 use Rattle.sqlite.specs.Effect.{Database}
 use Rattle.desk_amounts.specs.Amounts.{AreAmounts}
@@ -7,13 +7,11 @@ use Rattle.desk_amounts.specs.Changes.{SetsAmount, had}
 use Rattle.desk_amounts.specs.declared.key.AmountKey.TheVariants.{Currency, Security as SecurityTotal}
 use Rattle.desk_amounts.specs.declared.key.AmountKey.TheVariants as keys
 use Rattle.desk_amounts.specs.declared.key.Ledger.TheVariants.{Balance, Cash}
-use Rattle.desk_amounts.proofs.AmountLemmas.{SameAmounts, same_amounts, same_recorded}
+use Rattle.desk_amounts.proofs.AmountLemmas.{same_amounts, same_recorded}
 use Rattle.desk_codes.specs.Currency.{letters_of}
-use Rattle.desk_codes.specs.declared.currency.Ccy.{Ccy}
-use Rattle.desk_entries.specs.Entries.{AreEntries, EntryAdded, with_entry}
+use Rattle.desk_entries.specs.Entries.{EntryAdded, with_entry}
 use Rattle.desk_entries.proofs.SameLemmas.{same_entries}
 use Rattle.desk_register.specs.Changes.{CanAppend, appended, cash_at, moved_to}
-use Rattle.desk_rules.specs.declared.entry.Entry.{Entry}
 use Rattle.desk_rules.specs.declared.entry.Entry.TheVariants.{Issue, Redeem, PayIn, PayOut}
 use Rattle.desk_rules.specs.declared.entry.Movement.{Movement}
 use Rattle.desk_rules.specs.declared.entry.Payment.{Payment}

@@ -1,5 +1,5 @@
 -- An entry that stands nowhere and requests nothing: its row, and what it moves.
-use Rattle.std.proofs.Common.{◌≡◌, inl, inr, refl, sym, ap, subst, ◌∙◌, ℕ, ◌+◌, ◌<◌, ◌≤◌, List, [], ◌∷◌, Option, None, Some, arith}
+use Rattle.std.proofs.Common.{◌≡◌, inl, inr, refl, sym, ap, ◌∙◌, ℕ, List, None, arith}
 use Rattle.sqlite.specs.Effect.{Database}
 use Rattle.desk_amounts.specs.Amounts.{AreAmounts}
 use Rattle.desk_amounts.proofs.AmountLemmas.{SameAmounts, same_amounts}
@@ -8,8 +8,7 @@ use Rattle.desk_register.specs.Changes.{CanAppend, appended, first_standing, req
 use Rattle.desk_rules.specs.declared.entry.Entry.{Entry}
 use Rattle.desk_rules.specs.declared.entry.Entry.TheVariants.{Participant, Account, Security, Issue, Redeem, PayIn, PayOut, Instruct, Cancel, Run}
 use Rattle.desk_rules.specs.declared.reply.Reply.{Reply}
-use Rattle.desk_rules.specs.declared.standing.Standing.{Standing}
-use Rattle.desk_rules.specs.Content.{Content, history_of}
+use Rattle.desk_rules.specs.Content.{history_of}
 use Rattle.desk_rules.specs.History.{instructed}
 use Rattle.desk_standings.proofs.StandingLemmas.{same_standings, same_standing_in}
 use Rattle.desk_tables.specs.Schema.{desk_schema}
@@ -18,7 +17,7 @@ use Rattle.desk_store.specs.Appending.{IsAlone}
 use Rattle.desk_store.specs.Content.{content_in}
 use Rattle.desk_store.specs.Holds.{Becomes, IsDesk, if_unmatched, unmatched_of}
 use Rattle.desk_store.proofs.AppendedAmounts.{CashMoves, SecuritiesMove, alone_no_cash, alone_no_securities, cash_same, securities_same, totals_of}
-use Rattle.desk_store.proofs.AppendedContent.{TakesEntry, takes_entry}
+use Rattle.desk_store.proofs.AppendedContent.{takes_entry}
 use Rattle.desk_store.proofs.AppendedHistory.{stands_same, unmatched_same}
 use Rattle.desk_store.proofs.ContentLemmas.{same_totals}
 use Rattle.desk_store.proofs.FrameLemmas.{balance_spared, cash_spared, total_spared, state_spared, unmatched_spared, due_spared, sent_spared}

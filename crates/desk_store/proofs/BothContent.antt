@@ -1,6 +1,6 @@
 -- Both instructions of a pair stand otherwise: what is unmatched, and which pairs are due, then.
-use Rattle.std.proofs.Common.{◌≡◌, ◌≢◌, ◌⊎◌, inl, inr, refl, sym, ap, subst, ◌∙◌, ℕ, ◌<◌, ◌≤◌, ◌==◌, ◌&&◌, cond, Bool, true, false, List, [], map, Option, None, Some, Result, Ok, Err, OnOk, arith, eq-eqb, eqb-true}
-use Rattle.std.proofs.lemmas.Bool.{cases_Bool, and_parts, ne_eqb}
+use Rattle.std.proofs.Common.{◌≡◌, inl, inr, refl, sym, ap, subst, ◌∙◌, ℕ, ◌<◌, ◌==◌, ◌&&◌, cond, Bool, true, false, None, Some, Result, Ok, Err, OnOk, arith, eq-eqb, eqb-true}
+use Rattle.std.proofs.lemmas.Bool.{cases_Bool, and_parts}
 use Rattle.sqlite.specs.Effect.{Database}
 use Rattle.sqlite.specs.declared.error.Error.{Error}
 use Rattle.desk_codes.specs.Number.{number_of}
@@ -12,12 +12,12 @@ use Rattle.desk_rules.specs.declared.entry.Instructed.{Instructed}
 use Rattle.desk_rules.specs.declared.pair.Place.{Place}
 use Rattle.desk_rules.specs.declared.standing.Standing.{Standing}
 use Rattle.desk_rules.specs.declared.standing.State.{State}
-use Rattle.desk_rules.specs.declared.standing.State.TheVariants.{Cancelled, Matched, Unmatched}
+use Rattle.desk_rules.specs.declared.standing.State.TheVariants.{Cancelled, Matched}
 use Rattle.desk_rules.specs.History.{instruction_at}
 use Rattle.desk_rules.specs.Standing.{no_standing}
-use Rattle.desk_standings.specs.Due.{AreDue, DueChanged, due_at, is_due_in, same_place}
-use Rattle.desk_standings.specs.Standings.{AreStandings, StandingsChanged, standing_in}
-use Rattle.desk_standings.proofs.DueLemmas.{same_due, same_due_in}
+use Rattle.desk_standings.specs.Due.{DueChanged, due_at, is_due_in, same_place}
+use Rattle.desk_standings.specs.Standings.{StandingsChanged, standing_in}
+use Rattle.desk_standings.proofs.DueLemmas.{same_due_in}
 use Rattle.desk_standings.proofs.StandingLemmas.{same_standings, same_standing_in}
 use Rattle.desk_tables.specs.Schema.{desk_schema}
 use Rattle.desk_unmatched.specs.Unmatched.{AreUnmatched, Forgets, forgetting}
@@ -26,7 +26,7 @@ use Rattle.desk_store.specs.Content.{content_in}
 use Rattle.desk_store.specs.Holds.{Becomes, IsDesk, if_unmatched, unmatched_of}
 use Rattle.desk_store.specs.Pairs.{ForgetsBoth, StandBoth}
 use Rattle.desk_store.proofs.FrameLemmas.{balance_spared, cash_spared, total_spared, register_spared, state_spared, unmatched_spared, due_spared, sent_spared}
-use Rattle.desk_store.proofs.StandingContent.{StandsSo, pair_at, pair_still, standing_so, standings_alone}
+use Rattle.desk_store.proofs.StandingContent.{pair_at, pair_still, standing_so, standings_alone}
 
 pub apart_false : (m n : ℕ) → (m ≡ n → ⊥) → (m == n) ≡ false
 apart_false m n apart = elim (cases_Bool (m == n)) [ inl same ↦ absurd (apart (eqb-true m n same)) | inr out ↦ out ]

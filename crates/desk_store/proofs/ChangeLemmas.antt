@@ -1,11 +1,11 @@
 -- A call that changes the tables, told of the register, is a changing call.
-use Rattle.std.proofs.Common.{◌≡◌, ◌≢◌, ◌⊎◌, inl, inr, refl, sym, ap, subst, ◌∙◌, ℕ, ◌<◌, ◌≤◌, [], true, false, IsTrue, Result, Ok, Err, IfOk, OnOk, OnErr, arith}
+use Rattle.std.proofs.Common.{◌≡◌, ◌⊎◌, inl, inr, refl, sym, ap, subst, ◌∙◌, ℕ, [], true, IsTrue, Result, Ok, Err, OnOk, OnErr, arith}
 use Rattle.sqlite.specs.declared.error.Error.{Error}
 use Rattle.sqlite.specs.State.{State, HasCleanDisk}
 use Rattle.desk_register.specs.declared.register.Fault.{Fault}
 use Rattle.desk_register.specs.declared.register.Fault.TheVariants.{Memory, Storage}
 use Rattle.desk_register.specs.declared.register.Stage.{Stage}
-use Rattle.desk_register.specs.declared.register.Stage.TheVariants.{Idle, Begun, Failed}
+use Rattle.desk_register.specs.declared.register.Stage.TheVariants.{Begun, Failed}
 use Rattle.desk_register.specs.View.{IsChange}
 use Rattle.desk_tables.specs.Ends.{IfSound, Stays, IsUndone, FellWriting, IsWrite}
 use Rattle.desk_store.specs.Content.{content_in}
@@ -14,7 +14,7 @@ use Rattle.desk_rules.specs.Content.{Content}
 use Rattle.desk_store.specs.Holds.{Becomes, IsDesk}
 use Rattle.desk_store.specs.Kept.{IsOpenDesk, IsKept, shown}
 use Rattle.desk_store.specs.Settling.{IsLeft, IsTrial}
-use Rattle.desk_store.specs.Told.{Counts, IsTold}
+use Rattle.desk_store.specs.Told.{IsTold}
 use Rattle.desk_store.proofs.ReadLemmas.{later_view, was_clean}
 
 module _ (old new : State) (new_stage : Stage) (failures new_failures room : ℕ) {X : Type 0} (given : Result X Error) (kept : IsKept old Begun) (trial : IsTrial given old new (Stays old new)) where
@@ -159,5 +159,5 @@ on_content db content (Err e) becomes = tt
 pub told_content : (old new : State) (stage new_stage : Stage) (failures new_failures room : ℕ) {X : Type 0} (given : Result X Error) (result : Result X Fault) (content : Content) → stage ≡ Begun → IsKept old stage → IsWrite given old new
     → IsTold given result stage new_stage failures new_failures → IfSound old new (IsDesk old.now → OnOk given (Becomes new.now content)) → HasCleanDisk new → IsTrue old.is_open → OnOk result (content_in new.now ≡ content)
 told_content old new stage new_stage failures new_failures room {X = X} given result content begun kept write told becomes =
-    on_told old new new_stage failures new_failures room given (subst (IsKept old) begun kept) write (content_in new.now ≡ content) result (subst (λ s. IsTold given result s new_stage failures new_failures) begun told)
-    (λ clean is_open has desk. on_content new.now content given (becomes clean is_open has desk))
+    on_told old new new_stage failures new_failures room given (subst (IsKept old) begun kept) (write_trial given old new write) (content_in new.now ≡ content) result (subst (λ s. IsTold given result s new_stage failures new_failures) begun told)
+    (λ clean is_open has desk inside none. on_content new.now content given (becomes clean is_open has desk))

@@ -1,5 +1,5 @@
 -- Tables with no row say the empty content.
-use Rattle.std.proofs.Common.{◌≡◌, ◌⊎◌, inl, inr, refl, sym, ap, subst, ◌∙◌, ℕ, zero, suc, ◌<◌, ◌≤◌, ◌^◌, List, [], ◌∷◌, map, Bool, true, false, codes, unwrap_or, Option, None, Some, Result, Ok, Err, OnOk, IsTrue, arith}
+use Rattle.std.proofs.Common.{◌≡◌, inl, refl, sym, ap, subst, ◌∙◌, ℕ, zero, suc, List, [], map, Bool, false, codes, unwrap_or, None, Some, Result, Ok, Err, OnOk, arith}
 use Rattle.sqlite.specs.Effect.{Database}
 use Rattle.sqlite.specs.declared.error.Error.{Error}
 use Rattle.sqlite.specs.Command.TheVariants.{Begin}
@@ -15,13 +15,12 @@ use Rattle.desk_codes.specs.Currency.{letters_of}
 use Rattle.desk_codes.specs.declared.currency.Ccy.{Ccy}
 use Rattle.desk_entries.proofs.SameLemmas.{no_entries}
 use Rattle.desk_register.specs.Changes.{empty_content}
-use Rattle.desk_register.specs.Looked.{IsMatchedPair, IsPaid}
+use Rattle.desk_register.specs.Looked.{IsPaid}
 use Rattle.desk_rules.specs.declared.pair.Place.{Place}
 use Rattle.desk_rules.specs.declared.entry.Instructed.{Instructed}
 use Rattle.desk_rules.specs.History.{instruction_at}
-use Rattle.desk_rules.specs.Standing.{no_standing}
-use Rattle.desk_sent.specs.Version.{HasVersion, SetsVersion}
-use Rattle.desk_sent.proofs.TableLemmas.{no_version, none_sent}
+use Rattle.desk_sent.specs.Version.{SetsVersion}
+use Rattle.desk_sent.proofs.TableLemmas.{none_sent}
 use Rattle.desk_standings.specs.Due.{is_due_in}
 use Rattle.desk_standings.proofs.DueLemmas.{none_due}
 use Rattle.desk_standings.proofs.StandingLemmas.{no_standings}

@@ -1,5 +1,5 @@
 -- Both instructions of a matched pair stand otherwise: the pair has come to its end, or waits for another reason.
-use Rattle.std.proofs.Common.{◌≡◌, ◌≢◌, ◌⊎◌, inl, inr, refl, sym, ap, subst, ◌∙◌, ℕ, ◌<◌, ◌≤◌, ◌==◌, ◌&&◌, cond, Bool, true, false, List, [], map, Option, None, Some, arith}
+use Rattle.std.proofs.Common.{◌≡◌, ◌≢◌, inl, inr, sym, ap, subst, ◌∙◌, ℕ, ◌<◌, cond, Bool, true, false, Option, None, Some, arith}
 use Rattle.std.proofs.lemmas.Bool.{cases_Bool}
 use Rattle.sqlite.specs.Effect.{Database}
 use Rattle.desk_codes.specs.Number.{number_of}
@@ -14,8 +14,7 @@ use Rattle.desk_rules.specs.declared.standing.State.{State}
 use Rattle.desk_rules.specs.declared.standing.State.TheVariants.{Matched}
 use Rattle.desk_rules.specs.History.{instruction_at}
 use Rattle.desk_rules.specs.Standing.{no_standing}
-use Rattle.desk_standings.specs.Due.{AreDue, DueChanged, due_at, is_due_in, same_place}
-use Rattle.desk_standings.specs.Standings.{standing_in}
+use Rattle.desk_standings.specs.Due.{DueChanged, due_at, is_due_in, same_place}
 use Rattle.desk_standings.proofs.DueLemmas.{same_due, same_due_in}
 use Rattle.desk_standings.proofs.StandingLemmas.{same_standings, same_standing_in}
 use Rattle.desk_tables.specs.Schema.{desk_schema}
@@ -25,7 +24,7 @@ use Rattle.desk_store.specs.Content.{content_in}
 use Rattle.desk_store.specs.Holds.{Becomes, IsDesk, if_unmatched, unmatched_of}
 use Rattle.desk_store.specs.Pairs.{StandBoth}
 use Rattle.desk_store.proofs.FrameLemmas.{balance_spared, cash_spared, total_spared, register_spared, state_spared, unmatched_spared, due_spared, sent_spared}
-use Rattle.desk_store.proofs.StandingContent.{StandsSo, pair_at, pair_still, standing_so, standings_alone}
+use Rattle.desk_store.proofs.StandingContent.{pair_at, pair_still, standing_so, standings_alone}
 use Rattle.desk_store.proofs.BothContent.{earlier_stands, later_stands, other_stands, place_itself, same_is_place, which}
 
 -- a matched pair, by the numbers of its two instructions; each is the other's mate

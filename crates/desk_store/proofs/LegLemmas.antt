@@ -1,25 +1,22 @@
 -- One balance is changed, and then both legs of a pair.
-use Rattle.std.proofs.Common.{◌≡◌, ◌≢◌, inl, inr, refl, sym, ap, subst, ◌∙◌, ℕ, ◌+◌, ◌-◌, ◌<◌, ◌≤◌, ◌^◌, List, Bool, true, false, Option, Some, None, Result, Ok, Err, OnOk, IfOk, arith, lit<}
+use Rattle.std.proofs.Common.{◌≡◌, inr, refl, sym, ap, subst, ◌∙◌, ℕ, ◌+◌, ◌-◌, ◌<◌, ◌≤◌, ◌^◌, List, Bool, true, false, Option, Some, None, Result, Ok, Err, OnOk, arith}
 use Rattle.std.specs.Prelude.{bytes_eq, ◌&&◌, unwrap_or}
-use Rattle.std.proofs.lemmas.Bool.{cases_Bool}
 use Rattle.sqlite.specs.Effect.{Database}
 use Rattle.sqlite.specs.declared.error.Error.{Error}
 use Rattle.desk_codes.specs.Currency.{letters_of}
 use Rattle.desk_codes.specs.declared.currency.Ccy.{Ccy}
 use Rattle.desk_msg.specs.declared.instruction.Cash.{Cash as Amount}
 use Rattle.desk_register.specs.Changes.{FitsCash, HasCash, SidesFit, cash_at, delivered, delivering_side, moved_to, paid_over, receiving_side}
-use Rattle.desk_register.specs.declared.outcome.Outcome.TheVariants.{Lacks, Settled}
+use Rattle.desk_register.specs.declared.outcome.Outcome.TheVariants.{Settled}
 use Rattle.desk_register.proofs.CaseLemmas.{by_bool, same_bytes}
 use Rattle.desk_rules.specs.Balances.{same_ccy}
 use Rattle.desk_rules.specs.Content.{CashBalances, Positions}
 use Rattle.desk_rules.specs.declared.entry.Instructed.{Instructed}
-use Rattle.desk_rules.specs.declared.pair.Lack.TheVariants.{Money}
-use Rattle.desk_rules.proofs.Deciding.{same_ccy-true}
-use Rattle.desk_amounts.specs.Amounts.{AreAmounts, amount_at, amount_in}
+use Rattle.desk_amounts.specs.Amounts.{AreAmounts, amount_at}
 use Rattle.desk_amounts.specs.Changes.{SetsAmount, Takes}
 use Rattle.desk_amounts.specs.declared.key.AmountKey.TheVariants as keys
 use Rattle.desk_amounts.specs.declared.key.Ledger.TheVariants.{Balance, Cash, Total}
-use Rattle.desk_amounts.proofs.AmountLemmas.{SameAmounts, same_amounts, same_recorded, set_amounts, short_less, unchanged_amounts}
+use Rattle.desk_amounts.proofs.AmountLemmas.{same_amounts, same_recorded, set_amounts, short_less, unchanged_amounts}
 use Rattle.desk_tables.specs.Ends.{SparesOthers}
 use Rattle.desk_store.specs.Content.{content_in}
 use Rattle.desk_store.specs.Settling.{AmountsSo, MovesLegs, TakesCash, TakesHeld, less_cash, less_held, more_cash, more_held}
@@ -91,14 +88,14 @@ so_then a b c p p' x x' first second = record {
 pub less_fits : (position : Positions) (from to isin : List ℕ) (q : ℕ) → position to isin + q < 2 ^ 63 → less_held position from isin q to isin + q < 2 ^ 63
 less_fits position from to isin q fits = by_bool (bytes_eq from to && bytes_eq isin isin)
     (λ t. let left : less_held position from isin q to isin ≡ position from isin - q = rw t refl in
-        by_bool (bytes_eq from to) (λ s. let same : position from isin ≡ position to isin = ap (λ x. position x isin) (same_bytes from to s) in omega arith) (λ f. let bad = rw f at t in absurd (cc)))
+    by_bool (bytes_eq from to) (λ s. let same : position from isin ≡ position to isin = ap (λ x. position x isin) (same_bytes from to s) in omega arith) (λ f. let bad = rw f at t in absurd (cc)))
     (λ f. let left : less_held position from isin q to isin ≡ position to isin = rw f refl in omega arith)
 
 pub less_cash_fits : (cash : CashBalances) (from to : List ℕ) (asked : Option Amount) → FitsCash cash to asked → FitsCash (less_cash cash from asked) to asked
 less_cash_fits cash from to None fits = tt
 less_cash_fits cash from to (Some asked) fits = by_bool (bytes_eq from to && same_ccy asked.ccy asked.ccy)
     (λ t. let left : less_cash cash from (Some asked) to asked.ccy ≡ cash from asked.ccy - asked.amount = rw t refl in
-        by_bool (bytes_eq from to) (λ s. let same : cash from asked.ccy ≡ cash to asked.ccy = ap (λ x. cash x asked.ccy) (same_bytes from to s) in omega arith) (λ f. let bad = rw f at t in absurd (cc)))
+    by_bool (bytes_eq from to) (λ s. let same : cash from asked.ccy ≡ cash to asked.ccy = ap (λ x. cash x asked.ccy) (same_bytes from to s) in omega arith) (λ f. let bad = rw f at t in absurd (cc)))
     (λ f. let left : less_cash cash from (Some asked) to asked.ccy ≡ cash to asked.ccy = rw f refl in omega arith)
 
 paid_is : (cash : CashBalances) (from to : List ℕ) (asked : Option Amount) → more_cash (less_cash cash from asked) to asked ≡ paid_over cash from to asked

@@ -1,10 +1,7 @@
 -- What the tables record is what is looked up.
-use Rattle.std.proofs.Common.{◌≡◌, ◌⊎◌, inl, inr, refl, sym, ap, subst, ◌∙◌, ℕ, ◌<◌, ◌≤◌, List, [], ◌∷◌, unwrap_or, Option, None, Some, arith}
-use Rattle.std.specs.Ordering.{nat_cmp}
-use Rattle.std.specs.declared.cmp.Ordering.TheVariants.{Less, Equal, Greater}
-use Rattle.std.specs.Cmp.Lexicographic.{slice_cmp}
+use Rattle.std.proofs.Common.{◌≡◌, refl, ap, ◌∙◌, ℕ, List, [], ◌∷◌, unwrap_or, Option, None, Some, arith}
 use Rattle.sqlite.specs.Effect.{Database}
-use Rattle.desk_amounts.specs.Holdings.{IsNextHolding, IsHeldAbove, IsFirstAbove}
+use Rattle.desk_amounts.specs.Holdings.{IsNextHolding, IsHeldAbove}
 use Rattle.desk_register.specs.declared.holding.Holding.{Holding}
 use Rattle.desk_register.specs.Looked.{HoldsAbove, IsAboveText, IsDue, IsDuePairAfter, IsFirstOpposite, IsHoldingAfter, IsLess, IsOppositeAt}
 use Rattle.desk_rules.specs.Content.{Content, history_of}

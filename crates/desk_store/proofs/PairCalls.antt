@@ -1,5 +1,5 @@
 -- The calls that pair two instructions, and cancel a pair, statement by statement.
-use Rattle.std.proofs.Common.{◌≡◌, ◌⊎◌, inl, inr, refl, sym, ap, subst, ◌∙◌, ℕ, ◌<◌, ◌≤◌, List, Some, true, false, Bool, Result, Ok, Err, OnOk, arith}
+use Rattle.std.proofs.Common.{◌≡◌, inr, sym, ap, subst, ◌∙◌, ℕ, List, Some, true, false, Result, Ok, Err, OnOk, arith}
 use Rattle.sqlite.specs.Effect.{Database}
 use Rattle.sqlite.specs.State.{State}
 use Rattle.sqlite.specs.declared.error.Error.{Error}
@@ -12,7 +12,6 @@ use Rattle.desk_rules.specs.declared.standing.State as stands
 use Rattle.desk_rules.specs.declared.standing.State.TheVariants.{Cancelled, Matched}
 use Rattle.desk_rules.specs.History.{instruction_at}
 use Rattle.desk_standings.specs.Due.{AreDue, DueChanged, due_at, is_due_in}
-use Rattle.desk_standings.specs.Standings.{AreStandings}
 use Rattle.desk_standings.proofs.DueLemmas.{same_due}
 use Rattle.desk_tables.specs.Ends.{Stays}
 use Rattle.desk_store.specs.Content.{content_in}

@@ -1,17 +1,17 @@
 -- A call that only looks, told of the register, is a reading call.
-use Rattle.std.proofs.Common.{◌≡◌, ◌≢◌, ◌⊎◌, inl, inr, refl, sym, ap, subst, ◌∙◌, ℕ, ◌<◌, ◌≤◌, [], true, false, IsTrue, Result, Ok, Err, IfOk, OnOk, OnErr, arith, rules}
+use Rattle.std.proofs.Common.{◌≡◌, ◌≢◌, inl, inr, refl, sym, ap, subst, ◌∙◌, ℕ, ◌≤◌, IsTrue, Result, Ok, Err, IfOk, arith}
 use Rattle.sqlite.specs.declared.error.Error.{Error}
 use Rattle.sqlite.specs.State.{State, HasCleanDisk}
 use Rattle.desk_register.specs.declared.register.Fault.{Fault}
 use Rattle.desk_register.specs.declared.register.Fault.TheVariants.{Memory, Storage}
 use Rattle.desk_register.specs.declared.register.Stage.{Stage}
 use Rattle.desk_register.specs.declared.register.Stage.TheVariants.{Idle, Begun, Failed}
-use Rattle.desk_register.specs.View.{View, IsLater as IsLaterView, Stays as StaysView, Falls, Blames, IsRead, fallen}
+use Rattle.desk_register.specs.View.{IsLater as IsLaterView, IsRead, fallen}
 use Rattle.desk_tables.specs.Ends.{IfSound, IsLater, IsSame, IsUndone, FellLooking, IsLook}
 use Rattle.desk_store.specs.Content.{content_in}
 use Rattle.desk_store.specs.Holds.{IsDesk}
 use Rattle.desk_store.specs.Kept.{IsOpenDesk, IsKept, shown}
-use Rattle.desk_store.specs.Told.{Counts, IsTold}
+use Rattle.desk_store.specs.Told.{IsTold}
 
 -- the disk was clean where it is now
 pub was_clean : (old new : State) → IsLater old new → HasCleanDisk new → HasCleanDisk old

@@ -1,9 +1,6 @@
 -- The row of an entry says that entry, and the row of a message that message.
-use Rattle.std.proofs.Common.{◌≡◌, ◌⊎◌, inl, inr, refl, sym, ap, subst, ◌∙◌, ℕ, ℤ, pos, ◌+◌, ◌<◌, ◌≤◌, ◌^◌, ◌==◌, cond, List, [], ◌∷◌, ◌++◌, map, length, unwrap_or, bytes_eq, is_some, Bool, true, false, Option, None, Some, arith, rules}
-use Rattle.std.specs.Int.{w64, cast_signed, cast_unsigned}
-use Rattle.std.specs.List.{AllByRecursion}
+use Rattle.std.proofs.Common.{◌≡◌, ◌⊎◌, inl, inr, refl, sym, ap, ◌∙◌, ℕ, ◌+◌, ◌<◌, ◌≤◌, List, [], ◌∷◌, map, length, is_some, Bool, true, false, Option, None, Some, arith}
 use Rattle.std.proofs.lemmas.Bool.{cases_lt}
-use Rattle.sqlite_value.specs.Order.{Row, column}
 use Rattle.desk_codes.specs.Currency.{decimals_of, letters_of}
 use Rattle.desk_codes.specs.Number.{written_number}
 use Rattle.desk_codes.specs.declared.currency.Ccy.{Ccy}
@@ -25,11 +22,10 @@ use Rattle.desk_rules.specs.declared.entry.RunRule.{RunRule}
 use Rattle.desk_rules.specs.declared.entry.RunRule.TheVariants.{OnePass, Passes}
 use Rattle.desk_rules.specs.declared.reply.Kept.{Kept}
 use Rattle.desk_rules.specs.declared.reply.Reply.{Reply}
-use Rattle.desk_rules.specs.declared.reply.Sent.{Sent}
 use Rattle.desk_rules.proofs.SameContent.{cash_same, instruction_same, movement_same, order_same, payment_same}
 use Rattle.desk_entries.specs.Columns.{amount_of, currency_of, number_of_rule}
 use Rattle.desk_entries.specs.Entries.{row_of, rows_from, type_value}
-use Rattle.desk_store.specs.RowsSaid.{where_so, turned, within, same_or, no_entry, movement_in, payment_in, cash_in, cash_of, ccy_of, unit_of, type_of, rule_of, type_in, instruct_in, cancel_in, entry_in, kept_in, sent_in}
+use Rattle.desk_store.specs.RowsSaid.{where_so, within, same_or, movement_in, payment_in, cash_in, cash_of, ccy_of, unit_of, type_of, rule_of, type_in, instruct_in, cancel_in, entry_in, kept_in}
 
 -- ---- codes
 

@@ -1,11 +1,9 @@
 -- What the calls that begin, end and fail leave of what is kept.
-use Rattle.std.proofs.Common.{◌≡◌, ◌≢◌, ◌⊎◌, inl, inr, refl, sym, ap, subst, ◌∙◌, [], true, false, IsTrue}
+use Rattle.std.proofs.Common.{refl, sym, ap, subst, ◌∙◌}
 use Rattle.sqlite.specs.State.{State}
 use Rattle.desk_register.specs.declared.register.Stage.{Stage}
 use Rattle.desk_register.specs.declared.register.Stage.TheVariants.{Idle, Begun, Failed}
-use Rattle.desk_tables.specs.Schema.{desk_schema}
 use Rattle.desk_tables.specs.Control.{Begins}
-use Rattle.desk_tables.specs.Ends.{IsSame, IsUndone, FellLooking}
 use Rattle.desk_store.specs.Holds.{IsDesk}
 use Rattle.desk_store.specs.Kept.{IsOpenDesk}
 use Rattle.desk_store.specs.Undone.{IsNotTakenBack}

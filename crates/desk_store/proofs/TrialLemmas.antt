@@ -1,5 +1,5 @@
 -- A pair is tried: from what the steps have made of the tables, what the register's law says.
-use Rattle.std.proofs.Common.{◌≡◌, refl, sym, ap, subst, ◌∙◌, ℕ, ◌<◌, Some, Option}
+use Rattle.std.proofs.Common.{◌≡◌, refl, sym, ap, subst, ◌∙◌, ℕ, ◌<◌, Some}
 use Rattle.sqlite.specs.Effect.{Database}
 use Rattle.desk_codes.specs.Number.{number_of}
 use Rattle.desk_msg.specs.declared.status.Reason.TheVariants.{Lack, Money as LackOfMoney}
@@ -13,8 +13,7 @@ use Rattle.desk_rules.specs.History.{instruction_at}
 use Rattle.desk_tables.specs.Schema.{desk_schema}
 use Rattle.desk_store.specs.Content.{content_in}
 use Rattle.desk_store.specs.Holds.{Becomes, IsDesk}
-use Rattle.desk_store.specs.Pairs.{StandBoth}
-use Rattle.desk_store.specs.Settling.{Closes, Fares, Frees, MovesBoth, cash_then, positions_then, state_then, tried_so}
+use Rattle.desk_store.specs.Settling.{Closes, Fares, MovesBoth, cash_then, positions_then, state_then, tried_so}
 use Rattle.desk_store.proofs.EndedContent.{IsMatchedAt, ends_pair, waits_pair}
 use Rattle.desk_store.proofs.StandingContent.{standing_so}
 use Rattle.desk_store.proofs.TriedContent.{balances_alone, balances_so, sums_stay}

@@ -1,13 +1,12 @@
 -- A pair that is tried: what the tables keep once balances have changed, and once both instructions stand otherwise.
-use Rattle.std.proofs.Common.{◌≡◌, ◌≢◌, ◌⊎◌, inl, inr, refl, sym, ap, subst, ◌∙◌, ℕ, ◌+◌, ◌-◌, ◌<◌, ◌≤◌, ◌==◌, ◌&&◌, cond, Bool, true, false, List, [], ◌∷◌, map, codes, unwrap_or, Option, None, Some, arith, eq-eqb, eqb-true}
+use Rattle.std.proofs.Common.{◌≡◌, inr, refl, sym, ap, subst, ◌∙◌, ℕ, ◌+◌, ◌-◌, ◌<◌, ◌≤◌, Bool, true, false, List, [], map, codes, unwrap_or, Option, None, Some, arith}
 use Rattle.std.specs.Prelude.{bytes_eq, sum_by}
 use Rattle.sqlite.specs.Effect.{Database}
 use Rattle.desk_codes.specs.Currency.{letters_of}
-use Rattle.desk_codes.specs.Number.{number_of}
 use Rattle.desk_codes.specs.declared.currency.Ccy.{Ccy}
 use Rattle.desk_msg.specs.declared.instruction.Cash.{Cash as Amount}
 use Rattle.desk_msg.specs.MessageType.{is_delivery}
-use Rattle.desk_register.specs.Looked.{held_cash_of, held_of, IsMatchedPair}
+use Rattle.desk_register.specs.Looked.{held_cash_of, held_of}
 use Rattle.desk_register.specs.Changes.{HasCash, cash_at, delivered, delivering_side, moved_to, paid_over, receiving_side}
 use Rattle.desk_register.specs.declared.outcome.Outcome.{Outcome}
 use Rattle.desk_register.specs.declared.outcome.Outcome.TheVariants.{Lacks, Settled}
@@ -16,13 +15,9 @@ use Rattle.desk_rules.specs.Balances.{delivering, quantity_if, receiving, same_c
 use Rattle.desk_rules.specs.Content.{CashBalances, Content, Positions, history_of}
 use Rattle.desk_rules.specs.declared.entry.Entry.{Entry}
 use Rattle.desk_rules.specs.declared.entry.Instructed.{Instructed}
-use Rattle.desk_rules.specs.declared.pair.Lack.TheVariants.{Money, Securities}
-use Rattle.desk_rules.specs.declared.pair.Place.{Place}
 use Rattle.desk_rules.specs.Facts.{accounts_of, is_participant, owner_of, participants_of}
-use Rattle.desk_amounts.specs.Amounts.{amount_in}
 use Rattle.desk_entries.proofs.SameLemmas.{same_entries}
 use Rattle.desk_sent.proofs.TableLemmas.{same_sent}
-use Rattle.desk_standings.specs.Due.{is_due_in}
 use Rattle.desk_standings.proofs.DueLemmas.{same_due, same_due_in}
 use Rattle.desk_standings.proofs.StandingLemmas.{same_standings, same_standing_in}
 use Rattle.desk_tables.specs.Schema.{desk_schema}

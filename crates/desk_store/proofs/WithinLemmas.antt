@@ -1,9 +1,9 @@
 -- Calls in a savepoint, one after another.
-use Rattle.std.proofs.Common.{◌≡◌, ◌⊎◌, inl, inr, refl, sym, ap, subst, ◌∙◌, ℕ, ◌<◌, ◌≤◌, [], ◌∷◌, true, IsTrue, Result, Ok, Err, OnOk, OnErr, arith}
+use Rattle.std.proofs.Common.{◌≡◌, ◌⊎◌, inl, inr, sym, ap, ◌∙◌, [], ◌∷◌, true, IsTrue, Result, Ok, Err, OnOk, OnErr, arith}
 use Rattle.sqlite.specs.declared.error.Error.{Error}
 use Rattle.sqlite.specs.State.{State, HasCleanDisk}
 use Rattle.sqlite.specs.Effect.{Database}
-use Rattle.desk_tables.specs.Control.{GoesBack, Releases, Saves, mark_at}
+use Rattle.desk_tables.specs.Control.{Releases, mark_at}
 use Rattle.desk_tables.specs.Schema.{desk_schema}
 use Rattle.desk_tables.specs.Ends.{IfSound, IsLater, Stays, IsSame, IsUndone, FellLooking, FellWriting, IsLook, IsWrite}
 use Rattle.desk_store.specs.Settling.{IsMarked, IsLeft, IsTrial}

@@ -1,9 +1,9 @@
 -- Calls on the tables one after another.
-use Rattle.std.proofs.Common.{◌≡◌, ◌⊎◌, inl, inr, refl, sym, ap, subst, ◌∙◌, ℕ, ◌<◌, ◌≤◌, [], true, false, IsTrue, Result, Ok, Err, OnOk, OnErr, arith}
+use Rattle.std.proofs.Common.{◌≡◌, inl, inr, refl, ap, ◌∙◌, IsTrue, Result, Ok, Err, OnOk, OnErr, arith}
 use Rattle.sqlite.specs.declared.error.Error.{Error}
 use Rattle.sqlite.specs.State.{State, HasCleanDisk}
 use Rattle.desk_tables.specs.Schema.{desk_schema}
-use Rattle.desk_tables.specs.Ends.{IfSound, IsLater, Stays, IsSame, IsUndone, FellLooking, FellWriting, IsLook, IsWrite}
+use Rattle.desk_tables.specs.Ends.{IsLater, Stays, IsSame, IsUndone, FellLooking, FellWriting, IsLook, IsWrite}
 
 pub later_then : (a b c : State) → IsLater a b → IsLater b c → IsLater a c
 later_then a b c p q = record { clean = omega (arith, p.clean, q.clean); faults = omega (arith, p.faults, q.faults) }

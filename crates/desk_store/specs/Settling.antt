@@ -3,8 +3,6 @@ use Rattle.std.specs.Prelude.{◌≡◌, ◌≢◌, ◌⊎◌, ℕ, ◌+◌, ◌
 use Rattle.sqlite.specs.declared.error.Error.{Error}
 use Rattle.sqlite.specs.Effect.{Database}
 use Rattle.sqlite.specs.State.{State, HasCleanDisk}
-use Rattle.desk_codes.specs.declared.currency.Ccy.{Ccy}
-use Rattle.desk_codes.specs.Number.{number_of}
 use Rattle.desk_msg.specs.declared.instruction.Cash.{Cash}
 use Rattle.desk_msg.specs.declared.status.Reason.TheVariants.{Lack, Money as LackOfMoney}
 use Rattle.desk_register.specs.Changes.{HasCash, LacksCash, cash_at, delivered, delivering_side, moved_to, paid_over, receiving_side, standing_both}
@@ -18,9 +16,9 @@ use Rattle.desk_rules.specs.declared.standing.State.{State as Stand}
 use Rattle.desk_rules.specs.declared.standing.State.TheVariants.{Matched, Settled}
 use Rattle.desk_amounts.specs.Amounts.{AreAmounts, amount_in}
 use Rattle.desk_amounts.specs.declared.key.Ledger.TheVariants.{Total}
-use Rattle.desk_standings.specs.Due.{AreDue, DueChanged, due_at, is_due_in}
+use Rattle.desk_standings.specs.Due.{DueChanged, due_at, is_due_in}
 use Rattle.desk_tables.specs.Control.{mark_at}
-use Rattle.desk_tables.specs.Ends.{IfSound, IsLater, IsUndone, SparesOthers, Stays}
+use Rattle.desk_tables.specs.Ends.{IfSound, IsLater, IsUndone, SparesOthers}
 use Rattle.desk_tables.specs.Schema.{desk_schema}
 use Rattle.desk_store.specs.Content.{content_in}
 use Rattle.desk_store.specs.Pairs.{StandBoth}

@@ -73,11 +73,7 @@ fn take_cash<S: Alter>(
 }
 
 /// Puts the cash that is asked for on a participant's balance.
-fn put_cash<S: Alter>(
-    conn: &mut Connection<S>,
-    bic: Bic,
-    asked: Option<Cash>,
-) -> Result<(), Error>
+fn put_cash<S: Alter>(conn: &mut Connection<S>, bic: Bic, asked: Option<Cash>) -> Result<(), Error>
     ensures changed { IfSound (state S.Store conn.old) (state S.Store conn.new) (AreAmounts (state S.Store conn.old).now → FitsCash (content_in (state S.Store conn.old).now).cash bic asked
         → OnOk result (AmountsSo (state S.Store conn.old).now (state S.Store conn.new).now (content_in (state S.Store conn.old).now).position (more_cash (content_in (state S.Store conn.old).now).cash bic asked))) }
     ensures write { IsWrite result (state S.Store conn.old) (state S.Store conn.new) }
@@ -230,7 +226,12 @@ fn mate_of<S: Alter>(conn: &mut Connection<S>, number: u64) -> Result<u64, Error
     }
 }
 
-fn pair_of(mate: u64, number: u64, earlier: Instructed, later: Instructed) -> Result<FoundPair, Error>
+fn pair_of(
+    mate: u64,
+    number: u64,
+    earlier: Instructed,
+    later: Instructed,
+) -> Result<FoundPair, Error>
     ensures { IfOk result (λ p. (p.mate ≡ mate) × (p.number ≡ number) × (p.earlier ≡ earlier) × (p.later ≡ later)) }
 {
     if 0 < mate && mate < number && number <= MOST_ENTRIES {

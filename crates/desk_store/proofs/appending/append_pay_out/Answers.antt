@@ -1,4 +1,4 @@
-use Rattle.std.proofs.Common.{Ok, Err, Result, OnOk, ◌≡◌, ℕ, ◌-◌, ◌≤◌, arith}
+use Rattle.std.proofs.Common.{Ok, Err, Result, OnOk, ℕ, ◌-◌, ◌≤◌, arith}
 use Rattle.sqlite.specs.Held.{state}
 use Rattle.sqlite.specs.State.{State, HasCleanDisk}
 use Rattle.sqlite.specs.declared.error.Error.{Error}

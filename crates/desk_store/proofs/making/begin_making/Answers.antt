@@ -1,4 +1,3 @@
-use Rattle.std.proofs.Common.{[]}
 use Rattle.sqlite.specs.Held.{state}
 use Rattle.desk_store.proofs.EmptyContent.{begun_making}
 use Rattle.desk_store.proofs.making.begin_making.Goals as goal

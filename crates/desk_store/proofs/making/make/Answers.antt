@@ -1,11 +1,10 @@
-use Rattle.std.proofs.Common.{◌≡◌, ◌∙◌, arith, ap, sym, subst, Some}
+use Rattle.std.proofs.Common.{◌∙◌, arith, ap, sym, subst, Some}
 use Rattle.sqlite.specs.Held.{state}
 use Rattle.sqlite.specs.State.{HasCleanDisk}
 use Rattle.desk_register.specs.Changes.{empty_content}
 use Rattle.desk_sent.specs.declared.versions.TheConstants.{VERSION}
 use Rattle.desk_sent.specs.Version.{HasVersion}
 use Rattle.desk_sent.proofs.TableLemmas.{no_version}
-use Rattle.desk_tables.specs.Schema.{no_schema}
 use Rattle.desk_store.specs.Holds.{Becomes}
 use Rattle.desk_store.proofs.EmptyContent.{blank_empty, empty_becomes, version_empty}
 use Rattle.desk_store.proofs.making.make.Goals as goal

@@ -1,10 +1,6 @@
-use Rattle.std.proofs.Common.{Ok, Err, Result, OnOk, arith, ◌⊎◌, inl, inr, ◌∙◌}
+use Rattle.std.proofs.Common.{arith}
 use Rattle.sqlite.specs.Held.{state}
-use Rattle.sqlite.specs.Effect.{Database}
 use Rattle.sqlite.specs.State.{HasCleanDisk}
-use Rattle.sqlite.specs.declared.error.Error.{Error}
-use Rattle.desk_unmatched.specs.Unmatched.{Forgets}
-use Rattle.desk_store.specs.Pairs.{ForgetsBoth}
 use Rattle.desk_store.proofs.BothContent.{forgets_both}
 use Rattle.desk_store.proofs.pairing.forget_both.Goals as goal
 

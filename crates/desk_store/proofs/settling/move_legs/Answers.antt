@@ -1,4 +1,4 @@
-use Rattle.std.proofs.Common.{rules, true, Bool, ◌<◌, ◌≤◌, ◌^◌, arith, lit<, subst}
+use Rattle.std.proofs.Common.{rules, Bool, ◌<◌, ◌^◌, arith, lit<, subst}
 use Rattle.sqlite.specs.Held.{state}
 use Rattle.sqlite.specs.State.{HasCleanDisk}
 use Rattle.desk_rules.proofs.ShortNumbers.{short_quantity}
@@ -38,9 +38,9 @@ returns-clause-changed g c clean is_open has amounts fits =
     let from = c.delivery-from.result.now in
     let to = c.receipt-to.result.now in
     let takes = subst (λ (r : Bool). TakesHeld s0.now s1.now from.instruction.account later.instruction.isin later.instruction.quantity r) c.if-not-branch.false
-        (c.in_ok-take_held.ensures.changed clean1 is_open has amounts) in
+    (c.in_ok-take_held.ensures.changed clean1 is_open has amounts) in
     let pays = subst (λ (r : Bool). TakesCash s1.now s2.now to.sender later.instruction.cash r) c.if-not-branch-2.false
-        (c.in_ok-take_cash.ensures.changed clean2 m1.is_open m1.schema takes.1.kept) in
+    (c.in_ok-take_cash.ensures.changed clean2 m1.is_open m1.schema takes.1.kept) in
     let gives = c.in_ok-put_held.ensures.changed clean3 m2.is_open m2.schema pays.1.kept (put_fits s0.now s1.now s2.now s3.now s4.now earlier later from to c.delivery-from.ensures c.receipt-to.ensures fits takes pays) in
     let paid = c.in_ok-put_cash.ensures.changed clean m3.is_open m3.schema gives.kept (pay_fits s0.now s1.now s2.now s3.now s4.now earlier later from to c.delivery-from.ensures c.receipt-to.ensures fits takes pays gives) in
     legs_settled s0.now s1.now s2.now s3.now s4.now earlier later from to c.delivery-from.ensures c.receipt-to.ensures takes pays gives paid

@@ -1,4 +1,4 @@
-use Rattle.std.proofs.Common.{rules, Some, Option, OnOk, ◌≤◌, ◌<◌, ◌^◌, arith, lit<, sym, subst}
+use Rattle.std.proofs.Common.{rules, Option, OnOk, ◌<◌, ◌^◌, arith, lit<, sym, subst}
 use Rattle.sqlite.specs.Held.{state}
 use Rattle.desk_msg.specs.declared.instruction.Cash.{Cash}
 use Rattle.desk_register.specs.Changes.{FitsCash}

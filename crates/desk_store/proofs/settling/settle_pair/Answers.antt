@@ -1,4 +1,4 @@
-use Rattle.std.proofs.Common.{◌≡◌, [], sym, ap, subst, ◌∙◌, ◌<◌, ◌≤◌, arith, true, ℕ, Ok}
+use Rattle.std.proofs.Common.{◌≡◌, sym, ap, subst, ◌∙◌, arith, ℕ, Ok}
 use Rattle.sqlite.specs.Effect.{Database}
 use Rattle.sqlite.specs.Held.{state}
 use Rattle.sqlite.specs.State.{HasCleanDisk}
@@ -8,7 +8,7 @@ use Rattle.desk_register.specs.Changes.{CanSettle, IsPairAt, SidesFit, TriesPair
 use Rattle.desk_tables.specs.Schema.{desk_schema}
 use Rattle.desk_store.specs.Content.{content_in}
 use Rattle.desk_store.specs.Holds.{IsDesk}
-use Rattle.desk_store.specs.Settling.{Closes, MovesBoth}
+use Rattle.desk_store.specs.Settling.{MovesBoth}
 use Rattle.desk_store.proofs.TrialLemmas.{moved_desk, sides_fit, triable, tried}
 use Rattle.desk_store.proofs.WithinLemmas.{release_trial, look_trial, write_marked, trial_as}
 use Rattle.desk_store.proofs.settling.settle_pair.Goals as goal
@@ -44,7 +44,7 @@ returns-clause-changed g c clean is_open has desk can inside none =
     let fits = sides_fit content p.mate p.number (number_of c.args.day) p.earlier p.later able pair in
     let has1 : s1.now.schema ≡ desk_schema = ap (λ (d : Database). d.schema) same.now ∙ has in
     let moves1 = c.in_ok-outcome.ensures.changed clean2 same.is_open has1 (subst AreAmounts (sym same.now) desk.amounts)
-        (subst (λ (d : Database). SidesFit (content_in d) p.earlier p.later) (sym same.now) fits) (same.mode ∙ inside) (same.marks ∙ none) in
+    (subst (λ (d : Database). SidesFit (content_in d) p.earlier p.later) (sym same.now) fits) (same.mode ∙ inside) (same.marks ∙ none) in
     let moves = subst (λ (d : Database). MovesBoth d s2.now p.earlier p.later c.in_ok-outcome.outcome) same.now moves1 in
     let marked2 = c.in_ok-outcome.ensures.trial.ok clean2 same.is_open has1 (same.mode ∙ inside) (same.marks ∙ none) in
     let moved = moved_desk s0.now s2.now p.mate p.number p.earlier p.later c.in_ok-outcome.outcome desk matched moves marked2.schema in
@@ -53,5 +53,5 @@ returns-clause-changed g c clean is_open has desk can inside none =
     let releases = c.in_ok-release.ensures.ok clean stays3.is_open stays3.schema s1.now (stays3.marks ∙ marked2.marks) in
     let all = tried s0.now s2.now p.mate p.number p.earlier p.later c.in_ok-outcome.outcome desk matched moves marked2.schema s3.now stays3.schema closes in
     let is : IsDesk s4.now × TriesPair content p.number c.in_ok-outcome.outcome (content_in s4.now) =
-        subst (λ (d : Database). IsDesk d × TriesPair content p.number c.in_ok-outcome.outcome (content_in d)) (sym releases.now) all in
+    subst (λ (d : Database). IsDesk d × TriesPair content p.number c.in_ok-outcome.outcome (content_in d)) (sym releases.now) all in
     subst (λ (k : ℕ). IsDesk s4.now × TriesPair content k c.in_ok-outcome.outcome (content_in s4.now)) found.0 is

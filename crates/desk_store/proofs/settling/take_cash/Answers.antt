@@ -1,4 +1,4 @@
-use Rattle.std.proofs.Common.{rules, Some, Option, IfOk, ◌≤◌, ◌<◌, ◌^◌, arith, lit<, sym, subst}
+use Rattle.std.proofs.Common.{rules, Option, IfOk, ◌<◌, ◌^◌, arith, lit<, sym, subst}
 use Rattle.std.proofs.lemmas.Result.{IfOk-weaker}
 use Rattle.sqlite.specs.Held.{state}
 use Rattle.desk_msg.specs.declared.instruction.Cash.{Cash}

@@ -21,9 +21,9 @@ invariant_of-self g c = (
 pub returns-clause-added : goal.returns-clause-added
 returns-clause-added g c =
     subst (λ (k : Kept _). HasCleanDisk (state g.S.Store c.append.new.conn) → IsTrue (state g.S.Store k.connection).is_open
-      → OnOk c.told.result (content_in (state g.S.Store c.append.new.conn).now ≡ appended c.args.entry c.args.reply (content_in (state g.S.Store k.connection).now))) c.self.view_is
+    → OnOk c.told.result (content_in (state g.S.Store c.append.new.conn).now ≡ appended c.args.entry c.args.reply (content_in (state g.S.Store k.connection).now))) c.self.view_is
     (λ clean is_open. told_content (state g.S.Store c.self.inside.conn) (state g.S.Store c.append.new.conn) c.self.inside.stage c.told.new.stage c.self.inside.failures c.told.new.failures c.self.inside.limit c.append.result c.told.result
-      (appended c.args.entry c.args.reply (content_in (state g.S.Store c.self.inside.conn).now)) (ap (λ k. k.stage) c.self.view_is ∙ c.requires.stage) c.self.invariant.0 c.append.ensures.write c.told.ensures
-      (λ clean is_open has desk. c.append.ensures.changed clean is_open has desk c.self.inside.limit
-        (subst (λ (k : Kept _). HasCleanDisk (state g.S.Store k.connection) → IsTrue (state g.S.Store k.connection).is_open → CanAppend k.room c.args.entry c.args.reply (content_in (state g.S.Store k.connection).now)) (sym c.self.view_is) c.requires.fits
-        (was_clean _ _ c.append.ensures.write.later clean) is_open)) clean is_open)
+    (appended c.args.entry c.args.reply (content_in (state g.S.Store c.self.inside.conn).now)) (ap (λ k. k.stage) c.self.view_is ∙ c.requires.stage) c.self.invariant.0 c.append.ensures.write c.told.ensures
+    (λ clean is_open has desk. c.append.ensures.changed clean is_open has desk c.self.inside.limit
+    (subst (λ (k : Kept _). HasCleanDisk (state g.S.Store k.connection) → IsTrue (state g.S.Store k.connection).is_open → CanAppend k.room c.args.entry c.args.reply (content_in (state g.S.Store k.connection).now)) (sym c.self.view_is) c.requires.fits
+    (was_clean _ _ c.append.ensures.write.later clean) is_open)) clean is_open)

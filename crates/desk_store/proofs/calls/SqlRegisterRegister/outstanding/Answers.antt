@@ -1,10 +1,8 @@
-use Rattle.std.proofs.Common.{◌≢◌, IfOk, IsTrue, subst}
+use Rattle.std.proofs.Common.{subst}
 use Rattle.sqlite.specs.Held.{state}
-use Rattle.sqlite.specs.State.{HasCleanDisk}
-use Rattle.desk_register.specs.declared.register.Stage.TheVariants.{Failed}
 use Rattle.desk_register.specs.View.{IsRead}
 use Rattle.desk_store.specs.Kept.{Kept, shown}
-use Rattle.desk_store.proofs.ReadLemmas.{read_told, value_told}
+use Rattle.desk_store.proofs.ReadLemmas.{read_told}
 use Rattle.desk_store.proofs.calls.SqlRegisterRegister.outstanding.Goals as goal
 
 pub returns-clause-read : goal.returns-clause-read
