@@ -1,5 +1,5 @@
 -- What the texts do to the register, and what they show of it.
-use Rattle.std.proofs.Common.{◌≡◌, inl, inr, ℕ, ◌+◌, ◌<◌, ◌^◌, zero, suc, pos, List, [], ◌∷◌, length, length-append, true, Option, None, Some, Ok, Err, Result, IfOk, Vec, option_map, refl, sym, ap, subst, ◌∙◌, arith}
+use Rattle.std.proofs.Common.{◌≡◌, ℕ, ◌+◌, ◌<◌, ◌^◌, zero, suc, pos, List, [], ◌∷◌, length, length-append, Option, None, Some, Ok, Err, Result, IfOk, Vec, option_map, refl, sym, ap, ◌∙◌, arith}
 use Rattle.std.specs.declared.alloc.Global.{Global}
 use Rattle.std.proofs.lemmas.Option.{slice_get-map, slice_get_past}
 use Rattle.sqlite.specs.Order.{Row}
@@ -9,29 +9,25 @@ use Rattle.sqlite.specs.Cast.{cast}
 use Rattle.sqlite.specs.Kind.TheVariants.{Integer}
 use Rattle.sqlite.specs.Edit.{edit_of, put_all}
 use Rattle.sqlite.specs.Rowids.TheVariants.{Chosen}
-use Rattle.sqlite.specs.Tree.{Trees, put_row}
-use Rattle.sqlite.specs.Command.TheVariants.{Insert}
-use Rattle.sqlite.specs.Source.TheVariants.{Values}
+use Rattle.sqlite.specs.Tree.{put_row}
 use Rattle.sqlite.specs.Program.{overlay}
 use Rattle.sqlite.specs.Term.{col}
-use Rattle.sqlite.specs.Does.{Tally, Does}
-use Rattle.sqlite.specs.Rows.{Written}
-use Rattle.sqlite.specs.Effect.{Database}
-use Rattle.sqlite.specs.Listing.{understood}
-use Rattle.sqlite.specs.State.{State, mode_of, Executes, Shown}
-use Rattle.sqlite.proofs.Callers.{runs_as, reads_as, one_step, statement_of}
+use Rattle.sqlite.specs.State.{State, Executes, Shown}
+use Rattle.sqlite.proofs.Callers.{reads_as}
 use Rattle.desk_rules.specs.declared.entry.Entry.{Entry}
 use Rattle.desk_rules.specs.declared.reply.Kept.{Kept}
 use Rattle.desk_rules.specs.declared.reply.Reply.{Reply}
 use Rattle.desk_rules.specs.History.{entry_at}
 use Rattle.desk_register.specs.Looked.{kept_at}
 use Rattle.desk_tables.specs.Schema.{desk_schema, register_table}
-use Rattle.desk_tables.proofs.StatementLemmas.{went, same_value}
+use Rattle.desk_tables.specs.Queries.{falling}
+use Rattle.desk_tables.proofs.QueryLemmas.{plain_rows, first_row}
+use Rattle.desk_tables.proofs.EditLemmas.{inserts, spares}
+use Rattle.desk_tables.proofs.ValueLemmas.{cast_int, cast_null}
 use Rattle.desk_entries.specs.Columns.{columns_of, kind_number}
 use Rattle.desk_entries.specs.Entries.{AreEntries, EntryAdded, entries_in, given, row_of, rows_from, type_value, with_entry}
 use Rattle.desk_entries.specs.Shown.{count_rows, row_if, shown_entry, shown_reply}
-use Rattle.desk_entries.proofs.GenericLemmas.{plain_rows, walk, cast_int, cast_null}
-use Rattle.desk_entries.proofs.TextLemmas.{insert_text, insert_terms, insert_is, inserts, last_text, last_is, lasts, entry_text, entry_terms, entry_is, entries, reply_text, reply_terms, reply_is, replies, by_number}
+use Rattle.desk_entries.proofs.TextLemmas.{insert_text, insert_terms, insert_is, insert_edit, last_text, last_is, lasts, entry_text, entry_terms, entry_is, entries, reply_text, reply_terms, reply_is, replies, by_number}
 use Rattle.desk_entries.proofs.RegisterLemmas.{last_shown, one_more, shows_number}
 
 -- ---- one entry more
@@ -45,26 +41,17 @@ module _ (old new : State) (register : List Kept) (has : old.now.schema ≡ desk
   added entry reply number count is small h =
       let params = given number entry reply in
       let db = old.now.trees in
-      let command = Insert 3 (Values insert_terms 22) in
-      let w = runs_as insert_text params old new desk_schema has command insert_is inserts.plain count h in
-      let text = statement_of insert_text (understood desk_schema insert_text) in
-      let done = went (subst (λ s. Does old.step_limit (mode_of old) params (record old.now { schema = s }) text None command (Ok (w.tally, new.now))) has w.changed) in
-      let now = ap (λ (p : Tally × Database). p.1) (same_value (went (went done.2).2).2) in
-      let row = went done.1 in
-      let written = went (went row.2).2 in
-      let counted = went written.2 in
-      let trees : done.0.trees ≡ written.0 = ap (λ (it : Written). it.trees) (same_value counted.2) ∙ same_value counted.1 in
-      let applied = one_step desk_schema _ db written.0 (edit_of db register_table [] Chosen 0 row.0) refl written.1 in
-      let news : (edit_of db register_table [] Chosen 0 row.0).news ≡ row_of number entry reply ∷ [] =
-      ap (λ all. (edit_of db register_table [] Chosen 0 all).news) row.1.1
+      let made = inserts old new has insert_text params count 3 register_table refl insert_edit.plain h insert_terms 22 refl insert_is in
+      let edit = edit_of db register_table [] Chosen 0 made.0 in
+      let news : edit.news ≡ row_of number entry reply ∷ [] =
+      ap (λ all. (edit_of db register_table [] Chosen 0 all).news) made.1
       ∙ rw (cast_int (pos number), cast_null, cast_int (pos (kind_number entry)), cast_int (pos (columns_of entry).quantity), cast_int (pos (columns_of entry).amount), cast_int (pos (columns_of entry).rule), cast_int (pos (columns_of entry).mt), cast_int (pos reply.status), cast_type reply.mt) refl in
-      let to : new.now.trees ≡ written.0 = ap (λ (d : Database). d.trees) now ∙ trees in
       let kept : Kept = record { entry = entry; reply = reply } in
       let last : put_row (row_of number entry reply) (db 6) ≡ rows_from 0 (with_entry register entry reply) = ap (put_row (row_of number entry reply)) are.rows ∙ one_more register number kept is in
       let more : length (with_entry register entry reply) ≡ length register + 1 = length-append register (kept ∷ []) in
       record {
-        entries = record { rows = ap (λ (t : Trees). t 6) to ∙ applied.rows ∙ ap (put_all (db 6)) news ∙ last; few = omega arith };
-        spares = λ tree apart unindexed. ap (λ (t : Trees). t tree) to ∙ applied.others tree (λ same. absurd (elim apart [ inl low ↦ omega arith | inr high ↦ omega arith ])) unindexed;
+        entries = record { rows = made.2.rows ∙ ap (put_all (db 6)) news ∙ last; few = omega arith };
+        spares = spares 6 9 old.now new.now edit (omega arith) (omega arith) made.2;
       }
 
   -- ---- what is shown
@@ -72,7 +59,7 @@ module _ (old new : State) (register : List Kept) (has : old.now.schema ≡ desk
   count_is : (rows : List Row) → Shown last_text [] old new rows → rows ≡ count_rows (length register)
   count_is rows h =
       let answers = reads_as last_text [] old new desk_schema has _ last_is lasts.plain lasts.unlisted rows h in
-      last_shown register (old.now.trees 6) rows are.rows (walk 6 [] (col 1 0 ∷ []) (col 1 0) true (overlay old.now.trees []) [] rows (answers.answer Null))
+      last_shown register (old.now.trees 6) rows are.rows (first_row 6 [] (col 1 0 ∷ []) (col 1 0) falling (overlay old.now.trees []) [] rows (answers.answer Null))
 
   entry_shown : (number : ℕ) (rows : List Row) → Shown entry_text (Int (pos number) ∷ []) old new rows → rows ≡ row_if (λ kept. shown_entry kept.entry) (kept_at register number)
   entry_shown number rows h =

@@ -1,4 +1,3 @@
-pub mod GenericLemmas
 pub mod TextLemmas
 pub mod RegisterLemmas
 pub mod EffectLemmas

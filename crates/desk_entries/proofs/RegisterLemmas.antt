@@ -1,9 +1,12 @@
 -- The rows of the register: which have a number, which is the last, and where one more goes.
-use Rattle.std.proofs.Common.{◌≡◌, inl, inr, ℕ, zero, suc, ◌+◌, ◌<◌, ◌≤◌, pos, ◌==◌, List, [], ◌∷◌, ◌++◌, length, map, filter, Bool, true, false, cond, ◌&&◌, Option, None, Some, slice_get, refl, sym, ap, subst, ◌∙◌, arith}
+use Rattle.std.proofs.Common.{◌≡◌, inl, inr, ℕ, zero, suc, ◌+◌, ◌<◌, ◌≤◌, pos, ◌==◌, List, [], ◌∷◌, ◌++◌, length, map, filter, Bool, false, cond, Option, None, Some, slice_get, refl, sym, ap, subst, ◌∙◌, arith}
 use Rattle.std.specs.List.{AllByRecursion}
 use Rattle.std.specs.List.Sorted.{IsPermutation}
 use Rattle.std.specs.Ordering.{is_lt}
 use Rattle.std.specs.declared.cmp.Ordering.TheVariants.{Less}
+use Rattle.std.proofs.lemmas.List.{nil_from_length}
+use Rattle.std.proofs.lemmas.List.Sorted.{length_permutation}
+use Rattle.sqlite.proofs.Callers.{one_permutation}
 use Rattle.std.proofs.lemmas.Bool.{eq-eqb, ne_eqb, cases_lt}
 use Rattle.sqlite.specs.Order.{Row, column, value_cmp}
 use Rattle.sqlite.specs.declared.types.Value.TheVariants.{Int}
@@ -12,12 +15,19 @@ use Rattle.sqlite.specs.Ops.{binary}
 use Rattle.sqlite.specs.Tree.{put_row, rowid}
 use Rattle.desk_rules.specs.declared.reply.Kept.{Kept}
 use Rattle.desk_register.specs.Looked.{kept_at}
+use Rattle.desk_tables.specs.Queries.{passes_all, falling, Among, IsFirst}
+use Rattle.desk_tables.proofs.QueryLemmas.{all_kept, at_among}
+use Rattle.desk_tables.proofs.EditLemmas.{put_last}
+use Rattle.desk_tables.proofs.ValueLemmas.{and_true, equal_test, number_less}
 use Rattle.desk_entries.specs.Entries.{row_of, rows_from}
 use Rattle.desk_entries.specs.Shown.{count_rows, row_if}
-use Rattle.desk_entries.proofs.GenericLemmas.{passes_all, number_test, below, put_last, Among, at_among, IsFirst, one_shown}
 use Rattle.desk_entries.proofs.TextLemmas.{by_number}
 
 -- ---- the rows of a number
+
+one_shown : {X : Type 0} (shows : X → Row) (found : Option X) (rows : List Row) → IsPermutation (row_if shows found) rows → rows ≡ row_if shows found
+one_shown shows None rows same = nil_from_length rows (length_permutation [] rows same)
+one_shown shows (Some x) rows same = one_permutation (shows x) rows same
 
 abbrev numbered : ℕ → Kept → Row
 numbered n kept = row_of n kept.entry kept.reply
@@ -25,13 +35,9 @@ numbered n kept = row_of n kept.entry kept.reply
 abbrev has_number : ℕ → Row → Bool
 has_number number = passes_all (by_number ∷ []) (Int (pos number) ∷ [])
 
-and_true : (b : Bool) → (b && true) ≡ b
-and_true true = refl
-and_true false = refl
-
 tells_number : (number m : ℕ) (kept : Kept) → has_number number (numbered m kept) ≡ m == number
 unfolding binary
-tells_number number m kept = rw (number_test m number) (and_true (m == number))
+tells_number number m kept = rw (equal_test m number) (and_true (m == number))
 
 passed : (number n : ℕ) (register : List Kept) → number ≤ n → filter (has_number number) (rows_from n register) ≡ []
 passed number n [] low = refl
@@ -93,18 +99,14 @@ last_among n kept (next ∷ more) =
     let same : n + 1 + length (next ∷ more) ≡ n + length (kept ∷ next ∷ more) = omega arith in
     (it.0, inr it.1, it.2 ∙ ap (λ m. Int (pos m)) same)
 
-filter_all : (rows : List Row) → filter (λ row. true) rows ≡ rows
-filter_all [] = refl
-filter_all (row ∷ rows) = ap (λ more. row ∷ more) (filter_all rows)
-
 count_shown : (n : ℕ) → 0 < n → count_rows n ≡ (Int (pos n) ∷ []) ∷ []
 count_shown zero some = absurd (omega arith)
 count_shown (suc n) some = refl
 
-pub last_shown : (register : List Kept) (held rows : List Row) → held ≡ rows_from 0 register → IsFirst (filter (passes_all [] []) held) [] (col 1 0 ∷ []) (col 1 0) true rows → rows ≡ count_rows (length register)
-last_shown register held rows is first = go register (subst (λ mine. IsFirst mine [] (col 1 0 ∷ []) (col 1 0) true rows) (filter_all held ∙ is) first)
+pub last_shown : (register : List Kept) (held rows : List Row) → held ≡ rows_from 0 register → IsFirst (filter (passes_all [] []) held) [] (col 1 0 ∷ []) (col 1 0) falling rows → rows ≡ count_rows (length register)
+last_shown register held rows is first = go register (subst (λ mine. IsFirst mine [] (col 1 0 ∷ []) (col 1 0) falling rows) (all_kept held ∙ is) first)
   where
-    go : (entries : List Kept) → IsFirst (rows_from 0 entries) [] (col 1 0 ∷ []) (col 1 0) true rows → rows ≡ count_rows (length entries)
+    go : (entries : List Kept) → IsFirst (rows_from 0 entries) [] (col 1 0 ∷ []) (col 1 0) falling rows → rows ≡ count_rows (length entries)
     go [] (inl none) = none.0
     go [] (inr some) = absurd some.1
     go (kept ∷ more) (inl none) = absurd (let e = none.1 in cc)
@@ -114,7 +116,7 @@ last_shown register held rows is first = go register (subst (λ mine. IsFirst mi
         let least : is_lt (value_cmp (column some.0 0) (column last.0 0)) ≡ false = some.3 last.0 last.1 in
         let under : is_lt (value_cmp (Int (pos at.0)) (Int (pos (0 + length (kept ∷ more))))) ≡ false = ap is_lt (ap (λ v. value_cmp v (Int (pos (0 + length (kept ∷ more))))) (sym at.1) ∙ ap (value_cmp (column some.0 0)) (sym last.2)) ∙ least in
         let top : at.0 ≡ length (kept ∷ more) = elim (cases_lt at.0 (0 + length (kept ∷ more))) [
-          | inl low ↦ absurd (let e = ap is_lt (sym (below at.0 (0 + length (kept ∷ more)) low)) ∙ under in cc)
+          | inl low ↦ absurd (let e = ap is_lt (sym (number_less at.0 (0 + length (kept ∷ more)) low)) ∙ under in cc)
           | inr high ↦ omega (arith, at.3)
         ] in
         some.2 ∙ ap (λ v. (v ∷ []) ∷ []) (at.1 ∙ ap (λ n. Int (pos n)) top) ∙ sym (count_shown (length (kept ∷ more)) (omega arith))
@@ -123,7 +125,7 @@ last_shown register held rows is first = go register (subst (λ mine. IsFirst mi
 
 all_below : (n last : ℕ) (register : List Kept) → n + length register < last → AllByRecursion (λ row. value_cmp (rowid row) (Int (pos last)) ≡ Less) (rows_from n register)
 all_below n last [] low = tt
-all_below n last (kept ∷ more) low = (below (n + 1) last (omega arith), all_below (n + 1) last more (omega arith))
+all_below n last (kept ∷ more) low = (number_less (n + 1) last (omega arith), all_below (n + 1) last more (omega arith))
 
 rows_more : (n : ℕ) (register : List Kept) (kept : Kept) → rows_from n register ++ numbered (n + length register + 1) kept ∷ [] ≡ rows_from n (register ++ kept ∷ [])
 rows_more n [] kept = let same : n + 0 + 1 ≡ n + 1 = omega arith in ap (λ k. numbered k kept ∷ []) same

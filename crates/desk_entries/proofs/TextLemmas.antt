@@ -1,19 +1,16 @@
 -- What the texts mean, compiled against the desk's tables.
-use Rattle.std.proofs.Common.{◌≡◌, ℕ, List, [], ◌∷◌, codes, true, refl}
+use Rattle.std.proofs.Common.{◌≡◌, ℕ, List, [], ◌∷◌, codes, refl}
 use Rattle.sqlite.specs.declared.types.Value.TheVariants.{Null}
-use Rattle.sqlite.specs.Collation.TheVariants.{Binary}
 use Rattle.sqlite.specs.Command.TheVariants.{Select, Insert}
 use Rattle.sqlite.specs.Source.TheVariants.{Values}
 use Rattle.sqlite.specs.Listing.{understood}
 use Rattle.sqlite.specs.Query.{Query}
-use Rattle.sqlite.specs.Term.{Term, lit, col, op2}
-use Rattle.sqlite_sql.specs.declared.ops.BinaryOp.TheVariants.{Compare}
-use Rattle.sqlite_sql.specs.declared.ops.CompareOp.TheVariants.{Eq}
+use Rattle.sqlite.specs.Term.{Term, lit, col}
 use Rattle.sqlite_tied.specs.Compute.{everything}
 use Rattle.sqlite.proofs.Callers.{IsPlain, command_of}
 use Rattle.desk_tables.specs.Schema.{desk_schema}
 use Rattle.desk_tables.specs.Statements.{IsEdit, IsQuery}
-use Rattle.desk_entries.proofs.GenericLemmas.{plain, walk_query}
+use Rattle.desk_tables.specs.Queries.{plain, first_of, falling, equals}
 
 abbrev pub insert_text : List ℕ
 insert_text =
@@ -35,7 +32,7 @@ insert_terms =
     ∷ col 0 14 ∷ col 0 15 ∷ col 0 16 ∷ col 0 17 ∷ col 0 18 ∷ col 0 19 ∷ col 0 20 ∷ []
 
 abbrev pub by_number : Term
-by_number = op2 (Compare Eq Binary) (col 1 0) (col 0 0)
+by_number = equals 0 0
 
 abbrev pub entry_terms : List Term
 entry_terms =
@@ -47,7 +44,7 @@ reply_terms = col 1 19 ∷ col 1 20 ∷ col 1 21 ∷ []
 
 -- the greatest number first
 abbrev pub last_query : Query
-last_query = walk_query 6 [] (col 1 0 ∷ []) (col 1 0) true
+last_query = first_of 6 [] (col 1 0 ∷ []) (col 1 0) falling
 
 pub insert_is : command_of (understood desk_schema insert_text) ≡ Insert 3 (Values insert_terms 22)
 unfolding understood everything
@@ -57,9 +54,9 @@ pub insert_plain : IsPlain (understood desk_schema insert_text)
 unfolding understood everything
 insert_plain = (refl, refl)
 
-pub inserts : IsEdit insert_text
+pub insert_edit : IsEdit insert_text
 unfolding understood everything
-inserts = record { changes = refl; plain = (refl, refl) }
+insert_edit = record { changes = refl; plain = (refl, refl) }
 
 pub last_is : command_of (understood desk_schema last_text) ≡ Select (record { lets = []; body = last_query }) (codes "number" ∷ [])
 unfolding understood everything

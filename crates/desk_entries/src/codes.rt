@@ -8,8 +8,9 @@ ghost use Rattle.desk_msg.specs.Profile.{code_of_kind};
 
 use desk_codes::{AccountId, Bic, Ccy, Day, Isin, Reference};
 use desk_msg::{Kind, Mt, SettlementType};
+use desk_tables::values::CORRUPT;
 use sqlite::types::ValueRef;
-use sqlite::{Error, ErrorCode, Row};
+use sqlite::{Error, Row};
 
 // The places of the columns in a row that is shown of an entry.
 pub(crate) const SENDER: usize = 0;
@@ -43,9 +44,6 @@ pub(crate) const SETTLEMENT: usize = 13;
 pub(crate) const PLACE: usize = 14;
 
 pub(crate) const PREVIOUS: usize = 15;
-
-/// What is answered where a row says nothing that this desk has written.
-pub const CORRUPT: Error = Error::SqliteFailure(ErrorCode::DatabaseCorrupt);
 
 /// The text in a column.
 pub fn text_at(row: &Row, at: usize) -> Result<&[u8], Error>

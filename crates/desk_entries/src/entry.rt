@@ -7,14 +7,14 @@ ghost use Rattle.desk_entries.specs.Columns.{kind_number, number_of_rule};
 ghost use Rattle.desk_entries.specs.Reading.{Says, SaysMovement, SaysOf, SaysPayment};
 
 use crate::codes::{
-    ACCOUNT, AMOUNT, BIC, CORRUPT, CURRENCY, DAY, ISIN, KIND, PREVIOUS, QUANTITY, REFERENCE, RULE,
-    SENDER, UNIT, account_at, bic_at, currency_at, day_at, isin_at, kind_at, number_at,
-    reference_at,
+    ACCOUNT, AMOUNT, BIC, CURRENCY, DAY, ISIN, KIND, PREVIOUS, QUANTITY, REFERENCE, RULE, SENDER,
+    UNIT, account_at, bic_at, currency_at, day_at, isin_at, kind_at, number_at, reference_at,
 };
 use crate::instruction::{instruction_in, type_in};
 use crate::kind;
 use desk_msg::CancelOrder;
 use desk_rules::{Entry, MOST_PAID, MOST_QUANTITY, Movement, Payment, RunRule};
+use desk_tables::values::CORRUPT;
 use sqlite::{Error, Row};
 use std::alloc::Global;
 

@@ -7,12 +7,13 @@ ghost use Rattle.desk_msg.specs.MessageType.{is_instruction, number_of_type};
 ghost use Rattle.desk_entries.specs.Reading.{SaysCash, SaysInstruction};
 
 use crate::codes::{
-    ACCOUNT, AMOUNT, BIC, CORRUPT, CURRENCY, DAY, ISIN, MT, PLACE, QUANTITY, REFERENCE, SETTLEMENT,
-    UNIT, account_at, bic_at, currency_at, day_at, isin_at, kind_at, mt_at, number_at,
-    reference_at, settlement_at, text_at,
+    ACCOUNT, AMOUNT, BIC, CURRENCY, DAY, ISIN, MT, PLACE, QUANTITY, REFERENCE, SETTLEMENT, UNIT,
+    account_at, bic_at, currency_at, day_at, isin_at, kind_at, mt_at, number_at, reference_at,
+    settlement_at, text_at,
 };
 use desk_codes::write_number;
 use desk_msg::{Cash, Instruction, Mt};
+use desk_tables::values::CORRUPT;
 use sqlite::{Error, ErrorCode, Row};
 use std::alloc::Global;
 

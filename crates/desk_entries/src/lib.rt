@@ -16,7 +16,7 @@ mod looking;
 mod values;
 
 pub use adding::add_entry;
-pub use codes::{CORRUPT, bic_at, day_at, isin_at, kind_at, number_at, text_at};
+pub use codes::{bic_at, day_at, isin_at, kind_at, number_at, text_at};
 pub use kind::{
     ACCOUNT, CANCELLATION, INSTRUCTION, ISSUE, PARTICIPANT, PAY_IN, PAY_OUT, REDEMPTION, RUN,
     SECURITY,

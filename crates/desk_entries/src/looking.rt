@@ -10,11 +10,11 @@ ghost use Rattle.sqlite_value.specs.Order.{column};
 ghost use Rattle.desk_entries.specs.Entries.{AreEntries, entries_in, type_value};
 ghost use Rattle.desk_entries.specs.Shown.{count_rows, row_if, shown_entry, shown_reply};
 
-use crate::codes::{CORRUPT, number_at, short_at, text_at};
+use crate::codes::{number_at, short_at, text_at};
 use crate::entry::entry_in;
-use crate::values::integer;
 use desk_rules::{Entry, Reply, Text};
 use desk_tables::statement::query;
+use desk_tables::values::integer;
 use sqlite::types::ValueRef;
 use sqlite::{Alter, Connection, Error, ErrorCode, Row};
 use std::alloc::Global;

@@ -1,22 +1,14 @@
 //! The values of a row that is put in.
-ghost use Rattle.std.specs.Prelude.{◌≡◌, ◌<◌, ◌^◌, pos};
+ghost use Rattle.std.specs.Prelude.{◌≡◌, ◌<◌, ◌^◌};
 ghost use Rattle.sqlite.specs.Values.{bound};
 ghost use Rattle.sqlite_value.specs.Value.{owned};
-ghost use Rattle.sqlite_value.specs.declared.value.Value.TheVariants.{Int};
 ghost use Rattle.desk_entries.specs.Entries.{given, type_value};
 
 use crate::columns::filled_by;
 use crate::keyed::{about, kind_number, reference_text, sender_text};
 use desk_rules::{Entry, Reply};
+use desk_tables::values::integer;
 use sqlite::types::ValueRef;
-
-/// A number, as SQL has it.
-pub(crate) fn integer<'a>(number: u64) -> ValueRef<'a>
-    requires { number < 2 ^ 63 }
-    ensures { owned result ≡ Int (pos number) }
-{
-    ValueRef::Int(number as i64)
-}
 
 /// A message type, or NULL where there is none.
 fn message_type<'a>(mt: Option<u16>) -> ValueRef<'a>

@@ -18,11 +18,13 @@ use Rattle.desk_rules.specs.declared.entry.Sender.{Sender}
 use Rattle.desk_rules.specs.declared.reply.Kept.{Kept}
 use Rattle.desk_rules.specs.History.{has_key, number_from, run_day}
 use Rattle.desk_rules.specs.Facts.{adds_participant, is_participant, owner_by, kind_by, or_else, first_said, last_said, last_run}
+use Rattle.sqlite_value.specs.declared.keys.Key.{Key}
 use Rattle.desk_tables.specs.Schema.{desk_schema}
+use Rattle.desk_tables.specs.Queries.{passes_all, rising, falling, IsFirst}
+use Rattle.desk_tables.proofs.QueryLemmas.{first_row}
 use Rattle.desk_entries.specs.Columns.{kind_number, about_of, columns_of}
 use Rattle.desk_entries.specs.Entries.{AreEntries, entries_in, row_of, rows_from}
 use Rattle.desk_finding.specs.Rows.{number_rows, text_rows}
-use Rattle.desk_entries.proofs.GenericLemmas.{passes_all, walk, IsFirst}
 use Rattle.desk_finding.proofs.NumberedLemmas.{Numbered, numbered, found, row_at, show_first, show_last, filter_numbered, found_rise, first_shown, last_shown}
 use Rattle.desk_finding.proofs.TextLemmas.{Finds}
 
@@ -40,17 +42,17 @@ module _ (old new : State) (has : old.now.schema ≡ desk_schema) (register : Li
   here : filter (passes_all terms params) (old.now.trees 6) ≡ map (row_at row_with) (found passes 0 register)
   here = ap (filter (passes_all terms params)) (are.rows ∙ rows_are 0 register) ∙ filter_numbered row_with (passes_all terms params) passes same 0 register
 
-  pub first_found : (key : Term) (descending : Bool) → Finds text key descending terms shown → IsFirst (map (row_at row_with) (found passes 0 register)) params shown key descending rows
-  first_found key descending finds =
+  pub first_found : (by : Term) (key : Key) → Finds text by key terms shown → IsFirst (map (row_at row_with) (found passes 0 register)) params shown by key rows
+  first_found by key finds =
       let answers = reads_as text params old new desk_schema has _ finds.is finds.query.plain finds.query.unlisted rows h in
-      subst (λ mine. IsFirst mine params shown key descending rows) here (walk 6 terms shown key descending (overlay old.now.trees []) params rows (answers.answer Null))
+      subst (λ mine. IsFirst mine params shown by key rows) here (first_row 6 terms shown by key (overlay old.now.trees []) params rows (answers.answer Null))
 
   module _ (shows : Numbered Kept → Row) (shows_is : (it : Numbered Kept) → eval_all shown (params ∷ row_at row_with it ∷ []) ≡ shows it) where
-    pub shows_first : Finds text (col 1 0) false terms shown → rows ≡ show_first shows (found passes 0 register)
-    shows_first finds = first_shown row_with params shown (col 1 0) shows (λ it. refl) shows_is rows (found passes 0 register) (found_rise passes 0 register) (first_found (col 1 0) false finds)
+    pub shows_first : Finds text (col 1 0) rising terms shown → rows ≡ show_first shows (found passes 0 register)
+    shows_first finds = first_shown row_with params shown (col 1 0) shows (λ it. refl) shows_is rows (found passes 0 register) (found_rise passes 0 register) (first_found (col 1 0) rising finds)
 
-    pub shows_last : Finds text (col 1 0) true terms shown → rows ≡ show_last shows (found passes 0 register)
-    shows_last finds = last_shown row_with params shown (col 1 0) shows (λ it. refl) shows_is rows (found passes 0 register) (found_rise passes 0 register) (first_found (col 1 0) true finds)
+    pub shows_last : Finds text (col 1 0) falling terms shown → rows ≡ show_last shows (found passes 0 register)
+    shows_last finds = last_shown row_with params shown (col 1 0) shows (λ it. refl) shows_is rows (found passes 0 register) (found_rise passes 0 register) (first_found (col 1 0) falling finds)
 
 -- ---- numbers
 

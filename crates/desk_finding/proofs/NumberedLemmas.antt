@@ -8,7 +8,11 @@ use Rattle.sqlite.specs.declared.types.Value.{Value}
 use Rattle.sqlite.specs.declared.types.Value.TheVariants.{Int}
 use Rattle.sqlite.specs.Term.{Term, eval, eval_all}
 use Rattle.sqlite.specs.Tree.{IsAscending}
-use Rattle.desk_entries.proofs.GenericLemmas.{Among, among_map, among_of, at_among, below, ranked, IsFirst}
+use Rattle.sqlite_value.specs.declared.keys.Key.{Key}
+use Rattle.sqlite_value.specs.Keys.{by_key}
+use Rattle.desk_tables.specs.Queries.{rising, falling, Among, IsFirst}
+use Rattle.desk_tables.proofs.QueryLemmas.{among_map, among_of, at_among}
+use Rattle.desk_tables.proofs.ValueLemmas.{number_less}
 
 -- what a row is made of, with its number
 abbrev pub Numbered : Type 0 → Type 0
@@ -61,17 +65,17 @@ found_rise passes n (x ∷ xs) = elim (cases_Bool (passes x)) [
 ]
 
 -- one value stands before another in the order of a query
-abbrev pub is_before : Bool → Value → Value → Bool
-is_before descending a b = is_lt (ranked descending a b)
+abbrev pub is_before : Key → Value → Value → Bool
+is_before key a b = is_lt (by_key key a b)
 
-before_by_number : (m n : ℕ) → m < n → is_before false (Int (pos m)) (Int (pos n)) ≡ true
-before_by_number m n low = ap is_lt (below m n low)
+before_by_number : (m n : ℕ) → m < n → is_before rising (Int (pos m)) (Int (pos n)) ≡ true
+before_by_number m n low = ap is_lt (number_less m n low)
 
 -- ---- the first and the last
 
-module _ {X : Type 0} (row : ℕ → X → Row) (params : Row) (shown : List Term) (key : Term) (shows : Numbered X → Row) (of_key : (it : Numbered X) → eval key (params ∷ row_at row it ∷ []) ≡ Int (pos it.0))
+module _ {X : Type 0} (row : ℕ → X → Row) (params : Row) (shown : List Term) (by : Term) (shows : Numbered X → Row) (of_key : (it : Numbered X) → eval by (params ∷ row_at row it ∷ []) ≡ Int (pos it.0))
     (shows_is : (it : Numbered X) → eval_all shown (params ∷ row_at row it ∷ []) ≡ shows it) (rows : List Row) where
-  pub first_shown : (all : List (Numbered X)) → IsAscending (λ (a b : Numbered X). a.0 < b.0) all → IsFirst (map (row_at row) all) params shown key false rows → rows ≡ show_first shows all
+  pub first_shown : (all : List (Numbered X)) → IsAscending (λ (a b : Numbered X). a.0 < b.0) all → IsFirst (map (row_at row) all) params shown by rising rows → rows ≡ show_first shows all
   first_shown [] rise (inl none) = none.0
   first_shown [] rise (inr one) = absurd one.1
   first_shown (a ∷ more) rise (inl none) = absurd (let e = none.1 in cc)
@@ -82,10 +86,10 @@ module _ {X : Type 0} (row : ℕ → X → Row) (params : Row) (shown : List Ter
       go b (inr later) is =
           let low : a.0 < b.0 = at_among (λ (b : Numbered X). a.0 < b.0) more rise.0 b later in
           let not_before = one.3 (row_at row a) (inl refl) in
-          let e : is_before false (Int (pos a.0)) (Int (pos b.0)) ≡ false = ap (λ v. is_before false v (Int (pos b.0))) (sym (of_key a)) ∙ ap (is_before false (eval key (params ∷ row_at row a ∷ []))) (sym (of_key b) ∙ ap (λ r. eval key (params ∷ r ∷ [])) (sym is)) ∙ not_before in
+          let e : is_before rising (Int (pos a.0)) (Int (pos b.0)) ≡ false = ap (λ v. is_before rising v (Int (pos b.0))) (sym (of_key a)) ∙ ap (is_before rising (eval by (params ∷ row_at row a ∷ []))) (sym (of_key b) ∙ ap (λ r. eval by (params ∷ r ∷ [])) (sym is)) ∙ not_before in
           absurd (both_ways _ e (before_by_number a.0 b.0 low))
 
-  pub last_shown : (all : List (Numbered X)) → IsAscending (λ (a b : Numbered X). a.0 < b.0) all → IsFirst (map (row_at row) all) params shown key true rows → rows ≡ show_last shows all
+  pub last_shown : (all : List (Numbered X)) → IsAscending (λ (a b : Numbered X). a.0 < b.0) all → IsFirst (map (row_at row) all) params shown by falling rows → rows ≡ show_last shows all
   last_shown [] rise (inl none) = none.0
   last_shown [] rise (inr one) = absurd one.1
   last_shown (a ∷ more) rise (inl none) = absurd (let e = none.1 in cc)
@@ -96,11 +100,11 @@ module _ {X : Type 0} (row : ℕ → X → Row) (params : Row) (shown : List Ter
       go b (inr later) is = absurd later
   last_shown (a ∷ (b ∷ more)) rise (inr one) = (let it = among_map (row_at row) (a ∷ (b ∷ more)) one.0 one.1 in go (last_shown (b ∷ more) rise.1) it.0 it.1 it.2)
     where
-      go : (IsFirst (map (row_at row) (b ∷ more)) params shown key true rows → rows ≡ show_last shows (b ∷ more)) → (c : Numbered X) → Among (a ∷ (b ∷ more)) c → one.0 ≡ row_at row c
+      go : (IsFirst (map (row_at row) (b ∷ more)) params shown by falling rows → rows ≡ show_last shows (b ∷ more)) → (c : Numbered X) → Among (a ∷ (b ∷ more)) c → one.0 ≡ row_at row c
           → rows ≡ show_last shows (b ∷ more)
       go rest c (inr later) is = rest (inr (one.0, subst (Among (map (row_at row) (b ∷ more))) (sym is) (among_of (row_at row) (b ∷ more) c later), one.2, λ s among. one.3 s (inr among)))
       go rest c (inl here) is =
           let not_before = one.3 (row_at row b) (inr (inl refl)) in
           let same : one.0 ≡ row_at row a = is ∙ ap (row_at row) here in
-          let e : is_before true (Int (pos b.0)) (Int (pos a.0)) ≡ false = ap (λ v. is_before true v (Int (pos a.0))) (sym (of_key b)) ∙ ap (is_before true (eval key (params ∷ row_at row b ∷ []))) (sym (of_key a) ∙ ap (λ r. eval key (params ∷ r ∷ [])) (sym same)) ∙ not_before in
+          let e : is_before falling (Int (pos b.0)) (Int (pos a.0)) ≡ false = ap (λ v. is_before falling v (Int (pos a.0))) (sym (of_key b)) ∙ ap (is_before falling (eval by (params ∷ row_at row b ∷ []))) (sym (of_key a) ∙ ap (λ r. eval by (params ∷ r ∷ [])) (sym same)) ∙ not_before in
           absurd (both_ways _ e (before_by_number a.0 b.0 rise.0.0))

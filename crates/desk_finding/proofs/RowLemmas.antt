@@ -1,12 +1,11 @@
 -- Which rows of the register pass the tests of the texts.
 use Rattle.std.proofs.Common.{◌≡◌, ◌≢◌, ℕ, pos, List, [], ◌∷◌, Bool, true, false, not, ◌&&◌, nat_eq, Some, refl, ap, ◌∙◌, arith}
 use Rattle.std.specs.Str.{bytes_eq}
-use Rattle.std.specs.Ordering.{is_eq, is_ne, is_gt, nat_cmp, int_cmp}
+use Rattle.std.specs.Ordering.{is_ne, is_gt, nat_cmp, int_cmp}
 use Rattle.std.specs.Cmp.Lexicographic.{slice_cmp}
 use Rattle.std.proofs.lemmas.Bool.Decides.{nat_tests}
-use Rattle.std.proofs.lemmas.Map.Text.{is_eq-slice_cmp}
 use Rattle.sqlite.specs.Order.{Row, value_cmp}
-use Rattle.sqlite_value.proofs.OrderLemmas.{value_cmp-Text, value_cmp-Int}
+use Rattle.sqlite_value.proofs.OrderLemmas.{value_cmp-Int}
 use Rattle.sqlite.specs.declared.types.Value.TheVariants.{Int, Text as Words}
 use Rattle.sqlite.specs.Ops.{binary, is_true, from_truth}
 use Rattle.desk_rules.specs.declared.entry.Entry.{Entry}
@@ -15,22 +14,13 @@ use Rattle.desk_rules.specs.declared.entry.Sender.{Sender}
 use Rattle.desk_rules.specs.declared.entry.Sender.TheVariants.{Operator, Participant as FromParticipant}
 use Rattle.desk_rules.specs.declared.reply.Reply.{Reply}
 use Rattle.desk_rules.specs.History.{sender_of, reference_of, same_sender, has_key}
+use Rattle.desk_tables.specs.Queries.{passes_all, equals}
+use Rattle.desk_tables.proofs.ValueLemmas.{truth_of, and_true, equal_test, text_test, text_above_test}
 use Rattle.desk_entries.specs.Columns.{sender_text, kind_number, about_of}
 use Rattle.desk_entries.specs.Entries.{row_of}
-use Rattle.desk_entries.proofs.GenericLemmas.{passes_all, number_test, truth_of}
-use Rattle.desk_finding.proofs.TextLemmas.{is_param, is_number, is_other, is_empty, is_above}
-
-and_true : (b : Bool) → (b && true) ≡ b
-and_true true = refl
-and_true false = refl
+use Rattle.desk_finding.proofs.TextLemmas.{is_number, is_other, is_empty, is_above}
 
 -- ---- one test of a row
-
-text_test : (s t : List ℕ) → is_true (from_truth (Some (is_eq (value_cmp (Words s) (Words t))))) ≡ bytes_eq s t
-text_test s t = truth_of (is_eq (value_cmp (Words s) (Words t))) ∙ ap is_eq (value_cmp-Text s t) ∙ is_eq-slice_cmp s t
-
-above_test : (s t : List ℕ) → is_true (from_truth (Some (is_gt (value_cmp (Words s) (Words t))))) ≡ is_gt (slice_cmp nat_cmp s t)
-above_test s t = truth_of (is_gt (value_cmp (Words s) (Words t))) ∙ ap is_gt (value_cmp-Text s t)
 
 nat_unequal : (m n : ℕ) → is_ne (int_cmp (pos m) (pos n)) ≡ not (nat_eq m n)
 nat_unequal m n = grind (arith, nat_tests)
@@ -43,27 +33,27 @@ module _ (number : ℕ) (entry : Entry) (reply : Reply) where
   row = row_of number entry reply
 
   -- an entry of this kind, about this
-  pub about_test : (kind : ℕ) (about : List ℕ) → passes_all (is_number 4 kind ∷ is_param 5 0 ∷ []) (Words about ∷ []) row ≡ (nat_eq (kind_number entry) kind && bytes_eq (about_of entry) about)
+  pub about_test : (kind : ℕ) (about : List ℕ) → passes_all (is_number 4 kind ∷ equals 5 0 ∷ []) (Words about ∷ []) row ≡ (nat_eq (kind_number entry) kind && bytes_eq (about_of entry) about)
   unfolding binary
-  about_test kind about = rw (number_test (kind_number entry) kind, text_test (about_of entry) about) (ap (λ b. nat_eq (kind_number entry) kind && b) (and_true (bytes_eq (about_of entry) about)))
+  about_test kind about = rw (equal_test (kind_number entry) kind, text_test (about_of entry) about) (ap (λ b. nat_eq (kind_number entry) kind && b) (and_true (bytes_eq (about_of entry) about)))
 
   -- an entry of this kind
   pub kind_test : (kind : ℕ) → passes_all (is_number 4 kind ∷ []) [] row ≡ nat_eq (kind_number entry) kind
   unfolding binary
-  kind_test kind = rw (number_test (kind_number entry) kind) (and_true (nat_eq (kind_number entry) kind))
+  kind_test kind = rw (equal_test (kind_number entry) kind) (and_true (nat_eq (kind_number entry) kind))
 
   -- an entry of this kind, about something above this
   pub later_test : (kind : ℕ) (about : List ℕ) → passes_all (is_number 4 kind ∷ is_above 5 0 ∷ []) (Words about ∷ []) row ≡ (nat_eq (kind_number entry) kind && is_gt (slice_cmp nat_cmp (about_of entry) about))
   unfolding binary
-  later_test kind about = rw (number_test (kind_number entry) kind, above_test (about_of entry) about) (ap (λ b. nat_eq (kind_number entry) kind && b) (and_true (is_gt (slice_cmp nat_cmp (about_of entry) about))))
+  later_test kind about = rw (equal_test (kind_number entry) kind, text_above_test (about_of entry) about) (ap (λ b. nat_eq (kind_number entry) kind && b) (and_true (is_gt (slice_cmp nat_cmp (about_of entry) about))))
 
   -- an entry of this kind, about nothing
   pub plain_test : (kind : ℕ) → passes_all (is_number 4 kind ∷ is_empty 5 ∷ []) [] row ≡ (nat_eq (kind_number entry) kind && bytes_eq (about_of entry) [])
   unfolding binary
-  plain_test kind = rw (number_test (kind_number entry) kind, text_test (about_of entry) []) (ap (λ b. nat_eq (kind_number entry) kind && b) (and_true (bytes_eq (about_of entry) [])))
+  plain_test kind = rw (equal_test (kind_number entry) kind, text_test (about_of entry) []) (ap (λ b. nat_eq (kind_number entry) kind && b) (and_true (bytes_eq (about_of entry) [])))
 
   -- an entry of a participant, with a reference
-  pub participants_test : (bic reference : List ℕ) → bic ≢ [] → passes_all (is_param 2 0 ∷ is_param 3 1 ∷ []) (Words bic ∷ Words reference ∷ []) row ≡ has_key (FromParticipant bic) reference entry
+  pub participants_test : (bic reference : List ℕ) → bic ≢ [] → passes_all (equals 2 0 ∷ equals 3 1 ∷ []) (Words bic ∷ Words reference ∷ []) row ≡ has_key (FromParticipant bic) reference entry
   unfolding binary
   participants_test bic reference named =
       rw (text_test (sender_text (sender_of entry)) bic, text_test (reference_of entry) reference)
@@ -75,7 +65,7 @@ module _ (number : ℕ) (entry : Entry) (reply : Reply) where
       same (FromParticipant other) bic named = refl
 
   -- an entry of the operator, with a reference
-  pub operators_test : (reference : List ℕ) → passes_all (is_empty 2 ∷ is_param 3 0 ∷ is_other 4 8 ∷ is_other 4 9 ∷ []) (Words reference ∷ []) row ≡ has_key Operator reference entry
+  pub operators_test : (reference : List ℕ) → passes_all (is_empty 2 ∷ equals 3 0 ∷ is_other 4 8 ∷ is_other 4 9 ∷ []) (Words reference ∷ []) row ≡ has_key Operator reference entry
   unfolding binary
   operators_test reference =
       rw (text_test (sender_text (sender_of entry)) [], text_test (reference_of entry) reference, other_test (kind_number entry) 8, other_test (kind_number entry) 9) (same entry)

@@ -24,10 +24,11 @@ use Rattle.desk_rules.specs.declared.reply.Kept.{Kept}
 use Rattle.desk_rules.specs.Facts.{kind_by, kind_of, or_else}
 use Rattle.desk_register.specs.Looked.{IsLess, IsAboveText, IsSecurityAfter}
 use Rattle.desk_tables.specs.Schema.{desk_schema}
+use Rattle.desk_tables.specs.Queries.{rising, Among, IsFirst}
+use Rattle.desk_tables.proofs.QueryLemmas.{among_map, among_of}
 use Rattle.desk_entries.specs.Columns.{kind_number, about_of}
 use Rattle.desk_entries.specs.Entries.{AreEntries, entries_in}
 use Rattle.desk_finding.specs.Rows.{text_rows}
-use Rattle.desk_entries.proofs.GenericLemmas.{Among, among_map, among_of, IsFirst}
 use Rattle.desk_finding.proofs.NumberedLemmas.{Numbered, found, row_at, is_before}
 use Rattle.desk_finding.proofs.TextLemmas.{first_security_text, finds_first_security, next_security_text, finds_next_security}
 use Rattle.desk_finding.proofs.RowLemmas.{kind_test, later_test}
@@ -126,11 +127,11 @@ module _ (passes : List ℕ → Bool) where
 abbrev about_in : Numbered Kept → Row
 about_in it = Words (about_of it.1.entry) ∷ []
 
-less_before : (s t : List ℕ) → IsLess s t → is_before false (Words s) (Words t) ≡ true
+less_before : (s t : List ℕ) → IsLess s t → is_before rising (Words s) (Words t) ≡ true
 less_before s t less = ap is_lt (value_cmp-Text s t ∙ less)
 
 pub first_is_next : (register : List Kept) (above : Option (List ℕ)) (passes : List ℕ → Bool) → ((isin : List ℕ) → IsAboveText above isin → passes isin ≡ true) → ((isin : List ℕ) → passes isin ≡ true → IsAboveText above isin)
-    → (params : Row) (rows : List Row) → IsFirst (map (row_at row_with) (found (is_security passes) 0 register)) params (col 1 5 ∷ []) (col 1 5) false rows
+    → (params : Row) (rows : List Row) → IsFirst (map (row_at row_with) (found (is_security passes) 0 register)) params (col 1 5 ∷ []) (col 1 5) rising rows
     → (found' : Option (List ℕ)) × (rows ≡ text_rows found') × IsSecurityAfter (entries_in register) above found'
 first_is_next register above passes to from params rows (inl none) = (
   None,
@@ -150,8 +151,8 @@ first_is_next register above passes to from params rows (inr one) =
         λ other there less.
             let next = is_hit passes other 0 register (sym (is_known other (entries_in register)) ∙ there.0) (to other there.1) in
             let not_before = one.3 (row_at row_with next.0) (among_of (row_at row_with) (found (is_security passes) 0 register) next.0 next.1) in
-            let e : is_before false (Words other) (Words isin) ≡ false = ap (λ t. is_before false (Words t) (Words isin)) (sym next.2)
-            ∙ subst (λ r. is_before false (Words (about_of next.0.1.entry)) (eval (col 1 5) (params ∷ r ∷ [])) ≡ false) it.2 not_before in
+            let e : is_before rising (Words other) (Words isin) ≡ false = ap (λ t. is_before rising (Words t) (Words isin)) (sym next.2)
+            ∙ subst (λ r. is_before rising (Words (about_of next.0.1.entry)) (eval (col 1 5) (params ∷ r ∷ [])) ≡ false) it.2 not_before in
             both_ways _ e (less_before other isin less),
       ),
     )
@@ -175,7 +176,7 @@ module _ (old new : State) (has : old.now.schema ≡ desk_schema) (register : Li
   first_security_shown (Ok rows) h =
       first_is_next register None (λ _. true) (λ isin above. refl) (λ isin right. tt) [] rows.items
       (first_found old new has register are first_security_text [] rows.items h _ _ (is_security (λ _. true))
-      (λ number kept. kind_test number kept.entry kept.reply 3 ∙ sym (and-true (nat_eq (kind_number kept.entry) 3))) (col 1 5) false finds_first_security)
+      (λ number kept. kind_test number kept.entry kept.reply 3 ∙ sym (and-true (nat_eq (kind_number kept.entry) 3))) (col 1 5) rising finds_first_security)
   first_security_shown (Err e) h = tt
 
   pub security_above_shown : (isin : List ℕ) → (r : Result (Vec Row Global) Error) → IfOk r (λ rows. Shown next_security_text (Words isin ∷ []) old new rows.items)
@@ -184,5 +185,5 @@ module _ (old new : State) (has : old.now.schema ≡ desk_schema) (register : Li
       let passes : List ℕ → Bool = λ other. is_gt (slice_cmp nat_cmp other isin) in
       first_is_next register (Some isin) passes (λ other. flips isin other) (λ other. flips_back isin other) (Words isin ∷ []) rows.items
       (first_found old new has register are next_security_text (Words isin ∷ []) rows.items h _ _ (is_security passes)
-      (λ number kept. later_test number kept.entry kept.reply 3 isin) (col 1 5) false finds_next_security)
+      (λ number kept. later_test number kept.entry kept.reply 3 isin) (col 1 5) rising finds_next_security)
   security_above_shown isin (Err e) h = tt

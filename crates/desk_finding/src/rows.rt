@@ -5,8 +5,9 @@ ghost use Rattle.desk_msg.specs.Profile.{code_of_kind};
 ghost use Rattle.desk_finding.specs.Rows.{number_rows, text_rows};
 
 use desk_codes::{Bic, Day, Isin};
-use desk_entries::{CORRUPT, bic_at, day_at, isin_at, kind_at, number_at, text_at};
+use desk_entries::{bic_at, day_at, isin_at, kind_at, number_at, text_at};
 use desk_msg::Kind;
+use desk_tables::values::CORRUPT;
 use sqlite::{Error, Row};
 
 /// The number that is shown.

@@ -1,9 +1,7 @@
 //! What two opposite instructions have in common, as values of the columns.
-ghost use Rattle.std.specs.Prelude.{◌≡◌, ℕ, ◌<◌, ◌^◌, pos};
+ghost use Rattle.std.specs.Prelude.{◌≡◌, pos};
 ghost use Rattle.sqlite.specs.declared.types.Value.TheVariants.{Int};
 ghost use Rattle.sqlite_value.specs.Value.{owned};
-ghost use Rattle.desk_msg.specs.MessageType.{is_instruction, is_against_payment};
-ghost use Rattle.desk_rules.specs.declared.entry.Instructed.{Instructed as TheInstructed};
 ghost use Rattle.desk_unmatched.specs.Columns.{values_in};
 ghost use Rattle.desk_unmatched.specs.Key.{key_of, wanted_key, opposite_type, currency_in, amount_in};
 

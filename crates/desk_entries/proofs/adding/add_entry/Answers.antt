@@ -1,10 +1,10 @@
 use Rattle.sqlite.specs.Held.{state}
-use Rattle.desk_entries.proofs.TextLemmas.{inserts}
+use Rattle.desk_entries.proofs.TextLemmas.{insert_edit}
 use Rattle.desk_entries.proofs.EffectLemmas.{added}
 use Rattle.desk_entries.proofs.adding.add_entry.Goals as goal
 
 pub execute-requires : goal.execute-requires
-execute-requires g c = record { edit = inserts }
+execute-requires g c = record { edit = insert_edit }
 
 pub returns-clause-added : goal.returns-clause-added
 returns-clause-added g c clean is_open has register are is =
