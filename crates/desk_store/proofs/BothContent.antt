@@ -6,13 +6,13 @@ use Rattle.sqlite.specs.declared.error.Error.{Error}
 use Rattle.desk_codes.specs.Number.{number_of}
 use Rattle.desk_msg.specs.declared.status.Reason.TheVariants.{Future}
 use Rattle.desk_register.specs.Looked.{IsMatchedPair}
-use Rattle.desk_register.specs.Changes.{CanCancelPair, CanPair, pair_cancelled, paired, standing_at, standing_both}
+use Rattle.desk_register.specs.Changes.{CanPair, paired, standing_at, standing_both}
 use Rattle.desk_rules.specs.Content.{Content, history_of}
 use Rattle.desk_rules.specs.declared.entry.Instructed.{Instructed}
 use Rattle.desk_rules.specs.declared.pair.Place.{Place}
 use Rattle.desk_rules.specs.declared.standing.Standing.{Standing}
 use Rattle.desk_rules.specs.declared.standing.State.{State}
-use Rattle.desk_rules.specs.declared.standing.State.TheVariants.{Cancelled, Matched}
+use Rattle.desk_rules.specs.declared.standing.State.TheVariants.{Matched}
 use Rattle.desk_rules.specs.History.{instruction_at}
 use Rattle.desk_rules.specs.Standing.{no_standing}
 use Rattle.desk_standings.specs.Due.{DueChanged, due_at, is_due_in, same_place}
@@ -196,83 +196,3 @@ pairs old s2 s3 new m n desk can schema stood forgot noted =
 
     dues : is_due_in s3 ≡ is_due_in old
     dues = same_due_in s3 old (due_spared s2 s3 10 12 forgot.spares (inr (omega arith)) ∙ due_spared old s2 9 10 stood.others (inr (omega arith)))
-
--- ---- a matched pair is cancelled
-
-module _ (content : Content) (m n : ℕ) (can : CanCancelPair content m n) where
-  abbrev dropped : ℕ → Standing
-  dropped = standing_both content.standing m n Cancelled
-
-  abbrev old_place : Place
-  old_place = record { day = number_of can.later.instruction.day; number = n }
-
-  drop_instructions : ((k : ℕ) → instruction_at (history_of content) k ≡ None → content.standing k ≡ no_standing) → (k : ℕ) → instruction_at (history_of content) k ≡ None → dropped k ≡ no_standing
-  drop_instructions all k none =
-      let out = no_instruction_else content m n can.earlier can.later k can.pair.is_earlier can.pair.is_later none in
-      other_stands content.standing m n can.two Cancelled k out.0 out.1 ∙ all k none
-
-  drop_unmatched : (k : ℕ) → unmatched_of content k ≡ unmatched_of (standing_so content dropped) k
-  drop_unmatched k = which k m n
-      (λ e. subst (λ j. unmatched_of content j ≡ unmatched_of (standing_so content dropped) j) (sym e)
-      (ap (λ s. if_unmatched s (instruction_at (history_of content) m)) can.earlier_matched
-      ∙ sym (ap (λ (s : Standing). if_unmatched s.state (instruction_at (history_of content) m)) (earlier_stands content.standing m n can.two Cancelled))))
-      (λ e. subst (λ j. unmatched_of content j ≡ unmatched_of (standing_so content dropped) j) (sym e)
-      (ap (λ s. if_unmatched s (instruction_at (history_of content) n)) can.later_matched
-      ∙ sym (ap (λ (s : Standing). if_unmatched s.state (instruction_at (history_of content) n)) (later_stands content.standing m n can.two Cancelled))))
-      (λ not_m not_n. sym (ap (λ (s : Standing). if_unmatched s.state (instruction_at (history_of content) k)) (other_stands content.standing m n can.two Cancelled k not_m not_n)))
-
-  drop_due : (is_due : Place → Bool) → ((p : Place) → is_due p ≡ true → IsMatchedPair content p) → (p : Place) → due_at is_due old_place false p ≡ true → IsMatchedPair (standing_so content dropped) p
-  drop_due is_due due p is = elim (cases_Bool (same_place old_place p)) [
-    | inl same ↦ absurd (let e = sym (ap (λ b. cond b false (is_due p)) same) ∙ is in cc)
-    | inr other ↦ (
-        let before = due p (sym (ap (λ b. cond b false (is_due p)) other) ∙ is) in
-        which p.number m n
-        (λ e. absurd (let mate = sym can.back ∙ ap (λ k. (content.standing k).mate) (sym e) ∙ before.has_mate in let same : n ≡ before.mate = cc in omega (arith, same, e, before.is_earlier, can.two)))
-        (λ e. absurd (
-        let later : Some can.later ≡ Some before.later = sym can.pair.is_later ∙ ap (instruction_at (history_of content)) (sym e) ∙ before.is_later in
-        let same : can.later ≡ before.later = cc in
-        let day : number_of can.later.instruction.day ≡ p.day = ap (λ (i : Instructed). number_of i.instruction.day) same ∙ before.day in
-        let place : old_place ≡ p = place_by old_place p day (sym e) in
-        let t = sym other ∙ subst (λ q. same_place old_place q ≡ true) place (place_itself old_place) in cc))
-        (λ not_m not_n. pair_still content dropped p (other_stands content.standing m n can.two Cancelled p.number not_m not_n) before)
-        )
-  ]
-
-  drop_due_all : (is_due : Place → Bool) → ((p : Place) → IsMatchedPair content p → is_due p ≡ true) → (p : Place) → IsMatchedPair (standing_so content dropped) p → due_at is_due old_place false p ≡ true
-  drop_due_all is_due all p pair = which p.number m n
-      (λ e. absurd (let t = sym (ap (λ s. s.state) (earlier_stands content.standing m n can.two Cancelled)) ∙ ap (λ k. (dropped k).state) (sym e) ∙ pair.matched in cc))
-      (λ e. absurd (let t = sym (ap (λ s. s.state) (later_stands content.standing m n can.two Cancelled)) ∙ ap (λ k. (dropped k).state) (sym e) ∙ pair.matched in cc))
-      (λ not_m not_n.
-      let before = all p (pair_at content dropped p (other_stands content.standing m n can.two Cancelled p.number not_m not_n) pair) in
-      elim (cases_Bool (same_place old_place p)) [
-        | inl same ↦ absurd (not_n (sym (ap (λ (q : Place). q.number) (same_is_place old_place p same))))
-        | inr other ↦ ap (λ b. cond b false (is_due p)) other ∙ before
-      ])
-
-pub drops_pair : (old s2 new : Database) (m n : ℕ) → IsDesk old → (can : CanCancelPair (content_in old) m n) → new.schema ≡ desk_schema → StandBoth old s2 m n Cancelled
-    → DueChanged s2 new (due_at (is_due_in s2) (record { day = number_of can.later.instruction.day; number = n }) false) → Becomes new (pair_cancelled m n (content_in old))
-drops_pair old s2 new m n desk can schema stood noted =
-    let content = content_in old in
-    let f = dropped content m n can in
-    standings_alone old new f desk (record {
-      schema = schema;
-      balances = balance_spared s2 new 12 13 noted.others (inl (omega arith)) ∙ balance_spared old s2 9 10 stood.others (inl (omega arith));
-      cash = cash_spared s2 new 12 13 noted.others (inl (omega arith)) ∙ cash_spared old s2 9 10 stood.others (inl (omega arith));
-      totals = total_spared s2 new 12 13 noted.others (inl (omega arith)) ∙ total_spared old s2 9 10 stood.others (inl (omega arith));
-      register = register_spared s2 new 12 13 noted.others (inl (omega arith)) ∙ register_spared old s2 9 10 stood.others (inl (omega arith));
-      messages = sent_spared s2 new 12 13 noted.others (inr (omega arith)) ∙ sent_spared old s2 9 10 stood.others (inr (omega arith));
-      standings = same_standings s2 new (sym states) stood.kept;
-      standing_is = sym (same_standing_in s2 new (sym states)) ∙ stood.standings_are;
-      instructions = drop_instructions content m n can desk.instructions;
-      unmatched = same_unmatched s2 new (unmatched_of (standing_so content f)) (sym (unmatched_spared s2 new 12 13 noted.others (inl (omega arith))))
-          (subst (AreUnmatched s2) (λ j k. drop_unmatched content m n can k j) (same_unmatched old s2 (unmatched_of content) (sym (unmatched_spared old s2 9 10 stood.others (inr (omega arith)))) desk.unmatched));
-      due_rows = noted.kept;
-      due = λ place is. drop_due content m n can (is_due_in s2) (λ p it. desk.due p (subst (λ g. g p ≡ true) dues it)) place (subst (λ g. g place ≡ true) noted.due_are is);
-      due_all = λ place pair. subst (λ g. g place ≡ true) (sym noted.due_are) (drop_due_all content m n can (is_due_in s2) (λ p it. subst (λ g. g p ≡ true) (sym dues) (desk.due_all p it)) place pair);
-    })
-  where
-    states : new.trees 9 ≡ s2.trees 9
-    states = state_spared s2 new 12 13 noted.others (inl (omega arith))
-
-    dues : is_due_in s2 ≡ is_due_in old
-    dues = same_due_in s2 old (due_spared old s2 9 10 stood.others (inr (omega arith)))

@@ -1,17 +1,17 @@
 -- Both instructions of a matched pair stand otherwise: the pair has come to its end, or waits for another reason.
-use Rattle.std.proofs.Common.{◌≡◌, ◌≢◌, inl, inr, sym, ap, subst, ◌∙◌, ℕ, ◌<◌, cond, Bool, true, false, Option, None, Some, arith}
+use Rattle.std.proofs.Common.{◌≡◌, ◌≢◌, inl, inr, refl, sym, ap, subst, ◌∙◌, ℕ, ◌<◌, cond, Bool, true, false, Option, None, Some, arith}
 use Rattle.std.proofs.lemmas.Bool.{cases_Bool}
 use Rattle.sqlite.specs.Effect.{Database}
 use Rattle.desk_codes.specs.Number.{number_of}
 use Rattle.desk_msg.specs.declared.status.Reason.{Reason}
 use Rattle.desk_register.specs.Looked.{IsMatchedPair}
-use Rattle.desk_register.specs.Changes.{IsPairAt, standing_both}
+use Rattle.desk_register.specs.Changes.{CanCancelPair, IsPairAt, pair_cancelled, standing_both}
 use Rattle.desk_rules.specs.Content.{Content, history_of}
 use Rattle.desk_rules.specs.declared.entry.Instructed.{Instructed}
 use Rattle.desk_rules.specs.declared.pair.Place.{Place}
 use Rattle.desk_rules.specs.declared.standing.Standing.{Standing}
 use Rattle.desk_rules.specs.declared.standing.State.{State}
-use Rattle.desk_rules.specs.declared.standing.State.TheVariants.{Matched}
+use Rattle.desk_rules.specs.declared.standing.State.TheVariants.{Cancelled, Matched}
 use Rattle.desk_rules.specs.History.{instruction_at}
 use Rattle.desk_rules.specs.Standing.{no_standing}
 use Rattle.desk_standings.specs.Due.{DueChanged, due_at, is_due_in, same_place}
@@ -188,3 +188,21 @@ module _ (old s2 new : Database) (m n : ℕ) (earlier later : Instructed) (desk 
     due = λ place is. waits_due content m n earlier later can state reason waits (is_due_in s2) (λ p it. desk.due p (subst (λ g. g p ≡ true) dues it)) place is;
     due_all = λ place pair. waits_due_all content m n earlier later can state (is_due_in s2) (λ p it. subst (λ g. g p ≡ true) (sym dues) (desk.due_all p it)) place pair;
   }))
+
+-- ---- a matched pair is cancelled
+
+cancellable : (before : Content) (m n : ℕ) (can : CanCancelPair before m n) → IsMatchedAt before m n can.earlier can.later
+cancellable before m n can = record {
+  two = can.two;
+  pair = can.pair;
+  back = can.back;
+  earlier_reason = can.earlier_reason;
+  earlier_matched = can.earlier_matched;
+  later_reason = can.later_reason;
+  later_matched = can.later_matched;
+}
+
+pub drops_pair : (old s2 new : Database) (m n : ℕ) → IsDesk old → (can : CanCancelPair (content_in old) m n) → new.schema ≡ desk_schema → StandBoth old s2 m n Cancelled
+    → DueChanged s2 new (due_at (is_due_in s2) (record { day = number_of can.later.instruction.day; number = n }) false) → Becomes new (pair_cancelled m n (content_in old))
+drops_pair old s2 new m n desk can schema both noted =
+    ends_pair old s2 new m n can.earlier can.later desk (cancellable (content_in old) m n can) Cancelled (λ o. refl) schema both (λ reason e. cc) noted

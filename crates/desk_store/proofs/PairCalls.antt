@@ -18,7 +18,8 @@ use Rattle.desk_store.specs.Content.{content_in}
 use Rattle.desk_store.specs.Holds.{Becomes, IsDesk}
 use Rattle.desk_store.specs.Pairs.{ForgetsBoth, StandBoth}
 use Rattle.desk_store.proofs.FrameLemmas.{due_spared}
-use Rattle.desk_store.proofs.BothContent.{drops_pair, pairs}
+use Rattle.desk_store.proofs.BothContent.{pairs}
+use Rattle.desk_store.proofs.EndedContent.{drops_pair}
 
 -- the day that was looked up is the later instruction's
 abbrev pub IsItsDay : Database → ℕ → List ℕ → Type 0
