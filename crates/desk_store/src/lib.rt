@@ -1,15 +1,24 @@
-//! The register in SQL tables.
+//! The register in SQL: `SqlRegister`, over the desk's tables of any connection of the library `sqlite`, meets the law of
+//! `desk_register`.
+//!
+//! `sql_register.rt` has the struct, `making.rt` makes one in a database that has no table, and `calls.rt` has the calls of
+//! the law: each is one function over a connection, whose end `fault.rt` tells of the register. `looking` finds, `appending`,
+//! `pairing`, `settling`, `cancelling` and `sending` change, `undoing` takes a transaction back, and `numbers` says which
+//! numbers the tables can hold. Begin with specs/Content.antt, what the tables say, and specs/Holds.antt, what they keep
+//! true.
 #![tactic(auto)]
 
-pub mod appending;
-pub mod calls;
-pub mod cancelling;
-pub mod fault;
-pub mod looking;
-pub mod making;
-pub mod numbers;
-pub mod pairing;
-pub mod sending;
-pub mod settling;
-pub mod sql_register;
-pub mod undoing;
+mod appending;
+mod calls;
+mod cancelling;
+mod fault;
+mod looking;
+mod making;
+mod numbers;
+mod pairing;
+mod sending;
+mod settling;
+mod sql_register;
+mod undoing;
+
+pub use sql_register::SqlRegister;
