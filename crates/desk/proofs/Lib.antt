@@ -2,3 +2,5 @@ pub mod ReadLemmas
 mod PlayLemmas
 mod WordsLemmas
 mod RunLemmas
+mod FindingLemmas
+mod CheckLemmas

@@ -13,7 +13,7 @@ use Rattle.clap.proofs.OnLiterals.{clap_on_literals}
 use Rattle.desk_msg.specs.MessageType.{digits_of_type, is_instruction}
 use Rattle.desk_msg.specs.declared.mt.Mt.{Mt}
 use Rattle.desk_msg.specs.declared.mt.Mt.TheVariants.{Mt540, Mt541, Mt542, Mt543, Mt544, Mt545, Mt546, Mt547}
-use Rattle.desk.specs.Words.{CallValue, IsAskable, IsSpelledOut, IsSaid, IsSaidBy, IsSaidIn, IsTypeText, value_of_call, desk_app, IsNumberText, IsTopic, explain, isin, play, read, serve, words_for}
+use Rattle.desk.specs.Words.{CallValue, IsAskable, IsSpelledOut, IsSaid, IsSaidBy, IsSaidIn, IsTypeText, value_of_call, desk_app, IsNumberText, IsTopic, check, explain, isin, play, read, serve, words_for}
 use Rattle.desk.specs.declared.words.Call.{Call}
 use Rattle.desk.specs.declared.words.Topic.{Topic}
 use Rattle.desk.specs.declared.words.Topic.TheVariants.{Catalogue, Number}
@@ -64,6 +64,10 @@ takes_play : (program : List ℕ) → takes desk_app (program ∷ words_for play
 unfolding clap_on_literals
 takes_play program = refl
 
+takes_check : (program : List ℕ) → takes desk_app (program ∷ words_for check) ≡ true
+unfolding clap_on_literals
+takes_check program = refl
+
 takes_explain : (program : List ℕ) → takes desk_app (program ∷ words_for (explain Catalogue)) ≡ true
 unfolding clap_on_literals
 takes_explain program = refl
@@ -72,6 +76,7 @@ pub takes_asked : (program : List ℕ) (asked : CallValue) → IsAskable asked �
 takes_asked program (isin code) other = takes_isin program code (no_dashes code other) (no_long code other) (no_short code other)
 takes_asked program (read mt) is = takes_read program mt is
 takes_asked program play is = takes_play program
+takes_asked program check is = takes_check program
 takes_asked program (explain Catalogue) is = takes_explain program
 takes_asked program (explain (Number number)) never = absurd never
 takes_asked program (serve port count) never = absurd never
@@ -103,6 +108,10 @@ enters_play : (program : List ℕ) → IsSomeAnd (subcommand_of desk_app (progra
 unfolding clap_on_literals
 enters_play program = refl
 
+enters_check : (program : List ℕ) → IsSomeAnd (subcommand_of desk_app (program ∷ words_for check)) (λ p. p.0 ≡ codes "check")
+unfolding clap_on_literals
+enters_check program = refl
+
 enters_explain : (program : List ℕ) → IsSomeAnd (subcommand_of desk_app (program ∷ words_for (explain Catalogue))) (λ p. (p.0 ≡ codes "explain") × (first_of (codes "number") p.1 ≡ None))
 unfolding clap_on_literals
 enters_explain program = (refl, refl)
@@ -111,6 +120,7 @@ pub enters_asked : (program : List ℕ) (asked : CallValue) → IsAskable asked 
 enters_asked program (isin code) other = enters_isin program code (no_dashes code other) (no_long code other) (no_short code other)
 enters_asked program (read mt) is = enters_read program mt is
 enters_asked program play is = enters_play program
+enters_asked program check is = enters_check program
 enters_asked program (explain Catalogue) is = enters_explain program
 enters_asked program (explain (Number number)) never = absurd never
 enters_asked program (serve port count) never = absurd never
@@ -151,6 +161,7 @@ module _ (asked : CallValue) (name : List ℕ) (f : Found) where
       go (isin code) h = (code, refl, first_value-rows f (codes "code") ∙ h.1)
       go (read mt) h = let bad : 114 ≡ 105 = ap (λ t. slice_index t 0) (sym h.0 ∙ is) in absurd (omega (arith, bad))
       go play h = let bad : 112 ≡ 105 = ap (λ t. slice_index t 0) (sym h ∙ is) in absurd (omega (arith, bad))
+      go check h = let bad : 99 ≡ 105 = ap (λ t. slice_index t 0) (sym h ∙ is) in absurd (omega (arith, bad))
       go (explain Catalogue) h = let bad : 101 ≡ 105 = ap (λ t. slice_index t 0) (sym h.0 ∙ is) in absurd (omega (arith, bad))
       go (explain (Number number)) h = absurd h
       go (serve port count) h = absurd h
@@ -162,6 +173,7 @@ module _ (asked : CallValue) (name : List ℕ) (f : Found) where
       go (isin code) h = let bad : 105 ≡ 114 = ap (λ t. slice_index t 0) (sym h.0 ∙ is) in absurd (omega (arith, bad))
       go (read mt) h = (mt, refl, one_text-rows f (codes "mt") ∙ h.1, h.2)
       go play h = let bad : 112 ≡ 114 = ap (λ t. slice_index t 0) (sym h ∙ is) in absurd (omega (arith, bad))
+      go check h = let bad : 99 ≡ 114 = ap (λ t. slice_index t 0) (sym h ∙ is) in absurd (omega (arith, bad))
       go (explain Catalogue) h = let bad : 101 ≡ 114 = ap (λ t. slice_index t 0) (sym h.0 ∙ is) in absurd (omega (arith, bad))
       go (explain (Number number)) h = absurd h
       go (serve port count) h = absurd h
@@ -172,6 +184,7 @@ module _ (asked : CallValue) (name : List ℕ) (f : Found) where
       go : (a : CallValue) → IsSpelledOut a name (rows_of f) → (a ≡ explain Catalogue) × (first_value f (codes "number") ≡ None)
       go (isin code) h = let bad : 105 ≡ 101 = ap (λ t. slice_index t 0) (sym h.0 ∙ is) in absurd (omega (arith, bad))
       go (read mt) h = let bad : 114 ≡ 101 = ap (λ t. slice_index t 0) (sym h.0 ∙ is) in absurd (omega (arith, bad))
+      go check h = let bad : 99 ≡ 101 = ap (λ t. slice_index t 0) (sym h ∙ is) in absurd (omega (arith, bad))
       go play h = let bad : 112 ≡ 101 = ap (λ t. slice_index t 0) (sym h ∙ is) in absurd (omega (arith, bad))
       go (explain Catalogue) h = (refl, first_value-rows f (codes "number") ∙ h.1)
       go (explain (Number number)) h = absurd h

@@ -1,8 +1,11 @@
 pub mod CallAnswer
+pub mod CheckAnswer
 pub mod ExplainAnswer
+pub mod Finding
 pub mod IsinAnswer
 pub mod PlayAnswer
 pub mod ReadAnswer
 pub mod ServeAnswer
 pub mod Status
+pub mod Told
 pub mod Words

@@ -9,14 +9,15 @@ use Rattle.desk_msg.specs.declared.mt.Mt.{Mt}
 use Rattle.desk.specs.declared.words.Call.{Call}
 use Rattle.desk.specs.declared.words.Topic.{Topic}
 use Rattle.desk.specs.declared.words.Topic.TheVariants.{Catalogue, Number}
-use Rattle.desk.specs.declared.words.Call.TheVariants.{Isin, Read, Play, Explain, Serve}
+use Rattle.desk.specs.declared.words.Call.TheVariants.{Isin, Read, Play, Check, Explain, Serve}
 
--- what is asked for: whether a code is an ISIN, what a message of a type says, a script's answers, what a number means or
--- all of them, or to serve so many connections at a port
+-- what is asked for: whether a code is an ISIN, what a message of a type says, a script's answers, what is refused in
+-- a script, what a number means or all of them, or to serve so many connections at a port
 pub data CallValue : Type 0 where
   isin : (code : List ℕ) → CallValue
   read : (mt : Mt) → CallValue
   play : CallValue
+  check : CallValue
   explain : (topic : Topic) → CallValue
   serve : (port count : ℕ) → CallValue
 
@@ -24,6 +25,7 @@ abbrev pub value_of_call : Call → CallValue
 value_of_call (Isin code) = isin code.now
 value_of_call (Read mt) = read mt
 value_of_call Play = play
+value_of_call Check = check
 value_of_call (Explain topic) = explain topic
 value_of_call (Serve service) = serve service.port service.count
 
@@ -37,6 +39,7 @@ abbrev pub words_for : CallValue → List (List ℕ)
 words_for (isin code) = codes "isin" ∷ code ∷ []
 words_for (read mt) = codes "read" ∷ digits_of_type mt ∷ []
 words_for play = codes "play" ∷ []
+words_for check = codes "check" ∷ []
 words_for (explain Catalogue) = codes "explain" ∷ []
 words_for (explain (Number number)) = codes "explain" ∷ decimal number ∷ []
 words_for (serve port count) = codes "serve" ∷ codes "--port" ∷ decimal port ∷ codes "--count" ∷ decimal count ∷ []
@@ -47,6 +50,7 @@ abbrev pub IsAskable : CallValue → Type 0
 IsAskable (isin code) = slice_index code 0 ≢ byte "-"
 IsAskable (read mt) = is_instruction mt ≡ true
 IsAskable play = Unit {0}
+IsAskable check = Unit {0}
 IsAskable (explain Catalogue) = Unit {0}
 IsAskable (explain (Number number)) = ⊥
 IsAskable (serve port count) = ⊥
@@ -56,6 +60,7 @@ abbrev pub IsSpelledOut : CallValue → List ℕ → List Row → Type 0
 IsSpelledOut (isin code) name rows = (name ≡ codes "isin") × (first_of (codes "code") rows ≡ Some code)
 IsSpelledOut (read mt) name rows = (name ≡ codes "read") × (one_of (codes "mt") rows ≡ Some (digits_of_type mt)) × (is_instruction mt ≡ true)
 IsSpelledOut play name rows = name ≡ codes "play"
+IsSpelledOut check name rows = name ≡ codes "check"
 IsSpelledOut (explain Catalogue) name rows = (name ≡ codes "explain") × (first_of (codes "number") rows ≡ None)
 IsSpelledOut (explain (Number number)) name rows = ⊥
 IsSpelledOut (serve port count) name rows = ⊥
@@ -75,6 +80,9 @@ read_app = with_rule (new_app (codes "read")) type_rule
 
 abbrev pub play_app : App
 play_app = new_app (codes "play")
+
+abbrev pub check_app : App
+check_app = new_app (codes "check")
 
 abbrev pub cause_rule : Rule
 cause_rule = record (new_rule (codes "number")) { value_names = 1; parser = Some (Signed (pos 1) (pos 99)) }
@@ -96,7 +104,7 @@ abbrev pub bare_app : App
 bare_app = record (new_app (codes "desk")) { top = record (new_app (codes "desk")).top { has_version = true } }
 
 abbrev pub desk_app : App
-desk_app = with_subcommand (with_subcommand (with_subcommand (with_subcommand (with_subcommand bare_app isin_app.top) read_app.top) play_app.top) explain_app.top) serve_app.top
+desk_app = with_subcommand (with_subcommand (with_subcommand (with_subcommand (with_subcommand (with_subcommand bare_app isin_app.top) read_app.top) play_app.top) check_app.top) explain_app.top) serve_app.top
 
 -- a numeral of a number; a plus and zeros may stand before it
 abbrev pub IsNumberText : ℕ → List ℕ → Type 0
@@ -116,6 +124,7 @@ abbrev pub IsSaid : CallValue → List ℕ → List Row → Type 0
 IsSaid (isin code) name rows = (name ≡ codes "isin") × (first_of (codes "code") rows ≡ Some code)
 IsSaid (read mt) name rows = (name ≡ codes "read") × IsSomeAnd (one_of (codes "mt") rows) (IsTypeText mt)
 IsSaid play name rows = name ≡ codes "play"
+IsSaid check name rows = name ≡ codes "check"
 IsSaid (explain topic) name rows = (name ≡ codes "explain") × IsTopic topic (first_of (codes "number") rows) (one_of (codes "number") rows)
 IsSaid (serve port count) name rows =
     (name ≡ codes "serve") × IsSomeAnd (one_of (codes "port") rows) (IsNumberText port) × IsSomeAnd (one_of (codes "count") rows) (IsNumberText count)

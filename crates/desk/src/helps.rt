@@ -7,7 +7,8 @@ pub const VERSION: &str = "0.1.0";
 pub const PROGRAM: &str = "\
 Exit status:
   0  done
-  1  refused: the code is no ISIN, the text is no message, or the number is told of nothing
+  1  refused: the code is no ISIN, the text is no message, a request of the script that
+     was checked is refused, or the number is told of nothing
   2  usage: the words are wrong
   3  fault: memory, the input or the output failed
 
@@ -49,6 +50,15 @@ explain` tells what the numbers behind `refused` and `fault` mean. docs/RULES.md
 
 Example:
   ./desk play < examples/day/day.script";
+
+/// Of `desk check`
+pub const CHECK: &str = "\
+Of each answer whose status is not 200 it prints a line: the line of the script where the request begins,
+the first 40 bytes of that line, and what the number means that is told. At its end it prints how many tell
+each number. Its status is 1 where there is any, and 0 where there is none.
+
+Example:
+  ./desk check < examples/day/day.script | tail -n 4";
 
 /// Of `desk explain`
 pub const EXPLAIN: &str = "\

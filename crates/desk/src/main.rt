@@ -5,14 +5,18 @@
 //! run ends, and `run.rt` joins them. Begin with `run.rt`.
 #![tactic(auto)]
 
+mod check;
 mod explain;
+mod finding;
 mod helps;
 mod isin;
+mod lines;
 mod play;
 mod read;
 mod run;
 mod serve;
 mod status;
+mod told;
 mod words;
 
 use std::io::IsTerminal;

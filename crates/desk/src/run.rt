@@ -8,6 +8,7 @@ ghost use Rattle.desk.specs.CallAnswer.{IsCallAnswer, IsMemoryTold};
 ghost use Rattle.desk.specs.Status.{failure_line, status_of_error};
 ghost use Rattle.desk.specs.Words.{CallValue, IsAskable, ReadsOnlyInstructions, IsSaidBy, value_of_call, words_for};
 
+use crate::check::answer_check;
 use crate::explain::answer_explain;
 use crate::isin::answer_isin;
 use crate::play::answer_play;
@@ -75,6 +76,7 @@ fn answer<N: Net<Listener = TcpListener, Stream = TcpStream>, R: Read, W: Write>
         Call::Isin(code) => answer_isin(code.as_bytes(), writer),
         Call::Read(mt) => answer_read(alloc, mt, reader, writer),
         Call::Play => answer_play(alloc, reader, writer),
+        Call::Check => answer_check(alloc, reader, writer),
         Call::Explain(topic) => answer_explain(topic, writer),
         Call::Serve(service) => answer_serve(net, alloc, service, writer),
     }

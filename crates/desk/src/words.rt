@@ -4,9 +4,9 @@ ghost use Rattle.clap.specs.Words.{app_of, first_value, found_of, kind_of, one_t
 ghost use Rattle.clap.specs.declared.builder.command.Command.TheViews.{out-Command};
 ghost use Rattle.desk_msg.specs.MessageType.{digits_of_type, is_instruction, number_of_type};
 ghost use Rattle.desk_msg.specs.declared.mt.Mt.{Mt};
-ghost use Rattle.desk.specs.Words.{CallValue, IsAskable, IsSpelledOut, ReadsOnlyInstructions, IsSaid, IsSaidBy, IsSaidIn, IsNumberText, IsTopic, IsTypeText, value_of_call, bare_app, cause_rule, count_rule, desk_app, explain_app, isin_app, play_app, port_rule, read_app, serve_app, words_for};
+ghost use Rattle.desk.specs.Words.{CallValue, IsAskable, IsSpelledOut, ReadsOnlyInstructions, IsSaid, IsSaidBy, IsSaidIn, IsNumberText, IsTopic, IsTypeText, value_of_call, bare_app, cause_rule, check_app, count_rule, desk_app, explain_app, isin_app, play_app, port_rule, read_app, serve_app, words_for};
 
-use crate::helps::{EXPLAIN, ISIN, PLAY, PROGRAM, READ, SERVE, VERSION};
+use crate::helps::{CHECK, EXPLAIN, ISIN, PLAY, PROGRAM, READ, SERVE, VERSION};
 use clap::error::{Error, ErrorKind};
 use clap::{Arg, ArgMatches, Command, value_parser};
 use desk_msg::Mt;
@@ -22,6 +22,8 @@ pub enum Call<'a> {
     Read(Mt),
     /// A script's answers
     Play,
+    /// What is refused in a script
+    Check,
     /// What is told in place of an answer, explained
     Explain(Topic),
     /// Requests over HTTP
@@ -99,6 +101,7 @@ fn subcommand_call<'a>(name: &str, inner: &ArgMatches<'a>) -> Option<Call<'a>>
         "isin" => Some(Call::Isin(inner.get_str("code")?)),
         "read" => Some(Call::Read(type_in(inner)?)),
         "play" => Some(Call::Play),
+        "check" => Some(Call::Check),
         "explain" => Some(Call::Explain(topic_in(inner)?)),
         "serve" => Some(Call::Serve(service_in(inner)?)),
         _ => None,
@@ -139,15 +142,23 @@ fn service_in(inner: &ArgMatches) -> Option<Service>
 fn desk<'a>(alloc: Global) -> Result<Command<'a>, AllocError>
     ensures { IfOk result (λ command. app_of command ≡ desk_app) }
 {
+    bare(alloc)
+        .subcommand(isin(alloc)?)?
+        .subcommand(read(alloc)?)?
+        .subcommand(play(alloc)?)?
+        .subcommand(check(alloc)?)?
+        .subcommand(explain(alloc)?)?
+        .subcommand(serve(alloc)?)
+}
+
+/// The program, without its subcommands.
+fn bare<'a>(alloc: Global) -> Command<'a>
+    ensures { app_of result ≡ bare_app }
+{
     Command::new(alloc, "desk")
         .about("The settlement desk of a small securities depository")
         .after_help(PROGRAM)
         .version(VERSION)
-        .subcommand(isin(alloc)?)?
-        .subcommand(read(alloc)?)?
-        .subcommand(play(alloc)?)?
-        .subcommand(explain(alloc)?)?
-        .subcommand(serve(alloc)?)
 }
 
 fn isin<'a>(alloc: Global) -> Result<Command<'a>, AllocError>
@@ -191,6 +202,17 @@ fn play<'a>(alloc: Global) -> Result<Command<'a>, AllocError>
                 "Plays a script of requests from standard input on a desk in memory (the default)",
             )
             .after_help(PLAY),
+    )
+}
+
+fn check<'a>(alloc: Global) -> Result<Command<'a>, AllocError>
+    ensures app { IfOk result (λ command. app_of command ≡ check_app) }
+    ensures local { IfOk result (λ command. (out-Command command).has_globals ≡ false) }
+{
+    Ok(
+        Command::new(alloc, "check")
+            .about("Plays a script as play does, and tells what is refused in it, and why")
+            .after_help(CHECK),
     )
 }
 

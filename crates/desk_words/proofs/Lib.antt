@@ -1,2 +1,2 @@
 mod CatalogueLemmas
-mod WritingLemmas
+pub mod WritingLemmas

@@ -6,7 +6,7 @@ use Rattle.std.proofs.lemmas.Grind.{flat_map-append}
 use Rattle.std.specs.List.{flat_map}
 use Rattle.std.specs.Io.KnownBytes.{Appends}
 
-both : (before between after : Option (List ℕ)) (front rest text : List ℕ) → Appends before between front → Appends between after rest → text ≡ front ++ rest → Appends before after text
+pub both : (before between after : Option (List ℕ)) (front rest text : List ℕ) → Appends before between front → Appends between after rest → text ≡ front ++ rest → Appends before after text
 both None between after front rest text one two is = tt
 both (Some xs) None after front rest text one two is = absurd one
 both (Some xs) (Some ys) None front rest text one two is = absurd two

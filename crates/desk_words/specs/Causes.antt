@@ -1,5 +1,5 @@
 -- The catalogue of the numbers that are told in place of an answer, each with what it means and what to do about it.
-use Rattle.std.specs.Prelude.{ℕ, if◌then◌else◌, nat_lt, List, ◌++◌, codes, decimal}
+use Rattle.std.specs.Prelude.{ℕ, ◌==◌, Option, find, if◌then◌else◌, nat_lt, List, ◌++◌, codes, decimal}
 use Rattle.std.specs.List.{flat_map}
 use Rattle.desk_rules.specs.Refusals.{number_of_refusal}
 use Rattle.desk_rules.specs.declared.verdict.Refusal.TheVariants.{SenderUnknown, ReferenceReused, PlaceNotUs, UnknownSecurity, KindDiffers, AccountNotSenders, CounterpartyUnknown, NoSuchInstruction, AlreadyCancelled, AlreadySettled, Full, CancellationWaits, CommandReused, Exists, ParticipantUnknown, AccountUnknown, SecurityUnknown, OverLimit, NotEnough, DayGoesBack}
@@ -113,3 +113,7 @@ cause_text cause = heading_of cause ++ codes ": " ++ meaning_of cause ++ codes "
 -- all of them, in the order of the numbers
 abbrev pub catalogue_text : List ℕ
 catalogue_text = flat_map cause_text CAUSES
+
+-- the cause of a number
+abbrev pub cause_with : ℕ → Option Cause
+cause_with number = find (λ cause. number_of_cause cause == number) CAUSES

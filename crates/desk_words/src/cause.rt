@@ -1,6 +1,6 @@
 //! What the numbers of refusals and faults mean, and what to do about them.
-ghost use Rattle.std.specs.Prelude.{◌≡◌, ◌≢◌, All, MatchOption};
-ghost use Rattle.desk_words.specs.Causes.{meaning_of, number_of_cause, remedy_of};
+ghost use Rattle.std.specs.Prelude.{◌≡◌, ◌≢◌, ◌==◌, All, MatchOption, find};
+ghost use Rattle.desk_words.specs.Causes.{cause_with, meaning_of, number_of_cause, remedy_of};
 ghost use Rattle.desk_words.specs.declared.cause.Cause.{Cause as AnyCause};
 
 use desk_rules::Refusal;
@@ -300,7 +300,8 @@ impl Cause {
 
     /// The cause of this number. None where the number is told of nothing.
     pub fn of_number(number: u8) -> Option<Cause>
-        ensures { MatchOption result ((cause : AnyCause) → number_of_cause cause ≢ number) (λ cause. number_of_cause cause ≡ number) }
+        ensures one { MatchOption result ((cause : AnyCause) → number_of_cause cause ≢ number) (λ cause. number_of_cause cause ≡ number) }
+        ensures first { result ≡ cause_with number }
     {
         cause_in(&CAUSES, number)
     }
@@ -308,7 +309,8 @@ impl Cause {
 
 /// The first of these causes that has this number.
 fn cause_in(causes: &[Cause], number: u8) -> Option<Cause>
-    ensures { MatchOption result (All (λ cause. number_of_cause cause ≢ number) causes.now) (λ cause. number_of_cause cause ≡ number) }
+    ensures one { MatchOption result (All (λ cause. number_of_cause cause ≢ number) causes.now) (λ cause. number_of_cause cause ≡ number) }
+    ensures first { result ≡ find (λ cause. number_of_cause cause == number) causes.now }
 {
     causes
         .iter()

@@ -4,7 +4,7 @@ use Rattle.desk.specs.declared.words.Topic.TheVariants.{Number}
 use Rattle.desk.proofs.explain.explain_number.Goals as goal
 
 pub returns-in_ok-write_cause-in-Some : goal.returns-in_ok-write_cause-in-Some
-returns-in_ok-write_cause-in-Some g c = told_cause c.in-Some.cause (ap Number (sym c.in-Some.ensures)) refl c.in_ok-write_cause-in-Some.ensures
+returns-in_ok-write_cause-in-Some g c = told_cause c.in-Some.cause (ap Number (sym c.in-Some.ensures.one)) refl c.in_ok-write_cause-in-Some.ensures
 
 pub returns-in_ok-writeln-in-None : goal.returns-in_ok-writeln-in-None
-returns-in_ok-writeln-in-None g c = told_unused c.args.number refl c.in-None.ensures refl c.in_ok-writeln-in-None.ensures.bytes
+returns-in_ok-writeln-in-None g c = told_unused c.args.number refl c.in-None.ensures.one refl c.in_ok-writeln-in-None.ensures.bytes
