@@ -3,8 +3,8 @@ use Rattle.std.proofs.Common.{ℕ, ◌<◌, List, length, Option, Some, None, Re
 use Rattle.std.specs.Prelude.{IfOk, IfSome}
 use Rattle.desk_text.specs.declared.limits.TheConstants.{LONGEST_TEXT}
 use Rattle.desk_msg.specs.declared.mt.Mt.{Mt}
-use Rattle.desk_msg.specs.declared.refusal.TextRefusal.TheVariants.{TooLong}
-use Rattle.desk_msg.specs.declared.refusal.ReadFault.TheVariants.{Refused}
+use Rattle.desk_msg.specs.declared.reading.refusal.TextRefusal.TheVariants.{TooLong}
+use Rattle.desk_msg.specs.declared.reading.refusal.ReadFault.TheVariants.{Refused}
 use Rattle.desk_msg.specs.Refused.{ReadsText}
 use Rattle.desk.specs.ReadAnswer.{IsReadAnswer}
 use Rattle.desk.specs.declared.status.Status.{Status}

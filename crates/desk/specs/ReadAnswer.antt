@@ -2,8 +2,8 @@
 use Rattle.std.specs.Prelude.{◌≡◌, ℕ, List, ◌++◌, Ok, Err, codes}
 use Rattle.desk_msg.specs.declared.mt.Mt.{Mt}
 use Rattle.desk_msg.specs.declared.instruction.Message.{Message}
-use Rattle.desk_msg.specs.declared.refusal.TextRefusal.{TextRefusal}
-use Rattle.desk_msg.specs.declared.refusal.ReadFault.TheVariants.{Refused}
+use Rattle.desk_msg.specs.declared.reading.refusal.TextRefusal.{TextRefusal}
+use Rattle.desk_msg.specs.declared.reading.refusal.ReadFault.TheVariants.{Refused}
 use Rattle.desk_msg.specs.Refused.{ReadsText, refusal_line}
 use Rattle.desk_msg.specs.FieldsText.{message_text}
 use Rattle.desk.specs.Status.{failure_line}

@@ -2,11 +2,11 @@
 use Rattle.std.proofs.Common.{◌≡◌, inl, inr, ℕ, zero, suc, ◌+◌, ◌<◌, ◌≤◌, Bool, true, false, List, [], ◌∷◌, length, Option, Some, None, option_map, refl, sym, ◌∙◌, subst, arith}
 use Rattle.std.specs.Prelude.{slice_get, is_some, nat_le, Result, Ok, Err, IfOk, OnOk}
 use Rattle.std.proofs.lemmas.Bool.{cases_Bool}
-use Rattle.desk_rules.specs.declared.entry.Entry.{Entry}
-use Rattle.desk_rules.specs.declared.reply.Kept.{Kept}
-use Rattle.desk_rules.specs.declared.reply.Reply.{Reply}
-use Rattle.desk_rules.specs.declared.verdict.Verdict.TheVariants.{Accept, Repeat, Refuse}
-use Rattle.desk_rules.specs.declared.verdict.Refusal.TheVariants.{Full}
+use Rattle.desk_rules.specs.declared.history.entry.Entry.{Entry}
+use Rattle.desk_rules.specs.declared.answers.reply.Kept.{Kept}
+use Rattle.desk_rules.specs.declared.answers.reply.Reply.{Reply}
+use Rattle.desk_rules.specs.declared.answers.verdict.Verdict.TheVariants.{Accept, Repeat, Refuse}
+use Rattle.desk_rules.specs.declared.answers.verdict.Refusal.TheVariants.{Full}
 use Rattle.desk_rules.specs.History.{as_asked, entry_at, sender_of, reference_of, number_of_key}
 use Rattle.desk_codes.specs.Currency.{letters_of}
 use Rattle.desk_rules.specs.Balances.{issued, paid_in, paid_out, redeemed}
@@ -28,13 +28,13 @@ use Rattle.desk_engine.proofs.AcceptingLemmas.{entries_within}
 use Rattle.desk_engine.proofs.HeldLemmas.{held_cash_adds_up, held_is}
 use Rattle.desk_engine.proofs.TablesLemmas.{length_is}
 use Rattle.desk_book.specs.declared.fault.Fault.{Fault}
-use Rattle.desk_book.specs.declared.total.CashTotal.{CashTotal}
-use Rattle.desk_book.specs.declared.total.SecurityTotal.{SecurityTotal}
+use Rattle.desk_book.specs.declared.answers.total.CashTotal.{CashTotal}
+use Rattle.desk_book.specs.declared.answers.total.SecurityTotal.{SecurityTotal}
 use Rattle.desk_book.specs.Answered.{IsToldSums, says_closed}
 use Rattle.desk_book.specs.Held.{IsReady, KeepsFormed}
 use Rattle.desk_book.specs.Answering.{Answers, Decides, Ends, IsPut}
-use Rattle.desk_book.specs.declared.task.Task.{Task}
-use Rattle.desk_book.specs.declared.task.Task.TheVariants.{Decide}
+use Rattle.desk_book.specs.declared.requests.task.Task.{Task}
+use Rattle.desk_book.specs.declared.requests.task.Task.TheVariants.{Decide}
 use Rattle.desk_book.specs.Sums.{sums_text}
 use Rattle.desk_book.specs.Totals.{AreCashTotals, AreTotals, IsCashSum, IsCashTotal, IsPaidIn, IsSum, IsTotal}
 

@@ -9,8 +9,8 @@ use Rattle.std.proofs.lemmas.List.Sums.{sum_by-cons}
 use Rattle.desk_codes.specs.Currency.{letters_of}
 use Rattle.desk_codes.specs.declared.currency.Ccy.{Ccy}
 use Rattle.desk_codes.specs.declared.currency.Ccy.TheVariants.{Chf, Eur, Gbp, Jpy, Kwd, Usd}
-use Rattle.desk_rules.specs.declared.entry.Entry.{Entry}
-use Rattle.desk_rules.specs.declared.entry.Entry.TheVariants.{PayIn}
+use Rattle.desk_rules.specs.declared.history.entry.Entry.{Entry}
+use Rattle.desk_rules.specs.declared.history.entry.Entry.TheVariants.{PayIn}
 use Rattle.desk_rules.specs.Balances.{paid_in, paid_in_by, paid_out, payment_in, same_ccy}
 use Rattle.desk_rules.specs.Books.{Books}
 use Rattle.desk_rules.specs.Content.{Content, history_of}
@@ -18,7 +18,7 @@ use Rattle.desk_rules.proofs.Conservation.{if_false, if_true}
 use Rattle.desk_register.specs.Looked.{IsLess, IsPaid, held_cash_of, pays_in}
 use Rattle.desk_engine.specs.Applied.{Keeps}
 use Rattle.desk_engine.proofs.HeldLemmas.{held_cash_adds_up}
-use Rattle.desk_book.specs.declared.total.CashTotal.{CashTotal}
+use Rattle.desk_book.specs.declared.answers.total.CashTotal.{CashTotal}
 use Rattle.desk_book.specs.Totals.{AreCashTotals, IsCashTotal, TotalsCash}
 use Rattle.desk_book.proofs.ListedLemmas.{contains_none}
 

@@ -2,10 +2,10 @@
 -- all balances.
 use Rattle.std.proofs.Common.{ℕ, Bool, List, [], ◌∷◌, sym, subst}
 use Rattle.std.specs.Prelude.{Result, Ok, Err}
-use Rattle.desk_rules.specs.declared.entry.Entry.{Entry}
-use Rattle.desk_rules.specs.declared.reply.Reply.{Reply}
-use Rattle.desk_rules.specs.declared.verdict.Verdict.{Verdict}
-use Rattle.desk_rules.specs.declared.verdict.Verdict.TheVariants.{Accept, Repeat, Refuse}
+use Rattle.desk_rules.specs.declared.history.entry.Entry.{Entry}
+use Rattle.desk_rules.specs.declared.answers.reply.Reply.{Reply}
+use Rattle.desk_rules.specs.declared.answers.verdict.Verdict.{Verdict}
+use Rattle.desk_rules.specs.declared.answers.verdict.Verdict.TheVariants.{Accept, Repeat, Refuse}
 use Rattle.desk_rules.specs.Confirmations.{AccountFor, Confirmation, SayConfirmations}
 use Rattle.desk_rules.specs.Sent.{sent_of}
 use Rattle.desk_rules.specs.Books.{Books}
@@ -18,8 +18,8 @@ use Rattle.desk_engine.specs.Applied.{no_books as empty_books}
 use Rattle.desk_engine.proofs.HeldLemmas.{empty_keeps}
 use Rattle.desk_engine.proofs.TablesLemmas.{accepted_more}
 use Rattle.desk_book.specs.declared.fault.Fault.{Fault}
-use Rattle.desk_book.specs.declared.task.Task.{Task}
-use Rattle.desk_book.specs.declared.task.Task.TheVariants.{Answer, Decide, Holdings, Sent, Status, Totals}
+use Rattle.desk_book.specs.declared.requests.task.Task.{Task}
+use Rattle.desk_book.specs.declared.requests.task.Task.TheVariants.{Answer, Decide, Holdings, Sent, Status, Totals}
 use Rattle.desk_book.specs.Answered.{Grows, IsAnswer, AnsweredInTurn, Step, says_closed}
 use Rattle.desk_book.specs.Asked.{Asked}
 use Rattle.desk_book.specs.Task.{IsTask}

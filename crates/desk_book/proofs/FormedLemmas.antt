@@ -8,10 +8,10 @@ use Rattle.desk_msg.specs.declared.instruction.Message.TheVariants.{New, Cancel 
 use Rattle.desk_msg.specs.declared.mt.Mt.{Mt}
 use Rattle.desk_msg.specs.MessageType.{is_instruction}
 use Rattle.desk_msg.specs.Refused.{ReadsText}
-use Rattle.desk_rules.specs.declared.entry.Entry.{Entry}
-use Rattle.desk_rules.specs.declared.entry.Entry.TheVariants.{Participant, Account, Security, Issue, Redeem, PayIn, PayOut, Instruct, Cancel, Run}
-use Rattle.desk_rules.specs.declared.verdict.Verdict.{Verdict}
-use Rattle.desk_rules.specs.declared.verdict.Verdict.TheVariants.{Accept, Repeat, Refuse}
+use Rattle.desk_rules.specs.declared.history.entry.Entry.{Entry}
+use Rattle.desk_rules.specs.declared.history.entry.Entry.TheVariants.{Participant, Account, Security, Issue, Redeem, PayIn, PayOut, Instruct, Cancel, Run}
+use Rattle.desk_rules.specs.declared.answers.verdict.Verdict.{Verdict}
+use Rattle.desk_rules.specs.declared.answers.verdict.Verdict.TheVariants.{Accept, Repeat, Refuse}
 use Rattle.desk_rules.specs.Books.{Books}
 use Rattle.desk_rules.specs.Content.{Content}
 use Rattle.desk_rules.specs.WellFormed.{AreWellFormed, IsWellFormed}
@@ -24,7 +24,7 @@ use Rattle.desk_book.specs.Held.{KeepsFormed}
 use Rattle.desk_book.specs.Asked.{Asked, message, operator, status, sent, holdings, sums}
 use Rattle.desk_book.specs.Command.{IsCommand, SpellsCommand}
 use Rattle.desk_book.specs.Task.{IsTask, IsMessageTask, entry_of_message, unknown_form}
-use Rattle.desk_book.specs.declared.task.Task.TheVariants.{Decide, Answer}
+use Rattle.desk_book.specs.declared.requests.task.Task.TheVariants.{Decide, Answer}
 
 pub command_formed : (d : Data) (entry : Entry) → IsCommand d entry → IsWellFormed entry
 command_formed d (Participant reference bic) c = (c.2, spelled_bic c.0 bic c.1)

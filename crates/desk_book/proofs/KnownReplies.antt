@@ -5,28 +5,28 @@ use Rattle.std.specs.Prelude.{MatchBool, Result, Ok}
 use Rattle.desk_msg.specs.declared.mt.Mt.{Mt}
 use Rattle.desk_msg.specs.MessageType.{is_instruction}
 use Rattle.desk_msg.specs.declared.instruction.Instruction.{Instruction}
-use Rattle.desk_rules.specs.declared.entry.Entry.{Entry}
-use Rattle.desk_rules.specs.declared.entry.Entry.TheVariants.{Cancel, Instruct}
-use Rattle.desk_rules.specs.declared.reply.Sent.{Sent as SentMessage}
-use Rattle.desk_rules.specs.declared.standing.State.{State}
-use Rattle.desk_rules.specs.declared.standing.State.TheVariants as states
-use Rattle.desk_rules.specs.declared.verdict.Refusal.TheVariants.{AccountNotSenders, NoSuchInstruction, SenderUnknown}
+use Rattle.desk_rules.specs.declared.history.entry.Entry.{Entry}
+use Rattle.desk_rules.specs.declared.history.entry.Entry.TheVariants.{Cancel, Instruct}
+use Rattle.desk_rules.specs.declared.answers.reply.Sent.{Sent as SentMessage}
+use Rattle.desk_rules.specs.declared.history.standing.State.{State}
+use Rattle.desk_rules.specs.declared.history.standing.State.TheVariants as states
+use Rattle.desk_rules.specs.declared.answers.verdict.Refusal.TheVariants.{AccountNotSenders, NoSuchInstruction, SenderUnknown}
 use Rattle.desk_rules.specs.Facts.{is_owner, is_participant, owner_of}
 use Rattle.desk_rules.specs.History.{entry_at}
 use Rattle.desk_rules.specs.Questions.{confirmation_of, entry_reply, instruction_reply, message_reply, named_reply, refused_question, sent_at, sent_reply, sent_text_reply, sent_to}
 use Rattle.desk_rules.specs.Refusals.{number_of_refusal}
 use Rattle.desk_rules.specs.Standing.{state_of}
-use Rattle.desk_rules.specs.declared.reply.Reply.{Reply}
+use Rattle.desk_rules.specs.declared.answers.reply.Reply.{Reply}
 use Rattle.desk_rules.specs.Books.{Books}
 use Rattle.desk_rules.specs.WellFormed.{AreAccepted}
 use Rattle.desk_rules.specs.Reply.{TellsRefusal}
 use Rattle.desk_rules.proofs.Conservation.{cash_adds_up, securities_add_up}
 use Rattle.desk_rules.proofs.KnownNumbers.{known_reply}
 use Rattle.desk_book.specs.declared.fault.Fault.{Fault}
-use Rattle.desk_book.specs.declared.task.Task.{Task}
-use Rattle.desk_book.specs.declared.task.Task.TheVariants.{Answer, Decide, Holdings, Sent, Status, Totals}
-use Rattle.desk_book.specs.declared.total.CashTotal.{CashTotal}
-use Rattle.desk_book.specs.declared.total.SecurityTotal.{SecurityTotal}
+use Rattle.desk_book.specs.declared.requests.task.Task.{Task}
+use Rattle.desk_book.specs.declared.requests.task.Task.TheVariants.{Answer, Decide, Holdings, Sent, Status, Totals}
+use Rattle.desk_book.specs.declared.answers.total.CashTotal.{CashTotal}
+use Rattle.desk_book.specs.declared.answers.total.SecurityTotal.{SecurityTotal}
 use Rattle.desk_book.specs.Answered.{IsAnswer, IsToldSums, AnsweredInTurn, Step, number_used, status_answer}
 use Rattle.desk_book.specs.Asked.{Asked, message, operator, status, sent, holdings, sums}
 use Rattle.desk_book.specs.Known.{Agree, IsKnown, TellsNoAnswer, TellsUnread, done, refused, unanswered, unread}

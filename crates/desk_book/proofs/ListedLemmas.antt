@@ -6,8 +6,8 @@ use Rattle.std.proofs.lemmas.List.Quantifiers.{all_pairs_push}
 use Rattle.std.specs.Ordering.{nat_cmp, is_lt}
 use Rattle.std.specs.Cmp.Lexicographic.{slice_cmp}
 use Rattle.desk_msg.specs.declared.instruction.Kind.{Kind}
-use Rattle.desk_rules.specs.declared.entry.Entry.{Entry}
-use Rattle.desk_rules.specs.declared.entry.Entry.TheVariants.{Participant, Account, Security, Issue, Redeem, PayIn, PayOut, Instruct, Cancel, Run}
+use Rattle.desk_rules.specs.declared.history.entry.Entry.{Entry}
+use Rattle.desk_rules.specs.declared.history.entry.Entry.TheVariants.{Participant, Account, Security, Issue, Redeem, PayIn, PayOut, Instruct, Cancel, Run}
 use Rattle.desk_rules.specs.Balances.{issued, redeemed}
 use Rattle.desk_rules.specs.Books.{Books}
 use Rattle.desk_rules.specs.Facts.{kind_by, kind_of, or_else}
@@ -19,7 +19,7 @@ use Rattle.desk_register.proofs.CaseLemmas.{bytes_refl}
 use Rattle.desk_engine.specs.Applied.{Keeps}
 use Rattle.desk_engine.proofs.HeldLemmas.{held_adds_up}
 use Rattle.desk_holdings.proofs.AboveLemmas.{above_from, above_then, above_yes, fewer, is_above, left_above, left_most, less_from, less_then, listed_is_left, never_less, not_above, registered}
-use Rattle.desk_book.specs.declared.total.SecurityTotal.{SecurityTotal}
+use Rattle.desk_book.specs.declared.answers.total.SecurityTotal.{SecurityTotal}
 use Rattle.desk_book.specs.Totals.{AreTotals, IsTotal}
 
 -- The totals of the securities up to the last one: each that is registered and not above it has its total.

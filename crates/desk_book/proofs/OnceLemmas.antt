@@ -3,16 +3,16 @@ use Rattle.std.proofs.Common.{◌≡◌, ◌≢◌, ℕ, suc, Bool, true, false,
 use Rattle.std.specs.Prelude.{Result, Ok, Err}
 use Rattle.desk_rules.proofs.AcceptedOnce.{accepted_once}
 use Rattle.desk_rules.proofs.OneVerdict.{one_verdict}
-use Rattle.desk_rules.specs.declared.entry.Entry.{Entry}
-use Rattle.desk_rules.specs.declared.reply.Reply.{Reply}
-use Rattle.desk_rules.specs.declared.verdict.Verdict.{Verdict}
-use Rattle.desk_rules.specs.declared.verdict.Verdict.TheVariants.{Accept, Repeat, Refuse}
+use Rattle.desk_rules.specs.declared.history.entry.Entry.{Entry}
+use Rattle.desk_rules.specs.declared.answers.reply.Reply.{Reply}
+use Rattle.desk_rules.specs.declared.answers.verdict.Verdict.{Verdict}
+use Rattle.desk_rules.specs.declared.answers.verdict.Verdict.TheVariants.{Accept, Repeat, Refuse}
 use Rattle.desk_rules.specs.Reply.{AreNext, IsReply}
 use Rattle.desk_rules.specs.Books.{Books}
 use Rattle.desk_rules.specs.Verdict.{IsVerdict}
 use Rattle.desk_book.specs.declared.fault.Fault.{Fault}
-use Rattle.desk_book.specs.declared.task.Task.{Task}
-use Rattle.desk_book.specs.declared.task.Task.TheVariants.{Answer, Decide, Holdings, Sent, Status, Totals}
+use Rattle.desk_book.specs.declared.requests.task.Task.{Task}
+use Rattle.desk_book.specs.declared.requests.task.Task.TheVariants.{Answer, Decide, Holdings, Sent, Status, Totals}
 use Rattle.desk_book.specs.Answered.{ActsOnce, Grows, IsAnswer, IsRepeat, AnsweredInTurn, Step, WithoutRepeats, answered, ended, failed, repeated, says_closed}
 use Rattle.desk_book.specs.Asked.{Asked}
 use Rattle.desk_book.specs.Task.{IsTask}

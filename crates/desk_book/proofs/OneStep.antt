@@ -8,23 +8,23 @@ use Rattle.desk_rules.proofs.Existence.{books_exist}
 use Rattle.desk_rules.proofs.OneVerdict.{one_verdict}
 use Rattle.desk_rules.proofs.PairingLaws.{settlement_unique}
 use Rattle.desk_rules.proofs.PairingLemmas.{one_pairing}
-use Rattle.desk_rules.specs.declared.entry.Entry.{Entry}
-use Rattle.desk_rules.specs.declared.pair.Pair.{Pair}
-use Rattle.desk_rules.specs.declared.pair.Settled.{Settled}
-use Rattle.desk_rules.specs.declared.reply.Reply.{Reply}
-use Rattle.desk_rules.specs.declared.verdict.Verdict.{Verdict}
-use Rattle.desk_rules.specs.declared.verdict.Verdict.TheVariants.{Accept, Repeat, Refuse}
+use Rattle.desk_rules.specs.declared.history.entry.Entry.{Entry}
+use Rattle.desk_rules.specs.declared.history.pair.Pair.{Pair}
+use Rattle.desk_rules.specs.declared.history.pair.Settled.{Settled}
+use Rattle.desk_rules.specs.declared.answers.reply.Reply.{Reply}
+use Rattle.desk_rules.specs.declared.answers.verdict.Verdict.{Verdict}
+use Rattle.desk_rules.specs.declared.answers.verdict.Verdict.TheVariants.{Accept, Repeat, Refuse}
 use Rattle.desk_codes.specs.declared.currency.Ccy.{Ccy}
 use Rattle.desk_codes.specs.declared.currency.Ccy.TheVariants.{Chf, Eur, Gbp, Jpy, Kwd, Usd}
 use Rattle.desk_codes.specs.Currency.{letters_of}
 use Rattle.desk_rules.specs.Balances.{cash_credits, cash_debits, issued, paid_in, paid_out, redeemed, credits, debits}
 use Rattle.desk_rules.specs.History.{entry_at}
-use Rattle.desk_rules.specs.declared.verdict.Refusal.TheVariants.{AccountNotSenders, SenderUnknown}
+use Rattle.desk_rules.specs.declared.answers.verdict.Refusal.TheVariants.{AccountNotSenders, SenderUnknown}
 use Rattle.desk_rules.specs.Facts.{accounts_of, is_owner, is_participant, kind_of, last_run, owner_of, participants_of}
 use Rattle.desk_rules.specs.Questions.{refused_question}
 use Rattle.desk_rules.specs.Refusals.{number_of_refusal}
 use Rattle.desk_msg.specs.declared.instruction.Kind.{Kind}
-use Rattle.desk_msg.specs.declared.statement_row.StatementRow.{StatementRow}
+use Rattle.desk_msg.specs.declared.writing.statement_row.StatementRow.{StatementRow}
 use Rattle.desk_msg.specs.HoldingsText.{holdings}
 use Rattle.desk_holdings.proofs.OneDay.{one_day}
 use Rattle.desk_rules.specs.Pairing.{IsPairing}
@@ -37,10 +37,10 @@ use Rattle.desk_book.specs.Totals.{AreRows, IsCashSum, IsPaidIn, IsRegistered, I
 use Rattle.desk_book.specs.Asked.{Asked}
 use Rattle.desk_book.specs.Statement.{HoldsSome, IsHolding, IsStatement, TellsHoldings, TellsOwner}
 use Rattle.desk_book.specs.Sums.{sums_text}
-use Rattle.desk_book.specs.declared.task.Task.{Task}
-use Rattle.desk_book.specs.declared.task.Task.TheVariants.{Answer, Decide, Holdings, Sent, Status, Totals}
-use Rattle.desk_book.specs.declared.total.CashTotal.{CashTotal}
-use Rattle.desk_book.specs.declared.total.SecurityTotal.{SecurityTotal}
+use Rattle.desk_book.specs.declared.requests.task.Task.{Task}
+use Rattle.desk_book.specs.declared.requests.task.Task.TheVariants.{Answer, Decide, Holdings, Sent, Status, Totals}
+use Rattle.desk_book.specs.declared.answers.total.CashTotal.{CashTotal}
+use Rattle.desk_book.specs.declared.answers.total.SecurityTotal.{SecurityTotal}
 use Rattle.desk_book.proofs.AnsweringLemmas.{asked_there}
 use Rattle.desk_book.proofs.OneTask.{one_task}
 

@@ -5,13 +5,13 @@ use Rattle.desk_msg.proofs.TextLaws.{message_not_refusal, one_message_of_text, o
 use Rattle.desk_msg.specs.declared.mt.Mt.{Mt}
 use Rattle.desk_msg.specs.MessageType.{is_instruction}
 use Rattle.desk_msg.specs.Refused.{refusal_line}
-use Rattle.desk_rules.specs.declared.entry.Entry.{Entry}
-use Rattle.desk_rules.specs.declared.reply.Reply.{Reply}
+use Rattle.desk_rules.specs.declared.history.entry.Entry.{Entry}
+use Rattle.desk_rules.specs.declared.answers.reply.Reply.{Reply}
 use Rattle.desk_rules.specs.Reply.{untyped_reply}
 use Rattle.desk_book.specs.Asked.{Asked, message, operator, status, sent, holdings, sums}
 use Rattle.desk_book.specs.Task.{IsMessageTask, IsCommandTask, IsHoldingsTask, IsStatusTask, IsTask, entry_of_message, unknown_form}
-use Rattle.desk_book.specs.declared.task.Task.{Task}
-use Rattle.desk_book.specs.declared.task.Task.TheVariants.{Answer, Decide, Holdings, Status}
+use Rattle.desk_book.specs.declared.requests.task.Task.{Task}
+use Rattle.desk_book.specs.declared.requests.task.Task.TheVariants.{Answer, Decide, Holdings, Status}
 use Rattle.desk_book.proofs.OneCommand.{one_each}
 
 one_entry : (mt : Mt) (sender text : List ℕ) (a b : Entry) → IsMessageTask sender mt text (Decide a) → IsMessageTask sender mt text (Decide b) → a ≡ b

@@ -3,20 +3,20 @@ use Rattle.std.proofs.Common.{◌≡◌, ℕ, ◌+◌, ◌≤◌, Bool, true, Li
 use Rattle.std.specs.Prelude.{Option, Result, Ok, Err, OnOk}
 use Rattle.std.specs.Io.KnownBytes.{Appends, append_known}
 use Rattle.std.proofs.KnownBytes.{Appends-nil, Appends-trans}
-use Rattle.desk_rules.specs.declared.reply.Reply.{Reply}
+use Rattle.desk_rules.specs.declared.answers.reply.Reply.{Reply}
 use Rattle.desk_rules.specs.Books.{Books}
 use Rattle.desk_register.specs.View.{View, IfCounted, IsLater}
 use Rattle.desk_book.specs.declared.fault.Fault.{Fault}
 use Rattle.desk_book.specs.Answered.{AnsweredInTurn, BlamesRequest, says_closed, says_storage}
 use Rattle.desk_book.specs.Asked.{Asked, asked_by}
-use Rattle.desk_book.specs.declared.request.Request.{Request}
+use Rattle.desk_book.specs.declared.requests.request.Request.{Request}
 use Rattle.desk_book.specs.Held.{Holds, Steps}
 use Rattle.desk_book.specs.Played.{HasPlayed, PlaysFront, PlaysScript, answers_text, asked_in, answer_text}
 use Rattle.desk_book.specs.Items.{PlaysItem}
 use Rattle.desk_book.specs.Lines.{script_lines}
 use Rattle.desk_book.specs.Script.{Asking, BeginsWith, Item, Script, ask, bad_line, item_of}
-use Rattle.desk_book.specs.declared.script.Item.{Item as ScriptItem}
-use Rattle.desk_book.specs.declared.script.Item.TheVariants.{Ask, BadLine}
+use Rattle.desk_book.specs.declared.requests.script.Item.{Item as ScriptItem}
+use Rattle.desk_book.specs.declared.requests.script.Item.TheVariants.{Ask, BadLine}
 use Rattle.desk_book.specs.WrittenAnswers.{written_bad_line}
 use Rattle.desk_book.proofs.HeadlineLemmas.{promised}
 use Rattle.desk_book.proofs.OutboxLemmas.{all_written}

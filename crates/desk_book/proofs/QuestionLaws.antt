@@ -6,11 +6,11 @@ use Rattle.desk_codes.specs.Account.{IsAccount}
 use Rattle.desk_codes.specs.Reference.{IsReference}
 use Rattle.desk_msg.specs.declared.instruction.Message.TheVariants.{New, Cancel as CancelMessage}
 use Rattle.desk_msg.specs.Reads.{ReadsFields}
-use Rattle.desk_rules.specs.declared.entry.Entry.{Entry}
-use Rattle.desk_rules.specs.declared.entry.Entry.TheVariants.{Participant, Account, Security, Issue, Redeem, PayIn, PayOut, Instruct, Cancel, Run}
-use Rattle.desk_rules.specs.declared.entry.Sender.{Sender}
-use Rattle.desk_rules.specs.declared.entry.Sender.TheVariants.{Participant as FromParticipant}
-use Rattle.desk_rules.specs.declared.reply.Reply.{Reply}
+use Rattle.desk_rules.specs.declared.history.entry.Entry.{Entry}
+use Rattle.desk_rules.specs.declared.history.entry.Entry.TheVariants.{Participant, Account, Security, Issue, Redeem, PayIn, PayOut, Instruct, Cancel, Run}
+use Rattle.desk_rules.specs.declared.history.entry.Sender.{Sender}
+use Rattle.desk_rules.specs.declared.history.entry.Sender.TheVariants.{Participant as FromParticipant}
+use Rattle.desk_rules.specs.declared.answers.reply.Reply.{Reply}
 use Rattle.desk_rules.specs.Books.{Books}
 use Rattle.desk_rules.specs.Facts.{owner_of}
 use Rattle.desk_rules.specs.History.{has_key, number_from, reference_of, same_sender, sender_of}
@@ -18,8 +18,8 @@ use Rattle.desk_rules.specs.Questions.{sent_reply, status_reply}
 use Rattle.desk_rules.specs.WellFormed.{AreWellFormed, IsReadable, IsWellFormed}
 use Rattle.desk_rules.proofs.Decided.{Contains-from_In, In}
 use Rattle.desk_register.proofs.CaseLemmas.{same_bytes}
-use Rattle.desk_book.specs.declared.task.Task.{Task}
-use Rattle.desk_book.specs.declared.task.Task.TheVariants.{Holdings, Status}
+use Rattle.desk_book.specs.declared.requests.task.Task.{Task}
+use Rattle.desk_book.specs.declared.requests.task.Task.TheVariants.{Holdings, Status}
 use Rattle.desk_book.specs.Answered.{IsAnswer, Step, status_answer}
 use Rattle.desk_book.specs.Asked.{holdings, sent, status}
 use Rattle.desk_book.specs.Statement.{TellsHoldings}

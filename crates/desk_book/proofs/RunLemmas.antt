@@ -5,15 +5,15 @@ use Rattle.std.proofs.lemmas.List.{map-append, take_all, take_more}
 use Rattle.std.proofs.lemmas.List.Elements.{All-cons, All-nil}
 use Rattle.std.proofs.lemmas.List.Sums.{sum_by-append}
 use Rattle.std.specs.Prelude.{Result, Ok, Err, IfOk}
-use Rattle.desk_rules.specs.declared.reply.Reply.{Reply}
+use Rattle.desk_rules.specs.declared.answers.reply.Reply.{Reply}
 use Rattle.desk_rules.specs.Books.{Books}
 use Rattle.desk_register.specs.View.{View, IfCounted, IsLater}
 use Rattle.desk_book.specs.declared.fault.Fault.{Fault}
 use Rattle.desk_book.specs.declared.fault.Fault.TheVariants.{Memory, Storage, Closed}
-use Rattle.desk_book.specs.declared.task.Task.{Task}
+use Rattle.desk_book.specs.declared.requests.task.Task.{Task}
 use Rattle.desk_book.specs.Answered.{AnsweredInTurn, BlamesRequest, Step, says_closed, says_storage}
 use Rattle.desk_book.specs.Asked.{Asked, asked_by}
-use Rattle.desk_book.specs.declared.request.Request.{Request}
+use Rattle.desk_book.specs.declared.requests.request.Request.{Request}
 use Rattle.desk_book.specs.Headline.{KeepsPromise}
 use Rattle.desk_book.specs.Held.{Holds, Steps}
 use Rattle.desk_book.proofs.HeadlineLemmas.{promised}

@@ -2,10 +2,10 @@
 use Rattle.std.proofs.Common.{◌≡◌, ℕ, ◌<◌, List, length, ap, sym, subst, arith}
 use Rattle.std.specs.Prelude.{Option, Some, Result, Ok, Err}
 use Rattle.std.specs.Result.{IsErrAnd}
-use Rattle.desk_msg.specs.declared.statement_row.SinkFault.TheVariants as sinks
-use Rattle.desk_msg.specs.declared.statement_row.StatementRow.{StatementRow}
+use Rattle.desk_msg.specs.declared.writing.statement_row.SinkFault.TheVariants as sinks
+use Rattle.desk_msg.specs.declared.writing.statement_row.StatementRow.{StatementRow}
 use Rattle.desk_msg.specs.HoldingsText.{holdings}
-use Rattle.desk_rules.specs.declared.entry.Entry.{Entry}
+use Rattle.desk_rules.specs.declared.history.entry.Entry.{Entry}
 use Rattle.desk_rules.specs.Books.{Books}
 use Rattle.desk_rules.specs.Content.{Content}
 use Rattle.desk_rules.specs.Facts.{kind_of, last_run}
@@ -21,7 +21,7 @@ use Rattle.desk_holdings.specs.Statement.{IsStatementDay, IsTold, Writes as Writ
 use Rattle.desk_book.specs.RowByRow.{told_of_walk}
 use Rattle.desk_book.specs.Statement.{AreHoldingsOf, HoldsSome, IsHolding, IsStatement}
 use Rattle.desk_book.specs.WrittenTo.{Writes, WritesAnswer, WritesFront}
-use Rattle.desk_book.specs.declared.head.Head.{Head}
+use Rattle.desk_book.specs.declared.answers.head.Head.{Head}
 
 pub registered : (v : View) (books : Books) (account : List ℕ) → Keeps v.room books v.content → HoldsRegistered v.content account
 registered v books account keeps = holds_registered v.room books v.content account keeps.tables keeps.accepted

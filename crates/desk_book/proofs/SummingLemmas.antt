@@ -5,7 +5,7 @@ use Rattle.std.specs.Prelude.{Result, Ok, Err}
 use Rattle.std.specs.Result.{IsErrAnd}
 use Rattle.std.specs.Io.KnownBytes.{Appends}
 use Rattle.desk_codes.specs.declared.currency.Ccy.{Ccy}
-use Rattle.desk_msg.specs.declared.statement_row.SinkFault.TheVariants as sinks
+use Rattle.desk_msg.specs.declared.writing.statement_row.SinkFault.TheVariants as sinks
 use Rattle.desk_rules.specs.Books.{Books}
 use Rattle.desk_rules.specs.Content.{Content, history_of}
 use Rattle.desk_rules.specs.Facts.{kind_of}
@@ -24,11 +24,11 @@ use Rattle.desk_holdings.proofs.ReadingLemmas.{HasRead, held_so, kept_so, read_m
 use Rattle.desk_book.specs.Answered.{IsToldSums}
 use Rattle.desk_book.specs.RowByRow.{IsCashText, IsSecuritiesText, WritesCurrency, WritesSecurity, WritesSome, WritesText, WritesTotal, WritesWhole, told_of_walk}
 use Rattle.desk_book.specs.Sums.{cash_data, rows_text, security_data, sums_text}
-use Rattle.desk_book.specs.declared.total.CashTotal.{CashTotal}
+use Rattle.desk_book.specs.declared.answers.total.CashTotal.{CashTotal}
 use Rattle.desk_book.specs.Totals.{AreTotals}
 use Rattle.desk_book.specs.WrittenTo.{Writes, WritesAnswer, WritesFront}
-use Rattle.desk_book.specs.declared.head.Head.{Head}
-use Rattle.desk_book.specs.declared.total.SecurityTotal.{SecurityTotal}
+use Rattle.desk_book.specs.declared.answers.head.Head.{Head}
+use Rattle.desk_book.specs.declared.answers.total.SecurityTotal.{SecurityTotal}
 use Rattle.desk_book.proofs.AnsweringLemmas.{sums_told}
 use Rattle.desk_book.proofs.CashLemmas.{CashGathered, cash_all, cash_goes_on, cash_none, cash_skips, cash_takes, place}
 use Rattle.desk_book.proofs.ListedLemmas.{Gathered, gathers_none, gathers_one, gathered_all, gathered_enough, totals_exist, totals_go_on}

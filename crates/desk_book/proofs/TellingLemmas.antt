@@ -2,7 +2,7 @@
 use Rattle.std.proofs.Common.{◌≡◌, ℕ, Bool, List, [], Option, Some, None, refl, sym, subst}
 use Rattle.std.specs.Prelude.{Result, Ok, Err, IfSome, IsSome}
 use Rattle.std.specs.Result.{IsErrAnd}
-use Rattle.desk_rules.specs.declared.reply.Reply.{Reply}
+use Rattle.desk_rules.specs.declared.answers.reply.Reply.{Reply}
 use Rattle.desk_rules.specs.Books.{Books}
 use Rattle.desk_rules.specs.Content.{Content}
 use Rattle.desk_register.specs.declared.register.Fault.{Fault}
@@ -22,9 +22,9 @@ use Rattle.desk_book.specs.Task.{IsHoldingsTask}
 use Rattle.desk_book.specs.WrittenTo.{Writes, WritesAsked}
 use Rattle.desk_book.specs.declared.fault.ToFault.{ToFault}
 use Rattle.desk_book.specs.declared.fault.ToFault.TheVariants.{WriteFailed, Memory, Storage, Closed}
-use Rattle.desk_book.specs.declared.head.Head.{Head}
-use Rattle.desk_book.specs.declared.task.Task.TheVariants.{Holdings, Totals}
-use Rattle.desk_book.specs.declared.telling.Report.TheVariants as reports
+use Rattle.desk_book.specs.declared.answers.head.Head.{Head}
+use Rattle.desk_book.specs.declared.requests.task.Task.TheVariants.{Holdings, Totals}
+use Rattle.desk_book.specs.declared.answers.telling.Report.TheVariants as reports
 use Rattle.desk_book.proofs.AnsweringLemmas.{keeps_at}
 use Rattle.desk_book.proofs.RowLemmas.{appends_nothing}
 

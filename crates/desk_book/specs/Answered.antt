@@ -1,13 +1,13 @@
 -- What the desk answers to a request, and how its books grow by it.
 use Rattle.std.specs.Prelude.{◌≡◌, ◌≢◌, ◌<◌, ℕ, Bool, true, false, if◌then◌else◌, List, [], ◌∷◌, Option, option_and_then, Result, Ok, Err}
-use Rattle.desk_rules.specs.declared.entry.Entry.{Entry}
-use Rattle.desk_rules.specs.declared.reply.Reply.{Reply}
-use Rattle.desk_rules.specs.declared.verdict.Verdict.{Verdict}
-use Rattle.desk_rules.specs.declared.verdict.Verdict.TheVariants.{Accept, Repeat, Refuse}
+use Rattle.desk_rules.specs.declared.history.entry.Entry.{Entry}
+use Rattle.desk_rules.specs.declared.answers.reply.Reply.{Reply}
+use Rattle.desk_rules.specs.declared.answers.verdict.Verdict.{Verdict}
+use Rattle.desk_rules.specs.declared.answers.verdict.Verdict.TheVariants.{Accept, Repeat, Refuse}
 use Rattle.desk_rules.specs.Reply.{untyped_reply, AreNext, IsFirstReply, IsReply}
-use Rattle.desk_rules.specs.declared.verdict.Refusal.TheVariants.{SenderUnknown}
+use Rattle.desk_rules.specs.declared.answers.verdict.Refusal.TheVariants.{SenderUnknown}
 use Rattle.desk_rules.specs.Books.{Books}
-use Rattle.desk_rules.specs.declared.entry.Sender.TheVariants.{Participant as FromParticipant}
+use Rattle.desk_rules.specs.declared.history.entry.Sender.TheVariants.{Participant as FromParticipant}
 use Rattle.desk_rules.specs.Facts.{is_participant}
 use Rattle.desk_rules.specs.History.{number_of_key}
 use Rattle.desk_rules.specs.Questions.{named_reply, refused_question, sent_reply}
@@ -21,10 +21,10 @@ use Rattle.desk_book.specs.Sums.{sums_text}
 use Rattle.desk_book.specs.Totals.{AreCashSums, AreSums}
 use Rattle.desk_book.specs.declared.fault.Fault.{Fault}
 use Rattle.desk_book.specs.declared.fault.Fault.TheVariants.{Storage, Closed}
-use Rattle.desk_book.specs.declared.task.Task.{Task}
-use Rattle.desk_book.specs.declared.task.Task.TheVariants.{Answer, Decide, Holdings, Sent, Status, Totals}
-use Rattle.desk_book.specs.declared.total.CashTotal.{CashTotal}
-use Rattle.desk_book.specs.declared.total.SecurityTotal.{SecurityTotal}
+use Rattle.desk_book.specs.declared.requests.task.Task.{Task}
+use Rattle.desk_book.specs.declared.requests.task.Task.TheVariants.{Answer, Decide, Holdings, Sent, Status, Totals}
+use Rattle.desk_book.specs.declared.answers.total.CashTotal.{CashTotal}
+use Rattle.desk_book.specs.declared.answers.total.SecurityTotal.{SecurityTotal}
 
 -- what a verdict makes of the books: they grow by what is accepted, and by nothing else
 abbrev pub Grows : Verdict → Books → Entry → Books → Type 0

@@ -1,7 +1,7 @@
 -- How an answer comes about. Only private contracts speak of it.
 use Rattle.std.specs.Prelude.{◌≡◌, ◌≢◌, ℕ, Bool, false, [], ◌∷◌, ◌++◌, Result, Ok, Err, OnErr}
-use Rattle.desk_rules.specs.declared.entry.Entry.{Entry}
-use Rattle.desk_rules.specs.declared.reply.Reply.{Reply}
+use Rattle.desk_rules.specs.declared.history.entry.Entry.{Entry}
+use Rattle.desk_rules.specs.declared.answers.reply.Reply.{Reply}
 use Rattle.desk_rules.specs.Books.{Books}
 use Rattle.desk_rules.specs.Content.{Content}
 use Rattle.desk_rules.specs.Reply.{reply_to}
@@ -14,7 +14,7 @@ use Rattle.desk_engine.specs.declared.accepting.Failure.TheVariants.{Undone, Los
 use Rattle.desk_engine.specs.Applied.{Keeps}
 use Rattle.desk_book.specs.Answered.{says_closed, BlamesRequest, IsAnswer, IsDecided}
 use Rattle.desk_book.specs.Held.{Holds, KeepsFormed}
-use Rattle.desk_book.specs.declared.task.Task.{Task}
+use Rattle.desk_book.specs.declared.requests.task.Task.{Task}
 use Rattle.desk_book.specs.declared.fault.Fault.{Fault}
 use Rattle.desk_book.specs.declared.fault.Fault.TheVariants.{Memory, Storage, Closed}
 

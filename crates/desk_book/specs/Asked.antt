@@ -1,8 +1,8 @@
 -- What is asked of the desk.
 use Rattle.std.specs.Prelude.{ℕ, List}
 use Rattle.desk_msg.specs.declared.mt.Mt.{Mt}
-use Rattle.desk_book.specs.declared.request.Request.{Request}
-use Rattle.desk_book.specs.declared.request.Request.TheVariants.{Message, Operator, Status, Sent, Holdings, Sums}
+use Rattle.desk_book.specs.declared.requests.request.Request.{Request}
+use Rattle.desk_book.specs.declared.requests.request.Request.TheVariants.{Message, Operator, Status, Sent, Holdings, Sums}
 
 -- A request by its values: parties by their BIC, texts by their bytes.
 pub data Asked : Type 0 where

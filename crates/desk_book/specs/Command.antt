@@ -9,9 +9,9 @@ use Rattle.desk_codes.specs.Currency.{letters_of}
 use Rattle.desk_codes.specs.Day.{IsDay}
 use Rattle.desk_codes.specs.Reference.{IsReference}
 use Rattle.desk_msg.specs.Profile.{code_of_kind}
-use Rattle.desk_rules.specs.declared.entry.Entry.{Entry}
-use Rattle.desk_rules.specs.declared.entry.Entry.TheVariants.{Participant, Account, Security, Issue, Redeem, PayIn, PayOut, Run}
-use Rattle.desk_rules.specs.declared.entry.RunRule.TheVariants.{Passes}
+use Rattle.desk_rules.specs.declared.history.entry.Entry.{Entry}
+use Rattle.desk_rules.specs.declared.history.entry.Entry.TheVariants.{Participant, Account, Security, Issue, Redeem, PayIn, PayOut, Run}
+use Rattle.desk_rules.specs.declared.history.entry.RunRule.TheVariants.{Passes}
 use Rattle.desk_rules.specs.WellFormed.{IsMovement}
 use Rattle.desk_book.specs.Forms.{SpellsBic}
 

@@ -1,6 +1,6 @@
 -- What a desk holds.
 use Rattle.std.specs.Prelude.{◌≡◌, ℕ, Bool, false, Result}
-use Rattle.desk_rules.specs.declared.reply.Reply.{Reply}
+use Rattle.desk_rules.specs.declared.answers.reply.Reply.{Reply}
 use Rattle.desk_rules.specs.Books.{Books}
 use Rattle.desk_rules.specs.WellFormed.{AreWellFormed}
 use Rattle.desk_register.specs.declared.register.Stage.TheVariants.{Idle}

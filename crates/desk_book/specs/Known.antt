@@ -1,19 +1,19 @@
 -- What is known of every reply.
 use Rattle.std.specs.Prelude.{◌≡◌, ◌⊎◌, List, Contains}
-use Rattle.desk_msg.specs.declared.refusal.TextRefusal.{TextRefusal}
+use Rattle.desk_msg.specs.declared.reading.refusal.TextRefusal.{TextRefusal}
 use Rattle.desk_msg.specs.Refused.{refusal_line}
-use Rattle.desk_rules.specs.declared.entry.Entry.{Entry}
-use Rattle.desk_rules.specs.declared.reply.Reply.{Reply}
-use Rattle.desk_rules.specs.declared.verdict.Refusal.TheVariants.{AccountNotSenders, NoSuchInstruction, SenderUnknown}
+use Rattle.desk_rules.specs.declared.history.entry.Entry.{Entry}
+use Rattle.desk_rules.specs.declared.answers.reply.Reply.{Reply}
+use Rattle.desk_rules.specs.declared.answers.verdict.Refusal.TheVariants.{AccountNotSenders, NoSuchInstruction, SenderUnknown}
 use Rattle.desk_rules.specs.Books.{Books}
 use Rattle.desk_rules.specs.Questions.{no_message, refused_question}
 use Rattle.desk_rules.specs.Refusals.{number_of_refusal}
 use Rattle.desk_rules.specs.Reply.{TellsRefusal, untyped_reply}
 use Rattle.desk_book.specs.Asked.{Asked}
 use Rattle.desk_book.specs.Task.{IsTask, no_command, unknown_form}
-use Rattle.desk_book.specs.declared.task.Task.TheVariants.{Decide}
-use Rattle.desk_book.specs.declared.total.CashTotal.{CashTotal}
-use Rattle.desk_book.specs.declared.total.SecurityTotal.{SecurityTotal}
+use Rattle.desk_book.specs.declared.requests.task.Task.TheVariants.{Decide}
+use Rattle.desk_book.specs.declared.answers.total.CashTotal.{CashTotal}
+use Rattle.desk_book.specs.declared.answers.total.SecurityTotal.{SecurityTotal}
 
 -- What was asked could not be read: it has none of the desk's forms, it spells no command, or it is a text that is
 -- refused, by a number of the texts' own.

@@ -3,11 +3,11 @@ use Rattle.std.specs.Prelude.{◌≡◌, ◌≢◌, ◌⊎◌, ℕ, Bool, true, 
 use Rattle.std.specs.Io.KnownBytes.{Appends}
 use Rattle.serde_json.specs.Written.{comma_if, compact_text}
 use Rattle.desk_codes.specs.declared.currency.Ccy.{Ccy}
-use Rattle.desk_msg.specs.declared.statement_row.SinkFault.TheVariants as sinks
+use Rattle.desk_msg.specs.declared.writing.statement_row.SinkFault.TheVariants as sinks
 use Rattle.desk_rules.specs.Balances.{paid_in}
 use Rattle.desk_rules.specs.Books.{Books}
 use Rattle.desk_rules.specs.Content.{Content, history_of}
-use Rattle.desk_rules.specs.declared.reply.Reply.{Reply}
+use Rattle.desk_rules.specs.declared.answers.reply.Reply.{Reply}
 use Rattle.desk_register.specs.declared.register.Fault.{Fault}
 use Rattle.desk_register.specs.declared.register.Stage.TheVariants.{Idle}
 use Rattle.desk_register.specs.View.{View, IfCounted, IfTrusted, IsLater}
@@ -22,14 +22,14 @@ use Rattle.desk_book.specs.declared.fault.Fault.{Fault as DeskFault}
 use Rattle.desk_book.specs.declared.fault.Fault.TheVariants as desk
 use Rattle.desk_book.specs.declared.fault.ToFault.{ToFault}
 use Rattle.desk_book.specs.declared.fault.ToFault.TheVariants.{WriteFailed, Memory, Storage, Closed}
-use Rattle.desk_book.specs.declared.task.Task.{Task}
-use Rattle.desk_book.specs.declared.task.Task.TheVariants as tasks
-use Rattle.desk_book.specs.declared.telling.Report.{Report}
-use Rattle.desk_book.specs.declared.telling.Report.TheVariants.{Holdings, Totals}
-use Rattle.desk_book.specs.declared.telling.Written.{Written}
-use Rattle.desk_book.specs.declared.head.Head.{Head}
-use Rattle.desk_book.specs.declared.total.CashTotal.{CashTotal}
-use Rattle.desk_book.specs.declared.total.SecurityTotal.{SecurityTotal}
+use Rattle.desk_book.specs.declared.requests.task.Task.{Task}
+use Rattle.desk_book.specs.declared.requests.task.Task.TheVariants as tasks
+use Rattle.desk_book.specs.declared.answers.telling.Report.{Report}
+use Rattle.desk_book.specs.declared.answers.telling.Report.TheVariants.{Holdings, Totals}
+use Rattle.desk_book.specs.declared.answers.telling.Written.{Written}
+use Rattle.desk_book.specs.declared.answers.head.Head.{Head}
+use Rattle.desk_book.specs.declared.answers.total.CashTotal.{CashTotal}
+use Rattle.desk_book.specs.declared.answers.total.SecurityTotal.{SecurityTotal}
 
 -- the fault that is told of a walk that broke off
 abbrev pub fault_of_walk : WalkFault → ToFault

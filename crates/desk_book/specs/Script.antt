@@ -5,8 +5,8 @@ use Rattle.desk_text.specs.declared.limits.TheConstants.{LONGEST_TEXT}
 use Rattle.desk_book.specs.Asked.{Asked, asked_by}
 use Rattle.desk_book.specs.Lines.{script_lines, said_by, is_skipped, has_body, is_stop}
 use Rattle.desk_book.specs.Forms.{Asks}
-use Rattle.desk_book.specs.declared.script.Item.{Item as ScriptItem}
-use Rattle.desk_book.specs.declared.script.Item.TheVariants.{Ask, BadLine}
+use Rattle.desk_book.specs.declared.requests.script.Item.{Item as ScriptItem}
+use Rattle.desk_book.specs.declared.requests.script.Item.TheVariants.{Ask, BadLine}
 
 -- an item of a script: a request, or what is no request and gets 400 `refused 41`
 pub data Item : Type 0 where

@@ -1,9 +1,9 @@
 -- The statement of what an account holds, by the desk's books, and to whom it is given (ISO 15022, MT535).
 use Rattle.std.specs.Prelude.{◌≡◌, ℕ, ◌+◌, ◌<◌, MatchBool, List, length, Option, Some, None}
-use Rattle.desk_msg.specs.declared.statement_row.StatementRow.{StatementRow}
+use Rattle.desk_msg.specs.declared.writing.statement_row.StatementRow.{StatementRow}
 use Rattle.desk_msg.specs.HoldingsText.{holdings}
-use Rattle.desk_rules.specs.declared.reply.Reply.{Reply}
-use Rattle.desk_rules.specs.declared.verdict.Refusal.TheVariants.{AccountNotSenders, SenderUnknown}
+use Rattle.desk_rules.specs.declared.answers.reply.Reply.{Reply}
+use Rattle.desk_rules.specs.declared.answers.verdict.Refusal.TheVariants.{AccountNotSenders, SenderUnknown}
 use Rattle.desk_rules.specs.Balances.{credits, debits}
 use Rattle.desk_rules.specs.Books.{Books}
 use Rattle.desk_rules.specs.Facts.{is_owner, is_participant, kind_of, last_run, owner_of}

@@ -5,8 +5,8 @@ use Rattle.serde_json.specs.View.{items_of}
 use Rattle.serde_json.specs.Written.{comma_if, compact_text}
 use Rattle.desk_codes.specs.Currency.{letters_of}
 use Rattle.desk_book.specs.Command.{text_member, number_member}
-use Rattle.desk_book.specs.declared.total.CashTotal.{CashTotal}
-use Rattle.desk_book.specs.declared.total.SecurityTotal.{SecurityTotal}
+use Rattle.desk_book.specs.declared.answers.total.CashTotal.{CashTotal}
+use Rattle.desk_book.specs.declared.answers.total.SecurityTotal.{SecurityTotal}
 
 -- a row: a currency, what participants hold of it, and what was paid in less what was paid out
 abbrev pub cash_data : CashTotal → Data

@@ -6,20 +6,20 @@ use Rattle.desk_codes.specs.Reference.{IsReference}
 use Rattle.desk_msg.specs.declared.mt.Mt.{Mt}
 use Rattle.desk_msg.specs.declared.instruction.Message.{Message}
 use Rattle.desk_msg.specs.declared.instruction.Message.TheVariants.{New, Cancel as CancelMessage}
-use Rattle.desk_msg.specs.declared.refusal.TextRefusal.{TextRefusal}
-use Rattle.desk_msg.specs.declared.refusal.ReadFault.TheVariants.{Refused}
+use Rattle.desk_msg.specs.declared.reading.refusal.TextRefusal.{TextRefusal}
+use Rattle.desk_msg.specs.declared.reading.refusal.ReadFault.TheVariants.{Refused}
 use Rattle.desk_msg.specs.MessageType.{is_instruction}
 use Rattle.desk_msg.specs.Refused.{ReadsText, refusal_line}
-use Rattle.desk_rules.specs.declared.entry.Entry.{Entry}
-use Rattle.desk_rules.specs.declared.entry.Entry.TheVariants.{Instruct, Cancel}
-use Rattle.desk_rules.specs.declared.reply.Reply.{Reply}
+use Rattle.desk_rules.specs.declared.history.entry.Entry.{Entry}
+use Rattle.desk_rules.specs.declared.history.entry.Entry.TheVariants.{Instruct, Cancel}
+use Rattle.desk_rules.specs.declared.answers.reply.Reply.{Reply}
 use Rattle.desk_rules.specs.Reply.{untyped_reply}
 use Rattle.desk_rules.specs.WellFormed.{IsWellFormed}
 use Rattle.desk_book.specs.Asked.{Asked, holdings, message, operator, sent, status, sums}
 use Rattle.desk_book.specs.Command.{SpellsCommand}
 use Rattle.desk_book.specs.WrittenAnswers.{bad_line_text}
-use Rattle.desk_book.specs.declared.task.Task.{Task}
-use Rattle.desk_book.specs.declared.task.Task.TheVariants.{Answer, Decide, Holdings, Sent, Status, Totals}
+use Rattle.desk_book.specs.declared.requests.task.Task.{Task}
+use Rattle.desk_book.specs.declared.requests.task.Task.TheVariants.{Answer, Decide, Holdings, Sent, Status, Totals}
 
 -- the answer to what is none of the desk's forms
 abbrev pub unknown_form : Reply

@@ -2,14 +2,14 @@
 use Rattle.std.specs.Prelude.{◌≡◌, ℕ, ◌+◌, ◌<◌, true, List, AllPairs, Contains, Option, Some, None, is_some, sum_by}
 use Rattle.desk_codes.specs.declared.currency.Ccy.{Ccy}
 use Rattle.desk_codes.specs.Currency.{letters_of}
-use Rattle.desk_rules.specs.declared.entry.Entry.{Entry}
+use Rattle.desk_rules.specs.declared.history.entry.Entry.{Entry}
 use Rattle.desk_rules.specs.Facts.{accounts_of, kind_of, participants_of}
 use Rattle.desk_rules.specs.Balances.{cash_credits, cash_debits, credits, debits, issued, paid_in, paid_out, redeemed}
 use Rattle.desk_rules.specs.Books.{Books}
 use Rattle.desk_rules.specs.Content.{Content, history_of}
 use Rattle.desk_register.specs.Looked.{IsLess, held_cash_of, held_of}
-use Rattle.desk_book.specs.declared.total.CashTotal.{CashTotal}
-use Rattle.desk_book.specs.declared.total.SecurityTotal.{SecurityTotal}
+use Rattle.desk_book.specs.declared.answers.total.CashTotal.{CashTotal}
+use Rattle.desk_book.specs.declared.answers.total.SecurityTotal.{SecurityTotal}
 
 -- the rows of these keys, each once, in the order of the keys' bytes
 pub record AreRows {Row : Type 0} (key_of : Row → List ℕ) (IsKey : List ℕ → Type 0) (IsRow : Row → Type 0) (rows : List Row) : Type 0 where

@@ -1,6 +1,6 @@
 -- Bytes that wait to be written. Only private contracts speak of them.
 use Rattle.std.specs.Prelude.{◌<◌, ◌≤◌, vec_capacity, vec_len}
-use Rattle.desk_book.specs.declared.outbox.Outbox.{Outbox}
+use Rattle.desk_book.specs.declared.streams.outbox.Outbox.{Outbox}
 use Rattle.desk_book.specs.declared.limits.TheConstants.{PIECE}
 
 -- fewer than a piece wait, and there is room for one

@@ -1,14 +1,14 @@
 -- What is said of an answer whose text is written straight to a writer.
 use Rattle.std.specs.Prelude.{◌≡◌, ◌≢◌, ◌<◌, ℕ, Bool, false, List, [], ◌++◌, Option, Result, Ok, Err}
 use Rattle.std.specs.Io.KnownBytes.{Appends}
-use Rattle.desk_rules.specs.declared.reply.Reply.{Reply}
+use Rattle.desk_rules.specs.declared.answers.reply.Reply.{Reply}
 use Rattle.desk_rules.specs.Books.{Books}
 use Rattle.desk_register.specs.View.{View, IfCounted}
 use Rattle.desk_book.specs.Answered.{Step}
 use Rattle.desk_book.specs.Asked.{Asked}
 use Rattle.desk_book.specs.declared.fault.ToFault.{ToFault}
 use Rattle.desk_book.specs.declared.fault.ToFault.TheVariants.{WriteFailed, Storage, Closed}
-use Rattle.desk_book.specs.declared.head.Head.{Head}
+use Rattle.desk_book.specs.declared.answers.head.Head.{Head}
 
 -- the reply of a head and a text
 abbrev pub reply_with : Head → List ℕ → Reply

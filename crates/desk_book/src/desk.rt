@@ -11,12 +11,12 @@ ghost use Rattle.desk_book.specs.RowByRow.{IsReported};
 ghost use Rattle.desk_book.specs.Task.{IsFormed};
 ghost use Rattle.desk_book.specs.WrittenTo.{BlamesDevice, StaysOpen, Writes, WritesAsked};
 
-use crate::answering::answer;
+use crate::answers::answering::answer;
+use crate::answers::head::Head;
+use crate::answers::telling::{Report, tell_to};
 use crate::fault::{Fault, ToFault};
-use crate::head::Head;
-use crate::request::Request;
-use crate::task::{Task, task_of};
-use crate::telling::{Report, tell_to};
+use crate::requests::request::Request;
+use crate::requests::task::{Task, task_of};
 use desk_codes::{AccountId, Bic};
 use desk_register::Register;
 use desk_rules::Reply;

@@ -9,44 +9,29 @@
 //! may be relied on after every answer stands in specs/Headline.antt.
 #![tactic(auto)]
 
-mod answering;
-mod command;
+mod answers;
 mod desk;
 mod fault;
-mod form;
-mod head;
 mod laws;
 mod limits;
-mod line;
-mod member;
-mod operation;
-mod outbox;
 mod playing;
-mod questions;
-mod reading;
-mod request;
-mod script;
-mod statement;
-mod summing;
-mod task;
-mod telling;
-mod total;
-mod writing;
+mod requests;
+mod streams;
 
-pub use command::read_command;
+pub use answers::head::Head;
+pub use answers::total::{CashTotal, SecurityTotal};
 pub use desk::Desk;
 pub use fault::{Fault, InputFault, PlayFault, ToFault};
-pub use form::{count_of, instruction_type, number_of, party};
-pub use head::Head;
 pub use laws::{
     accepted_again, accepted_stays, changes_are_confirmed, closed_for_good, headline,
     known_replies, one_command, one_reply, one_script, one_task, questions_answered,
     reads_well_formed, repeats_act_once, sums_agree,
 };
 pub use limits::{LONGEST_LINE, LONGEST_NUMBER, LONGEST_SCRIPT, MOST_DIGITS, PIECE};
-pub use outbox::Outbox;
-pub use reading::{CHUNK, read_more, read_whole};
-pub use request::Request;
-pub use script::{Item, first_item, item_count};
-pub use task::{Task, task_of};
-pub use total::{CashTotal, SecurityTotal};
+pub use requests::command::read_command;
+pub use requests::form::{count_of, instruction_type, number_of, party};
+pub use requests::request::Request;
+pub use requests::script::{Item, first_item, item_count};
+pub use requests::task::{Task, task_of};
+pub use streams::outbox::Outbox;
+pub use streams::reading::{CHUNK, read_more, read_whole};

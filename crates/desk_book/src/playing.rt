@@ -1,7 +1,7 @@
 //! A script, from a reader to a writer.
 ghost use Rattle.std.specs.Prelude.{◌≡◌, ℕ, ◌+◌, List, [], ◌∷◌, true, false, ◌<◌, ◌≤◌, length, IfSome, OnOk, Result, Err};
 ghost use Rattle.std.specs.Io.KnownBytes.{Consumes, append_known};
-ghost use Rattle.desk_rules.specs.declared.reply.Reply.{Reply};
+ghost use Rattle.desk_rules.specs.declared.answers.reply.Reply.{Reply};
 ghost use Rattle.desk_rules.specs.Books.{Books};
 ghost use Rattle.desk_register.specs.View.{IsLater};
 ghost use Rattle.desk_book.specs.declared.fault.Fault.{Fault};
@@ -14,9 +14,9 @@ ghost use Rattle.desk_book.specs.Waiting.{HasRoom};
 use crate::desk::Desk;
 use crate::fault::PlayFault;
 use crate::limits::LONGEST_SCRIPT;
-use crate::outbox::Outbox;
-use crate::reading::read_whole;
-use crate::script::{Item, first_item};
+use crate::requests::script::{Item, first_item};
+use crate::streams::outbox::Outbox;
+use crate::streams::reading::read_whole;
 use desk_register::Register;
 use std::alloc::Global;
 use std::io;

@@ -3,12 +3,12 @@ use Rattle.std.proofs.Common.{◌≡◌, ℕ, ◌+◌, ◌<◌, ◌≤◌, inl, 
 use Rattle.std.specs.Prelude.{nat_le}
 use Rattle.std.proofs.lemmas.Bool.{cases_Bool, cases_lt, both_ways}
 use Rattle.std.proofs.lemmas.Bool.Decides.{nat_tests}
-use Rattle.desk_rules.specs.declared.entry.Entry.{Entry}
-use Rattle.desk_rules.specs.declared.entry.Entry.TheVariants.{Run}
-use Rattle.desk_rules.specs.declared.entry.RunRule.{RunRule}
-use Rattle.desk_rules.specs.declared.reply.Reply.{Reply}
-use Rattle.desk_rules.specs.declared.verdict.Refusal.TheVariants.{Full}
-use Rattle.desk_rules.specs.declared.verdict.Verdict.TheVariants.{Accept, Refuse}
+use Rattle.desk_rules.specs.declared.history.entry.Entry.{Entry}
+use Rattle.desk_rules.specs.declared.history.entry.Entry.TheVariants.{Run}
+use Rattle.desk_rules.specs.declared.history.entry.RunRule.{RunRule}
+use Rattle.desk_rules.specs.declared.answers.reply.Reply.{Reply}
+use Rattle.desk_rules.specs.declared.answers.verdict.Refusal.TheVariants.{Full}
+use Rattle.desk_rules.specs.declared.answers.verdict.Verdict.TheVariants.{Accept, Refuse}
 use Rattle.desk_rules.specs.Books.{Books}
 use Rattle.desk_rules.specs.Content.{Content, history_of}
 use Rattle.desk_rules.specs.History.{before, instruction_at, number_of_key, reference_of, sender_of}

@@ -3,22 +3,22 @@ use Rattle.std.proofs.Common.{◌≡◌, ◌⊎◌, inl, inr, ℕ, ◌+◌, ◌<
 use Rattle.std.specs.Prelude.{if◌then◌else◌, nat_lt, map, option_and_then, Result, Ok, Err, OnOk}
 use Rattle.std.proofs.lemmas.Bool.{cases_Bool, cases_eq, both_ways, false_from_ne_true, ltb-true, lt-ltb, ne_eqb, and_from}
 use Rattle.desk_msg.specs.declared.instruction.CancelOrder.{CancelOrder}
-use Rattle.desk_msg.specs.declared.status.Reason.{Reason}
+use Rattle.desk_msg.specs.declared.writing.status.Reason.{Reason}
 use Rattle.desk_msg.specs.MessageType.{number_of_type}
 use Rattle.desk_codes.specs.declared.currency.Ccy.{Ccy}
-use Rattle.desk_rules.specs.declared.entry.Entry.{Entry}
-use Rattle.desk_rules.specs.declared.entry.Entry.TheVariants.{Cancel}
-use Rattle.desk_rules.specs.declared.entry.Instructed.{Instructed}
-use Rattle.desk_rules.specs.declared.entry.Sender.{Sender}
-use Rattle.desk_rules.specs.declared.entry.Sender.TheVariants.{Participant as FromParticipant}
-use Rattle.desk_rules.specs.declared.pair.Pair.{Pair}
-use Rattle.desk_rules.specs.declared.reply.Reply.{Reply}
-use Rattle.desk_rules.specs.declared.standing.State.{State}
-use Rattle.desk_rules.specs.declared.standing.State.TheVariants as states
-use Rattle.desk_rules.specs.declared.standing.State.TheVariants.{NoInstruction, Unmatched, Matched, Cancelled}
-use Rattle.desk_rules.specs.declared.standing.Standing.{Standing}
-use Rattle.desk_rules.specs.declared.verdict.Refusal.TheVariants.{AlreadyCancelled, AlreadySettled, CancellationWaits}
-use Rattle.desk_rules.specs.declared.verdict.Verdict.TheVariants.{Accept}
+use Rattle.desk_rules.specs.declared.history.entry.Entry.{Entry}
+use Rattle.desk_rules.specs.declared.history.entry.Entry.TheVariants.{Cancel}
+use Rattle.desk_rules.specs.declared.history.entry.Instructed.{Instructed}
+use Rattle.desk_rules.specs.declared.history.entry.Sender.{Sender}
+use Rattle.desk_rules.specs.declared.history.entry.Sender.TheVariants.{Participant as FromParticipant}
+use Rattle.desk_rules.specs.declared.history.pair.Pair.{Pair}
+use Rattle.desk_rules.specs.declared.answers.reply.Reply.{Reply}
+use Rattle.desk_rules.specs.declared.history.standing.State.{State}
+use Rattle.desk_rules.specs.declared.history.standing.State.TheVariants as states
+use Rattle.desk_rules.specs.declared.history.standing.State.TheVariants.{NoInstruction, Unmatched, Matched, Cancelled}
+use Rattle.desk_rules.specs.declared.history.standing.Standing.{Standing}
+use Rattle.desk_rules.specs.declared.answers.verdict.Refusal.TheVariants.{AlreadyCancelled, AlreadySettled, CancellationWaits}
+use Rattle.desk_rules.specs.declared.answers.verdict.Verdict.TheVariants.{Accept}
 use Rattle.desk_rules.specs.History.{entry_at, has_key, instructed, instruction_at, number_from, number_of_key}
 use Rattle.desk_rules.specs.Cancelled.{is_cancel_requested, is_cancelled_pair, requests_cancel}
 use Rattle.desk_rules.specs.Pairing.{IsFree, IsPairing, IsSide, mate_in}
@@ -31,8 +31,8 @@ use Rattle.desk_rules.specs.Verdict.{IsVerdict, WasAccepted, check, holds_of, if
 use Rattle.desk_rules.specs.Content.{CashBalances, Content, Positions, history_of}
 use Rattle.desk_rules.specs.Tables.{AreCashBalances, ArePositions}
 use Rattle.desk_rules.specs.Reply.{cancellation_case, case_by_state}
-use Rattle.desk_rules.specs.declared.pair.Settled.{Settled}
-use Rattle.desk_rules.specs.declared.reply.Kept.{Kept}
+use Rattle.desk_rules.specs.declared.history.pair.Settled.{Settled}
+use Rattle.desk_rules.specs.declared.answers.reply.Kept.{Kept}
 use Rattle.desk_register.specs.declared.register.Fault.{Fault}
 use Rattle.desk_engine.specs.Applied.{IsNamed}
 use Rattle.desk_register.specs.Changes.{CanCancel, CanCancelPair, appended, cancelled, pair_cancelled, standing_at, standing_both, with_request}

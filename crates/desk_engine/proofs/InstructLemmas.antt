@@ -5,19 +5,19 @@ use Rattle.std.proofs.lemmas.Bool.{cases_eq, ne_eqb}
 use Rattle.std.proofs.lemmas.Bool.Decides.{nat_tests}
 use Rattle.std.proofs.lemmas.List.{drop_all}
 use Rattle.desk_msg.specs.declared.instruction.Instruction.{Instruction}
-use Rattle.desk_rules.specs.declared.entry.Entry.{Entry}
-use Rattle.desk_rules.specs.declared.entry.Entry.TheVariants.{Instruct}
-use Rattle.desk_rules.specs.declared.pair.Pair.{Pair}
-use Rattle.desk_rules.specs.declared.pair.Settled.{Settled}
+use Rattle.desk_rules.specs.declared.history.entry.Entry.{Entry}
+use Rattle.desk_rules.specs.declared.history.entry.Entry.TheVariants.{Instruct}
+use Rattle.desk_rules.specs.declared.history.pair.Pair.{Pair}
+use Rattle.desk_rules.specs.declared.history.pair.Settled.{Settled}
 use Rattle.desk_register.specs.declared.register.Fault.{Fault}
-use Rattle.desk_rules.specs.declared.reply.Reply.{Reply}
-use Rattle.desk_rules.specs.declared.standing.State.{State}
-use Rattle.desk_rules.specs.declared.standing.Standing.{Standing}
-use Rattle.desk_rules.specs.declared.standing.State.TheVariants as states
-use Rattle.desk_rules.specs.declared.standing.State.TheVariants.{NoInstruction, Unmatched, Matched, Cancelled}
-use Rattle.desk_msg.specs.declared.status.Reason.TheVariants.{Future}
-use Rattle.desk_rules.specs.declared.verdict.Verdict.TheVariants.{Accept}
-use Rattle.desk_rules.specs.declared.entry.Instructed.{Instructed}
+use Rattle.desk_rules.specs.declared.answers.reply.Reply.{Reply}
+use Rattle.desk_rules.specs.declared.history.standing.State.{State}
+use Rattle.desk_rules.specs.declared.history.standing.Standing.{Standing}
+use Rattle.desk_rules.specs.declared.history.standing.State.TheVariants as states
+use Rattle.desk_rules.specs.declared.history.standing.State.TheVariants.{NoInstruction, Unmatched, Matched, Cancelled}
+use Rattle.desk_msg.specs.declared.writing.status.Reason.TheVariants.{Future}
+use Rattle.desk_rules.specs.declared.answers.verdict.Verdict.TheVariants.{Accept}
+use Rattle.desk_rules.specs.declared.history.entry.Instructed.{Instructed}
 use Rattle.desk_rules.specs.History.{instruction_at, instructed}
 use Rattle.desk_rules.specs.Opposite.{AreOpposite}
 use Rattle.desk_rules.specs.Cancelled.{is_cancel_requested, is_cancel_requested_by}
@@ -31,7 +31,7 @@ use Rattle.desk_rules.specs.Content.{Content, history_of}
 use Rattle.desk_register.specs.Changes.{appended, paired, CanPair}
 use Rattle.desk_register.specs.Looked.{IsOppositeAt, IsFirstOpposite}
 use Rattle.desk_rules.specs.Stands.{InstructionStands, IsAlone, IsMatched, StandsAt, StandsSo}
-use Rattle.desk_rules.specs.declared.reply.Notice.{Notice}
+use Rattle.desk_rules.specs.declared.answers.reply.Notice.{Notice}
 use Rattle.desk_rules.specs.Sent.{told, told_to}
 use Rattle.desk_engine.specs.Sending.{with_advised}
 use Rattle.desk_engine.specs.Tables.{Tables, Grown, IsAccepted}

@@ -1,6 +1,6 @@
 -- What a register keeps, in the relations in which the steps are proved, and back.
 use Rattle.std.proofs.Common.{ℕ, refl, sym, subst}
-use Rattle.desk_rules.specs.declared.standing.Standing.{Standing}
+use Rattle.desk_rules.specs.declared.history.standing.Standing.{Standing}
 use Rattle.desk_rules.specs.History.{instruction_at}
 use Rattle.desk_rules.specs.Books.{Books}
 use Rattle.desk_rules.specs.Content.{Content}

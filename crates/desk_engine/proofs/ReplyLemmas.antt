@@ -5,16 +5,16 @@ use Rattle.std.specs.List.{list_any}
 use Rattle.std.proofs.lemmas.Bool.{cases_Bool}
 use Rattle.std.proofs.lemmas.Bool.Decides.{nat_tests}
 use Rattle.desk_msg.specs.declared.instruction.Instruction.{Instruction}
-use Rattle.desk_msg.specs.declared.status.Case.{Case}
-use Rattle.desk_msg.specs.declared.status.Case.TheVariants.{Unmatched, Matched}
-use Rattle.desk_msg.specs.declared.status.Reason.TheVariants.{Future}
-use Rattle.desk_msg.specs.declared.status.Own.TheVariants.{Answer}
+use Rattle.desk_msg.specs.declared.writing.status.Case.{Case}
+use Rattle.desk_msg.specs.declared.writing.status.Case.TheVariants.{Unmatched, Matched}
+use Rattle.desk_msg.specs.declared.writing.status.Reason.TheVariants.{Future}
+use Rattle.desk_msg.specs.declared.writing.status.Own.TheVariants.{Answer}
 use Rattle.desk_msg.specs.StatusText.{advice}
-use Rattle.desk_rules.specs.declared.entry.Entry.{Entry}
-use Rattle.desk_rules.specs.declared.entry.Entry.TheVariants.{Cancel, Instruct, Run}
-use Rattle.desk_rules.specs.declared.entry.RunRule.{RunRule}
-use Rattle.desk_rules.specs.declared.pair.Pair.{Pair}
-use Rattle.desk_rules.specs.declared.reply.Reply.{Reply}
+use Rattle.desk_rules.specs.declared.history.entry.Entry.{Entry}
+use Rattle.desk_rules.specs.declared.history.entry.Entry.TheVariants.{Cancel, Instruct, Run}
+use Rattle.desk_rules.specs.declared.history.entry.RunRule.{RunRule}
+use Rattle.desk_rules.specs.declared.history.pair.Pair.{Pair}
+use Rattle.desk_rules.specs.declared.answers.reply.Reply.{Reply}
 use Rattle.desk_rules.specs.Pairing.{has_side}
 use Rattle.desk_rules.specs.Reply.{accepted_text, advice_reply, cancellation_case, case_by_state, first_case, reply_to, run_text, untyped_reply}
 use Rattle.desk_rules.specs.Settlement.{settled_count}

@@ -4,16 +4,16 @@ use Rattle.std.proofs.lemmas.Bool.{ltb-true, ltb-false}
 use Rattle.desk_rules.specs.Settlement.{allows_more}
 use Rattle.std.proofs.Common.{◌≡◌, ◌≢◌, ◌⊎◌, inl, inr, ℕ, ◌+◌, ◌<◌, ◌≤◌, ◌^◌, true, false, ◌&&◌, refl, List, [], length, Option, Some, None, ap, sym, ◌∙◌, subst, arith}
 use Rattle.desk_codes.specs.Number.{number_of}
-use Rattle.desk_rules.specs.declared.entry.Entry.TheVariants.{Run}
-use Rattle.desk_rules.specs.declared.entry.RunRule.{RunRule}
-use Rattle.desk_rules.specs.declared.entry.RunRule.TheVariants.{OnePass, Passes}
-use Rattle.desk_rules.specs.declared.pair.Place.{Place}
-use Rattle.desk_rules.specs.declared.pair.Settled.{Settled}
+use Rattle.desk_rules.specs.declared.history.entry.Entry.TheVariants.{Run}
+use Rattle.desk_rules.specs.declared.history.entry.RunRule.{RunRule}
+use Rattle.desk_rules.specs.declared.history.entry.RunRule.TheVariants.{OnePass, Passes}
+use Rattle.desk_rules.specs.declared.history.pair.Place.{Place}
+use Rattle.desk_rules.specs.declared.history.pair.Settled.{Settled}
 use Rattle.desk_engine.specs.declared.settlement_run.Taken.{Taken}
 use Rattle.desk_register.specs.View.{View, IsLater, Stays}
 use Rattle.desk_rules.specs.Books.{Books}
 use Rattle.desk_rules.specs.Content.{Content}
-use Rattle.desk_rules.specs.declared.entry.Instructed.{Instructed}
+use Rattle.desk_rules.specs.declared.history.entry.Instructed.{Instructed}
 use Rattle.desk_register.specs.Changes.{CanSettle}
 use Rattle.desk_register.specs.declared.outcome.Outcome.{Outcome}
 use Rattle.desk_register.specs.declared.outcome.Outcome.TheVariants as outcomes

@@ -2,9 +2,9 @@
 use Rattle.std.proofs.Common.{◌≡◌, ℕ, ◌+◌, ◌*◌, ◌<◌, ◌≤◌, ◌==◌, true, refl, List, [], ◌∷◌, ◌++◌, length, length-append, Option, Some, None, ap, sym, ◌∙◌, subst, arith}
 use Rattle.std.specs.Prelude.{Result, Ok, Err, OnOk}
 use Rattle.desk_register.specs.declared.register.Fault.{Fault}
-use Rattle.desk_rules.specs.declared.entry.Instructed.{Instructed}
+use Rattle.desk_rules.specs.declared.history.entry.Instructed.{Instructed}
 use Rattle.desk_rules.specs.declared.limits.TheConstants.{SENT_A_PAIR}
-use Rattle.desk_rules.specs.declared.standing.Standing.{Standing}
+use Rattle.desk_rules.specs.declared.history.standing.Standing.{Standing}
 use Rattle.desk_register.specs.Changes.{IsPairAt, TriesPair}
 use Rattle.desk_register.specs.declared.outcome.Outcome.{Outcome}
 use Rattle.desk_register.specs.declared.outcome.Outcome.TheVariants as outcomes

@@ -5,17 +5,17 @@ use Rattle.std.specs.List.{list_any}
 use Rattle.std.proofs.lemmas.Bool.{cases_lt, cases_eq}
 use Rattle.std.proofs.lemmas.List.{length-map, map-append, drop-append-le}
 use Rattle.std.proofs.lemmas.List.Folds.{list_any-append}
-use Rattle.desk_rules.specs.declared.entry.Entry.{Entry}
-use Rattle.desk_rules.specs.declared.entry.Entry.TheVariants.{Participant, Account, Security, Issue, Redeem, PayIn, PayOut, Instruct, Cancel, Run}
-use Rattle.desk_rules.specs.declared.pair.Pair.{Pair}
-use Rattle.desk_rules.specs.declared.pair.Settled.{Settled}
-use Rattle.desk_rules.specs.declared.standing.State.{State}
-use Rattle.desk_rules.specs.declared.standing.State.TheVariants as states
-use Rattle.desk_rules.specs.declared.standing.State.TheVariants.{NoInstruction, Unmatched, Matched, Cancelled}
-use Rattle.desk_msg.specs.declared.status.Reason.{Reason}
-use Rattle.desk_rules.specs.declared.standing.Standing.{Standing}
-use Rattle.desk_rules.specs.declared.verdict.Verdict.TheVariants.{Accept}
-use Rattle.desk_rules.specs.declared.entry.Instructed.{Instructed}
+use Rattle.desk_rules.specs.declared.history.entry.Entry.{Entry}
+use Rattle.desk_rules.specs.declared.history.entry.Entry.TheVariants.{Participant, Account, Security, Issue, Redeem, PayIn, PayOut, Instruct, Cancel, Run}
+use Rattle.desk_rules.specs.declared.history.pair.Pair.{Pair}
+use Rattle.desk_rules.specs.declared.history.pair.Settled.{Settled}
+use Rattle.desk_rules.specs.declared.history.standing.State.{State}
+use Rattle.desk_rules.specs.declared.history.standing.State.TheVariants as states
+use Rattle.desk_rules.specs.declared.history.standing.State.TheVariants.{NoInstruction, Unmatched, Matched, Cancelled}
+use Rattle.desk_msg.specs.declared.writing.status.Reason.{Reason}
+use Rattle.desk_rules.specs.declared.history.standing.Standing.{Standing}
+use Rattle.desk_rules.specs.declared.answers.verdict.Verdict.TheVariants.{Accept}
+use Rattle.desk_rules.specs.declared.history.entry.Instructed.{Instructed}
 use Rattle.desk_rules.specs.History.{before, instruction_at, entry_at, run_day, instructed}
 use Rattle.desk_rules.specs.Cancelled.{requests_cancel, is_cancel_requested, is_cancel_requested_by, is_cancelled_pair}
 use Rattle.desk_rules.specs.Pairing.{IsPairing, IsFree, IsSide}
@@ -39,19 +39,19 @@ use Rattle.std.proofs.lemmas.Bool.Decides.{nat_tests}
 use Rattle.std.proofs.Common.{lit<}
 use Rattle.std.specs.Prelude.{Result, Ok, Err, OnOk}
 use Rattle.desk_register.specs.declared.register.Fault.{Fault}
-use Rattle.desk_rules.specs.declared.entry.Movement.{Movement}
+use Rattle.desk_rules.specs.declared.history.entry.Movement.{Movement}
 use Rattle.desk_codes.specs.declared.currency.Ccy.{Ccy}
-use Rattle.desk_rules.specs.declared.verdict.Refusal.TheVariants.{AccountUnknown, NotEnough, OverLimit, ParticipantUnknown}
+use Rattle.desk_rules.specs.declared.answers.verdict.Refusal.TheVariants.{AccountUnknown, NotEnough, OverLimit, ParticipantUnknown}
 use Rattle.desk_engine.specs.Tables.{IsAccepted}
 use Rattle.std.proofs.lemmas.Slice.Eq.{bytes_eq-Decides}
 use Rattle.std.proofs.lemmas.List.Sums.{sum_by-cons}
-use Rattle.desk_rules.specs.declared.reply.Kept.{Kept}
-use Rattle.desk_rules.specs.declared.reply.Reply.{Reply}
+use Rattle.desk_rules.specs.declared.answers.reply.Kept.{Kept}
+use Rattle.desk_rules.specs.declared.answers.reply.Reply.{Reply}
 use Rattle.desk_register.specs.Changes.{appended, cash_after, cash_at, first_standing, positions_after, requests_noted, moved_to, BalancesAllow}
 use Rattle.desk_rules.specs.Facts.{is_participant, owner_of, accounts_of, participants_of}
 use Rattle.desk_rules.specs.declared.limits.TheConstants.{MOST_PAID, MOST_QUANTITY}
 use Rattle.desk_rules.specs.Balances.{cash_credits, cash_debits, issued_by, redeemed_by, movement_on, paid_in, paid_in_by, paid_out, paid_out_by, payment_of, quantity_if, same_ccy}
-use Rattle.desk_rules.specs.declared.entry.Payment.{Payment}
+use Rattle.desk_rules.specs.declared.history.entry.Payment.{Payment}
 use Rattle.desk_rules.proofs.PairingLemmas.{pairing_alone}
 use Rattle.desk_rules.proofs.SettlementGrowth.{settlement_alone}
 use Rattle.desk_rules.proofs.BalanceLemmas.{IsIn, cash_credits-entry, cash_debits-entry, credits-entry, debits-entry}

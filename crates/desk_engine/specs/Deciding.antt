@@ -1,7 +1,7 @@
 -- What a verdict is put together from. Only private contracts speak of it.
 use Rattle.std.specs.Prelude.{◌≡◌, ℕ, List, Option, Some, None}
-use Rattle.desk_rules.specs.declared.entry.Entry.{Entry}
-use Rattle.desk_rules.specs.declared.verdict.Verdict.{Verdict}
+use Rattle.desk_rules.specs.declared.history.entry.Entry.{Entry}
+use Rattle.desk_rules.specs.declared.answers.verdict.Verdict.{Verdict}
 use Rattle.desk_rules.specs.History.{number_of_key, sender_of, reference_of}
 use Rattle.desk_rules.specs.Verdict.{IsVerdictAt}
 use Rattle.desk_register.specs.Checked.{with_history}

@@ -2,11 +2,11 @@
 -- accepted in its turn and is well formed.
 use Rattle.std.specs.Prelude.{◌≡◌, ℕ, ◌+◌, true, false, List, [], ◌∷◌, ◌++◌, length, sum_by, Contains, Result, Ok, Err}
 use Rattle.desk_codes.specs.declared.currency.Ccy.{Ccy}
-use Rattle.desk_rules.specs.declared.entry.Entry.{Entry}
-use Rattle.desk_rules.specs.declared.entry.Entry.TheVariants.{Run}
-use Rattle.desk_rules.specs.declared.entry.RunRule.TheVariants.{Passes}
-use Rattle.desk_rules.specs.declared.pair.Pair.{Pair}
-use Rattle.desk_rules.specs.declared.pair.Settled.{Settled}
+use Rattle.desk_rules.specs.declared.history.entry.Entry.{Entry}
+use Rattle.desk_rules.specs.declared.history.entry.Entry.TheVariants.{Run}
+use Rattle.desk_rules.specs.declared.history.entry.RunRule.TheVariants.{Passes}
+use Rattle.desk_rules.specs.declared.history.pair.Pair.{Pair}
+use Rattle.desk_rules.specs.declared.history.pair.Settled.{Settled}
 use Rattle.desk_rules.specs.History.{before}
 use Rattle.desk_rules.specs.Balances.{issued, issued_by, movement_on, paid_in, paid_in_by, paid_out, paid_out_by, payment_of, redeemed, redeemed_by}
 use Rattle.desk_rules.specs.Books.{Books}

@@ -8,7 +8,7 @@ ghost use Rattle.desk_register.specs.Looked.{IsDuePairAfter};
 ghost use Rattle.desk_engine.specs.Tables.{Grown, Tables};
 ghost use Rattle.desk_engine.specs.Steps.{IsStep};
 ghost use Rattle.desk_engine.specs.Pass.{CanPass, CanRun, CanTry, IsAtPass, IsPassed, IsTaken, IsTried, PassEnds, RanTo, settled_of};
-ghost use Rattle.desk_rules.specs.declared.pair.Settled.{Settled};
+ghost use Rattle.desk_rules.specs.declared.history.pair.Settled.{Settled};
 ghost use Rattle.desk_rules.specs.Settlement.{allows_more};
 ghost use Rattle.desk_rules.specs.Books.{Books};
 

@@ -14,9 +14,9 @@ use Rattle.sqlite.specs.Program.{overlay}
 use Rattle.sqlite.specs.Term.{col}
 use Rattle.sqlite.specs.State.{State, Executes, Shown}
 use Rattle.sqlite.proofs.Callers.{reads_as}
-use Rattle.desk_rules.specs.declared.entry.Entry.{Entry}
-use Rattle.desk_rules.specs.declared.reply.Kept.{Kept}
-use Rattle.desk_rules.specs.declared.reply.Reply.{Reply}
+use Rattle.desk_rules.specs.declared.history.entry.Entry.{Entry}
+use Rattle.desk_rules.specs.declared.answers.reply.Kept.{Kept}
+use Rattle.desk_rules.specs.declared.answers.reply.Reply.{Reply}
 use Rattle.desk_rules.specs.History.{entry_at}
 use Rattle.desk_register.specs.Looked.{kept_at}
 use Rattle.desk_tables.specs.Schema.{desk_schema, register_table}

@@ -13,7 +13,7 @@ use Rattle.sqlite.specs.declared.types.Value.TheVariants.{Int}
 use Rattle.sqlite.specs.Term.{Term, col, eval_all}
 use Rattle.sqlite.specs.Ops.{binary}
 use Rattle.sqlite.specs.Tree.{put_row, rowid}
-use Rattle.desk_rules.specs.declared.reply.Kept.{Kept}
+use Rattle.desk_rules.specs.declared.answers.reply.Kept.{Kept}
 use Rattle.desk_register.specs.Looked.{kept_at}
 use Rattle.desk_tables.specs.Queries.{passes_all, falling, Among, IsFirst}
 use Rattle.desk_tables.proofs.QueryLemmas.{all_kept, at_among}

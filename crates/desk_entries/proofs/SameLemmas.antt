@@ -1,7 +1,7 @@
 -- What the register holds depends on its own tree alone.
 use Rattle.std.proofs.Common.{◌≡◌, List, [], ◌∙◌, lit<}
 use Rattle.sqlite.specs.Effect.{Database}
-use Rattle.desk_rules.specs.declared.reply.Kept.{Kept}
+use Rattle.desk_rules.specs.declared.answers.reply.Kept.{Kept}
 use Rattle.desk_entries.specs.Entries.{AreEntries}
 
 pub same_entries : (a b : Database) (register : List Kept) → b.trees 6 ≡ a.trees 6 → AreEntries a register → AreEntries b register

@@ -7,10 +7,10 @@ use Rattle.desk_msg.specs.declared.instruction.Cash.{Cash}
 use Rattle.desk_msg.specs.declared.instruction.Instruction.{Instruction}
 use Rattle.desk_msg.specs.MessageType.{number_of_type}
 use Rattle.desk_msg.specs.Profile.{code_of_kind}
-use Rattle.desk_rules.specs.declared.entry.Movement.{Movement}
-use Rattle.desk_rules.specs.declared.entry.Payment.{Payment}
-use Rattle.desk_rules.specs.declared.entry.Entry.{Entry}
-use Rattle.desk_rules.specs.declared.entry.Entry.TheVariants.{Participant, Account, Security, Issue, Redeem, PayIn, PayOut, Instruct, Cancel, Run}
+use Rattle.desk_rules.specs.declared.history.entry.Movement.{Movement}
+use Rattle.desk_rules.specs.declared.history.entry.Payment.{Payment}
+use Rattle.desk_rules.specs.declared.history.entry.Entry.{Entry}
+use Rattle.desk_rules.specs.declared.history.entry.Entry.TheVariants.{Participant, Account, Security, Issue, Redeem, PayIn, PayOut, Instruct, Cancel, Run}
 use Rattle.desk_entries.specs.declared.codes.TheConstants.{SENDER, REFERENCE, BIC, ACCOUNT, ISIN, UNIT, QUANTITY, CURRENCY, AMOUNT, DAY, RULE, MT, SETTLEMENT, PLACE, PREVIOUS}
 use Rattle.desk_entries.specs.Columns.{kind_number, number_of_rule}
 

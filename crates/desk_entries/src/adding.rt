@@ -1,7 +1,7 @@
 //! One entry more.
 ghost use Rattle.std.specs.Prelude.{◌≡◌, ◌+◌, ◌<◌, ◌^◌, List, OnOk, length};
 ghost use Rattle.sqlite.specs.Held.{state};
-ghost use Rattle.desk_rules.specs.declared.reply.Kept.{Kept};
+ghost use Rattle.desk_rules.specs.declared.answers.reply.Kept.{Kept};
 ghost use Rattle.desk_tables.specs.Ends.{IfSound, IsWrite};
 ghost use Rattle.desk_entries.specs.Entries.{AreEntries, EntryAdded};
 

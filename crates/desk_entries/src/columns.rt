@@ -2,7 +2,7 @@
 ghost use Rattle.std.specs.Prelude.{◌≡◌, ◌<◌, ◌≤◌, ◌^◌, []};
 ghost use Rattle.desk_entries.specs.Columns.{amount_of, blank, columns_of, currency_of, number_of_rule};
 ghost use Rattle.desk_entries.specs.Filled.{columns_in};
-ghost use Rattle.desk_rules.specs.declared.entry.Entry.TheVariants.{Instruct, Issue, PayIn};
+ghost use Rattle.desk_rules.specs.declared.history.entry.Entry.TheVariants.{Instruct, Issue, PayIn};
 
 use desk_msg::{Cash, Instruction};
 use desk_rules::{Entry, Movement, Payment, RunRule};

@@ -1,11 +1,11 @@
 //! How many entries there are, and what the one of a number is and was answered.
 ghost use Rattle.std.specs.Prelude.{◌≡◌, ◌<◌, ◌^◌, ℕ, List, Option, IfOk, length, option_map, pos};
 ghost use Rattle.sqlite.specs.Held.{state};
-ghost use Rattle.desk_rules.specs.declared.reply.Kept.{Kept};
+ghost use Rattle.desk_rules.specs.declared.answers.reply.Kept.{Kept};
 ghost use Rattle.desk_rules.specs.History.{entry_at};
 ghost use Rattle.desk_register.specs.Looked.{kept_at};
 ghost use Rattle.desk_tables.specs.Ends.{IfSound, IsLook};
-ghost use Rattle.desk_rules.specs.declared.reply.Reply.{Reply};
+ghost use Rattle.desk_rules.specs.declared.answers.reply.Reply.{Reply};
 ghost use Rattle.sqlite_value.specs.Order.{column};
 ghost use Rattle.desk_entries.specs.Entries.{AreEntries, entries_in, type_value};
 ghost use Rattle.desk_entries.specs.Shown.{count_rows, row_if, shown_entry, shown_reply};

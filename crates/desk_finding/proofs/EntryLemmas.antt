@@ -12,10 +12,10 @@ use Rattle.std.specs.Prelude.{if◌then◌else◌}
 use Rattle.std.proofs.lemmas.Slice.Eq.{bytes_eq-Decides}
 use Rattle.desk_codes.specs.Number.{number_of}
 use Rattle.desk_msg.specs.Profile.{code_of_kind}
-use Rattle.desk_rules.specs.declared.entry.Entry.{Entry}
-use Rattle.desk_rules.specs.declared.entry.Entry.TheVariants.{Participant, Account, Security, Issue, Redeem, PayIn, PayOut, Instruct, Cancel, Run}
-use Rattle.desk_rules.specs.declared.entry.Sender.{Sender}
-use Rattle.desk_rules.specs.declared.reply.Kept.{Kept}
+use Rattle.desk_rules.specs.declared.history.entry.Entry.{Entry}
+use Rattle.desk_rules.specs.declared.history.entry.Entry.TheVariants.{Participant, Account, Security, Issue, Redeem, PayIn, PayOut, Instruct, Cancel, Run}
+use Rattle.desk_rules.specs.declared.history.entry.Sender.{Sender}
+use Rattle.desk_rules.specs.declared.answers.reply.Kept.{Kept}
 use Rattle.desk_rules.specs.History.{has_key, number_from, run_day}
 use Rattle.desk_rules.specs.Facts.{adds_participant, is_participant, owner_by, kind_by, or_else, first_said, last_said, last_run}
 use Rattle.sqlite_value.specs.declared.keys.Key.{Key}

@@ -11,8 +11,8 @@ use Rattle.std.proofs.lemmas.Iterator.Adapters.{option_map_id}
 use Rattle.desk_codes.specs.Bic.{IsBic}
 use Rattle.desk_codes.specs.Number.{number_of}
 use Rattle.desk_msg.specs.Profile.{code_of_kind}
-use Rattle.desk_rules.specs.declared.entry.Sender.TheVariants.{Operator, Participant as FromParticipant}
-use Rattle.desk_rules.specs.declared.reply.Kept.{Kept}
+use Rattle.desk_rules.specs.declared.history.entry.Sender.TheVariants.{Operator, Participant as FromParticipant}
+use Rattle.desk_rules.specs.declared.answers.reply.Kept.{Kept}
 use Rattle.desk_rules.specs.History.{has_key, number_of_key}
 use Rattle.desk_rules.specs.Facts.{adds_participant, is_participant, owner_by, owner_of, kind_by, kind_of, last_said, last_run}
 use Rattle.desk_tables.specs.Schema.{desk_schema}

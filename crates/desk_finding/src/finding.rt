@@ -3,7 +3,7 @@
 ghost use Rattle.std.specs.Prelude.{◌≡◌, List, option_map, IfOk};
 ghost use Rattle.sqlite.specs.Held.{state};
 ghost use Rattle.desk_codes.specs.Number.{number_of};
-ghost use Rattle.desk_rules.specs.declared.reply.Kept.{Kept};
+ghost use Rattle.desk_rules.specs.declared.answers.reply.Kept.{Kept};
 ghost use Rattle.desk_rules.specs.Facts.{is_participant, owner_of, kind_of, last_run};
 ghost use Rattle.desk_rules.specs.History.{number_of_key};
 ghost use Rattle.desk_register.specs.Looked.{IsSecurityAfter};

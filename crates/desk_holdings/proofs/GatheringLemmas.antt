@@ -5,8 +5,8 @@ use Rattle.std.proofs.lemmas.List.Elements.{Contains-get_or, Contains-append_lef
 use Rattle.std.proofs.lemmas.List.Quantifiers.{all_pairs_push}
 use Rattle.std.specs.Ordering.{nat_cmp, is_lt}
 use Rattle.std.specs.Cmp.Lexicographic.{slice_cmp}
-use Rattle.desk_msg.specs.declared.statement_row.StatementRow.{StatementRow}
-use Rattle.desk_rules.specs.declared.entry.Entry.{Entry}
+use Rattle.desk_msg.specs.declared.writing.statement_row.StatementRow.{StatementRow}
+use Rattle.desk_rules.specs.declared.history.entry.Entry.{Entry}
 use Rattle.desk_rules.specs.Facts.{kind_of}
 use Rattle.desk_rules.specs.Content.{Content, history_of}
 use Rattle.desk_register.specs.Looked.{HoldsAbove, IsLess, IsAboveText, IsRegisteredAbove}

@@ -1,7 +1,7 @@
 -- An account has one list of holdings.
 use Rattle.std.proofs.Common.{◌≡◌, inl, inr, suc, ℕ, ◌<◌, List, [], ◌∷◌, length, AllPairs, get_or, Some, refl, sym, ◌∙◌, ap, subst, arith}
 use Rattle.desk_msg.specs.declared.instruction.Kind.{Kind}
-use Rattle.desk_msg.specs.declared.statement_row.StatementRow.{StatementRow}
+use Rattle.desk_msg.specs.declared.writing.statement_row.StatementRow.{StatementRow}
 use Rattle.desk_rules.proofs.Decided.{In, Contains-from_In, In-from_Contains}
 use Rattle.desk_rules.specs.Content.{Content, history_of}
 use Rattle.desk_rules.specs.Facts.{kind_of}

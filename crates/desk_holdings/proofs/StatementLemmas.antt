@@ -5,11 +5,11 @@ use Rattle.std.specs.Result.{IsErrAnd}
 use Rattle.std.specs.List.{flat_map}
 use Rattle.std.specs.Io.KnownBytes.{Appends}
 use Rattle.std.proofs.lemmas.List.Concat.{flat_map-append}
-use Rattle.desk_msg.specs.declared.statement_row.SinkFault.{SinkFault}
-use Rattle.desk_msg.specs.declared.statement_row.SinkFault.TheVariants as sink_faults
-use Rattle.desk_msg.specs.declared.statement_row.StatementRow.{StatementRow}
-use Rattle.desk_msg.specs.declared.holdings.Heading.{Heading}
-use Rattle.desk_msg.specs.declared.holdings.HoldingsWriter.{HoldingsWriter}
+use Rattle.desk_msg.specs.declared.writing.statement_row.SinkFault.{SinkFault}
+use Rattle.desk_msg.specs.declared.writing.statement_row.SinkFault.TheVariants as sink_faults
+use Rattle.desk_msg.specs.declared.writing.statement_row.StatementRow.{StatementRow}
+use Rattle.desk_msg.specs.declared.writing.holdings.Heading.{Heading}
+use Rattle.desk_msg.specs.declared.writing.holdings.HoldingsWriter.{HoldingsWriter}
 use Rattle.desk_msg.specs.HoldingsText.{holdings}
 use Rattle.desk_msg.specs.HoldingsPieces.{front_text, rest_text, row_text, written_by, TakesRow}
 use Rattle.desk_msg.proofs.HoldingsLemmas.{whole_written}

@@ -3,9 +3,9 @@ use Rattle.std.proofs.Common.{◌≡◌, ℕ, ◌+◌, ◌≤◌, List, [], ◌�
 use Rattle.std.proofs.lemmas.List.{length-map}
 use Rattle.std.specs.Prelude.{Result, Ok, Err}
 use Rattle.std.specs.Result.{IsErrAnd}
-use Rattle.desk_msg.specs.declared.statement_row.SinkFault.{SinkFault}
-use Rattle.desk_msg.specs.declared.statement_row.SinkFault.TheVariants.{Memory, Write}
-use Rattle.desk_msg.specs.declared.statement_row.StatementRow.{StatementRow}
+use Rattle.desk_msg.specs.declared.writing.statement_row.SinkFault.{SinkFault}
+use Rattle.desk_msg.specs.declared.writing.statement_row.SinkFault.TheVariants.{Memory, Write}
+use Rattle.desk_msg.specs.declared.writing.statement_row.StatementRow.{StatementRow}
 use Rattle.desk_msg.specs.TookRows.{TookAll}
 use Rattle.desk_msg.proofs.TakenRows.{TookAll-push}
 use Rattle.desk_register.specs.declared.register.Fault.{Fault}

@@ -1,6 +1,6 @@
 -- What an account holds, as the rows of a statement of holdings.
 use Rattle.std.specs.Prelude.{◌≡◌, ℕ, ◌<◌, true, List, ◌++◌, AllPairs, Contains, Some, is_some}
-use Rattle.desk_msg.specs.declared.statement_row.StatementRow.{StatementRow}
+use Rattle.desk_msg.specs.declared.writing.statement_row.StatementRow.{StatementRow}
 use Rattle.desk_rules.specs.Content.{Content, history_of}
 use Rattle.desk_rules.specs.Facts.{kind_of}
 use Rattle.desk_register.specs.Looked.{IsLess}

@@ -4,8 +4,8 @@ use Rattle.std.specs.Io.KnownBytes.{Appends}
 use Rattle.desk_codes.specs.Day.{IsDay}
 use Rattle.desk_codes.specs.Number.{number_of}
 use Rattle.desk_msg.specs.HoldingsText.{holdings}
-use Rattle.desk_msg.specs.declared.statement_row.SinkFault.TheVariants as sink_faults
-use Rattle.desk_msg.specs.declared.statement_row.StatementRow.{StatementRow}
+use Rattle.desk_msg.specs.declared.writing.statement_row.SinkFault.TheVariants as sink_faults
+use Rattle.desk_msg.specs.declared.writing.statement_row.StatementRow.{StatementRow}
 use Rattle.desk_rules.specs.Content.{history_of}
 use Rattle.desk_rules.specs.Facts.{last_run}
 use Rattle.desk_register.specs.View.{View, IfTrusted}

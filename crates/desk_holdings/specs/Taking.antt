@@ -1,7 +1,7 @@
 -- What a sink took of a walk.
 use Rattle.std.specs.Prelude.{ℕ, List, [], ◌∷◌, ◌++◌, Result, Ok, Err}
-use Rattle.desk_msg.specs.declared.statement_row.SinkFault.TheVariants.{Memory, Write}
-use Rattle.desk_msg.specs.declared.statement_row.StatementRow.{StatementRow}
+use Rattle.desk_msg.specs.declared.writing.statement_row.SinkFault.TheVariants.{Memory, Write}
+use Rattle.desk_msg.specs.declared.writing.statement_row.StatementRow.{StatementRow}
 use Rattle.desk_msg.specs.TookRows.{TookAll}
 use Rattle.desk_register.specs.View.{View, IfTrusted}
 use Rattle.desk_holdings.specs.Holdings.{AreFirstHoldings, AreHoldings}

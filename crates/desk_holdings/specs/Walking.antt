@@ -1,6 +1,6 @@
 -- The steps of a walk. Only private contracts and proofs speak of them.
 use Rattle.std.specs.Prelude.{◌≡◌, ℕ, List, Option, Some, None}
-use Rattle.desk_msg.specs.declared.statement_row.StatementRow.{StatementRow}
+use Rattle.desk_msg.specs.declared.writing.statement_row.StatementRow.{StatementRow}
 use Rattle.desk_rules.specs.Content.{Content, history_of}
 use Rattle.desk_rules.specs.Facts.{kind_of}
 use Rattle.desk_register.specs.Looked.{IsHoldingAfter}

@@ -1,6 +1,6 @@
 //! Laws of the definitions, each the contract of a function with an empty body.
 ghost use Rattle.std.specs.Prelude.{◌≡◌, ℕ, List, Option};
-ghost use Rattle.desk_msg.specs.declared.statement_row.StatementRow.{StatementRow};
+ghost use Rattle.desk_msg.specs.declared.writing.statement_row.StatementRow.{StatementRow};
 ghost use Rattle.desk_rules.specs.Books.{Books};
 ghost use Rattle.desk_rules.specs.Content.{Content};
 ghost use Rattle.desk_rules.specs.Tables.{AreTables};

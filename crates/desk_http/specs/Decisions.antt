@@ -2,7 +2,7 @@
 use Rattle.std.specs.Prelude.{◌≡◌, ◌<◌, ◌≤◌, ◌+◌, ℕ, List, ◌++◌, length, take, drop, Result, Ok, Err}
 use Rattle.httparse.specs.Grammar.{RequestHead, print_request}
 use Rattle.desk_book.specs.Asked.{Asked, asked_by}
-use Rattle.desk_book.specs.declared.request.Request.{Request}
+use Rattle.desk_book.specs.declared.requests.request.Request.{Request}
 use Rattle.desk_http.specs.declared.call.Call.{Call}
 use Rattle.desk_http.specs.declared.decision.Decision.{Decision}
 use Rattle.desk_http.specs.declared.decision.Decision.TheVariants.{Asks, Refuses, Wants}

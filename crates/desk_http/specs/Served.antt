@@ -1,7 +1,7 @@
 -- A connection, served.
 use Rattle.std.specs.Prelude.{ℕ, ◌+◌, ◌≤◌, Bool, List, [], ◌∷◌, count_by, Option, None, IfSome, Result, Ok, Err}
 use Rattle.std.specs.Io.KnownBytes.{Appends}
-use Rattle.desk_rules.specs.declared.reply.Reply.{Reply}
+use Rattle.desk_rules.specs.declared.answers.reply.Reply.{Reply}
 use Rattle.desk_rules.specs.Books.{Books}
 use Rattle.desk_register.specs.View.{View, IfCounted}
 use Rattle.desk_book.specs.declared.fault.Fault.{Fault}

@@ -6,8 +6,8 @@ use Rattle.std.specs.Ordering.{is_eq}
 use Rattle.std.specs.BTreeMap.{BTreeMap}
 use Rattle.std.specs.declared.alloc.Global.{Global}
 use Rattle.std.proofs.lemmas.Map.Text.{is_eq-slice_cmp}
-use Rattle.desk_index.specs.declared.heading.Heading.{Heading}
-use Rattle.desk_index.specs.declared.addressed.Addressed.{Addressed}
+use Rattle.desk_index.specs.declared.sent.heading.Heading.{Heading}
+use Rattle.desk_index.specs.declared.sent.addressed.Addressed.{Addressed}
 use Rattle.desk_index.specs.FirstNumbers.{nth_from, nth_number, numbers_from, numbers_of}
 use Rattle.desk_index.specs.Keys.{text_cmp}
 use Rattle.desk_index.specs.NumbersAt.{numbers_at, without_last}

@@ -4,10 +4,10 @@ use Rattle.std.specs.Prelude.{if◌then◌else◌, ◌==◌, slice_get}
 use Rattle.std.specs.List.{find}
 use Rattle.std.specs.Ordering.{is_eq, nat_cmp}
 use Rattle.std.specs.BTreeMap.{BTreeMap, get}
-use Rattle.desk_rules.specs.declared.reply.Sent.{Sent}
+use Rattle.desk_rules.specs.declared.answers.reply.Sent.{Sent}
 use Rattle.desk_rules.specs.Questions.{sent_at}
-use Rattle.desk_index.specs.declared.confirmations.Confirmations.{Confirmations}
-use Rattle.desk_index.specs.declared.heading.Heading.{Heading}
+use Rattle.desk_index.specs.declared.sent.confirmations.Confirmations.{Confirmations}
+use Rattle.desk_index.specs.declared.sent.heading.Heading.{Heading}
 use Rattle.desk_index.specs.Confirmations.{AreConfirmations, confirms}
 use Rattle.desk_index.specs.FirstNumbers.{first_from, first_number, number_if, or_number, without}
 use Rattle.desk_index.specs.Headings.{is_confirmation}

@@ -12,7 +12,7 @@ use Rattle.std.specs.BTreeMap.Range.{range_contains}
 use Rattle.std.specs.BTreeSet.{BTreeSet, keys_between}
 use Rattle.std.proofs.lemmas.Map.Lookups.{CmpEqualImpliesEq, exact_pairs, exact_unsigned}
 use Rattle.std.proofs.lemmas.Map.Keys.{sorted_head, sorted_tail}
-use Rattle.desk_rules.specs.declared.pair.Place.{Place}
+use Rattle.desk_rules.specs.declared.history.pair.Place.{Place}
 use Rattle.desk_rules.specs.Content.{Content}
 use Rattle.desk_rules.specs.Settlement.{is_before, is_past}
 use Rattle.desk_rules.proofs.PlaceLemmas.{before_never, before_true}

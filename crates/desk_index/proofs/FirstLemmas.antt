@@ -5,8 +5,8 @@ use Rattle.std.specs.List.{list_any}
 use Rattle.std.specs.Ordering.{is_eq}
 use Rattle.std.specs.BTreeMap.{BTreeMap, get}
 use Rattle.std.specs.declared.cmp.Ordering.{Ordering}
-use Rattle.desk_rules.specs.declared.entry.Entry.{Entry}
-use Rattle.desk_rules.specs.declared.entry.Sender.{Sender}
+use Rattle.desk_rules.specs.declared.history.entry.Entry.{Entry}
+use Rattle.desk_rules.specs.declared.history.entry.Sender.{Sender}
 use Rattle.desk_rules.specs.Facts.{first_said, or_else}
 use Rattle.desk_rules.specs.History.{entry_at, has_key, number_from, number_of_key}
 use Rattle.desk_index.specs.FirstNumbers.{first_from, first_number, number_if, or_number, without}

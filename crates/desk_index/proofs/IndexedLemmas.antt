@@ -5,26 +5,26 @@ use Rattle.std.specs.BTreeSet.{BTreeSet, contains}
 use Rattle.std.proofs.lemmas.Bool.{cases_eq}
 use Rattle.std.proofs.lemmas.List.{length-map, length-append, map-append}
 use Rattle.desk_codes.specs.Number.{number_of}
-use Rattle.desk_msg.specs.declared.status.Reason.{Reason}
-use Rattle.desk_msg.specs.declared.status.Reason.TheVariants.{Future, Lack, Money as LackOfMoney}
-use Rattle.desk_rules.specs.declared.entry.Entry.{Entry}
-use Rattle.desk_rules.specs.declared.entry.Entry.TheVariants.{Participant, Account, Security, Issue, Redeem, PayIn, PayOut, Instruct, Cancel, Run}
-use Rattle.desk_rules.specs.declared.entry.Instructed.{Instructed}
-use Rattle.desk_rules.specs.declared.reply.Kept.{Kept}
-use Rattle.desk_rules.specs.declared.reply.Reply.{Reply}
-use Rattle.desk_rules.specs.declared.reply.Sent.{Sent}
-use Rattle.desk_rules.specs.declared.standing.State.{State}
-use Rattle.desk_rules.specs.declared.standing.State.TheVariants.{Cancelled, Unmatched, Matched, Settled}
+use Rattle.desk_msg.specs.declared.writing.status.Reason.{Reason}
+use Rattle.desk_msg.specs.declared.writing.status.Reason.TheVariants.{Future, Lack, Money as LackOfMoney}
+use Rattle.desk_rules.specs.declared.history.entry.Entry.{Entry}
+use Rattle.desk_rules.specs.declared.history.entry.Entry.TheVariants.{Participant, Account, Security, Issue, Redeem, PayIn, PayOut, Instruct, Cancel, Run}
+use Rattle.desk_rules.specs.declared.history.entry.Instructed.{Instructed}
+use Rattle.desk_rules.specs.declared.answers.reply.Kept.{Kept}
+use Rattle.desk_rules.specs.declared.answers.reply.Reply.{Reply}
+use Rattle.desk_rules.specs.declared.answers.reply.Sent.{Sent}
+use Rattle.desk_rules.specs.declared.history.standing.State.{State}
+use Rattle.desk_rules.specs.declared.history.standing.State.TheVariants.{Cancelled, Unmatched, Matched, Settled}
 use Rattle.desk_rules.specs.History.{instructed, instruction_at}
 use Rattle.desk_lists.specs.declared.list_register.ListRegister.{ListRegister}
 use Rattle.desk_register.specs.declared.register.Fault.{Fault}
-use Rattle.desk_rules.specs.declared.standing.Standing.{Standing}
+use Rattle.desk_rules.specs.declared.history.standing.Standing.{Standing}
 use Rattle.desk_index.specs.NumbersByKey.{numbered_cmp}
 use Rattle.desk_register.specs.declared.register.Stage.{Stage}
 use Rattle.desk_register.specs.declared.register.Stage.TheVariants.{Idle, Begun, Failed}
-use Rattle.desk_index.specs.declared.known.Known.{Known}
-use Rattle.desk_index.specs.declared.match_key.MatchKey.{MatchKey}
-use Rattle.desk_rules.specs.declared.pair.Lack.TheVariants.{Securities, Money as LacksMoney}
+use Rattle.desk_index.specs.declared.entries.known.Known.{Known}
+use Rattle.desk_index.specs.declared.pairs.match_key.MatchKey.{MatchKey}
+use Rattle.desk_rules.specs.declared.history.pair.Lack.TheVariants.{Securities, Money as LacksMoney}
 use Rattle.desk_register.specs.declared.outcome.Outcome.{Outcome}
 use Rattle.desk_register.specs.declared.outcome.Outcome.TheVariants as outcomes
 use Rattle.desk_register.specs.declared.outcome.Outcome.TheVariants.{Lacks}

@@ -6,12 +6,12 @@ use Rattle.std.specs.Cmp.{tied_then}
 use Rattle.std.specs.BTreeMap.{BTreeMap, get}
 use Rattle.std.specs.declared.cmp.Ordering.TheVariants.{Equal}
 use Rattle.std.proofs.lemmas.Map.Text.{is_eq-slice_cmp}
-use Rattle.desk_rules.specs.declared.entry.Entry.{Entry}
-use Rattle.desk_rules.specs.declared.entry.Sender.{Sender}
-use Rattle.desk_rules.specs.declared.entry.Sender.TheVariants.{Operator, Participant as FromParticipant}
+use Rattle.desk_rules.specs.declared.history.entry.Entry.{Entry}
+use Rattle.desk_rules.specs.declared.history.entry.Sender.{Sender}
+use Rattle.desk_rules.specs.declared.history.entry.Sender.TheVariants.{Operator, Participant as FromParticipant}
 use Rattle.desk_rules.specs.History.{has_key, number_of_key, reference_of, sender_of}
 use Rattle.desk_register.proofs.CaseLemmas.{by_bool, same_bytes}
-use Rattle.desk_index.specs.declared.keys.Keys.{Keys}
+use Rattle.desk_index.specs.declared.entries.keys.Keys.{Keys}
 use Rattle.desk_index.specs.FirstNumbers.{number_if, or_number, without}
 use Rattle.desk_index.specs.Keys.{AreKeysOf, command_cmp, command_key, message_cmp, message_key, sender_cmp, text_cmp}
 use Rattle.desk_index.specs.TailNumber.{tail_number}

@@ -1,7 +1,7 @@
 -- What has the number of the k-th of which a test holds.
 use Rattle.std.proofs.Common.{◌≡◌, ℕ, zero, suc, ◌+◌, ◌≤◌, Bool, List, [], ◌∷◌, map, Some, None, refl, sym, ◌∙◌, arith}
 use Rattle.std.specs.Prelude.{filter, slice_get}
-use Rattle.desk_rules.specs.declared.reply.Sent.{Sent}
+use Rattle.desk_rules.specs.declared.answers.reply.Sent.{Sent}
 use Rattle.desk_rules.specs.Questions.{sent_at}
 use Rattle.desk_index.specs.FirstNumbers.{nth_from, nth_number}
 use Rattle.desk_register.proofs.CaseLemmas.{by_bool}

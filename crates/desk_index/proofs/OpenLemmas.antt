@@ -3,13 +3,13 @@ use Rattle.std.proofs.Common.{◌≡◌, ◌≢◌, ℕ, ◌+◌, ◌<◌, ◌�
 use Rattle.std.specs.Prelude.{not}
 use Rattle.std.specs.BTreeSet.{BTreeSet, contains}
 use Rattle.std.proofs.lemmas.Bool.{cases_lt}
-use Rattle.desk_rules.specs.declared.entry.Instructed.{Instructed}
+use Rattle.desk_rules.specs.declared.history.entry.Instructed.{Instructed}
 use Rattle.desk_rules.specs.Opposite.{AreOpposite}
 use Rattle.desk_rules.specs.Content.{Content, history_of}
 use Rattle.desk_register.specs.Looked.{IsOppositeAt}
 use Rattle.desk_index.specs.NumbersByKey.{numbered_cmp}
 use Rattle.desk_index.specs.Open.{HasOpen, amount_of, ccy_of, key_of, match_cmp, wanted_key}
-use Rattle.desk_index.specs.declared.match_key.MatchKey.{MatchKey}
+use Rattle.desk_index.specs.declared.pairs.match_key.MatchKey.{MatchKey}
 use Rattle.desk_rules.proofs.HistoryLemmas.{instruction_at-known}
 use Rattle.std.proofs.lemmas.List.{length-map}
 

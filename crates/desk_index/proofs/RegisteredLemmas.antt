@@ -12,14 +12,14 @@ use Rattle.desk_codes.specs.declared.currency.Ccy.TheVariants.{Chf, Eur, Gbp, Jp
 use Rattle.desk_codes.specs.Number.{number_of}
 use Rattle.desk_msg.specs.declared.instruction.Kind.{Kind}
 use Rattle.desk_rules.specs.Balances.{same_ccy}
-use Rattle.desk_rules.specs.declared.entry.Entry.{Entry}
-use Rattle.desk_rules.specs.declared.entry.Entry.TheVariants.{Participant, Account, Security, Issue, Redeem, PayIn, PayOut, Instruct, Cancel, Run}
-use Rattle.desk_rules.specs.declared.entry.Payment.{Payment}
-use Rattle.desk_rules.specs.declared.entry.RunRule.{RunRule}
+use Rattle.desk_rules.specs.declared.history.entry.Entry.{Entry}
+use Rattle.desk_rules.specs.declared.history.entry.Entry.TheVariants.{Participant, Account, Security, Issue, Redeem, PayIn, PayOut, Instruct, Cancel, Run}
+use Rattle.desk_rules.specs.declared.history.entry.Payment.{Payment}
+use Rattle.desk_rules.specs.declared.history.entry.RunRule.{RunRule}
 use Rattle.desk_rules.specs.Facts.{adds_participant}
 use Rattle.desk_rules.specs.History.{run_day}
 use Rattle.desk_register.specs.Looked.{pays_in}
-use Rattle.desk_index.specs.declared.registered.Registered.{Registered}
+use Rattle.desk_index.specs.declared.entries.registered.Registered.{Registered}
 use Rattle.desk_index.specs.FirstNumbers.{number_if, or_number, without}
 use Rattle.desk_index.specs.Keys.{text_cmp}
 use Rattle.desk_index.specs.Registered.{AreRegistered, adds_account, adds_security, ccy_cmp}

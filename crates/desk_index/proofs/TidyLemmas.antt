@@ -4,9 +4,9 @@ use Rattle.std.specs.Ordering.{is_eq, nat_cmp}
 use Rattle.std.specs.declared.cmp.Ordering.{Ordering}
 use Rattle.std.specs.Cmp.{tied_then}
 use Rattle.std.specs.BTreeSet.{BTreeSet, contains}
-use Rattle.desk_msg.specs.declared.status.Reason.{Reason}
-use Rattle.desk_rules.specs.declared.entry.Instructed.{Instructed}
-use Rattle.desk_rules.specs.declared.standing.State.TheVariants.{Matched, Unmatched}
+use Rattle.desk_msg.specs.declared.writing.status.Reason.{Reason}
+use Rattle.desk_rules.specs.declared.history.entry.Instructed.{Instructed}
+use Rattle.desk_rules.specs.declared.history.standing.State.TheVariants.{Matched, Unmatched}
 use Rattle.desk_rules.specs.History.{instruction_at}
 use Rattle.desk_rules.proofs.HistoryLemmas.{instruction_at-known}
 use Rattle.std.proofs.lemmas.List.{length-map}
@@ -14,7 +14,7 @@ use Rattle.desk_rules.specs.Content.{Content, history_of}
 use Rattle.desk_index.specs.DuePlaces.{HasDue, place_cmp}
 use Rattle.desk_index.specs.NumbersByKey.{numbered_cmp}
 use Rattle.desk_index.specs.Open.{HasOpen, key_of, match_cmp}
-use Rattle.desk_index.specs.declared.match_key.MatchKey.{MatchKey}
+use Rattle.desk_index.specs.declared.pairs.match_key.MatchKey.{MatchKey}
 
 no_second : (a b : Bool) → b ≡ false → (a && b) ≡ false
 no_second true b e = e

@@ -2,9 +2,9 @@
 use Rattle.std.proofs.Common.{◌≡◌, ◌≢◌, ℕ, ◌+◌, List, [], ◌∷◌, ◌++◌, length, map, refl, ap, sym, ◌∙◌, subst, append_assoc}
 use Rattle.std.specs.Prelude.{Result, Ok, Err, OnOk, OnErr, IfOk}
 use Rattle.std.proofs.lemmas.List.{length-map, map-append}
-use Rattle.desk_rules.specs.declared.entry.Instructed.{Instructed}
-use Rattle.desk_rules.specs.declared.reply.Sent.{Sent}
-use Rattle.desk_rules.specs.declared.pair.Lack.TheVariants.{Securities, Money as LacksMoney}
+use Rattle.desk_rules.specs.declared.history.entry.Instructed.{Instructed}
+use Rattle.desk_rules.specs.declared.answers.reply.Sent.{Sent}
+use Rattle.desk_rules.specs.declared.history.pair.Lack.TheVariants.{Securities, Money as LacksMoney}
 use Rattle.desk_rules.specs.Content.{Content}
 use Rattle.desk_register.specs.declared.register.Fault.{Fault}
 use Rattle.desk_register.specs.declared.register.Stage.TheVariants.{Idle, Begun, Failed}
@@ -15,8 +15,8 @@ use Rattle.desk_register.specs.Changes.{TriesPair, TriesSides, with_sent}
 use Rattle.desk_register.specs.View.{View, Begins, Stays, Falls, IsRead, fallen}
 use Rattle.desk_lists.specs.declared.list_register.ListRegister.{ListRegister}
 use Rattle.desk_lists.specs.ListView.{view_of_lists}
-use Rattle.desk_index.specs.declared.heading.Heading.{Heading}
-use Rattle.desk_index.specs.declared.messages.Messages.{Messages}
+use Rattle.desk_index.specs.declared.sent.heading.Heading.{Heading}
+use Rattle.desk_index.specs.declared.sent.messages.Messages.{Messages}
 use Rattle.desk_index.specs.Headings.{heading_of, headings_of}
 use Rattle.desk_index.specs.Messages.{AreMessagesOf, IsTold}
 use Rattle.desk_index.proofs.IndexedLemmas.{append_nothing, begun_is_not_failed, begun_is_not_idle, fallen_idle, idle_is_not_failed, not_fallen}

@@ -1,7 +1,7 @@
 -- What was sent to each participant, kept beside it. Only private contracts and proofs speak of it.
 use Rattle.std.specs.Prelude.{◌≡◌, ℕ, Bool, List, bytes_eq}
-use Rattle.desk_index.specs.declared.addressed.Addressed.{Addressed}
-use Rattle.desk_index.specs.declared.heading.Heading.{Heading}
+use Rattle.desk_index.specs.declared.sent.addressed.Addressed.{Addressed}
+use Rattle.desk_index.specs.declared.sent.heading.Heading.{Heading}
 use Rattle.desk_index.specs.FirstNumbers.{numbers_of}
 use Rattle.desk_index.specs.Keys.{text_cmp}
 use Rattle.desk_index.specs.NumbersAt.{numbers_at}

@@ -2,8 +2,8 @@
 use Rattle.std.specs.Prelude.{◌≡◌, ℕ, ◌==◌, Bool, ◌&&◌, List}
 use Rattle.std.specs.BTreeMap.{get}
 use Rattle.std.specs.Ordering.{nat_cmp}
-use Rattle.desk_index.specs.declared.confirmations.Confirmations.{Confirmations}
-use Rattle.desk_index.specs.declared.heading.Heading.{Heading}
+use Rattle.desk_index.specs.declared.sent.confirmations.Confirmations.{Confirmations}
+use Rattle.desk_index.specs.declared.sent.heading.Heading.{Heading}
 use Rattle.desk_index.specs.FirstNumbers.{first_number}
 use Rattle.desk_index.specs.Headings.{is_confirmation}
 

@@ -1,8 +1,8 @@
 -- What a sent message is besides its text. Only the invariant of the register, private contracts and proofs speak of it.
 use Rattle.std.specs.Prelude.{nat_le, Bool, ◌&&◌, List, map}
-use Rattle.desk_rules.specs.declared.reply.Sent.{Sent}
+use Rattle.desk_rules.specs.declared.answers.reply.Sent.{Sent}
 use Rattle.desk_rules.specs.Content.{Content}
-use Rattle.desk_index.specs.declared.heading.Heading.{Heading}
+use Rattle.desk_index.specs.declared.sent.heading.Heading.{Heading}
 
 -- what a message is besides its text
 abbrev pub heading_of : Sent → Heading

@@ -1,10 +1,10 @@
 -- Look-ups kept beside a register in lists. Only the invariant of the register, private contracts and proofs speak of it.
 use Rattle.std.specs.Prelude.{◌≡◌, ◌≢◌, ℕ, ◌+◌, List, [], ◌++◌, length}
 use Rattle.std.specs.BTreeSet.{BTreeSet}
-use Rattle.desk_rules.specs.declared.entry.Entry.{Entry}
+use Rattle.desk_rules.specs.declared.history.entry.Entry.{Entry}
 use Rattle.desk_register.specs.declared.register.Stage.TheVariants.{Idle, Failed}
-use Rattle.desk_index.specs.declared.known.Known.{Known}
-use Rattle.desk_index.specs.declared.match_key.MatchKey.{MatchKey}
+use Rattle.desk_index.specs.declared.entries.known.Known.{Known}
+use Rattle.desk_index.specs.declared.pairs.match_key.MatchKey.{MatchKey}
 use Rattle.desk_rules.specs.Content.{Content, history_of}
 use Rattle.desk_index.specs.DuePlaces.{HasDue}
 use Rattle.desk_index.specs.Known.{AreKnown}

@@ -4,10 +4,10 @@ use Rattle.std.specs.BTreeMap.{get}
 use Rattle.std.specs.Cmp.Lexicographic.{slice_cmp}
 use Rattle.std.specs.Ordering.{nat_cmp, ordering_then}
 use Rattle.std.specs.declared.cmp.Ordering.{Ordering}
-use Rattle.desk_rules.specs.declared.entry.Entry.{Entry}
-use Rattle.desk_rules.specs.declared.entry.Sender.TheVariants.{Operator, Participant as FromParticipant}
+use Rattle.desk_rules.specs.declared.history.entry.Entry.{Entry}
+use Rattle.desk_rules.specs.declared.history.entry.Sender.TheVariants.{Operator, Participant as FromParticipant}
 use Rattle.desk_rules.specs.History.{number_of_key}
-use Rattle.desk_index.specs.declared.keys.Keys.{Keys}
+use Rattle.desk_index.specs.declared.entries.keys.Keys.{Keys}
 use Rattle.desk_index.specs.TailNumber.{tail_number}
 
 -- the order of texts, and of a sender's BIC with a reference

@@ -1,7 +1,7 @@
 -- What is known of the entries by a key. Only private contracts and proofs speak of it.
 use Rattle.std.specs.Prelude.{List}
-use Rattle.desk_rules.specs.declared.entry.Entry.{Entry}
-use Rattle.desk_index.specs.declared.known.Known.{Known}
+use Rattle.desk_rules.specs.declared.history.entry.Entry.{Entry}
+use Rattle.desk_index.specs.declared.entries.known.Known.{Known}
 use Rattle.desk_index.specs.Keys.{AreKeysOf}
 use Rattle.desk_index.specs.Registered.{AreRegistered}
 

@@ -2,8 +2,8 @@
 use Rattle.std.specs.Prelude.{◌≡◌, ◌≢◌, List, [], ◌++◌}
 use Rattle.desk_register.specs.declared.register.Stage.TheVariants.{Idle, Failed}
 use Rattle.desk_register.specs.View.{View}
-use Rattle.desk_index.specs.declared.heading.Heading.{Heading}
-use Rattle.desk_index.specs.declared.messages.Messages.{Messages}
+use Rattle.desk_index.specs.declared.sent.heading.Heading.{Heading}
+use Rattle.desk_index.specs.declared.sent.messages.Messages.{Messages}
 use Rattle.desk_index.specs.Addressed.{AreAddressed}
 use Rattle.desk_index.specs.Confirmations.{AreConfirmations}
 use Rattle.desk_index.specs.Headings.{headings_of}

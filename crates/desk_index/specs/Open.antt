@@ -7,13 +7,13 @@ use Rattle.desk_codes.specs.declared.currency.Ccy.{Ccy}
 use Rattle.desk_codes.specs.declared.currency.Ccy.TheVariants.{Chf}
 use Rattle.desk_msg.specs.declared.instruction.Cash.{Cash}
 use Rattle.desk_msg.specs.MessageType.{is_delivery, is_against_payment}
-use Rattle.desk_rules.specs.declared.entry.Instructed.{Instructed}
-use Rattle.desk_rules.specs.declared.standing.State.TheVariants.{Unmatched}
+use Rattle.desk_rules.specs.declared.history.entry.Instructed.{Instructed}
+use Rattle.desk_rules.specs.declared.history.standing.State.TheVariants.{Unmatched}
 use Rattle.desk_rules.specs.History.{instruction_at}
 use Rattle.desk_rules.specs.Content.{Content, history_of}
 use Rattle.desk_index.specs.NumbersByKey.{numbered_cmp}
-use Rattle.desk_index.specs.declared.match_key.MatchKey.{MatchKey}
-use Rattle.desk_index.specs.contracts.match_key.MatchKeyOrd.TheImpl as match_ord
+use Rattle.desk_index.specs.declared.pairs.match_key.MatchKey.{MatchKey}
+use Rattle.desk_index.specs.contracts.pairs.match_key.MatchKeyOrd.TheImpl as match_ord
 
 -- the order of the keys
 abbrev pub match_cmp : MatchKey → MatchKey → Ordering

@@ -5,14 +5,14 @@ use Rattle.std.specs.declared.cmp.Ordering.{Ordering}
 use Rattle.desk_codes.specs.declared.currency.Ccy.{Ccy}
 use Rattle.desk_codes.specs.contracts.currency.CcyOrd.TheImpl as ccy_ord
 use Rattle.desk_codes.specs.Number.{number_of}
-use Rattle.desk_rules.specs.declared.entry.Entry.{Entry}
-use Rattle.desk_rules.specs.declared.entry.Entry.TheVariants.{Account, Security}
+use Rattle.desk_rules.specs.declared.history.entry.Entry.{Entry}
+use Rattle.desk_rules.specs.declared.history.entry.Entry.TheVariants.{Account, Security}
 use Rattle.desk_rules.specs.Facts.{adds_participant}
 use Rattle.desk_rules.specs.History.{run_day}
 use Rattle.desk_register.specs.Looked.{pays_in}
 use Rattle.desk_index.specs.FirstNumbers.{first_number}
 use Rattle.desk_index.specs.Keys.{text_cmp}
-use Rattle.desk_index.specs.declared.registered.Registered.{Registered}
+use Rattle.desk_index.specs.declared.entries.registered.Registered.{Registered}
 
 -- an entry registers this account, or this security
 abbrev pub adds_account : List ℕ → Entry → Bool

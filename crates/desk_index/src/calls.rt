@@ -4,13 +4,13 @@ ghost use Rattle.desk_rules.specs.declared.limits.TheConstants.{MOST_ENTRIES};
 ghost use Rattle.desk_register.specs.Changes.{empty_content};
 ghost use Rattle.desk_index.specs.IndexView.{view_of_index};
 
-use crate::due_places::first_due;
-use crate::heading::heading_of;
+use crate::entries::known::Known;
 use crate::indexed_register::IndexedRegister;
-use crate::known::Known;
-use crate::messages::Messages;
 use crate::noting::{note_entry, note_message, note_pair, touch_both, untouch_waiting};
-use crate::opposites::first_open_opposite;
+use crate::pairs::due_places::first_due;
+use crate::pairs::opposites::first_open_opposite;
+use crate::sent::heading::heading_of;
+use crate::sent::messages::Messages;
 use crate::tidying::{forget_all, forget_messages, tidy_all, tidy_new};
 use desk_codes::{AccountId, Bic, Ccy, Day, Isin, Reference};
 use desk_lists::ListRegister;

@@ -3,10 +3,10 @@ ghost use Rattle.desk_lists.specs.ListView.{view_of_lists};
 ghost use Rattle.desk_index.specs.Indexed.{IsIndexed};
 ghost use Rattle.desk_index.specs.Messages.{IsTold};
 
-use crate::heading::Heading;
-use crate::known::Known;
-use crate::match_key::MatchKey;
-use crate::messages::Messages;
+use crate::entries::known::Known;
+use crate::pairs::match_key::MatchKey;
+use crate::sent::heading::Heading;
+use crate::sent::messages::Messages;
 use desk_lists::ListRegister;
 use desk_rules::Entry;
 use std::collections::BTreeSet;

@@ -11,24 +11,13 @@
 //! `numbers_by_key` and `ordered` have the maps and sets beneath, and `tail_number` what keys are compared by first. Begin with specs/Indexed.antt, then `calls.rt`.
 #![tactic(auto)]
 
-mod addressed;
 mod calls;
-mod confirmations;
-mod due_places;
-mod first_numbers;
-mod heading;
+mod collections;
+mod entries;
 mod indexed_register;
-mod keys;
-mod known;
-mod match_key;
-mod messages;
 mod noting;
-mod numbers_at;
-mod numbers_by_key;
-mod opposites;
-mod ordered;
-mod registered;
-mod tail_number;
+mod pairs;
+mod sent;
 mod tidying;
 
 pub use indexed_register::IndexedRegister;

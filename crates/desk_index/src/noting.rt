@@ -1,22 +1,22 @@
 //! What an entry, a pair, and a message add to the look-ups.
 ghost use Rattle.std.specs.Prelude.{◌≡◌, ◌+◌, ◌++◌, ◌∷◌, [], List, length, true, OnOk, OnErr, Some};
 ghost use Rattle.std.specs.BTreeSet.{contains};
-ghost use Rattle.desk_rules.specs.declared.entry.Entry.{Entry as EntryValue};
+ghost use Rattle.desk_rules.specs.declared.history.entry.Entry.{Entry as EntryValue};
 ghost use Rattle.desk_rules.specs.History.{instructed, instruction_at};
 ghost use Rattle.desk_rules.specs.Content.{history_of};
 ghost use Rattle.desk_lists.specs.ListView.{view_of_lists};
-ghost use Rattle.desk_index.specs.declared.heading.Heading.{Heading as HeadingValue};
+ghost use Rattle.desk_index.specs.declared.sent.heading.Heading.{Heading as HeadingValue};
 ghost use Rattle.desk_index.specs.DuePlaces.{HoldsDue, PlacedAt, place_cmp};
 ghost use Rattle.desk_index.specs.Known.{AreKnown};
 ghost use Rattle.desk_index.specs.Messages.{AreMessagesOf};
 ghost use Rattle.desk_index.specs.Open.{HoldsOpen, OpensAt};
 ghost use Rattle.desk_index.specs.Touched.{still_touched};
 
-use crate::heading::Heading;
-use crate::known::Known;
-use crate::match_key::{MatchKey, key_of};
-use crate::messages::Messages;
-use crate::ordered::put_key;
+use crate::collections::ordered::put_key;
+use crate::entries::known::Known;
+use crate::pairs::match_key::{MatchKey, key_of};
+use crate::sent::heading::Heading;
+use crate::sent::messages::Messages;
 use desk_lists::ListRegister;
 use desk_register::Outcome;
 use desk_rules::{Entry, Instructed};

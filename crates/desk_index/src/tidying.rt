@@ -1,20 +1,20 @@
 //! What is taken out of the look-ups: keys and messages at `back`, and what was matched or settled. No memory is taken.
 ghost use Rattle.std.specs.Prelude.{◌≡◌, ◌+◌, ◌++◌, [], List, length, true, ◌<◌, ◌^◌};
-ghost use Rattle.desk_rules.specs.declared.entry.Entry.{Entry as EntryValue};
+ghost use Rattle.desk_rules.specs.declared.history.entry.Entry.{Entry as EntryValue};
 ghost use Rattle.desk_rules.specs.Content.{Content};
 ghost use Rattle.desk_lists.specs.ListView.{view_of_lists};
-ghost use Rattle.desk_index.specs.declared.heading.Heading.{Heading as HeadingValue};
+ghost use Rattle.desk_index.specs.declared.sent.heading.Heading.{Heading as HeadingValue};
 ghost use Rattle.desk_index.specs.DuePlaces.{HasDue};
 ghost use Rattle.desk_index.specs.Indexed.{HoldsOn};
 ghost use Rattle.desk_index.specs.Known.{AreKnown};
 ghost use Rattle.desk_index.specs.Messages.{AreMessagesOf};
 ghost use Rattle.desk_index.specs.Open.{HasOpen};
 
-use crate::heading::Heading;
-use crate::known::Known;
-use crate::match_key::{MatchKey, key_of};
-use crate::messages::Messages;
-use crate::ordered::drop_key;
+use crate::collections::ordered::drop_key;
+use crate::entries::known::Known;
+use crate::pairs::match_key::{MatchKey, key_of};
+use crate::sent::heading::Heading;
+use crate::sent::messages::Messages;
 use desk_lists::ListRegister;
 use desk_rules::{Entry, State};
 use std::collections::BTreeSet;

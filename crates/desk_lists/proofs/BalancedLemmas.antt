@@ -7,15 +7,15 @@ use Rattle.std.proofs.lemmas.List.Sums.{sum_by_push}
 use Rattle.desk_codes.specs.declared.currency.Ccy.{Ccy}
 use Rattle.desk_msg.specs.declared.instruction.Cash.{Cash as Amount}
 use Rattle.desk_msg.specs.MessageType.{is_delivery}
-use Rattle.desk_rules.specs.declared.entry.Entry.{Entry}
-use Rattle.desk_rules.specs.declared.entry.Entry.TheVariants.{Participant, Account, Security, Issue, Redeem, PayIn, PayOut, Instruct, Cancel, Run}
-use Rattle.desk_rules.specs.declared.entry.Instructed.{Instructed}
+use Rattle.desk_rules.specs.declared.history.entry.Entry.{Entry}
+use Rattle.desk_rules.specs.declared.history.entry.Entry.TheVariants.{Participant, Account, Security, Issue, Redeem, PayIn, PayOut, Instruct, Cancel, Run}
+use Rattle.desk_rules.specs.declared.history.entry.Instructed.{Instructed}
 use Rattle.desk_rules.specs.declared.limits.TheConstants.{MOST_PAID, MOST_QUANTITY}
-use Rattle.desk_rules.specs.declared.pair.Lack.TheVariants.{Securities, Money}
-use Rattle.desk_rules.specs.declared.reply.Kept.{Kept}
-use Rattle.desk_rules.specs.declared.reply.Reply.{Reply}
-use Rattle.desk_rules.specs.declared.reply.Sent.{Sent}
-use Rattle.desk_rules.specs.declared.standing.Standing.{Standing}
+use Rattle.desk_rules.specs.declared.history.pair.Lack.TheVariants.{Securities, Money}
+use Rattle.desk_rules.specs.declared.answers.reply.Kept.{Kept}
+use Rattle.desk_rules.specs.declared.answers.reply.Reply.{Reply}
+use Rattle.desk_rules.specs.declared.answers.reply.Sent.{Sent}
+use Rattle.desk_rules.specs.declared.history.standing.Standing.{Standing}
 use Rattle.desk_rules.specs.Balances.{delivering, issued, issued_by, movement_of, paid_in, paid_in_by, paid_out, paid_out_by, payment_in, quantity_if, receiving, redeemed, redeemed_by, same_ccy}
 use Rattle.desk_rules.specs.Content.{CashBalances, Content, Positions, history_of}
 use Rattle.desk_rules.specs.Facts.{accounts_of, is_participant, participants_of}

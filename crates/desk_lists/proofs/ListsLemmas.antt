@@ -3,9 +3,9 @@ use Rattle.std.proofs.Common.{◌≡◌, ℕ, zero, suc, ◌-◌, List, [], ◌�
 use Rattle.std.specs.Prelude.{slice_set}
 use Rattle.std.proofs.lemmas.List.{length-append, set-get_or}
 use Rattle.std.proofs.Math.Seq.{take-append_seam}
-use Rattle.desk_rules.specs.declared.reply.Kept.{Kept}
-use Rattle.desk_rules.specs.declared.reply.Sent.{Sent}
-use Rattle.desk_rules.specs.declared.standing.Standing.{Standing}
+use Rattle.desk_rules.specs.declared.answers.reply.Kept.{Kept}
+use Rattle.desk_rules.specs.declared.answers.reply.Sent.{Sent}
+use Rattle.desk_rules.specs.declared.history.standing.Standing.{Standing}
 use Rattle.desk_lists.specs.declared.balance_key.BalanceKey.{BalanceKey}
 use Rattle.desk_lists.specs.declared.lists.Change.{Change}
 use Rattle.desk_lists.specs.declared.lists.Change.TheVariants.{Appended, Stood, Sent as SentChange, Moved}

@@ -1,9 +1,9 @@
 -- Look-ups in the list of accepted entries.
 use Rattle.std.proofs.Common.{◌≡◌, ℕ, zero, suc, ◌-◌, ◌<◌, ◌≤◌, List, [], ◌∷◌, length, drop, map, get_or, Some, None, refl, arith}
-use Rattle.desk_rules.specs.declared.reply.Kept.{Kept}
+use Rattle.desk_rules.specs.declared.answers.reply.Kept.{Kept}
 use Rattle.std.specs.Prelude.{slice_get}
 use Rattle.std.proofs.lemmas.List.{length-map}
-use Rattle.desk_rules.specs.declared.entry.Instructed.{Instructed}
+use Rattle.desk_rules.specs.declared.history.entry.Instructed.{Instructed}
 use Rattle.desk_rules.specs.History.{entry_at, instruction_at, run_day}
 use Rattle.desk_rules.proofs.HistoryLemmas.{instruction_at-known}
 use Rattle.desk_rules.specs.Facts.{last_run}

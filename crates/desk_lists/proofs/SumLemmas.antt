@@ -4,12 +4,12 @@ use Rattle.std.specs.Prelude.{sum_by, option_map}
 use Rattle.std.specs.List.{filter_map, cons_option}
 use Rattle.std.proofs.lemmas.List.Sums.{sum_by-append}
 use Rattle.desk_codes.specs.declared.currency.Ccy.{Ccy}
-use Rattle.desk_rules.specs.declared.entry.Entry.{Entry}
-use Rattle.desk_rules.specs.declared.reply.Kept.{Kept}
+use Rattle.desk_rules.specs.declared.history.entry.Entry.{Entry}
+use Rattle.desk_rules.specs.declared.answers.reply.Kept.{Kept}
 use Rattle.desk_rules.specs.Facts.{account_by, participant_by}
 use Rattle.desk_register.specs.Looked.{held_cash_of, held_of}
-use Rattle.desk_lists.specs.declared.holdings.Summed.{Summed}
-use Rattle.desk_lists.specs.declared.holdings.Summed.TheVariants.{Currency, Security}
+use Rattle.desk_lists.specs.declared.looking.holdings.Summed.{Summed}
+use Rattle.desk_lists.specs.declared.looking.holdings.Summed.TheVariants.{Currency, Security}
 use Rattle.desk_lists.specs.declared.balance_key.BalanceKey.{BalanceKey}
 use Rattle.desk_lists.specs.declared.balance_key.BalanceKey.TheVariants.{Cash, Position}
 use Rattle.desk_lists.specs.Lists.{Listed, balance_in, content_in}

@@ -1,8 +1,8 @@
 -- What a register holds adds up. Only the invariant of the register, private contracts and proofs speak of it.
 use Rattle.std.specs.Prelude.{◌≡◌, ℕ, ◌+◌, ◌≤◌, Bool, true, false, List, bytes_eq, is_some, sum_by, Some}
 use Rattle.desk_codes.specs.declared.currency.Ccy.{Ccy}
-use Rattle.desk_rules.specs.declared.entry.Entry.{Entry}
-use Rattle.desk_rules.specs.declared.entry.Instructed.{Instructed}
+use Rattle.desk_rules.specs.declared.history.entry.Entry.{Entry}
+use Rattle.desk_rules.specs.declared.history.entry.Instructed.{Instructed}
 use Rattle.desk_rules.specs.declared.limits.TheConstants.{MOST_PAID, MOST_QUANTITY}
 use Rattle.desk_rules.specs.Balances.{issued, paid_in, paid_out, quantity_if, redeemed}
 use Rattle.desk_rules.specs.Content.{Content, history_of}

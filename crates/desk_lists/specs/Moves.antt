@@ -3,8 +3,8 @@
 use Rattle.std.specs.Prelude.{◌≡◌, ℕ, ◌+◌, ◌-◌, if◌then◌else◌, List, Option, Some, None}
 use Rattle.desk_codes.specs.declared.currency.Ccy.{Ccy}
 use Rattle.desk_msg.specs.declared.instruction.Cash.{Cash as Amount}
-use Rattle.desk_rules.specs.declared.entry.Entry.{Entry}
-use Rattle.desk_rules.specs.declared.entry.Entry.TheVariants.{Issue, PayIn, PayOut, Redeem}
+use Rattle.desk_rules.specs.declared.history.entry.Entry.{Entry}
+use Rattle.desk_rules.specs.declared.history.entry.Entry.TheVariants.{Issue, PayIn, PayOut, Redeem}
 use Rattle.desk_lists.specs.declared.balance_key.BalanceKey.{BalanceKey}
 use Rattle.desk_lists.specs.declared.balance_key.BalanceKey.TheVariants.{Cash, Outstanding, Paid, Position}
 use Rattle.desk_lists.specs.declared.lists.Change.{Change}

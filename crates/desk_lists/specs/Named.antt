@@ -1,8 +1,8 @@
 -- What a cancellation names by its key. Only private contracts and proofs speak of it.
 use Rattle.std.specs.Prelude.{ℕ, List, Option, None}
-use Rattle.desk_rules.specs.declared.entry.Entry.{Entry}
-use Rattle.desk_rules.specs.declared.entry.Entry.TheVariants.{Cancel}
-use Rattle.desk_rules.specs.declared.entry.Sender.TheVariants.{Participant as FromParticipant}
+use Rattle.desk_rules.specs.declared.history.entry.Entry.{Entry}
+use Rattle.desk_rules.specs.declared.history.entry.Entry.TheVariants.{Cancel}
+use Rattle.desk_rules.specs.declared.history.entry.Sender.TheVariants.{Participant as FromParticipant}
 use Rattle.desk_rules.specs.History.{number_of_key}
 
 -- the number of the entry with the key that a cancellation names, of whatever type

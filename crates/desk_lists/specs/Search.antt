@@ -1,10 +1,10 @@
 -- What a walk through the entries finds and sums up, entry by entry. Only private contracts and proofs speak of it.
 use Rattle.std.specs.Prelude.{◌≡◌, ◌⊎◌, ℕ, if◌then◌else◌, List, map, sum_by, Option, Some, None, option_map}
 use Rattle.std.specs.List.{filter_map}
-use Rattle.desk_rules.specs.declared.entry.Entry.{Entry}
-use Rattle.desk_rules.specs.declared.pair.Place.{Place}
-use Rattle.desk_lists.specs.declared.holdings.Summed.{Summed}
-use Rattle.desk_lists.specs.declared.holdings.Summed.TheVariants.{Currency, Security}
+use Rattle.desk_rules.specs.declared.history.entry.Entry.{Entry}
+use Rattle.desk_rules.specs.declared.history.pair.Place.{Place}
+use Rattle.desk_lists.specs.declared.looking.holdings.Summed.{Summed}
+use Rattle.desk_lists.specs.declared.looking.holdings.Summed.TheVariants.{Currency, Security}
 use Rattle.desk_lists.specs.declared.balance_key.BalanceKey.{BalanceKey}
 use Rattle.desk_lists.specs.declared.balance_key.BalanceKey.TheVariants.{Cash, Position}
 use Rattle.desk_lists.specs.Lists.{Listed, balance_in}

@@ -5,7 +5,7 @@ ghost use Rattle.desk_lists.specs.Lists.{balance_in, listed, undone};
 ghost use Rattle.desk_lists.specs.Moves.{with_balance, with_less, with_more, SameEntries};
 
 use crate::balance_key::BalanceKey;
-use crate::changes::put_balance;
+use crate::changing::changes::put_balance;
 use crate::lists::{Change, Lists};
 use desk_codes::Ccy;
 use std::alloc::AllocError;

@@ -9,27 +9,13 @@
 //! order. `wrapped` is what a register that keeps look-ups beside the lists asks of them. Begin with `calls.rt`.
 #![tactic(auto)]
 
-mod appending;
 mod balance_key;
 mod balances;
-mod by_number;
 mod calls;
-mod changes;
-mod due_pairs;
-mod entries;
-mod history;
-mod holdings;
+mod changing;
 mod list_register;
 mod lists;
-mod messages;
-mod next_holding;
-mod opposites;
-mod recording;
-mod requests;
-mod securities;
-mod settling;
-mod standings;
-mod trimming;
+mod looking;
 mod wrapped;
 
 pub use list_register::ListRegister;

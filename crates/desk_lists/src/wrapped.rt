@@ -1,6 +1,6 @@
 //! What a register that keeps look-ups beside the lists asks of them. All but `fail` only reads.
 ghost use Rattle.std.specs.Prelude.{◌≡◌, ◌≢◌, ◌↔◌, ◌+◌, IsTrue, IfSome, IfNone, IfOk, length, option_and_then};
-ghost use Rattle.desk_rules.specs.declared.pair.Place.{Place};
+ghost use Rattle.desk_rules.specs.declared.history.pair.Place.{Place};
 ghost use Rattle.desk_rules.specs.Balances.{paid_in, paid_out};
 ghost use Rattle.desk_rules.specs.Facts.{kind_by, owner_by};
 ghost use Rattle.desk_rules.specs.History.{entry_at, instruction_at};
@@ -13,8 +13,9 @@ ghost use Rattle.desk_lists.specs.ListView.{view_of_lists};
 use crate::balance_key::BalanceKey;
 use crate::balances::balance_of;
 use crate::calls::fallen;
+use crate::changing::entries;
 use crate::list_register::ListRegister;
-use crate::{by_number, due_pairs, entries, messages, opposites};
+use crate::looking::{by_number, due_pairs, messages, opposites};
 use desk_codes::{AccountId, Bic, Ccy, Isin};
 use desk_msg::Kind;
 use desk_register::{Fault, Stage};

@@ -4,12 +4,12 @@ use Rattle.desk_codes.specs.Reference.{IsReference}
 use Rattle.desk_text.specs.Written.{Part, field_part, close_part, is_value, AreParts}
 use Rattle.desk_text.proofs.LawLemmas.{value-right}
 use Rattle.desk_msg.specs.declared.mt.Mt.{Mt}
-use Rattle.desk_msg.specs.declared.status.Own.{Own}
-use Rattle.desk_msg.specs.declared.status.Own.TheVariants.{Answer, Sent}
-use Rattle.desk_msg.specs.declared.status.Reason.{Reason}
-use Rattle.desk_msg.specs.declared.status.Reason.TheVariants.{Future, Lack, Money}
-use Rattle.desk_msg.specs.declared.status.Case.{Case}
-use Rattle.desk_msg.specs.declared.status.Case.TheVariants.{Unmatched, Matched, Cancelled, CancelDone, CancelWaits, NewRefused, CancelRefused}
+use Rattle.desk_msg.specs.declared.writing.status.Own.{Own}
+use Rattle.desk_msg.specs.declared.writing.status.Own.TheVariants.{Answer, Sent}
+use Rattle.desk_msg.specs.declared.writing.status.Reason.{Reason}
+use Rattle.desk_msg.specs.declared.writing.status.Reason.TheVariants.{Future, Lack, Money}
+use Rattle.desk_msg.specs.declared.writing.status.Case.{Case}
+use Rattle.desk_msg.specs.declared.writing.status.Case.TheVariants.{Unmatched, Matched, Cancelled, CancelDone, CancelWaits, NewRefused, CancelRefused}
 use Rattle.desk_msg.specs.OwnText.{last_digits, own_reference}
 use Rattle.std.proofs.lemmas.List.{append-nil}
 use Rattle.desk_msg.specs.MessageType.{digits_of_type}

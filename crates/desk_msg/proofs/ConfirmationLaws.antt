@@ -22,7 +22,7 @@ use Rattle.desk_msg.specs.declared.mt.Mt.{Mt}
 use Rattle.desk_msg.specs.declared.mt.Mt.TheVariants.{Mt540, Mt541, Mt542, Mt543, Mt544, Mt545, Mt546, Mt547}
 use Rattle.desk_msg.specs.declared.fault.Word.{Word}
 use Rattle.desk_msg.specs.declared.fault.Word.TheVariants.{Field19A}
-use Rattle.desk_msg.specs.declared.status.Own.TheVariants.{Sent}
+use Rattle.desk_msg.specs.declared.writing.status.Own.TheVariants.{Sent}
 use Rattle.desk_msg.specs.declared.instruction.Cash.{Cash}
 use Rattle.desk_msg.specs.declared.instruction.Instruction.{Instruction}
 use Rattle.desk_msg.specs.declared.instruction.Message.TheVariants.{New}

@@ -6,7 +6,7 @@ use Rattle.desk_codes.specs.Currency.{letters_of, decimals_of}
 use Rattle.desk_text.specs.BlockGrammar.{is_printable}
 use Rattle.desk_text.specs.Written.{close_part, AreParts}
 use Rattle.desk_text.proofs.LawLemmas.{value-right}
-use Rattle.desk_msg.specs.declared.status.Own.TheVariants.{Sent}
+use Rattle.desk_msg.specs.declared.writing.status.Own.TheVariants.{Sent}
 use Rattle.desk_msg.specs.declared.instruction.Cash.{Cash}
 use Rattle.desk_msg.specs.declared.instruction.Kind.{Kind}
 use Rattle.desk_msg.specs.declared.instruction.Kind.TheVariants.{Unit as Units, FaceAmount}

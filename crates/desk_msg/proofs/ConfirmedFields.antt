@@ -11,7 +11,7 @@ use Rattle.desk_codes.specs.CheckDigit.{IsIsin}
 use Rattle.desk_text.specs.Fields.{Found}
 use Rattle.desk_text.specs.Lines.{value_lines}
 use Rattle.desk_text.specs.Written.{fields_written}
-use Rattle.desk_msg.specs.declared.status.Own.TheVariants.{Sent}
+use Rattle.desk_msg.specs.declared.writing.status.Own.TheVariants.{Sent}
 use Rattle.desk_msg.specs.declared.instruction.Cash.{Cash}
 use Rattle.desk_msg.specs.declared.instruction.Instruction.{Instruction}
 use Rattle.desk_msg.specs.MessageType.{is_delivery}

@@ -6,9 +6,9 @@ use Rattle.desk_codes.specs.Number.{written_number}
 use Rattle.desk_text.specs.Lines.{written}
 use Rattle.desk_text.specs.Written.{Part, open_part, close_part, lines_of_part, first_line}
 use Rattle.desk_text.proofs.WrittenLemmas.{written-append}
-use Rattle.desk_msg.specs.declared.status.Own.TheVariants.{Answer}
-use Rattle.desk_msg.specs.declared.statement_row.StatementRow.{StatementRow}
-use Rattle.desk_msg.specs.declared.holdings.Heading.{Heading}
+use Rattle.desk_msg.specs.declared.writing.status.Own.TheVariants.{Answer}
+use Rattle.desk_msg.specs.declared.writing.statement_row.StatementRow.{StatementRow}
+use Rattle.desk_msg.specs.declared.writing.holdings.Heading.{Heading}
 use Rattle.desk_msg.specs.Profile.{code_of_kind}
 use Rattle.desk_msg.specs.OwnText.{own_reference}
 use Rattle.desk_msg.specs.HoldingsText.{general_parts, row_parts, holdings, holdings_parts}

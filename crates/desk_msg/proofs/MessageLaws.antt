@@ -4,7 +4,7 @@ use Rattle.desk_codes.specs.declared.currency.Ccy.{Ccy}
 use Rattle.desk_text.specs.Fields.{Found}
 use Rattle.desk_msg.specs.declared.mt.Mt.{Mt}
 use Rattle.desk_msg.specs.declared.mt.Mt.TheVariants.{Mt540, Mt541, Mt542, Mt543, Mt544, Mt545, Mt546, Mt547}
-use Rattle.desk_msg.specs.declared.function.FunctionCode.TheVariants.{Newm, Canc}
+use Rattle.desk_msg.specs.declared.reading.function.FunctionCode.TheVariants.{Newm, Canc}
 use Rattle.desk_msg.specs.declared.instruction.Kind.{Kind}
 use Rattle.desk_msg.specs.declared.instruction.Cash.{Cash}
 use Rattle.desk_msg.specs.declared.instruction.Instruction.{Instruction}

@@ -11,7 +11,7 @@ use Rattle.desk_msg.specs.declared.instruction.Kind.{Kind}
 use Rattle.desk_msg.specs.MessageType.{is_against_payment}
 use Rattle.desk_msg.specs.Profile.{Row, Said, text_said, function_row, security_row, safe_row, amount_said}
 use Rattle.desk_msg.specs.Reads.{Gives, Fails, GiveAll}
-use Rattle.desk_msg.specs.declared.confirmed.Confirmed.{Confirmed}
+use Rattle.desk_msg.specs.declared.reading.confirmed.Confirmed.{Confirmed}
 use Rattle.desk_msg.specs.Confirms.{Confirms, FailsConfirming, confirmation_said, confirmation_rows, rela_row, eset_row, settled_row, paid_row, paid_said}
 use Rattle.desk_msg.proofs.ReadingLaws.{one_given, one_failure, one_first, given_not_first, ArePlain, none_one, many_one, bad_gives}
 use Rattle.desk_msg.proofs.MessageLaws.{one_text, quantity_parts, amount_parts}

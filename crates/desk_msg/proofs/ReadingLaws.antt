@@ -3,8 +3,8 @@ use Rattle.std.proofs.Common.{◌≡◌, ◌≢◌, ◌<◌, ℕ, List, [], ◌�
 use Rattle.desk_text.specs.Fields.{Found}
 use Rattle.desk_msg.specs.declared.mt.Mt.{Mt}
 use Rattle.desk_msg.specs.declared.mt.Mt.TheVariants.{Mt540, Mt541, Mt542, Mt543, Mt544, Mt545, Mt546, Mt547}
-use Rattle.desk_msg.specs.declared.function.FunctionCode.{FunctionCode}
-use Rattle.desk_msg.specs.declared.function.FunctionCode.TheVariants.{Newm, Canc}
+use Rattle.desk_msg.specs.declared.reading.function.FunctionCode.{FunctionCode}
+use Rattle.desk_msg.specs.declared.reading.function.FunctionCode.TheVariants.{Newm, Canc}
 use Rattle.desk_msg.specs.declared.fault.Word.{Word}
 use Rattle.desk_msg.specs.declared.fault.Word.TheVariants.{Field23G}
 use Rattle.desk_msg.specs.declared.fault.MsgFault.{MsgFault}

@@ -7,7 +7,7 @@ use Rattle.desk_text.specs.Seen.{texts}
 use Rattle.desk_msg.specs.declared.instruction.Kind.{Kind}
 use Rattle.desk_msg.specs.declared.fault.MsgFault.{MsgFault}
 use Rattle.desk_msg.specs.declared.fault.MsgFault.TheVariants.{BadValue}
-use Rattle.desk_msg.specs.declared.profile.Row.{Row as TableRow}
+use Rattle.desk_msg.specs.declared.reading.profile.Row.{Row as TableRow}
 use Rattle.desk_msg.specs.Profile.{Row, Form, quantity_form, amount_form, Said, text_said, quantity_said, amount_said, unsaid, Says, SaysText, Bears, Behind, slashed, IsQuantityText, IsAmountText, IsSecurityText, function_form, security_form, function_row}
 use Rattle.desk_msg.specs.Reads.{belonging, Gives, IsBad}
 use Rattle.desk_msg.specs.Finding.{ReadsRow, row_seen}

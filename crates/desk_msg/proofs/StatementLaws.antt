@@ -11,10 +11,10 @@ use Rattle.desk_text.specs.Fields.{IsBlock}
 use Rattle.desk_text.specs.Written.{close_part, is_value, AreParts, fields_written}
 use Rattle.desk_text.proofs.LawLemmas.{value-right}
 use Rattle.desk_text.proofs.PartLemmas.{parts_block}
-use Rattle.desk_msg.specs.declared.status.Own.TheVariants.{Answer}
+use Rattle.desk_msg.specs.declared.writing.status.Own.TheVariants.{Answer}
 use Rattle.desk_msg.specs.declared.instruction.Kind.{Kind}
 use Rattle.desk_msg.specs.declared.instruction.Kind.TheVariants.{Unit as Units, FaceAmount}
-use Rattle.desk_msg.specs.declared.statement_row.StatementRow.{StatementRow}
+use Rattle.desk_msg.specs.declared.writing.statement_row.StatementRow.{StatementRow}
 use Rattle.desk_msg.specs.Profile.{code_of_kind}
 use Rattle.desk_msg.specs.HoldingsText.{activity_of, row_parts, rows_parts, holdings, holdings_parts, IsStatementRow}
 use Rattle.desk_msg.proofs.AdviceLemmas.{own_right}

@@ -2,9 +2,9 @@
 use Rattle.std.proofs.Common.{◌≡◌, ℕ, Bool, false, true, List, [], ◌∷◌, ◌++◌, ◌∙◌, refl, sym, subst, append_assoc, append-nil, Option}
 use Rattle.std.specs.Io.KnownBytes.{Appends}
 use Rattle.std.proofs.KnownBytes.{Appends-nil, Appends-trans}
-use Rattle.desk_msg.specs.declared.statement_row.StatementRow.{StatementRow}
-use Rattle.desk_msg.specs.declared.holdings.Heading.{Heading}
-use Rattle.desk_msg.specs.declared.holdings.HoldingsWriter.{HoldingsWriter}
+use Rattle.desk_msg.specs.declared.writing.statement_row.StatementRow.{StatementRow}
+use Rattle.desk_msg.specs.declared.writing.holdings.Heading.{Heading}
+use Rattle.desk_msg.specs.declared.writing.holdings.HoldingsWriter.{HoldingsWriter}
 use Rattle.desk_msg.specs.HoldingsText.{holdings}
 use Rattle.desk_msg.specs.TookRows.{TookAll}
 use Rattle.desk_msg.specs.HoldingsPieces.{added_by, rest_text, written_by, has_row, TakesRow, HasTaken}

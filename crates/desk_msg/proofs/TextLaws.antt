@@ -9,9 +9,9 @@ use Rattle.desk_text.specs.declared.faults.TextFault.TheVariants as texts
 use Rattle.desk_msg.specs.declared.fault.MsgFault.{MsgFault}
 use Rattle.desk_msg.specs.declared.instruction.Message.{Message}
 use Rattle.desk_msg.specs.declared.mt.Mt.{Mt}
-use Rattle.desk_msg.specs.declared.refusal.TextRefusal.{TextRefusal}
-use Rattle.desk_msg.specs.declared.refusal.TextRefusal.TheVariants.{NotBlock, BadLine, BadNesting, TooLong, Fields}
-use Rattle.desk_msg.specs.declared.refusal.ReadFault.TheVariants.{Refused}
+use Rattle.desk_msg.specs.declared.reading.refusal.TextRefusal.{TextRefusal}
+use Rattle.desk_msg.specs.declared.reading.refusal.TextRefusal.TheVariants.{NotBlock, BadLine, BadNesting, TooLong, Fields}
+use Rattle.desk_msg.specs.declared.reading.refusal.ReadFault.TheVariants.{Refused}
 use Rattle.desk_msg.specs.Reads.{ReadsFields}
 use Rattle.desk_msg.specs.Refused.{ReadsBlock, ReadsText}
 use Rattle.desk_msg.proofs.MessageLaws.{one_reading}

@@ -3,7 +3,7 @@ use Rattle.std.proofs.Common.{◌≡◌, ℕ, if◌then◌else◌, List, [], ◌
 use Rattle.std.proofs.lemmas.Grind.{common_steps}
 use Rattle.desk_codes.specs.Number.{written_number}
 use Rattle.desk_text.specs.Written.{Part, AreParts}
-use Rattle.desk_msg.specs.declared.status.Own.TheVariants.{Sent}
+use Rattle.desk_msg.specs.declared.writing.status.Own.TheVariants.{Sent}
 use Rattle.desk_msg.specs.declared.instruction.Instruction.{Instruction}
 use Rattle.desk_msg.specs.MessageType.{is_delivery}
 use Rattle.desk_msg.specs.OwnText.{own_reference}

@@ -3,8 +3,8 @@
 use Rattle.std.specs.Prelude.{ℕ, List, [], ◌∷◌, ◌++◌, map, codes}
 use Rattle.desk_text.specs.declared.parts.BlockPart.{BlockPart}
 use Rattle.desk_text.specs.Written.{Part, open_part, field_part, close_part}
-use Rattle.desk_msg.specs.declared.status.Case.{Case}
-use Rattle.desk_msg.specs.declared.status.Case.TheVariants.{NewRefused, CancelRefused}
+use Rattle.desk_msg.specs.declared.writing.status.Case.{Case}
+use Rattle.desk_msg.specs.declared.writing.status.Case.TheVariants.{NewRefused, CancelRefused}
 use Rattle.desk_msg.specs.StatusText.{function_of_advice, statuses_of}
 use Rattle.desk_text.specs.PartsSeen.{part_seen}
 

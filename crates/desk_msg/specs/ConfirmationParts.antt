@@ -2,7 +2,7 @@
 -- and private contracts speak of it.
 use Rattle.std.specs.Prelude.{ℕ, List, [], ◌∷◌, ◌++◌, codes}
 use Rattle.desk_text.specs.Written.{Part, open_part, field_part, close_part}
-use Rattle.desk_msg.specs.declared.confirmation.Values.{Values}
+use Rattle.desk_msg.specs.declared.writing.confirmation.Values.{Values}
 use Rattle.desk_msg.specs.Depository.{desk_bic}
 
 -- The parts of a confirmation with these values, in the order of its fields: own and related reference, day, security, quantity,

@@ -6,7 +6,7 @@ use Rattle.desk_codes.specs.Currency.{letters_of, decimals_of}
 use Rattle.desk_text.specs.Written.{Part, field_part, block_text}
 use Rattle.desk_msg.specs.declared.mt.Mt.{Mt}
 use Rattle.desk_msg.specs.declared.mt.Mt.TheVariants.{Mt540, Mt541, Mt542, Mt543, Mt544, Mt545, Mt546, Mt547}
-use Rattle.desk_msg.specs.declared.status.Own.TheVariants.{Sent}
+use Rattle.desk_msg.specs.declared.writing.status.Own.TheVariants.{Sent}
 use Rattle.desk_msg.specs.declared.instruction.Cash.{Cash}
 use Rattle.desk_msg.specs.declared.instruction.Instruction.{Instruction}
 use Rattle.desk_msg.specs.MessageType.{is_delivery}

@@ -12,7 +12,7 @@ use Rattle.desk_msg.specs.declared.instruction.Instruction.{Instruction}
 use Rattle.desk_msg.specs.MessageType.{is_against_payment}
 use Rattle.desk_msg.specs.Profile.{Row, row, within, within_two, reference_form, day_form, quantity_form, amount_form, function_row, security_row, safe_row, Said, text_said, quantity_said, amount_said, unsaid}
 use Rattle.desk_msg.specs.Reads.{Gives, Fails, FailsFirst, GiveAll}
-use Rattle.desk_msg.specs.declared.confirmed.Confirmed.{Confirmed}
+use Rattle.desk_msg.specs.declared.reading.confirmed.Confirmed.{Confirmed}
 
 abbrev pub paid_by : Option Cash → Option (Ccy × ℕ)
 paid_by None = None

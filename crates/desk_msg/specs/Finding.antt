@@ -14,11 +14,11 @@ use Rattle.desk_msg.specs.declared.instruction.Cash.{Cash}
 use Rattle.desk_msg.specs.declared.instruction.Instruction.{Instruction}
 use Rattle.desk_msg.specs.declared.instruction.CancelOrder.{CancelOrder}
 use Rattle.desk_msg.specs.declared.mt.Mt.{Mt}
-use Rattle.desk_msg.specs.declared.function.FunctionCode.TheVariants.{Newm, Canc}
+use Rattle.desk_msg.specs.declared.reading.function.FunctionCode.TheVariants.{Newm, Canc}
 use Rattle.desk_msg.specs.MessageType.{is_against_payment}
-use Rattle.desk_msg.specs.declared.profile.Row.{Row as TableRow}
+use Rattle.desk_msg.specs.declared.reading.profile.Row.{Row as TableRow}
 use Rattle.desk_msg.specs.Profile.{Row, Form, Said, text_said, amount_said, function_row, rows_of}
-use Rattle.desk_msg.specs.declared.confirmed.Confirmed.{Confirmed}
+use Rattle.desk_msg.specs.declared.reading.confirmed.Confirmed.{Confirmed}
 use Rattle.desk_msg.specs.Confirms.{confirmation_rows, confirmation_said, FailsConfirming}
 use Rattle.desk_msg.specs.Reads.{belongs, Gives, Fails, FailsFirst, GiveAll, instruction_said, cancellation_said}
 

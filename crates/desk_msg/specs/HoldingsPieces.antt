@@ -4,9 +4,9 @@ use Rattle.std.specs.List.{flat_map}
 use Rattle.std.specs.Io.KnownBytes.{Appends}
 use Rattle.desk_text.specs.Lines.{written}
 use Rattle.desk_text.specs.Written.{Part, open_part, field_part, close_part, lines_of_part, first_line}
-use Rattle.desk_msg.specs.declared.statement_row.StatementRow.{StatementRow}
-use Rattle.desk_msg.specs.declared.holdings.Heading.{Heading}
-use Rattle.desk_msg.specs.declared.holdings.HoldingsWriter.{HoldingsWriter}
+use Rattle.desk_msg.specs.declared.writing.statement_row.StatementRow.{StatementRow}
+use Rattle.desk_msg.specs.declared.writing.holdings.Heading.{Heading}
+use Rattle.desk_msg.specs.declared.writing.holdings.HoldingsWriter.{HoldingsWriter}
 use Rattle.desk_msg.specs.HoldingsText.{general_parts, row_parts, holdings}
 
 -- the lines of parts

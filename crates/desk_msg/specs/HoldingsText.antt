@@ -5,8 +5,8 @@ use Rattle.std.specs.List.{flat_map}
 use Rattle.desk_codes.specs.CheckDigit.{IsIsin}
 use Rattle.desk_codes.specs.Number.{written_number}
 use Rattle.desk_text.specs.Written.{Part, field_part, block_text}
-use Rattle.desk_msg.specs.declared.status.Own.TheVariants.{Answer}
-use Rattle.desk_msg.specs.declared.statement_row.StatementRow.{StatementRow}
+use Rattle.desk_msg.specs.declared.writing.status.Own.TheVariants.{Answer}
+use Rattle.desk_msg.specs.declared.writing.statement_row.StatementRow.{StatementRow}
 use Rattle.desk_msg.specs.Profile.{code_of_kind}
 use Rattle.desk_msg.specs.OwnText.{own_reference, generic_part, sequence_parts}
 

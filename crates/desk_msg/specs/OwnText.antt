@@ -2,8 +2,8 @@
 use Rattle.std.specs.Prelude.{ℕ, zero, suc, ◌+◌, ◌/◌, ◌%◌, List, [], ◌∷◌, ◌++◌, codes}
 use Rattle.std.specs.Str.{byte}
 use Rattle.desk_text.specs.Written.{Part, open_part, field_part, close_part}
-use Rattle.desk_msg.specs.declared.status.Own.{Own}
-use Rattle.desk_msg.specs.declared.status.Own.TheVariants.{Answer, Sent}
+use Rattle.desk_msg.specs.declared.writing.status.Own.{Own}
+use Rattle.desk_msg.specs.declared.writing.status.Own.TheVariants.{Answer, Sent}
 
 -- the last k decimal digits of a number, as characters
 unfoldable pub last_digits : ℕ → ℕ → List ℕ

@@ -5,8 +5,8 @@ use Rattle.std.specs.Cmp.Lexicographic.{pointwise}
 use Rattle.std.specs.Str.{bytes_eq}
 use Rattle.desk_text.specs.Fields.{Found}
 use Rattle.desk_msg.specs.declared.mt.Mt.{Mt}
-use Rattle.desk_msg.specs.declared.function.FunctionCode.{FunctionCode}
-use Rattle.desk_msg.specs.declared.function.FunctionCode.TheVariants.{Newm, Canc}
+use Rattle.desk_msg.specs.declared.reading.function.FunctionCode.{FunctionCode}
+use Rattle.desk_msg.specs.declared.reading.function.FunctionCode.TheVariants.{Newm, Canc}
 use Rattle.desk_msg.specs.declared.fault.Word.{Word}
 use Rattle.desk_msg.specs.declared.fault.Word.TheVariants.{Field23G, Seme, Prev, Date, Field35B, Field36B, Safe, Setr, Pset, Deag, Reag, Field19A}
 use Rattle.desk_msg.specs.declared.fault.MsgFault.{MsgFault}

@@ -11,10 +11,10 @@ use Rattle.desk_msg.specs.declared.mt.Mt.{Mt}
 use Rattle.desk_msg.specs.declared.instruction.Message.{Message}
 use Rattle.desk_msg.specs.declared.fault.MsgFault.{MsgFault}
 use Rattle.desk_msg.specs.declared.fault.MsgFault.TheVariants.{Missing, Repeated, BadValue, Function}
-use Rattle.desk_msg.specs.declared.refusal.TextRefusal.{TextRefusal}
-use Rattle.desk_msg.specs.declared.refusal.TextRefusal.TheVariants.{NotBlock, BadLine, BadNesting, TooLong, Fields}
-use Rattle.desk_msg.specs.declared.refusal.ReadFault.{ReadFault}
-use Rattle.desk_msg.specs.declared.refusal.ReadFault.TheVariants.{Refused, Memory}
+use Rattle.desk_msg.specs.declared.reading.refusal.TextRefusal.{TextRefusal}
+use Rattle.desk_msg.specs.declared.reading.refusal.TextRefusal.TheVariants.{NotBlock, BadLine, BadNesting, TooLong, Fields}
+use Rattle.desk_msg.specs.declared.reading.refusal.ReadFault.{ReadFault}
+use Rattle.desk_msg.specs.declared.reading.refusal.ReadFault.TheVariants.{Refused, Memory}
 use Rattle.desk_msg.specs.Words.{letters_of_word}
 use Rattle.desk_msg.specs.Reads.{ReadsFields}
 

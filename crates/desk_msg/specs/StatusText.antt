@@ -2,12 +2,12 @@
 use Rattle.std.specs.Prelude.{ℕ, ◌<◌, ◌≤◌, ◌^◌, List, [], ◌∷◌, ◌++◌, codes}
 use Rattle.desk_text.specs.Written.{Part, field_part, block_text}
 use Rattle.desk_msg.specs.declared.mt.Mt.{Mt}
-use Rattle.desk_msg.specs.declared.status.Own.{Own}
-use Rattle.desk_msg.specs.declared.status.Own.TheVariants.{Answer, Sent}
-use Rattle.desk_msg.specs.declared.status.Reason.{Reason}
-use Rattle.desk_msg.specs.declared.status.Reason.TheVariants.{Future, Lack, Money}
-use Rattle.desk_msg.specs.declared.status.Case.{Case}
-use Rattle.desk_msg.specs.declared.status.Case.TheVariants.{Unmatched, Matched, Cancelled, CancelDone, CancelWaits, NewRefused, CancelRefused}
+use Rattle.desk_msg.specs.declared.writing.status.Own.{Own}
+use Rattle.desk_msg.specs.declared.writing.status.Own.TheVariants.{Answer, Sent}
+use Rattle.desk_msg.specs.declared.writing.status.Reason.{Reason}
+use Rattle.desk_msg.specs.declared.writing.status.Reason.TheVariants.{Future, Lack, Money}
+use Rattle.desk_msg.specs.declared.writing.status.Case.{Case}
+use Rattle.desk_msg.specs.declared.writing.status.Case.TheVariants.{Unmatched, Matched, Cancelled, CancelDone, CancelWaits, NewRefused, CancelRefused}
 use Rattle.desk_msg.specs.MessageType.{digits_of_type}
 use Rattle.desk_msg.specs.OwnText.{last_digits, own_reference, generic_part, sequence_parts}
 

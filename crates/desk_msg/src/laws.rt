@@ -10,17 +10,17 @@ ghost use Rattle.desk_msg.specs.declared.fault.MsgFault.{MsgFault};
 ghost use Rattle.desk_msg.specs.declared.instruction.Instruction.{Instruction};
 ghost use Rattle.desk_msg.specs.declared.instruction.Message.{Message};
 ghost use Rattle.desk_msg.specs.ConfirmationText.{confirmation, confirming_type};
-ghost use Rattle.desk_msg.specs.declared.confirmed.Confirmed.{Confirmed};
+ghost use Rattle.desk_msg.specs.declared.reading.confirmed.Confirmed.{Confirmed};
 ghost use Rattle.desk_msg.specs.Confirms.{Confirms, confirmed_of};
-ghost use Rattle.desk_msg.specs.declared.statement_row.StatementRow.{StatementRow};
-ghost use Rattle.desk_msg.specs.declared.holdings.HoldingsWriter.{HoldingsWriter};
+ghost use Rattle.desk_msg.specs.declared.writing.statement_row.StatementRow.{StatementRow};
+ghost use Rattle.desk_msg.specs.declared.writing.holdings.HoldingsWriter.{HoldingsWriter};
 ghost use Rattle.desk_msg.specs.HoldingsText.{holdings, holdings_parts, IsStatementRow};
 ghost use Rattle.desk_msg.specs.HoldingsPieces.{TakesRow, rest_text};
 ghost use Rattle.desk_msg.specs.TookRows.{TookAll};
 ghost use Rattle.desk_msg.specs.Reads.{ReadsFields};
 ghost use Rattle.desk_msg.specs.Refused.{ReadsText};
-ghost use Rattle.desk_msg.specs.declared.refusal.ReadFault.{ReadFault};
-ghost use Rattle.desk_msg.specs.declared.refusal.TextRefusal.{TextRefusal};
+ghost use Rattle.desk_msg.specs.declared.reading.refusal.ReadFault.{ReadFault};
+ghost use Rattle.desk_msg.specs.declared.reading.refusal.TextRefusal.{TextRefusal};
 
 use std::io::Write;
 

@@ -10,44 +10,31 @@
 //! that is written is read back as what was settled.
 //!
 //! Begin with specs/Profile.antt (the used fields as a table, and what their values say) and specs/Reads.antt (which
-//! fields read as which message), which src/profile.rt and src/value.rt follow; then specs/StatusText.antt,
+//! fields read as which message), which src/reading/profile.rt and src/reading/value.rt follow; then specs/StatusText.antt,
 //! specs/ConfirmationText.antt, specs/Confirms.antt and specs/HoldingsText.antt.
 #![tactic(auto)]
 
-mod confirmation;
-mod confirmed;
 mod depository;
-mod digits;
 mod fault;
-mod find;
-mod function;
-mod holdings;
 mod instruction;
 mod laws;
-mod lines;
 mod mt;
-mod pieces;
-mod profile;
 mod reading;
-mod refusal;
-mod rows;
-mod statement_row;
-mod status;
-mod value;
+mod writing;
 
-pub use confirmation::confirmation_text;
-pub use confirmed::{Confirmed, read_confirmation};
 pub use depository::DESK_BIC;
 pub use fault::{MsgFault, Word};
-pub use holdings::{HoldingsWriter, holdings_text};
 pub use instruction::{CancelOrder, Cash, Instruction, Kind, Message, SettlementType, UnknownKind};
 pub use laws::{
     confirmation_says, one_answer, one_confirmation, one_reading, rows_make_statement,
     statement_is_block,
 };
-pub use lines::fields_text;
 pub use mt::{Mt, UnknownType};
-pub use reading::read_message;
-pub use refusal::{ReadFault, TextRefusal, read_instruction_text, refusal_text};
-pub use statement_row::{RowSink, SinkFault, StatementRow};
-pub use status::{Case, Own, Reason, status_text};
+pub use reading::confirmed::{Confirmed, read_confirmation};
+pub use reading::message::read_message;
+pub use reading::refusal::{ReadFault, TextRefusal, read_instruction_text, refusal_text};
+pub use writing::confirmation::confirmation_text;
+pub use writing::holdings::{HoldingsWriter, holdings_text};
+pub use writing::lines::fields_text;
+pub use writing::statement_row::{RowSink, SinkFault, StatementRow};
+pub use writing::status::{Case, Own, Reason, status_text};

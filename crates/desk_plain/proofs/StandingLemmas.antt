@@ -1,6 +1,6 @@
 -- Why a pair is not settled, a run further down.
 use Rattle.std.proofs.Common.{◌≡◌, ℕ, zero, suc, ◌-◌, ◌<◌, true, false, refl, subst, arith}
-use Rattle.desk_rules.specs.declared.pair.Pair.{Pair}
+use Rattle.desk_rules.specs.declared.history.pair.Pair.{Pair}
 use Rattle.desk_rules.specs.Settlement.{is_due}
 use Rattle.desk_rules.specs.Books.{Books}
 use Rattle.desk_rules.specs.Standing.{reason_below}

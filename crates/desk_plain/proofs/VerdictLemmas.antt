@@ -1,10 +1,10 @@
 -- The verdict on an entry whose key is known.
 use Rattle.std.proofs.Common.{◌≡◌, ℕ, Bool, false, sym, subst}
 use Rattle.std.specs.Prelude.{MatchBool, Option, Some}
-use Rattle.desk_rules.specs.declared.entry.Entry.{Entry}
-use Rattle.desk_rules.specs.declared.verdict.Verdict.{Verdict}
-use Rattle.desk_rules.specs.declared.verdict.Verdict.TheVariants.{Refuse}
-use Rattle.desk_rules.specs.declared.verdict.Refusal.TheVariants.{SenderUnknown}
+use Rattle.desk_rules.specs.declared.history.entry.Entry.{Entry}
+use Rattle.desk_rules.specs.declared.answers.verdict.Verdict.{Verdict}
+use Rattle.desk_rules.specs.declared.answers.verdict.Verdict.TheVariants.{Refuse}
+use Rattle.desk_rules.specs.declared.answers.verdict.Refusal.TheVariants.{SenderUnknown}
 use Rattle.desk_rules.specs.History.{number_of_key, reference_of, sender_of}
 use Rattle.desk_rules.specs.Books.{Books}
 use Rattle.desk_rules.specs.Verdict.{IsVerdict, IsVerdictAt, is_from_stranger}

@@ -1,9 +1,9 @@
 -- What a verdict is put together from. Only private contracts speak of it.
 use Rattle.std.specs.Prelude.{Bool, if◌then◌else◌, Option, Some, None}
-use Rattle.desk_rules.specs.declared.verdict.Refusal.{Refusal}
-use Rattle.desk_rules.specs.declared.verdict.Refusal.TheVariants.{Full}
-use Rattle.desk_rules.specs.declared.verdict.Verdict.{Verdict}
-use Rattle.desk_rules.specs.declared.verdict.Verdict.TheVariants.{Accept, Refuse}
+use Rattle.desk_rules.specs.declared.answers.verdict.Refusal.{Refusal}
+use Rattle.desk_rules.specs.declared.answers.verdict.Refusal.TheVariants.{Full}
+use Rattle.desk_rules.specs.declared.answers.verdict.Verdict.{Verdict}
+use Rattle.desk_rules.specs.declared.answers.verdict.Verdict.TheVariants.{Accept, Refuse}
 
 -- the verdict on an entry by what its checks refuse it for, if anything, and whether the desk holds all that it may
 abbrev pub verdict_for : Option Refusal → Bool → Verdict

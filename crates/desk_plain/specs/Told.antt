@@ -1,10 +1,10 @@
 -- Which notices can be told as messages: those about an instruction, with no run or with one.
 use Rattle.std.specs.Prelude.{◌≡◌, ◌≤◌, Bool, true, ◌&&◌, is_some, List, length, All, ℕ, Option, Some, None, option_and_then}
-use Rattle.desk_rules.specs.declared.entry.Entry.{Entry}
+use Rattle.desk_rules.specs.declared.history.entry.Entry.{Entry}
 use Rattle.desk_rules.specs.declared.limits.TheConstants.{MOST_SENT}
 use Rattle.desk_rules.specs.History.{entry_at, instruction_at, run_day}
 use Rattle.desk_rules.specs.Books.{Books}
-use Rattle.desk_rules.specs.declared.reply.Notice.{Notice}
+use Rattle.desk_rules.specs.declared.answers.reply.Notice.{Notice}
 use Rattle.desk_rules.specs.Sent.{notices_of}
 
 abbrev pub is_run : List Entry → Option ℕ → Bool

@@ -3,19 +3,19 @@ use Rattle.std.specs.Prelude.{◌≡◌, ℕ, ◌+◌, ◌-◌, ◌<◌, ◌≤�
 use Rattle.desk_codes.specs.declared.currency.Ccy.{Ccy}
 use Rattle.desk_codes.specs.Number.{number_of}
 use Rattle.desk_msg.specs.declared.instruction.Cash.{Cash}
-use Rattle.desk_msg.specs.declared.status.Reason.{Reason}
-use Rattle.desk_msg.specs.declared.status.Reason.TheVariants.{Future, Lack, Money as LackOfMoney}
+use Rattle.desk_msg.specs.declared.writing.status.Reason.{Reason}
+use Rattle.desk_msg.specs.declared.writing.status.Reason.TheVariants.{Future, Lack, Money as LackOfMoney}
 use Rattle.desk_msg.specs.MessageType.{is_delivery}
 use Rattle.desk_rules.specs.declared.limits.TheConstants.{MOST_PAID, MOST_QUANTITY, MOST_SENT}
-use Rattle.desk_rules.specs.declared.entry.Entry.{Entry}
-use Rattle.desk_rules.specs.declared.entry.Entry.TheVariants.{Issue, Redeem, PayIn, PayOut, Instruct, Cancel}
-use Rattle.desk_rules.specs.declared.entry.Instructed.{Instructed}
-use Rattle.desk_rules.specs.declared.pair.Lack.TheVariants.{Securities, Money as LacksMoney}
-use Rattle.desk_rules.specs.declared.reply.Reply.{Reply}
-use Rattle.desk_rules.specs.declared.reply.Sent.{Sent}
-use Rattle.desk_rules.specs.declared.standing.State.{State}
-use Rattle.desk_rules.specs.declared.standing.State.TheVariants.{Cancelled, Matched, Settled, Unmatched}
-use Rattle.desk_rules.specs.declared.standing.Standing.{Standing}
+use Rattle.desk_rules.specs.declared.history.entry.Entry.{Entry}
+use Rattle.desk_rules.specs.declared.history.entry.Entry.TheVariants.{Issue, Redeem, PayIn, PayOut, Instruct, Cancel}
+use Rattle.desk_rules.specs.declared.history.entry.Instructed.{Instructed}
+use Rattle.desk_rules.specs.declared.history.pair.Lack.TheVariants.{Securities, Money as LacksMoney}
+use Rattle.desk_rules.specs.declared.answers.reply.Reply.{Reply}
+use Rattle.desk_rules.specs.declared.answers.reply.Sent.{Sent}
+use Rattle.desk_rules.specs.declared.history.standing.State.{State}
+use Rattle.desk_rules.specs.declared.history.standing.State.TheVariants.{Cancelled, Matched, Settled, Unmatched}
+use Rattle.desk_rules.specs.declared.history.standing.Standing.{Standing}
 use Rattle.desk_rules.specs.History.{instruction_at, number_of_key, reference_of, sender_of}
 use Rattle.desk_rules.specs.Opposite.{AreOpposite}
 use Rattle.desk_rules.specs.Balances.{delivering, issued, paid_in, paid_out, receiving, redeemed, same_ccy}

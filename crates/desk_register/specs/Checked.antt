@@ -1,11 +1,11 @@
 -- Why a register sees an entry refused, whose key is new and whose sender is known.
 use Rattle.std.specs.Prelude.{nat_lt, Bool, true, false, not, if◌then◌else◌, List, [], ◌∷◌, Option, Some, None, is_none}
-use Rattle.desk_rules.specs.declared.entry.Entry.{Entry}
-use Rattle.desk_rules.specs.declared.entry.Entry.TheVariants.{Redeem, PayOut, Cancel}
-use Rattle.desk_rules.specs.declared.standing.State.{State}
-use Rattle.desk_rules.specs.declared.standing.State.TheVariants as states
-use Rattle.desk_rules.specs.declared.verdict.Refusal.{Refusal}
-use Rattle.desk_rules.specs.declared.verdict.Refusal.TheVariants.{NoSuchInstruction, AlreadyCancelled, AlreadySettled, CancellationWaits, ParticipantUnknown, AccountUnknown, SecurityUnknown, NotEnough}
+use Rattle.desk_rules.specs.declared.history.entry.Entry.{Entry}
+use Rattle.desk_rules.specs.declared.history.entry.Entry.TheVariants.{Redeem, PayOut, Cancel}
+use Rattle.desk_rules.specs.declared.history.standing.State.{State}
+use Rattle.desk_rules.specs.declared.history.standing.State.TheVariants as states
+use Rattle.desk_rules.specs.declared.answers.verdict.Refusal.{Refusal}
+use Rattle.desk_rules.specs.declared.answers.verdict.Refusal.TheVariants.{NoSuchInstruction, AlreadyCancelled, AlreadySettled, CancellationWaits, ParticipantUnknown, AccountUnknown, SecurityUnknown, NotEnough}
 use Rattle.desk_rules.specs.Content.{Content, history_of}
 use Rattle.desk_rules.specs.Facts.{is_participant, kind_of, owner_of}
 use Rattle.desk_rules.specs.Books.{Books}

@@ -1,7 +1,7 @@
 -- What an entry registers. Only private contracts and proofs speak of it.
 use Rattle.std.specs.Prelude.{ℕ, List, Option, Some, None}
-use Rattle.desk_rules.specs.declared.entry.Entry.{Entry}
-use Rattle.desk_rules.specs.declared.entry.Entry.TheVariants.{Security}
+use Rattle.desk_rules.specs.declared.history.entry.Entry.{Entry}
+use Rattle.desk_rules.specs.declared.history.entry.Entry.TheVariants.{Security}
 
 -- the security that an entry registers
 abbrev pub security_by : Entry → Option (List ℕ)

@@ -5,11 +5,11 @@ use Rattle.std.proofs.lemmas.List.Folds.{list_any-append}
 use Rattle.std.proofs.lemmas.Slice.Eq.{bytes_eq-Decides}
 use Rattle.std.specs.Prelude.{MatchBool, Option, Some, None, not, bytes_eq, slice_get, option_map}
 use Rattle.std.specs.List.{list_any}
-use Rattle.desk_rules.specs.declared.entry.Entry.{Entry}
-use Rattle.desk_rules.specs.declared.entry.Sender.{Sender}
-use Rattle.desk_rules.specs.declared.entry.Sender.TheVariants.{Operator, Participant as FromParticipant}
-use Rattle.desk_rules.specs.declared.verdict.Verdict.TheVariants.{Accept, Repeat, Refuse}
-use Rattle.desk_rules.specs.declared.verdict.Refusal.TheVariants.{SenderUnknown}
+use Rattle.desk_rules.specs.declared.history.entry.Entry.{Entry}
+use Rattle.desk_rules.specs.declared.history.entry.Sender.{Sender}
+use Rattle.desk_rules.specs.declared.history.entry.Sender.TheVariants.{Operator, Participant as FromParticipant}
+use Rattle.desk_rules.specs.declared.answers.verdict.Verdict.TheVariants.{Accept, Repeat, Refuse}
+use Rattle.desk_rules.specs.declared.answers.verdict.Refusal.TheVariants.{SenderUnknown}
 use Rattle.desk_rules.specs.History.{as_asked, entry_at, has_key, number_from, number_of_key, reference_of, same_sender, sender_of}
 use Rattle.desk_rules.specs.Books.{Books}
 use Rattle.desk_rules.specs.Verdict.{AsksTheSame, IsVerdict, IsVerdictAt, is_from_stranger}

@@ -5,9 +5,9 @@ use Rattle.std.proofs.lemmas.List.Sums.{sum_by-cons, sum_by_push}
 use Rattle.std.proofs.lemmas.Slice.Eq.{bytes_eq-Decides}
 use Rattle.desk_codes.specs.declared.currency.Ccy.{Ccy}
 use Rattle.desk_msg.specs.declared.instruction.Cash.{Cash}
-use Rattle.desk_rules.specs.declared.entry.Entry.{Entry}
-use Rattle.desk_rules.specs.declared.pair.Pair.{Pair}
-use Rattle.desk_rules.specs.declared.pair.Settled.{Settled}
+use Rattle.desk_rules.specs.declared.history.entry.Entry.{Entry}
+use Rattle.desk_rules.specs.declared.history.pair.Pair.{Pair}
+use Rattle.desk_rules.specs.declared.history.pair.Settled.{Settled}
 use Rattle.desk_rules.specs.History.{Instructed, instruction_at}
 use Rattle.desk_rules.specs.Balances.{same_ccy, is_delivered_by, deliverer_of, receiver_of, delivery_of, receipt_of, quantity_if, movement_on, issued_by, redeemed_by, quantity_on, credits, debits, payment_of, paid_in_by, paid_out_by, cash_in, amount_of, cash_credits, cash_debits}
 use Rattle.desk_rules.specs.Covered.{can_deliver, can_pay_cash, can_pay, has_securities, has_cash, is_covered}

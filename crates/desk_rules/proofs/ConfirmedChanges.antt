@@ -12,13 +12,13 @@ use Rattle.desk_msg.specs.declared.fault.MsgFault.{MsgFault}
 use Rattle.desk_msg.specs.declared.instruction.Cash.{Cash}
 use Rattle.desk_msg.specs.MessageType.{is_delivery, number_of_type}
 use Rattle.desk_msg.specs.ConfirmationText.{confirming_type}
-use Rattle.desk_msg.specs.declared.confirmed.Confirmed.{Confirmed}
+use Rattle.desk_msg.specs.declared.reading.confirmed.Confirmed.{Confirmed}
 use Rattle.desk_msg.specs.Confirms.{Confirms, paid_by}
 use Rattle.desk_msg.proofs.OneConfirmation.{one_confirmation}
-use Rattle.desk_rules.specs.declared.entry.Entry.{Entry}
-use Rattle.desk_rules.specs.declared.entry.Entry.TheVariants.{Run}
-use Rattle.desk_rules.specs.declared.pair.Settled.{Settled}
-use Rattle.desk_rules.specs.declared.reply.Sent.{Sent}
+use Rattle.desk_rules.specs.declared.history.entry.Entry.{Entry}
+use Rattle.desk_rules.specs.declared.history.entry.Entry.TheVariants.{Run}
+use Rattle.desk_rules.specs.declared.history.pair.Settled.{Settled}
+use Rattle.desk_rules.specs.declared.answers.reply.Sent.{Sent}
 use Rattle.desk_rules.specs.History.{Instructed, entry_at, run_day}
 use Rattle.desk_rules.specs.Balances.{delivery_of, receipt_of, quantity_if, quantity_on, cash_in, amount_of}
 use Rattle.desk_rules.specs.Settlement.{is_by, day_of}

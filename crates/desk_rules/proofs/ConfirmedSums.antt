@@ -6,9 +6,9 @@ use Rattle.std.proofs.lemmas.Bool.{cases_Bool, cases_eq, eqb-true, eq-eqb}
 use Rattle.std.proofs.lemmas.List.Sums.{sum_by-cons, sum_by-append}
 use Rattle.std.proofs.lemmas.List.Concat.{flat_map-cons}
 use Rattle.desk_msg.specs.MessageType.{is_delivery}
-use Rattle.desk_rules.specs.declared.entry.Entry.{Entry}
-use Rattle.desk_rules.specs.declared.pair.Pair.{Pair}
-use Rattle.desk_rules.specs.declared.pair.Settled.{Settled}
+use Rattle.desk_rules.specs.declared.history.entry.Entry.{Entry}
+use Rattle.desk_rules.specs.declared.history.pair.Pair.{Pair}
+use Rattle.desk_rules.specs.declared.history.pair.Settled.{Settled}
 use Rattle.desk_rules.specs.History.{Instructed, entry_at, instruction_at}
 use Rattle.desk_rules.specs.Opposite.{AreOpposite, AreOppositeAt}
 use Rattle.desk_rules.specs.Balances.{is_delivered_by, deliverer_of, receiver_of, delivery_of, receipt_of, quantity_if}

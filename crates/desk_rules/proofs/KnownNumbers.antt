@@ -1,13 +1,13 @@
 -- A reply to an entry has a known status, and a refusal a number of the catalogue.
 use Rattle.std.proofs.Common.{◌≡◌, ℕ, ◌⊎◌, inl, inr, take, Option, Some, None, refl, sym, ◌∙◌, ap, if◌then◌else◌, ◌==◌}
 use Rattle.std.specs.Prelude.{option_map}
-use Rattle.desk_rules.specs.declared.entry.Entry.{Entry}
-use Rattle.desk_rules.specs.declared.entry.Entry.TheVariants.{Participant, Account, Security, Issue, Redeem, PayIn, PayOut, Instruct, Cancel, Run}
-use Rattle.desk_rules.specs.declared.reply.Reply.{Reply}
-use Rattle.desk_rules.specs.declared.verdict.Refusal.{Refusal}
-use Rattle.desk_rules.specs.declared.verdict.Refusal.TheVariants.{SenderUnknown, ReferenceReused, PlaceNotUs, UnknownSecurity, KindDiffers, AccountNotSenders, CounterpartyUnknown, NoSuchInstruction, AlreadyCancelled, AlreadySettled, Full, CancellationWaits, CommandReused, Exists, ParticipantUnknown, AccountUnknown, SecurityUnknown, OverLimit, NotEnough, DayGoesBack}
-use Rattle.desk_rules.specs.declared.verdict.Verdict.{Verdict}
-use Rattle.desk_rules.specs.declared.verdict.Verdict.TheVariants.{Accept, Repeat, Refuse}
+use Rattle.desk_rules.specs.declared.history.entry.Entry.{Entry}
+use Rattle.desk_rules.specs.declared.history.entry.Entry.TheVariants.{Participant, Account, Security, Issue, Redeem, PayIn, PayOut, Instruct, Cancel, Run}
+use Rattle.desk_rules.specs.declared.answers.reply.Reply.{Reply}
+use Rattle.desk_rules.specs.declared.answers.verdict.Refusal.{Refusal}
+use Rattle.desk_rules.specs.declared.answers.verdict.Refusal.TheVariants.{SenderUnknown, ReferenceReused, PlaceNotUs, UnknownSecurity, KindDiffers, AccountNotSenders, CounterpartyUnknown, NoSuchInstruction, AlreadyCancelled, AlreadySettled, Full, CancellationWaits, CommandReused, Exists, ParticipantUnknown, AccountUnknown, SecurityUnknown, OverLimit, NotEnough, DayGoesBack}
+use Rattle.desk_rules.specs.declared.answers.verdict.Verdict.{Verdict}
+use Rattle.desk_rules.specs.declared.answers.verdict.Verdict.TheVariants.{Accept, Repeat, Refuse}
 use Rattle.desk_rules.specs.History.{as_asked, entry_at}
 use Rattle.desk_rules.specs.Refusals.{number_of_refusal}
 use Rattle.desk_rules.specs.Books.{Books}

@@ -12,10 +12,10 @@ use Rattle.desk_msg.specs.MessageType.{is_delivery, is_against_payment, number_o
 use Rattle.desk_msg.specs.ConfirmationText.{confirming_type}
 use Rattle.desk_msg.specs.Confirms.{paid_by}
 use Rattle.desk_msg.proofs.ConfirmationLaws.{confirms}
-use Rattle.desk_rules.specs.declared.entry.Entry.{Entry}
-use Rattle.desk_rules.specs.declared.pair.Pair.{Pair}
-use Rattle.desk_rules.specs.declared.pair.Settled.{Settled}
-use Rattle.desk_rules.specs.declared.reply.Sent.{Sent}
+use Rattle.desk_rules.specs.declared.history.entry.Entry.{Entry}
+use Rattle.desk_rules.specs.declared.history.pair.Pair.{Pair}
+use Rattle.desk_rules.specs.declared.history.pair.Settled.{Settled}
+use Rattle.desk_rules.specs.declared.answers.reply.Sent.{Sent}
 use Rattle.desk_rules.specs.History.{Instructed, entry_at, instruction_at}
 use Rattle.desk_rules.specs.Balances.{is_delivered_by, deliverer_of, receiver_of, quantity_if}
 use Rattle.desk_rules.specs.Pairing.{IsSide, has_side}

@@ -1,8 +1,8 @@
 -- What a settlement moves, and what an entry changes beside its settlements.
 use Rattle.std.proofs.Common.{◌≡◌, ℕ, ◌+◌, true, List, [], ◌∷◌, ◌++◌, length, length-append, refl, sym, ◌∙◌, ap, subst, arith, inl, Contains, Option, Some, None}
 use Rattle.std.specs.Prelude.{option_and_then}
-use Rattle.desk_rules.specs.declared.entry.Entry.{Entry}
-use Rattle.desk_rules.specs.declared.pair.Settled.{Settled}
+use Rattle.desk_rules.specs.declared.history.entry.Entry.{Entry}
+use Rattle.desk_rules.specs.declared.history.pair.Settled.{Settled}
 use Rattle.desk_rules.specs.History.{entry_at, run_day}
 use Rattle.desk_rules.specs.Balances.{quantity_on, amount_of, credits, debits, cash_credits, cash_debits}
 use Rattle.desk_rules.specs.Pairing.{IsPairing}

@@ -5,12 +5,12 @@ use Rattle.std.proofs.lemmas.List.Sums.{length-filter}
 use Rattle.std.proofs.lemmas.Bool.{cases_Bool, cases_lt, both_ways, false_from_ne_true, eqb-true, eq-eqb, ltb-true, lt-ltb, leb-true, le-leb, and_parts, and_from}
 use Rattle.desk_codes.specs.declared.currency.Ccy.{Ccy}
 use Rattle.desk_msg.specs.declared.instruction.Cash.{Cash}
-use Rattle.desk_rules.specs.declared.entry.Entry.{Entry}
-use Rattle.desk_rules.specs.declared.entry.Entry.TheVariants.{Run}
-use Rattle.desk_rules.specs.declared.entry.RunRule.{RunRule}
-use Rattle.desk_rules.specs.declared.entry.RunRule.TheVariants.{Passes}
-use Rattle.desk_rules.specs.declared.pair.Pair.{Pair}
-use Rattle.desk_rules.specs.declared.pair.Settled.{Settled}
+use Rattle.desk_rules.specs.declared.history.entry.Entry.{Entry}
+use Rattle.desk_rules.specs.declared.history.entry.Entry.TheVariants.{Run}
+use Rattle.desk_rules.specs.declared.history.entry.RunRule.{RunRule}
+use Rattle.desk_rules.specs.declared.history.entry.RunRule.TheVariants.{Passes}
+use Rattle.desk_rules.specs.declared.history.pair.Pair.{Pair}
+use Rattle.desk_rules.specs.declared.history.pair.Settled.{Settled}
 use Rattle.desk_rules.specs.History.{Instructed, before, entry_at, run_rule}
 use Rattle.desk_rules.specs.Balances.{delivery_of, receipt_of, credits, debits, cash_credits, cash_debits}
 use Rattle.desk_rules.specs.Covered.{can_deliver, can_pay_cash, can_pay, has_securities, has_cash, is_covered}

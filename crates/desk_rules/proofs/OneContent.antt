@@ -1,9 +1,9 @@
 -- The tables of one history are the same in every part.
 use Rattle.std.proofs.Common.{◌≡◌, ℕ, zero, suc, ◌+◌, List, [], ◌∷◌, map, take, refl, sym, ◌∙◌, ap, subst, arith, slice_get, Some}
-use Rattle.desk_rules.specs.declared.entry.Entry.{Entry}
-use Rattle.desk_rules.specs.declared.reply.Kept.{Kept}
+use Rattle.desk_rules.specs.declared.history.entry.Entry.{Entry}
+use Rattle.desk_rules.specs.declared.answers.reply.Kept.{Kept}
 use Rattle.desk_rules.specs.Balances.{credits, debits, cash_credits, cash_debits}
-use Rattle.desk_rules.specs.declared.reply.Reply.{Reply}
+use Rattle.desk_rules.specs.declared.answers.reply.Reply.{Reply}
 use Rattle.desk_rules.specs.History.{entry_at}
 use Rattle.desk_rules.specs.Reply.{IsFirstReply}
 use Rattle.desk_rules.specs.Content.{Content, IsSameContent, history_of}

@@ -1,8 +1,8 @@
 -- A history has one pairing, and the next entry adds at most one pair to it.
 use Rattle.std.proofs.Common.{◌≡◌, ℕ, ◌+◌, ◌<◌, ◌≤◌, ◌↔◌, inl, inr, Bool, nat_lt, List, [], ◌∷◌, ◌++◌, length, refl, sym, ◌∙◌, ap, subst, arith, append-nil, length-append}
 use Rattle.std.proofs.lemmas.Bool.{cases_lt, cases_eq, cases_order, ltb-true, lt-ltb, le-ltb}
-use Rattle.desk_rules.specs.declared.entry.Entry.{Entry}
-use Rattle.desk_rules.specs.declared.pair.Pair.{Pair}
+use Rattle.desk_rules.specs.declared.history.entry.Entry.{Entry}
+use Rattle.desk_rules.specs.declared.history.pair.Pair.{Pair}
 use Rattle.desk_rules.specs.Opposite.{AreOppositeAt}
 use Rattle.desk_rules.specs.Pairing.{pairs_below, IsCandidate, IsMate, IsPairing}
 use Rattle.desk_rules.proofs.Decided.{In-from_Contains, Contains-from_In, Ordered-from_AllPairs, AllPairs-from_Ordered, filter-front, filter-push_no, IsStrict, IsTotalOn, Decided, one_list, grow_out, grow_in}

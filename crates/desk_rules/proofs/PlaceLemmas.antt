@@ -1,7 +1,7 @@
 -- The order of places, in words of numbers.
 use Rattle.std.proofs.Common.{◌≡◌, ◌<◌, ◌⊎◌, inl, inr, true, false, ◌&&◌, ◌==◌, nat_lt, arith}
 use Rattle.std.proofs.lemmas.Bool.{false_from_ne_true, ltb-true, lt-ltb, eqb-true, eq-eqb, and_parts, and_from, or_cases, or_left, or_right}
-use Rattle.desk_rules.specs.declared.pair.Place.{Place}
+use Rattle.desk_rules.specs.declared.history.pair.Place.{Place}
 use Rattle.desk_rules.specs.Settlement.{is_before}
 
 pub before_true : (p q : Place) → is_before p q ≡ true → (p.day < q.day) ⊎ ((p.day ≡ q.day) × (p.number < q.number))

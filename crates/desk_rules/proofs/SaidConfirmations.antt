@@ -10,8 +10,8 @@ use Rattle.desk_msg.specs.MessageType.{number_of_type}
 use Rattle.desk_msg.specs.ConfirmationText.{confirming_type}
 use Rattle.desk_msg.specs.Reads.{ReadsFields}
 use Rattle.desk_msg.proofs.ConfirmationLaws.{confirms}
-use Rattle.desk_rules.specs.declared.entry.Entry.{Entry}
-use Rattle.desk_rules.specs.declared.reply.Sent.{Sent}
+use Rattle.desk_rules.specs.declared.history.entry.Entry.{Entry}
+use Rattle.desk_rules.specs.declared.answers.reply.Sent.{Sent}
 use Rattle.desk_rules.specs.History.{Instructed, entry_at, instruction_at}
 use Rattle.desk_rules.specs.Sent.{Notice, date_in, told, told_to, sent_from}
 use Rattle.desk_rules.specs.Confirmations.{Confirmation, SaysConfirmation, SayConfirmations, confirmation_by, is_confirmation}

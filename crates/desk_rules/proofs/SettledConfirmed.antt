@@ -4,9 +4,9 @@ use Rattle.std.specs.Prelude.{◌==◌}
 use Rattle.std.specs.List.{range_with_len, flat_map, find}
 use Rattle.std.proofs.lemmas.Bool.{cases_Bool, eqb-true, eq-eqb}
 use Rattle.std.proofs.lemmas.List.Concat.{flat_map-cons}
-use Rattle.desk_rules.specs.declared.pair.Pair.{Pair}
-use Rattle.desk_rules.specs.declared.pair.Settled.{Settled}
-use Rattle.desk_rules.specs.declared.reply.Sent.{Sent}
+use Rattle.desk_rules.specs.declared.history.pair.Pair.{Pair}
+use Rattle.desk_rules.specs.declared.history.pair.Settled.{Settled}
+use Rattle.desk_rules.specs.declared.answers.reply.Sent.{Sent}
 use Rattle.desk_rules.specs.History.{Instructed, entry_at, instruction_at, run_day}
 use Rattle.desk_rules.specs.Balances.{is_delivered_by, deliverer_of, receiver_of}
 use Rattle.desk_rules.specs.Pairing.{IsSide}

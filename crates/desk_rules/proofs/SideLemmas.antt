@@ -2,7 +2,7 @@
 use Rattle.std.proofs.Common.{◌≡◌, ℕ, inl, inr, Bool, true, false, ◌==◌, List, [], ◌∷◌, refl, ◌∙◌, ap}
 use Rattle.std.specs.List.{list_any}
 use Rattle.std.proofs.lemmas.Bool.{both_ways, eqb-true, eq-eqb, or_cases, or_left, or_right}
-use Rattle.desk_rules.specs.declared.pair.Pair.{Pair}
+use Rattle.desk_rules.specs.declared.history.pair.Pair.{Pair}
 use Rattle.desk_rules.specs.Pairing.{IsFree, IsSide, has_side}
 use Rattle.desk_rules.proofs.Decided.{In, In-from_Contains, Contains-from_In}
 

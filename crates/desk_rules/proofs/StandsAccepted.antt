@@ -6,14 +6,14 @@ use Rattle.std.specs.Prelude.{Some, None, ◌==◌, ◌&&◌, option_and_then}
 use Rattle.std.specs.List.{list_any}
 use Rattle.desk_msg.specs.declared.instruction.CancelOrder.{CancelOrder}
 use Rattle.desk_msg.specs.declared.instruction.Instruction.{Instruction}
-use Rattle.desk_msg.specs.declared.status.Reason.TheVariants.{Future}
-use Rattle.desk_rules.specs.declared.entry.Entry.{Entry}
-use Rattle.desk_rules.specs.declared.entry.Entry.TheVariants.{Instruct, Cancel}
-use Rattle.desk_rules.specs.declared.entry.Sender.TheVariants.{Participant as FromParticipant}
-use Rattle.desk_rules.specs.declared.pair.Pair.{Pair}
-use Rattle.desk_rules.specs.declared.pair.Settled.{Settled}
-use Rattle.desk_rules.specs.declared.standing.State.TheVariants as states
-use Rattle.desk_rules.specs.declared.verdict.Verdict.TheVariants.{Accept}
+use Rattle.desk_msg.specs.declared.writing.status.Reason.TheVariants.{Future}
+use Rattle.desk_rules.specs.declared.history.entry.Entry.{Entry}
+use Rattle.desk_rules.specs.declared.history.entry.Entry.TheVariants.{Instruct, Cancel}
+use Rattle.desk_rules.specs.declared.history.entry.Sender.TheVariants.{Participant as FromParticipant}
+use Rattle.desk_rules.specs.declared.history.pair.Pair.{Pair}
+use Rattle.desk_rules.specs.declared.history.pair.Settled.{Settled}
+use Rattle.desk_rules.specs.declared.history.standing.State.TheVariants as states
+use Rattle.desk_rules.specs.declared.answers.verdict.Verdict.TheVariants.{Accept}
 use Rattle.desk_rules.specs.History.{Instructed, entry_at, instructed, instruction_at, number_of_key, sender_of, reference_of}
 use Rattle.desk_rules.specs.Cancelled.{is_cancel_requested, is_cancel_requested_by, is_cancelled_pair}
 use Rattle.desk_rules.specs.Pairing.{has_side, pair_of}

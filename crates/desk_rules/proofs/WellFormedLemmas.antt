@@ -12,9 +12,9 @@ use Rattle.desk_msg.specs.declared.instruction.Message.TheVariants.{New, Cancel 
 use Rattle.desk_msg.specs.declared.mt.Mt.{Mt}
 use Rattle.desk_msg.specs.Reads.{ReadsFields}
 use Rattle.desk_msg.specs.Refused.{ReadsText}
-use Rattle.desk_rules.specs.declared.entry.Entry.{Entry}
-use Rattle.desk_rules.specs.declared.entry.Entry.TheVariants.{Participant, Account, Security, Issue, Redeem, PayIn, PayOut, Instruct, Cancel, Run}
-use Rattle.desk_rules.specs.declared.entry.RunRule.{RunRule}
+use Rattle.desk_rules.specs.declared.history.entry.Entry.{Entry}
+use Rattle.desk_rules.specs.declared.history.entry.Entry.TheVariants.{Participant, Account, Security, Issue, Redeem, PayIn, PayOut, Instruct, Cancel, Run}
+use Rattle.desk_rules.specs.declared.history.entry.RunRule.{RunRule}
 use Rattle.desk_rules.specs.History.{Instructed, entry_at, instructed, instruction_at}
 use Rattle.desk_rules.specs.WellFormed.{IsReadable, IsWellFormed, AreWellFormed}
 use Rattle.desk_rules.proofs.Decided.{In, In-from_Contains, Contains-from_In, In-push_cases}

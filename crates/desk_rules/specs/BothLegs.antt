@@ -3,9 +3,9 @@
 use Rattle.std.specs.Prelude.{◌≡◌, ◌⊎◌, ℕ, ◌+◌, false, MatchBool, List, [], ◌∷◌, ◌++◌, true, length, Contains, Some, None, is_some}
 use Rattle.desk_codes.specs.declared.currency.Ccy.{Ccy}
 use Rattle.desk_msg.specs.MessageType.{is_delivery, is_against_payment}
-use Rattle.desk_rules.specs.declared.entry.Entry.{Entry}
-use Rattle.desk_rules.specs.declared.pair.Settled.{Settled}
-use Rattle.desk_rules.specs.declared.reply.Sent.{Sent}
+use Rattle.desk_rules.specs.declared.history.entry.Entry.{Entry}
+use Rattle.desk_rules.specs.declared.history.pair.Settled.{Settled}
+use Rattle.desk_rules.specs.declared.answers.reply.Sent.{Sent}
 use Rattle.desk_rules.specs.History.{Instructed, entry_at, instruction_at, run_day}
 use Rattle.desk_rules.specs.Opposite.{AreOpposite}
 use Rattle.desk_rules.specs.Balances.{deliverer_of, receiver_of, delivery_of, receipt_of, movement_on, issued_by, redeemed_by, quantity_on, credits, debits, payment_of, paid_in_by, paid_out_by, amount_of, cash_credits, cash_debits}

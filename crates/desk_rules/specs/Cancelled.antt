@@ -2,9 +2,9 @@
 use Rattle.std.specs.Prelude.{◌≡◌, ℕ, Bool, true, false, ◌&&◌, ◌==◌, List, drop, bytes_eq, Option, Some, None}
 use Rattle.std.specs.List.{list_any}
 use Rattle.desk_msg.specs.MessageType.{number_of_type}
-use Rattle.desk_rules.specs.declared.entry.Entry.{Entry}
-use Rattle.desk_rules.specs.declared.entry.Entry.TheVariants.{Cancel}
-use Rattle.desk_rules.specs.declared.pair.Pair.{Pair}
+use Rattle.desk_rules.specs.declared.history.entry.Entry.{Entry}
+use Rattle.desk_rules.specs.declared.history.entry.Entry.TheVariants.{Cancel}
+use Rattle.desk_rules.specs.declared.history.pair.Pair.{Pair}
 use Rattle.desk_rules.specs.History.{Instructed, entry_at, instruction_at}
 
 -- An entry requests that an instruction be cancelled: it is a cancellation, and names its sender's own instruction of

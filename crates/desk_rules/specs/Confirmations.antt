@@ -6,9 +6,9 @@ use Rattle.desk_text.specs.Fields.{Found, IsBlock}
 use Rattle.desk_msg.specs.declared.mt.Mt.{Mt}
 use Rattle.desk_msg.specs.MessageType.{number_of_type, is_delivery}
 use Rattle.desk_msg.specs.ConfirmationText.{confirming_type}
-use Rattle.desk_msg.specs.declared.confirmed.Confirmed.{Confirmed}
+use Rattle.desk_msg.specs.declared.reading.confirmed.Confirmed.{Confirmed}
 use Rattle.desk_msg.specs.Confirms.{Confirms, confirmed_of}
-use Rattle.desk_rules.specs.declared.reply.Sent.{Sent}
+use Rattle.desk_rules.specs.declared.answers.reply.Sent.{Sent}
 use Rattle.desk_rules.specs.History.{Instructed}
 use Rattle.desk_rules.specs.Balances.{same_ccy, quantity_if, movement_on, issued_by, redeemed_by, credits, debits, payment_of, paid_in_by, paid_out_by, cash_credits, cash_debits}
 use Rattle.desk_rules.specs.Books.{Books}

@@ -1,11 +1,11 @@
 -- Whether a pair is covered: what each side gives is there.
 use Rattle.std.specs.Prelude.{ℕ, ◌+◌, nat_le, Bool, true, false, ◌&&◌, if◌then◌else◌, List, Option, Some, None}
 use Rattle.desk_msg.specs.declared.instruction.Cash.{Cash}
-use Rattle.desk_rules.specs.declared.entry.Entry.{Entry}
-use Rattle.desk_rules.specs.declared.pair.Pair.{Pair}
-use Rattle.desk_rules.specs.declared.pair.Settled.{Settled}
-use Rattle.desk_rules.specs.declared.pair.Lack.{Lack}
-use Rattle.desk_rules.specs.declared.pair.Lack.TheVariants.{Securities, Money}
+use Rattle.desk_rules.specs.declared.history.entry.Entry.{Entry}
+use Rattle.desk_rules.specs.declared.history.pair.Pair.{Pair}
+use Rattle.desk_rules.specs.declared.history.pair.Settled.{Settled}
+use Rattle.desk_rules.specs.declared.history.pair.Lack.{Lack}
+use Rattle.desk_rules.specs.declared.history.pair.Lack.TheVariants.{Securities, Money}
 use Rattle.desk_rules.specs.History.{Instructed}
 use Rattle.desk_rules.specs.Balances.{credits, debits, cash_credits, cash_debits, delivery_of, receipt_of}
 

@@ -3,8 +3,8 @@ use Rattle.std.specs.Prelude.{ℕ, nat_lt, Bool, true, false, if◌then◌else�
 use Rattle.std.specs.List.{list_any}
 use Rattle.desk_msg.specs.declared.instruction.Kind.{Kind}
 use Rattle.desk_msg.specs.declared.instruction.Kind.TheVariants.{Unit as Units, FaceAmount}
-use Rattle.desk_rules.specs.declared.entry.Entry.{Entry}
-use Rattle.desk_rules.specs.declared.entry.Entry.TheVariants.{Participant, Account, Security}
+use Rattle.desk_rules.specs.declared.history.entry.Entry.{Entry}
+use Rattle.desk_rules.specs.declared.history.entry.Entry.TheVariants.{Participant, Account, Security}
 use Rattle.desk_rules.specs.History.{run_day}
 
 abbrev pub adds_participant : List ℕ → Entry → Bool

@@ -1,13 +1,13 @@
 -- A history is the list of the accepted entries, numbered from 1. Nothing else is state.
 use Rattle.std.specs.Prelude.{ℕ, zero, suc, ◌+◌, ◌-◌, Bool, true, false, ◌&&◌, if◌then◌else◌, List, [], ◌∷◌, take, bytes_eq, slice_get, Option, Some, None, option_and_then}
 use Rattle.desk_codes.specs.Number.{number_of}
-use Rattle.desk_rules.specs.declared.entry.Sender.{Sender}
-use Rattle.desk_rules.specs.declared.entry.Sender.TheVariants.{Operator, Participant as FromParticipant}
-pub use Rattle.desk_rules.specs.declared.entry.Instructed.{Instructed}
-use Rattle.desk_rules.specs.declared.entry.RunRule.{RunRule}
-use Rattle.desk_rules.specs.declared.entry.RunRule.TheVariants.{OnePass}
-use Rattle.desk_rules.specs.declared.entry.Entry.{Entry}
-use Rattle.desk_rules.specs.declared.entry.Entry.TheVariants.{Participant, Account, Security, Issue, Redeem, PayIn, PayOut, Instruct, Cancel, Run}
+use Rattle.desk_rules.specs.declared.history.entry.Sender.{Sender}
+use Rattle.desk_rules.specs.declared.history.entry.Sender.TheVariants.{Operator, Participant as FromParticipant}
+pub use Rattle.desk_rules.specs.declared.history.entry.Instructed.{Instructed}
+use Rattle.desk_rules.specs.declared.history.entry.RunRule.{RunRule}
+use Rattle.desk_rules.specs.declared.history.entry.RunRule.TheVariants.{OnePass}
+use Rattle.desk_rules.specs.declared.history.entry.Entry.{Entry}
+use Rattle.desk_rules.specs.declared.history.entry.Entry.TheVariants.{Participant, Account, Security, Issue, Redeem, PayIn, PayOut, Instruct, Cancel, Run}
 
 -- the entry of a number
 abbrev pub entry_at : List Entry → ℕ → Option Entry

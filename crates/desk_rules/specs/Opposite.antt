@@ -2,7 +2,7 @@
 use Rattle.std.specs.Prelude.{◌≡◌, ◌≢◌, ℕ, List}
 use Rattle.std.specs.Prelude.{Some}
 use Rattle.desk_msg.specs.MessageType.{is_delivery, is_against_payment}
-use Rattle.desk_rules.specs.declared.entry.Entry.{Entry}
+use Rattle.desk_rules.specs.declared.history.entry.Entry.{Entry}
 use Rattle.desk_rules.specs.History.{Instructed, instruction_at}
 
 -- One delivers what the other receives: both free or both against payment, the same quantity of the same

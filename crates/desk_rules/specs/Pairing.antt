@@ -1,7 +1,7 @@
 -- Which instructions of a history are paired.
 use Rattle.std.specs.Prelude.{◌≡◌, ◌≢◌, ◌⊎◌, ℕ, ◌<◌, ◌↔◌, nat_lt, Bool, false, ◌==◌, ◌||◌, if◌then◌else◌, List, [], ◌∷◌, Contains, AllPairs, filter, Option, Some, None}
-use Rattle.desk_rules.specs.declared.entry.Entry.{Entry}
-use Rattle.desk_rules.specs.declared.pair.Pair.{Pair}
+use Rattle.desk_rules.specs.declared.history.entry.Entry.{Entry}
+use Rattle.desk_rules.specs.declared.history.pair.Pair.{Pair}
 use Rattle.desk_rules.specs.History.{before}
 use Rattle.desk_rules.specs.Opposite.{AreOppositeAt}
 use Rattle.desk_rules.specs.Cancelled.{is_cancel_requested}

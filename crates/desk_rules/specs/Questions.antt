@@ -4,18 +4,18 @@ use Rattle.std.specs.Prelude.{ℕ, zero, suc, ◌==◌, Bool, ◌&&◌, if◌the
 use Rattle.std.specs.List.{find}
 use Rattle.desk_msg.specs.declared.instruction.Instruction.{Instruction}
 use Rattle.desk_msg.specs.declared.mt.Mt.{Mt}
-use Rattle.desk_msg.specs.declared.status.Own.TheVariants.{Answer}
-use Rattle.desk_msg.specs.declared.status.Case.{Case}
-use Rattle.desk_msg.specs.declared.status.Case.TheVariants as cases
+use Rattle.desk_msg.specs.declared.writing.status.Own.TheVariants.{Answer}
+use Rattle.desk_msg.specs.declared.writing.status.Case.{Case}
+use Rattle.desk_msg.specs.declared.writing.status.Case.TheVariants as cases
 use Rattle.desk_msg.specs.StatusText.{advice}
-use Rattle.desk_rules.specs.declared.entry.Entry.{Entry}
-use Rattle.desk_rules.specs.declared.entry.Entry.TheVariants.{Instruct, Cancel}
-use Rattle.desk_rules.specs.declared.entry.Sender.TheVariants.{Participant as FromParticipant}
-use Rattle.desk_rules.specs.declared.reply.Reply.{Reply}
-use Rattle.desk_rules.specs.declared.reply.Sent.{Sent}
-use Rattle.desk_rules.specs.declared.standing.State.{State}
-use Rattle.desk_rules.specs.declared.standing.State.TheVariants.{NoInstruction, Unmatched, Matched, Cancelled, Settled}
-use Rattle.desk_rules.specs.declared.verdict.Refusal.TheVariants.{NoSuchInstruction, SenderUnknown}
+use Rattle.desk_rules.specs.declared.history.entry.Entry.{Entry}
+use Rattle.desk_rules.specs.declared.history.entry.Entry.TheVariants.{Instruct, Cancel}
+use Rattle.desk_rules.specs.declared.history.entry.Sender.TheVariants.{Participant as FromParticipant}
+use Rattle.desk_rules.specs.declared.answers.reply.Reply.{Reply}
+use Rattle.desk_rules.specs.declared.answers.reply.Sent.{Sent}
+use Rattle.desk_rules.specs.declared.history.standing.State.{State}
+use Rattle.desk_rules.specs.declared.history.standing.State.TheVariants.{NoInstruction, Unmatched, Matched, Cancelled, Settled}
+use Rattle.desk_rules.specs.declared.answers.verdict.Refusal.TheVariants.{NoSuchInstruction, SenderUnknown}
 use Rattle.desk_rules.specs.Refusals.{number_of_refusal}
 use Rattle.desk_rules.specs.History.{entry_at, number_of_key}
 use Rattle.desk_rules.specs.Facts.{is_participant}

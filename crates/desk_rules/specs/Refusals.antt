@@ -2,8 +2,8 @@
 -- and 21 of both, each with what it means. (A question is refused with 42 too, where there is no such message; the
 -- numbers of texts that can't be read are those of the crates that read them.)
 use Rattle.std.specs.Prelude.{◌≡◌, ℕ}
-use Rattle.desk_rules.specs.declared.verdict.Refusal.{Refusal}
-use Rattle.desk_rules.specs.declared.verdict.Refusal.TheVariants.{SenderUnknown, ReferenceReused, PlaceNotUs, UnknownSecurity, KindDiffers, AccountNotSenders, CounterpartyUnknown, NoSuchInstruction, AlreadyCancelled, AlreadySettled, Full, CancellationWaits, CommandReused, Exists, ParticipantUnknown, AccountUnknown, SecurityUnknown, OverLimit, NotEnough, DayGoesBack}
+use Rattle.desk_rules.specs.declared.answers.verdict.Refusal.{Refusal}
+use Rattle.desk_rules.specs.declared.answers.verdict.Refusal.TheVariants.{SenderUnknown, ReferenceReused, PlaceNotUs, UnknownSecurity, KindDiffers, AccountNotSenders, CounterpartyUnknown, NoSuchInstruction, AlreadyCancelled, AlreadySettled, Full, CancellationWaits, CommandReused, Exists, ParticipantUnknown, AccountUnknown, SecurityUnknown, OverLimit, NotEnough, DayGoesBack}
 
 abbrev pub number_of_refusal : Refusal → ℕ
 -- the sender of a message is no participant

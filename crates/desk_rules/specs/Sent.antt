@@ -1,18 +1,18 @@
 -- What the desk sends: an advice to the earlier party of each pair, and two confirmations of each settlement.
 use Rattle.std.specs.Prelude.{ℕ, ◌+◌, ◌==◌, if◌then◌else◌, List, [], ◌∷◌, ◌++◌, length, flat_map, Option, Some, None}
 use Rattle.std.specs.List.{range_with_len}
-use Rattle.desk_msg.specs.declared.status.Own.TheVariants as owns
-use Rattle.desk_msg.specs.declared.status.Reason.TheVariants.{Future}
-use Rattle.desk_msg.specs.declared.status.Case.TheVariants.{Matched}
+use Rattle.desk_msg.specs.declared.writing.status.Own.TheVariants as owns
+use Rattle.desk_msg.specs.declared.writing.status.Reason.TheVariants.{Future}
+use Rattle.desk_msg.specs.declared.writing.status.Case.TheVariants.{Matched}
 use Rattle.desk_msg.specs.MessageType.{number_of_type}
 use Rattle.desk_msg.specs.StatusText.{advice}
 use Rattle.desk_msg.specs.ConfirmationText.{confirming_type, confirmation}
-use Rattle.desk_rules.specs.declared.entry.Entry.{Entry}
-use Rattle.desk_rules.specs.declared.entry.Entry.TheVariants.{Run}
-use Rattle.desk_rules.specs.declared.pair.Pair.{Pair}
-use Rattle.desk_rules.specs.declared.pair.Settled.{Settled}
-pub use Rattle.desk_rules.specs.declared.reply.Notice.{Notice}
-use Rattle.desk_rules.specs.declared.reply.Sent.{Sent}
+use Rattle.desk_rules.specs.declared.history.entry.Entry.{Entry}
+use Rattle.desk_rules.specs.declared.history.entry.Entry.TheVariants.{Run}
+use Rattle.desk_rules.specs.declared.history.pair.Pair.{Pair}
+use Rattle.desk_rules.specs.declared.history.pair.Settled.{Settled}
+pub use Rattle.desk_rules.specs.declared.answers.reply.Notice.{Notice}
+use Rattle.desk_rules.specs.declared.answers.reply.Sent.{Sent}
 use Rattle.desk_rules.specs.History.{Instructed, entry_at, instruction_at}
 use Rattle.desk_rules.specs.Balances.{deliverer_of, receiver_of}
 use Rattle.desk_rules.specs.Books.{Books}

@@ -1,15 +1,15 @@
 -- Where an entry stands in books, said by relations: the form that steps of a register are proved in. Only proofs and
 -- private contracts speak of it; proofs/StandsLemmas.antt shows that it says what `standing_of` computes.
 use Rattle.std.specs.Prelude.{◌≡◌, ◌⊎◌, ℕ, ◌+◌, ◌<◌, Bool, true, false, length, Contains, Option, Some, None}
-use Rattle.desk_msg.specs.declared.status.Reason.{Reason}
-use Rattle.desk_msg.specs.declared.status.Reason.TheVariants.{Future}
-use Rattle.desk_rules.specs.declared.entry.Instructed.{Instructed}
-use Rattle.desk_rules.specs.declared.pair.Pair.{Pair}
-use Rattle.desk_rules.specs.declared.pair.Settled.{Settled}
-use Rattle.desk_rules.specs.declared.standing.State.{State}
-use Rattle.desk_rules.specs.declared.standing.State.TheVariants as states
-use Rattle.desk_rules.specs.declared.standing.State.TheVariants.{NoInstruction, Unmatched, Matched, Cancelled}
-use Rattle.desk_rules.specs.declared.standing.Standing.{Standing}
+use Rattle.desk_msg.specs.declared.writing.status.Reason.{Reason}
+use Rattle.desk_msg.specs.declared.writing.status.Reason.TheVariants.{Future}
+use Rattle.desk_rules.specs.declared.history.entry.Instructed.{Instructed}
+use Rattle.desk_rules.specs.declared.history.pair.Pair.{Pair}
+use Rattle.desk_rules.specs.declared.history.pair.Settled.{Settled}
+use Rattle.desk_rules.specs.declared.history.standing.State.{State}
+use Rattle.desk_rules.specs.declared.history.standing.State.TheVariants as states
+use Rattle.desk_rules.specs.declared.history.standing.State.TheVariants.{NoInstruction, Unmatched, Matched, Cancelled}
+use Rattle.desk_rules.specs.declared.history.standing.Standing.{Standing}
 use Rattle.desk_rules.specs.History.{before}
 use Rattle.desk_rules.specs.Cancelled.{is_cancel_requested, is_cancelled_pair}
 use Rattle.desk_rules.specs.Pairing.{IsFree, IsSide, mate_in}

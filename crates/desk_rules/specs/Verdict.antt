@@ -4,14 +4,14 @@ use Rattle.desk_codes.specs.Number.{number_of}
 use Rattle.desk_msg.specs.declared.instruction.CancelOrder.{CancelOrder}
 use Rattle.desk_msg.specs.Depository.{desk_bic}
 use Rattle.desk_msg.specs.MessageType.{number_of_type}
-use Rattle.desk_rules.specs.declared.entry.Sender.{Sender}
-use Rattle.desk_rules.specs.declared.entry.Sender.TheVariants.{Operator, Participant as FromParticipant}
-use Rattle.desk_rules.specs.declared.entry.Entry.{Entry}
-use Rattle.desk_rules.specs.declared.entry.Entry.TheVariants.{Participant, Account, Security, Issue, Redeem, PayIn, PayOut, Instruct, Cancel, Run}
-use Rattle.desk_rules.specs.declared.verdict.Refusal.{Refusal}
-use Rattle.desk_rules.specs.declared.verdict.Refusal.TheVariants.{SenderUnknown, ReferenceReused, PlaceNotUs, UnknownSecurity, KindDiffers, AccountNotSenders, CounterpartyUnknown, NoSuchInstruction, AlreadyCancelled, AlreadySettled, Full, CancellationWaits, CommandReused, Exists, ParticipantUnknown, AccountUnknown, SecurityUnknown, OverLimit, NotEnough, DayGoesBack}
-use Rattle.desk_rules.specs.declared.verdict.Verdict.{Verdict}
-use Rattle.desk_rules.specs.declared.verdict.Verdict.TheVariants.{Accept, Repeat, Refuse}
+use Rattle.desk_rules.specs.declared.history.entry.Sender.{Sender}
+use Rattle.desk_rules.specs.declared.history.entry.Sender.TheVariants.{Operator, Participant as FromParticipant}
+use Rattle.desk_rules.specs.declared.history.entry.Entry.{Entry}
+use Rattle.desk_rules.specs.declared.history.entry.Entry.TheVariants.{Participant, Account, Security, Issue, Redeem, PayIn, PayOut, Instruct, Cancel, Run}
+use Rattle.desk_rules.specs.declared.answers.verdict.Refusal.{Refusal}
+use Rattle.desk_rules.specs.declared.answers.verdict.Refusal.TheVariants.{SenderUnknown, ReferenceReused, PlaceNotUs, UnknownSecurity, KindDiffers, AccountNotSenders, CounterpartyUnknown, NoSuchInstruction, AlreadyCancelled, AlreadySettled, Full, CancellationWaits, CommandReused, Exists, ParticipantUnknown, AccountUnknown, SecurityUnknown, OverLimit, NotEnough, DayGoesBack}
+use Rattle.desk_rules.specs.declared.answers.verdict.Verdict.{Verdict}
+use Rattle.desk_rules.specs.declared.answers.verdict.Verdict.TheVariants.{Accept, Repeat, Refuse}
 use Rattle.desk_rules.specs.declared.limits.TheConstants.{MOST_PAID, MOST_QUANTITY}
 use Rattle.desk_rules.specs.History.{Instructed, as_asked, entry_at, before, instruction_at, sender_of, reference_of, number_of_key}
 use Rattle.desk_rules.specs.Facts.{is_participant, owner_of, kind_of, last_run, is_of_kind, is_owner, is_after}

@@ -10,10 +10,10 @@ use Rattle.desk_msg.specs.declared.instruction.Message.{Message}
 use Rattle.desk_msg.specs.declared.instruction.Message.TheVariants.{New, Cancel as CancelMessage}
 use Rattle.desk_msg.specs.declared.mt.Mt.{Mt}
 use Rattle.desk_msg.specs.Reads.{ReadsFields}
-use Rattle.desk_rules.specs.declared.entry.Movement.{Movement}
-use Rattle.desk_rules.specs.declared.entry.Payment.{Payment}
-use Rattle.desk_rules.specs.declared.entry.Entry.{Entry}
-use Rattle.desk_rules.specs.declared.entry.Entry.TheVariants.{Participant, Account, Security, Issue, Redeem, PayIn, PayOut, Instruct, Cancel, Run}
+use Rattle.desk_rules.specs.declared.history.entry.Movement.{Movement}
+use Rattle.desk_rules.specs.declared.history.entry.Payment.{Payment}
+use Rattle.desk_rules.specs.declared.history.entry.Entry.{Entry}
+use Rattle.desk_rules.specs.declared.history.entry.Entry.TheVariants.{Participant, Account, Security, Issue, Redeem, PayIn, PayOut, Instruct, Cancel, Run}
 use Rattle.desk_rules.specs.declared.limits.TheConstants.{MOST_PAID, MOST_QUANTITY}
 use Rattle.desk_rules.specs.Books.{AreBooks, Books}
 use Rattle.desk_rules.specs.Verdict.{WasAccepted}

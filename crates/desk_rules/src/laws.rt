@@ -14,10 +14,10 @@ ghost use Rattle.desk_rules.specs.Confirmations.{AccountFor, Confirmation, SayCo
 ghost use Rattle.desk_rules.specs.WellFormed.{AreWellFormed};
 ghost use Rattle.desk_msg.specs.declared.instruction.CancelOrder.{CancelOrder};
 ghost use Rattle.desk_msg.specs.declared.instruction.Instruction.{Instruction};
-ghost use Rattle.desk_rules.specs.declared.reply.Reply.{Reply};
-ghost use Rattle.desk_rules.specs.declared.reply.Sent.{Sent};
-ghost use Rattle.desk_rules.specs.declared.standing.State.TheVariants as State;
-ghost use Rattle.desk_rules.specs.declared.verdict.Refusal.{Refusal};
+ghost use Rattle.desk_rules.specs.declared.answers.reply.Reply.{Reply};
+ghost use Rattle.desk_rules.specs.declared.answers.reply.Sent.{Sent};
+ghost use Rattle.desk_rules.specs.declared.history.standing.State.TheVariants as State;
+ghost use Rattle.desk_rules.specs.declared.answers.verdict.Refusal.{Refusal};
 ghost use Rattle.desk_rules.specs.Balances.{issued, redeemed, credits, debits, paid_in, paid_out, cash_credits, cash_debits};
 ghost use Rattle.desk_rules.specs.Books.{AreBooks, Books, is_settled};
 ghost use Rattle.desk_rules.specs.BothLegs.{ChangesOnly, ComeInTwos, Moves, StandTogether};
@@ -29,13 +29,13 @@ ghost use Rattle.desk_rules.specs.Opposite.{AreOpposite};
 ghost use Rattle.desk_rules.specs.Pairing.{IsPairing, IsSide, mate_of};
 ghost use Rattle.desk_rules.specs.Covered.{is_covered};
 ghost use Rattle.desk_rules.specs.Settlement.{is_due, pass_begins, IsUnsettled, IsSettlement, settled_before, passes_of, settled_count};
-ghost use Rattle.desk_rules.specs.declared.entry.Entry.TheVariants as Entry;
-ghost use Rattle.desk_rules.specs.declared.entry.RunRule.TheVariants.{Passes};
-ghost use Rattle.desk_rules.specs.declared.entry.Entry.{Entry};
-ghost use Rattle.desk_rules.specs.declared.pair.Pair.{Pair};
-ghost use Rattle.desk_rules.specs.declared.pair.Settled.{Settled};
-ghost use Rattle.desk_rules.specs.declared.verdict.Verdict.{Verdict};
-ghost use Rattle.desk_rules.specs.declared.verdict.Verdict.TheVariants.{Accept, Repeat};
+ghost use Rattle.desk_rules.specs.declared.history.entry.Entry.TheVariants as Entry;
+ghost use Rattle.desk_rules.specs.declared.history.entry.RunRule.TheVariants.{Passes};
+ghost use Rattle.desk_rules.specs.declared.history.entry.Entry.{Entry};
+ghost use Rattle.desk_rules.specs.declared.history.pair.Pair.{Pair};
+ghost use Rattle.desk_rules.specs.declared.history.pair.Settled.{Settled};
+ghost use Rattle.desk_rules.specs.declared.answers.verdict.Verdict.{Verdict};
+ghost use Rattle.desk_rules.specs.declared.answers.verdict.Verdict.TheVariants.{Accept, Repeat};
 
 /// To be opposite is symmetric, and no instruction is its own opposite.
 pub fn opposites()

@@ -8,21 +8,22 @@
 //! specs/History.antt.
 #![tactic(auto)]
 
-mod entry;
-mod instructed;
-mod keyed;
+mod answers;
+mod history;
 mod laws;
 mod limits;
-mod messages;
-mod opposite;
-mod pair;
-mod replies;
-mod reply;
-mod same;
-mod standing;
-mod verdict;
 
-pub use entry::{Entry, Instructed, Movement, Payment, RunRule, Sender};
+pub use answers::messages::{pairing_advice, settlement_confirmation};
+pub use answers::replies::{
+    command_reply, message_reply, question_refused, refused_reply, run_reply,
+};
+pub use answers::reply::{Kept, Notice, Reply, Sent, Text};
+pub use answers::verdict::{Refusal, Verdict};
+pub use history::entry::{Entry, Instructed, Movement, Payment, RunRule, Sender};
+pub use history::opposite::are_opposite;
+pub use history::pair::{Lack, Pair, Place, Settled};
+pub use history::same::same_entry;
+pub use history::standing::{Standing, State};
 pub use laws::{
     accepted_fronts, accepted_once, adds_up, both_legs, cancelled_for_good, cancelled_once,
     confirmed_changes, fronts, known_numbers, never_negative, nothing_else_changes, nothing_left,
@@ -31,11 +32,3 @@ pub use laws::{
     stands_as_accepted,
 };
 pub use limits::{MOST_ENTRIES, MOST_PAID, MOST_QUANTITY, MOST_SENT, SENT_A_PAIR};
-pub use messages::{pairing_advice, settlement_confirmation};
-pub use opposite::are_opposite;
-pub use pair::{Lack, Pair, Place, Settled};
-pub use replies::{command_reply, message_reply, question_refused, refused_reply, run_reply};
-pub use reply::{Kept, Notice, Reply, Sent, Text};
-pub use same::same_entry;
-pub use standing::{Standing, State};
-pub use verdict::{Refusal, Verdict};

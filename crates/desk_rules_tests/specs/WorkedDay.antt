@@ -10,13 +10,13 @@ use Rattle.desk_msg.specs.declared.instruction.Cash.{Cash}
 use Rattle.desk_msg.specs.declared.instruction.Kind.TheVariants.{Unit as Units}
 use Rattle.desk_msg.specs.declared.instruction.Instruction.{Instruction}
 use Rattle.desk_msg.specs.declared.instruction.CancelOrder.{CancelOrder}
-use Rattle.desk_rules.specs.declared.entry.RunRule.TheVariants.{Passes}
-use Rattle.desk_rules.specs.declared.entry.Movement.{Movement}
-use Rattle.desk_rules.specs.declared.entry.Payment.{Payment}
-use Rattle.desk_rules.specs.declared.entry.Entry.{Entry}
-use Rattle.desk_rules.specs.declared.entry.Entry.TheVariants.{Participant, Account, Security, Issue, PayIn, Instruct, Cancel, Run}
+use Rattle.desk_rules.specs.declared.history.entry.RunRule.TheVariants.{Passes}
+use Rattle.desk_rules.specs.declared.history.entry.Movement.{Movement}
+use Rattle.desk_rules.specs.declared.history.entry.Payment.{Payment}
+use Rattle.desk_rules.specs.declared.history.entry.Entry.{Entry}
+use Rattle.desk_rules.specs.declared.history.entry.Entry.TheVariants.{Participant, Account, Security, Issue, PayIn, Instruct, Cancel, Run}
 use Rattle.desk_rules.specs.declared.limits.TheConstants.{MOST_PAID, MOST_QUANTITY}
-use Rattle.desk_rules.specs.declared.pair.Pair.{Pair}
+use Rattle.desk_rules.specs.declared.history.pair.Pair.{Pair}
 use Rattle.desk_rules.specs.Books.{Books}
 use Rattle.desk_rules.specs.Confirmations.{Confirmation}
 

@@ -1,6 +1,6 @@
 -- Whether an entry is added to a register, and what comes of it.
 use Rattle.std.specs.Prelude.{◌≡◌, Bool, true, false, [], None}
-use Rattle.desk_rules.specs.declared.entry.Entry.{Entry}
+use Rattle.desk_rules.specs.declared.history.entry.Entry.{Entry}
 use Rattle.desk_rules.specs.Content.{Content, history_of}
 use Rattle.desk_rules.specs.Reply.{untyped_reply}
 use Rattle.desk_rules.specs.History.{sender_of}

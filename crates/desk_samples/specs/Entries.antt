@@ -7,11 +7,11 @@ use Rattle.desk_codes.specs.Account.{IsAccount}
 use Rattle.desk_codes.specs.CheckDigit.{IsIsin}
 use Rattle.desk_codes.specs.Isin.{ReadsIsin}
 use Rattle.desk_codes.specs.Day.{IsDay}
-use Rattle.desk_rules.specs.declared.entry.Movement.{Movement}
-use Rattle.desk_rules.specs.declared.entry.Entry.{Entry}
-use Rattle.desk_rules.specs.declared.entry.Entry.TheVariants.{Issue, Redeem}
-use Rattle.desk_msg.specs.declared.refusal.ReadFault.{ReadFault}
-use Rattle.desk_msg.specs.declared.refusal.ReadFault.TheVariants as reads
+use Rattle.desk_rules.specs.declared.history.entry.Movement.{Movement}
+use Rattle.desk_rules.specs.declared.history.entry.Entry.{Entry}
+use Rattle.desk_rules.specs.declared.history.entry.Entry.TheVariants.{Issue, Redeem}
+use Rattle.desk_msg.specs.declared.reading.refusal.ReadFault.{ReadFault}
+use Rattle.desk_msg.specs.declared.reading.refusal.ReadFault.TheVariants as reads
 use Rattle.desk_samples.specs.declared.entries.EntryFault.{EntryFault}
 use Rattle.desk_samples.specs.declared.entries.EntryFault.TheVariants as faults
 

@@ -8,11 +8,11 @@ use Rattle.desk_msg.specs.declared.mt.Mt.TheVariants.{Mt540, Mt541, Mt542, Mt543
 use Rattle.desk_msg.specs.declared.instruction.CancelOrder.{CancelOrder}
 use Rattle.desk_msg.specs.declared.instruction.Instruction.{Instruction}
 use Rattle.desk_msg.specs.declared.instruction.Message.TheVariants as messages
-use Rattle.desk_msg.specs.declared.refusal.ReadFault.TheVariants.{Refused}
+use Rattle.desk_msg.specs.declared.reading.refusal.ReadFault.TheVariants.{Refused}
 use Rattle.desk_msg.specs.MessageType.{is_delivery, is_instruction}
 use Rattle.desk_msg.specs.Refused.{ReadsText}
-use Rattle.desk_rules.specs.declared.entry.Entry.{Entry}
-use Rattle.desk_rules.specs.declared.entry.Entry.TheVariants.{Instruct}
+use Rattle.desk_rules.specs.declared.history.entry.Entry.{Entry}
+use Rattle.desk_rules.specs.declared.history.entry.Entry.TheVariants.{Instruct}
 use Rattle.desk_samples.specs.declared.entries.EntryFault.{EntryFault}
 use Rattle.desk_samples.specs.declared.entries.EntryFault.TheVariants as faults
 use Rattle.desk_samples.specs.declared.entries.InstructionTexts.{InstructionTexts}

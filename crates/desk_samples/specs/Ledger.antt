@@ -1,8 +1,8 @@
 -- What came of an entry that a ledger was given.
 use Rattle.std.specs.Prelude.{◌≡◌, ℕ, Bool, true, false, Result, Ok, Err}
-use Rattle.desk_rules.specs.declared.entry.Entry.{Entry}
-use Rattle.desk_rules.specs.declared.reply.Reply.{Reply}
-use Rattle.desk_rules.specs.declared.verdict.Verdict.TheVariants.{Accept, Repeat, Refuse}
+use Rattle.desk_rules.specs.declared.history.entry.Entry.{Entry}
+use Rattle.desk_rules.specs.declared.answers.reply.Reply.{Reply}
+use Rattle.desk_rules.specs.declared.answers.verdict.Verdict.TheVariants.{Accept, Repeat, Refuse}
 use Rattle.desk_rules.specs.Books.{Books}
 use Rattle.desk_rules.specs.Verdict.{IsVerdict}
 use Rattle.desk_register.specs.declared.register.Fault.{Fault}

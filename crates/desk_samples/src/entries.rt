@@ -1,7 +1,7 @@
 //! Codes, entries and instructions from the texts that name them.
 ghost use Rattle.std.specs.Prelude.{◌≡◌, ◌<◌, ◌≤◌, [], ◌∷◌, IfErr, IfOk, string_bytes};
 ghost use Rattle.desk_codes.specs.Bic.{party_of};
-ghost use Rattle.desk_rules.specs.declared.entry.RunRule.TheVariants.{Passes};
+ghost use Rattle.desk_rules.specs.declared.history.entry.RunRule.TheVariants.{Passes};
 ghost use Rattle.desk_samples.specs.Entries.{Issues, IsMovementOf, Redeems, IsMadeOf, account_text, bic_text, day_text, isin_text, reference_text};
 ghost use Rattle.desk_samples.specs.Instructed.{Instructs, IsInstructed, agent_of, free_delivery, free_receipt, message_text, paid, texts_seen};
 ghost use Rattle.desk_rules.specs.declared.limits.TheConstants.{MOST_QUANTITY};

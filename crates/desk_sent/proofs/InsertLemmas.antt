@@ -7,7 +7,7 @@ use Rattle.sqlite.specs.Edit.{edit_of, put_all}
 use Rattle.sqlite.specs.Rowids.TheVariants.{Chosen}
 use Rattle.sqlite.specs.Tree.{put_row}
 use Rattle.sqlite.specs.State.{State, Executes}
-use Rattle.desk_rules.specs.declared.reply.Sent.{Sent}
+use Rattle.desk_rules.specs.declared.answers.reply.Sent.{Sent}
 use Rattle.desk_tables.specs.Schema.{desk_schema, sent_table, version_table}
 use Rattle.desk_tables.specs.Ends.{SparesOthers}
 use Rattle.desk_tables.proofs.ValueLemmas.{cast_int, cast_null}

@@ -2,7 +2,7 @@
 
 ghost use Rattle.std.specs.Prelude.{◌≡◌, ◌+◌, ◌<◌, ◌^◌, ℕ, List, length, IfOk, OnOk};
 ghost use Rattle.sqlite.specs.Held.{state};
-ghost use Rattle.desk_rules.specs.declared.reply.Sent.{Sent as Message};
+ghost use Rattle.desk_rules.specs.declared.answers.reply.Sent.{Sent as Message};
 ghost use Rattle.desk_rules.specs.Questions.{confirms_it, sent_at};
 ghost use Rattle.std.specs.List.{find};
 ghost use Rattle.desk_tables.specs.Ends.{IfSound, IsLook, IsWrite};

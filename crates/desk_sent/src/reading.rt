@@ -3,7 +3,7 @@
 ghost use Rattle.std.specs.Prelude.{◌≡◌, ◌<◌, ◌^◌, ◌∷◌, [], ℕ, pos, Option, IfOk};
 ghost use Rattle.sqlite_value.specs.Order.{column};
 ghost use Rattle.sqlite.specs.declared.types.Value.TheVariants.{Text as Words, Int};
-ghost use Rattle.desk_rules.specs.declared.reply.Sent.{Sent as Message};
+ghost use Rattle.desk_rules.specs.declared.answers.reply.Sent.{Sent as Message};
 ghost use Rattle.desk_sent.specs.Messages.{IsMessage, IsNumber, shown};
 
 use desk_codes::Bic;

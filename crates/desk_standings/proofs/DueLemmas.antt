@@ -21,7 +21,7 @@ use Rattle.sqlite_trees.proofs.ListLemmas.{all-filter, all-permutation, ascendin
 use Rattle.sqlite.specs.Effect.{Database}
 use Rattle.sqlite.specs.State.{State, Executes, Shown}
 use Rattle.sqlite.proofs.Callers.{reads_as}
-use Rattle.desk_rules.specs.declared.pair.Place.{Place}
+use Rattle.desk_rules.specs.declared.history.pair.Place.{Place}
 use Rattle.desk_tables.specs.Schema.{desk_schema, due_table}
 use Rattle.desk_standings.specs.Standings.{number_of_row}
 use Rattle.desk_standings.specs.Due.{due_at, due_row, is_due_among, is_due_in, place_numbered, same_place, AreDue, DueChanged, IsDueRow, IsFirstShown}

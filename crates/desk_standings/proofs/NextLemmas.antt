@@ -3,7 +3,7 @@ use Rattle.std.proofs.Common.{◌≡◌, inl, inr, ℕ, ◌+◌, ◌*◌, ◌/�
 use Rattle.std.proofs.lemmas.Bool.{cases_Bool, le-ltb, eqb-true}
 use Rattle.sqlite.specs.Order.{Row}
 use Rattle.sqlite.specs.Effect.{Database}
-use Rattle.desk_rules.specs.declared.pair.Place.{Place}
+use Rattle.desk_rules.specs.declared.history.pair.Place.{Place}
 use Rattle.desk_rules.specs.Settlement.{is_before, is_past}
 use Rattle.desk_rules.specs.Content.{Content}
 use Rattle.desk_register.specs.Looked.{IsDuePairAfter, IsMatchedPair}

@@ -5,8 +5,8 @@ use Rattle.sqlite.specs.Order.{Row}
 use Rattle.sqlite.specs.declared.types.Value.TheVariants.{Int}
 use Rattle.sqlite.specs.declared.error.Error.{Error}
 use Rattle.sqlite.specs.State.{State, Executes, Shown}
-use Rattle.desk_rules.specs.declared.standing.State.TheVariants.{NoInstruction}
-use Rattle.desk_rules.specs.declared.standing.Standing.{Standing}
+use Rattle.desk_rules.specs.declared.history.standing.State.TheVariants.{NoInstruction}
+use Rattle.desk_rules.specs.declared.history.standing.Standing.{Standing}
 use Rattle.desk_register.specs.Changes.{standing_at}
 use Rattle.desk_tables.specs.Schema.{desk_schema}
 use Rattle.desk_standings.specs.Standings.{fresh_standing, mate_written, standing_in, state_written, AreStandings, IsStandingShown, StandingsChanged, Written}

@@ -26,8 +26,8 @@ use Rattle.sqlite.specs.Effect.{Database}
 use Rattle.sqlite.specs.Listing.{understood}
 use Rattle.sqlite.specs.State.{State, Executes, Shown}
 use Rattle.sqlite.proofs.Callers.{IsPlain, command_of, reads_as, one_permutation}
-use Rattle.desk_rules.specs.declared.standing.State.TheVariants.{NoInstruction}
-use Rattle.desk_rules.specs.declared.standing.Standing.{Standing}
+use Rattle.desk_rules.specs.declared.history.standing.State.TheVariants.{NoInstruction}
+use Rattle.desk_rules.specs.declared.history.standing.Standing.{Standing}
 use Rattle.desk_rules.specs.Standing.{no_standing}
 use Rattle.desk_register.specs.Changes.{standing_at}
 use Rattle.desk_tables.specs.Schema.{desk_schema, state_table}

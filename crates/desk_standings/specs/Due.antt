@@ -6,7 +6,7 @@ use Rattle.sqlite.specs.declared.types.Value.TheVariants.{Null, Int}
 use Rattle.sqlite.specs.Order.{Row}
 use Rattle.sqlite.specs.Tree.{IsTable}
 use Rattle.sqlite.specs.Effect.{Database}
-use Rattle.desk_rules.specs.declared.pair.Place.{Place}
+use Rattle.desk_rules.specs.declared.history.pair.Place.{Place}
 use Rattle.desk_rules.specs.Settlement.{is_before, is_past}
 use Rattle.desk_tables.specs.Ends.{SparesOthers}
 use Rattle.desk_standings.specs.Standings.{number_of_row}

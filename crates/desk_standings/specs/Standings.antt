@@ -6,10 +6,10 @@ use Rattle.sqlite.specs.declared.types.Value.TheVariants.{Null, Int}
 use Rattle.sqlite.specs.Order.{Row, column}
 use Rattle.sqlite.specs.Tree.{IsTable, rowid}
 use Rattle.sqlite.specs.Effect.{Database}
-use Rattle.desk_msg.specs.declared.status.Reason.TheVariants.{Future, Lack, Money}
-use Rattle.desk_rules.specs.declared.standing.State.{State}
-use Rattle.desk_rules.specs.declared.standing.State.TheVariants.{NoInstruction, Unmatched, Matched, Cancelled, Settled}
-use Rattle.desk_rules.specs.declared.standing.Standing.{Standing}
+use Rattle.desk_msg.specs.declared.writing.status.Reason.TheVariants.{Future, Lack, Money}
+use Rattle.desk_rules.specs.declared.history.standing.State.{State}
+use Rattle.desk_rules.specs.declared.history.standing.State.TheVariants.{NoInstruction, Unmatched, Matched, Cancelled, Settled}
+use Rattle.desk_rules.specs.declared.history.standing.Standing.{Standing}
 use Rattle.desk_rules.specs.Standing.{no_standing}
 use Rattle.desk_tables.specs.Ends.{SparesOthers}
 

@@ -2,7 +2,7 @@
 
 ghost use Rattle.std.specs.Prelude.{◌≡◌, ◌≤◌, ◌==◌, ℕ, IfOk};
 ghost use Rattle.desk_standings.specs.Standings.{state_code, reason_code, state_written, mate_written, columns_of, standing_written, IsStandingShown, Written};
-ghost use Rattle.desk_rules.specs.declared.standing.Standing.{Standing};
+ghost use Rattle.desk_rules.specs.declared.history.standing.Standing.{Standing};
 ghost use Rattle.desk_rules.specs.Standing.{no_standing};
 
 use desk_msg::Reason;

@@ -15,8 +15,8 @@ use Rattle.desk_codes.specs.Currency.{letters_of}
 use Rattle.desk_codes.specs.declared.currency.Ccy.{Ccy}
 use Rattle.desk_register.specs.Changes.{cash_after, cash_at, moved_to, positions_after}
 use Rattle.desk_register.proofs.CaseLemmas.{by_bool, same_bytes}
-use Rattle.desk_rules.specs.declared.entry.Entry.{Entry}
-use Rattle.desk_rules.specs.declared.entry.Entry.TheVariants.{Participant, Account, Security, Issue, Redeem, PayIn, PayOut, Instruct, Cancel, Run}
+use Rattle.desk_rules.specs.declared.history.entry.Entry.{Entry}
+use Rattle.desk_rules.specs.declared.history.entry.Entry.TheVariants.{Participant, Account, Security, Issue, Redeem, PayIn, PayOut, Instruct, Cancel, Run}
 use Rattle.desk_rules.specs.Balances.{issued_by, movement_of, quantity_if, redeemed_by, same_ccy}
 use Rattle.desk_rules.specs.Content.{CashBalances, Positions}
 use Rattle.desk_rules.proofs.Conservation.{if_false, if_true}

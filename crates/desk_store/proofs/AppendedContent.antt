@@ -5,8 +5,8 @@ use Rattle.desk_amounts.specs.Amounts.{AreAmounts}
 use Rattle.desk_codes.specs.declared.currency.Ccy.{Ccy}
 use Rattle.desk_entries.specs.Entries.{AreEntries, with_entry}
 use Rattle.desk_register.specs.Changes.{CanAppend, appended, cash_after, positions_after}
-use Rattle.desk_rules.specs.declared.entry.Entry.{Entry}
-use Rattle.desk_rules.specs.declared.reply.Reply.{Reply}
+use Rattle.desk_rules.specs.declared.history.entry.Entry.{Entry}
+use Rattle.desk_rules.specs.declared.answers.reply.Reply.{Reply}
 use Rattle.desk_rules.specs.Content.{history_of}
 use Rattle.desk_sent.proofs.TableLemmas.{same_sent}
 use Rattle.desk_standings.proofs.DueLemmas.{same_due, same_due_in}

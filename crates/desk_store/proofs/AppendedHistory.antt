@@ -3,17 +3,17 @@ use Rattle.std.proofs.Common.{◌≡◌, ◌≢◌, ◌⊎◌, inl, inr, refl, s
 use Rattle.std.specs.Prelude.{option_and_then}
 use Rattle.std.proofs.lemmas.Bool.{cases_Bool, cases_lt}
 use Rattle.std.proofs.lemmas.List.{map-append, length-map}
-use Rattle.desk_rules.specs.declared.entry.Entry.{Entry}
-use Rattle.desk_rules.specs.declared.entry.Entry.TheVariants.{Participant, Account, Security, Issue, Redeem, PayIn, PayOut, Instruct, Cancel, Run}
-use Rattle.desk_rules.specs.declared.entry.Instructed.{Instructed}
-use Rattle.desk_rules.specs.declared.pair.Place.{Place}
-use Rattle.desk_rules.specs.declared.reply.Kept.{Kept}
-use Rattle.desk_rules.specs.declared.reply.Reply.{Reply}
-use Rattle.desk_rules.specs.declared.standing.Standing.{Standing}
-use Rattle.desk_rules.specs.declared.standing.State.{State}
-use Rattle.desk_rules.specs.declared.standing.State.TheVariants.{Cancelled, Matched, NoInstruction, Settled, Unmatched}
+use Rattle.desk_rules.specs.declared.history.entry.Entry.{Entry}
+use Rattle.desk_rules.specs.declared.history.entry.Entry.TheVariants.{Participant, Account, Security, Issue, Redeem, PayIn, PayOut, Instruct, Cancel, Run}
+use Rattle.desk_rules.specs.declared.history.entry.Instructed.{Instructed}
+use Rattle.desk_rules.specs.declared.history.pair.Place.{Place}
+use Rattle.desk_rules.specs.declared.answers.reply.Kept.{Kept}
+use Rattle.desk_rules.specs.declared.answers.reply.Reply.{Reply}
+use Rattle.desk_rules.specs.declared.history.standing.Standing.{Standing}
+use Rattle.desk_rules.specs.declared.history.standing.State.{State}
+use Rattle.desk_rules.specs.declared.history.standing.State.TheVariants.{Cancelled, Matched, NoInstruction, Settled, Unmatched}
 use Rattle.desk_rules.specs.Content.{Content, history_of}
-use Rattle.desk_rules.specs.declared.entry.Sender.TheVariants.{Participant as FromParticipant}
+use Rattle.desk_rules.specs.declared.history.entry.Sender.TheVariants.{Participant as FromParticipant}
 use Rattle.desk_rules.specs.History.{instructed, instruction_at, number_of_key}
 use Rattle.desk_rules.specs.Standing.{no_standing}
 use Rattle.desk_rules.specs.Verdict.{if_of_type}

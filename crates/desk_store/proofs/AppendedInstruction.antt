@@ -6,10 +6,10 @@ use Rattle.desk_amounts.proofs.AmountLemmas.{SameAmounts, same_amounts}
 use Rattle.desk_entries.specs.Entries.{EntryAdded, with_entry}
 use Rattle.desk_entries.proofs.SameLemmas.{same_entries}
 use Rattle.desk_register.specs.Changes.{CanAppend, appended, standing_at}
-use Rattle.desk_rules.specs.declared.entry.Entry.{Entry}
-use Rattle.desk_rules.specs.declared.entry.Entry.TheVariants.{Instruct}
-use Rattle.desk_rules.specs.declared.entry.Instructed.{Instructed}
-use Rattle.desk_rules.specs.declared.reply.Reply.{Reply}
+use Rattle.desk_rules.specs.declared.history.entry.Entry.{Entry}
+use Rattle.desk_rules.specs.declared.history.entry.Entry.TheVariants.{Instruct}
+use Rattle.desk_rules.specs.declared.history.entry.Instructed.{Instructed}
+use Rattle.desk_rules.specs.declared.answers.reply.Reply.{Reply}
 use Rattle.desk_rules.specs.Content.{Content}
 use Rattle.desk_standings.proofs.StandingLemmas.{same_standings, same_standing_in}
 use Rattle.desk_standings.specs.Standings.{AreStandings, StandingsChanged, fresh_standing, standing_in}

@@ -12,11 +12,11 @@ use Rattle.desk_codes.specs.Currency.{letters_of}
 use Rattle.desk_entries.specs.Entries.{EntryAdded, with_entry}
 use Rattle.desk_entries.proofs.SameLemmas.{same_entries}
 use Rattle.desk_register.specs.Changes.{CanAppend, appended, cash_at, moved_to}
-use Rattle.desk_rules.specs.declared.entry.Entry.TheVariants.{Issue, Redeem, PayIn, PayOut}
-use Rattle.desk_rules.specs.declared.entry.Movement.{Movement}
-use Rattle.desk_rules.specs.declared.entry.Payment.{Payment}
+use Rattle.desk_rules.specs.declared.history.entry.Entry.TheVariants.{Issue, Redeem, PayIn, PayOut}
+use Rattle.desk_rules.specs.declared.history.entry.Movement.{Movement}
+use Rattle.desk_rules.specs.declared.history.entry.Payment.{Payment}
 use Rattle.desk_rules.specs.declared.limits.TheConstants.{MOST_PAID, MOST_QUANTITY}
-use Rattle.desk_rules.specs.declared.reply.Reply.{Reply}
+use Rattle.desk_rules.specs.declared.answers.reply.Reply.{Reply}
 use Rattle.desk_rules.specs.Balances.{quantity_if, same_ccy}
 use Rattle.desk_tables.specs.Ends.{SparesOthers}
 use Rattle.desk_tables.specs.Schema.{desk_schema}

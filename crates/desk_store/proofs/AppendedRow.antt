@@ -5,9 +5,9 @@ use Rattle.desk_amounts.specs.Amounts.{AreAmounts}
 use Rattle.desk_amounts.proofs.AmountLemmas.{SameAmounts, same_amounts}
 use Rattle.desk_entries.specs.Entries.{AreEntries, EntryAdded, with_entry}
 use Rattle.desk_register.specs.Changes.{CanAppend, appended, first_standing, requested_by, with_request}
-use Rattle.desk_rules.specs.declared.entry.Entry.{Entry}
-use Rattle.desk_rules.specs.declared.entry.Entry.TheVariants.{Participant, Account, Security, Issue, Redeem, PayIn, PayOut, Instruct, Cancel, Run}
-use Rattle.desk_rules.specs.declared.reply.Reply.{Reply}
+use Rattle.desk_rules.specs.declared.history.entry.Entry.{Entry}
+use Rattle.desk_rules.specs.declared.history.entry.Entry.TheVariants.{Participant, Account, Security, Issue, Redeem, PayIn, PayOut, Instruct, Cancel, Run}
+use Rattle.desk_rules.specs.declared.answers.reply.Reply.{Reply}
 use Rattle.desk_rules.specs.Content.{history_of}
 use Rattle.desk_rules.specs.History.{instructed}
 use Rattle.desk_standings.proofs.StandingLemmas.{same_standings, same_standing_in}

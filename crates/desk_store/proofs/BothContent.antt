@@ -4,15 +4,15 @@ use Rattle.std.proofs.lemmas.Bool.{cases_Bool, and_parts}
 use Rattle.sqlite.specs.Effect.{Database}
 use Rattle.sqlite.specs.declared.error.Error.{Error}
 use Rattle.desk_codes.specs.Number.{number_of}
-use Rattle.desk_msg.specs.declared.status.Reason.TheVariants.{Future}
+use Rattle.desk_msg.specs.declared.writing.status.Reason.TheVariants.{Future}
 use Rattle.desk_register.specs.Looked.{IsMatchedPair}
 use Rattle.desk_register.specs.Changes.{CanPair, paired, standing_at, standing_both}
 use Rattle.desk_rules.specs.Content.{Content, history_of}
-use Rattle.desk_rules.specs.declared.entry.Instructed.{Instructed}
-use Rattle.desk_rules.specs.declared.pair.Place.{Place}
-use Rattle.desk_rules.specs.declared.standing.Standing.{Standing}
-use Rattle.desk_rules.specs.declared.standing.State.{State}
-use Rattle.desk_rules.specs.declared.standing.State.TheVariants.{Matched}
+use Rattle.desk_rules.specs.declared.history.entry.Instructed.{Instructed}
+use Rattle.desk_rules.specs.declared.history.pair.Place.{Place}
+use Rattle.desk_rules.specs.declared.history.standing.Standing.{Standing}
+use Rattle.desk_rules.specs.declared.history.standing.State.{State}
+use Rattle.desk_rules.specs.declared.history.standing.State.TheVariants.{Matched}
 use Rattle.desk_rules.specs.History.{instruction_at}
 use Rattle.desk_rules.specs.Standing.{no_standing}
 use Rattle.desk_standings.specs.Due.{DueChanged, due_at, is_due_in, same_place}

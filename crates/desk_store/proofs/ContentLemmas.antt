@@ -7,14 +7,14 @@ use Rattle.desk_codes.specs.Currency.{letters_of}
 use Rattle.desk_codes.specs.declared.currency.Ccy.{Ccy}
 use Rattle.desk_rules.specs.Balances.{issued, paid_in, paid_out, redeemed}
 use Rattle.desk_rules.specs.Content.{CashBalances, Content, Positions, history_of}
-use Rattle.desk_rules.specs.declared.reply.Kept.{Kept}
-use Rattle.desk_rules.specs.declared.standing.Standing.{Standing}
-use Rattle.desk_rules.specs.declared.standing.State.TheVariants.{Matched}
-use Rattle.desk_rules.specs.declared.pair.Place.{Place}
+use Rattle.desk_rules.specs.declared.answers.reply.Kept.{Kept}
+use Rattle.desk_rules.specs.declared.history.standing.Standing.{Standing}
+use Rattle.desk_rules.specs.declared.history.standing.State.TheVariants.{Matched}
+use Rattle.desk_rules.specs.declared.history.pair.Place.{Place}
 use Rattle.desk_rules.specs.Facts.{accounts_of, is_participant, owner_of, participants_of}
 use Rattle.desk_rules.specs.History.{instruction_at}
 use Rattle.desk_register.specs.Looked.{IsMatchedPair, IsPaid, held_cash_of, held_of}
-use Rattle.desk_rules.specs.declared.reply.Sent.{Sent}
+use Rattle.desk_rules.specs.declared.answers.reply.Sent.{Sent}
 use Rattle.desk_store.specs.Content.{content_in}
 use Rattle.desk_store.specs.Holds.{AreTotals, outstanding_in, paid_in_table}
 

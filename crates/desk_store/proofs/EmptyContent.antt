@@ -16,8 +16,8 @@ use Rattle.desk_codes.specs.declared.currency.Ccy.{Ccy}
 use Rattle.desk_entries.proofs.SameLemmas.{no_entries}
 use Rattle.desk_register.specs.Changes.{empty_content}
 use Rattle.desk_register.specs.Looked.{IsPaid}
-use Rattle.desk_rules.specs.declared.pair.Place.{Place}
-use Rattle.desk_rules.specs.declared.entry.Instructed.{Instructed}
+use Rattle.desk_rules.specs.declared.history.pair.Place.{Place}
+use Rattle.desk_rules.specs.declared.history.entry.Instructed.{Instructed}
 use Rattle.desk_rules.specs.History.{instruction_at}
 use Rattle.desk_sent.specs.Version.{SetsVersion}
 use Rattle.desk_sent.proofs.TableLemmas.{none_sent}

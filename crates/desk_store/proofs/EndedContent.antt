@@ -3,15 +3,15 @@ use Rattle.std.proofs.Common.{◌≡◌, ◌≢◌, inl, inr, refl, sym, ap, sub
 use Rattle.std.proofs.lemmas.Bool.{cases_Bool}
 use Rattle.sqlite.specs.Effect.{Database}
 use Rattle.desk_codes.specs.Number.{number_of}
-use Rattle.desk_msg.specs.declared.status.Reason.{Reason}
+use Rattle.desk_msg.specs.declared.writing.status.Reason.{Reason}
 use Rattle.desk_register.specs.Looked.{IsMatchedPair}
 use Rattle.desk_register.specs.Changes.{CanCancelPair, IsPairAt, pair_cancelled, standing_both}
 use Rattle.desk_rules.specs.Content.{Content, history_of}
-use Rattle.desk_rules.specs.declared.entry.Instructed.{Instructed}
-use Rattle.desk_rules.specs.declared.pair.Place.{Place}
-use Rattle.desk_rules.specs.declared.standing.Standing.{Standing}
-use Rattle.desk_rules.specs.declared.standing.State.{State}
-use Rattle.desk_rules.specs.declared.standing.State.TheVariants.{Cancelled, Matched}
+use Rattle.desk_rules.specs.declared.history.entry.Instructed.{Instructed}
+use Rattle.desk_rules.specs.declared.history.pair.Place.{Place}
+use Rattle.desk_rules.specs.declared.history.standing.Standing.{Standing}
+use Rattle.desk_rules.specs.declared.history.standing.State.{State}
+use Rattle.desk_rules.specs.declared.history.standing.State.TheVariants.{Cancelled, Matched}
 use Rattle.desk_rules.specs.History.{instruction_at}
 use Rattle.desk_rules.specs.Standing.{no_standing}
 use Rattle.desk_standings.specs.Due.{DueChanged, due_at, is_due_in, same_place}

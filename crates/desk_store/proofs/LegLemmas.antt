@@ -11,7 +11,7 @@ use Rattle.desk_register.specs.declared.outcome.Outcome.TheVariants.{Settled}
 use Rattle.desk_register.proofs.CaseLemmas.{by_bool, same_bytes}
 use Rattle.desk_rules.specs.Balances.{same_ccy}
 use Rattle.desk_rules.specs.Content.{CashBalances, Positions}
-use Rattle.desk_rules.specs.declared.entry.Instructed.{Instructed}
+use Rattle.desk_rules.specs.declared.history.entry.Instructed.{Instructed}
 use Rattle.desk_amounts.specs.Amounts.{AreAmounts, amount_at}
 use Rattle.desk_amounts.specs.Changes.{SetsAmount, Takes}
 use Rattle.desk_amounts.specs.declared.key.AmountKey.TheVariants as keys

@@ -5,11 +5,11 @@ use Rattle.desk_amounts.specs.Holdings.{IsNextHolding, IsHeldAbove}
 use Rattle.desk_register.specs.declared.holding.Holding.{Holding}
 use Rattle.desk_register.specs.Looked.{HoldsAbove, IsAboveText, IsDue, IsDuePairAfter, IsFirstOpposite, IsHoldingAfter, IsLess, IsOppositeAt}
 use Rattle.desk_rules.specs.Content.{Content, history_of}
-use Rattle.desk_rules.specs.declared.entry.Instructed.{Instructed}
+use Rattle.desk_rules.specs.declared.history.entry.Instructed.{Instructed}
 use Rattle.desk_rules.specs.History.{instruction_at}
-use Rattle.desk_rules.specs.declared.standing.State.{State}
-use Rattle.desk_rules.specs.declared.standing.State.TheVariants.{Cancelled, Matched, NoInstruction, Settled, Unmatched}
-use Rattle.desk_rules.specs.declared.pair.Place.{Place}
+use Rattle.desk_rules.specs.declared.history.standing.State.{State}
+use Rattle.desk_rules.specs.declared.history.standing.State.TheVariants.{Cancelled, Matched, NoInstruction, Settled, Unmatched}
+use Rattle.desk_rules.specs.declared.history.pair.Place.{Place}
 use Rattle.desk_standings.specs.Due.{IsDueBy, IsNextDue}
 use Rattle.desk_unmatched.specs.Unmatched.{FindsFirst, IsFirstNoted, IsOppositeNoted}
 use Rattle.desk_store.specs.Content.{content_in}

@@ -4,12 +4,12 @@ use Rattle.sqlite.specs.Effect.{Database}
 use Rattle.sqlite.specs.State.{State}
 use Rattle.sqlite.specs.declared.error.Error.{Error}
 use Rattle.desk_codes.specs.Number.{number_of}
-use Rattle.desk_msg.specs.declared.status.Reason.TheVariants.{Future}
+use Rattle.desk_msg.specs.declared.writing.status.Reason.TheVariants.{Future}
 use Rattle.desk_register.specs.Changes.{CanCancelPair, CanPair, pair_cancelled, paired}
 use Rattle.desk_rules.specs.Content.{history_of}
-use Rattle.desk_rules.specs.declared.entry.Instructed.{Instructed}
-use Rattle.desk_rules.specs.declared.standing.State as stands
-use Rattle.desk_rules.specs.declared.standing.State.TheVariants.{Cancelled, Matched}
+use Rattle.desk_rules.specs.declared.history.entry.Instructed.{Instructed}
+use Rattle.desk_rules.specs.declared.history.standing.State as stands
+use Rattle.desk_rules.specs.declared.history.standing.State.TheVariants.{Cancelled, Matched}
 use Rattle.desk_rules.specs.History.{instruction_at}
 use Rattle.desk_standings.specs.Due.{AreDue, DueChanged, due_at, is_due_in}
 use Rattle.desk_standings.proofs.DueLemmas.{same_due}

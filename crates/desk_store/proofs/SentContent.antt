@@ -7,7 +7,7 @@ use Rattle.sqlite.specs.Effect.{Database}
 use Rattle.desk_amounts.proofs.AmountLemmas.{SameAmounts, same_amounts}
 use Rattle.desk_register.specs.Changes.{with_sent}
 use Rattle.desk_tables.specs.Schema.{desk_schema}
-use Rattle.desk_rules.specs.declared.reply.Sent.{Sent}
+use Rattle.desk_rules.specs.declared.answers.reply.Sent.{Sent}
 use Rattle.desk_entries.proofs.SameLemmas.{same_entries}
 use Rattle.desk_sent.specs.Messages.{AreSent, Adds, rows_after, sent_to, stored}
 use Rattle.desk_standings.proofs.DueLemmas.{same_due, same_due_in}

@@ -6,9 +6,9 @@ use Rattle.desk_amounts.proofs.AmountLemmas.{same_amounts}
 use Rattle.desk_register.specs.Looked.{IsMatchedPair}
 use Rattle.desk_register.specs.Changes.{CanCancel, cancelled, standing_at}
 use Rattle.desk_rules.specs.Content.{Content, history_of}
-use Rattle.desk_rules.specs.declared.pair.Place.{Place}
-use Rattle.desk_rules.specs.declared.standing.Standing.{Standing}
-use Rattle.desk_rules.specs.declared.standing.State.TheVariants.{Cancelled, Unmatched}
+use Rattle.desk_rules.specs.declared.history.pair.Place.{Place}
+use Rattle.desk_rules.specs.declared.history.standing.Standing.{Standing}
+use Rattle.desk_rules.specs.declared.history.standing.State.TheVariants.{Cancelled, Unmatched}
 use Rattle.desk_rules.specs.History.{instruction_at}
 use Rattle.desk_rules.specs.Standing.{no_standing}
 use Rattle.desk_entries.proofs.SameLemmas.{same_entries}

@@ -2,13 +2,13 @@
 use Rattle.std.proofs.Common.{◌≡◌, refl, sym, ap, subst, ◌∙◌, ℕ, ◌<◌, Some}
 use Rattle.sqlite.specs.Effect.{Database}
 use Rattle.desk_codes.specs.Number.{number_of}
-use Rattle.desk_msg.specs.declared.status.Reason.TheVariants.{Lack, Money as LackOfMoney}
+use Rattle.desk_msg.specs.declared.writing.status.Reason.TheVariants.{Lack, Money as LackOfMoney}
 use Rattle.desk_register.specs.Changes.{CanSettle, IsPairAt, SidesFit, TriesPair, TriesSides, standing_both}
 use Rattle.desk_register.specs.declared.outcome.Outcome.{Outcome}
 use Rattle.desk_register.specs.declared.outcome.Outcome.TheVariants.{Lacks, Settled}
 use Rattle.desk_rules.specs.Content.{Content, history_of}
-use Rattle.desk_rules.specs.declared.entry.Instructed.{Instructed}
-use Rattle.desk_rules.specs.declared.pair.Lack.TheVariants.{Money, Securities}
+use Rattle.desk_rules.specs.declared.history.entry.Instructed.{Instructed}
+use Rattle.desk_rules.specs.declared.history.pair.Lack.TheVariants.{Money, Securities}
 use Rattle.desk_rules.specs.History.{instruction_at}
 use Rattle.desk_tables.specs.Schema.{desk_schema}
 use Rattle.desk_store.specs.Content.{content_in}

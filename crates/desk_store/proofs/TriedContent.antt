@@ -13,8 +13,8 @@ use Rattle.desk_register.specs.declared.outcome.Outcome.TheVariants.{Lacks, Sett
 use Rattle.desk_register.proofs.CaseLemmas.{by_bool, same_bytes}
 use Rattle.desk_rules.specs.Balances.{delivering, quantity_if, receiving, same_ccy}
 use Rattle.desk_rules.specs.Content.{CashBalances, Content, Positions, history_of}
-use Rattle.desk_rules.specs.declared.entry.Entry.{Entry}
-use Rattle.desk_rules.specs.declared.entry.Instructed.{Instructed}
+use Rattle.desk_rules.specs.declared.history.entry.Entry.{Entry}
+use Rattle.desk_rules.specs.declared.history.entry.Instructed.{Instructed}
 use Rattle.desk_rules.specs.Facts.{accounts_of, is_participant, owner_of, participants_of}
 use Rattle.desk_entries.proofs.SameLemmas.{same_entries}
 use Rattle.desk_sent.proofs.TableLemmas.{same_sent}

@@ -1,6 +1,6 @@
 -- Entries that move nothing and ask for nothing: only their row is added.
-use Rattle.desk_rules.specs.declared.entry.Entry.{Entry}
-use Rattle.desk_rules.specs.declared.entry.Entry.TheVariants.{Participant, Account, Security, Run}
+use Rattle.desk_rules.specs.declared.history.entry.Entry.{Entry}
+use Rattle.desk_rules.specs.declared.history.entry.Entry.TheVariants.{Participant, Account, Security, Run}
 
 abbrev pub IsAlone : Entry → Type 0
 IsAlone (Participant reference bic) = Unit {0}

@@ -2,7 +2,7 @@
 use Rattle.std.specs.Prelude.{ℕ}
 use Rattle.sqlite.specs.Effect.{Database}
 use Rattle.desk_register.specs.Changes.{standing_both}
-use Rattle.desk_rules.specs.declared.standing.State.{State}
+use Rattle.desk_rules.specs.declared.history.standing.State.{State}
 use Rattle.desk_standings.specs.Standings.{StandingsChanged, standing_in}
 use Rattle.desk_tables.specs.Ends.{SparesOthers}
 use Rattle.desk_unmatched.specs.Unmatched.{AreUnmatched, Noted, forgetting}

@@ -1,7 +1,7 @@
 -- Each account and each participant is registered once, and only what is registered instructs.
 use Rattle.std.specs.Prelude.{◌≡◌, ℕ, Bool, true, List, bytes_eq, is_some, sum_by, Some}
-use Rattle.desk_rules.specs.declared.entry.Entry.{Entry}
-use Rattle.desk_rules.specs.declared.entry.Instructed.{Instructed}
+use Rattle.desk_rules.specs.declared.history.entry.Entry.{Entry}
+use Rattle.desk_rules.specs.declared.history.entry.Instructed.{Instructed}
 use Rattle.desk_rules.specs.Balances.{quantity_if}
 use Rattle.desk_rules.specs.Facts.{accounts_of, is_participant, owner_of, participants_of}
 use Rattle.desk_rules.specs.History.{instruction_at}

@@ -4,16 +4,16 @@ use Rattle.sqlite.specs.declared.error.Error.{Error}
 use Rattle.sqlite.specs.Effect.{Database}
 use Rattle.sqlite.specs.State.{State, HasCleanDisk}
 use Rattle.desk_msg.specs.declared.instruction.Cash.{Cash}
-use Rattle.desk_msg.specs.declared.status.Reason.TheVariants.{Lack, Money as LackOfMoney}
+use Rattle.desk_msg.specs.declared.writing.status.Reason.TheVariants.{Lack, Money as LackOfMoney}
 use Rattle.desk_register.specs.Changes.{HasCash, LacksCash, cash_at, delivered, delivering_side, moved_to, paid_over, receiving_side, standing_both}
 use Rattle.desk_register.specs.declared.outcome.Outcome.{Outcome}
 use Rattle.desk_register.specs.declared.outcome.Outcome.TheVariants.{Lacks}
 use Rattle.desk_register.specs.declared.outcome.Outcome.TheVariants as outcomes
 use Rattle.desk_rules.specs.Content.{CashBalances, Content, Positions}
-use Rattle.desk_rules.specs.declared.entry.Instructed.{Instructed}
-use Rattle.desk_rules.specs.declared.pair.Lack.TheVariants.{Securities, Money}
-use Rattle.desk_rules.specs.declared.standing.State.{State as Stand}
-use Rattle.desk_rules.specs.declared.standing.State.TheVariants.{Matched, Settled}
+use Rattle.desk_rules.specs.declared.history.entry.Instructed.{Instructed}
+use Rattle.desk_rules.specs.declared.history.pair.Lack.TheVariants.{Securities, Money}
+use Rattle.desk_rules.specs.declared.history.standing.State.{State as Stand}
+use Rattle.desk_rules.specs.declared.history.standing.State.TheVariants.{Matched, Settled}
 use Rattle.desk_amounts.specs.Amounts.{AreAmounts, amount_in}
 use Rattle.desk_amounts.specs.declared.key.Ledger.TheVariants.{Total}
 use Rattle.desk_standings.specs.Due.{DueChanged, due_at, is_due_in}

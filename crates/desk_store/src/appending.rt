@@ -1,8 +1,8 @@
 //! One entry more, with what it moves.
 ghost use Rattle.std.specs.Prelude.{◌≡◌, ℕ, ◌+◌, ◌-◌, ◌<◌, ◌≤◌, ◌^◌, List, length, IfOk, OnOk};
 ghost use Rattle.sqlite.specs.Held.{state};
-ghost use Rattle.desk_rules.specs.declared.reply.Kept.{Kept};
-ghost use Rattle.desk_rules.specs.declared.entry.Entry.TheVariants.{Cancel, Instruct, Issue, PayIn, PayOut, Redeem};
+ghost use Rattle.desk_rules.specs.declared.answers.reply.Kept.{Kept};
+ghost use Rattle.desk_rules.specs.declared.history.entry.Entry.TheVariants.{Cancel, Instruct, Issue, PayIn, PayOut, Redeem};
 ghost use Rattle.desk_tables.specs.Ends.{IfSound, IsWrite};
 ghost use Rattle.desk_amounts.specs.Amounts.{AreAmounts};
 ghost use Rattle.desk_amounts.specs.Changes.{SetsAmount, had};

@@ -5,7 +5,7 @@ ghost use Rattle.desk_tables.specs.Ends.{IfSound, IsLook, IsWrite};
 ghost use Rattle.desk_register.specs.Changes.{CanCancelPair, CanPair, pair_cancelled, paired};
 ghost use Rattle.desk_rules.specs.Content.{history_of};
 ghost use Rattle.desk_rules.specs.History.{instruction_at, instructed};
-ghost use Rattle.desk_rules.specs.declared.entry.Instructed.{Instructed};
+ghost use Rattle.desk_rules.specs.declared.history.entry.Instructed.{Instructed};
 ghost use Rattle.desk_standings.specs.Standings.{AreStandings};
 ghost use Rattle.desk_store.specs.Content.{content_in};
 ghost use Rattle.desk_store.specs.Holds.{Becomes, IsDesk};

@@ -1,7 +1,7 @@
 -- The matched pair of a number, and what comes of trying or cancelling it.
 use Rattle.std.specs.Prelude.{◌≡◌, ℕ, ◌<◌, Bool, true, false, Option, Some, None}
-use Rattle.desk_msg.specs.declared.status.Reason.{Reason}
-use Rattle.desk_rules.specs.declared.standing.State.TheVariants.{Matched}
+use Rattle.desk_msg.specs.declared.writing.status.Reason.{Reason}
+use Rattle.desk_rules.specs.declared.history.standing.State.TheVariants.{Matched}
 use Rattle.desk_rules.specs.Content.{Content, history_of}
 use Rattle.desk_rules.specs.History.{instruction_at}
 use Rattle.desk_register.specs.Changes.{CanCancelPair, CanSettle, IsPairAt, TriesPair, pair_cancelled}

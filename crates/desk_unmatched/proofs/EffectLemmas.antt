@@ -26,7 +26,7 @@ use Rattle.sqlite.specs.Program.{overlay}
 use Rattle.sqlite.specs.Effect.{Database}
 use Rattle.sqlite.specs.State.{State, Executes}
 use Rattle.sqlite.proofs.Callers.{one_permutation}
-use Rattle.desk_rules.specs.declared.entry.Instructed.{Instructed}
+use Rattle.desk_rules.specs.declared.history.entry.Instructed.{Instructed}
 use Rattle.desk_tables.specs.Schema.{desk_schema, unmatched_table}
 use Rattle.desk_tables.specs.Queries.{equals, passes_all}
 use Rattle.desk_tables.proofs.QueryLemmas.{plain_rows, same_found}

@@ -11,7 +11,7 @@ use Rattle.desk_msg.specs.declared.instruction.Kind.TheVariants.{Unit as Units, 
 use Rattle.desk_msg.specs.declared.instruction.Cash.{Cash}
 use Rattle.desk_msg.specs.MessageType.{number_of_type, is_instruction, is_delivery, is_against_payment}
 use Rattle.desk_msg.specs.Profile.{code_of_kind}
-use Rattle.desk_rules.specs.declared.entry.Instructed.{Instructed}
+use Rattle.desk_rules.specs.declared.history.entry.Instructed.{Instructed}
 use Rattle.desk_rules.specs.Opposite.{AreOpposite}
 use Rattle.desk_rules.proofs.SameContent.{cash_same}
 use Rattle.desk_unmatched.specs.Key.{currency_in, amount_in, key_of, opposite_type, wanted_key}

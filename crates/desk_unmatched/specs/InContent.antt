@@ -1,7 +1,7 @@
 -- The unmatched instructions of a content, as the table notes them.
 use Rattle.std.specs.Prelude.{Bool, true, false, if◌then◌else◌, None}
-use Rattle.desk_rules.specs.declared.standing.State.{State}
-use Rattle.desk_rules.specs.declared.standing.State.TheVariants.{Unmatched}
+use Rattle.desk_rules.specs.declared.history.standing.State.{State}
+use Rattle.desk_rules.specs.declared.history.standing.State.TheVariants.{Unmatched}
 use Rattle.desk_rules.specs.History.{instruction_at}
 use Rattle.desk_rules.specs.Content.{Content, history_of}
 use Rattle.desk_unmatched.specs.Unmatched.{Noted}

@@ -1,7 +1,7 @@
 //! Laws of the catalogue, each the contract of a function with an empty body.
 ghost use Rattle.std.specs.Prelude.{◌≡◌, ℕ, List, ◌++◌, Contains};
 ghost use Rattle.desk_msg.specs.Refused.{refusal_line};
-ghost use Rattle.desk_msg.specs.declared.refusal.TextRefusal.{TextRefusal};
+ghost use Rattle.desk_msg.specs.declared.reading.refusal.TextRefusal.{TextRefusal};
 ghost use Rattle.desk_words.specs.Causes.{heading_of, number_of_cause};
 ghost use Rattle.desk_words.specs.declared.cause.Cause.{Cause};
 ghost use Rattle.desk_words.specs.declared.cause.TheConstants.{CAUSES};

@@ -16,7 +16,7 @@ pub struct KeepingSink {
 
 impl Model for KeepingSink {
     ghost use Rattle.std.specs.Prelude.{List};
-    ghost use Rattle.desk_msg.specs.declared.statement_row.StatementRow.{StatementRow};
+    ghost use Rattle.desk_msg.specs.declared.writing.statement_row.StatementRow.{StatementRow};
 
     ghost Value = { List StatementRow };
 

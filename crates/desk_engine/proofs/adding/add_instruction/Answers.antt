@@ -1,5 +1,5 @@
 use Rattle.desk_engine.proofs.StepLaws.{step_then}
-use Rattle.desk_rules.specs.declared.entry.Entry.TheVariants.{Instruct}
+use Rattle.desk_rules.specs.declared.history.entry.Entry.TheVariants.{Instruct}
 use Rattle.desk_engine.proofs.InstructLemmas.{can_pair, instructed_alone, instructed_paired}
 use Rattle.desk_engine.proofs.AppendLemmas.{can_add}
 use Rattle.desk_engine.proofs.UnderwayLemmas.{room_after}

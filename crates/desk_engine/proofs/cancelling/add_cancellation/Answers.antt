@@ -1,6 +1,6 @@
 use Rattle.std.proofs.Common.{refl}
 use Rattle.std.specs.Prelude.{Ok}
-use Rattle.desk_rules.specs.declared.entry.Entry.TheVariants.{Cancel}
+use Rattle.desk_rules.specs.declared.history.entry.Entry.TheVariants.{Cancel}
 use Rattle.desk_engine.specs.declared.cancelling.CallsOff.TheVariants.{Alone, Both, Nothing}
 use Rattle.desk_engine.proofs.AppendLemmas.{can_add}
 use Rattle.desk_engine.proofs.CancelLemmas.{cancel_fits, cancel_pair_fits, cancelled_ok}

@@ -1,7 +1,7 @@
 use Rattle.std.proofs.Common.{◌≡◌, ◌≢◌, None, Some, refl, sym, subst, ◌<◌, ◌≤◌, ◌^◌, ◌∙◌, arith, rules}
 use Rattle.desk_register.specs.declared.register.Fault.TheVariants.{Storage}
 use Rattle.desk_register.specs.declared.register.Stage.TheVariants.{Begun}
-use Rattle.desk_rules.specs.declared.entry.Entry.TheVariants.{Run}
+use Rattle.desk_rules.specs.declared.history.entry.Entry.TheVariants.{Run}
 use Rattle.desk_rules.specs.Content.{Content}
 use Rattle.desk_engine.specs.Pass.{PassEnds}
 use Rattle.desk_engine.specs.declared.settlement_run.Passed.{Passed}

@@ -1,5 +1,5 @@
 use Rattle.std.proofs.Common.{◌≡◌, Option, IfOk, subst, ◌∙◌}
-use Rattle.desk_rules.specs.declared.entry.Entry.{Entry}
+use Rattle.desk_rules.specs.declared.history.entry.Entry.{Entry}
 use Rattle.desk_register.specs.Looked.{kept_at}
 use Rattle.desk_entries.proofs.EffectLemmas.{entry_of}
 use Rattle.desk_entries.proofs.looking.entry_at.Goals as goal

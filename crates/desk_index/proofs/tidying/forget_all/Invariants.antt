@@ -1,5 +1,5 @@
 use Rattle.std.proofs.Common.{◌≡◌, ◌++◌, List, length, vec_len}
-use Rattle.desk_rules.specs.declared.entry.Entry.{Entry}
+use Rattle.desk_rules.specs.declared.history.entry.Entry.{Entry}
 use Rattle.desk_index.specs.Known.{AreKnown}
 use Rattle.desk_index.proofs.tidying.forget_all.Given as goal
 

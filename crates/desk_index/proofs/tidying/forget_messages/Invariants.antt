@@ -1,5 +1,5 @@
 use Rattle.std.proofs.Common.{◌≡◌, ◌++◌, List, length, vec_len}
-use Rattle.desk_index.specs.declared.heading.Heading.{Heading}
+use Rattle.desk_index.specs.declared.sent.heading.Heading.{Heading}
 use Rattle.desk_index.specs.Messages.{AreMessagesOf}
 use Rattle.desk_index.proofs.tidying.forget_messages.Given as goal
 

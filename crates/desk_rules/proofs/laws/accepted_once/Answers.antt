@@ -1,5 +1,5 @@
 use Rattle.std.proofs.Common.{ℕ, ◌+◌, suc, ◌≡◌, length, arith, subst}
-use Rattle.desk_rules.specs.declared.verdict.Verdict.TheVariants.{Repeat}
+use Rattle.desk_rules.specs.declared.answers.verdict.Verdict.TheVariants.{Repeat}
 use Rattle.desk_rules.specs.Verdict.{IsVerdict}
 use Rattle.desk_rules.proofs.AcceptedOnce as laws
 use Rattle.desk_rules.proofs.laws.accepted_once.Goals as goal

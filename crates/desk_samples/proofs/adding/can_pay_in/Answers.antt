@@ -1,7 +1,7 @@
 use Rattle.std.proofs.Common.{◌≢◌, sym, ap, ◌∙◌, subst, arith}
 use Rattle.std.proofs.lemmas.Bool.{leb-true}
 use Rattle.desk_register.specs.declared.register.Stage.TheVariants.{Failed}
-use Rattle.desk_rules.specs.declared.entry.Entry.TheVariants.{PayIn}
+use Rattle.desk_rules.specs.declared.history.entry.Entry.TheVariants.{PayIn}
 use Rattle.desk_rules.specs.Content.{Content}
 use Rattle.desk_register.specs.Changes.{BalancesAllow}
 use Rattle.desk_samples.proofs.AddingLemmas.{can_pay_in}

@@ -5,7 +5,7 @@ use mir.Val.{SFits}
 use Rattle.sqlite.specs.Held.{state}
 use Rattle.sqlite.specs.Effect.{Database}
 use Rattle.sqlite.specs.declared.error.Error.{Error}
-use Rattle.desk_rules.specs.declared.pair.Place.{Place}
+use Rattle.desk_rules.specs.declared.history.pair.Place.{Place}
 use Rattle.desk_codes.specs.Number.{number_of}
 use Rattle.desk_standings.specs.Due.{place_numbered, IsNextDue}
 use Rattle.desk_standings.proofs.NextLemmas.{next_place}

@@ -2,7 +2,7 @@ use Rattle.std.proofs.Common.{◌≡◌, inl, inr, List, None, Some, Option, Res
 use Rattle.std.specs.Option.{option_copied}
 use Rattle.sqlite.specs.Order.{Row}
 use Rattle.sqlite.specs.declared.error.Error.{Error}
-use Rattle.desk_rules.specs.declared.standing.Standing.{Standing}
+use Rattle.desk_rules.specs.declared.history.standing.Standing.{Standing}
 use Rattle.desk_standings.specs.Standings.{columns_of, standing_written, IsStandingShown, Written}
 use Rattle.desk_standings.proofs.states.standing_shown.Goals as goal
 

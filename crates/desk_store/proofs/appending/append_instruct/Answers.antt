@@ -4,9 +4,9 @@ use Rattle.sqlite.specs.State.{State, HasCleanDisk}
 use Rattle.sqlite.specs.declared.error.Error.{Error}
 use Rattle.desk_entries.specs.Entries.{EntryAdded}
 use Rattle.desk_register.specs.Changes.{CanAppend, appended, standing_at}
-use Rattle.desk_rules.specs.declared.entry.Entry.TheVariants.{Instruct}
-use Rattle.desk_rules.specs.declared.entry.Instructed.{Instructed}
-use Rattle.desk_rules.specs.declared.reply.Reply.{Reply}
+use Rattle.desk_rules.specs.declared.history.entry.Entry.TheVariants.{Instruct}
+use Rattle.desk_rules.specs.declared.history.entry.Instructed.{Instructed}
+use Rattle.desk_rules.specs.declared.answers.reply.Reply.{Reply}
 use Rattle.desk_standings.specs.Standings.{StandingsChanged, fresh_standing, standing_in}
 use Rattle.desk_tables.specs.Ends.{Stays}
 use Rattle.desk_unmatched.specs.Unmatched.{Notes}

@@ -7,9 +7,9 @@ use Rattle.desk_amounts.specs.declared.key.AmountKey.TheVariants.{Security as Se
 use Rattle.desk_amounts.specs.declared.key.AmountKey.TheVariants as keys
 use Rattle.desk_entries.specs.Entries.{EntryAdded}
 use Rattle.desk_register.specs.Changes.{CanAppend, appended}
-use Rattle.desk_rules.specs.declared.entry.Entry.TheVariants.{Issue}
-use Rattle.desk_rules.specs.declared.entry.Movement.{Movement}
-use Rattle.desk_rules.specs.declared.reply.Reply.{Reply}
+use Rattle.desk_rules.specs.declared.history.entry.Entry.TheVariants.{Issue}
+use Rattle.desk_rules.specs.declared.history.entry.Movement.{Movement}
+use Rattle.desk_rules.specs.declared.answers.reply.Reply.{Reply}
 use Rattle.desk_tables.specs.Ends.{Stays}
 use Rattle.desk_store.specs.Content.{content_in}
 use Rattle.desk_store.specs.Holds.{Becomes, IsDesk}

@@ -7,9 +7,9 @@ use Rattle.desk_amounts.specs.declared.key.AmountKey.TheVariants.{Currency}
 use Rattle.desk_amounts.specs.declared.key.AmountKey.TheVariants as keys
 use Rattle.desk_entries.specs.Entries.{EntryAdded}
 use Rattle.desk_register.specs.Changes.{CanAppend, appended}
-use Rattle.desk_rules.specs.declared.entry.Entry.TheVariants.{PayOut}
-use Rattle.desk_rules.specs.declared.entry.Payment.{Payment}
-use Rattle.desk_rules.specs.declared.reply.Reply.{Reply}
+use Rattle.desk_rules.specs.declared.history.entry.Entry.TheVariants.{PayOut}
+use Rattle.desk_rules.specs.declared.history.entry.Payment.{Payment}
+use Rattle.desk_rules.specs.declared.answers.reply.Reply.{Reply}
 use Rattle.desk_tables.specs.Ends.{Stays}
 use Rattle.desk_store.specs.Content.{content_in}
 use Rattle.desk_store.specs.Holds.{Becomes, IsDesk}

@@ -3,7 +3,7 @@ use Rattle.sqlite.specs.Held.{state}
 use Rattle.sqlite.specs.State.{State, HasCleanDisk}
 use Rattle.sqlite.specs.declared.error.Error.{Error}
 use Rattle.desk_register.specs.Changes.{CanCancel, cancelled, standing_at}
-use Rattle.desk_rules.specs.declared.standing.State.TheVariants.{Cancelled}
+use Rattle.desk_rules.specs.declared.history.standing.State.TheVariants.{Cancelled}
 use Rattle.desk_standings.specs.Standings.{StandingsChanged, standing_in}
 use Rattle.desk_tables.specs.Ends.{Stays}
 use Rattle.desk_unmatched.specs.Unmatched.{Forgets}

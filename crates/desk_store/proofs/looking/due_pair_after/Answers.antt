@@ -4,7 +4,7 @@ use Rattle.sqlite.specs.Effect.{Database}
 use Rattle.sqlite.specs.declared.error.Error.{Error}
 use Rattle.desk_codes.specs.Number.{number_of}
 use Rattle.desk_register.specs.Looked.{IsDuePairAfter}
-use Rattle.desk_rules.specs.declared.pair.Place.{Place}
+use Rattle.desk_rules.specs.declared.history.pair.Place.{Place}
 use Rattle.desk_standings.specs.Due.{IsNextDue}
 use Rattle.desk_store.specs.Content.{content_in}
 use Rattle.desk_store.specs.Holds.{IsDesk}

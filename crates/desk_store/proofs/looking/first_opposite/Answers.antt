@@ -3,7 +3,7 @@ use Rattle.sqlite.specs.Held.{state}
 use Rattle.sqlite.specs.Effect.{Database}
 use Rattle.sqlite.specs.declared.error.Error.{Error}
 use Rattle.desk_register.specs.Looked.{IsFirstOpposite}
-use Rattle.desk_rules.specs.declared.entry.Instructed.{Instructed}
+use Rattle.desk_rules.specs.declared.history.entry.Instructed.{Instructed}
 use Rattle.desk_unmatched.specs.Unmatched.{FindsFirst}
 use Rattle.desk_store.specs.Content.{content_in}
 use Rattle.desk_store.specs.Holds.{IsDesk}

@@ -2,7 +2,7 @@ use Rattle.std.proofs.Common.{◌≡◌, ◌∙◌, arith, ap, subst, sym}
 use Rattle.sqlite.specs.Held.{state}
 use Rattle.sqlite.specs.State.{HasCleanDisk}
 use Rattle.desk_standings.specs.Standings.{AreStandings}
-use Rattle.desk_rules.specs.declared.standing.State.TheVariants.{Cancelled}
+use Rattle.desk_rules.specs.declared.history.standing.State.TheVariants.{Cancelled}
 use Rattle.desk_tables.specs.Schema.{desk_schema}
 use Rattle.desk_store.proofs.PairCalls.{cancel_call, due_rows_kept}
 use Rattle.desk_store.proofs.pairing.cancel_pair.Goals as goal

@@ -2,8 +2,8 @@ use Rattle.std.proofs.Common.{◌≡◌, ◌∙◌, arith, ap, subst, sym}
 use Rattle.sqlite.specs.Held.{state}
 use Rattle.sqlite.specs.State.{HasCleanDisk}
 use Rattle.desk_standings.specs.Standings.{AreStandings}
-use Rattle.desk_rules.specs.declared.standing.State.TheVariants.{Matched}
-use Rattle.desk_msg.specs.declared.status.Reason.TheVariants.{Future}
+use Rattle.desk_rules.specs.declared.history.standing.State.TheVariants.{Matched}
+use Rattle.desk_msg.specs.declared.writing.status.Reason.TheVariants.{Future}
 use Rattle.desk_tables.specs.Schema.{desk_schema}
 use Rattle.desk_store.proofs.PairCalls.{due_rows_after, due_rows_kept, pair_call}
 use Rattle.desk_store.proofs.pairing.pair.Goals as goal

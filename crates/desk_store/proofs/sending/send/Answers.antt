@@ -3,7 +3,7 @@ use Rattle.sqlite.specs.Held.{state}
 use Rattle.sqlite.specs.State.{State}
 use Rattle.sqlite.specs.declared.error.Error.{Error}
 use Rattle.desk_register.specs.Changes.{with_sent}
-use Rattle.desk_rules.specs.declared.reply.Sent.{Sent}
+use Rattle.desk_rules.specs.declared.answers.reply.Sent.{Sent}
 use Rattle.desk_sent.specs.Messages.{Adds}
 use Rattle.desk_tables.specs.Ends.{Stays}
 use Rattle.desk_store.specs.Content.{content_in}

@@ -1,7 +1,7 @@
 use Rattle.std.proofs.Common.{◌≢◌, sym, ap, ◌∙◌}
 use Rattle.std.specs.Prelude.{option_and_then}
 use Rattle.desk_register.specs.declared.register.Stage.TheVariants.{Failed}
-use Rattle.desk_rules.specs.declared.standing.Standing.{Standing}
+use Rattle.desk_rules.specs.declared.history.standing.Standing.{Standing}
 use Rattle.desk_rules.specs.Content.{Content}
 use Rattle.desk_rules.specs.History.{instructed}
 use Rattle.desk_trials.proofs.settling.matched_instruction.Goals as goal

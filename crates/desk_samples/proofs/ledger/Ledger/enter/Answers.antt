@@ -1,5 +1,5 @@
 use Rattle.std.proofs.Common.{◌∙◌, ℕ, sym, subst}
-use Rattle.desk_rules.specs.declared.verdict.Verdict.TheVariants.{Accept}
+use Rattle.desk_rules.specs.declared.answers.verdict.Verdict.TheVariants.{Accept}
 use Rattle.desk_rules.specs.Verdict.{IsVerdict}
 use Rattle.desk_engine.proofs.KeptLemmas.{kept_in}
 use Rattle.desk_samples.specs.Ledger.{HasTaken}

@@ -1,0 +1,8 @@
+//! What the desk answers.
+pub mod answering;
+pub mod head;
+pub mod questions;
+pub mod statement;
+pub mod summing;
+pub mod telling;
+pub mod total;

@@ -1,0 +1,5 @@
+//! Keys in order, and the numbers that stand at them.
+pub mod numbers_at;
+pub mod numbers_by_key;
+pub mod ordered;
+pub mod tail_number;

@@ -1,0 +1,5 @@
+//! Look-ups of entries.
+pub mod first_numbers;
+pub mod keys;
+pub mod known;
+pub mod registered;

@@ -1,0 +1,44 @@
+//! The unmatched instructions by what opposite instructions have in common.
+ghost use Rattle.std.specs.Prelude.{◌≡◌, ◌<◌, ◌≤◌, ℕ, false, IfSome, IfNone};
+ghost use Rattle.std.specs.BTreeSet.{contains};
+ghost use Rattle.desk_register.specs.Looked.{IsFirstOpposite};
+ghost use Rattle.desk_lists.specs.ListView.{view_of_lists};
+ghost use Rattle.desk_index.specs.NumbersByKey.{numbered_cmp};
+ghost use Rattle.desk_index.specs.Open.{HasOpen, match_cmp, wanted_key};
+
+use crate::collections::numbers_by_key::next_number;
+use crate::pairs::match_key::{MatchKey, wanted_key};
+use desk_lists::ListRegister;
+use desk_rules::Instructed;
+use std::collections::BTreeSet;
+
+/// The next number under the key of what is opposite to an instruction.
+fn next_wanted(numbers: &BTreeSet<(MatchKey, u64)>, wanted: &Instructed, from: u64) -> Option<u64>
+    ensures above { IfSome result (λ n. from ≤ n) }
+    ensures least { IfSome result (λ n. (m : ℕ) → from ≤ m → m < n → contains (numbered_cmp match_cmp) numbers.now (wanted_key wanted.now, m) ≡ false) }
+    ensures none { IfNone result ((m : ℕ) → from ≤ m → contains (numbered_cmp match_cmp) numbers.now (wanted_key wanted.now, m) ≡ false) }
+{
+    next_number(numbers, wanted_key(wanted), from)
+}
+
+/// The least number of an unmatched instruction that is opposite to one.
+pub fn first_open_opposite(
+    held: &ListRegister,
+    numbers: &BTreeSet<(MatchKey, u64)>,
+    wanted: &Instructed,
+) -> Option<u64>
+    requires { HasOpen numbers.now (view_of_lists held.now).content }
+    ensures { IsFirstOpposite (view_of_lists held.now).content wanted.now result }
+{
+    let mut from = 0;
+    'numbers: while let Some(number) = next_wanted(numbers, wanted, from) {
+        if held.is_opposite_at(number, wanted) {
+            return Some(number);
+        }
+        if number >= held.entry_count() {
+            return None;
+        }
+        from = number + 1;
+    }
+    None
+}

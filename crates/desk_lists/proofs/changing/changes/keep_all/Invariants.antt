@@ -1,0 +1,14 @@
+use Rattle.std.proofs.Common.{◌≡◌, vec_len}
+use Rattle.desk_lists.specs.BalanceKeys.{HasNoNought}
+use Rattle.desk_lists.specs.Lists.{balance_in, listed, undone}
+use Rattle.desk_lists.specs.Moves.{SameEntries}
+use Rattle.desk_lists.proofs.KeepLemmas.{NoughtsAreMoved}
+use Rattle.desk_lists.proofs.changing.changes.keep_all.Given as goal
+
+abbrev pub invariant-loop-change : goal.invariant-loop-change
+invariant-loop-change l =
+    (balance_in (listed l.lists) ≡ balance_in (listed l.fn.lists)) × SameEntries (listed l.fn.lists) (listed l.lists)
+    × (HasNoNought (undone l.fn.changes.items (listed l.fn.lists)).balances → NoughtsAreMoved (listed l.lists) l.changes.items)
+
+abbrev pub decreases-loop-change : goal.decreases-loop-change
+decreases-loop-change l = vec_len l.changes

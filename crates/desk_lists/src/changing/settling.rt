@@ -1,0 +1,184 @@
+//! A pair, settled in the lists.
+ghost use Rattle.std.specs.Prelude.{◌≡◌, ◌<◌, ◌≤◌, ◌+◌, ◌^◌, ◌↔◌, ℕ, Some, None, false, length, IfOk, IsTrue, OnOk, true};
+ghost use Rattle.desk_register.specs.Changes.{CanSettle, FitsCash, HasCash, LacksCash, SidesFit, TriesPair, TriesSides, delivering_side, receiving_side, standing_both};
+ghost use Rattle.desk_lists.specs.Balanced.{IsSound};
+ghost use Rattle.desk_lists.specs.Lists.{balance_in, content_in, listed, standing_in, undone};
+ghost use Rattle.desk_lists.specs.Moves.{with_less, with_more, SameBooks, SameEntries, SameTotals, moved_between, paid_between};
+
+use crate::balance_key::BalanceKey;
+use crate::balances::{add_to, balance_of, take_from};
+use crate::changing::standings::stand_both;
+use crate::lists::{Change, Lists};
+use crate::looking::by_number::{instruction, standing};
+use desk_codes::Bic;
+use desk_msg::{Cash, Reason};
+use desk_register::Outcome;
+use desk_rules::{Instructed, Lack, Standing, State};
+use std::alloc::AllocError;
+
+/// Takes so much off one balance and puts it on another, or on the same.
+fn move_between(
+    lists: &mut Lists,
+    changes: &mut Vec<Change>,
+    from: BalanceKey,
+    to: BalanceKey,
+    amount: u64,
+) -> Result<(), AllocError>
+    requires held { amount ≤ balance_in (listed lists.old) from }
+    requires fits { balance_in (listed lists.old) to + amount < 2 ^ 63 }
+    ensures moved { OnOk result (balance_in (listed lists.new) ≡ moved_between (balance_in (listed lists.old)) from to amount) }
+    ensures rest { OnOk result (SameEntries (listed lists.old) (listed lists.new)) }
+    ensures before { undone changes.new.items (listed lists.new) ≡ undone changes.old.items (listed lists.old) }
+{
+    take_from(lists, changes, from, amount)?;
+    add_to(lists, changes, to, amount)
+}
+
+/// Whether a participant has too little of the cash that is asked of it.
+fn lacks_cash(lists: &Lists, bic: Bic, asked: Option<Cash>) -> bool
+    ensures lacks { IsTrue result → LacksCash (content_in (listed lists.now)).cash bic asked }
+    ensures has { result ≡ false → HasCash (content_in (listed lists.now)).cash bic asked }
+{
+    let Some(Cash { ccy, amount, .. }) = asked else {
+        return false;
+    };
+    balance_of(lists, &BalanceKey::Cash { bic, ccy }) < amount
+}
+
+/// Takes cash off one participant and puts it on another, or on the same.
+fn pay(
+    lists: &mut Lists,
+    changes: &mut Vec<Change>,
+    from: Bic,
+    to: Bic,
+    asked: Option<Cash>,
+) -> Result<(), AllocError>
+    requires held { HasCash (content_in (listed lists.old)).cash from asked }
+    requires fits { FitsCash (content_in (listed lists.old)).cash to asked }
+    ensures moved { OnOk result (balance_in (listed lists.new) ≡ paid_between (balance_in (listed lists.old)) from to asked) }
+    ensures rest { OnOk result (SameEntries (listed lists.old) (listed lists.new)) }
+    ensures before { undone changes.new.items (listed lists.new) ≡ undone changes.old.items (listed lists.old) }
+{
+    let Some(Cash { ccy, amount, .. }) = asked else {
+        return Ok(());
+    };
+    let from = BalanceKey::Cash { bic: from, ccy };
+    let to = BalanceKey::Cash { bic: to, ccy };
+    move_between(lists, changes, from, to, amount)
+}
+
+/// The instruction of two that delivers.
+fn delivery<'a>(earlier: &'a Instructed, later: &'a Instructed) -> &'a Instructed
+    ensures { result.now ≡ delivering_side earlier.now later.now }
+{
+    if earlier.instruction.mt.is_delivery() {
+        return earlier;
+    }
+    later
+}
+
+/// The instruction of two that receives.
+fn receipt<'a>(earlier: &'a Instructed, later: &'a Instructed) -> &'a Instructed
+    ensures { result.now ≡ receiving_side earlier.now later.now }
+{
+    if earlier.instruction.mt.is_delivery() {
+        return later;
+    }
+    earlier
+}
+
+/// Whether an instruction waits for a reason, with this mate.
+fn waits_for(standing: &Standing, mate: u64, reason: Reason) -> bool
+    ensures { result ≡ true → (standing.now.mate ≡ Some mate) × (standing.now.state ≡ State.Matched reason) }
+{
+    match (standing.mate, standing.state) {
+        (Some(other), State::Matched(found)) => other == mate && found == reason,
+        _ => false,
+    }
+}
+
+/// Lets a pair wait for a reason. Where it waits for it already, nothing is written: a run tries it in each pass.
+fn wait(
+    lists: &mut Lists,
+    changes: &mut Vec<Change>,
+    mate: u64,
+    number: u64,
+    reason: Reason,
+) -> Result<(), AllocError>
+    requires some { 0 < mate }
+    requires two { mate < number }
+    requires known { number ≤ length lists.old.kept.items }
+    ensures stands { OnOk result (standing_in (listed lists.new).standings ≡ standing_both (standing_in (listed lists.old).standings) mate number (State.Matched reason)) }
+    ensures rest { SameBooks (listed lists.old) (listed lists.new) }
+    ensures before { undone changes.new.items (listed lists.new) ≡ undone changes.old.items (listed lists.old) }
+{
+    let earlier = standing(lists, mate);
+    let later = standing(lists, number);
+    if waits_for(&earlier, number, reason) && waits_for(&later, mate, reason) {
+        return Ok(());
+    }
+    stand_both(lists, changes, mate, number, State::Matched(reason))
+}
+
+/// Tries a pair by its two instructions.
+fn settle_sides(
+    lists: &mut Lists,
+    changes: &mut Vec<Change>,
+    number: u64,
+    mate: u64,
+    earlier: &Instructed,
+    later: &Instructed,
+) -> Result<Outcome, AllocError>
+    requires some { 0 < mate }
+    requires two { mate < number }
+    requires known { number ≤ length lists.old.kept.items }
+    requires fits { SidesFit (content_in (listed lists.old)) earlier.now later.now }
+    ensures settled { IfOk result (λ outcome. TriesSides (content_in (listed lists.old)) number mate earlier.now later.now outcome (content_in (listed lists.new))) }
+    ensures rest { OnOk result (SameTotals (listed lists.old) (listed lists.new)) }
+    ensures before { undone changes.new.items (listed lists.new) ≡ undone changes.old.items (listed lists.old) }
+{
+    let from = delivery(earlier, later);
+    let to = receipt(earlier, later);
+    let isin = later.instruction.isin;
+    let quantity = later.instruction.quantity;
+    let cash = later.instruction.cash;
+    let given = BalanceKey::Position {
+        account: from.instruction.account,
+        isin,
+    };
+    let taken = BalanceKey::Position {
+        account: to.instruction.account,
+        isin,
+    };
+    if balance_of(lists, &given) < quantity {
+        wait(lists, changes, mate, number, Reason::Lack)?;
+        return Ok(Outcome::Lacks(Lack::Securities));
+    }
+    if lacks_cash(lists, to.sender, cash) {
+        wait(lists, changes, mate, number, Reason::Money)?;
+        return Ok(Outcome::Lacks(Lack::Money));
+    }
+    stand_both(lists, changes, mate, number, State::Settled)?;
+    move_between(lists, changes, given, taken, quantity)?;
+    pay(lists, changes, to.sender, from.sender, cash)?;
+    Ok(Outcome::Settled)
+}
+
+/// Tries the matched pair of a number: settles it, and moves its quantity between the accounts and its cash between
+/// the participants, where it is covered, else changes the reason alone.
+pub fn try_settle(
+    lists: &mut Lists,
+    changes: &mut Vec<Change>,
+    number: u64,
+) -> Result<Outcome, AllocError>
+    requires fits { (day : ℕ) × CanSettle (content_in (listed lists.old)) number day }
+    requires sound { IsSound (listed lists.old) }
+    ensures settled { IfOk result (λ outcome. TriesPair (content_in (listed lists.old)) number outcome (content_in (listed lists.new))) }
+    ensures sound { OnOk result (IsSound (listed lists.new)) }
+    ensures before { undone changes.new.items (listed lists.new) ≡ undone changes.old.items (listed lists.old) }
+{
+    let later = instruction(lists, number).unwrap();
+    let mate = standing(lists, number).mate.unwrap();
+    let earlier = instruction(lists, mate).unwrap();
+    settle_sides(lists, changes, number, mate, &earlier, &later)
+}

@@ -1,0 +1,63 @@
+//! The search for the next due pair.
+ghost use Rattle.std.specs.Prelude.{◌≡◌, IfSome, IfNone};
+ghost use Rattle.desk_rules.specs.declared.history.pair.Place.{Place};
+ghost use Rattle.desk_lists.specs.Lists.{content_in, listed};
+ghost use Rattle.desk_register.specs.Looked.{IsDue, IsDuePairAfter};
+ghost use Rattle.desk_lists.specs.Search.{sooner_of};
+
+use crate::lists::Lists;
+use crate::looking::by_number::{instruction, standing};
+use desk_register::{is_before, is_past};
+use desk_rules::{Place, State};
+
+/// The place of a number's matched pair, where it is due by a day and above a place.
+pub fn due_place(lists: &Lists, number: u64, day: u64, above: &Option<Place>) -> Option<Place>
+    ensures found { IfSome result (λ p. (p.number ≡ number) × IsDue (content_in (listed lists.now)) day above.now p) }
+    ensures none { IfNone result ((p : Place) → p.number ≡ number → IsDue (content_in (listed lists.now)) day above.now p → ⊥) }
+{
+    let later = instruction(lists, number)?;
+    let standing = standing(lists, number);
+    let mate = standing.mate?;
+    let State::Matched(_) = standing.state else {
+        return None;
+    };
+    let place = Place {
+        day: later.instruction.day.yyyymmdd(),
+        number,
+    };
+    if mate >= number || place.day > day {
+        return None;
+    }
+    if !is_past(above, &place) {
+        return None;
+    }
+    Some(place)
+}
+
+/// The sooner of two places, where there are two.
+fn sooner(best: Option<Place>, candidate: Option<Place>) -> Option<Place>
+    ensures { result ≡ sooner_of best candidate }
+{
+    let Some(first) = best else {
+        return candidate;
+    };
+    let Some(second) = candidate else {
+        return Some(first);
+    };
+    if is_before(&second, &first) {
+        return Some(second);
+    }
+    Some(first)
+}
+
+/// The first place of a matched pair that is due by a day, above a place.
+pub fn due_pair_after(lists: &Lists, day: u64, above: &Option<Place>) -> Option<Place>
+    ensures { IsDuePairAfter (content_in (listed lists.now)) day above.now result }
+{
+    let mut best = None;
+    for index in 0..lists.kept.len() {
+        let candidate = due_place(lists, index as u64 + 1, day, above);
+        best = sooner(best, candidate);
+    }
+    best
+}

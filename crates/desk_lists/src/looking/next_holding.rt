@@ -1,0 +1,78 @@
+//! The holdings of an account, in the order of the ISINs.
+ghost use Rattle.std.specs.Prelude.{◌≡◌, Some, None};
+ghost use Rattle.desk_lists.specs.BalanceKeys.{first_key, least_isin};
+ghost use Rattle.desk_lists.specs.Lists.{balance_in, content_in, listed};
+ghost use Rattle.desk_register.specs.Looked.{IsHoldingAfter};
+ghost use Rattle.desk_lists.specs.Search.{IsHeldAt};
+
+use crate::balance_key::BalanceKey;
+use crate::balances::balance_of;
+use crate::lists::Lists;
+use crate::looking::securities::is_above;
+use desk_codes::{AccountId, Isin};
+use desk_register::Holding;
+
+/// The least of all ISINs.
+fn least_isin() -> Isin
+    ensures { result ≡ least_isin }
+{
+    Isin::parse(b"AA0000000006").unwrap()
+}
+
+/// Where to begin, to find what an account holds above a security, or above none.
+fn first_key(account: &AccountId, above: &Option<Isin>) -> BalanceKey
+    ensures { result ≡ first_key account.now above.now }
+{
+    BalanceKey::Position {
+        account: *account,
+        isin: match above {
+            Some(isin) => *isin,
+            None => least_isin(),
+        },
+    }
+}
+
+/// What is held of a position's security, where it is some, and above one, or above none.
+fn held_at(lists: &Lists, account: &AccountId, isin: &Isin, above: &Option<Isin>) -> Option<Holding>
+    ensures { IsHeldAt (content_in (listed lists.now)) account.now above.now isin.now result }
+{
+    let quantity = balance_of(
+        lists,
+        &BalanceKey::Position {
+            account: *account,
+            isin: *isin,
+        },
+    );
+    if quantity == 0 {
+        return None;
+    }
+    if is_above(above, isin) {
+        return Some(Holding {
+            isin: *isin,
+            quantity,
+        });
+    }
+    None
+}
+
+/// The first holding of an account above a security, or above none, in the order of the ISINs.
+pub fn holding_after(lists: &Lists, account: &AccountId, above: &Option<Isin>) -> Option<Holding>
+    ensures { IsHoldingAfter (content_in (listed lists.now)) account.now above.now result }
+{
+    for (key, _) in lists.balances.range(first_key(account, above)..) {
+        let BalanceKey::Position {
+            account: holder,
+            isin,
+        } = key
+        else {
+            return None;
+        };
+        if holder != account {
+            return None;
+        }
+        if let Some(holding) = held_at(lists, account, isin, above) {
+            return Some(holding);
+        }
+    }
+    None
+}

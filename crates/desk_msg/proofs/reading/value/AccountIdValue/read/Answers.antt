@@ -1,0 +1,10 @@
+use Rattle.desk_text.specs.Seen.{found_of}
+use Rattle.desk_msg.specs.Profile.{IsAccountText, account_form, slashed}
+use Rattle.desk_msg.specs.Finding.{row_seen}
+use Rattle.desk_msg.proofs.RowLemmas.{text_behind}
+use Rattle.desk_msg.proofs.reading.value.AccountIdValue.read.Goals as goal
+
+pub returns : goal.returns
+returns c =
+    text_behind IsAccountText (row_seen account_form c.args.row.now) (slashed c.args.row.now.begins.now) c.in_ok-text.text.now (found_of c.args.field.now) (λ e. cc) (λ e. cc) (λ y h. h) (λ y h. h)
+    c.in_ok-text.ensures c.account_of.result c.account_of.ensures

@@ -1,0 +1,5 @@
+//! What is answered and sent.
+pub mod notices;
+pub mod questions;
+pub mod replies;
+pub mod sent;

@@ -1,0 +1,9 @@
+use Rattle.std.proofs.Common.{rules}
+use Rattle.desk_rules.proofs.SameContent.{instruction_same}
+use Rattle.desk_rules.proofs.history.same.same_instruction.Goals as goal
+
+pub returns : goal.returns
+returns c = (
+  λ same. instruction_same c.args.a c.args.b (search rules) (search rules) (search rules) (search rules) (search rules) (search rules) (search rules) (search rules) (search rules) (search rules) (search rules),
+  λ same. search rules,
+)

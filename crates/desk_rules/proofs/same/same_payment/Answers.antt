@@ -1,6 +1,0 @@
-use Rattle.std.proofs.Common.{rules}
-use Rattle.desk_rules.proofs.SameContent.{payment_same}
-use Rattle.desk_rules.proofs.same.same_payment.Goals as goal
-
-pub returns : goal.returns
-returns c = (λ same. payment_same c.args.a c.args.b (search rules) (search rules) (search rules) (search rules), λ same. search rules)
