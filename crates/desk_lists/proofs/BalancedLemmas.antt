@@ -25,9 +25,10 @@ use Rattle.desk_register.specs.declared.outcome.Outcome.TheVariants.{Lacks, Sett
 use Rattle.desk_register.specs.Changes.{BalancesAllow, CanAppend, HasCash, TriesPair, TriesSides, appended, cash_after, cash_at, delivered, delivering_side, moved_to, paid_over, positions_after, receiving_side, with_sent}
 use Rattle.desk_register.specs.Looked.{held_cash_of, held_of}
 use Rattle.desk_register.proofs.CaseLemmas.{by_bool, same_bytes}
-use Rattle.desk_lists.specs.Balanced.{AreRegisteredOnce, IsBalanced, IsOfRegistered, is_account, times_in}
-use Rattle.desk_lists.proofs.OnceLemmas.{less_at, more_at, sum_with_less, sum_with_more}
-use Rattle.desk_lists.proofs.RegisteredLemmas.{IsFounded, account_push, accounts_push, founded, not_before, once_more, participant_push, participants_push}
+use Rattle.desk_register.specs.RegisteredOnce.{AreRegisteredOnce, IsOfRegistered, is_account, times_in}
+use Rattle.desk_lists.specs.Balanced.{IsBalanced}
+use Rattle.desk_register.proofs.OnceLemmas.{less_at, more_at, sum_with_less, sum_with_more}
+use Rattle.desk_register.proofs.RegisteredLemmas.{IsFounded, account_push, accounts_push, founded, not_before, once_more, participant_push, participants_push}
 
 -- One balance changed, at each account and at each participant.
 

@@ -7,8 +7,6 @@ mod KeepLemmas
 mod ListingLemmas
 mod ListsLemmas
 mod LookingLemmas
-mod OnceLemmas
-mod RegisteredLemmas
 mod SearchLemmas
 mod SettleLemmas
 mod SoundLemmas

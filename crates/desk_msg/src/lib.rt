@@ -10,8 +10,8 @@
 //! that is written is read back as what was settled.
 //!
 //! Begin with specs/Profile.antt (the used fields as a table, and what their values say) and specs/Reads.antt (which
-//! fields read as which message), which src/reading/profile.rt and src/reading/value.rt follow; then specs/StatusText.antt,
-//! specs/ConfirmationText.antt, specs/Confirms.antt and specs/HoldingsText.antt.
+//! fields read as which message), which src/reading/profile.rt and src/reading/value.rt follow; then
+//! specs/StatusText.antt, specs/ConfirmationText.antt, specs/Confirms.antt and specs/HoldingsText.antt.
 #![tactic(auto)]
 
 mod depository;

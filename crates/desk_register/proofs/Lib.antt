@@ -1,2 +1,4 @@
 pub mod CaseLemmas
+pub mod OnceLemmas
+pub mod RegisteredLemmas
 pub mod ViewLemmas

@@ -2,4 +2,5 @@ pub mod Changes
 pub mod Checked
 pub mod Looked
 pub mod Registered
+pub mod RegisteredOnce
 pub mod View

@@ -29,7 +29,7 @@ use Rattle.desk_store.proofs.AppendedHistory.{stands_same, unmatched_same}
 use Rattle.desk_store.proofs.AppendedRow.{row_moves}
 use Rattle.desk_store.proofs.ContentLemmas.{same_totals}
 use Rattle.desk_store.proofs.FrameLemmas.{balance_spared, cash_spared, total_spared, register_spared, unmatched_spared, due_spared, sent_spared}
-use Rattle.desk_store.proofs.RegisteredLemmas.{names_one}
+use Rattle.desk_register.proofs.RegisteredLemmas.{names_one}
 
 of_type_some : (mt k : ℕ) (o : Option Instructed) → is_none (if_of_type mt k o) ≡ false → if_of_type mt k o ≡ Some k
 of_type_some mt k None some = absurd (cc)

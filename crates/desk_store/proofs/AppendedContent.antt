@@ -19,7 +19,7 @@ use Rattle.desk_store.specs.RowsSaid.{kept_in, sent_in}
 use Rattle.desk_store.proofs.AppendedHistory.{instructions_more, pair_after, pair_before}
 use Rattle.desk_store.proofs.AppendedTotals.{TotalsMore, registered_more, totals_more}
 use Rattle.desk_store.proofs.ContentLemmas.{by_parts}
-use Rattle.desk_store.proofs.RegisteredLemmas.{IsFounded, founded}
+use Rattle.desk_register.proofs.RegisteredLemmas.{IsFounded, founded}
 use Rattle.desk_store.proofs.SaidLemmas.{register_again}
 
 -- What the tables have become that took an entry: its row, what it moves, where it stands.

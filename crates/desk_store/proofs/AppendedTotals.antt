@@ -19,10 +19,10 @@ use Rattle.desk_register.specs.Changes.{BalancesAllow, appended, cash_after, cas
 use Rattle.desk_register.specs.Looked.{held_cash_of, held_of, pays_in, IsPaid}
 use Rattle.desk_register.proofs.CaseLemmas.{by_bool, same_bytes}
 use Rattle.desk_store.specs.Holds.{AreTotals, outstanding_in, paid_in_table}
-use Rattle.desk_store.specs.Registered.{AreRegisteredOnce, is_account, times_in}
+use Rattle.desk_register.specs.RegisteredOnce.{AreRegisteredOnce, is_account, times_in}
 use Rattle.desk_store.proofs.AppendedHistory.{longer}
-use Rattle.desk_store.proofs.OnceLemmas.{less_at, more_at, sum_with_less, sum_with_more}
-use Rattle.desk_store.proofs.RegisteredLemmas.{IsFounded, account_push, accounts_push, not_before, once_more, participant_push, participants_push}
+use Rattle.desk_register.proofs.OnceLemmas.{less_at, more_at, sum_with_less, sum_with_more}
+use Rattle.desk_register.proofs.RegisteredLemmas.{IsFounded, account_push, accounts_push, not_before, once_more, participant_push, participants_push}
 
 -- The registered accounts hold what is outstanding of each security, and the participants have what is paid in less what is
 -- paid out of each currency; nobody else has anything.

@@ -11,8 +11,6 @@ pub mod StandingContent
 pub mod EmptyContent
 pub mod BothContent
 pub mod PairCalls
-pub mod OnceLemmas
-pub mod RegisteredLemmas
 pub mod AppendedHistory
 pub mod AppendedTotals
 pub mod AppendedContent

@@ -24,13 +24,13 @@ use Rattle.desk_tables.specs.Schema.{desk_schema}
 use Rattle.desk_unmatched.proofs.UnmatchedLaws.{same_unmatched}
 use Rattle.desk_store.specs.Content.{content_in}
 use Rattle.desk_store.specs.Holds.{AreTotals, Becomes, IsDesk, Keeps, outstanding_in, paid_in_table, unmatched_of}
-use Rattle.desk_store.specs.Registered.{AreRegisteredOnce, IsOfRegistered, is_account}
+use Rattle.desk_register.specs.RegisteredOnce.{AreRegisteredOnce, IsOfRegistered, is_account}
 use Rattle.desk_store.specs.RowsSaid.{kept_in, sent_in}
 use Rattle.desk_store.specs.Settling.{AmountsSo, Fares, cash_then, positions_then}
 use Rattle.desk_store.proofs.AppendedTotals.{apart, cash_elsewhere, elsewhere, one_of, pay_less, pay_more, put_less, put_more}
 use Rattle.desk_store.proofs.FrameLemmas.{register_spared, state_spared, unmatched_spared, due_spared, sent_spared}
 use Rattle.desk_store.proofs.ContentLemmas.{by_parts, same_pair}
-use Rattle.desk_store.proofs.OnceLemmas.{sum_with_less, sum_with_more}
+use Rattle.desk_register.proofs.OnceLemmas.{sum_with_less, sum_with_more}
 
 -- what stands of another security stays
 no_other : (account a isin i : List ℕ) (position : Positions) (new : ℕ) → bytes_eq isin i ≡ false → moved_to position account isin new a i ≡ position a i

@@ -23,7 +23,7 @@ use Rattle.desk_standings.specs.Standings.{AreStandings}
 use Rattle.desk_unmatched.specs.Unmatched.{AreUnmatched}
 use Rattle.desk_tables.specs.Schema.{desk_schema}
 use Rattle.desk_store.specs.Content.{content_in}
-use Rattle.desk_store.specs.Registered.{AreRegisteredOnce}
+use Rattle.desk_register.specs.RegisteredOnce.{AreRegisteredOnce}
 
 -- the instruction of a number, where it is unmatched
 abbrev pub if_unmatched : State → Option Instructed → Option Instructed

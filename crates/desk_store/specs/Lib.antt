@@ -1,6 +1,5 @@
 pub mod RowsSaid
 pub mod Content
-pub mod Registered
 pub mod Holds
 pub mod Appending
 pub mod Kept

@@ -18,7 +18,7 @@ use Rattle.desk_rules.proofs.Conservation.{if_false, if_true}
 use Rattle.desk_rules.proofs.HistoryLemmas.{entry_at-end, instruction_at-front, instruction_at-known}
 use Rattle.desk_register.specs.Checked.{checks_in, first_refusal}
 use Rattle.desk_register.proofs.CaseLemmas.{by_bool, bytes_refl, same_bytes}
-use Rattle.desk_store.specs.Registered.{AreRegisteredOnce, IsOfRegistered, is_account, times_in}
+use Rattle.desk_register.specs.RegisteredOnce.{AreRegisteredOnce, IsOfRegistered, is_account, times_in}
 
 -- What an entry needs of those before it: what it registers is new, and what it names is registered.
 

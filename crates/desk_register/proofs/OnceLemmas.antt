@@ -6,7 +6,7 @@ use Rattle.desk_rules.specs.Balances.{quantity_if}
 use Rattle.desk_rules.proofs.BalanceLemmas.{sum_same}
 use Rattle.desk_rules.proofs.Conservation.{if_false, if_true, sum_add}
 use Rattle.desk_register.proofs.CaseLemmas.{by_bool}
-use Rattle.desk_store.specs.Registered.{times_in}
+use Rattle.desk_register.specs.RegisteredOnce.{times_in}
 
 -- what stands at one text is found in all not at all, where the text does not stand there, and once, where it stands once
 
