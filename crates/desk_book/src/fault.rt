@@ -2,6 +2,9 @@
 ghost use Rattle.std.specs.Prelude.{◌≡◌};
 ghost use Rattle.desk_book.specs.WrittenAnswers.{status_of_fault, text_of_fault};
 
+use desk_holdings::WalkFault;
+use desk_msg::SinkFault;
+use desk_register::Fault as RegisterFault;
 use thiserror::Error;
 
 /// Why a request has no answer. Its number is 60, 61 or 62.
@@ -16,6 +19,19 @@ pub enum Fault {
     /// It cannot be shown that the tables are as before, so this desk answers nothing any more.
     #[error("fault 62")]
     Closed,
+}
+
+impl From<RegisterFault> for Fault {
+    ghost use Rattle.desk_book.specs.Answering.{fault_of_register};
+
+    ghost from_gives = { λ of_register fault. fault ≡ fault_of_register of_register };
+
+    fn from(fault: RegisterFault) -> Fault {
+        match fault {
+            RegisterFault::Memory => Fault::Memory,
+            RegisterFault::Storage => Fault::Storage,
+        }
+    }
 }
 
 impl Fault {
@@ -56,6 +72,20 @@ pub enum ToFault {
     /// 62: the desk was closed when it was asked. Nothing was written.
     #[error("fault 62")]
     Closed,
+}
+
+impl From<WalkFault> for ToFault {
+    ghost use Rattle.desk_book.specs.RowByRow.{fault_of_walk};
+
+    ghost from_gives = { λ walk fault. fault ≡ fault_of_walk walk };
+
+    fn from(fault: WalkFault) -> ToFault {
+        match fault {
+            WalkFault::Sink(SinkFault::Write) => ToFault::WriteFailed,
+            WalkFault::Sink(SinkFault::Memory) | WalkFault::Memory => ToFault::Memory,
+            WalkFault::Storage => ToFault::Storage,
+        }
+    }
 }
 
 /// Why a reader gave no text.

@@ -47,10 +47,7 @@ pub fn accepted_reply(alloc: Global, entry: &Entry, applied: &Applied) -> Result
     ensures status { IfOk result (λ reply. reply.status ≡ 200) }
     ensures memory { IfErr result (λ fault. fault ≡ Fault.Memory) }
 {
-    match reply_of(alloc, entry, applied) {
-        Ok(reply) => Ok(reply),
-        Err(_) => Err(Fault::Memory),
-    }
+    Ok(reply_of(alloc, entry, applied)?)
 }
 
 /// The reply to an entry that is refused by a desk of so many entries. The only fault is want of memory.
@@ -64,10 +61,7 @@ pub fn refused_reply(
     ensures reply { (books : Books) → count ≡ length books.history → IfOk result (λ reply. reply ≡ refused_reply books entry.now (number_of_refusal refusal)) }
     ensures memory { IfErr result (λ fault. fault ≡ Fault.Memory) }
 {
-    match desk_rules::refused_reply(alloc, entry, count, refusal) {
-        Ok(reply) => Ok(reply),
-        Err(_) => Err(Fault::Memory),
-    }
+    Ok(desk_rules::refused_reply(alloc, entry, count, refusal)?)
 }
 
 /// A reply once more. The only fault is want of memory.
@@ -75,8 +69,5 @@ pub fn once_more(alloc: Global, reply: &Reply) -> Result<Reply, Fault>
     ensures reply { IfOk result (λ copy. copy ≡ reply.now) }
     ensures memory { IfErr result (λ fault. fault ≡ Fault.Memory) }
 {
-    match reply.try_clone(alloc) {
-        Ok(copy) => Ok(copy),
-        Err(_) => Err(Fault::Memory),
-    }
+    Ok(reply.try_clone(alloc)?)
 }

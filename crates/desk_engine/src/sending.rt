@@ -58,10 +58,8 @@ pub fn advise<R: Register>(alloc: Global, register: &mut R, about: u64) -> Resul
         return Ok(());
     };
     let number = next_message(alloc, register)?;
-    match pairing_advice(alloc, number, about, &paired) {
-        Ok(message) => register.send(alloc, message),
-        Err(_) => Err(Fault::Memory),
-    }
+    let message = pairing_advice(alloc, number, about, &paired)?;
+    register.send(alloc, message)
 }
 
 /// Confirms to the sender of an instruction, by its number, that a run of this day settled it.
@@ -75,10 +73,8 @@ fn confirm<R: Register>(alloc: Global, register: &mut R, about: u64, day: Day) -
         return Ok(());
     };
     let number = next_message(alloc, register)?;
-    match settlement_confirmation(alloc, number, about, &settled, day) {
-        Ok(message) => register.send(alloc, message),
-        Err(_) => Err(Fault::Memory),
-    }
+    let message = settlement_confirmation(alloc, number, about, &settled, day)?;
+    register.send(alloc, message)
 }
 
 /// Confirms two instructions, by their numbers, in this order.

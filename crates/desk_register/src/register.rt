@@ -9,13 +9,14 @@ ghost use Rattle.desk_rules.specs.History.{entry_at, number_of_key};
 ghost use Rattle.desk_rules.specs.Questions.{sent_at};
 ghost use Rattle.desk_rules.specs.Facts.{is_participant, owner_of, kind_of, last_run};
 ghost use Rattle.desk_rules.specs.Balances.{issued, redeemed};
+ghost use Rattle.desk_register.specs.declared.register.Fault.TheVariants.{Memory};
 
 use crate::holding::Holding;
 use crate::outcome::Outcome;
 use desk_codes::{AccountId, Bic, Ccy, Day, Isin, Reference};
 use desk_msg::{Instruction, Kind};
 use desk_rules::{Entry, MOST_ENTRIES, Place, Reply, Sender, Sent, Standing};
-use std::alloc::Global;
+use std::alloc::{AllocError, Global};
 
 /// At how many a register stops to count the failures of its device.
 pub const MOST_FAILURES: u64 = u64::MAX;
@@ -38,6 +39,14 @@ pub enum Fault {
     Memory,
     /// 61: the device failed in the call
     Storage,
+}
+
+impl From<AllocError> for Fault {
+    ghost from_gives = { λ _ fault. fault ≡ Memory };
+
+    fn from(_error: AllocError) -> Fault {
+        Fault::Memory
+    }
 }
 
 /// What the desk keeps: its accepted entries with their replies, where each stands, the positions, the cash, and

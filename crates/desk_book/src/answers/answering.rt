@@ -22,22 +22,12 @@ use desk_register::{Fault as RegisterFault, Register, Stage};
 use desk_rules::{Entry, Refusal, Reply, Verdict};
 use std::alloc::Global;
 
-/// The desk's fault of a register's.
-fn fault_of_register(fault: RegisterFault) -> Fault
-    ensures { result ≡ fault_of_register fault }
-{
-    match fault {
-        RegisterFault::Memory => Fault::Memory,
-        RegisterFault::Storage => Fault::Storage,
-    }
-}
-
 /// What the desk answers to a failure: the fault, of which nothing is left, or that it is closed.
 fn fault_of_failure(failure: Failure) -> Fault
     ensures { result ≡ fault_of_failure failure }
 {
     match failure {
-        Failure::Undone(fault) => fault_of_register(fault),
+        Failure::Undone(fault) => fault.into(),
         Failure::Lost => Fault::Closed,
     }
 }
@@ -83,10 +73,7 @@ fn refuse<R: Register>(
 {
     let limit = register.limit();
     match register.count(alloc) {
-        Ok(count) => match refused_reply(alloc, entry, count.min(limit), refusal) {
-            Ok(reply) => Ok(reply),
-            Err(fault) => Err(fault_of_register(fault)),
-        },
+        Ok(count) => Ok(refused_reply(alloc, entry, count.min(limit), refusal)?),
         Err(fault) => Err(recovered(alloc, register, fault)),
     }
 }

@@ -64,10 +64,7 @@ pub fn refused(alloc: Global, number: u8) -> Result<Reply, Fault>
     ensures reply { IfOk result (λ reply. reply ≡ refused_question number) }
     ensures memory { IfErr result (λ fault. fault ≡ Fault.Memory) }
 {
-    match question_refused(alloc, number) {
-        Ok(reply) => Ok(reply),
-        Err(_) => Err(Fault::Memory),
-    }
+    Ok(question_refused(alloc, number)?)
 }
 
 /// A sent message as an answer.
@@ -221,8 +218,5 @@ fn advice<R: Register>(
 {
     let limit = register.limit();
     let count = register.count(alloc)?;
-    match message_reply(alloc, count.min(limit), mt, reference, about) {
-        Ok(reply) => Ok(reply),
-        Err(_) => Err(Fault::Memory),
-    }
+    Ok(message_reply(alloc, count.min(limit), mt, reference, about)?)
 }

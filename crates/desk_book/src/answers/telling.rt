@@ -5,7 +5,7 @@ ghost use Rattle.desk_register.specs.View.{IfTrusted};
 ghost use Rattle.desk_holdings.specs.Ends.{HaveRead, at_register};
 ghost use Rattle.desk_engine.specs.Applied.{Keeps};
 ghost use Rattle.desk_book.specs.Held.{IsReady};
-ghost use Rattle.desk_book.specs.RowByRow.{EndsWriting, IsReported, Leaves, Shown, fault_of_walk, told_of_walk};
+ghost use Rattle.desk_book.specs.RowByRow.{EndsWriting, IsReported, Leaves, Shown, told_of_walk};
 ghost use Rattle.desk_book.specs.WrittenTo.{Writes};
 
 use crate::answers::head::Head;
@@ -15,7 +15,6 @@ use crate::fault::ToFault;
 use desk_codes::{AccountId, Bic};
 use desk_engine::{Failure, recover};
 use desk_holdings::WalkFault;
-use desk_msg::SinkFault;
 use desk_register::{Fault, Register, Stage};
 use std::alloc::Global;
 use std::io::Write;
@@ -109,19 +108,5 @@ fn is_lost_after<R: Register>(alloc: Global, register: &mut R, fault: Fault) -> 
 fn told(written: Result<Head, WalkFault>) -> Result<Head, ToFault>
     ensures { result ≡ told_of_walk written }
 {
-    match written {
-        Ok(head) => Ok(head),
-        Err(fault) => Err(fault_of_walk(fault)),
-    }
-}
-
-/// The fault that is told of a walk that broke off.
-fn fault_of_walk(fault: WalkFault) -> ToFault
-    ensures { result ≡ fault_of_walk fault }
-{
-    match fault {
-        WalkFault::Sink(SinkFault::Write) => ToFault::WriteFailed,
-        WalkFault::Sink(SinkFault::Memory) | WalkFault::Memory => ToFault::Memory,
-        WalkFault::Storage => ToFault::Storage,
-    }
+    Ok(written?)
 }
