@@ -23,6 +23,29 @@ int main(int count, char **words)
 }
 """
 
+# takes memory at its start and for each answer; after an answer that it had no memory for it has lost what it kept, or not
+ASKED = """#include <stdlib.h>
+#include <string.h>
+#include <unistd.h>
+static int say(const char *text)
+{
+    return write(1, text, strlen(text)) < 0;
+}
+int main(void)
+{
+    char line[5];
+    const char *kept = "200\\nkept\\n.\\n";
+    if (malloc(1) == NULL)
+        return say("fault 60\\n") ? 1 : 3;
+    while (read(0, line, sizeof line) == sizeof line)
+        if (malloc(1) != NULL)
+            say(kept);
+        else if (say("503\\nfault 60\\n.\\n") || LOSES)
+            kept = "200\\nlost\\n.\\n";
+    return 0;
+}
+"""
+
 
 def trials(room):
     def tried(script, *words):
@@ -42,6 +65,10 @@ def trials(room):
     write(f"{room}/case.stdout")
     yield fails("refuse_memory: no growth", tried("refuse_memory", silent, "script"), "no refusal led to this")
     yield fails("refuse_memory: no script", tried("refuse_memory", silent), "there is no script to play\n")
+    write(f"{room}/asked.c", ASKED)
+    for name, loses, told, ended in (("keeps", 0, passes, "7 passed, 0 failed"), ("loses", 1, fails, "6 passed, 2 failed")):
+        run(room, "gcc", "-O0", "-fno-builtin", f"-DLOSES={loses}", "-o", f"{room}/asked_{name}", f"{room}/asked.c")
+        yield told(f"refuse_memory: a program that {name} what it had", tried("refuse_memory", f"{room}/asked_{name}", "script"), f"\n{ended}\n")
     yield fails("refuse_words: no growth", tried("refuse_words", silent, "case"), "no refusal led to this")
     yield fails("refuse_words: no case", tried("refuse_words", silent), "there is no case to run\n")
     yield fails("refuse_words: an unknown case", tried("refuse_words", silent, "none"), "there is no none.stdout\n")
