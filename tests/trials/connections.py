@@ -44,7 +44,7 @@ def served(room, **broken):
 
 
 def trials(room):
-    for path in ("tests/serve", "tests/over_http.py"):
+    for path in ("tests/serve", "tests/server.py", "tests/over_http.py"):
         copy(path, room)
     write(f"{room}/cases/sums.stdin", ASKED.decode())
     write(f"{room}/cases/sums.stdout", ANSWERED.decode())

@@ -23,7 +23,8 @@ int main(int count, char **words)
 }
 """
 
-# takes memory at its start and for each answer; after an answer that it had no memory for it has lost what it kept, or not
+# takes memory at its start and for each answer, or none; after an answer that it had no memory for it has lost what it kept,
+# or not
 ASKED = """#include <stdlib.h>
 #include <string.h>
 #include <unistd.h>
@@ -35,10 +36,10 @@ int main(void)
 {
     char line[5];
     const char *kept = "200\\nkept\\n.\\n";
-    if (malloc(1) == NULL)
+    if (GROWTH == NULL)
         return say("fault 60\\n") ? 1 : 3;
     while (read(0, line, sizeof line) == sizeof line)
-        if (malloc(1) != NULL)
+        if (GROWTH != NULL)
             say(kept);
         else if (say("503\\nfault 60\\n.\\n") || LOSES)
             kept = "200\\nlost\\n.\\n";
@@ -63,12 +64,20 @@ def trials(room):
     # no growth of memory can be refused to a program that asks for none
     write(f"{room}/script", "sums\n")
     write(f"{room}/case.stdout")
-    yield fails("refuse_memory: no growth", tried("refuse_memory", silent, "script"), "no refusal led to this")
+    yield fails("refuse_memory: a program that does nothing", tried("refuse_memory", silent, "script"), "1 requests are answered: status 0, []\n")
     yield fails("refuse_memory: no script", tried("refuse_memory", silent), "there is no script to play\n")
     write(f"{room}/asked.c", ASKED)
-    for name, loses, told, ended in (("keeps", 0, passes, "7 passed, 0 failed"), ("loses", 1, fails, "6 passed, 2 failed")):
-        run(room, "gcc", "-O0", "-fno-builtin", f"-DLOSES={loses}", "-o", f"{room}/asked_{name}", f"{room}/asked.c")
-        yield told(f"refuse_memory: a program that {name} what it had", tried("refuse_memory", f"{room}/asked_{name}", "script"), f"\n{ended}\n")
+    asked = {
+        "keeps what it had": ("malloc(1)", 0, passes, "7 passed, 0 failed"),
+        "loses what it had": ("malloc(1)", 1, fails, "6 passed, 2 failed"),
+        "takes no memory": ("line", 0, fails, "2 passed, 5 failed"),
+    }
+    for at, (name, (growth, loses, told, ended)) in enumerate(asked.items()):
+        words = ["-O0", "-fno-builtin", f"-DGROWTH={growth}", f"-DLOSES={loses}"]
+        run(room, "gcc", *words, "-o", f"{room}/asked_{at}", f"{room}/asked.c")
+        yield told(f"refuse_memory: a program that {name}", tried("refuse_memory", f"{room}/asked_{at}", "script"), f"\n{ended}\n")
+    yield fails("refuse_http: a program that does nothing", tried("refuse_http", silent, "script"), "status 0, [b'']\n")
+    yield fails("refuse_http: no script", tried("refuse_http", silent), "there is no script to ask\n")
     yield fails("refuse_words: no growth", tried("refuse_words", silent, "case"), "no refusal led to this")
     yield fails("refuse_words: no case", tried("refuse_words", silent), "there is no case to run\n")
     yield fails("refuse_words: an unknown case", tried("refuse_words", silent, "none"), "there is no none.stdout\n")
