@@ -14,9 +14,9 @@ use Rattle.desk_msg.specs.MessageType.{digits_of_type, is_instruction}
 use Rattle.desk_msg.specs.declared.mt.Mt.{Mt}
 use Rattle.desk_msg.specs.declared.mt.Mt.TheVariants.{Mt540, Mt541, Mt542, Mt543, Mt544, Mt545, Mt546, Mt547}
 use Rattle.desk.specs.Words.{CallValue, IsAskable, IsSpelledOut, IsSaid, IsSaidBy, IsSaidIn, IsTypeText, value_of_call, desk_app, IsNumberText, IsTopic, check, explain, isin, play, read, serve, words_for}
-use Rattle.desk.specs.declared.words.Call.{Call}
-use Rattle.desk.specs.declared.words.Topic.{Topic}
-use Rattle.desk.specs.declared.words.Topic.TheVariants.{Catalogue, Number}
+use Rattle.desk.specs.declared.words.calls.Call.{Call}
+use Rattle.desk.specs.declared.words.calls.Topic.{Topic}
+use Rattle.desk.specs.declared.words.calls.Topic.TheVariants.{Catalogue, Number}
 
 pub simple : is_simple desk_app ≡ true
 unfolding clap_on_literals

@@ -4,8 +4,8 @@ use Rattle.desk_words.specs.declared.cause.Cause.{Cause}
 use Rattle.desk_words.specs.Causes.{catalogue_text, cause_text, number_of_cause}
 use Rattle.desk.specs.declared.status.Status.{Status}
 use Rattle.desk.specs.declared.status.Status.TheVariants as exit
-use Rattle.desk.specs.declared.words.Topic.{Topic}
-use Rattle.desk.specs.declared.words.Topic.TheVariants.{Catalogue, Number}
+use Rattle.desk.specs.declared.words.calls.Topic.{Topic}
+use Rattle.desk.specs.declared.words.calls.Topic.TheVariants.{Catalogue, Number}
 
 -- the line that tells that a number is told of nothing
 abbrev pub unused_line : ℕ → List ℕ

@@ -5,8 +5,8 @@ use Rattle.desk_book.specs.Lines.{has_body, is_skipped, is_stop, said_by, script
 use Rattle.desk_words.specs.declared.cause.Cause.{Cause}
 use Rattle.desk_words.specs.declared.cause.TheConstants.{CAUSES}
 use Rattle.desk_words.specs.Causes.{cause_with, heading_of, meaning_of, number_of_cause}
-use Rattle.desk.specs.declared.finding.Finding.{Finding}
-use Rattle.desk.specs.declared.finding.TheConstants.{TOLD}
+use Rattle.desk.specs.declared.findings.finding.Finding.{Finding}
+use Rattle.desk.specs.declared.findings.finding.TheConstants.{TOLD}
 
 -- the number of a line, counted from 1, what it says, and the cause that its answer tells
 pub record Found : Type 0 where

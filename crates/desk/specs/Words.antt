@@ -6,10 +6,10 @@ use Rattle.clap.specs.Words.{App, Row, Rule, Shape, first_of, new_app, new_rule,
 use Rattle.clap.specs.declared.builder.value_parser.ValueParser.TheVariants.{Signed}
 use Rattle.desk_msg.specs.MessageType.{digits_of_type, is_instruction, number_of_type}
 use Rattle.desk_msg.specs.declared.mt.Mt.{Mt}
-use Rattle.desk.specs.declared.words.Call.{Call}
-use Rattle.desk.specs.declared.words.Topic.{Topic}
-use Rattle.desk.specs.declared.words.Topic.TheVariants.{Catalogue, Number}
-use Rattle.desk.specs.declared.words.Call.TheVariants.{Isin, Read, Play, Check, Explain, Serve}
+use Rattle.desk.specs.declared.words.calls.Call.{Call}
+use Rattle.desk.specs.declared.words.calls.Topic.{Topic}
+use Rattle.desk.specs.declared.words.calls.Topic.TheVariants.{Catalogue, Number}
+use Rattle.desk.specs.declared.words.calls.Call.TheVariants.{Isin, Read, Play, Check, Explain, Serve}
 
 -- what is asked for: whether a code is an ISIN, what a message of a type says, a script's answers, what is refused in
 -- a script, what a number means or all of them, or to serve so many connections at a port

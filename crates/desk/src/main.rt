@@ -1,22 +1,14 @@
 //! The settlement desk as a program: what its words ask for, printed.
 //!
-//! It stands at the edge: the answers come from the crates below, whose contracts say what they are. The
-//! words are read in `words.rt`, a module beside it gives each subcommand's answer, `status.rt` says how a
-//! run ends, and `run.rt` joins them. Begin with `run.rt`.
+//! It stands at the edge: what is answered comes from the crates below, whose contracts say what it is. `words`
+//! reads the words, `answers` has the answer of each subcommand, `findings` what `desk check` finds in a script,
+//! `status` says how a run ends, and `run` joins them. Begin with `run.rt`.
 #![tactic(auto)]
 
-mod check;
-mod explain;
-mod finding;
-mod helps;
-mod isin;
-mod lines;
-mod play;
-mod read;
+mod answers;
+mod findings;
 mod run;
-mod serve;
 mod status;
-mod told;
 mod words;
 
 use std::io::IsTerminal;

@@ -8,12 +8,9 @@ ghost use Rattle.desk.specs.CallAnswer.{IsCallAnswer, IsMemoryTold};
 ghost use Rattle.desk.specs.Status.{failure_line, status_of_error};
 ghost use Rattle.desk.specs.Words.{CallValue, IsAskable, ReadsOnlyInstructions, IsSaidBy, value_of_call, words_for};
 
-use crate::check::answer_check;
-use crate::explain::answer_explain;
-use crate::isin::answer_isin;
-use crate::play::answer_play;
-use crate::read::answer_read;
-use crate::serve::answer_serve;
+use crate::answers::{
+    answer_check, answer_explain, answer_isin, answer_play, answer_read, answer_serve,
+};
 use crate::status::{Failure, Status, tell_failure};
 use crate::words::{Call, call_of, usage_error};
 use clap::error::{Error, ErrorKind};

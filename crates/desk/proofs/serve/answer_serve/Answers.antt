@@ -1,6 +1,0 @@
-use Rattle.desk_engine.specs.Applied.{no_books}
-use Rattle.desk_book.proofs.FormedLemmas.{empty_formed}
-use Rattle.desk.proofs.serve.answer_serve.Goals as goal
-
-pub new-desk-requires : goal.new-desk-requires
-new-desk-requires g c = record { stage = λ is. c.new-2.ensures.stage; sure = λ is honest. tt; books = λ is honest. (no_books, empty_formed _ _ c.new-2.ensures.empty) }

@@ -1,0 +1,24 @@
+use Rattle.std.proofs.lemmas.Result.{err_from_is_err_and}
+use Rattle.desk.proofs.WordsLemmas.{entered, said_by, taken, taken_alone}
+use Rattle.desk.proofs.words.calls.call_of.Goals as goal
+
+pub returns-in_err-matches-clause-asked : goal.returns-in_err-matches-clause-asked
+returns-in_err-matches-clause-asked g c = λ program asked right are.
+    let p = err_from_is_err_and c.from_residual-in_err-matches.result c.from_residual-in_err-matches.ensures.1 in
+    rw (p.1, p.2) (c.in_err-matches.ensures.passes (taken _ _ program asked c.in_ok-desk.ensures are right))
+
+pub returns-in_err-matches-clause-nothing : goal.returns-in_err-matches-clause-nothing
+returns-in_err-matches-clause-nothing g c = λ program are.
+    let p = err_from_is_err_and c.from_residual-in_err-matches.result c.from_residual-in_err-matches.ensures.1 in
+    rw (p.1, p.2) (c.in_err-matches.ensures.passes (taken_alone _ _ program c.in_ok-desk.ensures are))
+
+pub returns-in-Some-clause-asked : goal.returns-in-Some-clause-asked
+returns-in-Some-clause-asked g c = λ program asked right are.
+    c.in-Some.ensures.asked asked (entered _ _ c.in_ok-matches.matches program asked c.in_ok-matches.ensures.matches c.in_ok-desk.ensures are right)
+
+pub returns-clause-asked : goal.returns-clause-asked
+returns-clause-asked g c = λ program asked right are.
+    absurd (c.in-None.ensures.asked asked (entered _ _ c.in_ok-matches.matches program asked c.in_ok-matches.ensures.matches c.in_ok-desk.ensures are right))
+
+pub returns-in-Some-clause-said : goal.returns-in-Some-clause-said
+returns-in-Some-clause-said g c = said_by _ _ c.in_ok-matches.matches _ c.in_ok-matches.ensures.matches c.in_ok-matches.ensures.kinds c.in_ok-desk.ensures c.in-Some.ensures.said

@@ -1,0 +1,20 @@
+use Rattle.std.proofs.Common.{◌≡◌, ◌∙◌, ap, ap₂}
+use Rattle.std.proofs.lemmas.Result.{IfOk-weaker}
+use Rattle.clap.specs.Words.{App, app_of, with_subcommand}
+use Rattle.desk.specs.Words.{bare_app, check_app, explain_app, isin_app, play_app, read_app}
+use Rattle.desk.proofs.words.parser.desk.Goals as goal
+
+pub returns : goal.returns
+returns c =
+    let named : app_of c.bare.result ≡ bare_app = c.bare.ensures in
+    let first : app_of c.in_ok-subcommand.field-0 ≡ with_subcommand bare_app isin_app.top =
+    c.in_ok-subcommand.ensures.shape c.in_ok-isin.ensures.local ∙ ap₂ with_subcommand named (ap (λ (a : App). a.top) c.in_ok-isin.ensures.app) in
+    let second : app_of c.in_ok-subcommand-2.field-0 ≡ with_subcommand (with_subcommand bare_app isin_app.top) read_app.top =
+    c.in_ok-subcommand-2.ensures.shape c.in_ok-read.ensures.local ∙ ap₂ with_subcommand first (ap (λ (a : App). a.top) c.in_ok-read.ensures.app) in
+    let third : app_of c.in_ok-subcommand-3.field-0 ≡ with_subcommand (with_subcommand (with_subcommand bare_app isin_app.top) read_app.top) play_app.top =
+    c.in_ok-subcommand-3.ensures.shape c.in_ok-play.ensures.local ∙ ap₂ with_subcommand second (ap (λ (a : App). a.top) c.in_ok-play.ensures.app) in
+    let fourth : app_of c.in_ok-subcommand-4.field-0 ≡ with_subcommand (with_subcommand (with_subcommand (with_subcommand bare_app isin_app.top) read_app.top) play_app.top) check_app.top =
+    c.in_ok-subcommand-4.ensures.shape c.in_ok-check.ensures.local ∙ ap₂ with_subcommand third (ap (λ (a : App). a.top) c.in_ok-check.ensures.app) in
+    let fifth : app_of c.in_ok-subcommand-5.field-0 ≡ with_subcommand (with_subcommand (with_subcommand (with_subcommand (with_subcommand bare_app isin_app.top) read_app.top) play_app.top) check_app.top) explain_app.top =
+    c.in_ok-subcommand-5.ensures.shape c.in_ok-explain.ensures.local ∙ ap₂ with_subcommand fourth (ap (λ (a : App). a.top) c.in_ok-explain.ensures.app) in
+    IfOk-weaker c.subcommand-6.result _ _ (λ command added. added.shape c.in_ok-serve.ensures.local ∙ ap₂ with_subcommand fifth (ap (λ (a : App). a.top) c.in_ok-serve.ensures.app)) c.subcommand-6.ensures

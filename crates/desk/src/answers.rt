@@ -1,0 +1,14 @@
+//! The answer of each subcommand.
+mod check;
+mod explain;
+mod isin;
+mod play;
+mod read;
+mod serve;
+
+pub use check::answer_check;
+pub use explain::answer_explain;
+pub use isin::answer_isin;
+pub use play::answer_play;
+pub use read::answer_read;
+pub use serve::answer_serve;

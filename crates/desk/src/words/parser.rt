@@ -1,0 +1,142 @@
+//! The parser of the words: the subcommands, their arguments and their helps.
+ghost use Rattle.std.specs.Prelude.{◌≡◌, false, IfOk};
+ghost use Rattle.clap.specs.Words.{app_of, rule_of};
+ghost use Rattle.clap.specs.declared.builder.command.Command.TheViews.{out-Command};
+ghost use Rattle.desk.specs.Words.{bare_app, check_app, count_rule, desk_app, explain_app, isin_app, play_app, port_rule, read_app, serve_app};
+
+use super::helps::{CHECK, EXPLAIN, ISIN, PLAY, PROGRAM, READ, SERVE, VERSION};
+use clap::{Arg, Command, value_parser};
+use std::alloc::{AllocError, Global};
+
+/// The most connections that are served.
+const MOST_CONNECTIONS: i64 = 1_000_000;
+
+/// The program with its subcommands.
+pub fn desk<'a>(alloc: Global) -> Result<Command<'a>, AllocError>
+    ensures { IfOk result (λ command. app_of command ≡ desk_app) }
+{
+    bare(alloc)
+        .subcommand(isin(alloc)?)?
+        .subcommand(read(alloc)?)?
+        .subcommand(play(alloc)?)?
+        .subcommand(check(alloc)?)?
+        .subcommand(explain(alloc)?)?
+        .subcommand(serve(alloc)?)
+}
+
+/// The program, without its subcommands.
+fn bare<'a>(alloc: Global) -> Command<'a>
+    ensures { app_of result ≡ bare_app }
+{
+    Command::new(alloc, "desk")
+        .about("The settlement desk of a small securities depository")
+        .after_help(PROGRAM)
+        .version(VERSION)
+}
+
+fn isin<'a>(alloc: Global) -> Result<Command<'a>, AllocError>
+    ensures app { IfOk result (λ command. app_of command ≡ isin_app) }
+    ensures local { IfOk result (λ command. (out-Command command).has_globals ≡ false) }
+{
+    Command::new(alloc, "isin")
+        .about("Checks the identification number of a security")
+        .after_help(ISIN)
+        .arg(
+            Arg::new(alloc, "code")
+                .value_name("CODE")
+                .help("The number, as US0378331005")
+                .required(true),
+        )
+}
+
+fn read<'a>(alloc: Global) -> Result<Command<'a>, AllocError>
+    ensures app { IfOk result (λ command. app_of command ≡ read_app) }
+    ensures local { IfOk result (λ command. (out-Command command).has_globals ≡ false) }
+{
+    Command::new(alloc, "read")
+        .about("Reads a settlement instruction, block 4, from standard input")
+        .after_help(READ)
+        .arg(
+            Arg::new(alloc, "mt")
+                .value_name("MT")
+                .help("The type of the message, 540 to 543")
+                .required(true)
+                .value_parser(value_parser!(u16).range(540..=543)),
+        )
+}
+
+fn play<'a>(alloc: Global) -> Result<Command<'a>, AllocError>
+    ensures app { IfOk result (λ command. app_of command ≡ play_app) }
+    ensures local { IfOk result (λ command. (out-Command command).has_globals ≡ false) }
+{
+    Ok(
+        Command::new(alloc, "play")
+            .about(
+                "Plays a script of requests from standard input on a desk in memory (the default)",
+            )
+            .after_help(PLAY),
+    )
+}
+
+fn check<'a>(alloc: Global) -> Result<Command<'a>, AllocError>
+    ensures app { IfOk result (λ command. app_of command ≡ check_app) }
+    ensures local { IfOk result (λ command. (out-Command command).has_globals ≡ false) }
+{
+    Ok(
+        Command::new(alloc, "check")
+            .about("Plays a script as play does, and tells what is refused in it, and why")
+            .after_help(CHECK),
+    )
+}
+
+fn explain<'a>(alloc: Global) -> Result<Command<'a>, AllocError>
+    ensures app { IfOk result (λ command. app_of command ≡ explain_app) }
+    ensures local { IfOk result (λ command. (out-Command command).has_globals ≡ false) }
+{
+    Command::new(alloc, "explain")
+        .about("Tells what a refusal or a fault means, and what to do about it")
+        .after_help(EXPLAIN)
+        .arg(
+            Arg::new(alloc, "number")
+                .value_name("N")
+                .help("Its number, as 12 of `refused 12`; without it all are told")
+                .value_parser(value_parser!(u8).range(1..=99)),
+        )
+}
+
+fn serve<'a>(alloc: Global) -> Result<Command<'a>, AllocError>
+    ensures app { IfOk result (λ command. app_of command ≡ serve_app) }
+    ensures local { IfOk result (λ command. (out-Command command).has_globals ≡ false) }
+{
+    Command::new(alloc, "serve")
+        .about(
+            "Serves requests over HTTP on 127.0.0.1, one connection after another, on a desk in memory",
+        )
+        .after_help(SERVE)
+        .arg(port(alloc))?
+        .arg(count(alloc))
+}
+
+fn port<'a>(alloc: Global) -> Arg<'a>
+    ensures rule { rule_of result ≡ port_rule }
+    ensures local { result.global ≡ false }
+{
+    Arg::new(alloc, "port")
+        .long("port")
+        .value_name("N")
+        .help("The port, 1 to 65535")
+        .required(true)
+        .value_parser(value_parser!(u16).range(1..=65535))
+}
+
+fn count<'a>(alloc: Global) -> Arg<'a>
+    ensures rule { rule_of result ≡ count_rule }
+    ensures local { result.global ≡ false }
+{
+    Arg::new(alloc, "count")
+        .long("count")
+        .value_name("N")
+        .help("How many connections are served, 1 to 1000000")
+        .required(true)
+        .value_parser(value_parser!(u32).range(1..=MOST_CONNECTIONS))
+}
