@@ -1,6 +1,8 @@
-"""Times the bench program beside plain Python, the same work and the same figures in one run; and, with no Python
-beside them, a register that takes entries in, the desk's program playing scripts, and the same served over HTTP."""
+"""Times the bench program beside plain Python, the same work and the same figures in one run; scripts played over tables in
+SQL, beside their statements asked of Python's SQLite; and, with no Python beside them, a register that takes entries in, the
+desk's program playing scripts, and the same served over HTTP."""
 
+import contextlib
 import functools
 import http.server
 import itertools
@@ -10,15 +12,19 @@ import os
 import re
 import resource
 import socket
+import sqlite3
 import string
 import subprocess
 import sys
+import tempfile
 import time
 
 sys.dont_write_bytecode = True
 sys.path.insert(0, os.path.join(os.path.dirname(os.path.abspath(__file__)), "..", "tests"))
 
 from over_http import requests_of, sent_for  # noqa: E402
+from scripts import requests_in  # noqa: E402
+from statements import Desk  # noqa: E402
 
 
 def check_digit(body):
@@ -150,6 +156,11 @@ MOST_TURNS, ENOUGH_SECONDS = 9, 10
 # The proved program; a script has so many bytes at most.
 DESK = "crates/desk/out/desk"
 LONGEST_SCRIPT = 16_777_216
+
+# The program that plays scripts over tables in SQL; and the folder in which its files are made, one that lies in memory,
+# where there is such.
+TABLES = "crates/desk_store_trials/out/desk_store_trials"
+SHARED_MEMORY = "/dev/shm"
 
 # In the scripts that are played: the security, the request for the totals, and after how many rounds a run settles
 # their pairs.
@@ -317,10 +328,10 @@ def free_script(requests):
     return "".join([*OPENING, issued, *rounds, *rest * [SUMS]]).encode(), pairs
 
 
-def played(program, script, pairs):
-    """The processor seconds that the desk takes to play a script in which so many pairs settle."""
+def played(program, script, pairs, *words):
+    """The processor seconds that a program takes to play a script in which so many pairs settle."""
     started = processor_time()
-    done = subprocess.run([program, "play"], input=script, capture_output=True, check=True)
+    done = subprocess.run([program, "play", *words], input=script, capture_output=True, check=True)
     taken = processor_time() - started
     settled = sum(map(int, re.findall(rb"^accepted [0-9]+ settled ([0-9]+) waiting [01]$", done.stdout, re.MULTILINE)))
     if settled != pairs:
@@ -337,9 +348,9 @@ def likely_seconds(size, taken):
     return size * (second / many + growth * (size - many))
 
 
-def measure_growing(work, one, many, timed_at):
-    """Work of growing size, each unless it would take too long: its name, and what is counted. The call gives how
-    many pairs are settled at a size, and the processor seconds that it takes."""
+def measure_growing(work, one, many, timed_at, who="desk"):
+    """Work of growing size, each unless it would take too long: its name, what is counted, and who does it. The call gives
+    how many pairs are settled at a size, and the processor seconds that it takes."""
     taken = []
     for size in SIZES:
         likely = likely_seconds(size, taken)
@@ -352,21 +363,102 @@ def measure_growing(work, one, many, timed_at):
         pairs, seconds = timed_at(size)
         taken.append((size, seconds))
         rate, cost = size / seconds, seconds / size * 1e6
-        print(f"{work} {size:,} {many}, {pairs:,} pairs settled: desk {rate:,.0f} {many}/s, {cost:.1f} us/{one}")
+        print(f"{work} {size:,} {many}, {pairs:,} pairs settled: {who} {rate:,.0f} {many}/s, {cost:.1f} us/{one}")
 
 
-def script_timed(script_of, size):
-    """A script of so many requests, played by the desk's program."""
+def played_by_desk(script, pairs):
+    return played(DESK, script, pairs)
+
+
+def played_in_tables(script, pairs):
+    """As `played`, over tables in SQL in memory."""
+    return played(TABLES, script, pairs)
+
+
+@contextlib.contextmanager
+def new_path():
+    """A path at which there is no file, in a folder that goes with it."""
+    with tempfile.TemporaryDirectory(dir=SHARED_MEMORY if os.path.isdir(SHARED_MEMORY) else None) as folder:
+        yield os.path.join(folder, "desk.db")
+
+
+def played_in_file(script, pairs):
+    """As `played`, over tables in SQL in a new file."""
+    with new_path() as path:
+        return played(TABLES, script, pairs, path)
+
+
+@functools.lru_cache(maxsize=1)
+def bare_desk(script):
+    """A desk of bench/statements.py that has played a script."""
+    desk = Desk()
+    for request in requests_in(script):
+        desk.play(request.decode())
+    return desk
+
+
+def asked_of_sqlite(script, pairs):
+    """The processor seconds that Python's SQLite takes for the statements of a script, on a new file with a log of its writes,
+    as the desk's library has one."""
+    desk = bare_desk(script)
+    if desk.settled != pairs:
+        sys.exit(f"store: {desk.settled} pairs settled of {pairs}")
+    with new_path() as path:
+        started = processor_time()
+        with contextlib.closing(sqlite3.connect(path, isolation_level=None)) as connection:
+            connection.execute("PRAGMA journal_mode = WAL")
+            for text, parameters in desk.asked:
+                connection.execute(text, parameters).fetchall()
+        return processor_time() - started
+
+
+def rows_in(connection):
+    """The rows of the desk's tables; of texts that are replies or messages the length alone."""
+    rows = {}
+    for (table,) in connection.execute("SELECT name FROM sqlite_master WHERE type = 'table'").fetchall():
+        found = sorted(connection.execute(f"SELECT * FROM {table}"))
+        rows[table] = [(*it[:-1], len(it[-1])) for it in found] if table in ("register", "sent") else found
+    return rows
+
+
+def compare_tables():
+    """The tables after a day, of the desk and of the bare one, whose statements are timed beside it."""
+    script, pairs = mixed_script(SIZES[0])
+    with new_path() as path:
+        played(TABLES, script, pairs, path)
+        with contextlib.closing(sqlite3.connect(path)) as connection:
+            if rows_in(connection) != rows_in(bare_desk(script).connection):
+                sys.exit("store: the tables of the bare desk are others than the desk's")
+
+
+def script_timed(script_of, play, size):
+    """A script of so many requests, played."""
     script, pairs = script_of(size)
     if len(script) > LONGEST_SCRIPT:
         sys.exit(f"play: a script of {len(script):,} bytes is longer than the desk takes")
-    return pairs, min(played(DESK, script, pairs) for _ in range(TURNS))
+    return pairs, min(play(script, pairs) for _ in range(TURNS))
 
 
 def measure_play():
     """Scripts of growing length, of a mixed day and of free deliveries alone."""
-    measure_growing("play of a mixed day of", "request", "requests", functools.partial(script_timed, mixed_script))
-    measure_growing("play of free deliveries of", "request", "requests", functools.partial(script_timed, free_script))
+    for day, script_of in (("a mixed day", mixed_script), ("free deliveries", free_script)):
+        timed_at = functools.partial(script_timed, script_of, played_by_desk)
+        measure_growing(f"play of {day} of", "request", "requests", timed_at)
+
+
+def measure_store():
+    """Scripts of growing length, of a mixed day, over the program's store and over tables in SQL, and their statements asked
+    of Python's SQLite."""
+    compare_tables()
+    work = [
+        ("play over the index", played_by_desk, "desk"),
+        ("play over SQL in a file", played_in_file, "desk"),
+        ("its statements on a file", asked_of_sqlite, "Python's SQLite"),
+        ("play over SQL in memory", played_in_tables, "desk"),
+    ]
+    for name, play, who in work:
+        timed_at = functools.partial(script_timed, mixed_script, play)
+        measure_growing(f"{name} of a mixed day of", "request", "requests", timed_at, who)
 
 
 def least_timed(call):
@@ -465,13 +557,15 @@ def measure_http():
 
 
 def main(program, kinds):
-    for kind in kinds or [*KINDS, "block", "register", "play", "http"]:
+    for kind in kinds or [*KINDS, "block", "register", "play", "store", "http"]:
         if kind == "block":
             measure_blocks(program)
         elif kind == "register":
             measure_register(program)
         elif kind == "play":
             measure_play()
+        elif kind == "store":
+            measure_store()
         elif kind == "http":
             measure_http()
         else:

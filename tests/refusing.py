@@ -1,5 +1,6 @@
 """Builds libraries that are loaded before the C library, and runs a program while one growth of memory is refused: what
-tests/refuse_memory, tests/refuse_http, tests/refuse_words, tests/refuse_register and tests/bounded_memory share."""
+tests/refuse_memory, tests/refuse_http, tests/refuse_words, tests/refuse_register and tests/bounded_memory share.
+tests/refuse_disk builds its library by it too."""
 
 import os
 import subprocess
@@ -16,7 +17,7 @@ NO_ROOM = 3, [b"fault 60\n"]
 
 
 def build(folder, name="refusing"):
-    """Gives the library of a name: the one that refuses, or the one that watches."""
+    """Gives the library of a name: the one that refuses, the one that watches, or the one that fails calls."""
     library = os.path.join(folder, f"{name}.so")
     words = ["gcc", "-shared", "-fPIC", "-O2", "-Wall", "-Werror", "-fno-builtin", "-o", library]
     subprocess.run([*words, os.path.join(HERE, f"{name}.c")], check=True)

@@ -1,4 +1,5 @@
-"""The requests of a script and the answers that are printed to it: what tests/refuse_memory and tests/refuse_disk share."""
+"""The requests of a script and the answers that are printed to it: what tests/refuse_memory, tests/refuse_disk and
+bench/measure.py share."""
 
 
 def requests_in(script):

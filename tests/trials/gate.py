@@ -9,6 +9,9 @@ TOOLS = ["rt", "python3", "gcc", "git"]
 # the one script of tests/ that counts and is not in the gate
 OUTSIDE = "wrong_programs"
 WELL = "echo '99999 passed, 0 failed'"
+# the scripts that the gate runs on the program over tables in SQL too
+SHARED = ["random_scripts", "refuse_memory", "run_cases"]
+TABLES = "crates/desk_store_trials/out/desk_store_trials"
 
 # each way in which a part goes wrong: how its script is changed, and what ./test says of it
 FAULTS = {
@@ -45,6 +48,13 @@ def trials_of_parts(room):
             file.write(sound)
 
 
+def trials_of_tables(room):
+    for part in SHARED:
+        write_script(f"{room}/tests/{part}", f"[ $1 != {TABLES} ] || echo '0 passed, 0 failed'", f"[ $1 = {TABLES} ] || {WELL}")
+        yield fails(f"{part} runs nothing over SQL", run(room, "./test"), f"tests/{part} passed 0, and its least count is ")
+        write_script(f"{room}/tests/{part}", WELL)
+
+
 def trials_of_programs(room, programs):
     for program in programs:
         write_script(f"{room}/tests/prove_all", *proofs(it for it in programs if it != program))
@@ -74,5 +84,6 @@ def trials(room):
     write_script(f"{room}/bin/rt")
     yield passes("a sound gate", run(room, "./test"), "9 passed, 0 failed\n")
     yield from trials_of_parts(room)
+    yield from trials_of_tables(room)
     yield from trials_of_programs(room, programs)
     yield from trials_of_tools(room)

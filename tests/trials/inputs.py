@@ -1,4 +1,5 @@
-"""Trials of the scripts that make input for the program, or refuse it memory, with programs that do nothing."""
+"""Trials of the scripts that make input for the program, or refuse it memory or a file, with programs that do nothing, or
+little."""
 
 from .room import TESTS, fails, passes, run, write
 
@@ -47,6 +48,22 @@ int main(void)
 }
 """
 
+# opens a file, and answers a question; it does nothing more where it cannot open it, or goes on
+OPENS = """#include <fcntl.h>
+#include <stdio.h>
+int main(int count, char **words)
+{
+    char line[8];
+    if (open(words[count - 1], O_RDWR | O_CREAT, 0600) < 0 && STOPS) {
+        puts("fault 61");
+        return 3;
+    }
+    while (fgets(line, sizeof line, stdin) != NULL)
+        puts("200\\n{}\\n.");
+    return 0;
+}
+"""
+
 
 def trials(room):
     def tried(script, *words):
@@ -78,6 +95,14 @@ def trials(room):
         yield told(f"refuse_memory: a program that {name}", tried("refuse_memory", f"{room}/asked_{at}", "script"), f"\n{ended}\n")
     yield fails("refuse_http: a program that does nothing", tried("refuse_http", silent, "script"), "status 0, [b'']\n")
     yield fails("refuse_http: no script", tried("refuse_http", silent), "there is no script to ask\n")
+    write(f"{room}/opens.c", OPENS)
+    for name, stops in (("stops", "-DSTOPS=1"), ("goes_on", "-DSTOPS=0")):
+        run(room, "gcc", stops, "-o", f"{room}/{name}", f"{room}/opens.c")
+    for name, told, ended in (("stops", passes, "6 passed, 0 failed"), ("goes_on", fails, "3 passed, 4 failed")):
+        ran = tried("refuse_disk", f"{room}/{name}", "script")
+        yield told(f"refuse_disk: a program that cannot open its file and {name}", ran, f"\n{ended}\n")
+    yield fails("refuse_disk: no answer", tried("refuse_disk", silent, "script"), "1 requests are answered: status 0, b''")
+    yield fails("refuse_disk: no script", tried("refuse_disk", silent), "there is no script to play\n")
     yield fails("refuse_words: no growth", tried("refuse_words", silent, "case"), "no refusal led to this")
     yield fails("refuse_words: no case", tried("refuse_words", silent), "there is no case to run\n")
     yield fails("refuse_words: an unknown case", tried("refuse_words", silent, "none"), "there is no none.stdout\n")
