@@ -1,4 +1,4 @@
-"""A program's `serve`, and a client of it: what tests/serve and tests/refuse_http ask."""
+"""A program's `serve`, and a client of it: what tests/serve, tests/refuse_http and tests/random_streams ask."""
 
 import http.client
 import socket

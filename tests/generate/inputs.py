@@ -1,9 +1,10 @@
-"""Random input of a program: its words, and its standard input in parts."""
+"""Random input of a program: its words, and its standard input in parts, or what connections send to it."""
 
 from plain.scripts import lines_with_ends
 
 from .messages import random_text
 from .scripts import random_script
+from .streams import random_streams, sent_by
 
 
 def script_input(chance):
@@ -13,3 +14,7 @@ def script_input(chance):
 def block_input(chance):
     mt = chance.pick((540, 541, 542, 543))
     return ["read", str(mt)], lines_with_ends(random_text(chance, mt))
+
+
+def stream_input(chance):
+    return ["serve"], [sent_by(stream) for stream in random_streams(chance)]

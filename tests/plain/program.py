@@ -2,6 +2,7 @@
 
 from .blocks import Refused, read_block
 from .codes import isin_fault
+from .connections import responses
 from .messages import fields_text, read_message
 from .scripts import play
 
@@ -20,9 +21,11 @@ def answer_read(mt, text):
 
 
 def answer(words, given):
-    """The answer to words that are no usage."""
+    """The answer to words that are no usage. Those that serve are given all that each connection sends."""
     if words[:1] == ["isin"]:
         return answer_isin(words[1])
     if words[:1] == ["read"]:
         return answer_read(int(words[1]), given)
+    if words[:1] == ["serve"]:
+        return responses(given)
     return play(given)

@@ -1,13 +1,18 @@
-"""Trials of the random scripts: whether the plain program, playing some of them, gives each kind of answer."""
+"""Trials of the random scripts and streams: whether the plain program, playing some of the one and serving some days of
+the other, gives each kind of answer."""
 
 import re
 
 from generate.chance import Chance
 from generate.scripts import random_script
+from generate.stream_trial import is_heard_out
+from generate.streams import random_streams, sent_by
 from generate.trial import DEFAULT_SEED
+from plain.connections import responses
 from plain.scripts import answers_to
 
 SCRIPTS = 250
+DAYS = 60
 
 
 def op(name, answer):
@@ -96,6 +101,54 @@ EVENTS = {
 }
 
 
+# each kind of response: its status, the type of its message where it has one, and its text
+RESPONSES = {
+    "accepted": (200, None, rb"accepted .*"),
+    "sums": (200, None, rb"{.*"),
+    "refused by the rules": (422, None, rb"refused (10|1[57]|3[1-8]|42)"),
+    "an unreadable command": (400, None, rb"refused 30"),
+    "an unreadable message": (400, None, rb"refused [1-8]( [^ ]*)?"),
+    "an advice": (200, 548, rb"{4:.*"),
+    "an advice of a refusal": (422, 548, rb"{4:.*DESK.*"),
+    "a statement": (200, 535, rb"{4:.*"),
+    "a confirmation of a delivery": (200, rb"54[67]", rb"{4:.*"),
+    "a confirmation of a receipt": (200, rb"54[45]", rb"{4:.*"),
+    **{f"a {it}": (it, None, rb"refused %d" % it) for it in (400, 404, 405, 411, 413, 431)},
+}
+
+
+def pattern_of(status, mt, text):
+    """A response of this kind."""
+    of_type = b"Message-Type: %s\r\n" % (mt if isinstance(mt, bytes) else b"%d" % mt) if mt else b""
+    fields = rb"Content-Type: text/plain\r\n%sConnection: close\r\n" % of_type
+    return re.compile(rb"HTTP/1\.1 %d [A-Za-z ]+\r\n%s\r\n%s" % (status, fields, text), re.DOTALL)
+
+
+def days(count, seed=DEFAULT_SEED):
+    """The streams of so many days of a seed, each with the responses of which it gets one."""
+    for number in range(count):
+        streams = random_streams(Chance(seed, number))
+        yield from zip(streams, responses(map(sent_by, streams)))
+
+
+def trials_of_streams():
+    asked = list(days(DAYS))
+    of_days = f"in {DAYS} days of random streams there is"
+    for name, kind in RESPONSES.items():
+        seen = sum(bool(pattern_of(*kind).fullmatch(some[0])) for _, some in asked)
+        yield f"{of_days} {name}", seen > 0, (seen, "")
+    kinds = {
+        "one that may be refused in two ways": lambda stream, some: len(some) > 1,
+        "one that is answered before its end": lambda stream, _: stream.stays_open and is_heard_out(stream),
+        "one that is answered behind its end": lambda stream, _: not is_heard_out(stream),
+        "one that comes in pieces": lambda stream, _: len(stream.pieces) > 1,
+        "one that comes byte by byte": lambda stream, _: len(stream.pieces) == len(sent_by(stream)) > 1,
+    }
+    for name, is_one in kinds.items():
+        seen = sum(is_one(*it) for it in asked)
+        yield f"{of_days} {name}", seen > 0, (seen, "")
+
+
 def answered(script):
     """The requests of a script and what the plain program answers, each as one text."""
     return [(line + b"\n" + (body or b""), answer[: -len(b"\n.\n")]) for line, body, answer in answers_to(script)]
@@ -115,3 +168,4 @@ def counts(scripts, seed=DEFAULT_SEED):
 def trials(_):
     for name, seen in counts(SCRIPTS).items():
         yield f"in {SCRIPTS} random scripts there is {name}", seen > 0, (seen, "")
+    yield from trials_of_streams()

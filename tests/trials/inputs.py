@@ -72,7 +72,7 @@ def trials(room):
     plain, silent = f"{TESTS}/plain/desk", f"{room}/silent"
     write(f"{room}/silent.c", SILENT)
     run(room, "gcc", "-o", silent, f"{room}/silent.c")
-    for script in ("random_scripts", "random_blocks"):
+    for script in ("random_scripts", "random_blocks", "random_streams"):
         yield passes(f"{script}: the plain program", tried(script, plain, "2"), "\n2 passed, 0 failed\n")
         yield fails(f"{script}: a program that does nothing", tried(script, silent, "2"), "\n0 passed, 2 failed\n")
         yield fails(f"{script}: no program", tried(script, f"{room}/none", "2"), "No such file")
