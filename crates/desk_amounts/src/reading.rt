@@ -1,5 +1,6 @@
 //! What the rows that a statement shows say.
-ghost use Rattle.std.specs.Prelude.{ℕ, Option, Some, None, IfOk, List, [], ◌∷◌, ◌≡◌, pos};
+ghost use Rattle.std.specs.Prelude.{ℕ, Option, Some, None, Ok, IfOk, IsOk, List, [], ◌∷◌, ◌≡◌, ◌<◌, length, pos};
+ghost use Rattle.desk_codes.specs.CheckDigit.{IsIsin};
 ghost use Rattle.sqlite.specs.Effect.{Database};
 ghost use Rattle.sqlite.specs.Order.{column};
 ghost use Rattle.sqlite.specs.declared.types.Value.TheVariants.{Int, Text as Words};
@@ -13,7 +14,8 @@ use sqlite::{Error, Row};
 
 /// The number in a column.
 fn number_at(row: &Row, at: usize) -> Result<u64, Error>
-    ensures { IfOk result (λ n. column row.now at ≡ Int (pos n)) }
+    ensures value { IfOk result (λ n. column row.now at ≡ Int (pos n)) }
+    ensures all { (n : ℕ) → at < length row.now → column row.now at ≡ Int (pos n) → result ≡ Ok n }
 {
     match row.get_ref(at)? {
         ValueRef::Int(number) if number >= 0 => Ok(number as u64),
@@ -23,7 +25,8 @@ fn number_at(row: &Row, at: usize) -> Result<u64, Error>
 
 /// The ISIN in a column.
 fn isin_at(row: &Row, at: usize) -> Result<Isin, Error>
-    ensures { IfOk result (λ isin. column row.now at ≡ Words isin) }
+    ensures value { IfOk result (λ isin. column row.now at ≡ Words isin) }
+    ensures all { (text : List ℕ) → at < length row.now → column row.now at ≡ Words text → IsIsin text → IsOk result }
 {
     match row.get_ref(at)? {
         ValueRef::Text(text) => match Isin::parse(text) {
@@ -36,7 +39,7 @@ fn isin_at(row: &Row, at: usize) -> Result<Isin, Error>
 
 /// The amount that the rows of a key show.
 pub(crate) fn amount_shown(rows: &[Row]) -> Result<Option<u64>, Error>
-    ensures { (recorded : Option ℕ) → ShowsAmount rows.now recorded → IfOk result (λ r. r ≡ recorded) }
+    ensures { (recorded : Option ℕ) → ShowsAmount rows.now recorded → result ≡ Ok recorded }
 {
     match rows.first() {
         Some(row) => Ok(Some(number_at(row, 0)?)),
@@ -46,7 +49,8 @@ pub(crate) fn amount_shown(rows: &[Row]) -> Result<Option<u64>, Error>
 
 /// The holding that the rows of a walk show.
 pub(crate) fn holding_shown(rows: &[Row]) -> Result<Option<(Isin, u64)>, Error>
-    ensures { (db : Database) (account : List ℕ) (above : Option (List ℕ)) → ShowsNext db account above rows.now → IfOk result (IsNextHolding db account above) }
+    ensures value { (db : Database) (account : List ℕ) (above : Option (List ℕ)) → ShowsNext db account above rows.now → IfOk result (IsNextHolding db account above) }
+    ensures all { (isin : List ℕ) (quantity : ℕ) → rows.now ≡ (Words isin ∷ Int (pos quantity) ∷ []) ∷ [] → IsIsin isin → IsOk result }
 {
     match rows.first() {
         Some(row) => Ok(Some((isin_at(row, 0)?, number_at(row, 1)?))),

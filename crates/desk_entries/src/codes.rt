@@ -1,5 +1,5 @@
 //! The codes and the numbers that a shown row holds. What is none is answered as a damaged database.
-ghost use Rattle.std.specs.Prelude.{◌≡◌, pos, IfOk};
+ghost use Rattle.std.specs.Prelude.{◌≡◌, ◌<◌, ◌^◌, ℕ, List, length, pos, Ok, IfOk, IsOk};
 ghost use Rattle.sqlite_value.specs.Order.{column};
 ghost use Rattle.sqlite_value.specs.declared.value.Value.TheVariants.{Int, Text};
 ghost use Rattle.desk_codes.specs.Currency.{letters_of};
@@ -47,7 +47,8 @@ pub(crate) const PREVIOUS: usize = 15;
 
 /// The text in a column.
 pub fn text_at(row: &Row, at: usize) -> Result<&[u8], Error>
-    ensures { IfOk result (λ text. column row.now at ≡ Text text.now) }
+    ensures value { IfOk result (λ text. column row.now at ≡ Text text.now) }
+    ensures all { (text : List ℕ) → at < length row.now → column row.now at ≡ Text text → IsOk result }
 {
     match row.get_ref(at)? {
         ValueRef::Text(text) => Ok(text),
@@ -57,7 +58,8 @@ pub fn text_at(row: &Row, at: usize) -> Result<&[u8], Error>
 
 /// The number in a column, which is not below 0.
 pub fn number_at(row: &Row, at: usize) -> Result<u64, Error>
-    ensures { IfOk result (λ number. column row.now at ≡ Int (pos number)) }
+    ensures value { IfOk result (λ number. column row.now at ≡ Int (pos number)) }
+    ensures all { (number : ℕ) → at < length row.now → column row.now at ≡ Int (pos number) → result ≡ Ok number }
 {
     match row.get_ref(at)? {
         ValueRef::Int(number) => match u64::try_from(number) {
@@ -158,7 +160,8 @@ pub(crate) fn settlement_at(row: &Row, at: usize) -> Result<SettlementType, Erro
 
 /// A number of 16 bits.
 pub(crate) fn short_at(row: &Row, at: usize) -> Result<u16, Error>
-    ensures { IfOk result (λ number. column row.now at ≡ Int (pos number)) }
+    ensures value { IfOk result (λ number. column row.now at ≡ Int (pos number)) }
+    ensures all { (number : ℕ) → number < 2 ^ 16 → at < length row.now → column row.now at ≡ Int (pos number) → IsOk result }
 {
     match u16::try_from(number_at(row, at)?) {
         Ok(number) => Ok(number),

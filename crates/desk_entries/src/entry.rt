@@ -1,8 +1,9 @@
 //! The entry that a shown row says.
-ghost use Rattle.std.specs.Prelude.{◌≡◌, IfOk};
+ghost use Rattle.std.specs.Prelude.{◌≡◌, ◌<◌, length, IfOk, IsOk};
 ghost use Rattle.sqlite_value.specs.Order.{column};
 ghost use Rattle.sqlite_value.specs.declared.value.Value.TheVariants.{Int};
 ghost use Rattle.std.specs.Prelude.{pos};
+ghost use Rattle.desk_rules.specs.declared.history.entry.RunRule.{RunRule as Rule};
 ghost use Rattle.desk_entries.specs.Columns.{kind_number, number_of_rule};
 ghost use Rattle.desk_entries.specs.Reading.{Says, SaysMovement, SaysOf, SaysPayment};
 
@@ -93,7 +94,8 @@ fn cancellation_in(row: &Row) -> Result<Entry, Error>
 }
 
 fn rule_in(row: &Row) -> Result<RunRule, Error>
-    ensures { IfOk result (λ rule. column row.now RULE ≡ Int (pos (number_of_rule rule))) }
+    ensures value { IfOk result (λ rule. column row.now RULE ≡ Int (pos (number_of_rule rule))) }
+    ensures all { (rule : Rule) → RULE < length row.now → column row.now RULE ≡ Int (pos (number_of_rule rule)) → IsOk result }
 {
     match number_at(row, RULE)? {
         1 => Ok(RunRule::OnePass),

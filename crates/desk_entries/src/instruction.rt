@@ -1,5 +1,6 @@
 //! The instruction that a shown row says.
-ghost use Rattle.std.specs.Prelude.{◌≡◌, ◌≤◌, ◌<◌, IfOk, true, length, pos};
+ghost use Rattle.std.specs.Prelude.{◌≡◌, ◌≤◌, ◌<◌, IfOk, IfErr, true, length, pos, nat_le};
+ghost use Rattle.sqlite.specs.declared.error.ErrorCode.TheVariants.{OutOfMemory};
 ghost use Rattle.sqlite_value.specs.Order.{column};
 ghost use Rattle.sqlite_value.specs.declared.value.Value.TheVariants.{Int};
 ghost use Rattle.desk_codes.specs.Number.{written_number};
@@ -23,7 +24,8 @@ const LONGEST: usize = 15;
 /// Whether a number that is no 0, in minor units, is written in as many characters as a message has for one.
 fn is_short(alloc: Global, value: u64, decimals: usize) -> Result<bool, Error>
     requires { decimals ≤ 3 }
-    ensures { IfOk result (λ short. short ≡ true → length (written_number value decimals) ≤ 15) }
+    ensures value { IfOk result (λ short. short ≡ nat_le (length (written_number value decimals)) 15) }
+    ensures err { IfErr result (λ e. e ≡ Error.SqliteFailure OutOfMemory) }
 {
     match write_number(alloc, value, decimals) {
         Ok(text) => Ok(text.len() <= LONGEST),

@@ -1,5 +1,5 @@
 //! How many entries there are, and what the one of a number is and was answered.
-ghost use Rattle.std.specs.Prelude.{◌≡◌, ◌<◌, ◌^◌, ℕ, List, Option, IfOk, length, option_map, pos};
+ghost use Rattle.std.specs.Prelude.{◌≡◌, ◌<◌, ◌^◌, ℕ, List, Option, Ok, IfOk, length, option_map, pos};
 ghost use Rattle.sqlite.specs.Held.{state};
 ghost use Rattle.desk_rules.specs.declared.answers.reply.Kept.{Kept};
 ghost use Rattle.desk_rules.specs.History.{entry_at};
@@ -59,7 +59,7 @@ fn reply_rows<S: Alter>(conn: &mut Connection<S>, number: u64) -> Result<Vec<Row
 
 /// The number in the one row, 0 where there is none.
 fn count_in(rows: &[Row]) -> Result<u64, Error>
-    ensures { (n : ℕ) → rows.now ≡ count_rows n → IfOk result (λ count. count ≡ n) }
+    ensures { (n : ℕ) → rows.now ≡ count_rows n → result ≡ Ok n }
 {
     match rows.first() {
         Some(row) => number_at(row, 0),

@@ -1,5 +1,5 @@
 //! Reading what a look-up shows: one column of one row, or no row.
-ghost use Rattle.std.specs.Prelude.{◌≡◌, ℕ, List, Option, is_some, option_map, IfOk};
+ghost use Rattle.std.specs.Prelude.{◌≡◌, ℕ, List, Option, is_some, option_map, IfOk, IsOk};
 ghost use Rattle.desk_msg.specs.declared.instruction.Kind.{Kind};
 ghost use Rattle.desk_msg.specs.Profile.{code_of_kind};
 ghost use Rattle.desk_finding.specs.Rows.{number_rows, text_rows};
@@ -12,7 +12,8 @@ use sqlite::{Error, Row};
 
 /// The number that is shown.
 pub fn only_number(rows: &[Row]) -> Result<Option<u64>, Error>
-    ensures { (found : Option ℕ) → rows.now ≡ number_rows found → IfOk result (λ r. r ≡ found) }
+    ensures value { (found : Option ℕ) → rows.now ≡ number_rows found → IfOk result (λ r. r ≡ found) }
+    ensures all { (found : Option ℕ) → rows.now ≡ number_rows found → IsOk result }
 {
     match rows {
         [] => Ok(None),
@@ -23,7 +24,8 @@ pub fn only_number(rows: &[Row]) -> Result<Option<u64>, Error>
 
 /// Whether a text is shown.
 pub fn is_shown(rows: &[Row]) -> Result<bool, Error>
-    ensures { (found : Option (List ℕ)) → rows.now ≡ text_rows found → IfOk result (λ r. r ≡ is_some found) }
+    ensures value { (found : Option (List ℕ)) → rows.now ≡ text_rows found → IfOk result (λ r. r ≡ is_some found) }
+    ensures all { (found : Option (List ℕ)) → rows.now ≡ text_rows found → IsOk result }
 {
     match rows {
         [] => Ok(false),

@@ -1,6 +1,6 @@
 //! Numbers as SQL has them, which are signed.
 
-ghost use Rattle.std.specs.Prelude.{◌≡◌, ◌+◌, ◌<◌, ◌^◌, IfOk};
+ghost use Rattle.std.specs.Prelude.{◌≡◌, ◌+◌, ◌<◌, ◌^◌, IfOk, IsOk};
 ghost use Rattle.std.specs.Int.{w64, cast_signed};
 ghost use Rattle.sqlite_value.specs.Value.{owned};
 ghost use Rattle.sqlite.specs.declared.types.Value.TheVariants.{Int};
@@ -19,6 +19,7 @@ pub fn integer<'a>(number: u64) -> ValueRef<'a>
 pub fn next(last: u64) -> Result<u64, Error>
     ensures value { IfOk result (λ number. number ≡ last + 1) }
     ensures below { IfOk result (λ number. number < 2 ^ 63) }
+    ensures all { last + 1 < 2 ^ 63 → IsOk result }
 {
     if last < i64::MAX as u64 {
         Ok(last + 1)

@@ -1,6 +1,7 @@
 //! The messages that were sent.
 
-ghost use Rattle.std.specs.Prelude.{◌≡◌, ◌+◌, ◌<◌, ◌^◌, ℕ, List, length, IfOk, OnOk};
+ghost use Rattle.std.specs.Prelude.{◌≡◌, ◌+◌, ◌<◌, ◌^◌, ℕ, List, length, IfOk, IfErr, OnOk};
+ghost use Rattle.sqlite.specs.declared.error.ErrorCode.TheVariants.{OutOfMemory};
 ghost use Rattle.sqlite.specs.Held.{state};
 ghost use Rattle.desk_rules.specs.declared.answers.reply.Sent.{Sent as Message};
 ghost use Rattle.desk_rules.specs.Questions.{confirms_it, sent_at};
@@ -76,7 +77,8 @@ pub fn add_sent<S: Alter>(conn: &mut Connection<S>, message: &Sent) -> Result<()
 }
 
 fn last_in(rows: &[Row]) -> Result<u64, Error>
-    ensures { (last : ℕ) → IsLast rows.now last → IfOk result (λ r. r ≡ last) }
+    ensures value { (last : ℕ) → IsLast rows.now last → IfOk result (λ r. r ≡ last) }
+    ensures all { (last : ℕ) → IsLast rows.now last → IfErr result (λ e. e ≡ Error.SqliteFailure OutOfMemory) }
 {
     let number = number_in(rows)?;
     Ok(number.unwrap_or(0))

@@ -1,6 +1,7 @@
 //! What the rows of a query say.
 
-ghost use Rattle.std.specs.Prelude.{◌≡◌, ◌<◌, ◌^◌, ◌∷◌, [], ℕ, pos, Option, IfOk};
+ghost use Rattle.std.specs.Prelude.{◌≡◌, ◌<◌, ◌^◌, ◌∷◌, [], ℕ, pos, List, length, Option, IfOk, IfErr, IsOk};
+ghost use Rattle.sqlite.specs.declared.error.ErrorCode.TheVariants.{OutOfMemory};
 ghost use Rattle.sqlite_value.specs.Order.{column};
 ghost use Rattle.sqlite.specs.declared.types.Value.TheVariants.{Text as Words, Int};
 ghost use Rattle.desk_rules.specs.declared.answers.reply.Sent.{Sent as Message};
@@ -15,7 +16,8 @@ use std::alloc::Global;
 
 /// The number that the first row shows; None where there is no row.
 pub fn number_in(rows: &[Row]) -> Result<Option<u64>, Error>
-    ensures { (number : Option ℕ) → IsNumber rows.now number → IfOk result (λ r. r ≡ number) }
+    ensures value { (number : Option ℕ) → IsNumber rows.now number → IfOk result (λ r. r ≡ number) }
+    ensures all { (number : Option ℕ) → IsNumber rows.now number → IfErr result (λ e. e ≡ Error.SqliteFailure OutOfMemory) }
 {
     match rows.first() {
         Some(row) => Ok(Some(row.get(0)?)),
@@ -50,7 +52,8 @@ fn message_of(alloc: Global, row: &Row) -> Result<Sent, Error>
 
 /// The bytes of a text.
 fn text_at(row: &Row, at: usize) -> Result<&[u8], Error>
-    ensures { IfOk result (λ bytes. column row.now at ≡ Words bytes.now) }
+    ensures value { IfOk result (λ bytes. column row.now at ≡ Words bytes.now) }
+    ensures all { (text : List ℕ) → at < length row.now → column row.now at ≡ Words text → IsOk result }
 {
     match row.get_ref(at)? {
         ValueRef::Text(bytes) => Ok(bytes),
@@ -60,7 +63,8 @@ fn text_at(row: &Row, at: usize) -> Result<&[u8], Error>
 
 /// A message type: a number of 16 bits.
 fn mt_at(row: &Row, at: usize) -> Result<u16, Error>
-    ensures { IfOk result (λ mt. column row.now at ≡ Int (pos mt)) }
+    ensures value { IfOk result (λ mt. column row.now at ≡ Int (pos mt)) }
+    ensures all { (mt : ℕ) → mt < 2 ^ 16 → at < length row.now → column row.now at ≡ Int (pos mt) → IfErr result (λ e. e ≡ Error.SqliteFailure OutOfMemory) }
 {
     let number: u64 = row.get(at)?;
     u16::try_from(number).map_err(|_| CORRUPT)

@@ -1,6 +1,6 @@
 //! What is handed to a statement, and what it answers.
 
-ghost use Rattle.std.specs.Prelude.{◌≡◌, OnOk};
+ghost use Rattle.std.specs.Prelude.{◌≡◌, OnOk, IsOk};
 ghost use Rattle.sqlite.specs.declared.types.Value.TheVariants.{Int};
 ghost use Rattle.sqlite_value.specs.Value.{owned};
 
@@ -17,7 +17,8 @@ pub fn signed<'a>(number: i64) -> ValueRef<'a>
 
 /// One row was changed. It is an error where there was none.
 pub fn one_row(count: usize) -> Result<(), Error>
-    ensures { OnOk result (count ≡ 1) }
+    ensures one { OnOk result (count ≡ 1) }
+    ensures all { count ≡ 1 → IsOk result }
 {
     if count == 1 { Ok(()) } else { Err(CORRUPT) }
 }

@@ -1,6 +1,6 @@
 //! How a state is written in two numbers, and read.
 
-ghost use Rattle.std.specs.Prelude.{◌≡◌, ◌≤◌, ◌==◌, ℕ, IfOk};
+ghost use Rattle.std.specs.Prelude.{◌≡◌, ◌≢◌, ◌≤◌, ◌==◌, ℕ, IfOk, IsOk};
 ghost use Rattle.desk_standings.specs.Standings.{state_code, reason_code, state_written, mate_written, columns_of, standing_written, IsStandingShown, Written};
 ghost use Rattle.desk_rules.specs.declared.history.standing.Standing.{Standing};
 ghost use Rattle.desk_rules.specs.Standing.{no_standing};
@@ -39,7 +39,8 @@ pub fn reason_code(state: State) -> u64
 
 /// The state that two numbers write; an error where they write none.
 fn state_written(state: u64, reason: u64) -> Result<State, Error>
-    ensures { IfOk result (λ s. s ≡ state_written state reason) }
+    ensures value { IfOk result (λ s. s ≡ state_written state reason) }
+    ensures all { state_written state reason ≢ State.NoInstruction → IsOk result }
 {
     match (state, reason) {
         (1, 0) => Ok(State::Unmatched),
@@ -54,7 +55,8 @@ fn state_written(state: u64, reason: u64) -> Result<State, Error>
 
 /// Whether a cancellation was requested; an error where the number is neither 0 nor 1.
 fn request_written(asked: u64) -> Result<bool, Error>
-    ensures { IfOk result (λ r. r ≡ (asked == 1)) }
+    ensures value { IfOk result (λ r. r ≡ (asked == 1)) }
+    ensures all { asked ≤ 1 → IsOk result }
 {
     match asked {
         0 => Ok(false),

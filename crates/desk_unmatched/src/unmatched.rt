@@ -1,5 +1,6 @@
 //! The calls on the table.
-ghost use Rattle.std.specs.Prelude.{◌≡◌, ℕ, ◌<◌, ◌^◌, ◌∷◌, [], pos, IfOk, OnOk};
+ghost use Rattle.std.specs.Prelude.{◌≡◌, ℕ, ◌<◌, ◌^◌, ◌∷◌, [], pos, Option, IfOk, IfErr, OnOk};
+ghost use Rattle.sqlite.specs.declared.error.ErrorCode.TheVariants.{OutOfMemory};
 ghost use Rattle.sqlite.specs.State.{HasCleanDisk, Executes, Shown};
 ghost use Rattle.sqlite.specs.Held.{state};
 ghost use Rattle.sqlite.specs.declared.types.Value.TheVariants.{Int};
@@ -81,7 +82,8 @@ fn first_of<S: Alter>(conn: &mut Connection<S>, like: &Instructed) -> Result<Vec
 
 /// The number in the first of these rows, where there is one.
 fn number_in(rows: &[Row]) -> Result<Option<u64>, Error>
-    ensures { IfOk result (ReadsNumber rows.now) }
+    ensures value { IfOk result (ReadsNumber rows.now) }
+    ensures all { (number : Option ℕ) → ReadsNumber rows.now number → IfErr result (λ e. e ≡ Error.SqliteFailure OutOfMemory) }
 {
     match rows.first() {
         Some(row) => Ok(Some(row.get(0)?)),

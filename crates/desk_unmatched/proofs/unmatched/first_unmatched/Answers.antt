@@ -7,4 +7,4 @@ returns-clause-found g c clean is_open has =
     let old = state g.S.Store c.args.conn.now in
     let new = state g.S.Store c.first_of.new.conn in
     finds_first old.now _ c.deref.result.now c.in_ok-rows.rows.items c.number_in.result c.deref.ensures.value
-    (first_shown old new (record { sender = c.args.sender; instruction = c.args.instruction.now }) c.opposite_of.result c.in_ok-rows.rows.items has c.opposite_of.ensures (c.in_ok-rows.ensures.shown clean)) c.number_in.ensures
+    (first_shown old new (record { sender = c.args.sender; instruction = c.args.instruction.now }) c.opposite_of.result c.in_ok-rows.rows.items has c.opposite_of.ensures (c.in_ok-rows.ensures.shown clean)) c.number_in.ensures.value
