@@ -25,7 +25,7 @@ pub fn version<S: Alter>(conn: &mut Connection<S>) -> Result<Option<u64>, Error>
 
 /// Says the version of these tables, where none was said.
 pub fn set_version<S: Alter>(conn: &mut Connection<S>) -> Result<(), Error>
-    ensures set { IfSound (state S.Store conn.old) (state S.Store conn.new) (HasVersion (state S.Store conn.old).now None → OnOk result (SetsVersion (state S.Store conn.old).now (state S.Store conn.new).now VERSION)) }
+    ensures set { IfSound (state S.Store conn.old) (state S.Store conn.new) (HasVersion (state S.Store conn.old).now None → OnOk result (SetsVersion (state S.Store conn.old).now (state S.Store conn.new).now 3)) }
     ensures write { IsWrite result (state S.Store conn.old) (state S.Store conn.new) }
 {
     insert(conn)?;
@@ -44,7 +44,7 @@ fn version_rows<S: Alter>(conn: &mut Connection<S>) -> Result<Vec<Row>, Error>
 }
 
 fn insert<S: Alter>(conn: &mut Connection<S>) -> Result<usize, Error>
-    ensures set { IfSound (state S.Store conn.old) (state S.Store conn.new) (HasVersion (state S.Store conn.old).now None → OnOk result (SetsVersion (state S.Store conn.old).now (state S.Store conn.new).now VERSION)) }
+    ensures set { IfSound (state S.Store conn.old) (state S.Store conn.new) (HasVersion (state S.Store conn.old).now None → OnOk result (SetsVersion (state S.Store conn.old).now (state S.Store conn.new).now 3)) }
     ensures write { IsWrite result (state S.Store conn.old) (state S.Store conn.new) }
 {
     execute(

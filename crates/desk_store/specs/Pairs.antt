@@ -1,11 +1,20 @@
 -- What both instructions of a pair become.
-use Rattle.std.specs.Prelude.{ℕ}
+use Rattle.std.specs.Prelude.{◌≡◌, ℕ, List, Some}
 use Rattle.sqlite.specs.Effect.{Database}
 use Rattle.desk_register.specs.Changes.{standing_both}
+use Rattle.desk_rules.specs.Content.{Content, history_of}
+use Rattle.desk_rules.specs.History.{instruction_at}
+use Rattle.desk_rules.specs.declared.history.entry.Instructed.{Instructed}
 use Rattle.desk_rules.specs.declared.history.standing.State.{State}
 use Rattle.desk_standings.specs.Standings.{StandingsChanged, standing_in}
 use Rattle.desk_tables.specs.Ends.{SparesOthers}
 use Rattle.desk_unmatched.specs.Unmatched.{AreUnmatched, Noted, forgetting}
+
+-- the day is the settlement day of the instruction of this number
+pub record IsItsDay (content : Content) (n : ℕ) (day : List ℕ) : Type 0 where
+  pub instructed : Instructed
+  pub is_instruction : instruction_at (history_of content) n ≡ Some instructed
+  pub is_day : day ≡ instructed.instruction.day
 
 -- both stand so, as each other's mates
 abbrev pub StandBoth : Database → Database → ℕ → ℕ → State → Type 0

@@ -12,7 +12,7 @@ ghost use Rattle.desk_store.specs.Appending.{IsAlone};
 ghost use Rattle.desk_store.specs.Content.{content_in};
 ghost use Rattle.desk_store.specs.Holds.{Becomes, IsDesk};
 
-use crate::numbers::{checked, corrupt};
+use crate::numbers::checked;
 use desk_amounts::{AmountKey, put, take};
 use desk_codes::{Bic, Isin};
 use desk_entries::{add_entry, entry_count};
@@ -20,6 +20,7 @@ use desk_finding::number_of;
 use desk_msg::CancelOrder;
 use desk_rules::{Entry, Instructed, Movement, Payment, Reply, Sender};
 use desk_standings::standings::{add_standing, ask};
+use desk_tables::values::CORRUPT;
 use desk_unmatched::unmatched::note_unmatched;
 use sqlite::{Alter, Connection, Error};
 
@@ -57,7 +58,7 @@ fn take_off<S: Alter>(conn: &mut Connection<S>, key: &AmountKey, amount: u64) ->
     if take(conn, key, amount)? {
         Ok(())
     } else {
-        Err(corrupt())
+        Err(CORRUPT)
     }
 }
 
@@ -164,7 +165,7 @@ fn append_cancel<S: Alter>(
     ensures write { IsWrite result (state S.Store conn.old) (state S.Store conn.new) }
 {
     let Some(number) = number_of(conn, Sender::Participant(sender), order.previous)? else {
-        return Err(corrupt());
+        return Err(CORRUPT);
     };
     let named = checked(number)?;
     let entry = Entry::Cancel {

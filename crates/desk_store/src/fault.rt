@@ -8,7 +8,7 @@ use sqlite::{Error, ErrorCode};
 
 /// How a call failed, as it is told of the register: want of memory, or the device, which is counted.
 pub fn fault_of(error: Error, failures: &mut u64) -> Fault
-    ensures { Counts result failures.old failures.new }
+    ensures { Counts error result failures.old failures.new }
 {
     match error {
         Error::SqliteFailure(ErrorCode::OutOfMemory | ErrorCode::TooBig) => Fault::Memory,

@@ -1,11 +1,12 @@
 //! What is looked up in the tables, as the register says it.
-ghost use Rattle.std.specs.Prelude.{◌≡◌, ◌+◌, length, option_map, IfOk};
+ghost use Rattle.std.specs.Prelude.{◌≡◌, ◌+◌, Some, length, option_and_then, option_map, IfOk, IsOk};
 ghost use Rattle.sqlite.specs.Held.{state};
 ghost use Rattle.desk_tables.specs.Ends.{IfSound, IsLook};
 ghost use Rattle.desk_rules.specs.Content.{history_of};
 ghost use Rattle.desk_rules.specs.Balances.{issued, redeemed};
 ghost use Rattle.desk_rules.specs.Questions.{sent_at};
-ghost use Rattle.desk_rules.specs.History.{entry_at, number_of_key};
+ghost use Rattle.desk_rules.specs.History.{entry_at, instructed, instruction_at, number_of_key};
+ghost use Rattle.desk_rules.specs.declared.history.entry.Instructed.{Instructed};
 ghost use Rattle.desk_rules.specs.Facts.{is_participant, owner_of, kind_of, last_run};
 ghost use Rattle.desk_codes.specs.Number.{number_of};
 ghost use Rattle.desk_register.specs.Looked.{confirmation_in, held_cash_of, held_of, reply_at, sent_to, IsDuePairAfter, IsFirstOpposite, IsHoldingAfter, IsPaid, IsSecurityAfter};
@@ -18,10 +19,11 @@ use desk_entries::{entry_at, entry_count, reply_at};
 use desk_finding::{is_participant, kind_of, last_run, number_of, owner_of, security_after};
 use desk_msg::{Instruction, Kind};
 use desk_register::Holding;
-use desk_rules::{Entry, Place, Reply, Sender, Sent, Standing};
+use desk_rules::{Entry, Instructed, Place, Reply, Sender, Sent, Standing};
 use desk_sent::{confirmation_of, sent_at, sent_count};
 use desk_standings::due::next_due;
 use desk_standings::standings::standing;
+use desk_tables::values::CORRUPT;
 use desk_unmatched::unmatched::first_unmatched;
 use sqlite::{Alter, Connection, Error};
 use std::alloc::Global;
@@ -163,6 +165,29 @@ pub fn entry<S: Alter>(
     ensures look { IsLook result (state S.Store conn.old) (state S.Store conn.new) }
 {
     entry_at(conn, alloc, number)
+}
+
+fn instructed_by(entry: Option<Entry>) -> Result<Instructed, Error>
+    ensures value { IfOk result (λ i. option_and_then instructed entry ≡ Some i) }
+    ensures all { (i : Instructed) → option_and_then instructed entry ≡ Some i → IsOk result }
+{
+    match entry {
+        Some(entry) => entry.instructed().ok_or(CORRUPT),
+        None => Err(CORRUPT),
+    }
+}
+
+/// The instruction of this number, where the entry of it is one.
+pub fn instruction<S: Alter>(
+    conn: &mut Connection<S>,
+    alloc: Global,
+    number: u64,
+) -> Result<Instructed, Error>
+    ensures value { IfSound (state S.Store conn.old) (state S.Store conn.new) (IsDesk (state S.Store conn.old).now → IfOk result (λ i. instruction_at (history_of (content_in (state S.Store conn.old).now)) number ≡ Some i)) }
+    ensures look { IsLook result (state S.Store conn.old) (state S.Store conn.new) }
+{
+    let found = entry(conn, alloc, number)?;
+    instructed_by(found)
 }
 
 /// The reply that is kept with the entry of this number.

@@ -34,7 +34,8 @@ fn begin_making<S: Alter>(conn: &mut Connection<S>) -> Result<usize, Error>
 
 /// Whether a database has no table, no index and no view.
 fn has_no_table<S: Alter>(conn: &Connection<S>) -> bool
-    ensures { IsTrue result → (state S.Store conn.now).now.schema ≡ no_schema }
+    ensures some { IsTrue result → (state S.Store conn.now).now.schema ≡ no_schema }
+    ensures all { (state S.Store conn.now).now.schema ≡ no_schema → IsTrue result }
 {
     let schema = conn.schema();
     schema.tables.as_slice().is_empty()
@@ -69,6 +70,7 @@ impl<S: Alter + Drop> SqlRegister<S> {
         ensures sure { IfOk result (λ r. HasCleanDisk (state S.Store r.connection) → (shown (state S.Store r.connection) r.stage r.failures r.room).is_sure) }
         ensures limit { IfOk result (λ r. r.room ≡ limit) }
         ensures stage { IfOk result (λ r. r.stage ≡ Stage.Idle) }
+        ensures unmade { IfOk result (λ r. (state S.Store conn).now.schema ≡ no_schema) }
     {
         if !has_no_table(&conn) {
             return Err(Error::SqliteFailure(ErrorCode::CannotOpen));

@@ -1,21 +1,18 @@
 //! Two instructions become a pair, or a pair is cancelled.
-ghost use Rattle.std.specs.Prelude.{◌≡◌, ◌≢◌, ◌<◌, ◌^◌, Some, option_and_then, OnOk, IfOk};
+ghost use Rattle.std.specs.Prelude.{◌≡◌, ◌≢◌, ◌<◌, ◌^◌, OnOk, IfOk};
 ghost use Rattle.sqlite.specs.Held.{state};
 ghost use Rattle.desk_tables.specs.Ends.{IfSound, IsLook, IsWrite};
 ghost use Rattle.desk_register.specs.Changes.{CanCancelPair, CanPair, pair_cancelled, paired};
-ghost use Rattle.desk_rules.specs.Content.{history_of};
-ghost use Rattle.desk_rules.specs.History.{instruction_at, instructed};
-ghost use Rattle.desk_rules.specs.declared.history.entry.Instructed.{Instructed};
 ghost use Rattle.desk_standings.specs.Standings.{AreStandings};
 ghost use Rattle.desk_store.specs.Content.{content_in};
 ghost use Rattle.desk_store.specs.Holds.{Becomes, IsDesk};
-ghost use Rattle.desk_store.specs.Pairs.{ForgetsBoth, StandBoth};
+ghost use Rattle.desk_store.specs.Pairs.{ForgetsBoth, IsItsDay, StandBoth};
 
-use crate::looking::entry;
-use crate::numbers::{checked, corrupt};
+use crate::looking::instruction;
+use crate::numbers::in_order;
 use desk_codes::Day;
 use desk_msg::Reason;
-use desk_rules::{Entry, State};
+use desk_rules::State;
 use desk_standings::due::{forget_due, note_due};
 use desk_standings::standings::set_standing;
 use desk_unmatched::unmatched::forget_unmatched;
@@ -51,22 +48,22 @@ fn forget_both<S: Alter>(conn: &mut Connection<S>, earlier: u64, later: u64) -> 
     forget_unmatched(conn, later)
 }
 
-fn settlement_day(entry: Option<Entry>) -> Result<Day, Error>
-    ensures { IfOk result (λ day. (i : Instructed) → option_and_then instructed entry ≡ Some i → day ≡ i.instruction.day) }
-{
-    match entry {
-        Some(Entry::Instruct { instruction, .. }) => Ok(instruction.day),
-        _ => Err(corrupt()),
-    }
-}
-
-/// The settlement day of the instruction of this number.
-pub fn day_of<S: Alter>(conn: &mut Connection<S>, alloc: Global, number: u64) -> Result<Day, Error>
-    ensures value { IfSound (state S.Store conn.old) (state S.Store conn.new) (IsDesk (state S.Store conn.old).now → IfOk result (λ day. (i : Instructed) → instruction_at (history_of (content_in (state S.Store conn.old).now)) number ≡ Some i → day ≡ i.instruction.day)) }
+/// The settlement day of the later of two instructions.
+fn later_day<S: Alter>(
+    conn: &mut Connection<S>,
+    alloc: Global,
+    earlier: u64,
+    later: u64,
+) -> Result<Day, Error>
+    ensures first { IfOk result (λ day. 0 < earlier) }
+    ensures order { IfOk result (λ day. earlier < later) }
+    ensures small { IfOk result (λ day. later < 1_000_000_000) }
+    ensures value { IfSound (state S.Store conn.old) (state S.Store conn.new) (IsDesk (state S.Store conn.old).now → IfOk result (IsItsDay (content_in (state S.Store conn.old).now) later)) }
     ensures look { IsLook result (state S.Store conn.old) (state S.Store conn.new) }
 {
-    let found = entry(conn, alloc, number)?;
-    settlement_day(found)
+    in_order(earlier, later)?;
+    let instructed = instruction(conn, alloc, later)?;
+    Ok(instructed.instruction.day)
 }
 
 /// Makes two unmatched opposite instructions each other's mates.
@@ -79,12 +76,7 @@ pub fn pair<S: Alter>(
     ensures changed { IfSound (state S.Store conn.old) (state S.Store conn.new) (IsDesk (state S.Store conn.old).now → CanPair (content_in (state S.Store conn.old).now) earlier later → OnOk result (Becomes (state S.Store conn.new).now (paired earlier later (content_in (state S.Store conn.old).now)))) }
     ensures write { IsWrite result (state S.Store conn.old) (state S.Store conn.new) }
 {
-    let earlier = checked(earlier)?;
-    let later = checked(later)?;
-    if later <= earlier {
-        return Err(corrupt());
-    }
-    let day = day_of(conn, alloc, later)?;
+    let day = later_day(conn, alloc, earlier, later)?;
     stand_both(conn, earlier, later, State::Matched(Reason::Future))?;
     forget_both(conn, earlier, later)?;
     note_due(conn, day, later)
@@ -100,12 +92,7 @@ pub fn cancel_pair<S: Alter>(
     ensures changed { IfSound (state S.Store conn.old) (state S.Store conn.new) (IsDesk (state S.Store conn.old).now → CanCancelPair (content_in (state S.Store conn.old).now) earlier later → OnOk result (Becomes (state S.Store conn.new).now (pair_cancelled earlier later (content_in (state S.Store conn.old).now)))) }
     ensures write { IsWrite result (state S.Store conn.old) (state S.Store conn.new) }
 {
-    let earlier = checked(earlier)?;
-    let later = checked(later)?;
-    if later <= earlier {
-        return Err(corrupt());
-    }
-    let day = day_of(conn, alloc, later)?;
+    let day = later_day(conn, alloc, earlier, later)?;
     stand_both(conn, earlier, later, State::Cancelled)?;
     forget_due(conn, day, later)
 }

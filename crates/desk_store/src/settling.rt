@@ -1,11 +1,9 @@
 //! A matched pair is tried: it settles, or it lacks something.
-ghost use Rattle.std.specs.Prelude.{◌≡◌, ◌≢◌, ℕ, ◌+◌, ◌<◌, ◌^◌, [], true, Some, option_and_then, IfOk, OnOk};
+ghost use Rattle.std.specs.Prelude.{◌≡◌, ◌≢◌, ℕ, ◌+◌, ◌<◌, ◌^◌, [], true, Some, IfOk, OnOk, IsOk};
 ghost use Rattle.sqlite.specs.Held.{state};
 ghost use Rattle.desk_codes.specs.Number.{number_of};
 ghost use Rattle.desk_tables.specs.Ends.{IfSound, IsLook, IsWrite, Stays};
 ghost use Rattle.desk_amounts.specs.Amounts.{AreAmounts};
-ghost use Rattle.desk_rules.specs.Content.{history_of};
-ghost use Rattle.desk_rules.specs.History.{instructed, instruction_at};
 ghost use Rattle.desk_register.specs.Changes.{CanSettle, FitsCash, IsPairAt, SidesFit, TriesPair, delivering_side, receiving_side};
 ghost use Rattle.desk_standings.specs.Due.{AreDue};
 ghost use Rattle.desk_standings.specs.Standings.{AreStandings};
@@ -14,16 +12,17 @@ ghost use Rattle.desk_store.specs.Holds.{IsDesk};
 ghost use Rattle.desk_store.specs.Pairs.{StandBoth};
 ghost use Rattle.desk_store.specs.Settling.{state_then, more_held, more_cash, AmountsSo, Closes, Frees, IsMarked, IsTrial, MovesBoth, MovesLegs, TakesCash, TakesHeld};
 
-use crate::looking::{entry, standing_of};
-use crate::numbers::corrupt;
+use crate::looking::{instruction, standing_of};
+use crate::numbers::in_order;
 use crate::pairing::stand_both;
 use desk_amounts::{AmountKey, put, take};
 use desk_codes::{AccountId, Bic, Day, Isin};
 use desk_msg::{Cash, Reason};
 use desk_register::Outcome;
-use desk_rules::{Entry, Instructed, Lack, MOST_ENTRIES, State};
+use desk_rules::{Instructed, Lack, State};
 use desk_standings::due::forget_due;
 use desk_tables::control::{go_back, release, save};
+use desk_tables::values::CORRUPT;
 use sqlite::{Alter, Connection, Error};
 use std::alloc::Global;
 
@@ -192,28 +191,6 @@ pub struct FoundPair {
     ghost small: { number < 1_000_000_000 },
 }
 
-fn instructed_by(entry: Option<Entry>) -> Result<Instructed, Error>
-    ensures { IfOk result (λ i. option_and_then instructed entry ≡ Some i) }
-{
-    match entry {
-        Some(entry) => entry.instructed().ok_or(corrupt()),
-        None => Err(corrupt()),
-    }
-}
-
-/// The instruction of this number.
-fn instruction<S: Alter>(
-    conn: &mut Connection<S>,
-    alloc: Global,
-    number: u64,
-) -> Result<Instructed, Error>
-    ensures value { IfSound (state S.Store conn.old) (state S.Store conn.new) (IsDesk (state S.Store conn.old).now → IfOk result (λ i. instruction_at (history_of (content_in (state S.Store conn.old).now)) number ≡ Some i)) }
-    ensures look { IsLook result (state S.Store conn.old) (state S.Store conn.new) }
-{
-    let found = entry(conn, alloc, number)?;
-    instructed_by(found)
-}
-
 /// The number of the mate of an instruction.
 fn mate_of<S: Alter>(conn: &mut Connection<S>, number: u64) -> Result<u64, Error>
     ensures value { IfSound (state S.Store conn.old) (state S.Store conn.new) (IsDesk (state S.Store conn.old).now → IfOk result (λ mate. ((content_in (state S.Store conn.old).now).standing number).mate ≡ Some mate)) }
@@ -222,7 +199,7 @@ fn mate_of<S: Alter>(conn: &mut Connection<S>, number: u64) -> Result<u64, Error
     let standing = standing_of(conn, number)?;
     match standing.mate {
         Some(mate) => Ok(mate),
-        None => Err(corrupt()),
+        None => Err(CORRUPT),
     }
 }
 
@@ -232,18 +209,16 @@ fn pair_of(
     earlier: Instructed,
     later: Instructed,
 ) -> Result<FoundPair, Error>
-    ensures { IfOk result (λ p. (p.mate ≡ mate) × (p.number ≡ number) × (p.earlier ≡ earlier) × (p.later ≡ later)) }
+    ensures value { IfOk result (λ p. (p.mate ≡ mate) × (p.number ≡ number) × (p.earlier ≡ earlier) × (p.later ≡ later)) }
+    ensures all { 0 < mate → mate < number → number < 1_000_000_000 → IsOk result }
 {
-    if 0 < mate && mate < number && number <= MOST_ENTRIES {
-        Ok(FoundPair {
-            mate,
-            number,
-            earlier,
-            later,
-        })
-    } else {
-        Err(corrupt())
-    }
+    in_order(mate, number)?;
+    Ok(FoundPair {
+        mate,
+        number,
+        earlier,
+        later,
+    })
 }
 
 /// The pair of the later instruction's number.

@@ -10,7 +10,7 @@ use Rattle.desk_store.proofs.pairing.cancel_pair.Goals as goal
 pub returns-clause-changed : goal.returns-clause-changed
 returns-clause-changed g c clean is_open has desk can =
     let s0 = state g.S.Store c.args.conn.now in
-    let s1 = state g.S.Store c.day_of.new.conn in
+    let s1 = state g.S.Store c.later_day.new.conn in
     let s2 = state g.S.Store c.stand_both.new.conn in
     let s3 = state g.S.Store c.forget_due.new.conn in
     let clean2 : HasCleanDisk s2 = omega (arith, clean, c.forget_due.ensures.write.later.clean) in
@@ -19,6 +19,6 @@ returns-clause-changed g c clean is_open has desk can =
     let has1 : s1.now.schema ≡ desk_schema = ap (λ d. d.schema) same.now ∙ has in
     let stays2 = c.in_ok-stand_both.ensures.write.ok clean2 same.is_open has1 in
     let stood = c.in_ok-stand_both.ensures.changed clean2 same.is_open has1 (subst AreStandings (sym same.now) desk.standings) in
-    let rows = due_rows_kept s0.now s1.now s2.now c.in_ok-earlier.earlier c.in_ok-later.later Cancelled same.now stood desk.due_rows in
-    cancel_call s0.now s1.now s2.now s2 s3 c.args.earlier c.args.later c.in_ok-earlier.earlier c.in_ok-later.later c.in_ok-day.day c.forget_due.result c.in_ok-earlier.ensures.same c.in_ok-later.ensures.same same.now desk can
+    let rows = due_rows_kept s0.now s1.now s2.now c.args.earlier c.args.later Cancelled same.now stood desk.due_rows in
+    cancel_call s0.now s1.now s2.now s2 s3 c.args.earlier c.args.later c.in_ok-day.day c.forget_due.result same.now desk can
     (c.in_ok-day.ensures.value clean1 is_open has desk) stood (c.forget_due.ensures.write.ok clean stays2.is_open stays2.schema) (c.forget_due.ensures.changed clean stays2.is_open stays2.schema rows)

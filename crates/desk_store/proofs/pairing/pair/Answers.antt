@@ -11,7 +11,7 @@ use Rattle.desk_store.proofs.pairing.pair.Goals as goal
 pub returns-clause-changed : goal.returns-clause-changed
 returns-clause-changed g c clean is_open has desk can =
     let s0 = state g.S.Store c.args.conn.now in
-    let s1 = state g.S.Store c.day_of.new.conn in
+    let s1 = state g.S.Store c.later_day.new.conn in
     let s2 = state g.S.Store c.stand_both.new.conn in
     let s3 = state g.S.Store c.forget_both.new.conn in
     let s4 = state g.S.Store c.note_due.new.conn in
@@ -24,6 +24,6 @@ returns-clause-changed g c clean is_open has desk can =
     let stood = c.in_ok-stand_both.ensures.changed clean2 same.is_open has1 (subst AreStandings (sym same.now) desk.standings) in
     let stays3 = c.in_ok-forget_both.ensures.write.ok clean3 stays2.is_open stays2.schema in
     let forgot = c.in_ok-forget_both.ensures.changed clean3 stays2.is_open stays2.schema in
-    let rows = due_rows_after s2.now s3.now c.in_ok-earlier.earlier c.in_ok-later.later forgot (due_rows_kept s0.now s1.now s2.now c.in_ok-earlier.earlier c.in_ok-later.later (Matched Future) same.now stood desk.due_rows) in
-    pair_call s0.now s1.now s2.now s3.now s3 s4 c.args.earlier c.args.later c.in_ok-earlier.earlier c.in_ok-later.later c.in_ok-day.day c.note_due.result c.in_ok-earlier.ensures.same c.in_ok-later.ensures.same same.now desk can
+    let rows = due_rows_after s2.now s3.now c.args.earlier c.args.later forgot (due_rows_kept s0.now s1.now s2.now c.args.earlier c.args.later (Matched Future) same.now stood desk.due_rows) in
+    pair_call s0.now s1.now s2.now s3.now s3 s4 c.args.earlier c.args.later c.in_ok-day.day c.note_due.result same.now desk can
     (c.in_ok-day.ensures.value clean1 is_open has desk) stood forgot (c.note_due.ensures.write.ok clean stays3.is_open stays3.schema) (c.note_due.ensures.changed clean stays3.is_open stays3.schema rows)
