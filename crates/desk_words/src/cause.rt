@@ -209,7 +209,7 @@ impl Cause {
                 "Send block 4 alone, from {4: to -}, without the blocks 1 to 3 before it."
             }
             Cause::BadLine => {
-                "Look at that line: a field begins with a tag between colons, and -} is the last line."
+                "Look at that line: a field begins with a tag between colons, and -} is the last line. Often it is a character other than printable ASCII, text that begins with - or :, a space behind -} or behind the code of a 16R or 16S, or an empty line behind {4:, a 16R or a 16S."
             }
             Cause::BadNesting => {
                 "Close each 16R by a 16S of its name, the innermost first, before the -}; at most 16 may be open."
@@ -229,7 +229,7 @@ impl Cause {
                 "Have the operator register it, or ask with the BIC that is registered."
             }
             Cause::Entry(Refusal::ReferenceReused) => {
-                "Send the message under a new reference; the same message again is answered as before."
+                "Send it under a new reference: the message that has this one stands as before, and the same again is answered as before."
             }
             Cause::Entry(Refusal::PlaceNotUs) => {
                 "Name DESKDEFF, or send the instruction to its own place of settlement."
@@ -260,13 +260,13 @@ impl Cause {
                 "Have the counterparty cancel its side too."
             }
             Cause::Command => {
-                "Write one JSON object with just the members of its op (docs/RULES.md, Commands, has them)."
+                "Write one JSON object with just the members of its op, and values of their form (docs/RULES.md, Commands, has both)."
             }
             Cause::Entry(Refusal::CommandReused) => {
                 "Give the command under a new reference; the same command again is answered as before."
             }
             Cause::Entry(Refusal::Exists) => {
-                "Go on with the one that is there, or give the new one another name."
+                "Look at the one that is there: the account may be another participant's, the security of another kind. Go on with it, or give the new one another name."
             }
             Cause::Entry(Refusal::ParticipantUnknown) => {
                 "Correct the BIC, or register the participant first."
@@ -289,7 +289,7 @@ impl Cause {
             Cause::Line => {
                 "Write one of the lines of a script (./desk help play), and end a body by a line that is a full stop."
             }
-            Cause::NoSuchMessage => { "Ask for a lower number; they are counted from 1." }
+            Cause::NoSuchMessage => { "Count from 1; or ask again later, no more was sent yet." }
             Cause::NoMemory => { "Ask again, with more memory." }
             Cause::DeviceFailed => { "See to the device, and ask again." }
             Cause::DeskClosed => {
