@@ -1,4 +1,4 @@
-"""Trials of tests/run_cases, with a made-up program."""
+"""Trials of tests/run_cases and tests/run_changes, with made-up programs."""
 
 import os
 
@@ -12,7 +12,31 @@ def write_case(folder, name, ends):
         write(f"{folder}/{name}.{end}", text)
 
 
+# prints the second line of its input, or refuses it where that begins with `x`
+READS = "read -r first", "read -r second", 'echo "${second/#x/refused }"', '[[ $second != x* ]]'
+
+
+def trials_of_changes(room):
+    def run_changes(*changes, program="reads"):
+        return run(room, f"{TESTS}/run_changes", f"{room}/{program}", "texts", *changes)
+
+    write_script(f"{room}/reads", *READS)
+    write_case(f"{room}/texts", "case", {"args": "read\n", "stdin": "a\nb\nc\n", "stdout": "b\n"})
+    write(f"{room}/few/case.changes", "c|d|read\nb|x1|refused 1\na~|a~x2~|refused 2\n")
+    yield passes("sound changes", run_changes("few/case.changes"), "3 passed, 0 failed\n")
+    wrong = {"read what is refused": "b|x1|read", "another number": "b|x1|refused 2", "refused what is read": "c|d|refused 1"}
+    for name, row in {**wrong, "no such text": "e|f|read"}.items():
+        write(f"{room}/wrong/case.changes", f"c|d|read\n{row}\n")
+        yield fails(f"changes: {name}", run_changes("wrong/case.changes"), f"failed: {row}\n1 passed, 1 failed\n")
+    write(f"{room}/other/other.changes", "c|d|read\n")
+    yield fails("changes of no case", run_changes("other/other.changes"), "No such file")
+    yield fails("no changes", run(room, f"{TESTS}/run_changes", f"{room}/reads", "texts"), "there are no changes\n0 passed, 1 failed\n")
+    yield fails("changes, no program", run_changes("few/case.changes", program="none"), "No such file")
+
+
 def trials(room):
+    yield from trials_of_changes(room)
+
     def run_cases(*folders, program="program"):
         return run(room, f"{TESTS}/run_cases", f"{room}/{program}", *folders)
 

@@ -1,254 +1,45 @@
-//! Messages of the settlement desk, by their lines.
+//! A message of the settlement desk.
 
-/// An MT543 that uses optional fields and sequences. Each line ends with LF.
-pub const DELIVER_AGAINST_PAYMENT: [&[u8]; 41] = [
-    b"{4:",
-    b":16R:GENL",
-    b":20C::SEME//A1",
-    b":23G:NEWM",
-    b":98C::PREP//20240226101500",
-    b":16S:GENL",
-    b":16R:TRADDET",
-    b":98A::SETT//20240229",
-    b":98A::TRAD//20240227",
-    b":90B::DEAL//ACTU/EUR2,50125",
-    b":35B:ISIN DE0007164600",
-    b"ORDINARY SHARES",
-    b"BEARER",
-    b":16R:FIA",
-    b":11A::DENO//EUR",
-    b":16S:FIA",
-    b":70E::SPRO//NOTE OF THE DESK",
-    b":16S:TRADDET",
-    b":16R:FIAC",
-    b":36B::SETT//UNIT/400,",
-    b":97A::SAFE//A-1",
-    b":16S:FIAC",
-    b":16R:SETDET",
-    b":22F::SETR//TRAD",
-    b":16R:SETPRTY",
-    b":95P::BUYR//BETADEFF",
-    b":16S:SETPRTY",
-    b":16R:SETPRTY",
-    b":95P::REAG//BETADEFFXXX",
-    b":16S:SETPRTY",
-    b":16R:SETPRTY",
-    b":95P::PSET//DESKDEFF",
-    b":16S:SETPRTY",
-    b":16R:AMT",
-    b":19A::SETT//EUR1000,50",
-    b":16S:AMT",
-    b":16S:SETDET",
-    b":16R:OTHRPRTY",
-    b":95P::MEOR//ALPHDEFF",
-    b":16S:OTHRPRTY",
-    b"-}",
-];
-
-/// An MT548: accepted, not matched.
-pub const STATUS_UNMATCHED: [&[u8]; 19] = [
-    b"{4:",
-    b":16R:GENL",
-    b":20C::SEME//S000000000000008",
-    b":23G:INST",
-    b":16R:LINK",
-    b":13A::LINK//543",
-    b":20C::RELA//A1",
-    b":16S:LINK",
-    b":16R:STAT",
-    b":25D::IPRC//PACK",
-    b":16S:STAT",
-    b":16R:STAT",
-    b":25D::MTCH//NMAT",
-    b":16R:REAS",
-    b":24B::NMAT//CMIS",
-    b":16S:REAS",
-    b":16S:STAT",
-    b":16S:GENL",
-    b"-}",
-];
-
-/// An MT548: matched, before its day.
-pub const STATUS_MATCHED: [&[u8]; 22] = [
-    b"{4:",
-    b":16R:GENL",
-    b":20C::SEME//S000000000000009",
-    b":23G:INST",
-    b":16R:LINK",
-    b":13A::LINK//541",
-    b":20C::RELA//B1",
-    b":16S:LINK",
-    b":16R:STAT",
-    b":25D::IPRC//PACK",
-    b":16S:STAT",
-    b":16R:STAT",
-    b":25D::MTCH//MACH",
-    b":16S:STAT",
-    b":16R:STAT",
-    b":25D::SETT//PEND",
-    b":16R:REAS",
-    b":24B::PEND//FUTU",
-    b":16S:REAS",
-    b":16S:STAT",
-    b":16S:GENL",
-    b"-}",
-];
-
-/// An MT548 sent to the earlier party.
-pub const SENT_MATCHED: [&[u8]; 22] = [
-    b"{4:",
-    b":16R:GENL",
-    b":20C::SEME//D000000000000001",
-    b":23G:INST",
-    b":16R:LINK",
-    b":13A::LINK//543",
-    b":20C::RELA//A1",
-    b":16S:LINK",
-    b":16R:STAT",
-    b":25D::IPRC//PACK",
-    b":16S:STAT",
-    b":16R:STAT",
-    b":25D::MTCH//MACH",
-    b":16S:STAT",
-    b":16R:STAT",
-    b":25D::SETT//PEND",
-    b":16R:REAS",
-    b":24B::PEND//FUTU",
-    b":16S:REAS",
-    b":16S:STAT",
-    b":16S:GENL",
-    b"-}",
-];
-
-/// An MT547.
-pub const CONFIRMATION_DELIVERED: [&[u8]; 29] = [
-    b"{4:",
-    b":16R:GENL",
-    b":20C::SEME//D000000000000002",
-    b":23G:NEWM",
-    b":16R:LINK",
-    b":20C::RELA//A1",
-    b":16S:LINK",
-    b":16S:GENL",
-    b":16R:TRADDET",
-    b":98A::ESET//20240229",
-    b":35B:ISIN DE0007164600",
-    b":16S:TRADDET",
-    b":16R:FIAC",
-    b":36B::ESTT//UNIT/400,",
-    b":97A::SAFE//A-1",
-    b":16S:FIAC",
-    b":16R:SETDET",
-    b":22F::SETR//TRAD",
-    b":16R:SETPRTY",
-    b":95P::REAG//BETADEFF",
-    b":16S:SETPRTY",
-    b":16R:SETPRTY",
-    b":95P::PSET//DESKDEFF",
-    b":16S:SETPRTY",
-    b":16R:AMT",
-    b":19A::ESTT//EUR1000,5",
-    b":16S:AMT",
-    b":16S:SETDET",
-    b"-}",
-];
-
-/// An MT545.
-pub const CONFIRMATION_RECEIVED: [&[u8]; 29] = [
-    b"{4:",
-    b":16R:GENL",
-    b":20C::SEME//D000000000000003",
-    b":23G:NEWM",
-    b":16R:LINK",
-    b":20C::RELA//B1",
-    b":16S:LINK",
-    b":16S:GENL",
-    b":16R:TRADDET",
-    b":98A::ESET//20240229",
-    b":35B:ISIN DE0007164600",
-    b":16S:TRADDET",
-    b":16R:FIAC",
-    b":36B::ESTT//UNIT/400,",
-    b":97A::SAFE//B-1",
-    b":16S:FIAC",
-    b":16R:SETDET",
-    b":22F::SETR//TRAD",
-    b":16R:SETPRTY",
-    b":95P::DEAG//ALPHDEFF",
-    b":16S:SETPRTY",
-    b":16R:SETPRTY",
-    b":95P::PSET//DESKDEFF",
-    b":16S:SETPRTY",
-    b":16R:AMT",
-    b":19A::ESTT//EUR1000,5",
-    b":16S:AMT",
-    b":16S:SETDET",
-    b"-}",
-];
-
-/// An MT548: refused.
-pub const STATUS_REFUSED: [&[u8]; 17] = [
-    b"{4:",
-    b":16R:GENL",
-    b":20C::SEME//S000000000000010",
-    b":23G:INST",
-    b":16R:LINK",
-    b":13A::LINK//543",
-    b":20C::RELA//A1",
-    b":16S:LINK",
-    b":16R:STAT",
-    b":25D::IPRC//REJT",
-    b":16R:REAS",
-    b":24B::REJT//NARR",
-    b":70D::REAS//DESK 11",
-    b":16S:REAS",
-    b":16S:STAT",
-    b":16S:GENL",
-    b"-}",
-];
-
-/// An MT548: an accepted cancellation.
-pub const STATUS_CANCELLED: [&[u8]; 13] = [
-    b"{4:",
-    b":16R:GENL",
-    b":20C::SEME//S000000000000009",
-    b":23G:CAST",
-    b":16R:LINK",
-    b":13A::LINK//543",
-    b":20C::RELA//X1",
-    b":16S:LINK",
-    b":16R:STAT",
-    b":25D::CPRC//CAND",
-    b":16S:STAT",
-    b":16S:GENL",
-    b"-}",
-];
-
-/// An MT535.
-pub const STATEMENT: [&[u8]; 25] = [
-    b"{4:",
-    b":16R:GENL",
-    b":28E:1/ONLY",
-    b":20C::SEME//S000000000000012",
-    b":23G:NEWM",
-    b":98A::STAT//20240229",
-    b":22F::SFRE//ADHO",
-    b":22F::CODE//COMP",
-    b":22F::STTY//CUST",
-    b":22F::STBA//SETT",
-    b":97A::SAFE//B-1",
-    b":17B::ACTI//Y",
-    b":17B::CONS//N",
-    b":16S:GENL",
-    b":16R:SUBSAFE",
-    b":16R:FIN",
-    b":35B:ISIN DE0007164600",
-    b":93B::AGGR//UNIT/400,",
-    b":16S:FIN",
-    b":16R:FIN",
-    b":35B:ISIN US0378331005",
-    b":93B::AGGR//UNIT/7,",
-    b":16S:FIN",
-    b":16S:SUBSAFE",
-    b"-}",
-];
+/// An MT543 that uses optional fields and sequences.
+pub const DELIVER_AGAINST_PAYMENT: &str = "\
+{4:\n\
+:16R:GENL\n\
+:20C::SEME//A1\n\
+:23G:NEWM\n\
+:98C::PREP//20240226101500\n\
+:16S:GENL\n\
+:16R:TRADDET\n\
+:98A::SETT//20240229\n\
+:98A::TRAD//20240227\n\
+:90B::DEAL//ACTU/EUR2,50125\n\
+:35B:ISIN DE0007164600\n\
+ORDINARY SHARES\n\
+BEARER\n\
+:16R:FIA\n\
+:11A::DENO//EUR\n\
+:16S:FIA\n\
+:70E::SPRO//NOTE OF THE DESK\n\
+:16S:TRADDET\n\
+:16R:FIAC\n\
+:36B::SETT//UNIT/400,\n\
+:97A::SAFE//A-1\n\
+:16S:FIAC\n\
+:16R:SETDET\n\
+:22F::SETR//TRAD\n\
+:16R:SETPRTY\n\
+:95P::BUYR//BETADEFF\n\
+:16S:SETPRTY\n\
+:16R:SETPRTY\n\
+:95P::REAG//BETADEFFXXX\n\
+:16S:SETPRTY\n\
+:16R:SETPRTY\n\
+:95P::PSET//DESKDEFF\n\
+:16S:SETPRTY\n\
+:16R:AMT\n\
+:19A::SETT//EUR1000,50\n\
+:16S:AMT\n\
+:16S:SETDET\n\
+:16R:OTHRPRTY\n\
+:95P::MEOR//ALPHDEFF\n\
+:16S:OTHRPRTY\n\
+-}\n";
