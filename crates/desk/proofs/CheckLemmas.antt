@@ -1,45 +1,62 @@
 -- A script that is played to memory, and what is told of it.
-use Rattle.std.proofs.Common.{◌≡◌, ℕ, List, [], map, Option, Some, None, ap, sym, ◌∙◌, subst}
+use Rattle.std.proofs.Common.{◌≡◌, ◌∙◌, ◌<◌, ℕ, Bool, true, List, [], ◌++◌, length, map, Option, Some, None, ap, sym, subst}
 use Rattle.std.specs.Prelude.{Result, Ok, Err, IfOk, IfSome}
 use Rattle.std.specs.Result.{result_ok}
-use Rattle.desk.specs.CheckAnswer.{AreFound, IsCheckAnswer, status_of_findings, told_findings, told_memory, told_input}
 use Rattle.std.specs.Io.KnownBytes.{Appends}
-use Rattle.std.proofs.Common.{◌++◌, ◌∷◌}
+use Rattle.desk_book.specs.declared.fault.InputFault.{InputFault}
+use Rattle.desk_book.specs.declared.fault.InputFault.TheVariants.{Memory, ReadFailed, TooLong}
+use Rattle.desk_book.specs.declared.limits.TheConstants.{LONGEST_SCRIPT}
+use Rattle.desk.specs.CheckAnswer.{AreFound, IsCheckAnswer, IsFindingsAnswer, status_of_findings, told_findings, told_no_script, told_script}
 use Rattle.desk.specs.Finding.{Found, findings_in, report_text}
-use Rattle.desk.specs.PlayAnswer.{IsPlayAnswer}
-use Rattle.desk.specs.Status.{failure_line}
+use Rattle.desk.specs.Input.{Came, MayGiveNone, failure_of}
+use Rattle.desk.specs.PlayAnswer.{IsPlayAnswer, IsPlayed, told_answers}
+use Rattle.desk.specs.PlayAnswer as plays
+use Rattle.desk.specs.Status.{IsFailureTold}
 use Rattle.desk.specs.Told.{numbers_told}
 use Rattle.desk.specs.declared.status.Failure.{Failure}
-use Rattle.desk.specs.declared.status.Failure.TheVariants as failure
 use Rattle.desk.specs.declared.status.Status.{Status}
 use Rattle.desk.specs.declared.status.Status.TheVariants as exit
-use Rattle.desk.proofs.PlayLemmas.{given}
 
-pub played : (script input start : List ℕ) (status : Status) (after : Option (List ℕ)) → script ≡ input → start ≡ [] → status ≡ exit.Done → IsPlayAnswer input status (Some start) after → IsPlayAnswer script exit.Done (Some []) after
-played script input start status after same none done is =
-    let P : List ℕ → Type 0 = λ i. IsPlayAnswer i exit.Done (Some []) after in
-    let Q : List ℕ → Type 0 = λ s. IsPlayAnswer input exit.Done (Some s) after in
-    let S : Status → Type 0 = λ s. IsPlayAnswer input s (Some start) after in
-    subst P (sym same) (subst Q none (subst S done is))
+-- what was played, where it is done
+played_to_end : (given : Option (List ℕ)) (U : Type 0) (reads : Bool) (status : Status) (P : List ℕ → Type 0) → status ≡ exit.Done → IsPlayAnswer given U reads status P → (script text : List ℕ) × Came given script × IsPlayed script text × P text
+played_to_end given U reads status P done (told_answers script text came play is wrote) = (script, text, came, play, wrote)
+played_to_end given U reads status P done (plays.told_no_script fault may told) = absurd (let clash : exit.Done ≡ exit.Fault = sym done ∙ told.0 in cc)
 
-pub found : (script answers numbers : List ℕ) (findings : List Found) → IsPlayAnswer script exit.Done (Some []) (Some answers) → numbers ≡ numbers_told answers → findings ≡ findings_in script numbers → AreFound script findings
+-- what was played from a text in memory to a list in memory
+pub played : (script input start answers : List ℕ) (U : Type 0) (reads : Bool) (status : Status) → script ≡ input → start ≡ [] → status ≡ exit.Done → IsPlayAnswer (Some input) U reads status (Appends (Some start) (Some answers)) → IsPlayed script answers
+played script input start answers U reads status same none done is =
+    let p = played_to_end (Some input) U reads status (Appends (Some start) (Some answers)) done is in
+    let P : List ℕ → Type 0 = λ i. IsPlayed i answers in
+    let Q : List ℕ → Type 0 = λ t. IsPlayed p.0 t in
+    let came : input ≡ p.0 = p.2 in
+    let wrote : answers ≡ start ++ p.1 = p.4 in
+    let answers_are : p.1 ≡ answers = sym (wrote ∙ ap (λ s. s ++ p.1) none) in
+    subst P (sym (same ∙ came)) (subst Q answers_are p.3)
+
+pub found : (script answers numbers : List ℕ) (findings : List Found) → IsPlayed script answers → numbers ≡ numbers_told answers → findings ≡ findings_in script numbers → AreFound script findings
 found script answers numbers findings play told are = record { answers = answers; played = play; found = are ∙ ap (findings_in script) told }
 
 -- what was read is what the reader had, and so it was told of that
-pub read_whole : {E : Type 0} (r : Result Status E) (known : Option (List ℕ)) (script : List ℕ) (before after : Option (List ℕ)) → IfSome known (λ input. script ≡ input) → IfOk r (λ status. IsCheckAnswer script status before after)
-    → IfOk r (λ status. (input : List ℕ) × IfSome known (λ k. k ≡ input) × IsCheckAnswer input status before after)
-read_whole (Ok status) None script before after same told = (script, tt, told)
-read_whole (Ok status) (Some input) script before after same told = (script, sym same, told)
-read_whole (Err e) known script before after same told = told
+pub script_told : {E : Type 0} (r : Result Status E) (given : Option (List ℕ)) (U : Type 0) (reads : Bool) (script : List ℕ) (P : List ℕ → Type 0) → IfSome given (λ input. script ≡ input) → IfOk r (λ status. IsFindingsAnswer script status P)
+    → IfOk r (λ status. IsCheckAnswer given U reads status P)
+script_told (Ok status) None U reads script P same told = told_script script tt told
+script_told (Ok status) (Some input) U reads script P same told = told_script script (sym same) told
+script_told (Err e) given U reads script P same told = told
 
-failed : (told : Failure) (input : List ℕ) (status : Status) (before after : Option (List ℕ)) → status ≡ exit.Fault → Appends before after (failure_line told ++ 10 ∷ []) → IsCheckAnswer input status before after
-failed failure.Memory input status before after is wrote = told_memory is wrote
-failed failure.Input input status before after is wrote = told_input is wrote
+-- why none could be read
+why : {X : Type 0} (r : Result X InputFault) (fault : InputFault) (longest : ℕ) (given : Option (List ℕ)) (U : Type 0) (reads : Bool) → r ≡ Err fault → (r ≡ Err Memory → U) → (r ≡ Err ReadFailed → reads ≡ true) → (r ≡ Err TooLong → IfSome given (λ input. longest < length input))
+    → MayGiveNone longest given U reads fault
+why r Memory longest given U reads is memory unread long = memory is
+why r ReadFailed longest given U reads is memory unread long = unread is
+why r TooLong longest given U reads is memory unread long = long is
 
-pub failed_alone : {E : Type 0} (r : Result Status E) (known : Option (List ℕ)) (before after : Option (List ℕ)) (told : Failure) → IfOk r (λ status. (status ≡ exit.Fault) × Appends before after (failure_line told ++ 10 ∷ []))
-    → IfOk r (λ status. (input : List ℕ) × IfSome known (λ k. k ≡ input) × IsCheckAnswer input status before after)
-failed_alone (Ok status) known before after told wrote = let i = given known in (i.0, i.1, failed told i.0 status before after wrote.0 wrote.1)
-failed_alone (Err e) known before after told wrote = wrote
+-- and it is told alone
+pub told_why : {X E : Type 0} (read : Result X InputFault) (r : Result Status E) (fault : InputFault) (told : Failure) (given : Option (List ℕ)) (U : Type 0) (reads : Bool) (P : List ℕ → Type 0) → read ≡ Err fault → (read ≡ Err Memory → U) → (read ≡ Err ReadFailed → reads ≡ true)
+    → (read ≡ Err TooLong → IfSome given (λ input. LONGEST_SCRIPT < length input)) → told ≡ failure_of fault → IfOk r (λ status. IsFailureTold told status P) → IfOk r (λ status. IsCheckAnswer given U reads status P)
+told_why read (Ok status) fault told given U reads P is memory unread long same wrote =
+    let Q : Failure → Type 0 = λ f. IsFailureTold f status P in
+    told_no_script fault (why read fault LONGEST_SCRIPT given U reads is memory unread long) (subst Q same wrote)
+told_why read (Err e) fault told given U reads P is memory unread long same wrote = wrote
 
 known_ok : {X E : Type 0} (x : X) (r : Result X E) (P : X → Type 0) → Some x ≡ result_ok r → IfOk r P → P x
 known_ok x (Ok y) P same is = let e : x ≡ y = cc in subst P (sym e) is
@@ -50,7 +67,7 @@ when_ok (Some x) r P Q same then is = then x (known_ok x r P same is)
 when_ok None r P Q same then is = tt
 
 pub found_all : {X Y E F : Type 0} (items : X → List Found) (list : Y → List ℕ) (script answers slice others : List ℕ) (numbers : Y) (read : Result Y E) (o : Option X) (r : Result X F) → slice ≡ answers → others ≡ list numbers
-    → IsPlayAnswer script exit.Done (Some []) (Some answers) → Some numbers ≡ result_ok read → IfOk read (λ n. list n ≡ numbers_told slice) → o ≡ result_ok r → IfOk r (λ x. items x ≡ findings_in script others)
+    → IsPlayed script answers → Some numbers ≡ result_ok read → IfOk read (λ n. list n ≡ numbers_told slice) → o ≡ result_ok r → IfOk r (λ x. items x ≡ findings_in script others)
     → IfSome o (λ x. AreFound script (items x))
 found_all items list script answers slice others numbers read o r same same_others play taken told given are =
     let numbers_are : list numbers ≡ numbers_told answers = known_ok numbers read (λ n. list n ≡ numbers_told slice) taken told ∙ ap numbers_told same in
@@ -58,7 +75,7 @@ found_all items list script answers slice others numbers read o r same same_othe
 
 -- what was found was told
 pub told_of : {F : Type 0} (value : F → Found) (script : List ℕ) (items slice again : List F) (status : Status) (before after : Option (List ℕ)) → slice ≡ items → again ≡ items → AreFound script (map value items)
-    → status ≡ status_of_findings (map value again) → Appends before after (report_text (map value slice)) → IsCheckAnswer script status before after
+    → status ≡ status_of_findings (map value again) → Appends before after (report_text (map value slice)) → IsFindingsAnswer script status (Appends before after)
 told_of value script items slice again status before after same same_again are is wrote =
     let P : List Found → Type 0 = λ fs. Appends before after (report_text fs) in
     told_findings (map value items) are (is ∙ ap (λ xs. status_of_findings (map value xs)) same_again) (subst P (ap (map value) same) wrote)

@@ -4,3 +4,4 @@ mod WordsLemmas
 mod RunLemmas
 mod FindingLemmas
 mod CheckLemmas
+mod ServeLemmas

@@ -1,5 +1,5 @@
 -- A script on a new desk in memory.
-use Rattle.std.proofs.Common.{◌≡◌, ◌<◌, ◌≤◌, ℕ, Bool, false, List, [], ◌∷◌, ◌++◌, length, All, Option, Some, None, IfSome, cond, count_by, refl, sym, ◌∙◌, subst, arith}
+use Rattle.std.proofs.Common.{◌≡◌, ◌<◌, ◌≤◌, ℕ, Bool, false, List, [], ◌∷◌, length, All, Option, IfSome, cond, count_by, refl, sym, ◌∙◌, subst, arith}
 use Rattle.std.proofs.lemmas.List.Elements.{All-cons, All-head, All-nil, All-tail}
 use Rattle.std.proofs.lemmas.List.Sums.{sum_by-cons}
 use Rattle.std.specs.Prelude.{Result, Ok, Err, IfOk}
@@ -21,11 +21,11 @@ use Rattle.desk_book.specs.declared.fault.Fault.TheVariants.{Memory, Storage, Cl
 use Rattle.desk_book.specs.Answered.{AnsweredInTurn, says_closed, says_storage}
 use Rattle.desk_book.specs.Headline.{Headline}
 use Rattle.desk_book.specs.Held.{Holds, KeepsFormed}
-use Rattle.desk_book.specs.Played.{PlaysScript, asked_in}
-use Rattle.desk.specs.PlayAnswer.{IsReplyOrMemory, IsPlayAnswer, told_answers, told_memory, told_input}
-use Rattle.desk.specs.Status.{failure_line}
-use Rattle.desk.specs.declared.status.Failure.{Failure}
-use Rattle.desk.specs.declared.status.Failure.TheVariants as failure
+use Rattle.desk_book.specs.Played.{PlaysScript, answers_text, asked_in}
+use Rattle.desk_book.specs.declared.fault.InputFault.{InputFault}
+use Rattle.desk.specs.Input.{MayGiveNone, failure_of}
+use Rattle.desk.specs.PlayAnswer.{IsReplyOrMemory, IsPlayAnswer, IsPlayed, told_answers, told_no_script}
+use Rattle.desk.specs.Status.{IsFailureTold}
 use Rattle.desk.specs.declared.status.Status.{Status}
 use Rattle.desk.specs.declared.status.Status.TheVariants as exit
 
@@ -48,10 +48,11 @@ only_memory (answer ∷ answers) not_closed sound =
     All-cons IsReplyOrMemory answer answers (is_in_memory answer (All-head (λ a. says_closed a ≡ false) answer answers not_closed) now)
     (only_memory answers (All-tail (λ a. says_closed a ≡ false) answer answers not_closed) later)
 
-pub told : (r : Option (List ℕ)) (before after : Option (List ℕ)) (was is : Bool) (v0 v1 : View) → v0.room ≡ MOST_ENTRIES → v1.room ≡ v0.room → was ≡ false → is ≡ false → v1.failures ≡ v0.failures → v1.failures < MOST_FAILURES → v1.is_honest → Holds was v0 no_books
+pub told : (r : Option (List ℕ)) (U : Type 0) (reads : Bool) (before after : Option (List ℕ)) (was is : Bool) (v0 v1 : View) → v0.room ≡ MOST_ENTRIES → v1.room ≡ v0.room → was ≡ false → is ≡ false → v1.failures ≡ v0.failures → v1.failures < MOST_FAILURES
+    → v1.is_honest → Holds was v0 no_books
     → ((books : Books) → v1.is_honest → Holds was v0 books → (script : List ℕ) × IfSome r (λ input. input ≡ script) × (length script ≤ LONGEST_SCRIPT) × PlaysScript was books script before after is v0 v1)
-    → (input : List ℕ) × IfSome r (λ known. known ≡ input) × IsPlayAnswer input exit.Done before after
-told r before after was is v0 v1 most room not_closed stays sound few honest holds played =
+    → IsPlayAnswer r U reads exit.Done (Appends before after)
+told r U reads before after was is v0 v1 most room not_closed stays sound few honest holds played =
     let p = played no_books honest holds in
     let s = p.3 in
     let P : ℕ → Type 0 = λ k. AnsweredInTurn k was no_books (asked_in s.items) s.answers is s.played.last in
@@ -60,28 +61,26 @@ told r before after was is v0 v1 most room not_closed stays sound few honest hol
     let run : AnsweredInTurn MOST_ENTRIES false no_books (asked_in s.items) s.answers false s.played.last = subst R stays (subst Q not_closed (subst P most s.played.in_turn)) in
     let H : ℕ → Type 0 = λ k. Headline k s.played.last v1.content in
     let blame = s.played.blame honest few in
-    let none : count_by says_storage s.answers ≡ 0 = omega (arith, blame, sound) in (
-      p.0,
-      p.1,
-      told_answers s.items s.answers s.played.last v1.content p.2 s.spells run (subst H (room ∙ most) (s.played.promise stays))
-          (only_memory s.answers (open_all_along MOST_ENTRIES false no_books s.played.last (asked_in s.items) s.answers run) none) s.written refl,
-    )
+    let none : count_by says_storage s.answers ≡ 0 = omega (arith, blame, sound) in
+    let is_played : IsPlayed p.0 (answers_text s.items s.answers) = record {
+      items = s.items;
+      answers = s.answers;
+      last = s.played.last;
+      held = v1.content;
+      short = p.2;
+      spells = s.spells;
+      in_turn = run;
+      promise = subst H (room ∙ most) (s.played.promise stays);
+      in_memory = only_memory s.answers (open_all_along MOST_ENTRIES false no_books s.played.last (asked_in s.items) s.answers run) none;
+      written = refl;
+    } in
+    told_answers p.0 (answers_text s.items s.answers) p.1 is_played refl s.written
 
--- the bytes that a reader gives, where they are known
-pub given : (r : Option (List ℕ)) → (input : List ℕ) × IfSome r (λ known. known ≡ input)
-given None = ([], tt)
-given (Some input) = (input, refl)
-
--- a failure that is told alone
-told_so : (told : Failure) (input : List ℕ) (status : Status) (before after : Option (List ℕ)) → status ≡ exit.Fault → Appends before after (failure_line told ++ 10 ∷ []) → IsPlayAnswer input status before after
-told_so failure.Memory input status before after is wrote = told_memory is wrote
-told_so failure.Input input status before after is wrote = told_input is wrote
-
-pub told_alone : {E : Type 0} (r : Result Status E) (known : Option (List ℕ)) (before after : Option (List ℕ)) (told : Failure)
-    → IfOk r (λ status. (status ≡ exit.Fault) × Appends before after (failure_line told ++ 10 ∷ []))
-    → IfOk r (λ status. (input : List ℕ) × IfSome known (λ k. k ≡ input) × IsPlayAnswer input status before after)
-told_alone (Ok status) known before after told wrote = let i = given known in (i.0, i.1, told_so told i.0 status before after wrote.0 wrote.1)
-told_alone (Err e) known before after told wrote = wrote
+-- why none was played, told alone
+pub told_why : {E : Type 0} (r : Result Status E) (given : Option (List ℕ)) (U : Type 0) (reads : Bool) (P : List ℕ → Type 0) (fault : InputFault) → MayGiveNone LONGEST_SCRIPT given U reads fault
+    → IfOk r (λ status. IsFailureTold (failure_of fault) status P) → IfOk r (λ status. IsPlayAnswer given U reads status P)
+told_why (Ok status) given U reads P fault may told = told_no_script fault may told
+told_why (Err e) given U reads P fault may told = told
 
 -- a new register keeps the tables of no history, and so does what is equal to it
 pub new_keeps : (made held : IndexedRegister) → held ≡ made → (view_of_index made).content ≡ empty_content → KeepsFormed (view_of_index held).room no_books (view_of_index held).content

@@ -1,25 +1,29 @@
--- A text that is too long, told.
-use Rattle.std.proofs.Common.{ℕ, ◌<◌, List, length, Option, Some, None, Result, Ok, Err}
+-- A text that a reader gives, told.
+use Rattle.std.proofs.Common.{◌≡◌, ◌≤◌, ℕ, Bool, List, length, Option, Some, None, Result, Ok, Err, sym, subst}
 use Rattle.std.specs.Prelude.{IfOk, IfSome}
+use Rattle.desk_text.specs.Seen.{MayBeBlock}
 use Rattle.desk_text.specs.declared.limits.TheConstants.{LONGEST_TEXT}
 use Rattle.desk_msg.specs.declared.mt.Mt.{Mt}
-use Rattle.desk_msg.specs.declared.reading.refusal.TextRefusal.TheVariants.{TooLong}
+use Rattle.desk_msg.specs.declared.instruction.Message.{Message}
 use Rattle.desk_msg.specs.declared.reading.refusal.ReadFault.TheVariants.{Refused}
+use Rattle.desk_msg.specs.declared.reading.refusal.TextRefusal.{TextRefusal}
 use Rattle.desk_msg.specs.Refused.{ReadsText}
-use Rattle.desk.specs.ReadAnswer.{IsReadAnswer}
+use Rattle.desk.specs.ReadAnswer.{IsReadAnswer, IsRefusalTold, IsTextAnswer, told_refusal, told_text}
 use Rattle.desk.specs.declared.status.Status.{Status}
 
--- more bytes than a message may have
-abbrev pub IsLonger : List ℕ → Type 0
-IsLonger input = LONGEST_TEXT < length input
+-- what came is the text
+pub text_told : {E : Type 0} (r : Result Status E) (mt : Mt) (given : Option (List ℕ)) (U : Type 0) (reads : Bool) (text : List ℕ) (P : List ℕ → Type 0) → IfSome given (λ input. text ≡ input) → length text ≤ LONGEST_TEXT → IfOk r (λ status. IsTextAnswer mt text status P)
+    → IfOk r (λ status. IsReadAnswer mt given U reads status P)
+text_told (Ok status) mt None U reads text P same short told = told_text text tt short told
+text_told (Ok status) mt (Some input) U reads text P same short told = told_text text (sym same) short told
+text_told (Err e) mt given U reads text P same short told = told
 
-each_input : (o : Option (List ℕ)) (mt : Mt) (status : Status) (P : List ℕ → Type 0) → IfSome o IsLonger
-    → ((mt : Mt) (input : List ℕ) → ReadsText mt input (Err (Refused TooLong)) → IsReadAnswer mt input status P) → IfSome o (λ input. IsReadAnswer mt input status P)
-each_input None mt status P long told = long
-each_input (Some input) mt status P long told = told mt input long
+-- a message's text is a block
+pub message_may_be : (mt : Mt) (text : List ℕ) (message : Message) → ReadsText mt text (Ok message) → MayBeBlock text
+message_may_be mt text message reads = record { short = reads.short; further = _; lines = reads.block.tree.are }
 
--- what came is longer than a message may be, and so it was told
-pub told_long : {E : Type 0} (r : Result Status E) (o : Option (List ℕ)) (mt : Mt) (P : List ℕ → Type 0) → IfSome o IsLonger
-    → IfOk r (λ status. (mt : Mt) (input : List ℕ) → ReadsText mt input (Err (Refused TooLong)) → IsReadAnswer mt input status P) → IfOk r (λ status. IfSome o (λ input. IsReadAnswer mt input status P))
-told_long (Ok status) o mt P long told = each_input o mt status P long told
-told_long (Err e) o mt P long told = told
+-- the one refusal of a text, told
+pub refusal_told : {E : Type 0} (r : Result Status E) (mt : Mt) (text : List ℕ) (one other : TextRefusal) (P : List ℕ → Type 0) → one ≡ other → IfOk r (λ status. IsRefusalTold one status P) → ReadsText mt text (Err (Refused other))
+    → IfOk r (λ status. IsTextAnswer mt text status P)
+refusal_told (Ok status) mt text one other P same told reads = let Q : TextRefusal → Type 0 = λ refusal. IsRefusalTold refusal status P in told_refusal other reads (subst Q same told)
+refusal_told (Err e) mt text one other P same told reads = told

@@ -1,5 +1,5 @@
 -- What the parser of words makes of those that ask for something, and what is taken for a call says it.
-use Rattle.std.proofs.Common.{◌≡◌, ◌≢◌, ◌==◌, ◌∙◌, sym, ap, ap₂, ℕ, Bool, true, false, List, [], ◌∷◌, Option, Some, None, option_map, slice_index, codes, refl, arith, subst}
+use Rattle.std.proofs.Common.{◌≡◌, ◌≢◌, ◌==◌, ◌∙◌, ◌⊎◌, inl, inr, sym, ap, ap₂, ℕ, Bool, true, false, List, [], ◌∷◌, Option, Some, None, option_map, slice_index, codes, refl, arith, subst}
 use Rattle.std.specs.Prelude.{IfSome, IsSomeAnd}
 use Rattle.std.specs.Str.{bytes_eq}
 use Rattle.clap.specs.Lexer.{long_of, short_of}
@@ -8,12 +8,14 @@ use Rattle.clap.specs.declared.parser.matches.ArgMatches.{ArgMatches}
 use Rattle.clap.specs.declared.parser.matches.ArgMatches.TheViews.{out-ArgMatches, out-SubCommand}
 use Rattle.clap.specs.declared.parser.matches.Found.{Found}
 use Rattle.clap.proofs.WalkLemmas.{first_value-rows, one_text-rows}
-use Rattle.clap.specs.Words.{App, HasMatchesOf, Row, Text, fault_of, first_of, first_value, found_of, is_simple, is_simple_and_free, one_of, one_text, rows_of, subcommand_name_of, subcommand_of, subcommand_rows_of, takes}
+use Rattle.clap.specs.declared.error.kind.ErrorKind.{ErrorKind}
+use Rattle.clap.specs.declared.error.kind.ErrorKind.TheVariants.{InvalidValue, OutOfMemory}
+use Rattle.clap.specs.Words.{App, HasMatchesOf, IsAmong, Row, Text, fault_of, first_of, first_value, found_of, is_simple, is_simple_and_free, one_of, one_text, rows_of, subcommand_name_of, subcommand_of, subcommand_rows_of, takes}
 use Rattle.clap.proofs.OnLiterals.{clap_on_literals}
 use Rattle.desk_msg.specs.MessageType.{digits_of_type, is_instruction}
 use Rattle.desk_msg.specs.declared.mt.Mt.{Mt}
 use Rattle.desk_msg.specs.declared.mt.Mt.TheVariants.{Mt540, Mt541, Mt542, Mt543, Mt544, Mt545, Mt546, Mt547}
-use Rattle.desk.specs.Words.{CallValue, IsAskable, IsSpelledOut, IsSaid, IsSaidBy, IsSaidIn, IsTypeText, value_of_call, desk_app, IsNumberText, IsTopic, check, explain, isin, play, read, serve, words_for}
+use Rattle.desk.specs.Words.{CallValue, IsAskable, IsErrorIn, IsSpelledOut, IsSaid, IsSaidBy, IsSaidIn, IsTypeText, value_of_call, desk_app, IsNumberText, IsTopic, check, explain, isin, play, read, serve, words_for}
 use Rattle.desk.specs.declared.words.calls.Call.{Call}
 use Rattle.desk.specs.declared.words.calls.Topic.{Topic}
 use Rattle.desk.specs.declared.words.calls.Topic.TheVariants.{Catalogue, Number}
@@ -287,3 +289,15 @@ said_by a words m asked has taken is said =
     let same : subcommand_rows_of m ≡ subcommand_of desk_app words = (has (ap is_simple is ∙ simple)).1 ∙ ap (λ b. subcommand_of b words) is in
     let faultless : fault_of desk_app words ≡ [] = ap (λ b. fault_of b words) (sym is) ∙ taken (ap is_simple_and_free is ∙ free) in
     (faultless, subst (IsSaidIn asked) same said)
+
+-- and an error says what is found in the words
+
+pub found_wrong : (a : App) (words : List Text) (kind : ErrorKind) → (is_simple_and_free a ≡ true → (kind ≡ OutOfMemory) ⊎ IsAmong kind (fault_of a words)) → a ≡ desk_app
+    → (kind ≡ OutOfMemory) ⊎ IsErrorIn kind words
+found_wrong a words kind found is =
+    let P : App → Type 0 = λ b. (kind ≡ OutOfMemory) ⊎ IsAmong kind (fault_of b words) in
+    elim (subst P is (found (ap is_simple_and_free is ∙ free))) [ inl none ↦ inl none | inr among ↦ inr (inl among) ]
+
+pub fits_none : (a : App) (words : List Text) (kind : ErrorKind) → (is_simple_and_free a ≡ true → fault_of a words ≡ []) → a ≡ desk_app → kind ≡ InvalidValue
+    → (kind ≡ OutOfMemory) ⊎ IsErrorIn kind words
+fits_none a words kind taken is invalid = inr (inr (ap (λ b. fault_of b words) (sym is) ∙ taken (ap is_simple_and_free is ∙ free), invalid))

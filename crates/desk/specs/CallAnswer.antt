@@ -1,27 +1,42 @@
--- What is answered to what is asked for.
-use Rattle.std.specs.Prelude.{◌≡◌, ℕ, List, ◌++◌, Option, IfSome, codes}
-use Rattle.std.specs.Io.KnownBytes.{Appends}
+-- What is answered to what is asked for, and to words of any kind.
+use Rattle.std.specs.Prelude.{◌≡◌, ◌⊎◌, ℕ, Bool, true, List, Option}
+use Rattle.clap.specs.declared.error.kind.ErrorKind.{ErrorKind}
 use Rattle.desk.specs.CheckAnswer.{IsCheckAnswer}
 use Rattle.desk.specs.ExplainAnswer.{IsExplainAnswer}
 use Rattle.desk.specs.IsinAnswer.{IsIsinAnswer}
 use Rattle.desk.specs.PlayAnswer.{IsPlayAnswer}
 use Rattle.desk.specs.ReadAnswer.{IsReadAnswer}
-use Rattle.desk.specs.Status.{failure_line}
 use Rattle.desk.specs.ServeAnswer.{IsServeAnswer}
-use Rattle.desk.specs.Words.{CallValue, isin, read, play, check, explain, serve}
+use Rattle.desk.specs.Status.{IsFailureTold, status_of_error}
+use Rattle.desk.specs.Words.{CallValue, isin, read, play, check, explain, serve, IsErrorIn, IsSaidBy}
 use Rattle.desk.specs.declared.status.Failure.TheVariants.{Memory}
 use Rattle.desk.specs.declared.status.Status.{Status}
-use Rattle.desk.specs.declared.status.Status.TheVariants as exit
 
--- what was told, where these bytes came, if that is known, and what the writer held before and after
-abbrev pub IsCallAnswer : CallValue → Option (List ℕ) → Status → Option (List ℕ) → Option (List ℕ) → Type 0
-IsCallAnswer (isin code) given status before after = IsIsinAnswer code status (Appends before after)
-IsCallAnswer (read mt) given status before after = IfSome given (λ input. IsReadAnswer mt input status (Appends before after))
-IsCallAnswer play given status before after = (input : List ℕ) × IfSome given (λ known. known ≡ input) × IsPlayAnswer input status before after
-IsCallAnswer check given status before after = (input : List ℕ) × IfSome given (λ known. known ≡ input) × IsCheckAnswer input status before after
-IsCallAnswer (explain topic) given status before after = IsExplainAnswer topic status (Appends before after)
-IsCallAnswer (serve port count) given status before after = IsServeAnswer port status (Appends before after)
+-- What was told, by a reader that gives these bytes, if that is known, may be unread, and may fail.
+abbrev pub IsCallAnswer : CallValue → Option (List ℕ) → Type 0 → Bool → Status → (List ℕ → Type 0) → Type 0
+IsCallAnswer (isin code) given IsUnread may_fail status IsPrinted = IsUnread × IsIsinAnswer code status IsPrinted
+IsCallAnswer (read mt) given IsUnread may_fail status IsPrinted = IsReadAnswer mt given IsUnread may_fail status IsPrinted
+IsCallAnswer play given IsUnread may_fail status IsPrinted = IsPlayAnswer given IsUnread may_fail status IsPrinted
+IsCallAnswer check given IsUnread may_fail status IsPrinted = IsCheckAnswer given IsUnread may_fail status IsPrinted
+IsCallAnswer (explain topic) given IsUnread may_fail status IsPrinted = IsUnread × IsExplainAnswer topic status IsPrinted
+IsCallAnswer (serve port count) given IsUnread may_fail status IsPrinted = IsUnread × IsServeAnswer port status IsPrinted
 
--- want of memory was told alone, as a fault
-abbrev pub IsMemoryTold : Status → Option (List ℕ) → Option (List ℕ) → Type 0
-IsMemoryTold status before after = (status ≡ exit.Fault) × Appends before after (failure_line Memory ++ codes "\n")
+-- want of memory was told alone, as a fault, and nothing was read
+abbrev pub IsMemoryTold : Type 0 → Status → (List ℕ → Type 0) → Type 0
+IsMemoryTold IsUnread status IsPrinted = IsUnread × IsFailureTold Memory status IsPrinted
+
+-- What words are answered: what is told to the call that they say; the status of help that they ask for, or of what is
+-- wrong with them, of whose text nothing is said; or want of memory. Where they say no call, nothing is read.
+pub data IsAnswer (words : List (List ℕ)) (given : Option (List ℕ)) (IsUnread : Type 0) (may_fail : Bool) (status : Status) (IsPrinted : List ℕ → Type 0) : Type 0 where
+  told_call : (asked : CallValue) → IsSaidBy asked words → IsCallAnswer asked given IsUnread may_fail status IsPrinted → IsAnswer words given IsUnread may_fail status IsPrinted
+  told_error : (kind : ErrorKind) → IsErrorIn kind words → IsUnread → status ≡ status_of_error kind → IsAnswer words given IsUnread may_fail status IsPrinted
+  told_memory : IsMemoryTold IsUnread status IsPrinted → IsAnswer words given IsUnread may_fail status IsPrinted
+
+-- The answer of a call may break off where the writer may fail; of a script that is played it is not said that it may.
+abbrev pub MayBreakOff : CallValue → Bool → Type 0
+MayBreakOff play may_fail = Unit {0}
+MayBreakOff asked may_fail = may_fail ≡ true
+
+-- and so may that of words
+abbrev pub MayBreakOffAt : List (List ℕ) → Bool → Type 0
+MayBreakOffAt words may_fail = (may_fail ≡ true) ⊎ IsSaidBy play words

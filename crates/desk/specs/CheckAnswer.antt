@@ -1,11 +1,13 @@
 -- What `desk check` answers.
-use Rattle.std.specs.Prelude.{◌≡◌, ℕ, List, [], ◌++◌, Option, Some, codes}
-use Rattle.std.specs.Io.KnownBytes.{Appends}
+use Rattle.std.specs.Prelude.{◌≡◌, ◌≤◌, ℕ, Bool, List, [], length, Option}
+use Rattle.desk_book.specs.declared.fault.InputFault.{InputFault}
+use Rattle.desk_book.specs.declared.limits.TheConstants.{LONGEST_SCRIPT}
 use Rattle.desk.specs.Finding.{Found, findings_in, report_text}
-use Rattle.desk.specs.PlayAnswer.{IsPlayAnswer}
-use Rattle.desk.specs.Status.{failure_line}
+use Rattle.desk.specs.Input.{Came, MayGiveNone, failure_of}
+use Rattle.desk.specs.PlayAnswer.{IsPlayed}
+use Rattle.desk.specs.Status.{IsFailureTold}
 use Rattle.desk.specs.Told.{numbers_told}
-use Rattle.desk.specs.declared.status.Failure.TheVariants.{Memory, Input}
+use Rattle.desk.specs.declared.status.Failure.TheVariants.{Memory}
 use Rattle.desk.specs.declared.status.Status.{Status}
 use Rattle.desk.specs.declared.status.Status.TheVariants as exit
 
@@ -14,14 +16,19 @@ abbrev pub status_of_findings : List Found → Status
 status_of_findings [] = exit.Done
 status_of_findings findings = exit.Refused
 
--- `desk play` writes answers to the script, and this is found by them
-pub record AreFound (input : List ℕ) (findings : List Found) : Type 0 where
+-- the script is answered so when it is played, and this is found by the answers
+pub record AreFound (script : List ℕ) (findings : List Found) : Type 0 where
   pub answers : List ℕ
-  pub played : IsPlayAnswer input exit.Done (Some []) (Some answers)
-  pub found : findings ≡ findings_in input (numbers_told answers)
+  pub played : IsPlayed script answers
+  pub found : findings ≡ findings_in script (numbers_told answers)
 
--- What is found in the script by its answers was told; or a failure is told alone, as a fault.
-pub data IsCheckAnswer (input : List ℕ) (status : Status) (before after : Option (List ℕ)) : Type 0 where
-  told_findings : (findings : List Found) → AreFound input findings → status ≡ status_of_findings findings → Appends before after (report_text findings) → IsCheckAnswer input status before after
-  told_memory : status ≡ exit.Fault → Appends before after (failure_line Memory ++ codes "\n") → IsCheckAnswer input status before after
-  told_input : status ≡ exit.Fault → Appends before after (failure_line Input ++ codes "\n") → IsCheckAnswer input status before after
+-- What was told of a script: what is found in it by its answers; or want of memory, of a script that is not too long.
+pub data IsFindingsAnswer (script : List ℕ) (status : Status) (IsPrinted : List ℕ → Type 0) : Type 0 where
+  told_findings : (findings : List Found) → AreFound script findings → status ≡ status_of_findings findings → IsPrinted (report_text findings) → IsFindingsAnswer script status IsPrinted
+  told_memory : length script ≤ LONGEST_SCRIPT → IsFailureTold Memory status IsPrinted → IsFindingsAnswer script status IsPrinted
+
+-- The answer of the script that came; or why none could be read is told alone, as a fault.
+pub data IsCheckAnswer (given : Option (List ℕ)) (IsUnread : Type 0) (may_fail : Bool) (status : Status) (IsPrinted : List ℕ → Type 0) : Type 0 where
+  told_script : (script : List ℕ) → Came given script → IsFindingsAnswer script status IsPrinted → IsCheckAnswer given IsUnread may_fail status IsPrinted
+  told_no_script : (fault : InputFault) → MayGiveNone LONGEST_SCRIPT given IsUnread may_fail fault → IsFailureTold (failure_of fault) status IsPrinted
+      → IsCheckAnswer given IsUnread may_fail status IsPrinted

@@ -1,5 +1,5 @@
 -- What is found in a script by the numbers that its answers tell.
-use Rattle.std.specs.Prelude.{◌≡◌, ℕ, ◌+◌, ◌==◌, ◌&&◌, Bool, false, not, if◌then◌else◌, List, [], ◌∷◌, ◌++◌, map, take, drop, count_by, Option, Some, None, codes, decimal}
+use Rattle.std.specs.Prelude.{ℕ, ◌+◌, ◌==◌, ◌&&◌, Bool, false, not, if◌then◌else◌, List, [], ◌∷◌, ◌++◌, take, drop, count_by, Option, Some, None, codes, decimal}
 use Rattle.std.specs.List.{flat_map}
 use Rattle.desk_book.specs.Lines.{has_body, is_skipped, is_stop, said_by, script_lines}
 use Rattle.desk_words.specs.declared.cause.Cause.{Cause}

@@ -2,6 +2,7 @@ pub mod CallAnswer
 pub mod CheckAnswer
 pub mod ExplainAnswer
 pub mod Finding
+pub mod Input
 pub mod IsinAnswer
 pub mod PlayAnswer
 pub mod ReadAnswer

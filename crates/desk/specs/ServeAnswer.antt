@@ -1,5 +1,9 @@
 -- What is told by who serves.
-use Rattle.std.specs.Prelude.{◌≡◌, ℕ, List, ◌++◌, codes, decimal}
+use Rattle.std.specs.Prelude.{ℕ, Bool, List, ◌++◌, codes, decimal}
+use Rattle.desk_rules.specs.Books.{Books}
+use Rattle.desk_register.specs.View.{View}
+use Rattle.desk_book.specs.Headline.{KeepsPromise}
+use Rattle.desk_book.specs.Held.{Holds}
 use Rattle.desk.specs.Status.{failure_line}
 use Rattle.desk.specs.declared.status.Failure.{Failure}
 use Rattle.desk.specs.declared.status.Status.{Status}
@@ -10,8 +14,12 @@ abbrev pub listening_line : ℕ → List ℕ
 listening_line port = codes "listening " ++ decimal port ++ codes "\n"
 
 -- It is done, and told where it listened, or it is a fault, and one is told: there is nobody at the port, or memory is
--- wanting for the routes. What connections get is said of `serve_one`.
+-- wanting for the routes. What connections get is said of `serve_one`, and what they leave of the desk by `HoldsOn`.
 abbrev pub IsServeAnswer : ℕ → Status → (List ℕ → Type 0) → Type 0
 IsServeAnswer port Done Told = Told (listening_line port)
 IsServeAnswer port Fault Told = (failure : Failure) × Told (failure_line failure ++ codes "\n")
 IsServeAnswer port status Told = ⊥
+
+-- A desk that held some books holds some, and with these it keeps its promise.
+abbrev pub HoldsOn : Bool → View → Bool → View → Type 0
+HoldsOn was old is new = (books : Books) → Holds was old books → (last : Books) × Holds is new last × KeepsPromise is new last

@@ -1,11 +1,14 @@
 -- How a run ends.
-use Rattle.std.specs.Prelude.{ℕ, List, codes}
+use Rattle.std.specs.Prelude.{◌≡◌, ℕ, List, ◌++◌, codes}
+use Rattle.std.specs.declared.io.ErrorKind.{ErrorKind as IoKind}
+use Rattle.std.specs.declared.io.ErrorKind.TheVariants as io_kind
 use Rattle.clap.specs.declared.error.kind.ErrorKind.{ErrorKind}
 use Rattle.clap.specs.declared.error.kind.ErrorKind.TheVariants as kind
 use Rattle.desk.specs.declared.status.Status.{Status}
 use Rattle.desk.specs.declared.status.Status.TheVariants.{Done, Refused, Usage, Fault}
 use Rattle.desk.specs.declared.status.Failure.{Failure}
 use Rattle.desk.specs.declared.status.Failure.TheVariants.{Memory, Input}
+use Rattle.desk.specs.declared.words.helps.TheConstants.{NO_TEXT}
 
 -- the number with which the process ends
 abbrev pub status_number : Status → ℕ
@@ -19,9 +22,18 @@ abbrev pub failure_line : Failure → List ℕ
 failure_line Memory = codes "fault 60"
 failure_line Input = codes "fault io"
 
+-- a failure was told alone, as a fault
+abbrev pub IsFailureTold : Failure → Status → (List ℕ → Type 0) → Type 0
+IsFailureTold failure status IsPrinted = (status ≡ Fault) × IsPrinted (failure_line failure ++ codes "\n")
+
 -- the exit status of help and of what is wrong with the words
 abbrev pub status_of_error : ErrorKind → Status
 status_of_error kind.OutOfMemory = Fault
 status_of_error kind.DisplayHelp = Done
 status_of_error kind.DisplayVersion = Done
 status_of_error other = Usage
+
+-- what is told where the words could not be had: memory was wanting for them, or they are no text
+abbrev pub IsNoWordsTold : IoKind → Status → (List ℕ → Type 0) → Type 0
+IsNoWordsTold io_kind.OutOfMemory status IsPrinted = IsFailureTold Memory status IsPrinted
+IsNoWordsTold _ status IsPrinted = (status ≡ Usage) × IsPrinted NO_TEXT.now

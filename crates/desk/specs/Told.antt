@@ -1,6 +1,6 @@
 -- The numbers that written answers tell.
 use Rattle.std.specs.Prelude.{ℕ, ◌+◌, ◌-◌, ◌*◌, ◌==◌, ◌&&◌, Bool, if◌then◌else◌, nat_lt, List, [], ◌∷◌, ◌++◌, length, take, drop, codes}
-use Rattle.std.specs.Str.{byte, bytes_eq}
+use Rattle.std.specs.Str.{bytes_eq}
 use Rattle.desk_book.specs.Lines.{is_stop, script_lines}
 use Rattle.desk.specs.declared.findings.told.Place.{Place}
 use Rattle.desk.specs.declared.findings.told.Place.TheVariants.{Before, Accepted, Other}

@@ -1,8 +1,10 @@
 -- Which words ask for what.
-use Rattle.std.specs.Prelude.{◌≡◌, ◌≢◌, ℕ, List, [], ◌∷◌, Option, Some, None, pos, true, codes, decimal, slice_index, IsSomeAnd, MatchOption}
+use Rattle.std.specs.Prelude.{◌≡◌, ◌≢◌, ◌⊎◌, ℕ, List, [], ◌∷◌, Option, Some, None, pos, true, codes, decimal, slice_index, IsSomeAnd, MatchOption}
 use Rattle.std.specs.Str.{byte}
 use Rattle.std.specs.Str.Parse.{IsNumeral, digits_value, without_leading_plus}
-use Rattle.clap.specs.Words.{App, Row, Rule, Shape, first_of, new_app, new_rule, fault_of, one_of, subcommand_of, with_rule, with_subcommand}
+use Rattle.clap.specs.Words.{App, Row, Rule, first_of, new_app, new_rule, fault_of, one_of, subcommand_of, with_rule, with_subcommand, IsAmong}
+use Rattle.clap.specs.declared.error.kind.ErrorKind.{ErrorKind}
+use Rattle.clap.specs.declared.error.kind.ErrorKind.TheVariants.{InvalidValue}
 use Rattle.clap.specs.declared.builder.value_parser.ValueParser.TheVariants.{Signed}
 use Rattle.desk_msg.specs.MessageType.{digits_of_type, is_instruction, number_of_type}
 use Rattle.desk_msg.specs.declared.mt.Mt.{Mt}
@@ -136,3 +138,7 @@ IsSaidIn asked found = MatchOption found (asked ≡ play) (λ f. IsSaid asked f.
 -- the parser finds no fault in the words, and their subcommand says this
 abbrev pub IsSaidBy : CallValue → List (List ℕ) → Type 0
 IsSaidBy asked words = (fault_of desk_app words ≡ []) × IsSaidIn asked (subcommand_of desk_app words)
+
+-- The words ask for help so, or are wrong so: the parser finds it in them; or it finds nothing, and they fit no subcommand.
+abbrev pub IsErrorIn : ErrorKind → List (List ℕ) → Type 0
+IsErrorIn kind words = IsAmong kind (fault_of desk_app words) ⊎ ((fault_of desk_app words ≡ []) × (kind ≡ InvalidValue))

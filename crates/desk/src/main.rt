@@ -31,6 +31,6 @@ fn main(rt: HostRuntime) -> ExitCode {
             }
             run::run(&rt, alloc, words.as_slice(), &mut reader, &mut writer)
         }
-        Err(error) => run::tell_no_words(alloc, &error, &mut writer),
+        Err(error) => run::tell_no_words(&error, &mut writer),
     })
 }

@@ -1,26 +1,26 @@
 //! What the words ask for, answered.
-ghost use Rattle.std.specs.Prelude.{◌≡◌, ◌⊎◌, ℕ, List, [], ◌∷◌, ◌++◌, codes, map, IfOk, OnOk};
+ghost use Rattle.std.specs.Prelude.{◌≡◌, ◌⊎◌, ℕ, List, [], ◌∷◌, true, map, IfOk, MatchResult, OnErr};
 ghost use Rattle.std.specs.Io.KnownBytes.{Appends};
 ghost use Rattle.std.specs.IoError.{error_kind};
-ghost use Rattle.std.specs.declared.io.ErrorKind.TheVariants as io_kind;
 ghost use Rattle.clap.specs.Words.{kind_of};
-ghost use Rattle.desk.specs.CallAnswer.{IsCallAnswer, IsMemoryTold};
-ghost use Rattle.desk.specs.Status.{failure_line, status_of_error};
-ghost use Rattle.desk.specs.Words.{CallValue, IsAskable, ReadsOnlyInstructions, IsSaidBy, value_of_call, words_for};
+ghost use Rattle.desk.specs.CallAnswer.{IsAnswer, IsCallAnswer, IsMemoryTold, MayBreakOff, MayBreakOffAt};
+ghost use Rattle.desk.specs.Status.{IsFailureTold, IsNoWordsTold, status_of_error};
+ghost use Rattle.desk.specs.Words.{CallValue, IsAskable, ReadsOnlyInstructions, value_of_call, words_for};
 
 use crate::answers::{
     answer_check, answer_explain, answer_isin, answer_play, answer_read, answer_serve,
 };
 use crate::status::{Failure, Status, tell_failure};
-use crate::words::{Call, call_of, usage_error};
+use crate::words::{Call, NO_TEXT, call_of};
 use clap::error::{Error, ErrorKind};
+use desk_streams::{Sink, Source};
 use std::alloc::Global;
 use std::convert::AsStr;
-use std::io::{self, Read, Write};
+use std::io;
 use std::net::{Net, TcpListener, TcpStream};
 
 /// Answers what the words ask for, on the writer. It is a fault where the writer fails.
-pub fn run<N: Net<Listener = TcpListener, Stream = TcpStream>, S: AsStr, R: Read, W: Write>(
+pub fn run<N: Net<Listener = TcpListener, Stream = TcpStream>, S: AsStr, R: Source, W: Sink>(
     net: &N,
     alloc: Global,
     words: &[S],
@@ -28,17 +28,21 @@ pub fn run<N: Net<Listener = TcpListener, Stream = TcpStream>, S: AsStr, R: Read
     writer: &mut W,
 ) -> Status
     ensures asked { (program : List ℕ) (asked : CallValue) → IsAskable asked → map S.text words.now ≡ program ∷ words_for asked
-        → (result ≡ Status.Fault) ⊎ IsCallAnswer asked (R.remaining reader.old) result (W.contents writer.old) (W.contents writer.new) }
+        → ((result ≡ Status.Fault) × MayBreakOff asked W.may_fail)
+        ⊎ (IsMemoryTold (reader.new ≡ reader.old) result (Appends (W.contents writer.old) (W.contents writer.new))
+        ⊎ IsCallAnswer asked (R.remaining reader.old) (reader.new ≡ reader.old) R.may_fail result (Appends (W.contents writer.old) (W.contents writer.new))) }
     ensures nothing { (program : List ℕ) → map S.text words.now ≡ program ∷ []
-        → (result ≡ Status.Fault) ⊎ IsCallAnswer CallValue.play (R.remaining reader.old) result (W.contents writer.old) (W.contents writer.new) }
-    ensures refused { result ≡ Status.Refused
-        → (asked : CallValue) × IsSaidBy asked (map S.text words.now) × IsCallAnswer asked (R.remaining reader.old) result (W.contents writer.old) (W.contents writer.new) }
+        → ((result ≡ Status.Fault) × MayBreakOff CallValue.play W.may_fail)
+        ⊎ (IsMemoryTold (reader.new ≡ reader.old) result (Appends (W.contents writer.old) (W.contents writer.new))
+        ⊎ IsCallAnswer CallValue.play (R.remaining reader.old) (reader.new ≡ reader.old) R.may_fail result (Appends (W.contents writer.old) (W.contents writer.new))) }
+    ensures told { ((result ≡ Status.Fault) × MayBreakOffAt (map S.text words.now) W.may_fail)
+        ⊎ IsAnswer (map S.text words.now) (R.remaining reader.old) (reader.new ≡ reader.old) R.may_fail result (Appends (W.contents writer.old) (W.contents writer.new)) }
 {
     answer_words(net, alloc, words, reader, writer).unwrap_or(Status::Fault)
 }
 
 /// As `run`, where the writer does not fail.
-fn answer_words<N: Net<Listener = TcpListener, Stream = TcpStream>, S: AsStr, R: Read, W: Write>(
+fn answer_words<N: Net<Listener = TcpListener, Stream = TcpStream>, S: AsStr, R: Source, W: Sink>(
     net: &N,
     alloc: Global,
     words: &[S],
@@ -46,11 +50,13 @@ fn answer_words<N: Net<Listener = TcpListener, Stream = TcpStream>, S: AsStr, R:
     writer: &mut W,
 ) -> io::Result<Status>
     ensures asked { (program : List ℕ) (asked : CallValue) → IsAskable asked → map S.text words.now ≡ program ∷ words_for asked
-        → IfOk result (λ status. IsMemoryTold status (W.contents writer.old) (W.contents writer.new) ⊎ IsCallAnswer asked (R.remaining reader.old) status (W.contents writer.old) (W.contents writer.new)) }
+        → MatchResult result (λ status. IsMemoryTold (reader.new ≡ reader.old) status (Appends (W.contents writer.old) (W.contents writer.new))
+        ⊎ IsCallAnswer asked (R.remaining reader.old) (reader.new ≡ reader.old) R.may_fail status (Appends (W.contents writer.old) (W.contents writer.new))) (λ error. MayBreakOff asked W.may_fail) }
     ensures nothing { (program : List ℕ) → map S.text words.now ≡ program ∷ []
-        → IfOk result (λ status. IsMemoryTold status (W.contents writer.old) (W.contents writer.new) ⊎ IsCallAnswer CallValue.play (R.remaining reader.old) status (W.contents writer.old) (W.contents writer.new)) }
-    ensures refused { IfOk result (λ status. status ≡ Status.Refused
-        → (asked : CallValue) × IsSaidBy asked (map S.text words.now) × IsCallAnswer asked (R.remaining reader.old) status (W.contents writer.old) (W.contents writer.new)) }
+        → MatchResult result (λ status. IsMemoryTold (reader.new ≡ reader.old) status (Appends (W.contents writer.old) (W.contents writer.new))
+        ⊎ IsCallAnswer CallValue.play (R.remaining reader.old) (reader.new ≡ reader.old) R.may_fail status (Appends (W.contents writer.old) (W.contents writer.new))) (λ error. MayBreakOff CallValue.play W.may_fail) }
+    ensures told { MatchResult result (λ status. IsAnswer (map S.text words.now) (R.remaining reader.old) (reader.new ≡ reader.old) R.may_fail status (Appends (W.contents writer.old) (W.contents writer.new)))
+        (λ error. MayBreakOffAt (map S.text words.now) W.may_fail) }
 {
     match call_of(alloc, words) {
         Ok(call) => answer(net, alloc, call, reader, writer),
@@ -59,7 +65,7 @@ fn answer_words<N: Net<Listener = TcpListener, Stream = TcpStream>, S: AsStr, R:
 }
 
 /// Answers a call on the writer.
-fn answer<N: Net<Listener = TcpListener, Stream = TcpStream>, R: Read, W: Write>(
+fn answer<N: Net<Listener = TcpListener, Stream = TcpStream>, R: Source, W: Sink>(
     net: &N,
     alloc: Global,
     call: Call,
@@ -67,7 +73,8 @@ fn answer<N: Net<Listener = TcpListener, Stream = TcpStream>, R: Read, W: Write>
     writer: &mut W,
 ) -> io::Result<Status>
     requires { ReadsOnlyInstructions call }
-    ensures { IfOk result (λ status. IsCallAnswer (value_of_call call.entry) (R.remaining reader.old) status (W.contents writer.old) (W.contents writer.new)) }
+    ensures { MatchResult result (λ status. IsCallAnswer (value_of_call call.entry) (R.remaining reader.old) (reader.new ≡ reader.old) R.may_fail status (Appends (W.contents writer.old) (W.contents writer.new)))
+        (λ error. MayBreakOff (value_of_call call.entry) W.may_fail) }
 {
     match call {
         Call::Isin(code) => answer_isin(code.as_bytes(), writer),
@@ -80,36 +87,43 @@ fn answer<N: Net<Listener = TcpListener, Stream = TcpStream>, R: Read, W: Write>
 }
 
 /// Prints help that was asked for, or what is wrong with the words; want of memory is a failure.
-fn tell_error<W: Write>(error: &Error, writer: &mut W) -> io::Result<Status>
+fn tell_error<W: Sink>(error: &Error, writer: &mut W) -> io::Result<Status>
     ensures status { IfOk result (λ status. status ≡ status_of_error (kind_of error.now)) }
     ensures memory { kind_of error.now ≡ ErrorKind.OutOfMemory
-        → OnOk result (Appends (W.contents writer.old) (W.contents writer.new) (failure_line Failure.Memory ++ codes "\n")) }
+        → IfOk result (λ status. IsFailureTold Failure.Memory status (Appends (W.contents writer.old) (W.contents writer.new))) }
+    ensures failed { OnErr result (W.may_fail ≡ true) }
 {
     match error.kind() {
         ErrorKind::OutOfMemory => tell_failure(Failure::Memory, writer),
         ErrorKind::DisplayHelp | ErrorKind::DisplayVersion => {
-            write!(writer, "{error}")?;
+            writer.put_text(format_args!("{error}"))?;
             Ok(Status::Done)
         }
         _ => {
-            write!(writer, "{error}")?;
+            writer.put_text(format_args!("{error}"))?;
             Ok(Status::Usage)
         }
     }
 }
 
 /// Prints why the words could not be had: they are no text, or memory is wanting.
-pub fn tell_no_words<W: Write>(alloc: Global, error: &io::Error, writer: &mut W) -> Status
-    ensures status { (result ≡ Status.Usage) ⊎ (result ≡ Status.Fault) }
-    ensures memory { error_kind error.now ≡ io_kind.OutOfMemory → result ≡ Status.Fault }
+pub fn tell_no_words<W: Sink>(error: &io::Error, writer: &mut W) -> Status
+    ensures { ((result ≡ Status.Fault) × (W.may_fail ≡ true))
+        ⊎ IsNoWordsTold (error_kind error.now) result (Appends (W.contents writer.old) (W.contents writer.new)) }
 {
-    let told = if error.kind() == io::ErrorKind::OutOfMemory {
-        tell_failure(Failure::Memory, writer)
-    } else {
-        match usage_error(alloc, "invalid UTF-8 was detected in one or more arguments") {
-            Ok(usage) => tell_error(&usage, writer),
-            Err(_) => tell_failure(Failure::Memory, writer),
+    write_no_words(error.kind(), writer).unwrap_or(Status::Fault)
+}
+
+/// As `tell_no_words`, where the writer does not fail.
+fn write_no_words<W: Sink>(kind: io::ErrorKind, writer: &mut W) -> io::Result<Status>
+    ensures { MatchResult result (λ status. IsNoWordsTold kind status (Appends (W.contents writer.old) (W.contents writer.new)))
+        (λ error. W.may_fail ≡ true) }
+{
+    match kind {
+        io::ErrorKind::OutOfMemory => tell_failure(Failure::Memory, writer),
+        _ => {
+            writer.put(NO_TEXT.as_bytes())?;
+            Ok(Status::Usage)
         }
-    };
-    told.unwrap_or(Status::Fault)
+    }
 }

@@ -1,10 +1,12 @@
 //! How a run ends: its exit status, and the failures that are told in place of an answer.
-ghost use Rattle.std.specs.Prelude.{◌≡◌, ◌++◌, codes, IfOk};
+ghost use Rattle.std.specs.Prelude.{◌≡◌, true, IfOk, OnErr};
 ghost use Rattle.std.specs.Io.KnownBytes.{Appends};
 ghost use Rattle.std.specs.Process.{exit_status};
-ghost use Rattle.desk.specs.Status.{failure_line, status_number};
+ghost use Rattle.desk.specs.Status.{IsFailureTold, status_number};
 
-use std::io::{self, Write};
+use desk_book::InputFault;
+use desk_streams::Sink;
+use std::io;
 use std::process::ExitCode;
 
 /// The exit status of the program.
@@ -37,12 +39,25 @@ pub enum Failure {
     Input,
 }
 
+impl From<InputFault> for Failure {
+    ghost use Rattle.desk.specs.Input.{failure_of};
+
+    ghost from_gives = { λ fault failure. failure ≡ failure_of fault };
+
+    fn from(fault: InputFault) -> Failure {
+        match fault {
+            InputFault::Memory => Failure::Memory,
+            InputFault::ReadFailed | InputFault::TooLong => Failure::Input,
+        }
+    }
+}
+
 /// Writes a failure's line, and gives the status of a fault.
-pub fn tell_failure<W: Write>(failure: Failure, writer: &mut W) -> io::Result<Status>
-    ensures { IfOk result (λ status. (status ≡ Status.Fault)
-        × Appends (W.contents writer.old) (W.contents writer.new) (failure_line failure ++ codes "\n")) }
+pub fn tell_failure<W: Sink>(failure: Failure, writer: &mut W) -> io::Result<Status>
+    ensures told { IfOk result (λ status. IsFailureTold failure status (Appends (W.contents writer.old) (W.contents writer.new))) }
+    ensures failed { OnErr result (W.may_fail ≡ true) }
 {
-    writer.write_all(match failure {
+    writer.put(match failure {
         Failure::Memory => b"fault 60\n",
         Failure::Input => b"fault io\n",
     })?;

@@ -18,16 +18,17 @@ use crate::requests::script::{Item, first_item};
 use crate::streams::outbox::Outbox;
 use crate::streams::reading::read_whole;
 use desk_register::Register;
+use desk_streams::Source;
 use std::alloc::Global;
 use std::io;
-use std::io::{Read, Write};
+use std::io::Write;
 
 impl<R: Register> Desk<R> {
     /// Reads a whole script, and then asks its requests one after another and writes the answers, in pieces of `PIECE`
     /// bytes and what is left at the end. The room for a piece is taken before the first read. After `ReadFailed`,
     /// `TooLong` and `Memory` nothing was asked or written; after `WriteFailed` what was asked before the failed write
     /// stands.
-    pub fn play<I: Read, O: Write>(
+    pub fn play<I: Source, O: Write>(
         &mut self,
         alloc: Global,
         reader: &mut I,
@@ -36,7 +37,7 @@ impl<R: Register> Desk<R> {
         ensures played { OnOk result ((books : Books) → (R.view self.new.register).is_honest → Holds self.old.is_closed (R.view self.old.register) books
             → (script : List ℕ) × IfSome (I.remaining reader.old) (λ input. input ≡ script) × (length script ≤ LONGEST_SCRIPT)
             × PlaysScript self.old.is_closed books script (O.contents writer.old) (O.contents writer.new) self.new.is_closed (R.view self.old.register) (R.view self.new.register)) }
-        ensures unread { result ≡ Err PlayFault.ReadFailed → (self.new ≡ self.old) × (writer.new ≡ writer.old) }
+        ensures unread { result ≡ Err PlayFault.ReadFailed → (self.new ≡ self.old) × (writer.new ≡ writer.old) × (I.may_fail ≡ true) }
         ensures too_long { result ≡ Err PlayFault.TooLong → (self.new ≡ self.old) × (writer.new ≡ writer.old) × IfSome (I.remaining reader.old) (λ input. LONGEST_SCRIPT < length input) }
         ensures memory { result ≡ Err PlayFault.Memory → (self.new ≡ self.old) × (writer.new ≡ writer.old) × (reader.new ≡ reader.old) }
         ensures stands { result ≡ Err PlayFault.WriteFailed → (books : Books) → (R.view self.new.register).is_honest → Holds self.old.is_closed (R.view self.old.register) books

@@ -1,5 +1,5 @@
 //! Reading a request, in whatever pieces it comes.
-ghost use Rattle.std.specs.Prelude.{◌≡◌, ◌≤◌, ◌+◌, ◌↔◌, ◌++◌, [], ℕ, List, vec_len, vec_capacity, IfOk, IfSome, IsTrue, false};
+ghost use Rattle.std.specs.Prelude.{◌≡◌, ◌≤◌, ◌+◌, ◌↔◌, ◌++◌, [], ℕ, List, vec_len, vec_capacity, IfOk, IfSome, OnErr, IsTrue, true, false};
 ghost use Rattle.std.specs.Io.KnownBytes.{Consumes, IsAtEnd};
 ghost use Rattle.desk_http.specs.Connection.{Connection};
 ghost use Rattle.desk_http.specs.Decisions.{asked_by_found};
@@ -10,14 +10,14 @@ use crate::limits::LONGEST_REQUEST;
 use crate::refusal::Refusal;
 use crate::route::Routes;
 use desk_book::{CHUNK, read_more};
+use desk_streams::Source;
 use std::io;
-use std::io::Read;
 
 /// A call, and the place in what was read where its body begins.
 pub type Found = (Call, usize);
 
 /// Reads as long as the bytes read so far leave open what the stream asks, and says what that is.
-pub fn read_request<R: Read>(
+pub fn read_request<R: Source>(
     routes: &Routes,
     reader: &mut R,
     input: &mut Vec<u8>,
@@ -28,6 +28,7 @@ pub fn read_request<R: Read>(
     ensures within { IfOk result (λ found. IfOk found (λ f. f.1 + f.0.length ≤ vec_len input.new)) }
     ensures taken { Consumes (R.remaining reader.old) (R.remaining reader.new) input.new.items }
     ensures limit { vec_len input.new ≤ LONGEST_REQUEST }
+    ensures unread { OnErr result (R.may_fail ≡ true) }
 {
     let mut chunk = [0; CHUNK];
     'reads: loop {
@@ -44,7 +45,7 @@ pub fn read_request<R: Read>(
 
 /// Reads until so many bytes are there, or the stream is at its end. Whether they are there. Each read asks for as many
 /// bytes as a request may still have.
-fn read_at_least<R: Read>(
+fn read_at_least<R: Source>(
     reader: &mut R,
     chunk: &mut [u8; CHUNK],
     input: &mut Vec<u8>,
@@ -59,6 +60,7 @@ fn read_at_least<R: Read>(
     ensures ended { IfOk result (λ whole. whole ≡ false → IsAtEnd (R.remaining reader.new)) }
     ensures room { LONGEST_REQUEST ≤ vec_capacity input.new }
     ensures limit { vec_len input.new ≤ LONGEST_REQUEST }
+    ensures unread { OnErr result (R.may_fail ≡ true) }
 {
     'reads: while input.len() < count {
         if !read_more(reader, chunk, input, LONGEST_REQUEST)? {

@@ -16,15 +16,16 @@ use crate::response::write_response;
 use crate::route::Routes;
 use desk_book::{Desk, PIECE, Request};
 use desk_register::Register;
+use desk_streams::Source;
 use std::alloc::Global;
 use std::io;
-use std::io::{Read, Write};
+use std::io::Write;
 
 /// Reads a request, asks it of the desk and writes the response. The room for the request, and for a piece of the
 /// response, is taken before the first read, so after `Memory` nothing was read; after `ReadFailed` nothing was asked or
 /// written; after `WriteFailed` what was asked stands, and asked again it is answered again. What is refused asks
 /// nothing. Each read but the last gives a byte or more, and `LONGEST_REQUEST` bytes at most are read.
-pub fn serve_one<I: Read, O: Write, R: Register>(
+pub fn serve_one<I: Source, O: Write, R: Register>(
     alloc: Global,
     routes: &Routes,
     reader: &mut I,
@@ -33,7 +34,7 @@ pub fn serve_one<I: Read, O: Write, R: Register>(
 ) -> Result<(), HttpFault>
     ensures responds { OnOk result ((books : Books) → (R.view desk.new.register).is_honest → Holds desk.old.is_closed (R.view desk.old.register) books
         → Responds desk.old.is_closed books (I.remaining reader.old) (O.contents writer.old) (O.contents writer.new) desk.new.is_closed (R.view desk.old.register) (R.view desk.new.register)) }
-    ensures unread { result ≡ Err HttpFault.ReadFailed → (desk.new ≡ desk.old) × (writer.new ≡ writer.old) }
+    ensures unread { result ≡ Err HttpFault.ReadFailed → (desk.new ≡ desk.old) × (writer.new ≡ writer.old) × (I.may_fail ≡ true) }
     ensures memory { result ≡ Err HttpFault.Memory → (desk.new ≡ desk.old) × (writer.new ≡ writer.old) × (reader.new ≡ reader.old) }
     ensures stands { result ≡ Err HttpFault.WriteFailed → (books : Books) → (R.view desk.new.register).is_honest → Holds desk.old.is_closed (R.view desk.old.register) books
         → Serves desk.old.is_closed books (I.remaining reader.old) desk.new.is_closed (R.view desk.old.register) (R.view desk.new.register) }

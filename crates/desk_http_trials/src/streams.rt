@@ -1,5 +1,7 @@
 //! A reader that gives its bytes in pieces, and a writer that takes them so; each fails where it is told to.
+ghost use Rattle.std.specs.Prelude.{true};
 
+use desk_streams::Source;
 use std::alloc::Global;
 use std::io;
 use std::io::{ErrorKind, Read, Write};
@@ -31,6 +33,14 @@ impl Read for Pieces<'_> {
         self.rest = &self.rest[count..];
         self.before_cut = self.before_cut.saturating_sub(count);
         Ok(count)
+    }
+}
+
+impl Source for Pieces<'_> {
+    ghost may_fail = { true };
+
+    fn read_some(&mut self, buffer: &mut [u8]) -> io::Result<usize> {
+        self.read(buffer)
     }
 }
 

@@ -1,38 +1,41 @@
 //! `desk check`.
-ghost use Rattle.std.specs.Prelude.{◌≡◌, ℕ, List, [], Some, map, IfOk, IfSome};
-ghost use Rattle.desk.specs.CheckAnswer.{AreFound, IsCheckAnswer, status_of_findings};
+ghost use Rattle.std.specs.Prelude.{◌≡◌, ◌≤◌, length, true, map, IfOk, IfSome, OnErr};
+ghost use Rattle.std.specs.Io.KnownBytes.{Appends};
+ghost use Rattle.desk.specs.CheckAnswer.{AreFound, IsCheckAnswer, IsFindingsAnswer, status_of_findings};
 ghost use Rattle.desk.specs.Finding.{found_by};
-ghost use Rattle.desk.specs.PlayAnswer.{IsPlayAnswer};
+ghost use Rattle.desk.specs.PlayAnswer.{IsPlayed};
 
 use super::play::answer_play;
 use crate::findings::{Finding, findings_in, numbers_told, tell_findings};
 use crate::status::{Failure, Status, tell_failure};
-use desk_book::{InputFault, LONGEST_SCRIPT, read_whole};
+use desk_book::{LONGEST_SCRIPT, read_whole};
+use desk_streams::{Sink, Source};
 use std::alloc::Global;
-use std::io::{self, Read, Write};
+use std::io;
 
 /// Plays a script from the reader on a new desk in memory, and tells of each answer but those of status 200 in which line
 /// its request begins, what that line says and why it was refused; and then how many were refused so. It is refused where
 /// any was. `fault 60` tells that memory is wanting for the script or its answers, and `fault io` that the reader failed
 /// or the script is too long.
-pub fn answer_check<R: Read, W: Write>(
+pub fn answer_check<R: Source, W: Sink>(
     alloc: Global,
     reader: &mut R,
     writer: &mut W,
 ) -> io::Result<Status>
-    ensures { IfOk result (λ status. (input : List ℕ) × IfSome (R.remaining reader.old) (λ known. known ≡ input) × IsCheckAnswer input status (W.contents writer.old) (W.contents writer.new)) }
+    ensures told { IfOk result (λ status. IsCheckAnswer (R.remaining reader.old) (reader.new ≡ reader.old) R.may_fail status (Appends (W.contents writer.old) (W.contents writer.new))) }
+    ensures failed { OnErr result (W.may_fail ≡ true) }
 {
     match read_whole(alloc, reader, LONGEST_SCRIPT) {
         Ok(script) => check_script(alloc, script.as_slice(), writer),
-        Err(InputFault::Memory) => tell_failure(Failure::Memory, writer),
-        Err(InputFault::ReadFailed) => tell_failure(Failure::Input, writer),
-        Err(InputFault::TooLong) => tell_failure(Failure::Input, writer),
+        Err(fault) => tell_failure(Failure::from(fault), writer),
     }
 }
 
 /// As `answer_check`, of a script that was read.
-fn check_script<W: Write>(alloc: Global, script: &[u8], writer: &mut W) -> io::Result<Status>
-    ensures { IfOk result (λ status. IsCheckAnswer script.now status (W.contents writer.old) (W.contents writer.new)) }
+fn check_script<W: Sink>(alloc: Global, script: &[u8], writer: &mut W) -> io::Result<Status>
+    requires { length script.now ≤ LONGEST_SCRIPT }
+    ensures told { IfOk result (λ status. IsFindingsAnswer script.now status (Appends (W.contents writer.old) (W.contents writer.new))) }
+    ensures failed { OnErr result (W.may_fail ≡ true) }
 {
     match found_in(alloc, script) {
         Some(findings) => {
@@ -64,7 +67,7 @@ fn found_in(alloc: Global, script: &[u8]) -> Option<Vec<Finding<'_>>>
 
 /// The answers to a script, as `desk play` writes them; None where memory is wanting.
 fn answers_to(alloc: Global, script: &[u8]) -> Option<Vec<u8>>
-    ensures { IfSome result (λ answers. IsPlayAnswer script.now Status.Done (Some []) (Some answers.items)) }
+    ensures { IfSome result (λ answers. IsPlayed script.now answers.items) }
 {
     let mut reader = script;
     let mut answers = Vec::new(alloc);

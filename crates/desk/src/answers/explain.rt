@@ -1,17 +1,19 @@
 //! `desk explain`.
-ghost use Rattle.std.specs.Prelude.{IfOk};
+ghost use Rattle.std.specs.Prelude.{◌≡◌, true, IfOk, OnErr};
 ghost use Rattle.std.specs.Io.KnownBytes.{Appends};
 ghost use Rattle.desk.specs.ExplainAnswer.{IsExplainAnswer};
 
 use crate::status::Status;
 use crate::words::Topic;
+use desk_streams::Sink;
 use desk_words::{Cause, write_catalogue, write_cause};
-use std::io::{self, Write};
+use std::io;
 
 /// Prints the whole catalogue, or what a number means that is told in place of an answer, and what to do about it. A
 /// number that is told of nothing is refused.
-pub fn answer_explain<W: Write>(topic: Topic, writer: &mut W) -> io::Result<Status>
-    ensures { IfOk result (λ status. IsExplainAnswer topic status (Appends (W.contents writer.old) (W.contents writer.new))) }
+pub fn answer_explain<W: Sink>(topic: Topic, writer: &mut W) -> io::Result<Status>
+    ensures told { IfOk result (λ status. IsExplainAnswer topic status (Appends (W.contents writer.old) (W.contents writer.new))) }
+    ensures failed { OnErr result (W.may_fail ≡ true) }
 {
     match topic {
         Topic::Catalogue => {
@@ -23,8 +25,9 @@ pub fn answer_explain<W: Write>(topic: Topic, writer: &mut W) -> io::Result<Stat
 }
 
 /// Prints what a number means.
-fn explain_number<W: Write>(number: u8, writer: &mut W) -> io::Result<Status>
-    ensures { IfOk result (λ status. IsExplainAnswer (Topic.Number number) status (Appends (W.contents writer.old) (W.contents writer.new))) }
+fn explain_number<W: Sink>(number: u8, writer: &mut W) -> io::Result<Status>
+    ensures told { IfOk result (λ status. IsExplainAnswer (Topic.Number number) status (Appends (W.contents writer.old) (W.contents writer.new))) }
+    ensures failed { OnErr result (W.may_fail ≡ true) }
 {
     match Cause::of_number(number) {
         Some(cause) => {
@@ -32,7 +35,7 @@ fn explain_number<W: Write>(number: u8, writer: &mut W) -> io::Result<Status>
             Ok(Status::Done)
         }
         None => {
-            writeln!(writer, "no refusal and no fault has the number {number}")?;
+            writer.put_text(format_args!("no refusal and no fault has the number {number}\n"))?;
             Ok(Status::Refused)
         }
     }

@@ -1,23 +1,25 @@
 //! `desk play`.
-ghost use Rattle.std.specs.Prelude.{◌≡◌, ℕ, List, IfOk, IfSome};
+ghost use Rattle.std.specs.Prelude.{◌≡◌, IfOk};
+ghost use Rattle.std.specs.Io.KnownBytes.{Appends};
 ghost use Rattle.desk.specs.PlayAnswer.{IsPlayAnswer};
 
 use crate::status::{Failure, Status, tell_failure};
 use desk_book::{Desk, PlayFault};
 use desk_index::IndexedRegister;
 use desk_rules::MOST_ENTRIES;
+use desk_streams::{Sink, Source};
 use std::alloc::Global;
-use std::io::{self, Read, Write};
+use std::io;
 
 /// Plays a script from the reader on a new desk in memory. It is done where the script was played, whatever its
 /// answers; `fault 60` tells that memory is wanting for the script, and `fault io` that the reader failed or the
 /// script is too long. Where the writer failed nothing more is written.
-pub fn answer_play<R: Read, W: Write>(
+pub fn answer_play<R: Source, W: Sink>(
     alloc: Global,
     reader: &mut R,
     writer: &mut W,
 ) -> io::Result<Status>
-    ensures { IfOk result (λ status. (input : List ℕ) × IfSome (R.remaining reader.old) (λ known. known ≡ input) × IsPlayAnswer input status (W.contents writer.old) (W.contents writer.new)) }
+    ensures { IfOk result (λ status. IsPlayAnswer (R.remaining reader.old) (reader.new ≡ reader.old) R.may_fail status (Appends (W.contents writer.old) (W.contents writer.new))) }
 {
     let mut desk = Desk::new(IndexedRegister::new(alloc, MOST_ENTRIES));
     match desk.play(alloc, reader, writer) {

@@ -1,7 +1,8 @@
 //! `desk serve`.
-ghost use Rattle.std.specs.Prelude.{IfOk, OnOk};
+ghost use Rattle.std.specs.Prelude.{◌≡◌, true, false, IfOk, OnErr, OnOk};
 ghost use Rattle.std.specs.Io.KnownBytes.{Appends};
-ghost use Rattle.desk.specs.ServeAnswer.{IsServeAnswer, listening_line};
+ghost use Rattle.desk_index.specs.IndexView.{view_of_index};
+ghost use Rattle.desk.specs.ServeAnswer.{HoldsOn, IsServeAnswer, listening_line};
 
 use crate::status::{Failure, Status, tell_failure};
 use crate::words::Service;
@@ -9,8 +10,9 @@ use desk_book::Desk;
 use desk_http::{Routes, serve_one};
 use desk_index::IndexedRegister;
 use desk_rules::MOST_ENTRIES;
+use desk_streams::Sink;
 use std::alloc::Global;
-use std::io::{self, Write};
+use std::io;
 use std::net::{Ipv4Addr, Net, TcpListener, TcpStream};
 use std::time::Duration;
 
@@ -20,13 +22,14 @@ const PATIENCE: u64 = 10;
 /// Serves so many connections at a port of 127.0.0.1, one after another, on a new desk in memory, once it has told that it
 /// listens. A connection that fails, and one that could not be accepted, counts and is passed over. `fault 60` tells that
 /// memory is wanting for the routes, and `fault io` that it could not listen.
-pub fn answer_serve<N: Net<Listener = TcpListener, Stream = TcpStream>, W: Write>(
+pub fn answer_serve<N: Net<Listener = TcpListener, Stream = TcpStream>, W: Sink>(
     net: &N,
     alloc: Global,
     service: Service,
     writer: &mut W,
 ) -> io::Result<Status>
-    ensures { IfOk result (λ status. IsServeAnswer service.port status (Appends (W.contents writer.old) (W.contents writer.new))) }
+    ensures told { IfOk result (λ status. IsServeAnswer service.port status (Appends (W.contents writer.old) (W.contents writer.new))) }
+    ensures failed { OnErr result (W.may_fail ≡ true) }
 {
     let Ok(routes) = Routes::new(alloc) else {
         return tell_failure(Failure::Memory, writer);
@@ -36,20 +39,35 @@ pub fn answer_serve<N: Net<Listener = TcpListener, Stream = TcpStream>, W: Write
     };
     tell_port(service.port, writer)?;
     let mut desk = Desk::new(IndexedRegister::new(alloc, MOST_ENTRIES));
-    for _ in 0..service.count {
-        if let Ok((stream, _)) = listener.accept() {
-            serve_stream(alloc, &routes, &stream, &mut desk);
-        }
-    }
+    serve_all(alloc, &routes, &listener, service.count, &mut desk);
     Ok(Status::Done)
 }
 
-/// Tells where clients may come, at once.
-fn tell_port<W: Write>(port: u16, writer: &mut W) -> io::Result<()>
-    ensures { OnOk result (Appends (W.contents writer.old) (W.contents writer.new) (listening_line port)) }
+/// Serves so many connections, one after another, of which those that could not be accepted are passed over.
+fn serve_all(
+    alloc: Global,
+    routes: &Routes,
+    listener: &TcpListener,
+    count: u32,
+    desk: &mut Desk<IndexedRegister>,
+)
+    ensures keeps { HoldsOn desk.old.is_closed (view_of_index desk.old.register) desk.new.is_closed (view_of_index desk.new.register) }
+    ensures open { desk.old.is_closed ≡ false → desk.new.is_closed ≡ false }
 {
-    writeln!(writer, "listening {port}")?;
-    writer.flush()
+    'connections: for _ in 0..count {
+        if let Ok((stream, _)) = listener.accept() {
+            serve_stream(alloc, routes, &stream, desk);
+        }
+    }
+}
+
+/// Tells where clients may come, at once.
+fn tell_port<W: Sink>(port: u16, writer: &mut W) -> io::Result<()>
+    ensures written { OnOk result (Appends (W.contents writer.old) (W.contents writer.new) (listening_line port)) }
+    ensures failed { OnErr result (W.may_fail ≡ true) }
+{
+    writer.put_text(format_args!("listening {port}\n"))?;
+    writer.send()
 }
 
 /// Serves one connection, whose client may keep a read or a write waiting so long. A fault is passed over: nothing was
@@ -59,7 +77,10 @@ fn serve_stream(
     routes: &Routes,
     stream: &TcpStream,
     desk: &mut Desk<IndexedRegister>,
-) {
+)
+    ensures keeps { HoldsOn desk.old.is_closed (view_of_index desk.old.register) desk.new.is_closed (view_of_index desk.new.register) }
+    ensures open { desk.old.is_closed ≡ false → desk.new.is_closed ≡ false }
+{
     let patience = Some(Duration::from_secs(PATIENCE));
     if stream.set_read_timeout(patience).is_err() || stream.set_write_timeout(patience).is_err() {
         return;

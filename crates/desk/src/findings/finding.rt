@@ -1,14 +1,15 @@
 //! What is found in a script by its answers.
-ghost use Rattle.std.specs.Prelude.{◌≡◌, [], ◌∷◌, map, take, IfOk, MatchOption, OnOk};
+ghost use Rattle.std.specs.Prelude.{◌≡◌, [], ◌∷◌, map, take, true, IfOk, MatchOption, OnErr, OnOk};
 ghost use Rattle.std.specs.List.{flat_map};
 ghost use Rattle.std.specs.Io.KnownBytes.{Appends};
 ghost use Rattle.desk_words.specs.Causes.{heading_of};
 ghost use Rattle.desk.specs.Finding.{asks as may_ask, count_of as how_many, count_text, finding_text, findings_in as all_found, found_at, found_by, found_here, in_body_behind, numbers_behind, place_text, report_text, told_text};
 
 use super::lines::{first_line, has_body, is_skipped, is_stop, said_by};
+use desk_streams::Sink;
 use desk_words::{CAUSES, Cause};
 use std::alloc::{AllocError, Global};
-use std::io::{self, Write};
+use std::io;
 
 /// So many bytes of a line are told.
 pub const TOLD: usize = 40;
@@ -102,15 +103,17 @@ fn finding_at<'a>(line: usize, text: &'a [u8], numbers: &[u8]) -> Option<Finding
 }
 
 /// Writes each finding in a line, and then how many tell each cause.
-pub fn tell_findings<W: Write>(findings: &[Finding<'_>], writer: &mut W) -> io::Result<()>
-    ensures { OnOk result (Appends (W.contents writer.old) (W.contents writer.new) (report_text (map found_by findings.now))) }
+pub fn tell_findings<W: Sink>(findings: &[Finding<'_>], writer: &mut W) -> io::Result<()>
+    ensures written { OnOk result (Appends (W.contents writer.old) (W.contents writer.new) (report_text (map found_by findings.now))) }
+    ensures failed { OnErr result (W.may_fail ≡ true) }
 {
     tell_lines(findings, writer)?;
     tell_counts(&CAUSES, findings, writer)
 }
 
-fn tell_lines<W: Write>(findings: &[Finding<'_>], writer: &mut W) -> io::Result<()>
-    ensures { OnOk result (Appends (W.contents writer.old) (W.contents writer.new) (flat_map (λ finding. finding_text (found_by finding)) findings.now)) }
+fn tell_lines<W: Sink>(findings: &[Finding<'_>], writer: &mut W) -> io::Result<()>
+    ensures written { OnOk result (Appends (W.contents writer.old) (W.contents writer.new) (flat_map (λ finding. finding_text (found_by finding)) findings.now)) }
+    ensures failed { OnErr result (W.may_fail ≡ true) }
 {
     for finding in findings {
         tell_line(finding, writer)?;
@@ -118,18 +121,20 @@ fn tell_lines<W: Write>(findings: &[Finding<'_>], writer: &mut W) -> io::Result<
     Ok(())
 }
 
-fn tell_line<W: Write>(finding: &Finding<'_>, writer: &mut W) -> io::Result<()>
-    ensures { OnOk result (Appends (W.contents writer.old) (W.contents writer.new) (finding_text (found_by finding.now))) }
+fn tell_line<W: Sink>(finding: &Finding<'_>, writer: &mut W) -> io::Result<()>
+    ensures written { OnOk result (Appends (W.contents writer.old) (W.contents writer.new) (finding_text (found_by finding.now))) }
+    ensures failed { OnErr result (W.may_fail ≡ true) }
 {
     tell_place(finding.line, finding.said, writer)?;
     tell_meaning(finding.cause, writer)
 }
 
-fn tell_place<W: Write>(line: usize, said: &[u8], writer: &mut W) -> io::Result<()>
-    ensures { OnOk result (Appends (W.contents writer.old) (W.contents writer.new) (place_text line said.now)) }
+fn tell_place<W: Sink>(line: usize, said: &[u8], writer: &mut W) -> io::Result<()>
+    ensures written { OnOk result (Appends (W.contents writer.old) (W.contents writer.new) (place_text line said.now)) }
+    ensures failed { OnErr result (W.may_fail ≡ true) }
 {
-    write!(writer, "line {line}: ")?;
-    writer.write_all(front_of(said))
+    writer.put_text(format_args!("line {line}: "))?;
+    writer.put(front_of(said))
 }
 
 /// So much of a line as is told.
@@ -142,21 +147,23 @@ fn front_of(said: &[u8]) -> &[u8]
     &said[..TOLD]
 }
 
-fn tell_meaning<W: Write>(cause: Cause, writer: &mut W) -> io::Result<()>
-    ensures { OnOk result (Appends (W.contents writer.old) (W.contents writer.new) (told_text cause)) }
+fn tell_meaning<W: Sink>(cause: Cause, writer: &mut W) -> io::Result<()>
+    ensures written { OnOk result (Appends (W.contents writer.old) (W.contents writer.new) (told_text cause)) }
+    ensures failed { OnErr result (W.may_fail ≡ true) }
 {
     let number = cause.number();
     let word = if number < 60 { "refused" } else { "fault" };
     let meaning = cause.meaning();
-    writeln!(writer, ": {word} {number}: {meaning}")
+    writer.put_text(format_args!(": {word} {number}: {meaning}\n"))
 }
 
-fn tell_counts<W: Write>(
+fn tell_counts<W: Sink>(
     causes: &[Cause],
     findings: &[Finding<'_>],
     writer: &mut W,
 ) -> io::Result<()>
-    ensures { OnOk result (Appends (W.contents writer.old) (W.contents writer.new) (flat_map (count_text (map found_by findings.now)) causes.now)) }
+    ensures written { OnOk result (Appends (W.contents writer.old) (W.contents writer.new) (flat_map (count_text (map found_by findings.now)) causes.now)) }
+    ensures failed { OnErr result (W.may_fail ≡ true) }
 {
     for cause in causes {
         tell_count(*cause, findings, writer)?;
@@ -164,15 +171,16 @@ fn tell_counts<W: Write>(
     Ok(())
 }
 
-fn tell_count<W: Write>(cause: Cause, findings: &[Finding<'_>], writer: &mut W) -> io::Result<()>
-    ensures { OnOk result (Appends (W.contents writer.old) (W.contents writer.new) (count_text (map found_by findings.now) cause)) }
+fn tell_count<W: Sink>(cause: Cause, findings: &[Finding<'_>], writer: &mut W) -> io::Result<()>
+    ensures written { OnOk result (Appends (W.contents writer.old) (W.contents writer.new) (count_text (map found_by findings.now) cause)) }
+    ensures failed { OnErr result (W.may_fail ≡ true) }
 {
     let count = count_of(cause, findings);
     if count == 0 {
         return Ok(());
     }
     tell_heading(cause, writer)?;
-    writeln!(writer, ": {count}")
+    writer.put_text(format_args!(": {count}\n"))
 }
 
 /// How many findings tell a cause.
@@ -187,10 +195,11 @@ fn count_of(cause: Cause, findings: &[Finding<'_>]) -> usize
 }
 
 /// Writes `refused N` or `fault N`.
-fn tell_heading<W: Write>(cause: Cause, writer: &mut W) -> io::Result<()>
-    ensures { OnOk result (Appends (W.contents writer.old) (W.contents writer.new) (heading_of cause)) }
+fn tell_heading<W: Sink>(cause: Cause, writer: &mut W) -> io::Result<()>
+    ensures written { OnOk result (Appends (W.contents writer.old) (W.contents writer.new) (heading_of cause)) }
+    ensures failed { OnErr result (W.may_fail ≡ true) }
 {
     let number = cause.number();
     let word = if number < 60 { "refused" } else { "fault" };
-    write!(writer, "{word} {number}")
+    writer.put_text(format_args!("{word} {number}"))
 }

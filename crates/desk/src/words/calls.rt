@@ -1,9 +1,9 @@
 //! What the words ask for.
-ghost use Rattle.std.specs.Prelude.{◌≡◌, [], ◌∷◌, ℕ, List, true, codes, map, IfOk, IfSome, IsSomeAnd, MatchResult};
+ghost use Rattle.std.specs.Prelude.{◌≡◌, ◌⊎◌, [], ◌∷◌, ℕ, List, true, codes, map, IfErr, IfOk, IfSome, IsSomeAnd, MatchResult};
 ghost use Rattle.clap.specs.Words.{first_value, found_of, kind_of, one_text, rows_of, subcommand_rows_of};
 ghost use Rattle.desk_msg.specs.MessageType.{digits_of_type, is_instruction, number_of_type};
 ghost use Rattle.desk_msg.specs.declared.mt.Mt.{Mt};
-ghost use Rattle.desk.specs.Words.{CallValue, IsAskable, IsSpelledOut, ReadsOnlyInstructions, IsSaid, IsSaidBy, IsSaidIn, IsNumberText, IsTopic, IsTypeText, value_of_call, words_for};
+ghost use Rattle.desk.specs.Words.{CallValue, IsAskable, IsErrorIn, IsSpelledOut, ReadsOnlyInstructions, IsSaid, IsSaidBy, IsSaidIn, IsNumberText, IsTopic, IsTypeText, value_of_call, words_for};
 
 use super::parser::desk;
 use clap::ArgMatches;
@@ -56,6 +56,7 @@ pub fn call_of<'a, S: AsStr>(alloc: Global, words: &'a [S]) -> Result<Call<'a>, 
         → MatchResult result (λ call. value_of_call call ≡ asked) (λ error. kind_of error ≡ ErrorKind.OutOfMemory) }
     ensures nothing { (program : List ℕ) → map S.text words.entry.now ≡ program ∷ []
         → MatchResult result (λ call. value_of_call call ≡ CallValue.play) (λ error. kind_of error ≡ ErrorKind.OutOfMemory) }
+    ensures wrong { IfErr result (λ error. (kind_of error ≡ ErrorKind.OutOfMemory) ⊎ IsErrorIn (kind_of error) (map S.text words.entry.now)) }
 {
     let matches = desk(alloc)?.try_get_matches_from(words)?;
     match call_in(&matches) {
@@ -65,7 +66,7 @@ pub fn call_of<'a, S: AsStr>(alloc: Global, words: &'a [S]) -> Result<Call<'a>, 
 }
 
 /// An error in the words, with the program's usage.
-pub fn usage_error(alloc: Global, message: &str) -> Result<Error, AllocError>
+fn usage_error(alloc: Global, message: &str) -> Result<Error, AllocError>
     ensures { IfOk result (λ error. kind_of error ≡ ErrorKind.InvalidValue) }
 {
     let mut desk = desk(alloc)?;

@@ -3,6 +3,15 @@
 /// The version that is told.
 pub const VERSION: &str = "0.1.0";
 
+/// What is told where a word is no text.
+pub const NO_TEXT: &str = "\
+error: invalid UTF-8 was detected in one or more arguments
+
+Usage: desk [COMMAND]
+
+For more information, try '--help'.
+";
+
 /// Of the program
 pub const PROGRAM: &str = "\
 Exit status:

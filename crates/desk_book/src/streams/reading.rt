@@ -1,19 +1,20 @@
 //! Reading all that a reader gives.
-ghost use Rattle.std.specs.Prelude.{◌≡◌, ℕ, ◌<◌, ◌≤◌, ◌+◌, ◌↔◌, ◌++◌, List, length, vec_len, vec_capacity, IfOk, IfSome, OnErr, IsTrue, Err, false};
+ghost use Rattle.std.specs.Prelude.{◌≡◌, ℕ, ◌<◌, ◌≤◌, ◌+◌, ◌↔◌, ◌++◌, List, length, vec_len, vec_capacity, IfOk, IfSome, OnErr, IsTrue, Err, true, false};
 ghost use Rattle.std.specs.Io.KnownBytes.{Consumes, Keeps, IsAtEnd};
 
 use crate::fault::InputFault;
 use crate::limits::LONGEST_SCRIPT;
+use desk_streams::Source;
 use std::alloc::Global;
 use std::io;
-use std::io::Read;
 
 /// So many bytes are asked for in one read.
 pub const CHUNK: usize = 4096;
 
 /// All that the reader gives, which may be so many bytes at most. The room is taken before the first read, and one
-/// byte at most is read past the longest text. Each read but the last gives a byte or more.
-pub fn read_whole<R: Read>(
+/// byte at most is read past the longest text. Each read but the last gives a byte or more. A reader that cannot fail
+/// is never told to have failed.
+pub fn read_whole<R: Source>(
     alloc: Global,
     reader: &mut R,
     longest: usize,
@@ -24,6 +25,7 @@ pub fn read_whole<R: Read>(
     ensures taken { (taken : List ℕ) × Consumes (R.remaining reader.old) (R.remaining reader.new) taken × (length taken ≤ longest + 1) }
     ensures too_long { result ≡ Err InputFault.TooLong → IfSome (R.remaining reader.old) (λ input. longest < length input) }
     ensures memory { result ≡ Err InputFault.Memory → reader.new ≡ reader.old }
+    ensures unread { result ≡ Err InputFault.ReadFailed → R.may_fail ≡ true }
 {
     let Ok(mut text) = Vec::with_capacity(alloc, longest + 1) else {
         return Err(InputFault::Memory);
@@ -41,7 +43,7 @@ pub fn read_whole<R: Read>(
 
 /// Reads once through a chunk, into room that is there, and so that the buffer has `limit` bytes at most. Whether a byte
 /// came: if not, the reader is at its end. An interrupted read counts as failed; after a failed one nothing was read.
-pub fn read_more<R: Read>(
+pub fn read_more<R: Source>(
     reader: &mut R,
     chunk: &mut [u8; CHUNK],
     buffer: &mut Vec<u8>,
@@ -55,12 +57,13 @@ pub fn read_more<R: Read>(
         × (IsTrue came ↔ (0 < length more))
         × (came ≡ false → IsAtEnd (R.remaining reader.new))) }
     ensures err { OnErr result ((buffer.new.items ≡ buffer.old.items)
-        × Keeps (R.remaining reader.old) (R.remaining reader.new)) }
+        × Keeps (R.remaining reader.old) (R.remaining reader.new)
+        × (R.may_fail ≡ true)) }
     ensures limit { vec_len buffer.new ≤ limit }
     ensures room { limit ≤ vec_capacity buffer.new }
 {
     let wanted = CHUNK.min(limit - buffer.len());
-    let count = reader.read(&mut chunk[..wanted])?;
+    let count = reader.read_some(&mut chunk[..wanted])?;
     buffer.extend_from_slice(&chunk[..count]).unwrap();
     Ok(count != 0)
 }

@@ -1,15 +1,18 @@
 //! A script played on a desk over a store of which calls fail, each in turn: what is written for its requests.
-use crate::tests::failing::Plan;
-use crate::tests::faults::{SOUND, failing_desk, request_of};
-use crate::tests::over_lists::new_desk;
-use crate::tests::plays::ANSWERS;
-use crate::tests::scripts::FREE_PAIR;
+use crate::tests::failing::{FailingRegister, Plan};
+use crate::tests::script::{SCRIPT, repeated, split_answers, split_items};
 use desk_book::*;
-use desk_register::Register;
-use desk_rules::MOST_ENTRIES;
+use desk_register::Stage;
 use std::alloc::{AllocError, Global};
-use std::process::Abort;
 use std::test::Fail;
+
+/// No call fails.
+pub const SOUND: Plan = Plan {
+    first: 0,
+    gap: 0,
+    count: 0,
+    is_late: false,
+};
 
 /// What is written where the device failed in a request, and nothing has changed.
 const FAULT: &[u8] = b"500\nfault 61\n.\n";
@@ -17,115 +20,133 @@ const FAULT: &[u8] = b"500\nfault 61\n.\n";
 /// What a closed desk writes for a request.
 const CLOSED: &[u8] = b"500\nfault 62\n.\n";
 
-/// Each of the script's requests calls the store.
-const LEAST_CALLS: u64 = 10;
-
-/// The first items of a script, and what stands behind them.
-fn split_items(script: &[u8], items: usize) -> (&[u8], &[u8]) {
-    let mut rest = script;
-    for _ in 0..items {
-        if let Some((_, after)) = first_item(rest) {
-            rest = after;
-        }
-    }
-    (&script[..script.len().saturating_sub(rest.len())], rest)
-}
-
-/// The first answers of a text, and those behind them.
-fn split_answers(text: &[u8], answers: usize) -> (&[u8], &[u8]) {
-    let mut rest = text;
-    let mut count: usize = 0;
-    for index in 0..text.len() {
-        if count == answers {
-            break;
-        }
-        if text[index..].starts_with(b"\n.\n") {
-            count = count.wrapping_add(1);
-            rest = &text[index.saturating_add(3).min(text.len())..];
-        }
-    }
-    (&text[..text.len().saturating_sub(rest.len())], rest)
-}
-
-/// A script without the item at an index.
-fn without(alloc: Global, script: &[u8], index: usize) -> Result<Vec<u8>, AllocError> {
-    let (before, rest) = split_items(script, index);
-    let (_, behind) = split_items(rest, 1);
-    let mut others = Vec::new(alloc);
-    others.extend_from_slice(before)?;
-    others.extend_from_slice(behind)?;
-    Ok(others)
-}
-
-/// What a desk writes for a script.
-fn played<R: Register>(
+/// What a desk writes for a script, over a store of which calls fail so, and its store then.
+fn played(
     alloc: Global,
-    desk: &mut Desk<R>,
+    plan: Plan,
     script: &[u8],
-) -> Result<Vec<u8>, PlayFault> {
+) -> Result<(Vec<u8>, FailingRegister), PlayFault> {
+    let mut desk = Desk::new(FailingRegister::new(alloc, plan));
     let mut reader = script;
     let mut written = Vec::new(alloc);
     desk.play(alloc, &mut reader, &mut written)?;
-    Ok(written)
+    Ok((written, desk.into_register()))
 }
 
-/// How many calls a store has got after each item of a script, where none fails.
-fn calls_after(alloc: Global, script: &[u8]) -> Result<Vec<u64>, Fail> {
-    let mut calls = Vec::new(alloc);
-    for index in 0..item_count(script) {
-        let mut desk = failing_desk(alloc, SOUND);
-        let (front, _) = split_items(script, index.saturating_add(1));
-        let _written = played(alloc, &mut desk, front)?;
-        calls.push(desk.into_register().calls())?;
+/// A script of which each item stands so many times, what a sound store's desk writes for it, and how many calls the store
+/// has got after each item.
+#[derive(Drop)]
+struct Trial {
+    script: Vec<u8>,
+    answers: Vec<u8>,
+    calls: Vec<u64>,
+}
+
+impl Trial {
+    fn new(alloc: Global, times: usize) -> Result<Trial, Fail> {
+        let script = repeated(alloc, SCRIPT, times)?;
+        let (answers, _) = played(alloc, SOUND, &script)?;
+        let mut calls = Vec::new(alloc);
+        for index in 0..item_count(&script) {
+            let (front, _) = split_items(&script, index.saturating_add(1));
+            let (_, register) = played(alloc, SOUND, front)?;
+            calls.push(register.calls())?;
+        }
+        Ok(Trial {
+            script,
+            answers,
+            calls,
+        })
     }
-    Ok(calls)
-}
 
-/// How many calls a store has got after each item of the free pair, and in all.
-fn counted_calls(rt: &impl Abort, alloc: Global) -> Result<(Vec<u64>, u64), Fail> {
-    let calls = calls_after(alloc, FREE_PAIR)?;
-    let all = *calls.last().ok_or("calls")?;
-    assert!(rt; all >= LEAST_CALLS);
-    Ok((calls, all))
-}
+    /// How many calls there are in all.
+    fn all(&self) -> u64 {
+        self.calls.last().copied().unwrap_or(0)
+    }
 
-/// One call fails: that is written for its request, and for the others what is written without it.
-#[test]
-fn one_failed_call_is_told(rt: HostRuntime) -> Result<(), Fail> {
-    let alloc = rt.alloc();
-    let (calls, all) = counted_calls(&rt, alloc)?;
-    for first in 1..all.saturating_add(1) {
-        let hit = request_of(&calls, first);
-        let mut plain = new_desk(alloc, MOST_ENTRIES);
-        let others = played(alloc, &mut plain, &without(alloc, FREE_PAIR, hit)?)?;
-        let (before, behind) = split_answers(&others, hit);
+    /// The index of the item in which a call falls.
+    fn item_of(&self, call: u64) -> usize {
+        self.calls
+            .iter()
+            .position(|last| call <= *last)
+            .unwrap_or(self.calls.len())
+    }
+
+    /// Whether the script is answered as over a sound store where calls fail so, but for so many answers from the item
+    /// on in which the first of them falls, and these are this fault.
+    fn tells(&self, alloc: Global, plan: Plan, faults: usize, fault: &[u8]) -> Result<bool, Fail> {
+        let hit = self.item_of(plan.first);
+        let faults = faults.min(self.calls.len().saturating_sub(hit));
+        let (before, rest) = split_answers(&self.answers, hit);
+        let (_, behind) = split_answers(rest, faults);
         let mut want = Vec::new(alloc);
         want.extend_from_slice(before)?;
-        want.extend_from_slice(FAULT)?;
+        for _ in 0..faults {
+            want.extend_from_slice(fault)?;
+        }
         want.extend_from_slice(behind)?;
-        let plan = Plan::failing(first, 1);
-        let written = played(alloc, &mut failing_desk(alloc, plan), FREE_PAIR)?;
-        assert_eq!(rt; written.as_slice(), want.as_slice(), "at {first}");
+        let (written, _) = played(alloc, plan, &self.script)?;
+        Ok(written.as_slice() == want.as_slice())
+    }
+}
+
+/// Where no call fails each request is accepted, and each calls the store, so that each is tried where it fails.
+#[test]
+fn a_sound_store_answers_all(rt: HostRuntime) -> Result<(), Fail> {
+    let trial = Trial::new(rt.alloc(), 1)?;
+    let mut before = 0;
+    for (index, after) in trial.calls.iter().enumerate() {
+        assert!(rt; before < *after, "at {index}");
+        before = *after;
+        let (_, rest) = split_answers(&trial.answers, index);
+        assert!(rt; rest.starts_with(b"200"), "at {index}");
     }
     Ok(())
 }
 
-/// Two calls in a row fail: the desk is closed, and says so for the request and for each one behind it.
+/// One call fails: that is told for its request, and the others are answered as if nothing had failed, the same request
+/// asked again among them. Two in a row fail, of which the second is the one by which the desk would take the first back,
+/// or see what is held: the desk is closed, and says so for the request and for each one behind it.
 #[test]
-fn a_closed_desk_is_told(rt: HostRuntime) -> Result<(), Fail> {
+fn each_failed_call_is_told(rt: HostRuntime) -> Result<(), Fail> {
     let alloc = rt.alloc();
-    let (calls, all) = counted_calls(&rt, alloc)?;
-    for first in 1..all.saturating_add(1) {
-        let hit = request_of(&calls, first);
-        let (before, _) = split_answers(ANSWERS, hit);
-        let mut want = Vec::new(alloc);
-        want.extend_from_slice(before)?;
-        for _ in hit..item_count(FREE_PAIR) {
-            want.extend_from_slice(CLOSED)?;
+    let trial = Trial::new(alloc, 2)?;
+    for is_late in [false, true] {
+        for first in 1..trial.all().saturating_add(1) {
+            let once = Plan {
+                is_late,
+                ..Plan::failing(first, 1)
+            };
+            assert!(rt; trial.tells(alloc, once, 1, FAULT)?, "at {first}");
+            let twice = Plan { count: 2, ..once };
+            assert!(rt;
+                trial.tells(alloc, twice, usize::MAX, CLOSED)?,
+                "at {first}"
+            );
         }
-        let plan = Plan::failing(first, 2);
-        let written = played(alloc, &mut failing_desk(alloc, plan), FREE_PAIR)?;
-        assert_eq!(rt; written.as_slice(), want.as_slice(), "at {first}");
+    }
+    Ok(())
+}
+
+/// Two calls fail, and the one between them goes well. With no `begin` open that one is the `begin` by which the desk
+/// sees what is held, and its `back` fails: the desk is closed. Within a `begin` it is the `back`: the fault is told, and
+/// the other one falls in the first call for the request that is asked then, with no `begin` open, and is told too.
+#[test]
+fn two_failed_calls_apart(rt: HostRuntime) -> Result<(), Fail> {
+    let alloc = rt.alloc();
+    let trial = Trial::new(alloc, 3)?;
+    for first in 1..trial.all().saturating_add(1) {
+        let (_, register) = played(alloc, Plan::failing(first, 1), &trial.script)?;
+        let apart = Plan {
+            gap: 1,
+            ..Plan::failing(first, 2)
+        };
+        let is_told = if register.failed_in() == Stage::Idle {
+            trial.tells(alloc, apart, usize::MAX, CLOSED)?
+        } else {
+            trial.tells(alloc, apart, 2, FAULT)?
+        };
+        assert!(rt; is_told, "at {first}");
     }
     Ok(())
 }

@@ -1,44 +1,74 @@
-//! Reading scripts and writing answers.
-use crate::tests::plays::Pieces;
-use desk_book::*;
-use std::test::Fail;
+//! A reader that gives its bytes in pieces, and a writer that takes them so, and fails where it is told to.
+ghost use Rattle.std.specs.Prelude.{true};
 
-#[test]
-fn the_longest_script_and_more(rt: HostRuntime) -> Result<(), Fail> {
-    for (more, is_read, left) in [(0, true, 0), (7, false, 6)] {
-        let text = vec![in rt.alloc(); b'#'; LONGEST_SCRIPT + more]?;
-        let mut reader = Pieces {
-            rest: text.as_slice(),
-            piece: 4096,
-            reads: 0,
-            fails_at: 0,
-        };
-        let answer = read_whole(rt.alloc(), &mut reader, LONGEST_SCRIPT);
-        match answer {
-            Ok(script) => assert!(rt; is_read && script.len() == LONGEST_SCRIPT),
-            Err(fault) => assert!(rt; !is_read && fault == InputFault::TooLong),
-        }
-        assert_eq!(rt; reader.reads, LONGEST_SCRIPT / 4096 + 1);
-        assert_eq!(rt; reader.rest.len(), left);
-    }
-    Ok(())
+use desk_streams::Source;
+use std::alloc::Global;
+use std::io;
+use std::io::{ErrorKind, Read, Write};
+
+/// Gives a text in pieces, and fails at one read, as one that is interrupted. It counts its reads.
+#[derive(Drop)]
+pub struct Pieces<'a> {
+    pub rest: &'a [u8],
+    pub piece: usize,
+    pub reads: usize,
+    pub fails_at: usize,
 }
 
-#[test]
-fn answers_as_they_are_written(rt: HostRuntime) -> Result<(), Fail> {
-    let mut out = Vec::new(rt.alloc());
-    let mut outbox = Outbox::new(rt.alloc())?;
-    outbox.answer(&mut out, 200, Some(548), b"{4:\r\n-}")?;
-    outbox.answer(&mut out, 200, None, b"accepted 1")?;
-    outbox.answer(&mut out, 422, None, b"")?;
-    outbox.bad_line(&mut out)?;
-    outbox.fault(&mut out, Fault::Memory)?;
-    outbox.fault(&mut out, Fault::Storage)?;
-    outbox.fault(&mut out, Fault::Closed)?;
-    assert!(rt; out.is_empty());
-    outbox.finish(&mut out)?;
-    let want = b"200 548\n{4:\r\n-}\n.\n200\naccepted 1\n.\n422\n\n.\n400\nrefused 41\n.\n\
-                 503\nfault 60\n.\n500\nfault 61\n.\n500\nfault 62\n.\n";
-    assert_eq!(rt; out.as_slice(), want.as_slice());
-    Ok(())
+impl Read for Pieces<'_> {
+    fn read(&mut self, buf: &mut [u8]) -> io::Result<usize> {
+        self.reads = self.reads.wrapping_add(1);
+        if self.reads == self.fails_at {
+            return Err(io::Error::from(ErrorKind::Interrupted));
+        }
+        let count = self.piece.min(self.rest.len()).min(buf.len());
+        buf[..count].copy_from_slice(&self.rest[..count]);
+        self.rest = &self.rest[count..];
+        Ok(count)
+    }
+}
+
+impl Source for Pieces<'_> {
+    ghost may_fail = { true };
+
+    fn read_some(&mut self, buffer: &mut [u8]) -> io::Result<usize> {
+        self.read(buffer)
+    }
+}
+
+/// Takes a piece a write, and fails at one write. It counts its writes.
+#[derive(Drop)]
+pub struct Taking {
+    pub taken: Vec<u8>,
+    pub piece: usize,
+    pub writes: usize,
+    pub fails_at: usize,
+}
+
+impl Taking {
+    /// One that takes such pieces, and fails at this write; at none where it is 0.
+    pub fn new(alloc: Global, piece: usize, fails_at: usize) -> Taking {
+        Taking {
+            taken: Vec::new(alloc),
+            piece,
+            writes: 0,
+            fails_at,
+        }
+    }
+}
+
+impl Write for Taking {
+    fn write(&mut self, buf: &[u8]) -> io::Result<usize> {
+        self.writes = self.writes.wrapping_add(1);
+        if self.writes == self.fails_at {
+            return Err(io::Error::from(ErrorKind::Other));
+        }
+        let count = self.piece.min(buf.len());
+        self.taken.extend_from_slice(&buf[..count])?;
+        Ok(count)
+    }
+
+    fn flush(&mut self) -> io::Result<()> {
+        Ok(())
+    }
 }

@@ -3,4 +3,4 @@ use Rattle.desk_words.proofs.WritingLemmas.{written}
 use Rattle.desk_words.proofs.writing.write_causes.Goals as goal
 
 pub loop-cause-preserved : goal.loop-cause-preserved
-loop-cause-preserved g c = written cause_text c.args.causes.now _ _ _ c.loop-cause.cause-index _ c.loop-cause-test.true c.loop-cause.invariant c.in_ok-write_cause.ensures
+loop-cause-preserved g c = written cause_text c.args.causes.now _ _ _ c.loop-cause.cause-index _ c.loop-cause-test.true c.loop-cause.invariant c.in_ok-write_cause.ensures.written

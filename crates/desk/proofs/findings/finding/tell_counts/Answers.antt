@@ -4,4 +4,4 @@ use Rattle.desk_words.proofs.WritingLemmas.{written}
 use Rattle.desk.proofs.findings.finding.tell_counts.Goals as goal
 
 pub loop-cause-preserved : goal.loop-cause-preserved
-loop-cause-preserved g c = written (count_text (map found_by c.args.findings.now)) c.args.causes.now _ _ _ c.loop-cause.cause-index _ c.loop-cause-test.true c.loop-cause.invariant c.in_ok-tell_count.ensures
+loop-cause-preserved g c = written (count_text (map found_by c.args.findings.now)) c.args.causes.now _ _ _ c.loop-cause.cause-index _ c.loop-cause-test.true c.loop-cause.invariant c.in_ok-tell_count.ensures.written

@@ -1,5 +1,5 @@
 use Rattle.std.proofs.lemmas.Result.{err_from_is_err_and}
-use Rattle.desk.proofs.WordsLemmas.{entered, said_by, taken, taken_alone}
+use Rattle.desk.proofs.WordsLemmas.{entered, fits_none, found_wrong, said_by, taken, taken_alone}
 use Rattle.desk.proofs.words.calls.call_of.Goals as goal
 
 pub returns-in_err-matches-clause-asked : goal.returns-in_err-matches-clause-asked
@@ -22,3 +22,11 @@ returns-clause-asked g c = λ program asked right are.
 
 pub returns-in-Some-clause-said : goal.returns-in-Some-clause-said
 returns-in-Some-clause-said g c = said_by _ _ c.in_ok-matches.matches _ c.in_ok-matches.ensures.matches c.in_ok-matches.ensures.kinds c.in_ok-desk.ensures c.in-Some.ensures.said
+
+pub returns-in_err-matches-clause-wrong : goal.returns-in_err-matches-clause-wrong
+returns-in_err-matches-clause-wrong g c =
+    let p = err_from_is_err_and c.from_residual-in_err-matches.result c.from_residual-in_err-matches.ensures.1 in
+    rw (p.1, p.2) (found_wrong _ _ _ c.in_err-matches.ensures.kinds c.in_ok-desk.ensures)
+
+pub returns-clause-wrong : goal.returns-clause-wrong
+returns-clause-wrong g c = fits_none _ _ _ c.in_ok-matches.ensures.kinds c.in_ok-desk.ensures c.in_ok-usage_error-in-None.ensures
