@@ -1,5 +1,5 @@
 //! Statements of holdings: worked texts, and a writer that fails.
-use crate::vectors::{EMPTY_STATEMENT, STATEMENT};
+use crate::vectors::STATEMENT;
 use desk_codes::{AccountId, Day, Isin};
 use desk_msg::{HoldingsWriter, Kind, RowSink, SinkFault, StatementRow, holdings_text};
 use std::alloc::Global;
@@ -8,49 +8,43 @@ use std::io::{ErrorKind, Write};
 use std::process::Abort;
 use std::test::Fail;
 
-/// A day, an account and two rows.
-#[derive(Clone, Copy)]
-struct Statement {
-    day: Day,
-    account: AccountId,
-    rows: [StatementRow; 2],
+/// The day of the worked statement.
+fn day() -> Result<Day, Fail> {
+    Ok(Day::read(b"20240229").ok_or("no day")?)
 }
 
-/// The statement that the worked text is of.
-fn worked() -> Result<Statement, Fail> {
-    let day = Day::read(b"20240229").ok_or("no day")?;
-    let account = AccountId::read(b"B-1").ok_or("no account")?;
-    let first = StatementRow {
-        isin: Isin::parse(b"DE0007164600")?,
-        kind: Kind::Unit,
-        quantity: 400,
-    };
-    let second = StatementRow {
-        isin: Isin::parse(b"US0378331005")?,
-        kind: Kind::Unit,
-        quantity: 7,
-    };
-    Ok(Statement {
-        day,
-        account,
-        rows: [first, second],
+/// Its account.
+fn account() -> Result<AccountId, Fail> {
+    Ok(AccountId::read(b"B-1").ok_or("no account")?)
+}
+
+/// So much of a security, as a row.
+fn row(code: &[u8], kind: Kind, quantity: u64) -> Result<StatementRow, Fail> {
+    let isin = Isin::parse(code)?;
+    Ok(StatementRow {
+        isin,
+        kind,
+        quantity,
     })
 }
 
 #[test]
-fn writes_worked_statements(rt: HostRuntime) -> Result<(), Fail> {
-    let alloc = rt.alloc();
-    let Statement { day, account, rows } = worked()?;
-    let text = holdings_text(alloc, 12, day, &account, &rows)?;
-    assert_eq!(rt; text.as_slice(), STATEMENT.as_bytes());
-    let text = holdings_text(alloc, 12, day, &account, &[])?;
-    assert_eq!(rt; text.as_slice(), EMPTY_STATEMENT.as_bytes());
-    let [first, mut second] = rows;
-    second.kind = Kind::FaceAmount;
-    second.quantity = 99_999_999_999_999;
-    let text = holdings_text(alloc, 12, day, &account, &[first, second])?;
-    let want = STATEMENT.replace(alloc, "UNIT/7,", "FAMT/99999999999999,")?;
-    assert_eq!(rt; text.as_slice(), want.as_bytes());
+fn writes_a_statement(rt: HostRuntime) -> Result<(), Fail> {
+    let first = row(b"DE0007164600", Kind::Unit, 400)?;
+    let second = row(b"US0378331005", Kind::Unit, 7)?;
+    let text = holdings_text(rt.alloc(), 12, day()?, &account()?, &[first, second])?;
+    assert!(rt; text.as_slice() == STATEMENT.as_bytes());
+    Ok(())
+}
+
+/// A face amount, and the most that an account can hold.
+#[test]
+fn writes_a_face_amount(rt: HostRuntime) -> Result<(), Fail> {
+    let first = row(b"DE0007164600", Kind::Unit, 400)?;
+    let second = row(b"US0378331005", Kind::FaceAmount, 99_999_999_999_999)?;
+    let text = holdings_text(rt.alloc(), 12, day()?, &account()?, &[first, second])?;
+    let want = STATEMENT.replace(rt.alloc(), "UNIT/7,", "FAMT/99999999999999,")?;
+    assert!(rt; text.as_slice() == want.as_bytes());
     Ok(())
 }
 
@@ -77,34 +71,38 @@ impl Write for Failing {
     }
 }
 
-/// Writes the worked statement, until something fails.
-fn write_to(alloc: Global, writer: &mut Failing, statement: &Statement) -> Result<(), SinkFault> {
-    let [first, second] = statement.rows;
-    let mut sink = HoldingsWriter::new(alloc, writer, 12, statement.day, &statement.account);
+fn take_both(
+    mut sink: HoldingsWriter<'_, Failing>,
+    first: StatementRow,
+    second: StatementRow,
+) -> Result<(), SinkFault> {
     sink.take(first)?;
     sink.take(second)?;
     sink.finish()
 }
 
+/// Writes the worked statement, until something fails.
+fn write_to(alloc: Global, writer: &mut Failing) -> Result<Result<(), SinkFault>, Fail> {
+    let first = row(b"DE0007164600", Kind::Unit, 400)?;
+    let second = row(b"US0378331005", Kind::Unit, 7)?;
+    let account = account()?;
+    let sink = HoldingsWriter::new(alloc, writer, 12, day()?, &account);
+    Ok(take_both(sink, first, second))
+}
+
 /// What is written by a writer that fails at one write.
 fn check_failure(rt: &impl Abort, alloc: Global, fails_at: usize) -> Result<(), Fail> {
-    let statement = worked()?;
     let mut writer = Failing {
         taken: Vec::new(alloc),
         writes: 0,
         fails_at,
     };
-    let answer = write_to(alloc, &mut writer, &statement);
+    let answer = write_to(alloc, &mut writer)?;
     if fails_at == 4 {
-        assert_eq!(rt; answer, Ok(()));
-        assert_eq!(rt; writer.taken.as_slice(), STATEMENT.as_bytes());
+        assert!(rt; answer == Ok(()) && writer.taken.as_slice() == STATEMENT.as_bytes());
     } else {
-        assert_eq!(rt; answer, Err(SinkFault::Write), "at {fails_at}");
-        assert_eq!(rt; writer.writes, fails_at);
-        assert!(rt;
-            STATEMENT.as_bytes().starts_with(&writer.taken),
-            "at {fails_at}"
-        );
+        assert!(rt; answer == Err(SinkFault::Write) && writer.writes == fails_at);
+        assert!(rt; STATEMENT.as_bytes().starts_with(&writer.taken));
     }
     Ok(())
 }
@@ -114,39 +112,6 @@ fn check_failure(rt: &impl Abort, alloc: Global, fails_at: usize) -> Result<(), 
 fn each_failed_write(rt: HostRuntime) -> Result<(), Fail> {
     for fails_at in 1..=4 {
         check_failure(&rt, rt.alloc(), fails_at)?;
-    }
-    Ok(())
-}
-
-/// Takes a row, once more where memory was wanting.
-fn take_again(sink: &mut HoldingsWriter<'_, Vec<u8>>, row: &StatementRow) -> Result<(), SinkFault> {
-    if sink.take(*row).is_err() {
-        return sink.take(*row);
-    }
-    Ok(())
-}
-
-/// With one allocation refused, whichever it is, the text is as ever or memory is wanting, and made once more it is as
-/// ever. A row that found no memory is taken once more, and stands once.
-#[test]
-fn want_of_memory_leaves_no_mark(rt: HostRuntime) -> Result<(), Fail> {
-    let alloc = rt.alloc();
-    let Statement { day, account, rows } = worked()?;
-    let text = match holdings_text(alloc, 12, day, &account, &rows) {
-        Ok(text) => text,
-        Err(_) => holdings_text(alloc, 12, day, &account, &rows)?,
-    };
-    assert_eq!(rt; text.as_slice(), STATEMENT.as_bytes());
-    let mut taken = match Vec::with_capacity(alloc, 1000) {
-        Ok(taken) => taken,
-        Err(_) => Vec::with_capacity(alloc, 1000)?,
-    };
-    let [first, second] = &rows;
-    let mut sink = HoldingsWriter::new(alloc, &mut taken, 12, day, &account);
-    take_again(&mut sink, first)?;
-    take_again(&mut sink, second)?;
-    if sink.finish().is_ok() {
-        assert_eq!(rt; taken.as_slice(), STATEMENT.as_bytes());
     }
     Ok(())
 }
