@@ -26,13 +26,13 @@ use Rattle.desk_entries.specs.Columns.{amount_of, currency_of, kind_number, numb
 use Rattle.desk_entries.specs.Reading.{Says, SaysCash, SaysInstruction, SaysMovement, SaysPayment}
 use Rattle.desk_entries.specs.Shown.{row_if, shown_entry}
 
-words : (a b : List ℕ) → ◌≡◌ {A = Value} (Words a) (Words b) → a ≡ b
+pub words : (a b : List ℕ) → ◌≡◌ {A = Value} (Words a) (Words b) → a ≡ b
 words a b e = cc
 
-count : (a b : ℕ) → ◌≡◌ {A = Value} (Int (pos a)) (Int (pos b)) → a ≡ b
+pub count : (a b : ℕ) → ◌≡◌ {A = Value} (Int (pos a)) (Int (pos b)) → a ≡ b
 count a b e = cc
 
-one_type : (a b : Mt) → number_of_type a ≡ number_of_type b → a ≡ b
+pub one_type : (a b : Mt) → number_of_type a ≡ number_of_type b → a ≡ b
 one_type Mt540 Mt540 e = refl
 one_type Mt541 Mt541 e = refl
 one_type Mt542 Mt542 e = refl
@@ -51,7 +51,7 @@ one_rule OnePass OnePass e = refl
 one_rule Passes Passes e = refl
 one_rule a b e = absurd (omega (arith, e))
 
-some_letters : (ccy : Ccy) → letters_of ccy ≡ [] → ⊥
+pub some_letters : (ccy : Ccy) → letters_of ccy ≡ [] → ⊥
 some_letters Chf e = cc
 some_letters Eur e = cc
 some_letters Gbp e = cc

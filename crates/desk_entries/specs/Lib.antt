@@ -4,3 +4,4 @@ pub mod Filled
 pub mod Shown
 pub mod Reading
 pub mod Recorded
+pub mod Spelt

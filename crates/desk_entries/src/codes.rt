@@ -2,9 +2,17 @@
 ghost use Rattle.std.specs.Prelude.{◌≡◌, ◌<◌, ◌^◌, ℕ, List, length, pos, Ok, IfOk, IsOk};
 ghost use Rattle.sqlite_value.specs.Order.{column};
 ghost use Rattle.sqlite_value.specs.declared.value.Value.TheVariants.{Int, Text};
+ghost use Rattle.desk_codes.specs.Account.{IsAccount};
+ghost use Rattle.desk_codes.specs.Bic.{IsBic};
+ghost use Rattle.desk_codes.specs.CheckDigit.{IsIsin};
 ghost use Rattle.desk_codes.specs.Currency.{letters_of};
+ghost use Rattle.desk_codes.specs.Day.{IsDay};
+ghost use Rattle.desk_codes.specs.Reference.{IsReference};
+ghost use Rattle.desk_codes.specs.declared.currency.Ccy.{Ccy as Currency};
 ghost use Rattle.desk_msg.specs.MessageType.{number_of_type};
-ghost use Rattle.desk_msg.specs.Profile.{code_of_kind};
+ghost use Rattle.desk_msg.specs.Profile.{code_of_kind, IsCode};
+ghost use Rattle.desk_msg.specs.declared.instruction.Kind.{Kind as QuantityType};
+ghost use Rattle.desk_msg.specs.declared.mt.Mt.{Mt as MessageType};
 
 use desk_codes::{AccountId, Bic, Ccy, Day, Isin, Reference};
 use desk_msg::{Kind, Mt, SettlementType};
@@ -71,7 +79,8 @@ pub fn number_at(row: &Row, at: usize) -> Result<u64, Error>
 }
 
 pub(crate) fn reference_at(row: &Row, at: usize) -> Result<Reference, Error>
-    ensures { IfOk result (λ reference. column row.now at ≡ Text reference) }
+    ensures value { IfOk result (λ reference. column row.now at ≡ Text reference) }
+    ensures all { (text : List ℕ) → at < length row.now → column row.now at ≡ Text text → IsReference text → IsOk result }
 {
     match Reference::read(text_at(row, at)?) {
         Some(reference) => Ok(reference),
@@ -80,7 +89,8 @@ pub(crate) fn reference_at(row: &Row, at: usize) -> Result<Reference, Error>
 }
 
 pub(crate) fn account_at(row: &Row, at: usize) -> Result<AccountId, Error>
-    ensures { IfOk result (λ account. column row.now at ≡ Text account) }
+    ensures value { IfOk result (λ account. column row.now at ≡ Text account) }
+    ensures all { (text : List ℕ) → at < length row.now → column row.now at ≡ Text text → IsAccount text → IsOk result }
 {
     match AccountId::read(text_at(row, at)?) {
         Some(account) => Ok(account),
@@ -90,7 +100,8 @@ pub(crate) fn account_at(row: &Row, at: usize) -> Result<AccountId, Error>
 
 /// The ISIN in a column.
 pub fn isin_at(row: &Row, at: usize) -> Result<Isin, Error>
-    ensures { IfOk result (λ isin. column row.now at ≡ Text isin) }
+    ensures value { IfOk result (λ isin. column row.now at ≡ Text isin) }
+    ensures all { (text : List ℕ) → at < length row.now → column row.now at ≡ Text text → IsIsin text → IsOk result }
 {
     match Isin::parse(text_at(row, at)?) {
         Ok(isin) => Ok(isin),
@@ -100,7 +111,8 @@ pub fn isin_at(row: &Row, at: usize) -> Result<Isin, Error>
 
 /// A BIC in its one spelling, without the branch XXX.
 pub fn bic_at(row: &Row, at: usize) -> Result<Bic, Error>
-    ensures { IfOk result (λ bic. column row.now at ≡ Text bic) }
+    ensures value { IfOk result (λ bic. column row.now at ≡ Text bic) }
+    ensures all { (text : List ℕ) → at < length row.now → column row.now at ≡ Text text → IsBic text → IsOk result }
 {
     let text = text_at(row, at)?;
     match Bic::parse(text) {
@@ -116,7 +128,8 @@ pub fn bic_at(row: &Row, at: usize) -> Result<Bic, Error>
 
 /// The day in a column.
 pub fn day_at(row: &Row, at: usize) -> Result<Day, Error>
-    ensures { IfOk result (λ day. column row.now at ≡ Text day) }
+    ensures value { IfOk result (λ day. column row.now at ≡ Text day) }
+    ensures all { (text : List ℕ) → at < length row.now → column row.now at ≡ Text text → IsDay text → IsOk result }
 {
     let text = text_at(row, at)?;
     if text.len() != 8 {
@@ -131,7 +144,8 @@ pub fn day_at(row: &Row, at: usize) -> Result<Day, Error>
 }
 
 pub(crate) fn currency_at(row: &Row, at: usize) -> Result<Ccy, Error>
-    ensures { IfOk result (λ ccy. column row.now at ≡ Text (letters_of ccy)) }
+    ensures value { IfOk result (λ ccy. column row.now at ≡ Text (letters_of ccy)) }
+    ensures all { (ccy : Currency) → at < length row.now → column row.now at ≡ Text (letters_of ccy) → IsOk result }
 {
     match Ccy::parse(text_at(row, at)?) {
         Some(ccy) => Ok(ccy),
@@ -141,7 +155,8 @@ pub(crate) fn currency_at(row: &Row, at: usize) -> Result<Ccy, Error>
 
 /// The quantity type in a column.
 pub fn kind_at(row: &Row, at: usize) -> Result<Kind, Error>
-    ensures { IfOk result (λ kind. column row.now at ≡ Text (code_of_kind kind)) }
+    ensures value { IfOk result (λ kind. column row.now at ≡ Text (code_of_kind kind)) }
+    ensures all { (kind : QuantityType) → at < length row.now → column row.now at ≡ Text (code_of_kind kind) → IsOk result }
 {
     match Kind::try_from(text_at(row, at)?) {
         Ok(kind) => Ok(kind),
@@ -150,7 +165,8 @@ pub fn kind_at(row: &Row, at: usize) -> Result<Kind, Error>
 }
 
 pub(crate) fn settlement_at(row: &Row, at: usize) -> Result<SettlementType, Error>
-    ensures { IfOk result (λ settlement. column row.now at ≡ Text settlement) }
+    ensures value { IfOk result (λ settlement. column row.now at ≡ Text settlement) }
+    ensures all { (text : List ℕ) → at < length row.now → column row.now at ≡ Text text → IsCode 4 text → IsOk result }
 {
     match SettlementType::read(text_at(row, at)?) {
         Some(settlement) => Ok(settlement),
@@ -170,7 +186,8 @@ pub(crate) fn short_at(row: &Row, at: usize) -> Result<u16, Error>
 }
 
 pub(crate) fn mt_at(row: &Row, at: usize) -> Result<Mt, Error>
-    ensures { IfOk result (λ mt. column row.now at ≡ Int (pos (number_of_type mt))) }
+    ensures value { IfOk result (λ mt. column row.now at ≡ Int (pos (number_of_type mt))) }
+    ensures all { (mt : MessageType) → at < length row.now → column row.now at ≡ Int (pos (number_of_type mt)) → IsOk result }
 {
     match Mt::try_from(short_at(row, at)?) {
         Ok(mt) => Ok(mt),

@@ -1,11 +1,20 @@
 //! The entry that a shown row says.
-ghost use Rattle.std.specs.Prelude.{◌≡◌, ◌<◌, length, IfOk, IsOk};
+ghost use Rattle.std.specs.Prelude.{◌≡◌, ◌≢◌, ◌<◌, length, IfOk, IsOk};
 ghost use Rattle.sqlite_value.specs.Order.{column};
 ghost use Rattle.sqlite_value.specs.declared.value.Value.TheVariants.{Int};
 ghost use Rattle.std.specs.Prelude.{pos};
+ghost use Rattle.std.specs.Prelude.{ℕ, List, IfErr};
+ghost use Rattle.sqlite.specs.declared.error.ErrorCode.TheVariants.{OutOfMemory};
+ghost use Rattle.desk_msg.specs.declared.instruction.CancelOrder.{CancelOrder as Order};
+ghost use Rattle.desk_msg.specs.declared.instruction.Kind.{Kind as QuantityType};
+ghost use Rattle.desk_rules.specs.declared.history.entry.Entry.{Entry as AnyEntry};
+ghost use Rattle.desk_rules.specs.declared.history.entry.Entry.TheVariants.{Participant, Account, Security, Cancel, Run};
+ghost use Rattle.desk_rules.specs.declared.history.entry.Movement.{Movement as Moved};
+ghost use Rattle.desk_rules.specs.declared.history.entry.Payment.{Payment as Paid};
 ghost use Rattle.desk_rules.specs.declared.history.entry.RunRule.{RunRule as Rule};
 ghost use Rattle.desk_entries.specs.Columns.{kind_number, number_of_rule};
 ghost use Rattle.desk_entries.specs.Reading.{Says, SaysMovement, SaysOf, SaysPayment};
+ghost use Rattle.desk_entries.specs.Spelt.{IsMovementSpelt, IsPaymentSpelt, IsSpelt};
 
 use crate::codes::{
     ACCOUNT, AMOUNT, BIC, CURRENCY, DAY, ISIN, KIND, PREVIOUS, QUANTITY, REFERENCE, RULE, SENDER,
@@ -21,7 +30,8 @@ use std::alloc::Global;
 
 /// Of an issue or a redemption.
 fn movement_in(row: &Row) -> Result<Movement, Error>
-    ensures { IfOk result (λ movement. SaysMovement row.now movement) }
+    ensures says { IfOk result (λ movement. SaysMovement row.now movement) }
+    ensures all { (m : Moved) → 15 < length row.now → SaysMovement row.now m → IsMovementSpelt m → IsOk result }
 {
     let quantity = number_at(row, QUANTITY)?;
     if quantity == 0 || quantity > MOST_QUANTITY {
@@ -37,7 +47,8 @@ fn movement_in(row: &Row) -> Result<Movement, Error>
 
 /// Of a pay in or a pay out.
 fn payment_in(row: &Row) -> Result<Payment, Error>
-    ensures { IfOk result (λ payment. SaysPayment row.now payment) }
+    ensures says { IfOk result (λ payment. SaysPayment row.now payment) }
+    ensures all { (p : Paid) → 15 < length row.now → SaysPayment row.now p → IsPaymentSpelt p → IsOk result }
 {
     let amount = number_at(row, AMOUNT)?;
     if amount == 0 || amount > MOST_PAID {
@@ -52,7 +63,8 @@ fn payment_in(row: &Row) -> Result<Payment, Error>
 }
 
 fn participant_in(row: &Row) -> Result<Entry, Error>
-    ensures { IfOk result (λ entry. SaysOf 1 row.now entry) }
+    ensures says { IfOk result (λ entry. SaysOf 1 row.now entry) }
+    ensures all { (reference bic : List ℕ) → 15 < length row.now → Says row.now (Participant reference bic) → IsSpelt (Participant reference bic) → IsOk result }
 {
     Ok(Entry::Participant {
         reference: reference_at(row, REFERENCE)?,
@@ -61,7 +73,8 @@ fn participant_in(row: &Row) -> Result<Entry, Error>
 }
 
 fn account_in(row: &Row) -> Result<Entry, Error>
-    ensures { IfOk result (λ entry. SaysOf 2 row.now entry) }
+    ensures says { IfOk result (λ entry. SaysOf 2 row.now entry) }
+    ensures all { (reference bic account : List ℕ) → 15 < length row.now → Says row.now (Account reference bic account) → IsSpelt (Account reference bic account) → IsOk result }
 {
     Ok(Entry::Account {
         reference: reference_at(row, REFERENCE)?,
@@ -71,7 +84,8 @@ fn account_in(row: &Row) -> Result<Entry, Error>
 }
 
 fn security_in(row: &Row) -> Result<Entry, Error>
-    ensures { IfOk result (λ entry. SaysOf 3 row.now entry) }
+    ensures says { IfOk result (λ entry. SaysOf 3 row.now entry) }
+    ensures all { (reference isin : List ℕ) (kind : QuantityType) → 15 < length row.now → Says row.now (Security reference isin kind) → IsSpelt (Security reference isin kind) → IsOk result }
 {
     Ok(Entry::Security {
         reference: reference_at(row, REFERENCE)?,
@@ -81,7 +95,8 @@ fn security_in(row: &Row) -> Result<Entry, Error>
 }
 
 fn cancellation_in(row: &Row) -> Result<Entry, Error>
-    ensures { IfOk result (λ entry. SaysOf 9 row.now entry) }
+    ensures says { IfOk result (λ entry. SaysOf 9 row.now entry) }
+    ensures all { (sender : List ℕ) (order : Order) → 15 < length row.now → Says row.now (Cancel sender order) → IsSpelt (Cancel sender order) → IsOk result }
 {
     Ok(Entry::Cancel {
         sender: bic_at(row, SENDER)?,
@@ -105,7 +120,8 @@ fn rule_in(row: &Row) -> Result<RunRule, Error>
 }
 
 fn run_in(row: &Row) -> Result<Entry, Error>
-    ensures { IfOk result (λ entry. SaysOf 10 row.now entry) }
+    ensures says { IfOk result (λ entry. SaysOf 10 row.now entry) }
+    ensures all { (reference day : List ℕ) (rule : Rule) → 15 < length row.now → Says row.now (Run reference day rule) → IsSpelt (Run reference day rule) → IsOk result }
 {
     Ok(Entry::Run {
         reference: reference_at(row, REFERENCE)?,
@@ -116,7 +132,8 @@ fn run_in(row: &Row) -> Result<Entry, Error>
 
 /// The entry of the operator's.
 fn command_in(row: &Row, kind: u64) -> Result<Entry, Error>
-    ensures { IfOk result (λ entry. SaysOf kind row.now entry) }
+    ensures says { IfOk result (λ entry. SaysOf kind row.now entry) }
+    ensures all { (entry : AnyEntry) → kind ≢ 8 → kind ≢ 9 → 15 < length row.now → SaysOf kind row.now entry → IsSpelt entry → IsOk result }
 {
     match kind {
         kind::PARTICIPANT => participant_in(row),
@@ -135,6 +152,7 @@ fn command_in(row: &Row, kind: u64) -> Result<Entry, Error>
 pub(crate) fn entry_in(alloc: Global, row: &Row) -> Result<Entry, Error>
     ensures kind { IfOk result (λ entry. column row.now KIND ≡ Int (pos (kind_number entry))) }
     ensures says { IfOk result (λ entry. Says row.now entry) }
+    ensures all { (entry : AnyEntry) → 15 < length row.now → column row.now KIND ≡ Int (pos (kind_number entry)) → Says row.now entry → IsSpelt entry → IfErr result (λ e. e ≡ Error.SqliteFailure OutOfMemory) }
 {
     match number_at(row, KIND)? {
         kind::INSTRUCTION => Ok(Entry::Instruct {

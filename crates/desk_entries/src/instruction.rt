@@ -1,11 +1,15 @@
 //! The instruction that a shown row says.
-ghost use Rattle.std.specs.Prelude.{◌≡◌, ◌≤◌, ◌<◌, IfOk, IfErr, true, length, pos, nat_le};
+ghost use Rattle.std.specs.Prelude.{◌≡◌, ◌≤◌, ◌<◌, ℕ, Option, IfOk, IfErr, IsOk, true, length, pos, nat_le};
 ghost use Rattle.sqlite.specs.declared.error.ErrorCode.TheVariants.{OutOfMemory};
 ghost use Rattle.sqlite_value.specs.Order.{column};
 ghost use Rattle.sqlite_value.specs.declared.value.Value.TheVariants.{Int};
 ghost use Rattle.desk_codes.specs.Number.{written_number};
 ghost use Rattle.desk_msg.specs.MessageType.{is_instruction, number_of_type};
+ghost use Rattle.desk_msg.specs.declared.instruction.Cash.{Cash as Amount};
+ghost use Rattle.desk_msg.specs.declared.instruction.Instruction.{Instruction as Said};
+ghost use Rattle.desk_msg.specs.declared.mt.Mt.{Mt as MessageType};
 ghost use Rattle.desk_entries.specs.Reading.{SaysCash, SaysInstruction};
+ghost use Rattle.desk_entries.specs.Spelt.{IsInstructionSpelt};
 
 use crate::codes::{
     ACCOUNT, AMOUNT, BIC, CURRENCY, DAY, ISIN, MT, PLACE, QUANTITY, REFERENCE, SETTLEMENT, UNIT,
@@ -37,6 +41,7 @@ fn is_short(alloc: Global, value: u64, decimals: usize) -> Result<bool, Error>
 pub(crate) fn type_in(row: &Row) -> Result<Mt, Error>
     ensures says { IfOk result (λ mt. column row.now MT ≡ Int (pos (number_of_type mt))) }
     ensures instructs { IfOk result (λ mt. is_instruction mt ≡ true) }
+    ensures all { (mt : MessageType) → 15 < length row.now → column row.now MT ≡ Int (pos (number_of_type mt)) → is_instruction mt ≡ true → IsOk result }
 {
     let mt = mt_at(row, MT)?;
     if !mt.is_instruction() {
@@ -47,7 +52,8 @@ pub(crate) fn type_in(row: &Row) -> Result<Mt, Error>
 
 /// A settlement amount; None where there is none.
 fn cash_in(alloc: Global, row: &Row) -> Result<Option<Cash>, Error>
-    ensures { IfOk result (λ cash. SaysCash row.now cash) }
+    ensures says { IfOk result (λ cash. SaysCash row.now cash) }
+    ensures all { (cash : Option Amount) → 15 < length row.now → SaysCash row.now cash → IfErr result (λ e. e ≡ Error.SqliteFailure OutOfMemory) }
 {
     if text_at(row, CURRENCY)?.is_empty() {
         return Ok(None);
@@ -65,6 +71,7 @@ fn quantity_in(alloc: Global, row: &Row) -> Result<u64, Error>
     ensures says { IfOk result (λ quantity. column row.now QUANTITY ≡ Int (pos quantity)) }
     ensures some { IfOk result (λ quantity. 0 < quantity) }
     ensures short { IfOk result (λ quantity. length (written_number quantity 0) ≤ 15) }
+    ensures all { (q : ℕ) → 15 < length row.now → column row.now QUANTITY ≡ Int (pos q) → 0 < q → length (written_number q 0) ≤ 15 → IfErr result (λ e. e ≡ Error.SqliteFailure OutOfMemory) }
 {
     let quantity = number_at(row, QUANTITY)?;
     if quantity == 0 || !is_short(alloc, quantity, 0)? {
@@ -75,7 +82,8 @@ fn quantity_in(alloc: Global, row: &Row) -> Result<u64, Error>
 
 /// The instruction.
 pub(crate) fn instruction_in(alloc: Global, row: &Row) -> Result<Instruction, Error>
-    ensures { IfOk result (λ instruction. SaysInstruction row.now instruction) }
+    ensures says { IfOk result (λ instruction. SaysInstruction row.now instruction) }
+    ensures all { (i : Said) → 15 < length row.now → SaysInstruction row.now i → IsInstructionSpelt i → IfErr result (λ e. e ≡ Error.SqliteFailure OutOfMemory) }
 {
     let mt = type_in(row)?;
     let cash = cash_in(alloc, row)?;

@@ -1,5 +1,6 @@
 //! How many entries there are, and what the one of a number is and was answered.
-ghost use Rattle.std.specs.Prelude.{◌≡◌, ◌<◌, ◌^◌, ℕ, List, Option, Ok, IfOk, length, option_map, pos};
+ghost use Rattle.std.specs.Prelude.{◌≡◌, ◌<◌, ◌^◌, ℕ, List, Option, Ok, IfErr, IfOk, IfSome, IsOk, length, option_map, pos};
+ghost use Rattle.sqlite.specs.declared.error.ErrorCode.TheVariants.{OutOfMemory};
 ghost use Rattle.sqlite.specs.Held.{state};
 ghost use Rattle.desk_rules.specs.declared.answers.reply.Kept.{Kept};
 ghost use Rattle.desk_rules.specs.History.{entry_at};
@@ -79,7 +80,8 @@ fn first_entry(alloc: Global, rows: &[Row]) -> Result<Option<Entry>, Error>
 
 /// A message type, or none.
 fn message_type_in(row: &Row) -> Result<Option<u16>, Error>
-    ensures { (mt : Option ℕ) → column row.now 1 ≡ type_value mt → IfOk result (λ r. r ≡ mt) }
+    ensures value { (mt : Option ℕ) → column row.now 1 ≡ type_value mt → IfOk result (λ r. r ≡ mt) }
+    ensures all { (mt : Option ℕ) → 1 < length row.now → column row.now 1 ≡ type_value mt → IfSome mt (λ n. n < 2 ^ 16) → IsOk result }
 {
     match row.get_ref(1)? {
         ValueRef::Null => Ok(None),
@@ -89,7 +91,8 @@ fn message_type_in(row: &Row) -> Result<Option<u16>, Error>
 
 /// The reply that a shown row says.
 fn reply_in(alloc: Global, row: &Row) -> Result<Reply, Error>
-    ensures { (reply : Reply) → row.now ≡ shown_reply reply → IfOk result (λ r. r ≡ reply) }
+    ensures value { (reply : Reply) → row.now ≡ shown_reply reply → IfOk result (λ r. r ≡ reply) }
+    ensures all { (reply : Reply) → row.now ≡ shown_reply reply → reply.status < 2 ^ 16 → IfSome reply.mt (λ n. n < 2 ^ 16) → IfErr result (λ e. e ≡ Error.SqliteFailure OutOfMemory) }
 {
     let status = short_at(row, 0)?;
     let mt = message_type_in(row)?;

@@ -1,6 +1,6 @@
 //! The look-ups. Each fails as its statement does; a row that says nothing that the desk writes is told as a damaged
 //! database, `ErrorCode::DatabaseCorrupt`.
-ghost use Rattle.std.specs.Prelude.{◌≡◌, List, option_map, IfOk};
+ghost use Rattle.std.specs.Prelude.{◌≡◌, ℕ, List, Option, option_map, IfOk};
 ghost use Rattle.sqlite.specs.Held.{state};
 ghost use Rattle.desk_codes.specs.Number.{number_of};
 ghost use Rattle.desk_rules.specs.declared.answers.reply.Kept.{Kept};
@@ -9,13 +9,14 @@ ghost use Rattle.desk_rules.specs.History.{number_of_key};
 ghost use Rattle.desk_register.specs.Looked.{IsSecurityAfter};
 ghost use Rattle.desk_tables.specs.Ends.{IfSound, IsLook};
 ghost use Rattle.desk_entries.specs.Entries.{AreEntries, entries_in};
+ghost use Rattle.desk_finding.specs.Rows.{text_rows};
 
 use crate::rows::{is_shown, only_bic, only_day, only_isin, only_kind, only_number};
 use crate::texts;
 use desk_codes::{AccountId, Bic, Day, Isin, Reference};
 use desk_msg::Kind;
 use desk_rules::Sender;
-use sqlite::{Alter, Connection, Error};
+use sqlite::{Alter, Connection, Error, Row};
 
 /// The number of the first entry of this sender and reference; None where there is none.
 pub fn number_of<S: Alter>(
@@ -63,6 +64,17 @@ pub fn kind_of<S: Alter>(conn: &mut Connection<S>, isin: Isin) -> Result<Option<
     only_kind(&rows)
 }
 
+/// The row of the first security above one; with none, of the first of all.
+fn rows_above<S: Alter>(conn: &mut Connection<S>, isin: Option<Isin>) -> Result<Vec<Row>, Error>
+    ensures shown { IfSound (state S.Store conn.old) (state S.Store conn.new) ((register : List Kept) → AreEntries (state S.Store conn.old).now register → IfOk result (λ rows. (found : Option (List ℕ)) × (rows.items ≡ text_rows found) × IsSecurityAfter (entries_in register) isin found)) }
+    ensures look { IsLook result (state S.Store conn.old) (state S.Store conn.new) }
+{
+    match isin {
+        Some(isin) => texts::security_above(conn, isin),
+        None => texts::first_security(conn),
+    }
+}
+
 /// The first security, in order of its bytes, after one; with none, the first of all. None where there is none.
 pub fn security_after<S: Alter>(
     conn: &mut Connection<S>,
@@ -71,10 +83,7 @@ pub fn security_after<S: Alter>(
     ensures value { IfSound (state S.Store conn.old) (state S.Store conn.new) ((register : List Kept) → AreEntries (state S.Store conn.old).now register → IfOk result (λ r. IsSecurityAfter (entries_in register) isin r)) }
     ensures look { IsLook result (state S.Store conn.old) (state S.Store conn.new) }
 {
-    let rows = match isin {
-        Some(isin) => texts::security_above(conn, isin)?,
-        None => texts::first_security(conn)?,
-    };
+    let rows = rows_above(conn, isin)?;
     only_isin(&rows)
 }
 

@@ -1,5 +1,8 @@
 //! Reading what a look-up shows: one column of one row, or no row.
-ghost use Rattle.std.specs.Prelude.{◌≡◌, ℕ, List, Option, is_some, option_map, IfOk, IsOk};
+ghost use Rattle.std.specs.Prelude.{◌≡◌, ℕ, List, Option, is_some, option_map, IfOk, IfSome, IsOk};
+ghost use Rattle.desk_codes.specs.Bic.{IsBic};
+ghost use Rattle.desk_codes.specs.CheckDigit.{IsIsin};
+ghost use Rattle.desk_codes.specs.Day.{IsDay};
 ghost use Rattle.desk_msg.specs.declared.instruction.Kind.{Kind};
 ghost use Rattle.desk_msg.specs.Profile.{code_of_kind};
 ghost use Rattle.desk_finding.specs.Rows.{number_rows, text_rows};
@@ -36,7 +39,8 @@ pub fn is_shown(rows: &[Row]) -> Result<bool, Error>
 
 /// The BIC that is shown.
 pub fn only_bic(rows: &[Row]) -> Result<Option<Bic>, Error>
-    ensures { (found : Option (List ℕ)) → rows.now ≡ text_rows found → IfOk result (λ r. r ≡ found) }
+    ensures value { (found : Option (List ℕ)) → rows.now ≡ text_rows found → IfOk result (λ r. r ≡ found) }
+    ensures all { (found : Option (List ℕ)) → rows.now ≡ text_rows found → IfSome found IsBic → IsOk result }
 {
     match rows {
         [] => Ok(None),
@@ -47,7 +51,8 @@ pub fn only_bic(rows: &[Row]) -> Result<Option<Bic>, Error>
 
 /// The ISIN that is shown.
 pub fn only_isin(rows: &[Row]) -> Result<Option<Isin>, Error>
-    ensures { (found : Option (List ℕ)) → rows.now ≡ text_rows found → IfOk result (λ r. r ≡ found) }
+    ensures value { (found : Option (List ℕ)) → rows.now ≡ text_rows found → IfOk result (λ r. r ≡ found) }
+    ensures all { (found : Option (List ℕ)) → rows.now ≡ text_rows found → IfSome found IsIsin → IsOk result }
 {
     match rows {
         [] => Ok(None),
@@ -58,7 +63,8 @@ pub fn only_isin(rows: &[Row]) -> Result<Option<Isin>, Error>
 
 /// The quantity type that is shown.
 pub fn only_kind(rows: &[Row]) -> Result<Option<Kind>, Error>
-    ensures { (found : Option Kind) → rows.now ≡ text_rows (option_map code_of_kind found) → IfOk result (λ r. r ≡ found) }
+    ensures value { (found : Option Kind) → rows.now ≡ text_rows (option_map code_of_kind found) → IfOk result (λ r. r ≡ found) }
+    ensures all { (found : Option Kind) → rows.now ≡ text_rows (option_map code_of_kind found) → IsOk result }
 {
     match rows {
         [] => Ok(None),
@@ -69,7 +75,8 @@ pub fn only_kind(rows: &[Row]) -> Result<Option<Kind>, Error>
 
 /// The day that is shown.
 pub fn only_day(rows: &[Row]) -> Result<Option<Day>, Error>
-    ensures { (found : Option (List ℕ)) → rows.now ≡ text_rows found → IfOk result (λ r. r ≡ found) }
+    ensures value { (found : Option (List ℕ)) → rows.now ≡ text_rows found → IfOk result (λ r. r ≡ found) }
+    ensures all { (found : Option (List ℕ)) → rows.now ≡ text_rows found → IfSome found IsDay → IsOk result }
 {
     match rows {
         [] => Ok(None),

@@ -39,6 +39,14 @@ fn message_of(alloc: Global, row: &Row) -> Result<Sent, Error>
     ensures { (message : Message) → message.about < 2 ^ 64 → row.now ≡ shown message → IfOk result (λ r. r ≡ message) }
 {
     let bic = bic_of(text_at(row, 0)?)?;
+    message_to(alloc, bic, row)
+}
+
+/// The message to a participant that a row says.
+fn message_to(alloc: Global, bic: Bic, row: &Row) -> Result<Sent, Error>
+    ensures value { (message : Message) → message.about < 2 ^ 64 → row.now ≡ shown message → IfOk result (λ r. r ≡ record message { bic = bic }) }
+    ensures all { (message : Message) → message.mt < 2 ^ 16 → row.now ≡ shown message → IfErr result (λ e. e ≡ Error.SqliteFailure OutOfMemory) }
+{
     let mt = mt_at(row, 1)?;
     let about: i64 = row.get(2)?;
     let bytes = Vec::from_slice(alloc, text_at(row, 3)?)?;

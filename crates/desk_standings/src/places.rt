@@ -1,6 +1,7 @@
 //! The place of a due pair as one number: its day, and nine digits for the later instruction's number.
 
-ghost use Rattle.std.specs.Prelude.{◌≡◌, ◌<◌, ◌^◌, ◌+◌, ◌*◌, ℕ, Option, IfOk, option_map};
+ghost use Rattle.std.specs.Prelude.{◌≡◌, ◌<◌, ◌^◌, ◌+◌, ◌*◌, ℕ, Option, IfErr, IfOk, option_map};
+ghost use Rattle.sqlite.specs.declared.error.ErrorCode.TheVariants.{OutOfMemory};
 ghost use Rattle.desk_codes.specs.Number.{number_of};
 ghost use Rattle.desk_standings.specs.Due.{place_numbered, rows_showing, IsFloor};
 
@@ -65,7 +66,8 @@ fn place_numbered(number: u64) -> Place
 
 /// The place that the rows of the query show; None where it shows none.
 pub fn place_shown(rows: &[Row]) -> Result<Option<Place>, Error>
-    ensures { (found : Option ℕ) → rows.now ≡ rows_showing found → IfOk result (λ r. r ≡ option_map place_numbered found) }
+    ensures value { (found : Option ℕ) → rows.now ≡ rows_showing found → IfOk result (λ r. r ≡ option_map place_numbered found) }
+    ensures all { (found : Option ℕ) → rows.now ≡ rows_showing found → IfErr result (λ e. e ≡ Error.SqliteFailure OutOfMemory) }
 {
     match rows.first() {
         None => Ok(None),

@@ -1,6 +1,7 @@
 //! How a state is written in two numbers, and read.
 
-ghost use Rattle.std.specs.Prelude.{◌≡◌, ◌≢◌, ◌≤◌, ◌==◌, ℕ, IfOk, IsOk};
+ghost use Rattle.std.specs.Prelude.{◌≡◌, ◌≢◌, ◌≤◌, ◌==◌, ℕ, [], ◌∷◌, IfErr, IfOk, IsOk};
+ghost use Rattle.sqlite.specs.declared.error.ErrorCode.TheVariants.{OutOfMemory};
 ghost use Rattle.desk_standings.specs.Standings.{state_code, reason_code, state_written, mate_written, columns_of, standing_written, IsStandingShown, Written};
 ghost use Rattle.desk_rules.specs.declared.history.standing.Standing.{Standing};
 ghost use Rattle.desk_rules.specs.Standing.{no_standing};
@@ -74,7 +75,8 @@ fn mate_written(mate: u64) -> Option<u64>
 
 /// The standing that the columns of a row say.
 fn standing_of_row(row: &Row) -> Result<Standing, Error>
-    ensures { (w : Written) → row.now ≡ columns_of w → IfOk result (λ s. s ≡ standing_written w) }
+    ensures value { (w : Written) → row.now ≡ columns_of w → IfOk result (λ s. s ≡ standing_written w) }
+    ensures all { (w : Written) → row.now ≡ columns_of w → state_written w.state w.reason ≢ State.NoInstruction → w.asked ≤ 1 → IfErr result (λ e. e ≡ Error.SqliteFailure OutOfMemory) }
 {
     let mate: u64 = row.get(0)?;
     let state: u64 = row.get(1)?;
@@ -100,7 +102,9 @@ pub fn no_standing() -> Standing
 
 /// The standing that the rows of one number show.
 pub fn standing_shown(rows: &[Row]) -> Result<Standing, Error>
-    ensures { (standing : Standing) → IsStandingShown rows.now standing → IfOk result (λ s. s ≡ standing) }
+    ensures value { (standing : Standing) → IsStandingShown rows.now standing → IfOk result (λ s. s ≡ standing) }
+    ensures all { (w : Written) → rows.now ≡ columns_of w ∷ [] → state_written w.state w.reason ≢ State.NoInstruction → w.asked ≤ 1 → IfErr result (λ e. e ≡ Error.SqliteFailure OutOfMemory) }
+    ensures none { rows.now ≡ [] → IsOk result }
 {
     match rows.first() {
         None => Ok(no_standing()),

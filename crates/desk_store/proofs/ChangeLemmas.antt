@@ -125,6 +125,7 @@ write_trial : {X : Type 0} (r : Result X Error) (a b : State) → IsWrite r a b 
 write_trial {X = X} r a b write = record {
   ok = λ clean is_open has inside none. write.ok clean is_open has;
   err = λ clean is_open has inside none. back r (write.err clean is_open has) inside;
+  why = λ clean is_open has inside none. write.why clean is_open has;
   opened = write.opened;
   later = write.later;
 }

@@ -6,7 +6,6 @@ pub mod ChangeLemmas
 pub mod FrameLemmas
 pub mod ContentLemmas
 pub mod SentContent
-pub mod WriteLemmas
 pub mod StandingContent
 pub mod EmptyContent
 pub mod BothContent

@@ -1,5 +1,5 @@
 -- What trying a matched pair makes of the tables, and how the call ends that does it in a savepoint.
-use Rattle.std.specs.Prelude.{◌≡◌, ◌≢◌, ◌⊎◌, ℕ, ◌+◌, ◌-◌, ◌<◌, ◌≤◌, Bool, true, false, IsTrue, List, [], ◌∷◌, Option, Some, None, Result, OnOk, OnErr}
+use Rattle.std.specs.Prelude.{◌≡◌, ◌≢◌, ◌⊎◌, ℕ, ◌+◌, ◌-◌, ◌<◌, ◌≤◌, Bool, true, false, IsTrue, List, [], ◌∷◌, Option, Some, None, Result, OnOk, OnErr, IfErr}
 use Rattle.sqlite.specs.declared.error.Error.{Error}
 use Rattle.sqlite.specs.Effect.{Database}
 use Rattle.sqlite.specs.State.{State, HasCleanDisk}
@@ -18,7 +18,7 @@ use Rattle.desk_amounts.specs.Amounts.{AreAmounts, amount_in}
 use Rattle.desk_amounts.specs.declared.key.Ledger.TheVariants.{Total}
 use Rattle.desk_standings.specs.Due.{DueChanged, due_at, is_due_in}
 use Rattle.desk_tables.specs.Control.{mark_at}
-use Rattle.desk_tables.specs.Ends.{IfSound, IsLater, IsUndone, SparesOthers}
+use Rattle.desk_tables.specs.Ends.{IfSound, IsLater, IsUndone, SaysWhy, SparesOthers}
 use Rattle.desk_tables.specs.Schema.{desk_schema}
 use Rattle.desk_store.specs.Content.{content_in}
 use Rattle.desk_store.specs.Pairs.{StandBoth}
@@ -141,5 +141,6 @@ module _ (old new : State) where
 pub record IsTrial {X : Type 0} (result : Result X Error) (old new : State) (ends : Type 0) : Type 0 where
   pub ok : IfSound old new (old.in_transaction ≡ true → old.marks ≡ [] → OnOk result ends)
   pub err : IfSound old new (old.in_transaction ≡ true → old.marks ≡ [] → OnErr result (IsLeft old new ⊎ IsUndone old new))
+  pub why : IfSound old new (old.in_transaction ≡ true → old.marks ≡ [] → IfErr result (SaysWhy old new))
   pub opened : HasCleanDisk new → IsTrue new.is_open → IsTrue old.is_open
   pub later : IsLater old new

@@ -1,4 +1,5 @@
 pub mod EndLemmas
+pub mod CallLemmas
 pub mod ControlLemmas
 pub mod StatementLemmas
 pub mod MadeLemmas

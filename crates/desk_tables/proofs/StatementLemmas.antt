@@ -19,9 +19,9 @@ use Rattle.sqlite.specs.Listing.{understood}
 use Rattle.sqlite.specs.State.{State, mode_of, Writes, Runs, Executes, Shown, FailsToQuery}
 use Rattle.sqlite.proofs.Callers.{IsPlain, command_of, runs_as, statement_of}
 use Rattle.desk_tables.specs.Schema.{desk_schema}
-use Rattle.desk_tables.specs.Ends.{Stays, IsSame, FellLooking, FellWriting}
+use Rattle.desk_tables.specs.Ends.{SaysWhy, Stays, IsSame, FellLooking, FellWriting}
 use Rattle.desk_tables.specs.Statements.{command_in, changes_rows, IsEdit, IsQuery}
-use Rattle.desk_tables.proofs.EndLemmas.{same_from, stays_same, execute_fell, query_fell, query_opened, show_same, show_opened}
+use Rattle.desk_tables.proofs.EndLemmas.{same_from, stays_same, execute_fell, query_fell, query_why, query_opened, show_same, show_opened}
 
 -- a part that gave a value did not stop on the way
 pub went : {B E R : Type 0} {b : B} {Stops : E → Type 0} → ((stop : E) × Stops stop × (Ok b ≡ Err stop)) ⊎ R → R
@@ -88,6 +88,10 @@ module _ (old new : State) (text : List ℕ) (params : Row) where
   pub look_fell : (r : Result (Vec Row Global) Error) → IfErr r (FailsToQuery text params old new) → OnErr r (FellLooking old new)
   look_fell (Ok rows) h = tt
   look_fell (Err e) h = query_fell old new text params e h
+
+  pub look_why : (r : Result (Vec Row Global) Error) → IfErr r (FailsToQuery text params old new) → IsTrue old.is_open → IfErr r (SaysWhy old new)
+  look_why (Ok rows) h open' = tt
+  look_why (Err e) h open' = query_why old new text params e h open'
 
   pub look_opened : (r : Result (Vec Row Global) Error) → IfOk r (λ rows. Shown text params old new rows.items) → IfErr r (FailsToQuery text params old new) → IsTrue new.is_open → IsTrue old.is_open
   look_opened (Ok rows) h k now = show_opened old new text params rows.items h

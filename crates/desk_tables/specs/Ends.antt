@@ -1,9 +1,11 @@
 -- How a call on the desk's tables ends.
-use Rattle.std.specs.Prelude.{◌≡◌, ◌⊎◌, ℕ, ◌≤◌, ◌<◌, [], IsTrue, false, Result, OnOk, OnErr}
+use Rattle.std.specs.Prelude.{◌≡◌, ◌⊎◌, ℕ, ◌+◌, ◌^◌, ◌≤◌, ◌<◌, [], IsTrue, false, Result, OnOk, OnErr, IfErr}
 use Rattle.sqlite_trees.specs.View.{doubt}
 use Rattle.sqlite_rules.specs.Edit.{IsNoIndex}
 use Rattle.sqlite.specs.Effect.{Database}
 use Rattle.sqlite.specs.declared.error.Error.{Error}
+use Rattle.sqlite.specs.declared.error.Error.TheVariants.{SqliteFailure}
+use Rattle.sqlite.specs.declared.error.ErrorCode.TheVariants.{OutOfMemory, TooBig}
 use Rattle.sqlite.specs.State.{State, HasCleanDisk}
 use Rattle.desk_tables.specs.Schema.{desk_schema}
 
@@ -11,6 +13,12 @@ use Rattle.desk_tables.specs.Schema.{desk_schema}
 -- call's end, the connection was open at its beginning, and its tables were the desk's.
 abbrev pub IfSound : State → State → Type 0 → Type 0
 IfSound old new fact = HasCleanDisk new → IsTrue old.is_open → old.now.schema ≡ desk_schema → fact
+
+-- a failure that names want of memory, or a value too large
+abbrev pub IsWant : Error → Type 0
+IsWant (SqliteFailure OutOfMemory) = Unit {0}
+IsWant (SqliteFailure TooBig) = Unit {0}
+IsWant error = ⊥
 
 module _ (old new : State) where
   -- no doubt is taken back, and no fault forgotten
@@ -49,10 +57,16 @@ module _ (old new : State) where
   abbrev pub FellWriting : Type 0
   FellWriting = IsTrue old.in_transaction → Stays ⊎ IsUndone
 
+  -- Where the store gave the transaction up, the failure says why: it wanted memory, or its device failed, which it counts up
+  -- to the greatest number.
+  abbrev pub SaysWhy : Error → Type 0
+  SaysWhy error = IsTrue old.in_transaction → new.in_transaction ≡ false → IsWant error ⊎ (old.faults + 1 < 2 ^ 64 → old.faults < new.faults)
+
 -- how a call ends that only reads
 pub record IsLook {X : Type 0} (result : Result X Error) (old new : State) : Type 0 where
   pub ok : IfSound old new (OnOk result (IsSame old new))
   pub err : IfSound old new (OnErr result (FellLooking old new))
+  pub why : IfSound old new (IfErr result (SaysWhy old new))
   pub opened : HasCleanDisk new → IsTrue new.is_open → IsTrue old.is_open
   pub later : IsLater old new
 
@@ -60,6 +74,7 @@ pub record IsLook {X : Type 0} (result : Result X Error) (old new : State) : Typ
 pub record IsWrite {X : Type 0} (result : Result X Error) (old new : State) : Type 0 where
   pub ok : IfSound old new (OnOk result (Stays old new))
   pub err : IfSound old new (OnErr result (FellWriting old new))
+  pub why : IfSound old new (IfErr result (SaysWhy old new))
   pub opened : HasCleanDisk new → IsTrue new.is_open → IsTrue old.is_open
   pub later : IsLater old new
 

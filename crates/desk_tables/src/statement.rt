@@ -1,7 +1,7 @@
 //! The texts that change or read rows of the tables.
 
-ghost use Rattle.std.specs.Prelude.{IfOk};
-ghost use Rattle.sqlite.specs.State.{HasCleanDisk, Executes, Shown};
+ghost use Rattle.std.specs.Prelude.{IfOk, IfErr};
+ghost use Rattle.sqlite.specs.State.{HasCleanDisk, Executes, Shown, FailsToQuery};
 ghost use Rattle.sqlite.specs.Held.{state};
 ghost use Rattle.sqlite.specs.Values.{bound};
 ghost use Rattle.desk_tables.specs.Ends.{IsLook, IsWrite};
@@ -31,6 +31,7 @@ pub fn query<S: Alter>(
 ) -> Result<Vec<Row>, Error>
     requires query { IsQuery text.now }
     ensures shown { HasCleanDisk (state S.Store conn.new) → IfOk result (λ rows. Shown text.now (bound params.now) (state S.Store conn.old) (state S.Store conn.new) rows.items) }
+    ensures fails { HasCleanDisk (state S.Store conn.new) → IfErr result (FailsToQuery text.now (bound params.now) (state S.Store conn.old) (state S.Store conn.new)) }
     ensures look { IsLook result (state S.Store conn.old) (state S.Store conn.new) }
 {
     conn.query_all(text, params)

@@ -21,5 +21,5 @@ returns-clause-value g c clean is_open has were =
     let day = number_of c.args.until in
     let fits : SFits w64 c.floor_of.result = search rules in
     let it = rw (to_z-of_z w64 c.floor_of.result fits) at (c.in_ok-rows.ensures.shown clean is_open has were) in
-    told db c.args.after day (option_map place_numbered it.found) c.place_shown.result (c.place_shown.ensures it.found (c.as_slice.ensures.value ∙ it.shown))
+    told db c.args.after day (option_map place_numbered it.found) c.place_shown.result (c.place_shown.ensures.value it.found (c.as_slice.ensures.value ∙ it.shown))
     (next_place db c.args.after c.floor_of.result day c.end_of.result it.found c.floor_of.ensures c.end_of.ensures.value c.end_of.ensures.day it.first)

@@ -11,4 +11,4 @@ returns-then-number-gt-MOST-clause-value g c clean is_open has were =
 pub returns-clause-value : goal.returns-clause-value
 returns-clause-value g c clean is_open has were =
     let standing = standing_in (state g.S.Store c.args.conn.now).now c.args.number in
-    c.standing_shown.ensures standing (subst (λ rows. IsStandingShown rows standing) (sym c.as_slice.ensures.value) (c.in_ok-rows.ensures.shown clean is_open has were))
+    c.standing_shown.ensures.value standing (subst (λ rows. IsStandingShown rows standing) (sym c.as_slice.ensures.value) (c.in_ok-rows.ensures.shown clean is_open has were))

@@ -14,5 +14,5 @@ shown rows row r first says standing (inr it) =
     let same : row ≡ columns_of it.0 = cc in
     subst (λ s. IfOk r (λ x. x ≡ s)) (sym it.2) (says it.0 same)
 
-pub returns-in-Some : goal.returns-in-Some
-returns-in-Some c = shown c.args.rows.now c.in-Some.row.now c.standing_of_row.result (sym c.first.ensures.value ∙ ap option_copied c.in-Some.is) c.standing_of_row.ensures
+pub returns-in-Some-clause-value : goal.returns-in-Some-clause-value
+returns-in-Some-clause-value c = shown c.args.rows.now c.in-Some.row.now c.standing_of_row.result (sym c.first.ensures.value ∙ ap option_copied c.in-Some.is) c.standing_of_row.ensures.value

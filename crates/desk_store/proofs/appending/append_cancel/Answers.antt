@@ -1,4 +1,5 @@
 use Rattle.std.proofs.Common.{Ok, Err, Result, OnOk, Some, true, ◌≡◌, ◌∙◌, ℕ, List, ap, subst, sym, arith}
+use Rattle.std.proofs.lemmas.Result.{err_from_is_err_and}
 use Rattle.sqlite.specs.Effect.{Database}
 use Rattle.sqlite.specs.Held.{state}
 use Rattle.sqlite.specs.State.{State, HasCleanDisk}
@@ -13,6 +14,7 @@ use Rattle.desk_rules.specs.Content.{history_of}
 use Rattle.desk_rules.specs.History.{number_of_key}
 use Rattle.desk_standings.specs.Standings.{StandingsChanged, standing_in}
 use Rattle.desk_tables.specs.Ends.{Stays}
+use Rattle.desk_tables.proofs.CallLemmas.{look_write, write_err, write_then}
 use Rattle.desk_store.specs.Content.{content_in}
 use Rattle.desk_store.specs.Holds.{Becomes, IsDesk}
 use Rattle.desk_store.proofs.AppendedCancellation.{cancel_becomes, cancel_standings}
@@ -46,3 +48,19 @@ returns-clause-changed g c clean is_open has desk room can =
     let named : number_of_key (history_of (content_in d0.now)) (FromParticipant sender) order.previous ≡ Some c.in_ok-named.named =
     ap (λ db. number_of_key (history_of (content_in db)) (FromParticipant sender) order.previous) same.now ∙ sym found ∙ c.in-Some.is ∙ ap Some (sym c.in_ok-named.ensures.same) in
     becomes old.now d0.now d1 new sender order reply room c.in_ok-named.named c.ask.result same.now desk0 can0 added named (c.ask.ensures.write.ok clean stays1.is_open stays1.schema) stood
+
+pub returns-in_err-add_row-clause-write : goal.returns-in_err-add_row-clause-write
+returns-in_err-add_row-clause-write g c =
+    let old = state g.S.Store c.args.conn.now in
+    let d0 = state g.S.Store c.number_of.new.conn in
+    let d1 = state g.S.Store c.add_row.new.conn in
+    let p = err_from_is_err_and c.from_residual-in_err-add_row.result c.from_residual-in_err-add_row.ensures.1 in
+    rw (p.1, p.2) (write_then _ _ old d0 d1 (look_write _ old d0 c.in_ok-number.ensures.look) (write_err _ d0 d1 c.in_err-add_row.ensures.write))
+
+pub returns-clause-write : goal.returns-clause-write
+returns-clause-write g c =
+    let old = state g.S.Store c.args.conn.now in
+    let d0 = state g.S.Store c.number_of.new.conn in
+    let d1 = state g.S.Store c.add_row.new.conn in
+    let new = state g.S.Store c.ask.new.conn in
+    write_then _ c.ask.result old d1 new (write_then _ _ old d0 d1 (look_write _ old d0 c.in_ok-number.ensures.look) c.in_ok-add_row.ensures.write) c.ask.ensures.write

@@ -1,7 +1,9 @@
 use Rattle.std.proofs.Common.{rules, Bool, ◌<◌, ◌^◌, arith, lit<, subst}
+use Rattle.std.proofs.lemmas.Result.{err_from_is_err_and}
 use Rattle.sqlite.specs.Held.{state}
 use Rattle.sqlite.specs.State.{HasCleanDisk}
 use Rattle.desk_rules.proofs.ShortNumbers.{short_quantity}
+use Rattle.desk_tables.proofs.CallLemmas.{write_err, write_then}
 use Rattle.desk_store.specs.Settling.{TakesCash, TakesHeld}
 use Rattle.desk_store.proofs.LegLemmas.{legs_settled, pay_fits, put_fits}
 use Rattle.desk_store.proofs.settling.move_legs.Goals as goal
@@ -44,3 +46,33 @@ returns-clause-changed g c clean is_open has amounts fits =
     let gives = c.in_ok-put_held.ensures.changed clean3 m2.is_open m2.schema pays.1.kept (put_fits s0.now s1.now s2.now s3.now s4.now earlier later from to c.delivery-from.ensures c.receipt-to.ensures fits takes pays) in
     let paid = c.in_ok-put_cash.ensures.changed clean m3.is_open m3.schema gives.kept (pay_fits s0.now s1.now s2.now s3.now s4.now earlier later from to c.delivery-from.ensures c.receipt-to.ensures fits takes pays gives) in
     legs_settled s0.now s1.now s2.now s3.now s4.now earlier later from to c.delivery-from.ensures c.receipt-to.ensures takes pays gives paid
+
+pub returns-in_err-take_cash-clause-write : goal.returns-in_err-take_cash-clause-write
+returns-in_err-take_cash-clause-write g c =
+    let s0 = state g.S.Store c.args.conn.now in
+    let s1 = state g.S.Store c.take_held.new.conn in
+    let s2 = state g.S.Store c.take_cash.new.conn in
+    let p = err_from_is_err_and c.from_residual-in_err-take_cash.result c.from_residual-in_err-take_cash.ensures.1 in
+    rw (p.1, p.2) (write_then _ _ s0 s1 s2 c.in_ok-take_held.ensures.write (write_err _ s1 s2 c.in_err-take_cash.ensures.write))
+
+pub returns-in_err-put_held-clause-write : goal.returns-in_err-put_held-clause-write
+returns-in_err-put_held-clause-write g c =
+    let s0 = state g.S.Store c.args.conn.now in
+    let s1 = state g.S.Store c.take_held.new.conn in
+    let s2 = state g.S.Store c.take_cash.new.conn in
+    let s3 = state g.S.Store c.put_held.new.conn in
+    let p = err_from_is_err_and c.from_residual-in_err-put_held.result c.from_residual-in_err-put_held.ensures.1 in
+    let taken = write_then _ _ s0 s1 s2 c.in_ok-take_held.ensures.write c.in_ok-take_cash.ensures.write in
+    rw (p.1, p.2) (write_then _ _ s0 s2 s3 taken (write_err _ s2 s3 c.in_err-put_held.ensures.write))
+
+pub returns-in_err-put_cash-clause-write : goal.returns-in_err-put_cash-clause-write
+returns-in_err-put_cash-clause-write g c =
+    let s0 = state g.S.Store c.args.conn.now in
+    let s1 = state g.S.Store c.take_held.new.conn in
+    let s2 = state g.S.Store c.take_cash.new.conn in
+    let s3 = state g.S.Store c.put_held.new.conn in
+    let s4 = state g.S.Store c.put_cash.new.conn in
+    let p = err_from_is_err_and c.from_residual-in_err-put_cash.result c.from_residual-in_err-put_cash.ensures.1 in
+    let taken = write_then _ _ s0 s1 s2 c.in_ok-take_held.ensures.write c.in_ok-take_cash.ensures.write in
+    let held = write_then _ _ s0 s2 s3 taken c.in_ok-put_held.ensures.write in
+    rw (p.1, p.2) (write_then _ _ s0 s3 s4 held (write_err _ s3 s4 c.in_err-put_cash.ensures.write))

@@ -22,7 +22,7 @@ returns-clause-trial g c =
     let s4 = state g.S.Store c.release.new.conn in
     let t2 = look_trial c.in_ok-pair.pair (Ok c.in_ok-outcome.outcome) s0 s1 s2 c.in_ok-pair.ensures.look c.in_ok-outcome.ensures.trial in
     let t3 = write_marked c.in_ok-outcome.outcome (Ok c.in_ok-close.field-0) s0 s2 s3 t2 c.in_ok-close.ensures.write in
-    trial_as c.in_ok-release.field-0 c.in_ok-outcome.outcome s0 s4 _ (release_trial c.in_ok-close.field-0 (Ok c.in_ok-release.field-0) s0 s3 s4 t3 c.in_ok-release.ensures.ok c.in_ok-release.ensures.err c.in_ok-release.ensures.opened c.in_ok-release.ensures.later)
+    trial_as c.in_ok-release.field-0 c.in_ok-outcome.outcome s0 s4 _ (release_trial c.in_ok-close.field-0 (Ok c.in_ok-release.field-0) s0 s3 s4 t3 c.in_ok-release.ensures.ok c.in_ok-release.ensures.err c.in_ok-release.ensures.why c.in_ok-release.ensures.opened c.in_ok-release.ensures.later)
 
 pub returns-clause-changed : goal.returns-clause-changed
 returns-clause-changed g c clean is_open has desk can inside none =

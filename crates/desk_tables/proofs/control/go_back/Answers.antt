@@ -1,5 +1,5 @@
 use Rattle.sqlite.specs.Held.{state}
-use Rattle.desk_tables.proofs.EndLemmas.{execute_fell, execute_opened, later_from}
+use Rattle.desk_tables.proofs.EndLemmas.{execute_fell, execute_opened, execute_why, later_from}
 use Rattle.desk_tables.proofs.ControlLemmas.{gone_back}
 use Rattle.desk_tables.proofs.control.go_back.Goals as goal
 
@@ -8,6 +8,9 @@ returns-clause-ok g c clean is_open has db one = gone_back (state g.S.Store c.ar
 
 pub returns-clause-err : goal.returns-clause-err
 returns-clause-err g c clean is_open has = execute_fell (state g.S.Store c.args.conn.now) (state g.S.Store c.execute.new.self) _ _ c.execute.result (c.execute.ensures.runs clean)
+
+pub returns-clause-why : goal.returns-clause-why
+returns-clause-why g c clean is_open has = execute_why (state g.S.Store c.args.conn.now) (state g.S.Store c.execute.new.self) _ _ c.execute.result (c.execute.ensures.runs clean) is_open
 
 pub returns-clause-opened : goal.returns-clause-opened
 returns-clause-opened g c clean = execute_opened (state g.S.Store c.args.conn.now) (state g.S.Store c.execute.new.self) _ _ c.execute.result (c.execute.ensures.runs clean)

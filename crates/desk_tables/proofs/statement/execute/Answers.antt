@@ -1,5 +1,5 @@
 use Rattle.sqlite.specs.Held.{state}
-use Rattle.desk_tables.proofs.EndLemmas.{execute_opened, later_from}
+use Rattle.desk_tables.proofs.EndLemmas.{execute_opened, execute_why, later_from}
 use Rattle.desk_tables.proofs.StatementLemmas.{edits, edit_fell}
 use Rattle.desk_tables.proofs.statement.execute.Goals as goal
 
@@ -10,6 +10,7 @@ returns-clause-write g c =
     record {
       ok = λ clean is_open has. edits old new _ _ c.requires.edit has c.execute.result (c.execute.ensures.runs clean);
       err = λ clean is_open has. edit_fell old new _ _ has c.execute.result (c.execute.ensures.runs clean);
+      why = λ clean is_open has. execute_why old new _ _ c.execute.result (c.execute.ensures.runs clean) is_open;
       opened = λ clean. execute_opened old new _ _ c.execute.result (c.execute.ensures.runs clean);
       later = later_from old new _ c.execute.ensures.survives;
     }

@@ -1,6 +1,6 @@
 use Rattle.sqlite.specs.Held.{state}
 use Rattle.desk_tables.proofs.EndLemmas.{later_from}
-use Rattle.desk_tables.proofs.StatementLemmas.{looks, look_fell, look_opened}
+use Rattle.desk_tables.proofs.StatementLemmas.{looks, look_fell, look_why, look_opened}
 use Rattle.desk_tables.proofs.statement.query.Goals as goal
 
 pub returns-clause-look : goal.returns-clause-look
@@ -10,6 +10,7 @@ returns-clause-look g c =
     record {
       ok = λ clean is_open has. looks old new _ _ c.requires.query has c.query_all.result (c.query_all.ensures.ok clean);
       err = λ clean is_open has. look_fell old new _ _ c.query_all.result (c.query_all.ensures.err clean);
+      why = λ clean is_open has. look_why old new _ _ c.query_all.result (c.query_all.ensures.err clean) is_open;
       opened = λ clean. look_opened old new _ _ c.query_all.result (c.query_all.ensures.ok clean) (c.query_all.ensures.err clean);
       later = later_from old new _ c.query_all.ensures.survives;
     }

@@ -1,9 +1,10 @@
 -- Calls on the tables one after another.
-use Rattle.std.proofs.Common.{◌≡◌, inl, inr, refl, ap, ◌∙◌, IsTrue, Result, Ok, Err, OnOk, OnErr, arith}
+use Rattle.std.proofs.Common.{◌≡◌, inl, inr, refl, ap, ◌∙◌, IsTrue, Result, Ok, Err, OnOk, OnErr, IfErr, arith}
 use Rattle.sqlite.specs.declared.error.Error.{Error}
 use Rattle.sqlite.specs.State.{State, HasCleanDisk}
 use Rattle.desk_tables.specs.Schema.{desk_schema}
-use Rattle.desk_tables.specs.Ends.{IsLater, Stays, IsSame, IsUndone, FellLooking, FellWriting, IsLook, IsWrite}
+use Rattle.desk_tables.specs.Ends.{IsLater, SaysWhy, Stays, IsSame, IsUndone, FellLooking, FellWriting, IsLook, IsWrite}
+use Rattle.desk_tables.proofs.EndLemmas.{why_later}
 
 pub later_then : (a b c : State) → IsLater a b → IsLater b c → IsLater a c
 later_then a b c p q = record { clean = omega (arith, p.clean, q.clean); faults = omega (arith, p.faults, q.faults) }
@@ -33,6 +34,7 @@ pub write_then : {X Y : Type 0} (x : X) (r : Result Y Error) (a b c : State) →
 write_then {X = X} {Y = Y} x r a b c p q = record {
   ok = λ clean is_open has. onward r (q.ok clean (mid clean is_open has).is_open (mid clean is_open has).schema) (mid clean is_open has);
   err = λ clean is_open has. back r (q.err clean (mid clean is_open has).is_open (mid clean is_open has).schema) (mid clean is_open has);
+  why = λ clean is_open has. says r (q.why clean (mid clean is_open has).is_open (mid clean is_open has).schema) (mid clean is_open has);
   opened = λ clean is. p.opened (was clean) (q.opened clean is);
   later = later_then a b c p.later q.later;
 }
@@ -51,11 +53,16 @@ write_then {X = X} {Y = Y} x r a b c p q = record {
     back (Ok y) f t = tt
     back (Err e) f t = λ inside. elim (f (t.mode ∙ inside)) [ inl stays ↦ inl (stays_then a b c t stays) | inr undone ↦ inr (undone_after a b c t inside undone) ]
 
+    says : (r : Result Y Error) → IfErr r (SaysWhy b c) → Stays a b → IfErr r (SaysWhy a c)
+    says (Ok y) h t = tt
+    says (Err e) h t = why_later a b c e p.later q.later t.mode h
+
 -- a look is a change of nothing
 pub look_write : {X : Type 0} (r : Result X Error) (a b : State) → IsLook r a b → IsWrite r a b
 look_write {X = X} r a b look = record {
   ok = λ clean is_open has. onward r (look.ok clean is_open has) has;
   err = λ clean is_open has. back r (look.err clean is_open has) has;
+  why = look.why;
   opened = look.opened;
   later = look.later;
 }
@@ -68,18 +75,9 @@ look_write {X = X} r a b look = record {
     back (Ok y) f has = tt
     back (Err e) f has = λ inside. elim f [ inl same ↦ inl (same_stays a b has same) | inr undone ↦ inr undone ]
 
--- the answer of a call that went well, or failed, is another one
-pub write_as : {X Y : Type 0} (x : X) (y : Y) (a b : State) → IsWrite (Ok x) a b → IsWrite (Ok y) a b
-write_as x y a b p = record { ok = p.ok; err = λ clean is_open has. tt; opened = p.opened; later = p.later }
+-- a call that went well, or failed, with another answer
+pub write_ok : {X Y : Type 0} (x : X) (y : Y) (a b : State) → IsWrite (Ok x) a b → IsWrite (Ok y) a b
+write_ok x y a b p = record { ok = p.ok; err = λ clean is_open has. tt; why = λ clean is_open has. tt; opened = p.opened; later = p.later }
 
-pub write_err_as : {X Y : Type 0} (e e' : Error) (a b : State) → IsWrite {X = X} (Err e) a b → IsWrite {X = Y} (Err e') a b
-write_err_as e e' a b p = record { ok = λ clean is_open has. tt; err = p.err; opened = p.opened; later = p.later }
-
--- nothing was run
-pub refused : {X : Type 0} (e : Error) (s : State) → IsWrite {X = X} (Err e) s s
-refused e s = record {
-  ok = λ clean is_open has. tt;
-  err = λ clean is_open has inside. inl (record { is_open = is_open; schema = has; mode = refl; marks = refl; committed = λ i. refl });
-  opened = λ clean is. is;
-  later = record { clean = omega arith; faults = omega arith };
-}
+pub write_err : {X Y : Type 0} (e : Error) (a b : State) → IsWrite {X = X} (Err e) a b → IsWrite {X = Y} (Err e) a b
+write_err e a b p = record { ok = λ clean is_open has. tt; err = p.err; why = p.why; opened = p.opened; later = p.later }
