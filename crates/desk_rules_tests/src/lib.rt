@@ -1,4 +1,4 @@
-//! The tests of `desk_rules`: worked days by the plain program of the definitions, and a day worked by hand. They
+//! The tests of `desk_rules`: a day worked by hand, and two by the plain program of the definitions. They
 //! stand in a crate of their own, since a crate with tests is proved twice.
 #![tactic(auto)]
 

@@ -1,10 +1,10 @@
 //! What comes to the desk in a worked day.
 use desk_codes::Ccy;
-use desk_msg::{Kind, Message, Mt, read_instruction_text};
+use desk_msg::{Kind, Mt};
 use desk_rules::{Entry, MOST_PAID, MOST_QUANTITY, Payment, RunRule};
 use desk_samples::entries::{
-    InstructionTexts, SHARE, bic, instruct, issue, new_account, participant, redeem, reference,
-    run, security,
+    InstructionTexts, SHARE, bic, instruct, issue, new_account, participant, reference, run,
+    security,
 };
 use std::alloc::Global;
 use std::test::Fail;
@@ -61,15 +61,9 @@ pub enum Step {
     Share(&'static str),
     /// So much of the share issued to an account
     Issue(&'static str, &'static str, u64),
-    /// So much of the share redeemed from an account
-    Redeem(&'static str, &'static str, u64),
     /// So many cents paid in by a participant
     PayIn(&'static str, &'static str, u64),
-    /// So many cents paid out to a participant
-    PayOut(&'static str, &'static str, u64),
     Instruct(InstructionTexts<'static>),
-    /// A cancellation: the type of the instruction, who sends it, its own reference, and the instruction's
-    Cancel(Mt, &'static str, &'static str, &'static str),
     /// A run in passes, for the pairs due by a day
     Run(&'static str, &'static [u8; 8]),
     /// The same, in one pass
@@ -84,11 +78,8 @@ impl Step {
             Step::Account(key, party, name) => Ok(new_account(key, party, name)?),
             Step::Share(key) => Ok(security(key, SHARE, Kind::Unit)?),
             Step::Issue(key, name, quantity) => issued(key, name, quantity),
-            Step::Redeem(key, name, quantity) => redeemed(key, name, quantity),
             Step::PayIn(key, party, cents) => Ok(Entry::PayIn(payment(key, party, cents)?)),
-            Step::PayOut(key, party, cents) => Ok(Entry::PayOut(payment(key, party, cents)?)),
             Step::Instruct(texts) => Ok(instruct(alloc, texts)?),
-            Step::Cancel(mt, sender, key, previous) => cancelled(alloc, mt, sender, key, previous),
             Step::Run(key, day) => Ok(run(key, day)?),
             Step::RunOnce(key, day) => Ok(in_one_pass(run(key, day)?)),
         }
@@ -103,14 +94,6 @@ fn issued(key: &str, name: &str, quantity: u64) -> Result<Entry, Fail> {
     Ok(issue(key, name, SHARE, quantity)?)
 }
 
-/// So much of the share redeemed from an account.
-fn redeemed(key: &str, name: &str, quantity: u64) -> Result<Entry, Fail> {
-    if quantity == 0 || quantity > MOST_QUANTITY {
-        return Err("no quantity")?;
-    }
-    Ok(redeem(key, name, SHARE, quantity)?)
-}
-
 /// So many cents of a participant.
 fn payment(key: &str, party: &str, amount: u64) -> Result<Payment, Fail> {
     if amount == 0 || amount > MOST_PAID {
@@ -122,29 +105,6 @@ fn payment(key: &str, party: &str, amount: u64) -> Result<Payment, Fail> {
         ccy: Ccy::Eur,
         amount,
     })
-}
-
-/// The cancellation of an instruction of this type, named by its reference.
-fn cancelled(
-    alloc: Global,
-    mt: Mt,
-    sender: &str,
-    key: &str,
-    previous: &str,
-) -> Result<Entry, Fail> {
-    if !mt.is_instruction() {
-        return Err("no instruction")?;
-    }
-    let text = format!(in alloc;
-        "{{4:\n:16R:GENL\n:20C::SEME//{key}\n:23G:CANC\n:16R:LINK\n:20C::PREV//{previous}\n:16S:LINK\n:16S:GENL\n-}}\n"
-    )?;
-    match read_instruction_text(alloc, mt, text.as_bytes())? {
-        Message::New(_) => Err("no cancellation")?,
-        Message::Cancel(order) => Ok(Entry::Cancel {
-            sender: bic(sender)?,
-            order,
-        }),
-    }
 }
 
 /// The run, as one that makes one pass.
