@@ -1,5 +1,5 @@
-//! The tests of `desk_engine`: the verdicts, the replies, and worked and drawn days beside the plain program of the
-//! definitions. They stand in a crate of their own, since a crate with tests is proved twice.
+//! The tests of `desk_engine`: a full desk and a refusal. They stand in a crate of their own,
+//! since a crate with tests is proved twice. Verdicts, replies and worked days are shown by the cases of the program.
 #![tactic(auto)]
 
 #[cfg(test)]
