@@ -1,46 +1,75 @@
 -- What connections leave of a desk.
-use Rattle.std.proofs.Common.{◌≡◌, Bool, false, List, ℕ, Option, refl, sym, subst}
+use Rattle.std.proofs.Common.{◌≡◌, ◌⊎◌, ℕ, Bool, List, [], ◌∷◌, ◌++◌, Option, None, inl, inr, refl, sym, subst}
 use Rattle.std.specs.Prelude.{Result, Ok, Err, OnOk}
+use Rattle.desk_rules.specs.declared.answers.reply.Reply.{Reply}
 use Rattle.desk_rules.specs.Books.{Books}
 use Rattle.desk_register.specs.View.{View}
+use Rattle.desk_book.specs.declared.fault.Fault.{Fault}
+use Rattle.desk_book.specs.Answered.{AnsweredInTurn, says_closed}
+use Rattle.desk_book.specs.Asked.{Asked}
 use Rattle.desk_book.specs.Held.{Holds}
 use Rattle.desk_book.proofs.HeadlineLemmas.{promised}
-use Rattle.desk_http.specs.Served.{Responds, Serves}
+use Rattle.desk_http.specs.Served.{Responds, Serves, asked_of_desk}
 use Rattle.desk_http.specs.declared.refusal.HttpFault.{HttpFault}
 use Rattle.desk_http.specs.declared.refusal.HttpFault.TheVariants.{Memory, ReadFailed, WriteFailed}
-use Rattle.desk.specs.ServeAnswer.{HoldsOn}
+use Rattle.desk.specs.ServeAnswer.{HoldsOn, Leaves}
+
+-- requests, and some behind them
+in_turn_on : (limit : ℕ) (was : Bool) (books : Books) (first : List Asked) (answers : List (Result Reply Fault)) (mid : Bool) (next : Books) (more : List Asked) (others : List (Result Reply Fault)) (is : Bool) (last : Books)
+    → AnsweredInTurn limit was books first answers mid next → AnsweredInTurn limit mid next more others is last → AnsweredInTurn limit was books (first ++ more) (answers ++ others) is last
+in_turn_on limit was books [] [] mid next more others is last before later =
+    let P : Bool → Type 0 = λ b. AnsweredInTurn limit b books more others is last in
+    let Q : Books → Type 0 = λ k. AnsweredInTurn limit mid k more others is last in
+    subst P before.0 (subst Q before.1 later)
+in_turn_on limit was books (asked ∷ first) (answer ∷ answers) mid next more others is last before later =
+    let rest = before.1 in
+    (before.0, (rest.0, rest.1, in_turn_on limit (says_closed answer) rest.0 first answers mid next more others is last rest.2 later))
+in_turn_on limit was books [] (answer ∷ answers) mid next more others is last before later = absurd before
+in_turn_on limit was books (asked ∷ first) [] mid next more others is last before later = absurd before
 
 -- a desk that was left as it was
 pub untouched : (is : Bool) (view : View) → HoldsOn is view is view
-untouched is view = λ books holds. (books, holds, promised is view books holds)
+untouched is view = λ books holds. record { requests = []; answers = []; last = books; in_turn = (refl, refl); holds = holds; promise = promised is view books holds }
 
--- one after another
-pub one_more : (was mid is : Bool) (v0 v1 v2 : View) → HoldsOn was v0 mid v1 → HoldsOn mid v1 is v2 → HoldsOn was v0 is v2
-one_more was mid is v0 v1 v2 first then = λ books holds. let f = first books holds in then f.0 f.1
+-- what one connection more leaves
+left_by : (was mid is : Bool) (books : Books) (v0 v1 v2 : View) → v1.room ≡ v0.room → (l : Leaves was books mid v0 v1) → Serves mid l.last None is v1 v2 → Leaves was books is v0 v2
+left_by was mid is books v0 v1 v2 room l s =
+    let P : ℕ → Type 0 = λ k. AnsweredInTurn k mid l.last (asked_of_desk s.outcome) s.answers is s.last in
+    record {
+      requests = l.requests ++ asked_of_desk s.outcome;
+      answers = l.answers ++ s.answers;
+      last = s.last;
+      in_turn = in_turn_on v0.room was books l.requests l.answers mid l.last (asked_of_desk s.outcome) s.answers is s.last l.in_turn (subst P room s.in_turn);
+      holds = s.holds;
+      promise = s.promise;
+    }
 
--- one connection more, which left the desk so
-pub goes_on : {D : Type 0} (is_closed : D → Bool) (view : D → View) (first mid left last : D) → last ≡ left → HoldsOn (is_closed mid) (view mid) (is_closed left) (view left) → (is_closed mid ≡ false → is_closed left ≡ false)
-    → HoldsOn (is_closed first) (view first) (is_closed mid) (view mid) × (is_closed first ≡ false → is_closed mid ≡ false) → HoldsOn (is_closed first) (view first) (is_closed last) (view last) × (is_closed first ≡ false → is_closed last ≡ false)
-goes_on {D = D} is_closed view first mid left last is keeps stays before =
-    let P : D → Type 0 = λ d. HoldsOn (is_closed first) (view first) (is_closed d) (view d) × (is_closed first ≡ false → is_closed d ≡ false) in
-    subst P (sym is) (one_more (is_closed first) (is_closed mid) (is_closed left) (view first) (view mid) (view left) before.0 keeps, λ was. stays (before.1 was))
+module _ {D : Type 0} (is_closed : D → Bool) (view : D → View) where
+  -- what comes of a connection is what is left of the desk
+  pub goes_on : (first mid left last : D) → last ≡ left → (view mid).room ≡ (view first).room
+      → ((books : Books) → Holds (is_closed mid) (view mid) books → (left ≡ mid) ⊎ Serves (is_closed mid) books None (is_closed left) (view mid) (view left))
+      → HoldsOn (is_closed first) (view first) (is_closed mid) (view mid) → HoldsOn (is_closed first) (view first) (is_closed last) (view last)
+  goes_on first mid left last is room served before = λ books holds.
+      let l = before books holds in
+      let P : D → Type 0 = λ d. Leaves (is_closed first) books (is_closed d) (view first) (view d) in
+      subst P (sym is) (elim (served l.last l.holds) [ inl same ↦ subst P (sym same) l | inr s ↦ left_by (is_closed first) (is_closed mid) (is_closed left) books (view first) (view mid) (view left) room l s ])
 
--- what was asked of it, if anything, was asked as one connection asks
-pub served : {D : Type 0} (is_closed : D → Bool) (view : D → View) (old new : D) (stream before after : Option (List ℕ)) (q : Result (Unit {0}) HttpFault) → (view new).is_honest
-    → OnOk q ((books : Books) → (view new).is_honest → Holds (is_closed old) (view old) books → Responds (is_closed old) books stream before after (is_closed new) (view old) (view new))
-    → (q ≡ Err ReadFailed → new ≡ old) → (q ≡ Err Memory → new ≡ old)
-    → (q ≡ Err WriteFailed → (books : Books) → (view new).is_honest → Holds (is_closed old) (view old) books → Serves (is_closed old) books stream (is_closed new) (view old) (view new))
-    → HoldsOn (is_closed old) (view old) (is_closed new) (view new)
-served {D = D} is_closed view old new stream before after q honest responds unread memory stands = go q responds unread memory stands
-  where
-    same : new ≡ old → HoldsOn (is_closed old) (view old) (is_closed new) (view new)
-    same is = let P : D → Type 0 = λ d. HoldsOn (is_closed old) (view old) (is_closed d) (view d) in subst P (sym is) (untouched (is_closed old) (view old))
+  -- what was asked of it, if anything, was asked as one connection asks
+  pub served : (old new : D) (stream before after : Option (List ℕ)) (q : Result (Unit {0}) HttpFault) → (view new).is_honest
+      → OnOk q ((books : Books) → (view new).is_honest → Holds (is_closed old) (view old) books → Responds (is_closed old) books stream before after (is_closed new) (view old) (view new))
+      → (q ≡ Err ReadFailed → new ≡ old) → (q ≡ Err Memory → new ≡ old)
+      → (q ≡ Err WriteFailed → (books : Books) → (view new).is_honest → Holds (is_closed old) (view old) books → Serves (is_closed old) books stream (is_closed new) (view old) (view new))
+      → (books : Books) → Holds (is_closed old) (view old) books → (new ≡ old) ⊎ Serves (is_closed old) books None (is_closed new) (view old) (view new)
+  served old new stream before after q honest responds unread memory stands books holds = go q responds unread memory stands
+    where
+      any : Serves (is_closed old) books stream (is_closed new) (view old) (view new) → Serves (is_closed old) books None (is_closed new) (view old) (view new)
+      any s = record { outcome = s.outcome; asks = tt; answers = s.answers; last = s.last; in_turn = s.in_turn; holds = s.holds; promise = s.promise; blame = s.blame }
 
-    go : (r : Result (Unit {0}) HttpFault) → OnOk r ((books : Books) → (view new).is_honest → Holds (is_closed old) (view old) books → Responds (is_closed old) books stream before after (is_closed new) (view old) (view new))
-        → (r ≡ Err ReadFailed → new ≡ old) → (r ≡ Err Memory → new ≡ old)
-        → (r ≡ Err WriteFailed → (books : Books) → (view new).is_honest → Holds (is_closed old) (view old) books → Serves (is_closed old) books stream (is_closed new) (view old) (view new))
-        → HoldsOn (is_closed old) (view old) (is_closed new) (view new)
-    go (Ok done) responds unread memory stands = λ books holds. let s = (responds books honest holds).served in (s.last, s.holds, s.promise)
-    go (Err ReadFailed) responds unread memory stands = same (unread refl)
-    go (Err Memory) responds unread memory stands = same (memory refl)
-    go (Err WriteFailed) responds unread memory stands = λ books holds. let s = stands refl books honest holds in (s.last, s.holds, s.promise)
+      go : (r : Result (Unit {0}) HttpFault) → OnOk r ((books : Books) → (view new).is_honest → Holds (is_closed old) (view old) books → Responds (is_closed old) books stream before after (is_closed new) (view old) (view new))
+          → (r ≡ Err ReadFailed → new ≡ old) → (r ≡ Err Memory → new ≡ old)
+          → (r ≡ Err WriteFailed → (books : Books) → (view new).is_honest → Holds (is_closed old) (view old) books → Serves (is_closed old) books stream (is_closed new) (view old) (view new))
+          → (new ≡ old) ⊎ Serves (is_closed old) books None (is_closed new) (view old) (view new)
+      go (Ok done) responds unread memory stands = inr (any (responds books honest holds).served)
+      go (Err ReadFailed) responds unread memory stands = inl (unread refl)
+      go (Err Memory) responds unread memory stands = inl (memory refl)
+      go (Err WriteFailed) responds unread memory stands = inr (any (stands refl books honest holds))

@@ -1,7 +1,11 @@
 -- What is told by who serves.
-use Rattle.std.specs.Prelude.{ℕ, Bool, List, ◌++◌, codes, decimal}
+use Rattle.std.specs.Prelude.{ℕ, Bool, List, ◌++◌, Result, codes, decimal}
+use Rattle.desk_rules.specs.declared.answers.reply.Reply.{Reply}
 use Rattle.desk_rules.specs.Books.{Books}
 use Rattle.desk_register.specs.View.{View}
+use Rattle.desk_book.specs.declared.fault.Fault.{Fault as DeskFault}
+use Rattle.desk_book.specs.Answered.{AnsweredInTurn}
+use Rattle.desk_book.specs.Asked.{Asked}
 use Rattle.desk_book.specs.Headline.{KeepsPromise}
 use Rattle.desk_book.specs.Held.{Holds}
 use Rattle.desk.specs.Status.{failure_line}
@@ -20,6 +24,16 @@ IsServeAnswer port Done Told = Told (listening_line port)
 IsServeAnswer port Fault Told = (failure : Failure) × Told (failure_line failure ++ codes "\n")
 IsServeAnswer port status Told = ⊥
 
--- A desk that held some books holds some, and with these it keeps its promise.
+-- What connections leave of a desk with these books: some requests were asked of it, one after another, to the books that
+-- it holds then, and with which it keeps its promise.
+pub record Leaves (was : Bool) (books : Books) (is : Bool) (old new : View) : Type 0 where
+  pub requests : List Asked
+  pub answers : List (Result Reply DeskFault)
+  pub last : Books
+  pub in_turn : AnsweredInTurn old.room was books requests answers is last
+  pub holds : Holds is new last
+  pub promise : KeepsPromise is new last
+
+-- whatever books an open desk held
 abbrev pub HoldsOn : Bool → View → Bool → View → Type 0
-HoldsOn was old is new = (books : Books) → Holds was old books → (last : Books) × Holds is new last × KeepsPromise is new last
+HoldsOn was old is new = (books : Books) → Holds was old books → Leaves was books is old new

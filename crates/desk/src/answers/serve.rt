@@ -1,7 +1,10 @@
 //! `desk serve`.
-ghost use Rattle.std.specs.Prelude.{◌≡◌, true, false, IfOk, OnErr, OnOk};
+ghost use Rattle.std.specs.Prelude.{◌≡◌, ◌⊎◌, true, false, None, IfOk, OnErr, OnOk};
 ghost use Rattle.std.specs.Io.KnownBytes.{Appends};
+ghost use Rattle.desk_rules.specs.Books.{Books};
 ghost use Rattle.desk_index.specs.IndexView.{view_of_index};
+ghost use Rattle.desk_book.specs.Held.{Holds};
+ghost use Rattle.desk_http.specs.Served.{Serves};
 ghost use Rattle.desk.specs.ServeAnswer.{HoldsOn, IsServeAnswer, listening_line};
 
 use crate::status::{Failure, Status, tell_failure};
@@ -78,7 +81,9 @@ fn serve_stream(
     stream: &TcpStream,
     desk: &mut Desk<IndexedRegister>,
 )
-    ensures keeps { HoldsOn desk.old.is_closed (view_of_index desk.old.register) desk.new.is_closed (view_of_index desk.new.register) }
+    ensures served { (books : Books) → Holds desk.old.is_closed (view_of_index desk.old.register) books
+        → (desk.new ≡ desk.old) ⊎ Serves desk.old.is_closed books None desk.new.is_closed (view_of_index desk.old.register) (view_of_index desk.new.register) }
+    ensures room { (view_of_index desk.new.register).room ≡ (view_of_index desk.old.register).room }
     ensures open { desk.old.is_closed ≡ false → desk.new.is_closed ≡ false }
 {
     let patience = Some(Duration::from_secs(PATIENCE));
