@@ -1,4 +1,2 @@
 pub mod LedgerLemmas
 pub mod MessageLemmas
-mod AddingLemmas
-mod PairingLemmas

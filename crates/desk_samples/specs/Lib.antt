@@ -1,6 +1,4 @@
-pub mod Adding
 pub mod Entries
 pub mod Instructed
 pub mod Ledger
 pub mod Memory
-pub mod Pairing

@@ -1,16 +1,16 @@
-//! A drawn day, taken in by registers of both stores, and beside it the plain program.
+//! A drawn day, taken in by registers of both stores, and beside them the plain program.
 ghost use Rattle.std.specs.Prelude.{◌≡◌};
 
 use crate::draws::Draws;
 use crate::failure::Failure;
 use crate::market::{ACCOUNTS, PARTICIPANTS, SECURITIES, drawn, opening};
 use crate::plain::Plain;
-use crate::same::{same_message, same_registers, same_reply};
+use crate::tally::Tally;
 use desk_codes::Ccy;
 use desk_index::IndexedRegister;
 use desk_lists::ListRegister;
 use desk_register::Register;
-use desk_rules::{Entry, Verdict};
+use desk_rules::{Entry, Reply, Sent, Verdict};
 use desk_samples::entries::{account, bic, isin};
 use desk_samples::ledger::{Entered, Ledger};
 use std::alloc::Global;
@@ -23,8 +23,8 @@ const ENTRIES: u64 = 130;
 
 /// Whether registers of both stores take in a day that is drawn from a seed as the plain program says: the verdict on
 /// each entry and the reply to it, and at the end where each entry stands, what each account holds, what cash each
-/// participant has, and what was sent.
-pub fn agrees(alloc: Global, seed: u32) -> Result<bool, Failure> {
+/// participant has, and what was sent. How its instructions fared is counted.
+pub fn agrees(alloc: Global, seed: u32, tally: &mut Tally) -> Result<bool, Failure> {
     let mut draws = Draws::new(seed);
     let mut lists = Ledger::<ListRegister>::new(alloc, LIMIT);
     let mut index = Ledger::<IndexedRegister>::new(alloc, LIMIT);
@@ -38,9 +38,12 @@ pub fn agrees(alloc: Global, seed: u32) -> Result<bool, Failure> {
             return Ok(false);
         }
     }
-    let mut lists = lists.into_register();
-    let mut index = index.into_register();
-    Ok(same_registers(alloc, &mut lists, &mut index)? && is_as_plain(alloc, &mut lists, &history)?)
+    let plain = Plain::new(alloc, &history)?;
+    count_fates(alloc, &history, &plain, tally)?;
+    Ok(
+        is_as_plain(alloc, &mut lists.into_register(), &history, &plain)?
+            && is_as_plain(alloc, &mut index.into_register(), &history, &plain)?,
+    )
 }
 
 /// Whether both take in an entry, or refuse it, as the plain program says, with the same reply.
@@ -63,34 +66,72 @@ fn takes_in(
         _ => return Ok(false),
     };
     history.push(entry)?;
-    let plain = Plain::new(alloc, history)?;
-    let Some(wanted) = plain.last_reply(alloc, history)? else {
+    let Some(wanted) = Plain::new(alloc, history)?.last_reply(alloc, history)? else {
         return Ok(false);
     };
-    let Some(kept) = lists.reply(alloc, applied.number)? else {
-        return Ok(false);
-    };
-    Ok(same_reply(&kept, &wanted))
+    let first = lists.reply(alloc, applied.number)?;
+    let second = index.reply(alloc, applied.number)?;
+    Ok(is_reply(&first, &wanted) && is_reply(&second, &wanted))
+}
+
+fn is_reply(kept: &Option<Reply>, wanted: &Reply) -> bool {
+    match kept {
+        Some(kept) => {
+            kept.status == wanted.status
+                && kept.mt == wanted.mt
+                && kept.text.as_bytes() == wanted.text.as_bytes()
+        }
+        None => false,
+    }
+}
+
+fn is_message(kept: &Option<Sent>, wanted: &Sent) -> bool {
+    match kept {
+        Some(kept) => {
+            kept.mt == wanted.mt
+                && kept.about == wanted.about
+                && kept.text.as_bytes() == wanted.text.as_bytes()
+        }
+        None => false,
+    }
+}
+
+/// Counts how the instructions of a day fared.
+fn count_fates(
+    alloc: Global,
+    history: &[Entry],
+    plain: &Plain,
+    tally: &mut Tally,
+) -> Result<(), Failure> {
+    let mut number = 0u64;
+    for entry in history {
+        number = number.wrapping_add(1);
+        if let Entry::Instruct { instruction, .. } = entry {
+            let standing = plain.standing(alloc, history, number)?;
+            tally.count(&standing, instruction.cash.is_some());
+        }
+    }
+    Ok(())
 }
 
 /// Whether a register holds what the plain program makes of a history.
-fn is_as_plain(
+fn is_as_plain<R: Register>(
     alloc: Global,
-    register: &mut ListRegister,
+    register: &mut R,
     history: &[Entry],
+    plain: &Plain,
 ) -> Result<bool, Failure> {
-    let plain = Plain::new(alloc, history)?;
     Ok(
-        stands_as_plain(alloc, register, history, &plain)?
-            && holds_as_plain(alloc, register, history, &plain)?
-            && has_as_plain(alloc, register, history, &plain)?
-            && sent_as_plain(alloc, register, history, &plain)?,
+        stands_as_plain(alloc, register, history, plain)?
+            && holds_as_plain(alloc, register, history, plain)?
+            && has_as_plain(alloc, register, history, plain)?
+            && sent_as_plain(alloc, register, history, plain)?,
     )
 }
 
-fn stands_as_plain(
+fn stands_as_plain<R: Register>(
     alloc: Global,
-    register: &mut ListRegister,
+    register: &mut R,
     history: &[Entry],
     plain: &Plain,
 ) -> Result<bool, Failure> {
@@ -103,9 +144,9 @@ fn stands_as_plain(
     Ok(register.count(alloc)? == history.len() as u64)
 }
 
-fn holds_as_plain(
+fn holds_as_plain<R: Register>(
     alloc: Global,
-    register: &mut ListRegister,
+    register: &mut R,
     history: &[Entry],
     plain: &Plain,
 ) -> Result<bool, Failure> {
@@ -122,9 +163,9 @@ fn holds_as_plain(
     Ok(true)
 }
 
-fn has_as_plain(
+fn has_as_plain<R: Register>(
     alloc: Global,
-    register: &mut ListRegister,
+    register: &mut R,
     history: &[Entry],
     plain: &Plain,
 ) -> Result<bool, Failure> {
@@ -141,9 +182,9 @@ fn has_as_plain(
     Ok(true)
 }
 
-fn sent_as_plain(
+fn sent_as_plain<R: Register>(
     alloc: Global,
-    register: &mut ListRegister,
+    register: &mut R,
     history: &[Entry],
     plain: &Plain,
 ) -> Result<bool, Failure> {
@@ -155,10 +196,7 @@ fn sent_as_plain(
         let mut number = 0u64;
         for message in wanted.iter().filter(|message| message.bic == bic) {
             number = number.wrapping_add(1);
-            let Some(sent) = register.sent(alloc, bic, number)? else {
-                return Ok(false);
-            };
-            if !same_message(&sent, message) {
+            if !is_message(&register.sent(alloc, bic, number)?, message) {
                 return Ok(false);
             }
         }

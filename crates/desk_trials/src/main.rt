@@ -1,18 +1,13 @@
-//! Days drawn from a seed, tried at registers of both stores side by side and beside the plain program of the
-//! definitions: `desk_trials days SEED COUNT`; and calls of the register, drawn likewise, over both stores side by side,
-//! with what was done taken back at drawn places: `desk_trials calls SEED COUNT`. Each day, or sequence of calls, counts;
-//! each seed that tells a difference is printed, and of calls how the pairs fared that were tried. The last line says
-//! 'N passed, M failed'.
+//! Days drawn from a seed, tried at registers of both stores beside the plain program of the definitions:
+//! `desk_trials SEED COUNT`. Each day counts; each seed that tells a difference is printed, and how the instructions of all
+//! days fared. The last line says 'N passed, M failed'.
 #![tactic(auto)]
 
-mod calls;
 mod days;
 mod draws;
 mod failure;
 mod market;
 mod plain;
-mod same;
-mod settling;
 mod tally;
 
 use crate::failure::Failure;
@@ -31,23 +26,6 @@ const USAGE: u8 = 2;
 
 const FAULT: u8 = 3;
 
-/// What is drawn from a seed.
-#[derive(Clone, Copy, Debug)]
-enum Trial {
-    Days,
-    Calls,
-}
-
-impl Trial {
-    /// Whether registers of both stores agree on what is drawn from a seed. What came of drawn calls is counted.
-    fn agrees(self, alloc: Global, seed: u32, tally: &mut Tally) -> Result<bool, Failure> {
-        match self {
-            Trial::Days => days::agrees(alloc, seed),
-            Trial::Calls => calls::agrees(alloc, seed, tally),
-        }
-    }
-}
-
 fn main(rt: HostRuntime) -> ExitCode {
     match answer(&rt) {
         Ok(status) => ExitCode::from(status),
@@ -58,38 +36,27 @@ fn main(rt: HostRuntime) -> ExitCode {
 /// Does what the words ask for. Gives the exit status.
 fn answer(rt: &(impl Print + AllocGlobal + Env)) -> Result<u8, Failure> {
     let words: Vec<String> = env::args(rt)?.collect(rt.alloc())?;
-    let [_, kind, seed, count] = words.as_slice() else {
+    let [_, seed, count] = words.as_slice() else {
         return Ok(USAGE);
     };
     let (Ok(seed), Ok(count)) = (seed.as_str().parse::<u32>(), count.as_str().parse::<u32>()) else {
         return Ok(USAGE);
     };
-    match kind.as_str() {
-        "days" => try_all(rt, Trial::Days, seed, count),
-        "calls" => try_all(rt, Trial::Calls, seed, count),
-        _ => Ok(USAGE),
-    }
+    try_all(rt, seed, count)
 }
 
 /// Tries so many seeds, from one on, and prints each that tells a difference, and at the end how many passed.
-fn try_all(
-    rt: &(impl Print + AllocGlobal),
-    trial: Trial,
-    seed: u32,
-    count: u32,
-) -> Result<u8, Failure> {
+fn try_all(rt: &(impl Print + AllocGlobal), seed: u32, count: u32) -> Result<u8, Failure> {
     let mut failed = 0u32;
     let mut tally = Tally::new();
     for number in 0..count {
         let seed = seed.wrapping_add(number);
-        if !trial.agrees(rt.alloc(), seed, &mut tally)? {
+        if !days::agrees(rt.alloc(), seed, &mut tally)? {
             println!(rt; "seed {seed} differs")?;
             failed = failed.wrapping_add(1);
         }
     }
-    if let Trial::Calls = trial {
-        print_tally(rt, &tally)?;
-    }
+    print_tally(rt, &tally)?;
     let passed = count.wrapping_sub(failed);
     println!(rt; "{passed} passed, {failed} failed")?;
     Ok(if failed == 0 { DONE } else { DIFFERS })
@@ -102,7 +69,7 @@ fn print_tally(rt: &impl Print, tally: &Tally) -> Result<(), Failure> {
     let money = tally.lacking_money;
     let cancelled = tally.cancelled;
     println!(rt;
-        "pairs settled free {free}, settled against payment {against_payment}, lacking securities {securities}, lacking money {money}, cancelled {cancelled}"
+        "instructions settled free {free}, settled against payment {against_payment}, lacking securities {securities}, lacking money {money}, cancelled {cancelled}"
     )?;
     Ok(())
 }

@@ -22,9 +22,6 @@ pub const ACCOUNTS: [&str; 5] = ["A-1", "A-2", "B-1", "C-1", "D-1"];
 /// The securities, a share and a bond.
 pub const SECURITIES: [&str; 2] = [SHARE, BOND];
 
-/// No instruction and no run is of a later day.
-pub const LAST_DAY: &[u8; 8] = b"20240301";
-
 /// The lines of EUR 10.00, and of USD 5.00.
 const EUROS: &str = ":16R:AMT\n:19A::SETT//EUR10,\n:16S:AMT\n";
 
@@ -161,8 +158,8 @@ fn drawn_currency(draws: &mut Draws) -> Ccy {
     }
 }
 
-/// The day of a run, or one by which a pair is tried.
-pub fn drawn_day(draws: &mut Draws) -> Result<Day, EntryFault> {
+/// The day of a run.
+fn drawn_day(draws: &mut Draws) -> Result<Day, EntryFault> {
     match draws.below(6) {
         0 => day(b"20240228"),
         1 | 2 | 3 => day(b"20240229"),
@@ -210,19 +207,6 @@ fn drawn_instruction<'a>(key: &'a str, draws: &mut Draws) -> InstructionTexts<'a
         sides.receipt
     };
     misfit(texts, draws)
-}
-
-/// Two drawn instructions that are opposite.
-pub fn drawn_opposites(alloc: Global, draws: &mut Draws) -> Result<(Entry, Entry), EntryFault> {
-    let delivery_key = drawn_key(alloc, draws)?;
-    let receipt_key = drawn_key(alloc, draws)?;
-    let sides = drawn_sides(delivery_key.as_str(), receipt_key.as_str(), draws);
-    let delivery = instruct(alloc, sides.delivery)?;
-    let receipt = instruct(alloc, sides.receipt)?;
-    if draws.is_one_in(2) {
-        return Ok((receipt, delivery));
-    }
-    Ok((delivery, receipt))
 }
 
 /// The texts of both sides of a drawn route, of these references.

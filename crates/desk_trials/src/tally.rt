@@ -1,9 +1,9 @@
-//! How the pairs fared that were tried.
+//! How the instructions of drawn days fared.
 
-use desk_register::Outcome;
-use desk_rules::Lack;
+use desk_msg::Reason;
+use desk_rules::{Standing, State};
 
-/// How many pairs settled, lacked something, or were cancelled, also in groups of calls that were taken back.
+/// How many paired instructions settled, free or against payment, lack something at the end, or are cancelled.
 #[derive(Clone, Copy, Debug)]
 pub struct Tally {
     pub settled_free: u64,
@@ -24,19 +24,16 @@ impl Tally {
         }
     }
 
-    /// Counts a pair that was tried.
-    pub fn count_tried(&mut self, outcome: Outcome, is_against_payment: bool) {
-        let count = match outcome {
-            Outcome::Settled if is_against_payment => &mut self.settled_against_payment,
-            Outcome::Settled => &mut self.settled_free,
-            Outcome::Lacks(Lack::Securities) => &mut self.lacking_securities,
-            Outcome::Lacks(Lack::Money) => &mut self.lacking_money,
+    /// Counts an instruction that stands so, where it is in a pair.
+    pub fn count(&mut self, standing: &Standing, is_against_payment: bool) {
+        let count = match standing.state {
+            State::Settled if is_against_payment => &mut self.settled_against_payment,
+            State::Settled => &mut self.settled_free,
+            State::Matched(Reason::Lack) => &mut self.lacking_securities,
+            State::Matched(Reason::Money) => &mut self.lacking_money,
+            State::Cancelled if standing.mate.is_some() => &mut self.cancelled,
+            _ => return,
         };
         *count = count.wrapping_add(1);
-    }
-
-    /// Counts a pair that was cancelled.
-    pub fn count_cancelled(&mut self) {
-        self.cancelled = self.cancelled.wrapping_add(1);
     }
 }
