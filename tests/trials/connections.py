@@ -4,6 +4,7 @@ from .room import copy, fails, passes, run, write, write_script
 
 ASKED = b"GET /sums HTTP/1.1\r\n\r\n"
 ANSWERED = b'HTTP/1.1 200 OK\r\nContent-Type: text/plain\r\nConnection: close\r\n\r\n{"cash":[],"securities":[]}'
+REFUSED = b"HTTP/1.1 413 Payload Too Large\r\nContent-Type: text/plain\r\nConnection: close\r\n\r\nrefused 413"
 
 SERVER = """
 import socket, sys
@@ -21,10 +22,15 @@ for _ in range(count + FEWER):
     client.settimeout(0.1)
     got = b""
     try:
-        while not got.endswith(b"\\r\\n\\r\\n") and (piece := client.recv(65536)):
+        while b"\\r\\n\\r\\n" not in got and (piece := client.recv(1024)):
             got += piece
         if got == ASKED:
             client.sendall(ANSWERED)
+        elif b"Content-Length: 70000" in got:
+            client.sendall(REFUSED)
+            client.shutdown(socket.SHUT_WR)
+            while READS_ON and client.recv(65536):
+                pass
     except OSError:
         pass
     client.close()
@@ -32,7 +38,16 @@ print(end=LAST)
 sys.exit(STATUS)
 """
 
-SOUND = {"ELSEWHERE": 0, "FEWER": 0, "LAST": "", "STATUS": 0, "ASKED": ASKED, "ANSWERED": ANSWERED}
+SOUND = {
+    "ELSEWHERE": 0,
+    "FEWER": 0,
+    "LAST": "",
+    "STATUS": 0,
+    "ASKED": ASKED,
+    "ANSWERED": ANSWERED,
+    "REFUSED": REFUSED,
+    "READS_ON": True,
+}
 
 
 def served(room, **broken):
@@ -48,9 +63,11 @@ def trials(room):
         copy(path, room)
     write(f"{room}/cases/sums.stdin", ASKED.decode())
     write(f"{room}/cases/sums.stdout", ANSWERED.decode())
-    yield passes("a program that serves", served(room), "16 passed, 0 failed\n")
+    yield passes("a program that serves", served(room), "18 passed, 0 failed\n")
     yield fails("another answer", served(room, ANSWERED=ANSWERED + b" "), "serve: cases/sums: not as it must be\n")
     yield fails("it listens elsewhere", served(room, ELSEWHERE=1), "serve: cases/sums: not as it must be\n")
     yield fails("it serves too few", served(room, FEWER=-1), "serve: cases/sums: not as it must be\n")
     yield fails("it says more at its end", served(room, LAST="x"), "serve: cases/sums: not as it must be\n")
     yield fails("it ends with another status", served(room, STATUS=1), "serve: cases/sums: not as it must be\n")
+    yield fails("a reset", served(room, READS_ON=False), "serve: a long body by 1000: not as it must be\n")
+    yield fails("another refusal", served(room, REFUSED=ANSWERED), "serve: a long body by 1000: not as it must be\n")

@@ -12,7 +12,7 @@ use Rattle.desk.specs.Input.{Came, MayGiveNone, failure_of}
 use Rattle.desk.specs.PlayAnswer.{IsPlayAnswer, IsPlayed, told_answers}
 use Rattle.desk.specs.PlayAnswer as plays
 use Rattle.desk.specs.Status.{IsFailureTold}
-use Rattle.desk.specs.Told.{numbers_told}
+use Rattle.desk.specs.Told.{Told, told_in}
 use Rattle.desk.specs.declared.status.Failure.{Failure}
 use Rattle.desk.specs.declared.status.Status.{Status}
 use Rattle.desk.specs.declared.status.Status.TheVariants as exit
@@ -33,8 +33,8 @@ played script input start answers U reads status same none done is =
     let answers_are : p.1 ≡ answers = sym (wrote ∙ ap (λ s. s ++ p.1) none) in
     subst P (sym (same ∙ came)) (subst Q answers_are p.3)
 
-pub found : (script answers numbers : List ℕ) (findings : List Found) → IsPlayed script answers → numbers ≡ numbers_told answers → findings ≡ findings_in script numbers → AreFound script findings
-found script answers numbers findings play told are = record { answers = answers; played = play; found = are ∙ ap (findings_in script) told }
+pub found : (script answers : List ℕ) (findings : List Found) → IsPlayed script answers → findings ≡ findings_in script (told_in answers) → AreFound script findings
+found script answers findings play are = record { answers = answers; played = play; found = are }
 
 -- what was read is what the reader had, and so it was told of that
 pub script_told : {E : Type 0} (r : Result Status E) (given : Option (List ℕ)) (U : Type 0) (reads : Bool) (script : List ℕ) (P : List ℕ → Type 0) → IfSome given (λ input. script ≡ input) → IfOk r (λ status. IsFindingsAnswer script status P)
@@ -66,12 +66,12 @@ when_ok : {X E : Type 0} (o : Option X) (r : Result X E) (P Q : X → Type 0) �
 when_ok (Some x) r P Q same then is = then x (known_ok x r P same is)
 when_ok None r P Q same then is = tt
 
-pub found_all : {X Y E F : Type 0} (items : X → List Found) (list : Y → List ℕ) (script answers slice others : List ℕ) (numbers : Y) (read : Result Y E) (o : Option X) (r : Result X F) → slice ≡ answers → others ≡ list numbers
-    → IsPlayed script answers → Some numbers ≡ result_ok read → IfOk read (λ n. list n ≡ numbers_told slice) → o ≡ result_ok r → IfOk r (λ x. items x ≡ findings_in script others)
-    → IfSome o (λ x. AreFound script (items x))
-found_all items list script answers slice others numbers read o r same same_others play taken told given are =
-    let numbers_are : list numbers ≡ numbers_told answers = known_ok numbers read (λ n. list n ≡ numbers_told slice) taken told ∙ ap numbers_told same in
-    when_ok o r (λ x. items x ≡ findings_in script others) (λ x. AreFound script (items x)) given (λ x is. found script answers others (items x) play (same_others ∙ numbers_are) is) are
+-- what is found by what was told is what is found by the answers
+pub found_all : {X Y E F : Type 0} (items : X → List Found) (list : Y → List Told) (script answers : List ℕ) (others : List Told) (told : Y) (read : Result Y E) (o : Option X) (r : Result X F) → others ≡ list told
+    → Some told ≡ result_ok read → IfOk read (λ n. list n ≡ told_in answers) → o ≡ result_ok r → IfOk r (λ x. items x ≡ findings_in script others) → IfSome o (λ x. items x ≡ findings_in script (told_in answers))
+found_all items list script answers others told read o r same taken is given are =
+    let told_are : others ≡ told_in answers = same ∙ known_ok told read (λ n. list n ≡ told_in answers) taken is in
+    when_ok o r (λ x. items x ≡ findings_in script others) (λ x. items x ≡ findings_in script (told_in answers)) given (λ x all. all ∙ ap (findings_in script) told_are) are
 
 -- what was found was told
 pub told_of : {F : Type 0} (value : F → Found) (script : List ℕ) (items slice again : List F) (status : Status) (before after : Option (List ℕ)) → slice ≡ items → again ≡ items → AreFound script (map value items)

@@ -6,7 +6,7 @@ use Rattle.desk.specs.Finding.{Found, findings_in, report_text}
 use Rattle.desk.specs.Input.{Came, MayGiveNone, failure_of}
 use Rattle.desk.specs.PlayAnswer.{IsPlayed}
 use Rattle.desk.specs.Status.{IsFailureTold}
-use Rattle.desk.specs.Told.{numbers_told}
+use Rattle.desk.specs.Told.{told_in}
 use Rattle.desk.specs.declared.status.Failure.TheVariants.{Memory}
 use Rattle.desk.specs.declared.status.Status.{Status}
 use Rattle.desk.specs.declared.status.Status.TheVariants as exit
@@ -20,7 +20,7 @@ status_of_findings findings = exit.Refused
 pub record AreFound (script : List ℕ) (findings : List Found) : Type 0 where
   pub answers : List ℕ
   pub played : IsPlayed script answers
-  pub found : findings ≡ findings_in script (numbers_told answers)
+  pub found : findings ≡ findings_in script (told_in answers)
 
 -- What was told of a script: what is found in it by its answers; or want of memory, of a script that is not too long.
 pub data IsFindingsAnswer (script : List ℕ) (status : Status) (IsPrinted : List ℕ → Type 0) : Type 0 where

@@ -1,7 +1,7 @@
-//! What is found in a script by its answers: its lines, the numbers that the answers tell, and which line has which.
+//! What is found in a script by its answers: its lines, what the answers tell, and which line has which.
 mod finding;
 mod lines;
 mod told;
 
 pub use finding::{Finding, findings_in, tell_findings};
-pub use told::numbers_told;
+pub use told::told_in;

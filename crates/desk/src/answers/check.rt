@@ -1,12 +1,13 @@
 //! `desk check`.
 ghost use Rattle.std.specs.Prelude.{◌≡◌, ◌≤◌, length, true, map, IfOk, IfSome, OnErr};
 ghost use Rattle.std.specs.Io.KnownBytes.{Appends};
-ghost use Rattle.desk.specs.CheckAnswer.{AreFound, IsCheckAnswer, IsFindingsAnswer, status_of_findings};
-ghost use Rattle.desk.specs.Finding.{found_by};
+ghost use Rattle.desk.specs.CheckAnswer.{IsCheckAnswer, IsFindingsAnswer, status_of_findings};
+ghost use Rattle.desk.specs.Finding.{findings_in as all_found, found_by};
 ghost use Rattle.desk.specs.PlayAnswer.{IsPlayed};
+ghost use Rattle.desk.specs.Told.{told_in as all_told};
 
 use super::play::answer_play;
-use crate::findings::{Finding, findings_in, numbers_told, tell_findings};
+use crate::findings::{Finding, findings_in, tell_findings, told_in};
 use crate::status::{Failure, Status, tell_failure};
 use desk_book::{LONGEST_SCRIPT, read_whole};
 use desk_streams::{Sink, Source};
@@ -37,7 +38,24 @@ fn check_script<W: Sink>(alloc: Global, script: &[u8], writer: &mut W) -> io::Re
     ensures told { IfOk result (λ status. IsFindingsAnswer script.now status (Appends (W.contents writer.old) (W.contents writer.new))) }
     ensures failed { OnErr result (W.may_fail ≡ true) }
 {
-    match found_in(alloc, script) {
+    match answers_to(alloc, script) {
+        Some(answers) => check_answers(alloc, script, answers.as_slice(), writer),
+        None => tell_failure(Failure::Memory, writer),
+    }
+}
+
+/// As `check_script`, of a script that was answered so.
+fn check_answers<W: Sink>(
+    alloc: Global,
+    script: &[u8],
+    answers: &[u8],
+    writer: &mut W,
+) -> io::Result<Status>
+    requires { IsPlayed script.now answers.now }
+    ensures told { IfOk result (λ status. IsFindingsAnswer script.now status (Appends (W.contents writer.old) (W.contents writer.new))) }
+    ensures failed { OnErr result (W.may_fail ≡ true) }
+{
+    match found_in(alloc, script, answers) {
         Some(findings) => {
             tell_findings(findings.as_slice(), writer)?;
             Ok(status_of(findings.as_slice()))
@@ -56,13 +74,12 @@ fn status_of(findings: &[Finding<'_>]) -> Status
     }
 }
 
-/// What is found in a script by the answers that it gets; None where memory is wanting.
-fn found_in(alloc: Global, script: &[u8]) -> Option<Vec<Finding<'_>>>
-    ensures { IfSome result (λ findings. AreFound script.entry.now (map found_by findings.items)) }
+/// What is found in a script by its answers; None where memory is wanting.
+fn found_in<'a>(alloc: Global, script: &'a [u8], answers: &'a [u8]) -> Option<Vec<Finding<'a>>>
+    ensures { IfSome result (λ findings. map found_by findings.items ≡ all_found script.entry.now (all_told answers.entry.now)) }
 {
-    let answers = answers_to(alloc, script)?;
-    let numbers = numbers_told(alloc, answers.as_slice()).ok()?;
-    findings_in(alloc, script, numbers.as_slice()).ok()
+    let told = told_in(alloc, answers).ok()?;
+    findings_in(alloc, script, told.as_slice()).ok()
 }
 
 /// The answers to a script, as `desk play` writes them; None where memory is wanting.

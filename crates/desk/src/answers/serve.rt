@@ -9,18 +9,24 @@ ghost use Rattle.desk.specs.ServeAnswer.{HoldsOn, IsServeAnswer, listening_line}
 
 use crate::status::{Failure, Status, tell_failure};
 use crate::words::Service;
-use desk_book::Desk;
+use desk_book::{CHUNK, Desk};
 use desk_http::{Routes, serve_one};
 use desk_index::IndexedRegister;
 use desk_rules::MOST_ENTRIES;
 use desk_streams::Sink;
 use std::alloc::Global;
-use std::io;
-use std::net::{Ipv4Addr, Net, TcpListener, TcpStream};
+use std::io::{self, Read};
+use std::net::{Ipv4Addr, Net, Shutdown, TcpListener, TcpStream};
 use std::time::Duration;
 
 /// So many seconds may a read, or a write, of a connection wait for its client.
 const PATIENCE: u64 = 10;
+
+/// So many seconds may a read wait for what a client still sends, once it is served.
+const LAST_PATIENCE: u64 = 1;
+
+/// So many reads, of `CHUNK` bytes, take in at most what a client still sends.
+const MOST_LAST_READS: usize = 1024;
 
 /// Serves so many connections at a port of 127.0.0.1, one after another, on a new desk in memory, once it has told that it
 /// listens. A connection that fails, and one that could not be accepted, counts and is passed over. `fault 60` tells that
@@ -60,6 +66,7 @@ fn serve_all(
     'connections: for _ in 0..count {
         if let Ok((stream, _)) = listener.accept() {
             serve_stream(alloc, routes, &stream, desk);
+            see_off(&stream);
         }
     }
 }
@@ -93,4 +100,21 @@ fn serve_stream(
     let mut reader = stream;
     let mut writer = stream;
     let _ = serve_one(alloc, routes, &mut reader, &mut writer, desk);
+}
+
+/// Tells a client that nothing more comes, and takes in what it still sends, within bounds, until it has closed (RFC 9112,
+/// section 9.6). A connection that is closed with bytes unread is reset, and its client may lose the answer.
+fn see_off(stream: &TcpStream) {
+    let patience = Some(Duration::from_secs(LAST_PATIENCE));
+    if stream.shutdown(Shutdown::Write).is_err() || stream.set_read_timeout(patience).is_err() {
+        return;
+    }
+    let mut reader = stream;
+    let mut chunk = [0; CHUNK];
+    for _ in 0..MOST_LAST_READS {
+        match reader.read(&mut chunk) {
+            Ok(0) | Err(_) => return,
+            Ok(_) => {}
+        }
+    }
 }

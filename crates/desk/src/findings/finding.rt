@@ -1,17 +1,19 @@
 //! What is found in a script by its answers.
-ghost use Rattle.std.specs.Prelude.{◌≡◌, [], ◌∷◌, map, take, true, IfOk, MatchOption, OnErr, OnOk};
+ghost use Rattle.std.specs.Prelude.{◌≡◌, ◌≤◌, [], ◌∷◌, length, map, take, true, IfOk, MatchOption, OnErr, OnOk};
 ghost use Rattle.std.specs.List.{flat_map};
 ghost use Rattle.std.specs.Io.KnownBytes.{Appends};
 ghost use Rattle.desk_words.specs.Causes.{heading_of};
-ghost use Rattle.desk.specs.Finding.{asks as may_ask, count_of as how_many, count_text, finding_text, findings_in as all_found, found_at, found_by, found_here, in_body_behind, numbers_behind, place_text, report_text, told_text};
+ghost use Rattle.desk.specs.Finding.{asks as may_ask, count_of as how_many, count_text, finding_text, findings_in as all_found, found_at, found_by, found_here, front_text, in_body_behind, place_text, report_text, shown as is_shown_as, told_behind, told_text};
+ghost use Rattle.desk.specs.Told.{told_by};
 
 use super::lines::{first_line, has_body, is_skipped, is_stop, said_by};
+use super::told::Telling;
 use desk_streams::Sink;
 use desk_words::{CAUSES, Cause};
 use std::alloc::{AllocError, Global};
 use std::io;
 
-/// So many bytes of a line are told.
+/// So many bytes of a line are told, and of what stands behind a number.
 pub const TOLD: usize = 40;
 
 /// A line of a script, and the cause that is told in place of an answer to it.
@@ -22,21 +24,23 @@ pub struct Finding<'a> {
     /// What it says
     pub said: &'a [u8],
     pub cause: Cause,
+    /// What the answer tells behind the number of the cause
+    pub rest: &'a [u8],
 }
 
-/// What is found in a script by the numbers that its answers tell, one for each.
+/// What is found in a script by what its answers tell, one for each.
 pub fn findings_in<'a>(
     alloc: Global,
     script: &'a [u8],
-    numbers: &[u8],
+    told: &[Telling<'a>],
 ) -> Result<Vec<Finding<'a>>, AllocError>
-    ensures { IfOk result (λ findings. map found_by findings.items ≡ all_found script.entry.now numbers.now) }
+    ensures { IfOk result (λ findings. map found_by findings.items ≡ all_found script.entry.now (map told_by told.now)) }
 {
     let mut findings = Vec::new(alloc);
     let mut count = 0;
     let mut in_body = false;
     let mut rest = script;
-    let mut left = numbers;
+    let mut left = told;
     while let Some((line, after)) = first_line(rest) {
         count += 1;
         if let Some(finding) = finding_here(in_body, count, line, left) {
@@ -49,28 +53,28 @@ pub fn findings_in<'a>(
     Ok(findings)
 }
 
-/// What is found at a line, the first of the numbers being that of its answer where it asks something.
+/// What is found at a line, the first that is told being told by its answer where it asks something.
 fn finding_here<'a>(
     in_body: bool,
     line: usize,
     text: &'a [u8],
-    numbers: &[u8],
+    told: &[Telling<'a>],
 ) -> Option<Finding<'a>>
-    ensures { MatchOption result (found_here in_body line text.entry.now numbers.now ≡ []) (λ finding. found_here in_body line text.entry.now numbers.now ≡ found_by finding ∷ []) }
+    ensures { MatchOption result (found_here in_body line text.entry.now (map told_by told.now) ≡ []) (λ finding. found_here in_body line text.entry.now (map told_by told.now) ≡ found_by finding ∷ []) }
 {
     if !asks(in_body, text) {
         return None;
     }
-    finding_at(line, text, numbers)
+    finding_at(line, text, told)
 }
 
-/// The numbers that are left behind a line.
-fn left_behind<'n>(in_body: bool, line: &[u8], numbers: &'n [u8]) -> &'n [u8]
-    ensures { result.now ≡ numbers_behind in_body line.now numbers.entry.now }
+/// What is left behind a line of what is told.
+fn left_behind<'t, 'a>(in_body: bool, line: &[u8], told: &'t [Telling<'a>]) -> &'t [Telling<'a>]
+    ensures { map told_by result.now ≡ told_behind in_body line.now (map told_by told.entry.now) }
 {
-    match numbers {
+    match told {
         [_, rest @ ..] if asks(in_body, line) => rest,
-        _ => numbers,
+        _ => told,
     }
 }
 
@@ -92,14 +96,20 @@ fn asks(in_body: bool, line: &[u8]) -> bool
     !in_body && !is_skipped(said_by(line))
 }
 
-/// What is found at a line that asks something, the first of the numbers being that of its answer.
-fn finding_at<'a>(line: usize, text: &'a [u8], numbers: &[u8]) -> Option<Finding<'a>>
-    ensures { MatchOption result (found_at line text.entry.now numbers.now ≡ []) (λ finding. found_at line text.entry.now numbers.now ≡ found_by finding ∷ []) }
+/// What is found at a line that asks something, the first that is told being told by its answer.
+fn finding_at<'a>(line: usize, text: &'a [u8], told: &[Telling<'a>]) -> Option<Finding<'a>>
+    ensures { MatchOption result (found_at line text.entry.now (map told_by told.now) ≡ []) (λ finding. found_at line text.entry.now (map told_by told.now) ≡ found_by finding ∷ []) }
 {
-    let number = numbers.first()?;
-    let cause = Cause::of_number(*number)?;
+    let telling = told.first()?;
+    let cause = Cause::of_number(telling.number)?;
     let said = said_by(text);
-    Some(Finding { line, said, cause })
+    let rest = telling.rest;
+    Some(Finding {
+        line,
+        said,
+        cause,
+        rest,
+    })
 }
 
 /// Writes each finding in a line, and then how many tell each cause.
@@ -126,7 +136,7 @@ fn tell_line<W: Sink>(finding: &Finding<'_>, writer: &mut W) -> io::Result<()>
     ensures failed { OnErr result (W.may_fail ≡ true) }
 {
     tell_place(finding.line, finding.said, writer)?;
-    tell_meaning(finding.cause, writer)
+    tell_cause(finding.cause, finding.rest, writer)
 }
 
 fn tell_place<W: Sink>(line: usize, said: &[u8], writer: &mut W) -> io::Result<()>
@@ -134,27 +144,59 @@ fn tell_place<W: Sink>(line: usize, said: &[u8], writer: &mut W) -> io::Result<(
     ensures failed { OnErr result (W.may_fail ≡ true) }
 {
     writer.put_text(format_args!("line {line}: "))?;
-    writer.put(front_of(said))
+    tell_front(said, writer)
 }
 
-/// So much of a line as is told.
-fn front_of(said: &[u8]) -> &[u8]
-    ensures { result.now ≡ take TOLD said.now }
-{
-    if said.len() <= TOLD {
-        return said;
-    }
-    &said[..TOLD]
-}
-
-fn tell_meaning<W: Sink>(cause: Cause, writer: &mut W) -> io::Result<()>
-    ensures written { OnOk result (Appends (W.contents writer.old) (W.contents writer.new) (told_text cause)) }
+/// Writes what a cause is told with: its number, what stands behind it, and what it means.
+fn tell_cause<W: Sink>(cause: Cause, rest: &[u8], writer: &mut W) -> io::Result<()>
+    ensures written { OnOk result (Appends (W.contents writer.old) (W.contents writer.new) (told_text cause rest.now)) }
     ensures failed { OnErr result (W.may_fail ≡ true) }
 {
-    let number = cause.number();
-    let word = if number < 60 { "refused" } else { "fault" };
+    writer.put(b": ")?;
+    tell_heading(cause, writer)?;
+    tell_front(rest, writer)?;
     let meaning = cause.meaning();
-    writer.put_text(format_args!(": {word} {number}: {meaning}\n"))
+    writer.put_text(format_args!(": {meaning}\n"))
+}
+
+/// Writes so much of a text as is told, as it is shown.
+fn tell_front<W: Sink>(text: &[u8], writer: &mut W) -> io::Result<()>
+    ensures written { OnOk result (Appends (W.contents writer.old) (W.contents writer.new) (front_text text.now)) }
+    ensures failed { OnErr result (W.may_fail ≡ true) }
+{
+    let front = front_of(text);
+    let shown = shown_front(front);
+    writer.put(&shown[..front.len()])
+}
+
+/// So much of a text as is told.
+fn front_of(text: &[u8]) -> &[u8]
+    ensures front { result.now ≡ take TOLD text.now }
+    ensures within { length result.now ≤ TOLD }
+{
+    if text.len() <= TOLD {
+        return text;
+    }
+    &text[..TOLD]
+}
+
+/// A short text as it is shown, at the beginning of what is given.
+fn shown_front(front: &[u8]) -> [u8; TOLD]
+    requires { length front.now ≤ TOLD }
+    ensures shown { take (length front.now) result ≡ map is_shown_as front.now }
+{
+    let mut text = [0; TOLD];
+    for (index, c) in front.iter().enumerate() {
+        text[index] = shown(*c);
+    }
+    text
+}
+
+/// How a byte is shown: as itself where it is printable, else as a question mark.
+fn shown(c: u8) -> u8
+    ensures { result ≡ is_shown_as c }
+{
+    if c >= b' ' && c <= b'~' { c } else { b'?' }
 }
 
 fn tell_counts<W: Sink>(

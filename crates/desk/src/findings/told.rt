@@ -1,80 +1,108 @@
-//! The numbers that answers tell.
-ghost use Rattle.std.specs.Prelude.{◌≡◌, ◌≤◌, ◌==◌, length, List, ℕ, [], ◌∷◌, ◌++◌, IfOk, MatchOption, true, false};
+//! What answers tell in place of what was asked for.
+ghost use Rattle.std.specs.Prelude.{◌≡◌, ◌≤◌, ◌==◌, length, List, ℕ, [], ◌∷◌, ◌++◌, map, IfOk, MatchOption, true, false};
 ghost use Rattle.desk_book.specs.Lines.{script_lines};
-ghost use Rattle.desk.specs.Told.{ended, front_number as number_in_front, has_front as begins, next_place, number_of_line, numbers_from, numbers_told as numbers_of};
-ghost use Rattle.desk.specs.declared.findings.told.Place.TheVariants.{Before as before_answers};
+ghost use Rattle.desk.specs.Told.{behind_number as behind_number_of, behind_words as behind_words_of, ended, front_number as number_in_front, has_front as begins, next_stand, nothing as nothing_told, stand_of, told_by, told_from, told_in as all_told, told_in_line};
 
-use super::lines::{first_line, is_stop};
+use super::lines::{first_line, is_stop, said_by};
 use std::alloc::{AllocError, Global};
+
+/// What an answer tells in place of what was asked for.
+#[derive(Clone, Copy, Debug, PartialEq, Eq)]
+pub struct Telling<'a> {
+    /// The number of a refusal or a fault; 0 where it tells none
+    pub number: u8,
+    /// What stands behind the number in its line: nothing, or a line's number or a field's word with a space before it
+    pub rest: &'a [u8],
+}
 
 /// Where a reader of answers stands.
 #[derive(Clone, Copy, Debug, PartialEq, Eq)]
-pub enum Place {
+pub enum Place<'a> {
     /// In front of an answer
     Before,
     /// In an answer of status 200
     Accepted,
-    /// In another, of which this number was told so far, 0 where none was
-    Other(u8),
+    /// In another, which told this so far
+    Other(Telling<'a>),
 }
 
-/// The numbers that answers tell, one for each, in their order: 0 of an answer of status 200, and of one that tells none.
-pub fn numbers_told(alloc: Global, answers: &[u8]) -> Result<Vec<u8>, AllocError>
-    ensures { IfOk result (λ numbers. numbers.items ≡ numbers_of answers.now) }
+/// What answers tell, one of each, in their order: nothing of an answer of status 200, and of one that tells no number.
+pub fn told_in<'a>(alloc: Global, answers: &'a [u8]) -> Result<Vec<Telling<'a>>, AllocError>
+    ensures { IfOk result (λ told. map told_by told.items ≡ all_told answers.entry.now) }
 {
-    let mut numbers = Vec::new(alloc);
+    let mut told = Vec::new(alloc);
     let mut place = Place::Before;
     let mut rest = answers;
     while let Some((line, after)) = first_line(rest) {
-        if let Some(number) = number_ended(place, line) {
-            numbers.push(number)?;
+        if let Some(telling) = told_at_end(place, line) {
+            told.push(telling)?;
         }
         place = place_behind(place, line);
         rest = after;
     }
-    Ok(numbers)
+    Ok(told)
 }
 
-/// The number of the answer that a line ends, if it ends one.
-fn number_ended(place: Place, line: &[u8]) -> Option<u8>
-    ensures { MatchOption result (ended place line.now ≡ []) (λ number. ended place line.now ≡ number ∷ []) }
+/// What the answer tells that a line ends, if it ends one.
+fn told_at_end<'a>(place: Place<'a>, line: &[u8]) -> Option<Telling<'a>>
+    ensures { MatchOption result (ended (stand_of place.entry) line.now ≡ []) (λ telling. ended (stand_of place.entry) line.now ≡ told_by telling ∷ []) }
 {
     if !is_stop(line) {
         return None;
     }
     match place {
         Place::Before => None,
-        Place::Accepted => Some(0),
-        Place::Other(number) => Some(number),
+        Place::Accepted => Some(nothing()),
+        Place::Other(telling) => Some(telling),
     }
 }
 
 /// Where a reader stands behind a line.
-fn place_behind(place: Place, line: &[u8]) -> Place
-    ensures { result ≡ next_place place line.now }
+fn place_behind<'a>(place: Place<'a>, line: &'a [u8]) -> Place<'a>
+    ensures { stand_of result ≡ next_stand (stand_of place.entry) line.entry.now }
 {
     match place {
         Place::Before if has_front(b"200", line) => Place::Accepted,
-        Place::Before => Place::Other(0),
+        Place::Before => Place::Other(nothing()),
         _ if is_stop(line) => Place::Before,
         Place::Accepted => Place::Accepted,
-        Place::Other(0) => Place::Other(number_told(line)),
-        Place::Other(number) => Place::Other(number),
+        Place::Other(telling) if telling.number == 0 => Place::Other(telling_in(line)),
+        Place::Other(telling) => Place::Other(telling),
     }
 }
 
-/// The number that a line tells; 0 where it tells none.
-fn number_told(line: &[u8]) -> u8
-    ensures { result ≡ number_of_line line.now }
+/// That no number is told.
+fn nothing<'a>() -> Telling<'a>
+    ensures { told_by result ≡ nothing_told }
 {
-    if has_front(b"refused ", line) {
-        front_number(&line[8..])
-    } else if has_front(b"fault ", line) {
-        front_number(&line[6..])
-    } else if has_front(b":70D::REAS//DESK ", line) {
-        front_number(&line[17..])
+    Telling {
+        number: 0,
+        rest: &[],
+    }
+}
+
+/// What a line tells.
+fn telling_in(line: &[u8]) -> Telling<'_>
+    ensures { told_by result ≡ told_in_line line.entry.now }
+{
+    let text = behind_words(said_by(line));
+    let number = front_number(text);
+    let rest = behind_number(text);
+    Telling { number, rest }
+}
+
+/// What stands behind the words with which a line tells a number; nothing where it tells none.
+fn behind_words(said: &[u8]) -> &[u8]
+    ensures { result.now ≡ behind_words_of said.entry.now }
+{
+    if has_front(b"refused ", said) {
+        &said[8..]
+    } else if has_front(b"fault ", said) {
+        &said[6..]
+    } else if has_front(b":70D::REAS//DESK ", said) {
+        &said[17..]
     } else {
-        0
+        &[]
     }
 }
 
@@ -96,5 +124,16 @@ fn front_number(text: &[u8]) -> u8
         }
         [ones, ..] if ones.is_ascii_digit() => *ones - b'0',
         _ => 0,
+    }
+}
+
+/// What stands behind the digits of that number.
+fn behind_number(text: &[u8]) -> &[u8]
+    ensures { result.now ≡ behind_number_of text.entry.now }
+{
+    match text {
+        [tens, ones, rest @ ..] if tens.is_ascii_digit() && ones.is_ascii_digit() => rest,
+        [ones, rest @ ..] if ones.is_ascii_digit() => rest,
+        _ => text,
     }
 }

@@ -52,10 +52,13 @@ with #, asks nothing. Each other line asks:
   holdings BIC ACCOUNT  what the participant's account holds
   sums                  the totals of all accounts and participants
 A body is the lines up to one that is a full stop, of at most 65536 bytes; lines that begin with # and
-empty ones belong to it.
+empty ones belong to it. So a message with a line that is a full stop cannot be sent by a script: what
+stands behind that line is taken for lines of the script, which may be commands. Who makes a script of
+messages that others wrote must first refuse such a line, or send them over HTTP (desk serve).
 An answer is its status and, of a message, its type; the text; and a line that is a full stop. The status
 is 200, or 400 for what cannot be read, 422 for what is refused and 503 where memory is wanting; `desk
-explain` tells what the numbers behind `refused` and `fault` mean. docs/RULES.md tells all of it.
+explain` tells what the numbers behind `refused` and `fault` mean. A script that cannot be read, or is too
+long, is `fault io`, and nothing of it is asked. docs/RULES.md tells all of it.
 
 Example:
   ./desk play < examples/day/day.script";
@@ -63,18 +66,27 @@ Example:
 /// Of `desk check`
 pub const CHECK: &str = "\
 Of each answer whose status is not 200 it prints a line: the line of the script where the request begins,
-the first 40 bytes of that line, and what the number means that is told. At its end it prints how many tell
-each number. Its status is 1 where there is any, and 0 where there is none.
+the first 40 bytes of that line, the number that is told with what stands behind it, and what the number
+means. What is not printable is shown as `?`. At its end it prints how many tell each number. Its status is
+1 where there is any, and 0 where there is none.
 
 Example:
   ./desk check < examples/day/day.script | tail -n 4";
 
 /// Of `desk explain`
 pub const EXPLAIN: &str = "\
+These are the numbers of the desk. `refused 404` and its like, with three digits, are HTTP's own: the status
+of the answer once more. `fault io` tells that what was to be read could not be, that the script is too
+long, or that the port of `desk serve` is in use or may not be had.
+
 Example:
   ./desk explain 12";
 
 /// Of `desk serve`
 pub const SERVE: &str = "\
+It asks nobody who he is: it takes commands from everybody who reaches the port. Where the port is in use,
+or may not be had, it is `fault io`. An answer with the text `refused NNN`, NNN being its status, is HTTP's
+own; of other numbers `desk explain` tells what they mean. docs/RULES.md has the requests.
+
 Example:
   ./desk serve --port 8000 --count 100";
