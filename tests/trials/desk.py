@@ -1,5 +1,6 @@
 """Trials of ./desk, in checkouts of their own with made-up programs and a made-up rt."""
 
+import functools
 import os
 import re
 import shutil
@@ -154,7 +155,9 @@ def trials_of_interrupts(room):
     for number in (signal.SIGINT, signal.SIGTERM, signal.SIGHUP):
         write_script(rt, f"mktemp >/dev/null; echo $$ >{room}/began.new; mv {room}/began.new {room}/began; sleep 60")
         how = {"env": surroundings, "stdin": subprocess.DEVNULL, "stderr": subprocess.PIPE, "start_new_session": True}
-        desk = subprocess.Popen([script], **how)
+        # (what a gate in the background ignores would be ignored by what it starts)
+        default = functools.partial(signal.signal, number, signal.SIG_DFL)
+        desk = subprocess.Popen([script], preexec_fn=default, **how)
         while not os.path.exists(f"{room}/began"):
             time.sleep(0.01)
         with open(f"{room}/began", encoding="utf-8") as file:
