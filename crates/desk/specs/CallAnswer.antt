@@ -1,5 +1,5 @@
 -- What is answered to what is asked for, and to words of any kind.
-use Rattle.std.specs.Prelude.{◌≡◌, ◌⊎◌, ℕ, Bool, true, List, Option}
+use Rattle.std.specs.Prelude.{◌≡◌, ℕ, Bool, List, Option}
 use Rattle.clap.specs.declared.error.kind.ErrorKind.{ErrorKind}
 use Rattle.desk.specs.CheckAnswer.{IsCheckAnswer}
 use Rattle.desk.specs.ExplainAnswer.{IsExplainAnswer}
@@ -31,12 +31,3 @@ pub data IsAnswer (words : List (List ℕ)) (given : Option (List ℕ)) (IsUnrea
   told_call : (asked : CallValue) → IsSaidBy asked words → IsCallAnswer asked given IsUnread may_fail status IsPrinted → IsAnswer words given IsUnread may_fail status IsPrinted
   told_error : (kind : ErrorKind) → IsErrorIn kind words → IsUnread → status ≡ status_of_error kind → IsAnswer words given IsUnread may_fail status IsPrinted
   told_memory : IsMemoryTold IsUnread status IsPrinted → IsAnswer words given IsUnread may_fail status IsPrinted
-
--- The answer of a call may break off where the writer may fail; of a script that is played it is not said that it may.
-abbrev pub MayBreakOff : CallValue → Bool → Type 0
-MayBreakOff play may_fail = Unit {0}
-MayBreakOff asked may_fail = may_fail ≡ true
-
--- and so may that of words
-abbrev pub MayBreakOffAt : List (List ℕ) → Bool → Type 0
-MayBreakOffAt words may_fail = (may_fail ≡ true) ⊎ IsSaidBy play words

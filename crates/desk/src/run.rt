@@ -1,9 +1,9 @@
 //! What the words ask for, answered.
-ghost use Rattle.std.specs.Prelude.{◌≡◌, ◌⊎◌, ℕ, List, [], ◌∷◌, true, map, IfOk, MatchResult, OnErr};
+ghost use Rattle.std.specs.Prelude.{◌≡◌, ◌⊎◌, ℕ, List, [], ◌∷◌, true, map, IfOk, OnErr};
 ghost use Rattle.std.specs.Io.KnownBytes.{Appends};
 ghost use Rattle.std.specs.IoError.{error_kind};
 ghost use Rattle.clap.specs.Words.{kind_of};
-ghost use Rattle.desk.specs.CallAnswer.{IsAnswer, IsCallAnswer, IsMemoryTold, MayBreakOff, MayBreakOffAt};
+ghost use Rattle.desk.specs.CallAnswer.{IsAnswer, IsCallAnswer, IsMemoryTold};
 ghost use Rattle.desk.specs.Status.{IsFailureTold, IsNoWordsTold, status_of_error};
 ghost use Rattle.desk.specs.Words.{CallValue, IsAskable, ReadsOnlyInstructions, value_of_call, words_for};
 
@@ -28,14 +28,14 @@ pub fn run<N: Net<Listener = TcpListener, Stream = TcpStream>, S: AsStr, R: Sour
     writer: &mut W,
 ) -> Status
     ensures asked { (program : List ℕ) (asked : CallValue) → IsAskable asked → map S.text words.now ≡ program ∷ words_for asked
-        → ((result ≡ Status.Fault) × MayBreakOff asked W.may_fail)
+        → ((result ≡ Status.Fault) × (W.may_fail ≡ true))
         ⊎ (IsMemoryTold (reader.new ≡ reader.old) result (Appends (W.contents writer.old) (W.contents writer.new))
         ⊎ IsCallAnswer asked (R.remaining reader.old) (reader.new ≡ reader.old) R.may_fail result (Appends (W.contents writer.old) (W.contents writer.new))) }
     ensures nothing { (program : List ℕ) → map S.text words.now ≡ program ∷ []
-        → ((result ≡ Status.Fault) × MayBreakOff CallValue.play W.may_fail)
+        → ((result ≡ Status.Fault) × (W.may_fail ≡ true))
         ⊎ (IsMemoryTold (reader.new ≡ reader.old) result (Appends (W.contents writer.old) (W.contents writer.new))
         ⊎ IsCallAnswer CallValue.play (R.remaining reader.old) (reader.new ≡ reader.old) R.may_fail result (Appends (W.contents writer.old) (W.contents writer.new))) }
-    ensures told { ((result ≡ Status.Fault) × MayBreakOffAt (map S.text words.now) W.may_fail)
+    ensures told { ((result ≡ Status.Fault) × (W.may_fail ≡ true))
         ⊎ IsAnswer (map S.text words.now) (R.remaining reader.old) (reader.new ≡ reader.old) R.may_fail result (Appends (W.contents writer.old) (W.contents writer.new)) }
 {
     answer_words(net, alloc, words, reader, writer).unwrap_or(Status::Fault)
@@ -50,13 +50,13 @@ fn answer_words<N: Net<Listener = TcpListener, Stream = TcpStream>, S: AsStr, R:
     writer: &mut W,
 ) -> io::Result<Status>
     ensures asked { (program : List ℕ) (asked : CallValue) → IsAskable asked → map S.text words.now ≡ program ∷ words_for asked
-        → MatchResult result (λ status. IsMemoryTold (reader.new ≡ reader.old) status (Appends (W.contents writer.old) (W.contents writer.new))
-        ⊎ IsCallAnswer asked (R.remaining reader.old) (reader.new ≡ reader.old) R.may_fail status (Appends (W.contents writer.old) (W.contents writer.new))) (λ error. MayBreakOff asked W.may_fail) }
+        → IfOk result (λ status. IsMemoryTold (reader.new ≡ reader.old) status (Appends (W.contents writer.old) (W.contents writer.new))
+        ⊎ IsCallAnswer asked (R.remaining reader.old) (reader.new ≡ reader.old) R.may_fail status (Appends (W.contents writer.old) (W.contents writer.new))) }
     ensures nothing { (program : List ℕ) → map S.text words.now ≡ program ∷ []
-        → MatchResult result (λ status. IsMemoryTold (reader.new ≡ reader.old) status (Appends (W.contents writer.old) (W.contents writer.new))
-        ⊎ IsCallAnswer CallValue.play (R.remaining reader.old) (reader.new ≡ reader.old) R.may_fail status (Appends (W.contents writer.old) (W.contents writer.new))) (λ error. MayBreakOff CallValue.play W.may_fail) }
-    ensures told { MatchResult result (λ status. IsAnswer (map S.text words.now) (R.remaining reader.old) (reader.new ≡ reader.old) R.may_fail status (Appends (W.contents writer.old) (W.contents writer.new)))
-        (λ error. MayBreakOffAt (map S.text words.now) W.may_fail) }
+        → IfOk result (λ status. IsMemoryTold (reader.new ≡ reader.old) status (Appends (W.contents writer.old) (W.contents writer.new))
+        ⊎ IsCallAnswer CallValue.play (R.remaining reader.old) (reader.new ≡ reader.old) R.may_fail status (Appends (W.contents writer.old) (W.contents writer.new))) }
+    ensures told { IfOk result (λ status. IsAnswer (map S.text words.now) (R.remaining reader.old) (reader.new ≡ reader.old) R.may_fail status (Appends (W.contents writer.old) (W.contents writer.new))) }
+    ensures failed { OnErr result (W.may_fail ≡ true) }
 {
     match call_of(alloc, words) {
         Ok(call) => answer(net, alloc, call, reader, writer),
@@ -73,8 +73,8 @@ fn answer<N: Net<Listener = TcpListener, Stream = TcpStream>, R: Source, W: Sink
     writer: &mut W,
 ) -> io::Result<Status>
     requires { ReadsOnlyInstructions call }
-    ensures { MatchResult result (λ status. IsCallAnswer (value_of_call call.entry) (R.remaining reader.old) (reader.new ≡ reader.old) R.may_fail status (Appends (W.contents writer.old) (W.contents writer.new)))
-        (λ error. MayBreakOff (value_of_call call.entry) W.may_fail) }
+    ensures told { IfOk result (λ status. IsCallAnswer (value_of_call call.entry) (R.remaining reader.old) (reader.new ≡ reader.old) R.may_fail status (Appends (W.contents writer.old) (W.contents writer.new))) }
+    ensures failed { OnErr result (W.may_fail ≡ true) }
 {
     match call {
         Call::Isin(code) => answer_isin(code.as_bytes(), writer),
@@ -116,8 +116,8 @@ pub fn tell_no_words<W: Sink>(error: &io::Error, writer: &mut W) -> Status
 
 /// As `tell_no_words`, where the writer does not fail.
 fn write_no_words<W: Sink>(kind: io::ErrorKind, writer: &mut W) -> io::Result<Status>
-    ensures { MatchResult result (λ status. IsNoWordsTold kind status (Appends (W.contents writer.old) (W.contents writer.new)))
-        (λ error. W.may_fail ≡ true) }
+    ensures told { IfOk result (λ status. IsNoWordsTold kind status (Appends (W.contents writer.old) (W.contents writer.new))) }
+    ensures failed { OnErr result (W.may_fail ≡ true) }
 {
     match kind {
         io::ErrorKind::OutOfMemory => tell_failure(Failure::Memory, writer),

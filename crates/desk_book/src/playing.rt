@@ -1,5 +1,5 @@
 //! A script, from a reader to a writer.
-ghost use Rattle.std.specs.Prelude.{◌≡◌, ℕ, ◌+◌, List, [], ◌∷◌, true, false, ◌<◌, ◌≤◌, length, IfSome, OnOk, Result, Err};
+ghost use Rattle.std.specs.Prelude.{◌≡◌, ℕ, ◌+◌, List, [], ◌∷◌, true, false, ◌<◌, ◌≤◌, length, IfSome, OnErr, OnOk, Result, Err};
 ghost use Rattle.std.specs.Io.KnownBytes.{Consumes, append_known};
 ghost use Rattle.desk_rules.specs.declared.answers.reply.Reply.{Reply};
 ghost use Rattle.desk_rules.specs.Books.{Books};
@@ -18,17 +18,16 @@ use crate::requests::script::{Item, first_item};
 use crate::streams::outbox::Outbox;
 use crate::streams::reading::read_whole;
 use desk_register::Register;
-use desk_streams::Source;
+use desk_streams::{Sink, Source};
 use std::alloc::Global;
 use std::io;
-use std::io::Write;
 
 impl<R: Register> Desk<R> {
     /// Reads a whole script, and then asks its requests one after another and writes the answers, in pieces of `PIECE`
     /// bytes and what is left at the end. The room for a piece is taken before the first read. After `ReadFailed`,
     /// `TooLong` and `Memory` nothing was asked or written; after `WriteFailed` what was asked before the failed write
     /// stands.
-    pub fn play<I: Source, O: Write>(
+    pub fn play<I: Source, O: Sink>(
         &mut self,
         alloc: Global,
         reader: &mut I,
@@ -59,7 +58,7 @@ impl<R: Register> Desk<R> {
     }
 
     /// Asks a script's requests one after another, and writes the answers.
-    fn answer_script<O: Write>(
+    fn answer_script<O: Sink>(
         &mut self,
         alloc: Global,
         script: &[u8],
@@ -72,6 +71,7 @@ impl<R: Register> Desk<R> {
             → OnOk result (PlaysScript self.old.is_closed books script.now (O.contents writer.old) (O.contents writer.new) self.new.is_closed (R.view self.old.register) (R.view self.new.register)) }
         ensures front { (books : Books) → (R.view self.new.register).is_honest → Holds self.old.is_closed (R.view self.old.register) books
             → PlaysFront self.old.is_closed books script.now self.new.is_closed (R.view self.old.register) (R.view self.new.register) }
+        ensures failed { OnErr result (O.may_fail ≡ true) }
         ensures stays { self.old.is_closed ≡ true → self.new.is_closed ≡ true }
         ensures later { IsLater (R.view self.old.register) (R.view self.new.register) }
         ensures in_memory { R.in_memory ≡ true → self.old.is_closed ≡ false → self.new.is_closed ≡ false }
@@ -85,7 +85,7 @@ impl<R: Register> Desk<R> {
     }
 
     /// Asks an item of a script, if it asks anything, and adds the answer to what waits.
-    fn answer_item<O: Write>(
+    fn answer_item<O: Sink>(
         &mut self,
         alloc: Global,
         item: &Item<'_>,
@@ -98,6 +98,7 @@ impl<R: Register> Desk<R> {
             → OnOk result (PlaysItem self.old.is_closed books (item_of item.now) (append_known (O.contents writer.old) outbox.old.waiting.items) (append_known (O.contents writer.new) outbox.new.waiting.items) self.new.is_closed (R.view self.old.register) (R.view self.new.register)) }
         ensures front { (books : Books) → (R.view self.new.register).is_honest → Holds self.old.is_closed (R.view self.old.register) books
             → (answers : List (Result Reply Fault)) × HasPlayed self.old.is_closed books (item_of item.now ∷ []) answers self.new.is_closed (R.view self.old.register) (R.view self.new.register) }
+        ensures failed { OnErr result (O.may_fail ≡ true) }
         ensures stays { self.old.is_closed ≡ true → self.new.is_closed ≡ true }
         ensures later { IsLater (R.view self.old.register) (R.view self.new.register) }
         ensures in_memory { R.in_memory ≡ true → self.old.is_closed ≡ false → self.new.is_closed ≡ false }

@@ -90,6 +90,7 @@ pub fn note_pair(
 ) -> Result<(), AllocError>
     ensures all { HoldsDue places.old places.new }
     ensures opened { OnOk result (PlacedAt places.new (instruction_at (history_of (view_of_lists held.now).content) later) later) }
+    ensures touched { OnOk result (touched.new.items ≡ touched.old.items ++ earlier ∷ later ∷ []) }
 {
     place_instruction(held, places, later)?;
     touch_both(touched, earlier, later)

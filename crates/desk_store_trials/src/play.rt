@@ -9,13 +9,12 @@ use desk_book::Desk;
 use desk_register::Register;
 use desk_rules::MOST_ENTRIES;
 use desk_store::SqlRegister;
-use desk_streams::Source;
+use desk_streams::{Sink, Source};
 use sqlite::{Alter, Connection};
 use std::alloc::Global;
-use std::io::Write;
 
 /// Plays a script from the reader on a desk over a register that holds nothing, and writes the answers.
-fn play_on<D: Register + Drop, R: Source, W: Write>(
+fn play_on<D: Register + Drop, R: Source, W: Sink>(
     alloc: Global,
     register: D,
     reader: &mut R,
@@ -29,7 +28,7 @@ fn play_on<D: Register + Drop, R: Source, W: Write>(
 }
 
 /// Plays a script from the reader on a desk whose tables are made in a database that has none, and writes the answers.
-pub fn play<S: Alter + Drop, R: Source, W: Write>(
+pub fn play<S: Alter + Drop, R: Source, W: Sink>(
     alloc: Global,
     conn: Connection<S>,
     reader: &mut R,

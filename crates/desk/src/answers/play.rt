@@ -1,5 +1,5 @@
 //! `desk play`.
-ghost use Rattle.std.specs.Prelude.{◌≡◌, IfOk};
+ghost use Rattle.std.specs.Prelude.{◌≡◌, true, IfOk, OnErr};
 ghost use Rattle.std.specs.Io.KnownBytes.{Appends};
 ghost use Rattle.desk.specs.PlayAnswer.{IsPlayAnswer};
 
@@ -19,7 +19,8 @@ pub fn answer_play<R: Source, W: Sink>(
     reader: &mut R,
     writer: &mut W,
 ) -> io::Result<Status>
-    ensures { IfOk result (λ status. IsPlayAnswer (R.remaining reader.old) (reader.new ≡ reader.old) R.may_fail status (Appends (W.contents writer.old) (W.contents writer.new))) }
+    ensures told { IfOk result (λ status. IsPlayAnswer (R.remaining reader.old) (reader.new ≡ reader.old) R.may_fail status (Appends (W.contents writer.old) (W.contents writer.new))) }
+    ensures failed { OnErr result (W.may_fail ≡ true) }
 {
     let mut desk = Desk::new(IndexedRegister::new(alloc, MOST_ENTRIES));
     match desk.play(alloc, reader, writer) {

@@ -1,25 +1,21 @@
 //! Answers on their way out: they wait until there are as many bytes as are written at once.
-ghost use Rattle.std.specs.Prelude.{◌≡◌, ◌<◌, ◌≤◌, [], vec_capacity, vec_len, IfOk, OnOk};
+ghost use Rattle.std.specs.Prelude.{◌≡◌, ◌<◌, ◌≤◌, [], true, vec_capacity, vec_len, IfOk, OnErr, OnOk};
 ghost use Rattle.std.specs.Io.KnownBytes.{Appends, append_known};
 ghost use Rattle.desk_book.specs.Waiting.{HasRoom};
 ghost use Rattle.desk_book.specs.WrittenAnswers.{head_line, written_answer, written_bad_line, written_fault};
 
 use crate::fault::Fault;
 use crate::limits::PIECE;
+use desk_streams::Sink;
+use itoa::Buffer;
 use std::alloc::{AllocError, Global};
 use std::io;
-use std::io::Write;
-
-/// The room for the first line of an answer: a status, a message type, and what parts and ends them.
-const HEAD: usize = 16;
 
 /// The bytes that wait to be written.
 #[derive(Drop)]
 pub struct Outbox {
     /// They are fewer than are written at once.
     waiting: Vec<u8>,
-    /// The first line of an answer, before it waits too
-    head: Vec<u8>,
 }
 
 impl Outbox {
@@ -29,13 +25,12 @@ impl Outbox {
         ensures room { IfOk result (λ outbox. HasRoom outbox) }
     {
         let waiting = Vec::with_capacity(alloc, PIECE)?;
-        let head = Vec::with_capacity(alloc, HEAD)?;
-        Ok(Outbox { waiting, head })
+        Ok(Outbox { waiting })
     }
 
     /// Adds an answer to what waits: its status, behind a space the message type where the text is a message, the text,
     /// and a line `.`. Each piece that is full is written. After an `Err` nothing is said of what was written.
-    pub fn answer<W: Write>(
+    pub fn answer<W: Sink>(
         &mut self,
         writer: &mut W,
         status: u16,
@@ -46,65 +41,81 @@ impl Outbox {
         ensures room { OnOk result (HasRoom self.new) }
         ensures written { OnOk result (Appends (append_known (W.contents writer.old) self.old.waiting.items) (append_known (W.contents writer.new) self.new.waiting.items)
             (written_answer status mt text.now)) }
+        ensures failed { OnErr result (W.may_fail ≡ true) }
     {
-        self.head.clear();
-        write_head_line(&mut self.head, status, mt)?;
-        add(&mut self.waiting, writer, &self.head)?;
+        add_head_line(&mut self.waiting, writer, status, mt)?;
         add(&mut self.waiting, writer, text)?;
         add(&mut self.waiting, writer, b"\n.\n")
     }
 
     /// Adds what stands in place of an answer.
-    pub fn fault<W: Write>(&mut self, writer: &mut W, fault: Fault) -> io::Result<()>
+    pub fn fault<W: Sink>(&mut self, writer: &mut W, fault: Fault) -> io::Result<()>
         requires { HasRoom self.old }
         ensures room { OnOk result (HasRoom self.new) }
         ensures written { OnOk result (Appends (append_known (W.contents writer.old) self.old.waiting.items) (append_known (W.contents writer.new) self.new.waiting.items)
             (written_fault fault)) }
+        ensures failed { OnErr result (W.may_fail ≡ true) }
     {
         self.answer(writer, fault.status(), None, fault.text().as_bytes())
     }
 
     /// Adds the answer to what is no request.
-    pub fn bad_line<W: Write>(&mut self, writer: &mut W) -> io::Result<()>
+    pub fn bad_line<W: Sink>(&mut self, writer: &mut W) -> io::Result<()>
         requires { HasRoom self.old }
         ensures room { OnOk result (HasRoom self.new) }
         ensures written { OnOk result (Appends (append_known (W.contents writer.old) self.old.waiting.items) (append_known (W.contents writer.new) self.new.waiting.items)
             written_bad_line) }
+        ensures failed { OnErr result (W.may_fail ≡ true) }
     {
         self.answer(writer, 400, None, b"refused 41")
     }
 
     /// Writes what waits still.
-    pub fn finish<W: Write>(&mut self, writer: &mut W) -> io::Result<()>
-        ensures { OnOk result (Appends (W.contents writer.old) (W.contents writer.new) self.old.waiting.items) }
+    pub fn finish<W: Sink>(&mut self, writer: &mut W) -> io::Result<()>
+        ensures written { OnOk result (Appends (W.contents writer.old) (W.contents writer.new) self.old.waiting.items) }
+        ensures failed { OnErr result (W.may_fail ≡ true) }
     {
-        writer.write_all(&self.waiting)
+        writer.put(&self.waiting)
     }
 }
 
-/// Writes the first line of an answer.
-fn write_head_line<W: Write>(writer: &mut W, status: u16, mt: Option<u16>) -> io::Result<()>
-    ensures { OnOk result (Appends (W.contents writer.old) (W.contents writer.new) (head_line status mt)) }
+/// Adds the first line of an answer to what waits.
+fn add_head_line<W: Sink>(
+    waiting: &mut Vec<u8>,
+    writer: &mut W,
+    status: u16,
+    mt: Option<u16>,
+) -> io::Result<()>
+    requires few { vec_len waiting.old < PIECE }
+    requires room { PIECE ≤ vec_capacity waiting.old }
+    ensures few { OnOk result (vec_len waiting.new < PIECE) }
+    ensures room { OnOk result (PIECE ≤ vec_capacity waiting.new) }
+    ensures written { OnOk result (Appends (append_known (W.contents writer.old) waiting.old.items) (append_known (W.contents writer.new) waiting.new.items) (head_line status mt)) }
+    ensures failed { OnErr result (W.may_fail ≡ true) }
 {
-    match mt {
-        Some(mt) => writeln!(writer, "{status} {mt}"),
-        None => writeln!(writer, "{status}"),
+    let mut digits = Buffer::new();
+    add(waiting, writer, digits.format(status).as_bytes())?;
+    if let Some(mt) = mt {
+        add(waiting, writer, b" ")?;
+        add(waiting, writer, digits.format(mt).as_bytes())?;
     }
+    add(waiting, writer, b"\n")
 }
 
 /// Adds a text to what waits, and writes each piece that is full.
-fn add<W: Write>(waiting: &mut Vec<u8>, writer: &mut W, text: &[u8]) -> io::Result<()>
+fn add<W: Sink>(waiting: &mut Vec<u8>, writer: &mut W, text: &[u8]) -> io::Result<()>
     requires few { vec_len waiting.old < PIECE }
     requires room { PIECE ≤ vec_capacity waiting.old }
     ensures few { OnOk result (vec_len waiting.new < PIECE) }
     ensures room { OnOk result (PIECE ≤ vec_capacity waiting.new) }
     ensures written { OnOk result (Appends (append_known (W.contents writer.old) waiting.old.items) (append_known (W.contents writer.new) waiting.new.items) text.now) }
+    ensures failed { OnErr result (W.may_fail ≡ true) }
 {
     let mut rest = text;
     'pieces: while rest.len() >= PIECE - waiting.len() {
         let (now, later) = rest.split_at(PIECE - waiting.len());
         waiting.extend_from_slice(now).unwrap();
-        writer.write_all(waiting)?;
+        writer.put(waiting)?;
         waiting.clear();
         rest = later;
     }

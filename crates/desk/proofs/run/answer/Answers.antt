@@ -5,16 +5,16 @@ use Rattle.desk.proofs.run.answer.Goals as goal
 
 pub returns-in-Read : goal.returns-in-Read
 returns-in-Read g c =
-    read_told c.answer_read.result (g.R.Read.remaining c.args.reader.now) _ g.R.Source.may_fail g.W.Sink.may_fail (Appends (g.W.Write.contents c.args.writer.now) (g.W.Write.contents c.answer_read.new.writer)) c.args.call c.in-Read.mt _ c.in-Read.is c.in-Read.mt-is
-    c.answer_read.ensures.told c.answer_read.ensures.failed
+    read_told c.answer_read.result (g.R.Read.remaining c.args.reader.now) _ g.R.Source.may_fail (Appends (g.W.Write.contents c.args.writer.now) (g.W.Write.contents c.answer_read.new.writer)) c.args.call c.in-Read.mt _ c.in-Read.is c.in-Read.mt-is
+    c.answer_read.ensures.told
 
 pub returns-in-Play : goal.returns-in-Play
-returns-in-Play g c = play_told c.answer_play.result (g.R.Read.remaining c.args.reader.now) _ g.R.Source.may_fail g.W.Sink.may_fail (Appends (g.W.Write.contents c.args.writer.now) (g.W.Write.contents c.answer_play.new.writer)) c.args.call c.in-Play.is c.answer_play.ensures
+returns-in-Play g c = play_told c.answer_play.result (g.R.Read.remaining c.args.reader.now) _ g.R.Source.may_fail (Appends (g.W.Write.contents c.args.writer.now) (g.W.Write.contents c.answer_play.new.writer)) c.args.call c.in-Play.is c.answer_play.ensures.told
 
 pub returns-in-Check : goal.returns-in-Check
-returns-in-Check g c = check_told c.answer_check.result (g.R.Read.remaining c.args.reader.now) _ g.R.Source.may_fail g.W.Sink.may_fail (Appends (g.W.Write.contents c.args.writer.now) (g.W.Write.contents c.answer_check.new.writer)) c.args.call c.in-Check.is c.answer_check.ensures.told c.answer_check.ensures.failed
+returns-in-Check g c = check_told c.answer_check.result (g.R.Read.remaining c.args.reader.now) _ g.R.Source.may_fail (Appends (g.W.Write.contents c.args.writer.now) (g.W.Write.contents c.answer_check.new.writer)) c.args.call c.in-Check.is c.answer_check.ensures.told
 
 pub returns-in-Explain : goal.returns-in-Explain
 returns-in-Explain g c =
-    explain_told c.answer_explain.result (g.R.Read.remaining c.args.reader.now) _ g.R.Source.may_fail g.W.Sink.may_fail (Appends (g.W.Write.contents c.args.writer.now) (g.W.Write.contents c.answer_explain.new.writer)) c.args.call c.in-Explain.topic _ c.in-Explain.is c.in-Explain.topic-is refl
-    c.answer_explain.ensures.told c.answer_explain.ensures.failed
+    explain_told c.answer_explain.result (g.R.Read.remaining c.args.reader.now) _ g.R.Source.may_fail (Appends (g.W.Write.contents c.args.writer.now) (g.W.Write.contents c.answer_explain.new.writer)) c.args.call c.in-Explain.topic _ c.in-Explain.is c.in-Explain.topic-is refl
+    c.answer_explain.ensures.told

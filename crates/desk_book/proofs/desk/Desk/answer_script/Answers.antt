@@ -49,7 +49,7 @@ returns-clause-played g c = λ books honest holds.
     c.items.outbox.waiting.items (g.R.Register.view c.args.self.now.register) (g.R.Register.view c.items.self.register) c.requires.empty
     (script_played c.args.self.now.is_closed c.items.self.is_closed books c.args.script.now c.items.rest.now (append_known (g.O.Write.contents c.args.writer.now) c.args.outbox.now.waiting.items) (append_known (g.O.Write.contents c.items.writer) c.items.outbox.waiting.items)
     (g.R.Register.view c.args.self.now.register) (g.R.Register.view c.items.self.register) (c.items.invariant.played books honest holds) c.in_default.ensures.none)
-    c.finish.ensures
+    c.finish.ensures.written
 
 pub returns-clause-front : goal.returns-clause-front
 returns-clause-front g c = λ books honest holds.

@@ -13,6 +13,6 @@ pieces-preserved g c =
       few = search rules;
       room = search rules;
       added = rw (c.clear.ensures.items, c.split_at.ensures.back)
-          (piece_added (g.W.Write.contents c.args.writer.now) c.args.waiting.now.items (g.W.Write.contents c.pieces.writer) (g.W.Write.contents c.write_all.new.self)
-          c.pieces.waiting.items c.args.text.now c.pieces.rest.now c.deref.result.now left i.added filled c.in_ok-write_all.ensures.bytes);
+          (piece_added (g.W.Write.contents c.args.writer.now) c.args.waiting.now.items (g.W.Write.contents c.pieces.writer) (g.W.Write.contents c.put.new.self)
+          c.pieces.waiting.items c.args.text.now c.pieces.rest.now c.deref.result.now left i.added filled c.in_ok-put.ensures.bytes);
     }
