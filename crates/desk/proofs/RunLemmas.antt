@@ -11,7 +11,7 @@ use Rattle.desk.specs.ExplainAnswer.{IsExplainAnswer}
 use Rattle.desk.specs.PlayAnswer.{IsPlayAnswer}
 use Rattle.desk.specs.ReadAnswer.{IsReadAnswer}
 use Rattle.desk.specs.Status.{IsFailureTold, status_of_error}
-use Rattle.desk.specs.Words.{CallValue, isin, read, play, check, explain, serve, IsErrorIn, IsSaidBy, value_of_call}
+use Rattle.desk.specs.Words.{CallValue, explain, IsErrorIn, IsSaidBy, value_of_call}
 use Rattle.desk.specs.declared.words.calls.Call.{Call}
 use Rattle.desk.specs.declared.words.calls.Call.TheVariants as call
 use Rattle.desk.specs.declared.words.calls.Topic.{Topic}

@@ -42,6 +42,7 @@ impl<R: Register> Desk<R> {
         ensures stands { result ≡ Err PlayFault.WriteFailed → (books : Books) → (R.view self.new.register).is_honest → Holds self.old.is_closed (R.view self.old.register) books
             → (script : List ℕ) × IfSome (I.remaining reader.old) (λ input. input ≡ script) × (length script ≤ LONGEST_SCRIPT)
             × PlaysFront self.old.is_closed books script self.new.is_closed (R.view self.old.register) (R.view self.new.register) }
+        ensures unwritten { result ≡ Err PlayFault.WriteFailed → O.may_fail ≡ true }
         ensures taken { (taken : List ℕ) × Consumes (I.remaining reader.old) (I.remaining reader.new) taken × (length taken ≤ LONGEST_SCRIPT + 1) }
         ensures stays { self.old.is_closed ≡ true → self.new.is_closed ≡ true }
         ensures later { IsLater (R.view self.old.register) (R.view self.new.register) }

@@ -1,5 +1,5 @@
 //! What is taken out of the look-ups: keys and messages at `back`, and what was matched or settled. No memory is taken.
-ghost use Rattle.std.specs.Prelude.{◌≡◌, ◌+◌, ◌++◌, [], List, length, true, ◌<◌, ◌^◌};
+ghost use Rattle.std.specs.Prelude.{◌≡◌, ◌+◌, ◌++◌, [], List, length, true, false, ◌<◌, ◌≤◌, ◌^◌};
 ghost use Rattle.desk_rules.specs.declared.history.entry.Entry.{Entry as EntryValue};
 ghost use Rattle.desk_rules.specs.Content.{Content};
 ghost use Rattle.desk_lists.specs.ListView.{view_of_lists};
@@ -69,7 +69,8 @@ fn tidy_due(held: &ListRegister, places: &mut BTreeSet<(u64, u64)>, number: u64)
 
 /// Whether a number was added since `begin`, of so many: what `back` goes back to has no such number.
 fn is_new(held: &ListRegister, noted: usize, number: u64) -> bool
-    ensures { result ≡ true → (mark : Content) → length mark.register + noted ≡ length (view_of_lists held.now).content.register → length mark.register < number }
+    ensures new { result ≡ true → (mark : Content) → length mark.register + noted ≡ length (view_of_lists held.now).content.register → length mark.register < number }
+    ensures old { result ≡ false → noted ≤ length (view_of_lists held.now).content.register → number + noted ≤ length (view_of_lists held.now).content.register }
 {
     let count = held.entry_count();
     noted as u64 <= count && number > count - noted as u64

@@ -1,5 +1,5 @@
 //! The unmatched instructions by what opposite instructions have in common.
-ghost use Rattle.std.specs.Prelude.{◌≡◌, ◌<◌, ◌≤◌, ℕ, false, IfSome, IfNone};
+ghost use Rattle.std.specs.Prelude.{◌≡◌, ◌<◌, ◌≤◌, ℕ, true, false, IfSome, IfNone};
 ghost use Rattle.std.specs.BTreeSet.{contains};
 ghost use Rattle.desk_register.specs.Looked.{IsFirstOpposite};
 ghost use Rattle.desk_lists.specs.ListView.{view_of_lists};
@@ -14,6 +14,7 @@ use std::collections::BTreeSet;
 
 /// The next number under the key of what is opposite to an instruction.
 fn next_wanted(numbers: &BTreeSet<(MatchKey, u64)>, wanted: &Instructed, from: u64) -> Option<u64>
+    ensures there { IfSome result (λ n. contains (numbered_cmp match_cmp) numbers.now (wanted_key wanted.now, n) ≡ true) }
     ensures above { IfSome result (λ n. from ≤ n) }
     ensures least { IfSome result (λ n. (m : ℕ) → from ≤ m → m < n → contains (numbered_cmp match_cmp) numbers.now (wanted_key wanted.now, m) ≡ false) }
     ensures none { IfNone result ((m : ℕ) → from ≤ m → contains (numbered_cmp match_cmp) numbers.now (wanted_key wanted.now, m) ≡ false) }

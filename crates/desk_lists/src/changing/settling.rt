@@ -89,7 +89,8 @@ fn receipt<'a>(earlier: &'a Instructed, later: &'a Instructed) -> &'a Instructed
 
 /// Whether an instruction waits for a reason, with this mate.
 fn waits_for(standing: &Standing, mate: u64, reason: Reason) -> bool
-    ensures { result ≡ true → (standing.now.mate ≡ Some mate) × (standing.now.state ≡ State.Matched reason) }
+    ensures waits { result ≡ true → (standing.now.mate ≡ Some mate) × (standing.now.state ≡ State.Matched reason) }
+    ensures other { result ≡ false → standing.now.mate ≡ Some mate → standing.now.state ≡ State.Matched reason → ⊥ }
 {
     match (standing.mate, standing.state) {
         (Some(other), State::Matched(found)) => other == mate && found == reason,
@@ -111,6 +112,9 @@ fn wait(
     ensures stands { OnOk result (standing_in (listed lists.new).standings ≡ standing_both (standing_in (listed lists.old).standings) mate number (State.Matched reason)) }
     ensures rest { SameBooks (listed lists.old) (listed lists.new) }
     ensures before { undone changes.new.items (listed lists.new) ≡ undone changes.old.items (listed lists.old) }
+    ensures unwritten { (standing_in (listed lists.old).standings mate).mate ≡ Some number → (standing_in (listed lists.old).standings mate).state ≡ State.Matched reason
+        → (standing_in (listed lists.old).standings number).mate ≡ Some mate → (standing_in (listed lists.old).standings number).state ≡ State.Matched reason
+        → (lists.new ≡ lists.old) × (changes.new ≡ changes.old) }
 {
     let earlier = standing(lists, mate);
     let later = standing(lists, number);

@@ -1,8 +1,11 @@
-use Rattle.std.proofs.Common.{◌≡◌, ◌<◌, ◌≤◌, ℕ, false, IfSome, IfNone, subst}
+use Rattle.std.proofs.Common.{◌≡◌, ◌<◌, ◌≤◌, ℕ, true, false, IfSome, IfNone, subst}
 use Rattle.std.specs.BTreeSet.{contains}
 use Rattle.desk_index.specs.NumbersByKey.{numbered_cmp}
 use Rattle.desk_index.specs.Open.{match_cmp}
 use Rattle.desk_index.proofs.pairs.opposites.next_wanted.Goals as goal
+
+pub returns-clause-there : goal.returns-clause-there
+returns-clause-there c = subst (λ k. IfSome c.next_number.result (λ n. contains (numbered_cmp match_cmp) c.args.numbers.now (k, n) ≡ true)) c.wanted_key.ensures c.next_number.ensures.there
 
 pub returns-clause-least : goal.returns-clause-least
 returns-clause-least c =
