@@ -1,6 +1,6 @@
 pub mod HeadlineLemmas
 pub mod RunLemmas
-mod OutboxLemmas
+pub mod OutboxLemmas
 mod PlayLemmas
 pub mod FormedLemmas
 mod AnsweringLemmas

@@ -1,7 +1,11 @@
--- Bytes that wait to be written. Only private contracts speak of them.
-use Rattle.std.specs.Prelude.{◌<◌, ◌≤◌, vec_capacity, vec_len}
+-- Bytes that wait to be written.
+use Rattle.std.specs.Prelude.{◌<◌, ◌≤◌, ℕ, List, vec_capacity, vec_len}
 use Rattle.desk_book.specs.declared.streams.outbox.Outbox.{Outbox}
 use Rattle.desk_book.specs.declared.limits.TheConstants.{PIECE}
+
+-- what waits
+abbrev pub waits : Outbox → List ℕ
+waits outbox = outbox.waiting.items
 
 -- fewer than a piece wait, and there is room for one
 pub record HasRoom (outbox : Outbox) : Type 0 where

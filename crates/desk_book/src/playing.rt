@@ -9,7 +9,7 @@ ghost use Rattle.desk_book.specs.Held.{Holds};
 ghost use Rattle.desk_book.specs.Played.{HasPlayed, PlaysFront, PlaysScript};
 ghost use Rattle.desk_book.specs.Items.{PlaysItem};
 ghost use Rattle.desk_book.specs.Script.{item_of};
-ghost use Rattle.desk_book.specs.Waiting.{HasRoom};
+ghost use Rattle.desk_book.specs.Waiting.{HasRoom, waits};
 
 use crate::desk::Desk;
 use crate::fault::PlayFault;
@@ -67,7 +67,7 @@ impl<R: Register> Desk<R> {
         writer: &mut O,
     ) -> io::Result<()>
         requires room { HasRoom outbox.old }
-        requires empty { outbox.old.waiting.items ≡ [] }
+        requires empty { waits outbox.old ≡ [] }
         ensures played { (books : Books) → (R.view self.new.register).is_honest → Holds self.old.is_closed (R.view self.old.register) books
             → OnOk result (PlaysScript self.old.is_closed books script.now (O.contents writer.old) (O.contents writer.new) self.new.is_closed (R.view self.old.register) (R.view self.new.register)) }
         ensures front { (books : Books) → (R.view self.new.register).is_honest → Holds self.old.is_closed (R.view self.old.register) books
@@ -96,7 +96,7 @@ impl<R: Register> Desk<R> {
         requires room { HasRoom outbox.old }
         ensures room { OnOk result (HasRoom outbox.new) }
         ensures played { (books : Books) → (R.view self.new.register).is_honest → Holds self.old.is_closed (R.view self.old.register) books
-            → OnOk result (PlaysItem self.old.is_closed books (item_of item.now) (append_known (O.contents writer.old) outbox.old.waiting.items) (append_known (O.contents writer.new) outbox.new.waiting.items) self.new.is_closed (R.view self.old.register) (R.view self.new.register)) }
+            → OnOk result (PlaysItem self.old.is_closed books (item_of item.now) (append_known (O.contents writer.old) (waits outbox.old)) (append_known (O.contents writer.new) (waits outbox.new)) self.new.is_closed (R.view self.old.register) (R.view self.new.register)) }
         ensures front { (books : Books) → (R.view self.new.register).is_honest → Holds self.old.is_closed (R.view self.old.register) books
             → (answers : List (Result Reply Fault)) × HasPlayed self.old.is_closed books (item_of item.now ∷ []) answers self.new.is_closed (R.view self.old.register) (R.view self.new.register) }
         ensures failed { OnErr result (O.may_fail ≡ true) }

@@ -1,5 +1,5 @@
 -- What a head calls for.
-use Rattle.std.proofs.Common.{◌≡◌, ◌≢◌, ℕ, ◌<◌, ◌≤◌, ◌⊎◌, inl, inr, Bool, true, false, not, nat_eq, List, [], ◌∷◌, length, map, nat_lt, cond, Result, Ok, Err, refl, sym, ap, subst, ◌∙◌, arith}
+use Rattle.std.proofs.Common.{◌≡◌, ◌≢◌, ℕ, ◌≤◌, inl, inr, Bool, true, false, not, nat_eq, List, [], ◌∷◌, length, map, nat_lt, cond, Result, Ok, Err, refl, sym, ap, subst, ◌∙◌, arith}
 use Rattle.std.proofs.lemmas.Bool.Decides.{nat_tests}
 use Rattle.httparse.specs.Grammar.{RequestHead}
 use Rattle.httparse.specs.Spans.{name_and_value}
@@ -11,7 +11,7 @@ use Rattle.desk_http.specs.declared.refusal.Refusal.{Refusal}
 use Rattle.desk_http.specs.declared.refusal.Refusal.TheVariants.{NotFound, MethodNotAllowed, PayloadTooLarge}
 use Rattle.desk_http.specs.declared.resource.Resource.{Resource}
 use Rattle.desk_http.specs.Connection.{Calls, nowhere, other_method, nothing, bodiless, posted, no_length}
-use Rattle.desk_http.specs.Length.{BodyLength, Fields, IsLength, LengthBy, LengthUnder, values_of, within_limit}
+use Rattle.desk_http.specs.Length.{BodyLength, Fields, LengthBy, LengthUnder, within_limit}
 use Rattle.desk_http.specs.Paths.{IsPath, Path, has_body, method_of}
 use Rattle.desk_http.specs.Resources.{Names}
 

@@ -1,5 +1,5 @@
 -- What the bytes read so far say of each stream that they begin.
-use Rattle.std.proofs.Common.{◌≡◌, ◌≢◌, ℕ, zero, suc, ◌+◌, ◌-◌, ◌<◌, ◌≤◌, Bool, true, false, nat_le, min, ◌⊎◌, inl, inr, List, [], ◌∷◌, ◌++◌, length, take, drop, map, Result, Ok, Err, refl, sym, ap, subst, ◌∙◌, arith, append_assoc, append-nil, length-append, length-take}
+use Rattle.std.proofs.Common.{◌≡◌, ◌≢◌, ℕ, zero, suc, ◌+◌, ◌-◌, ◌<◌, ◌≤◌, Bool, true, false, nat_le, min, inl, inr, List, [], ◌∷◌, ◌++◌, length, take, drop, Result, Ok, Err, refl, sym, ap, subst, ◌∙◌, arith, append_assoc, append-nil, length-append, length-take}
 use Rattle.std.proofs.lemmas.List.{length-map, take-append-le, take_all, take-append-drop}
 use Rattle.std.proofs.lemmas.Bool.Decides.{nat_tests}
 use Rattle.std.proofs.Math.Seq.{drop-append_seam}
@@ -12,11 +12,11 @@ use Rattle.httparse.specs.Spans.{IsRequestAt, IsRequestOf, IsRequestWithin, Requ
 use Rattle.httparse.proofs.GrammarLemmas.{ReadsRequest-append}
 use Rattle.desk_book.specs.Asked.{Asked}
 use Rattle.desk_http.specs.declared.call.Call.{Call}
-use Rattle.desk_http.specs.declared.decision.Decision.TheVariants.{Asks, Refuses, Wants}
+use Rattle.desk_http.specs.declared.decision.Decision.TheVariants.{Asks, Wants}
 use Rattle.desk_http.specs.declared.refusal.Refusal.{Refusal}
 use Rattle.desk_http.specs.declared.refusal.Refusal.TheVariants.{BadRequest, HeaderFieldsTooLarge}
 use Rattle.desk_http.specs.Connection.{Calls, Connection, HasHead, RefusesHead, front, no_head, refused, whole, cut}
-use Rattle.desk_http.specs.Decisions.{Decides, HasCall, IsDecision, asked_at}
+use Rattle.desk_http.specs.Decisions.{Decides, HasCall, IsDecision}
 use Rattle.desk_http.specs.Refusals.{refusal_of_error}
 use Rattle.desk_http.specs.Resources.{asked_of}
 use Rattle.desk_http.proofs.CallLemmas.{call_fits}

@@ -1,16 +1,14 @@
 -- A stream has one outcome.
-use Rattle.std.proofs.Common.{◌≡◌, ◌≢◌, ℕ, ◌+◌, ◌-◌, ◌<◌, ◌≤◌, ◌⊎◌, inl, inr, List, [], ◌∷◌, ◌++◌, length, take, drop, get_or, map, codes, Bool, true, false, if◌then◌else◌, nat_eq, nat_le, Result, Ok, Err, refl, sym, ap, subst, ◌∙◌, arith, append-nil}
+use Rattle.std.proofs.Common.{◌≡◌, ◌≢◌, ℕ, ◌-◌, ◌⊎◌, inl, inr, List, [], ◌∷◌, ◌++◌, length, take, drop, get_or, map, codes, true, false, if◌then◌else◌, nat_eq, nat_le, Result, Ok, Err, refl, sym, ap, subst, ◌∙◌, arith, append-nil}
 use Rattle.std.proofs.lemmas.Bool.Decides.{nat_tests}
 use Rattle.std.proofs.lemmas.List.{append_cancel_left, take_all, take-append-drop}
-use Rattle.httparse.specs.Grammar.{RequestHead, ReadsRequest, HasNoRequest, NeverHasRequest, print_request}
+use Rattle.httparse.specs.Grammar.{RequestHead, ReadsRequest, HasNoRequest, print_request}
 use Rattle.httparse.specs.Spans.{name_and_value}
-use Rattle.httparse.proofs.GrammarLemmas.{request_unique, ReadsRequest-append}
-use Rattle.desk_codes.specs.Number.{number_of}
+use Rattle.httparse.proofs.GrammarLemmas.{request_unique}
 use Rattle.desk_msg.specs.declared.mt.Mt.{Mt}
 use Rattle.desk_msg.specs.declared.mt.Mt.TheVariants.{Mt540, Mt541, Mt542, Mt543, Mt544, Mt545, Mt546, Mt547}
 use Rattle.desk_msg.specs.MessageType.{digits_of_type}
 use Rattle.desk_book.specs.Asked.{Asked}
-use Rattle.desk_book.specs.Forms.{IsCount, SpellsBic}
 use Rattle.desk_http.specs.declared.call.Call.{Call}
 use Rattle.desk_http.specs.declared.refusal.Refusal.{Refusal}
 use Rattle.desk_http.specs.declared.refusal.Refusal.TheVariants.{BadRequest, NotFound, MethodNotAllowed, HeaderFieldsTooLarge}
@@ -19,7 +17,7 @@ use Rattle.desk_http.specs.declared.resource.Resource.TheVariants.{Message, Oper
 use Rattle.desk_http.specs.declared.route.Route.{Route}
 use Rattle.desk_http.specs.declared.route.Route.TheVariants as routes
 use Rattle.desk_http.specs.Connection.{Calls, Connection, HasHead, IsLeftOpen, RefusesHead, front, nowhere, other_method, nothing, bodiless, posted, no_length, no_head, refused, whole, cut}
-use Rattle.desk_http.specs.Length.{BodyLength, IsLength, LengthBy, LengthUnder}
+use Rattle.desk_http.specs.Length.{BodyLength, LengthBy, LengthUnder}
 use Rattle.desk_http.specs.Paths.{IsPath, Path, message, operator, status, holdings, sent, sums, has_body, method_of}
 use Rattle.desk_http.specs.Resources.{Names, asked_of}
 use Rattle.desk_http.specs.Rows.{route_of}

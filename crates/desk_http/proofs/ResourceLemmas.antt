@@ -1,10 +1,9 @@
 -- What a part that is no BIC names.
-use Rattle.std.proofs.Common.{◌≡◌, ℕ, List, Option, Some, None, IfNone, subst, sym}
+use Rattle.std.proofs.Common.{◌≡◌, ℕ, List, Option, Some, None, IfNone, subst}
 use Rattle.desk_book.specs.Forms.{SpellsBic}
 use Rattle.desk_http.specs.declared.resource.Resource.{Resource}
-use Rattle.desk_http.specs.declared.resource.Resource.TheVariants.{Message, Operator, Status, Holdings, Sent, Sums}
-use Rattle.desk_http.specs.declared.route.Path.{Path as BorrowedPath}
-use Rattle.desk_http.specs.Paths.{Path, message, operator, status, holdings, sent, sums, path_of}
+use Rattle.desk_http.specs.declared.resource.Resource.TheVariants.{Message, Status, Holdings, Sent}
+use Rattle.desk_http.specs.Paths.{Path, message, operator, status, holdings, sent, sums}
 use Rattle.desk_http.specs.Resources.{Names}
 
 -- the party that a path begins with, where it has one

@@ -1,10 +1,10 @@
--- Several writes, one after another.
-use Rattle.std.proofs.Common.{◌≡◌, ℕ, ◌<◌, ◌≤◌, true, false, ◌&&◌, nat_le, nat_lt, List, [], ◌++◌, take, drop, Option, Some, None, unwrap_or, ap, sym, subst, ◌∙◌, refl, append_assoc, arith}
-use Rattle.std.specs.Io.KnownBytes.{Appends}
+-- Several texts, added one after another.
+use Rattle.std.proofs.Common.{◌≡◌, ℕ, true, nat_le, nat_lt, List, [], ◌++◌, Option, unwrap_or, subst, refl, arith}
+use Rattle.std.specs.Io.KnownBytes.{Appends, append_known}
 use Rattle.std.proofs.KnownBytes.{Appends-trans}
 use Rattle.std.proofs.lemmas.Bool.Decides.{nat_tests}
-use Rattle.std.proofs.lemmas.List.{take-append-drop}
 use Rattle.http.specs.StatusCode.{IsStatusCode, reason_phrase}
+use Rattle.desk_book.proofs.OutboxLemmas.{all_written}
 use Rattle.desk_http.specs.Response.{phrase}
 
 pub phrase_is : (status : ℕ) → IsStatusCode status → unwrap_or (reason_phrase status) [] ≡ phrase status
@@ -16,12 +16,15 @@ phrase_is status is =
 pub three : (a b c d : Option (List ℕ)) (p q r : List ℕ) → Appends a b p → Appends b c q → Appends c d r → Appends a d (p ++ (q ++ r))
 three a b c d p q r one two last = Appends-trans a b d p (q ++ r) one (Appends-trans b c d q r two last)
 
--- a head in a buffer, the front of a text behind it, what then stands there written, and the rest of the text
-pub in_two : (n : ℕ) (cleared held filled shown : List ℕ) (a b c : Option (List ℕ)) (head front back text : List ℕ) → cleared ≡ [] → held ≡ cleared ++ head → filled ≡ held ++ front → shown ≡ filled
-    → front ≡ take n text → back ≡ drop n text → Appends a b shown → Appends b c back → Appends a c (head ++ text)
-in_two n cleared held filled shown a b c head front back text none one two is first rest three last =
-    let P : List ℕ → Type 0 = λ bytes. Appends a c bytes in
-    let whole : front ++ back ≡ text = ap (λ l. l ++ back) first ∙ ap (λ l. take n text ++ l) rest ∙ take-append-drop n text in
-    let begun : held ≡ head = one ∙ ap (λ l. l ++ head) none in
-    let same : shown ++ back ≡ head ++ text = ap (λ l. l ++ back) (is ∙ two ∙ ap (λ l. l ++ front) begun) ∙ append_assoc head front back ∙ ap (λ l. head ++ l) whole in
-    subst P same (Appends-trans a b c shown back three last)
+-- and five, of which the fourth is known by another name
+pub five : (a b c d e f : Option (List ℕ)) (p q r s shown t : List ℕ) → shown ≡ s → Appends a b p → Appends b c q → Appends c d r → Appends d e shown → Appends e f t → Appends a f (p ++ (q ++ (r ++ (s ++ t))))
+five a b c d e f p q r s shown t same one two third fourth last =
+    let P : List ℕ → Type 0 = λ bytes. Appends d e bytes in
+    Appends-trans a b f p (q ++ (r ++ (s ++ t))) one (Appends-trans b c f q (r ++ (s ++ t)) two (three c d e f r s t third (subst P same fourth) last))
+
+-- where nothing waited, a head and a text were added, and what waits then was written
+pub whole : (from a old new : Option (List ℕ)) (waited mid waits head text : List ℕ) → waited ≡ [] → Appends (append_known from waited) (append_known a mid) head → Appends (append_known a mid) (append_known old waits) text
+    → Appends old new waits → Appends from new (head ++ text)
+whole from a old new waited mid waits head text none one two last =
+    let P : List ℕ → Type 0 = λ bytes. Appends (append_known from bytes) (append_known old waits) (head ++ text) in
+    all_written from old new waits (head ++ text) (subst P none (Appends-trans (append_known from waited) (append_known a mid) (append_known old waits) head text one two)) last

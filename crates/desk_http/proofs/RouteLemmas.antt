@@ -1,16 +1,15 @@
 -- Which path a target is, by the rows of the desk's router.
-use Rattle.std.proofs.Common.{◌≡◌, ◌≢◌, ℕ, ◌<◌, ◌≤◌, drop, ◌⊎◌, inl, inr, List, [], ◌∷◌, ◌++◌, length, Bool, true, false, ◌&&◌, ltb, Option, Some, None, IfNone, IsSome, rules, codes, refl, sym, ap, subst, ◌∙◌, arith, append-nil}
+use Rattle.std.proofs.Common.{◌≡◌, ◌≢◌, ℕ, inl, inr, List, [], ◌∷◌, ◌++◌, Bool, true, ltb, Option, Some, None, IfNone, IsSome, codes, refl, sym, ap, subst, ◌∙◌, arith, append-nil}
 use Rattle.std.specs.List.{list_all}
 use Rattle.std.proofs.lemmas.List.{append_cancel_left}
 use Rattle.std.proofs.lemmas.Bool.Decides.{nat_tests}
 use Rattle.std.proofs.lemmas.List.Elements.{All-cons, All-head, All-tail}
-use Rattle.matchit.specs.Rows.{param_token, catch_all_token}
 use Rattle.matchit.specs.Router.{RouteOf}
 use Rattle.matchit.specs.Seek.{first, seek}
 use Rattle.desk_http.specs.Paths.{IsPart, IsPath, Path, message, operator, status, holdings, sent, sums}
-use Rattle.desk_http.specs.Rows.{desk_rows, one_part, two_parts, route_of, IsOn}
+use Rattle.desk_http.specs.Rows.{desk_rows, one_part, two_parts, IsOn}
 use Rattle.desk_http.specs.declared.route.Route.{Route}
-use Rattle.desk_http.proofs.WalkLemmas.{Fits, HasRow, NoSlash, both, fits, last_found, no_slash_nil, past, steps, two_found}
+use Rattle.desk_http.proofs.WalkLemmas.{Fits, HasRow, NoSlash, both, fits, last_found, no_slash_nil, past, two_found}
 
 -- each is a byte, and no parameter
 abbrev are_bytes : List ℕ → Bool

@@ -1,5 +1,5 @@
 -- The response to a request (RFC 9112, section 2.1 and 4).
-use Rattle.std.specs.Prelude.{ℕ, ◌&&◌, List, [], ◌∷◌, ◌++◌, codes, decimal, if◌then◌else◌, nat_le, nat_lt, Option, Some, None, unwrap_or}
+use Rattle.std.specs.Prelude.{ℕ, ◌&&◌, List, [], ◌++◌, codes, decimal, if◌then◌else◌, nat_le, nat_lt, Option, Some, None, unwrap_or}
 use Rattle.http.specs.StatusCode.{reason_phrase}
 
 -- the phrase of a status code, which other numbers do not have

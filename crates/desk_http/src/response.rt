@@ -1,61 +1,77 @@
 //! The response to a request.
-ghost use Rattle.std.specs.Prelude.{◌≡◌, [], OnOk, unwrap_or};
-ghost use Rattle.std.specs.Io.KnownBytes.{Appends};
+ghost use Rattle.std.specs.Prelude.{◌≡◌, [], true, OnErr, OnOk, unwrap_or};
+ghost use Rattle.std.specs.Io.KnownBytes.{Appends, append_known};
 ghost use Rattle.http.specs.StatusCode.{reason_phrase};
+ghost use Rattle.desk_book.specs.Waiting.{HasRoom, waits};
 ghost use Rattle.desk_http.specs.Response.{phrase, response, response_head, status_lines, type_line};
 
-use desk_book::PIECE;
+use desk_book::Outbox;
+use desk_streams::Sink;
 use http::StatusCode;
 use std::io;
-use std::io::Write;
 
-/// Writes a response: the head and as much of the text as fits into a piece in one write, and the rest of the text in
-/// another. What stands in the buffer is lost.
-pub fn write_response<W: Write>(
+/// Writes a response, in pieces of `PIECE` bytes and what is left at the end.
+pub fn write_response<W: Sink>(
     writer: &mut W,
-    buffer: &mut Vec<u8>,
+    outbox: &mut Outbox,
     status: u16,
     mt: Option<u16>,
     text: &[u8],
 ) -> io::Result<()>
-    ensures { OnOk result (Appends (W.contents writer.old) (W.contents writer.new) (response status mt text.now)) }
+    requires room { HasRoom outbox.old }
+    requires empty { waits outbox.old ≡ [] }
+    ensures written { OnOk result (Appends (W.contents writer.old) (W.contents writer.new) (response status mt text.now)) }
+    ensures failed { OnErr result (W.may_fail ≡ true) }
 {
-    buffer.clear();
-    write_head(buffer, status, mt)?;
-    let (now, later) = text.split_at(text.len().min(PIECE.saturating_sub(buffer.len())));
-    buffer.extend_from_slice(now)?;
-    writer.write_all(buffer)?;
-    writer.write_all(later)
+    add_head(writer, outbox, status, mt)?;
+    outbox.add(writer, text)?;
+    outbox.finish(writer)
 }
 
-/// Writes what stands before the text.
-fn write_head<W: Write>(writer: &mut W, status: u16, mt: Option<u16>) -> io::Result<()>
-    ensures { OnOk result (Appends (W.contents writer.old) (W.contents writer.new) (response_head status mt)) }
+/// Adds what stands before the text.
+fn add_head<W: Sink>(
+    writer: &mut W,
+    outbox: &mut Outbox,
+    status: u16,
+    mt: Option<u16>,
+) -> io::Result<()>
+    requires { HasRoom outbox.old }
+    ensures room { OnOk result (HasRoom outbox.new) }
+    ensures written { OnOk result (Appends (append_known (W.contents writer.old) (waits outbox.old)) (append_known (W.contents writer.new) (waits outbox.new)) (response_head status mt)) }
+    ensures failed { OnErr result (W.may_fail ≡ true) }
 {
-    write_status(writer, status)?;
-    write_type(writer, mt)?;
-    writer.write_all(b"Connection: close\r\n\r\n")
+    add_status(writer, outbox, status)?;
+    add_type(writer, outbox, mt)?;
+    outbox.add(writer, b"Connection: close\r\n\r\n")
 }
 
-/// Writes the status line, and the type of the text.
-fn write_status<W: Write>(writer: &mut W, status: u16) -> io::Result<()>
-    ensures { OnOk result (Appends (W.contents writer.old) (W.contents writer.new) (status_lines status)) }
+/// Adds the status line, and the type of the text.
+fn add_status<W: Sink>(writer: &mut W, outbox: &mut Outbox, status: u16) -> io::Result<()>
+    requires { HasRoom outbox.old }
+    ensures room { OnOk result (HasRoom outbox.new) }
+    ensures written { OnOk result (Appends (append_known (W.contents writer.old) (waits outbox.old)) (append_known (W.contents writer.new) (waits outbox.new)) (status_lines status)) }
+    ensures failed { OnErr result (W.may_fail ≡ true) }
 {
-    let words = phrase_of(status);
-    write!(
-        writer,
-        "HTTP/1.1 {status} {words}\r\nContent-Type: text/plain\r\n"
-    )
+    outbox.add(writer, b"HTTP/1.1 ")?;
+    outbox.add_number(writer, status)?;
+    outbox.add(writer, b" ")?;
+    outbox.add(writer, phrase_of(status).as_bytes())?;
+    outbox.add(writer, b"\r\nContent-Type: text/plain\r\n")
 }
 
-/// Writes the type of the message, where the text is one.
-fn write_type<W: Write>(writer: &mut W, mt: Option<u16>) -> io::Result<()>
-    ensures { OnOk result (Appends (W.contents writer.old) (W.contents writer.new) (type_line mt)) }
+/// Adds the type of the message, where the text is one.
+fn add_type<W: Sink>(writer: &mut W, outbox: &mut Outbox, mt: Option<u16>) -> io::Result<()>
+    requires { HasRoom outbox.old }
+    ensures room { OnOk result (HasRoom outbox.new) }
+    ensures written { OnOk result (Appends (append_known (W.contents writer.old) (waits outbox.old)) (append_known (W.contents writer.new) (waits outbox.new)) (type_line mt)) }
+    ensures failed { OnErr result (W.may_fail ≡ true) }
 {
-    match mt {
-        Some(mt) => write!(writer, "Message-Type: {mt}\r\n"),
-        None => Ok(()),
-    }
+    let Some(mt) = mt else {
+        return Ok(());
+    };
+    outbox.add(writer, b"Message-Type: ")?;
+    outbox.add_number(writer, mt)?;
+    outbox.add(writer, b"\r\n")
 }
 
 /// The phrase of a status code; none of another number.

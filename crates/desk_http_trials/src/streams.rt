@@ -1,8 +1,9 @@
 //! A reader that gives its bytes in pieces, and a writer that takes them so; each fails where it is told to.
 ghost use Rattle.std.specs.Prelude.{true};
 
-use desk_streams::Source;
+use desk_streams::{Sink, Source};
 use std::alloc::Global;
+use std::fmt::Display;
 use std::io;
 use std::io::{ErrorKind, Read, Write};
 
@@ -83,5 +84,21 @@ impl Write for Taking {
 
     fn flush(&mut self) -> io::Result<()> {
         Ok(())
+    }
+}
+
+impl Sink for Taking {
+    ghost may_fail = { true };
+
+    fn put(&mut self, bytes: &[u8]) -> io::Result<()> {
+        self.write_all(bytes)
+    }
+
+    fn put_text<D: Display + Drop>(&mut self, text: D) -> io::Result<()> {
+        self.write_fmt(text)
+    }
+
+    fn send(&mut self) -> io::Result<()> {
+        self.flush()
     }
 }

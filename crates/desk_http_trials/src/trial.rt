@@ -2,7 +2,7 @@
 
 use crate::failure::Failure;
 use crate::streams::{Pieces, Taking};
-use desk_book::Desk;
+use desk_book::{Desk, PIECE};
 use desk_http::{HttpFault, LONGEST_REQUEST, Routes, connection, serve_one};
 use desk_index::IndexedRegister;
 use desk_rules::MOST_ENTRIES;
@@ -11,9 +11,6 @@ use std::io;
 
 /// What comes byte by byte is no longer than this where each of its reads fails in turn.
 const SHORT: usize = 1000;
-
-/// A response has two writes at most where the writer takes all that it is given.
-const MOST_WRITES: usize = 2;
 
 /// The writer whose writes fail takes so many bytes a write.
 const MOUTHFUL: usize = 7;
@@ -117,7 +114,7 @@ impl Trial<'_> {
         match serve_one(alloc, self.routes, &mut reader, &mut writer, desk) {
             Ok(()) => Ok(
                 writer.taken.as_slice() == self.response
-                    && writer.writes <= MOST_WRITES
+                    && writer.writes == self.response.len().div_ceil(PIECE)
                     && reader.reads <= self.sent.len().min(LONGEST_REQUEST).saturating_add(1),
             ),
             Err(HttpFault::Memory) => Err(Failure::Memory),

@@ -4,6 +4,7 @@ ghost use Rattle.std.specs.Io.KnownBytes.{Appends, Keeps};
 
 use std::fmt::Display;
 use std::io::{self, Printer, Write};
+use std::net::TcpStream;
 
 /// A writer of which it is said whether a write may fail. What is written to memory wants room.
 pub trait Sink: Write {
@@ -43,6 +44,22 @@ impl<P: Print> Sink for Printer<'_, P> {
 }
 
 impl Sink for Vec<u8> {
+    ghost may_fail = { true };
+
+    fn put(&mut self, bytes: &[u8]) -> io::Result<()> {
+        self.write_all(bytes)
+    }
+
+    fn put_text<D: Display + Drop>(&mut self, text: D) -> io::Result<()> {
+        self.write_fmt(text)
+    }
+
+    fn send(&mut self) -> io::Result<()> {
+        self.flush()
+    }
+}
+
+impl Sink for &TcpStream {
     ghost may_fail = { true };
 
     fn put(&mut self, bytes: &[u8]) -> io::Result<()> {

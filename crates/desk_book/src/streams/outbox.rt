@@ -1,7 +1,8 @@
 //! Answers on their way out: they wait until there are as many bytes as are written at once.
 ghost use Rattle.std.specs.Prelude.{◌≡◌, ◌<◌, ◌≤◌, [], true, vec_capacity, vec_len, IfOk, OnErr, OnOk};
 ghost use Rattle.std.specs.Io.KnownBytes.{Appends, append_known};
-ghost use Rattle.desk_book.specs.Waiting.{HasRoom};
+ghost use Rattle.std.specs.Fmt.{decimal};
+ghost use Rattle.desk_book.specs.Waiting.{HasRoom, waits};
 ghost use Rattle.desk_book.specs.WrittenAnswers.{head_line, written_answer, written_bad_line, written_fault};
 
 use crate::fault::Fault;
@@ -21,11 +22,31 @@ pub struct Outbox {
 impl Outbox {
     /// One in which nothing waits. All the room that it needs is taken.
     pub fn new(alloc: Global) -> Result<Outbox, AllocError>
-        ensures empty { IfOk result (λ outbox. outbox.waiting.items ≡ []) }
+        ensures empty { IfOk result (λ outbox. waits outbox ≡ []) }
         ensures room { IfOk result (λ outbox. HasRoom outbox) }
     {
         let waiting = Vec::with_capacity(alloc, PIECE)?;
         Ok(Outbox { waiting })
+    }
+
+    /// Adds bytes to what waits. Each piece that is full is written. After an `Err` nothing is said of what was written.
+    pub fn add<W: Sink>(&mut self, writer: &mut W, bytes: &[u8]) -> io::Result<()>
+        requires { HasRoom self.old }
+        ensures room { OnOk result (HasRoom self.new) }
+        ensures written { OnOk result (Appends (append_known (W.contents writer.old) (waits self.old)) (append_known (W.contents writer.new) (waits self.new)) bytes.now) }
+        ensures failed { OnErr result (W.may_fail ≡ true) }
+    {
+        add(&mut self.waiting, writer, bytes)
+    }
+
+    /// Adds a number to what waits, in decimal digits, as `add` does.
+    pub fn add_number<W: Sink>(&mut self, writer: &mut W, number: u16) -> io::Result<()>
+        requires { HasRoom self.old }
+        ensures room { OnOk result (HasRoom self.new) }
+        ensures written { OnOk result (Appends (append_known (W.contents writer.old) (waits self.old)) (append_known (W.contents writer.new) (waits self.new)) (decimal number)) }
+        ensures failed { OnErr result (W.may_fail ≡ true) }
+    {
+        self.add(writer, Buffer::new().format(number).as_bytes())
     }
 
     /// Adds an answer to what waits: its status, behind a space the message type where the text is a message, the text,
@@ -39,20 +60,20 @@ impl Outbox {
     ) -> io::Result<()>
         requires { HasRoom self.old }
         ensures room { OnOk result (HasRoom self.new) }
-        ensures written { OnOk result (Appends (append_known (W.contents writer.old) self.old.waiting.items) (append_known (W.contents writer.new) self.new.waiting.items)
+        ensures written { OnOk result (Appends (append_known (W.contents writer.old) (waits self.old)) (append_known (W.contents writer.new) (waits self.new))
             (written_answer status mt text.now)) }
         ensures failed { OnErr result (W.may_fail ≡ true) }
     {
-        add_head_line(&mut self.waiting, writer, status, mt)?;
-        add(&mut self.waiting, writer, text)?;
-        add(&mut self.waiting, writer, b"\n.\n")
+        self.add_head_line(writer, status, mt)?;
+        self.add(writer, text)?;
+        self.add(writer, b"\n.\n")
     }
 
     /// Adds what stands in place of an answer.
     pub fn fault<W: Sink>(&mut self, writer: &mut W, fault: Fault) -> io::Result<()>
         requires { HasRoom self.old }
         ensures room { OnOk result (HasRoom self.new) }
-        ensures written { OnOk result (Appends (append_known (W.contents writer.old) self.old.waiting.items) (append_known (W.contents writer.new) self.new.waiting.items)
+        ensures written { OnOk result (Appends (append_known (W.contents writer.old) (waits self.old)) (append_known (W.contents writer.new) (waits self.new))
             (written_fault fault)) }
         ensures failed { OnErr result (W.may_fail ≡ true) }
     {
@@ -63,43 +84,40 @@ impl Outbox {
     pub fn bad_line<W: Sink>(&mut self, writer: &mut W) -> io::Result<()>
         requires { HasRoom self.old }
         ensures room { OnOk result (HasRoom self.new) }
-        ensures written { OnOk result (Appends (append_known (W.contents writer.old) self.old.waiting.items) (append_known (W.contents writer.new) self.new.waiting.items)
+        ensures written { OnOk result (Appends (append_known (W.contents writer.old) (waits self.old)) (append_known (W.contents writer.new) (waits self.new))
             written_bad_line) }
         ensures failed { OnErr result (W.may_fail ≡ true) }
     {
         self.answer(writer, 400, None, b"refused 41")
     }
 
+    /// Adds the first line of an answer.
+    fn add_head_line<W: Sink>(
+        &mut self,
+        writer: &mut W,
+        status: u16,
+        mt: Option<u16>,
+    ) -> io::Result<()>
+        requires { HasRoom self.old }
+        ensures room { OnOk result (HasRoom self.new) }
+        ensures written { OnOk result (Appends (append_known (W.contents writer.old) (waits self.old)) (append_known (W.contents writer.new) (waits self.new)) (head_line status mt)) }
+        ensures failed { OnErr result (W.may_fail ≡ true) }
+    {
+        self.add_number(writer, status)?;
+        if let Some(mt) = mt {
+            self.add(writer, b" ")?;
+            self.add_number(writer, mt)?;
+        }
+        self.add(writer, b"\n")
+    }
+
     /// Writes what waits still.
     pub fn finish<W: Sink>(&mut self, writer: &mut W) -> io::Result<()>
-        ensures written { OnOk result (Appends (W.contents writer.old) (W.contents writer.new) self.old.waiting.items) }
+        ensures written { OnOk result (Appends (W.contents writer.old) (W.contents writer.new) (waits self.old)) }
         ensures failed { OnErr result (W.may_fail ≡ true) }
     {
         writer.put(&self.waiting)
     }
-}
-
-/// Adds the first line of an answer to what waits.
-fn add_head_line<W: Sink>(
-    waiting: &mut Vec<u8>,
-    writer: &mut W,
-    status: u16,
-    mt: Option<u16>,
-) -> io::Result<()>
-    requires few { vec_len waiting.old < PIECE }
-    requires room { PIECE ≤ vec_capacity waiting.old }
-    ensures few { OnOk result (vec_len waiting.new < PIECE) }
-    ensures room { OnOk result (PIECE ≤ vec_capacity waiting.new) }
-    ensures written { OnOk result (Appends (append_known (W.contents writer.old) waiting.old.items) (append_known (W.contents writer.new) waiting.new.items) (head_line status mt)) }
-    ensures failed { OnErr result (W.may_fail ≡ true) }
-{
-    let mut digits = Buffer::new();
-    add(waiting, writer, digits.format(status).as_bytes())?;
-    if let Some(mt) = mt {
-        add(waiting, writer, b" ")?;
-        add(waiting, writer, digits.format(mt).as_bytes())?;
-    }
-    add(waiting, writer, b"\n")
 }
 
 /// Adds a text to what waits, and writes each piece that is full.

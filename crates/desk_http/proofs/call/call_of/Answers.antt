@@ -1,4 +1,4 @@
-use Rattle.std.proofs.Common.{sym, ◌∙◌, length, take}
+use Rattle.std.proofs.Common.{◌∙◌}
 use Rattle.desk_http.specs.Paths.{path_of}
 use Rattle.desk_http.proofs.CallLemmas.{agrees, called, differs, length_refused, no_method, no_name, no_path}
 use Rattle.desk_http.proofs.call.call_of.Goals as goal

@@ -1,5 +1,4 @@
-use Rattle.std.proofs.Common.{List, ℕ, [], append-nil, subst}
-use Rattle.desk_http.specs.Connection.{Connection}
+use Rattle.std.proofs.Common.{[], append-nil}
 use Rattle.desk_http.proofs.decision.connection.Goals as goal
 
 pub returns-in-Asks : goal.returns-in-Asks

@@ -1,4 +1,4 @@
-use Rattle.std.proofs.Common.{◌≡◌, ◌≤◌, ◌-◌, vec_len, vec_capacity}
+use Rattle.std.proofs.Common.{◌≤◌, ◌-◌, vec_len, vec_capacity}
 use Rattle.std.specs.Io.KnownBytes.{Consumes}
 use Rattle.desk_http.proofs.reading.read_request.Given as goal
 

@@ -7,7 +7,7 @@ returns-in-Ok-clause-stands g c = λ stream books asks honest holds.
 
 pub returns-in-Err-clause-responds : goal.returns-in-Err-clause-responds
 returns-in-Err-clause-responds g c = λ stream books asks honest holds.
-    none_responded c.refuse.result _ _ stream c.args.desk.now.is_closed books c.in-Err.refusal (g.R.Register.view c.args.desk.now.register) c.refuse.ensures (found_refused stream c.args.input.now c.args.found c.in-Err.refusal c.in-Err.is asks) holds
+    none_responded c.refuse.result _ _ stream c.args.desk.now.is_closed books c.in-Err.refusal (g.R.Register.view c.args.desk.now.register) c.refuse.ensures.written (found_refused stream c.args.input.now c.args.found c.in-Err.refusal c.in-Err.is asks) holds
 
 pub returns-in-Err-clause-stands : goal.returns-in-Err-clause-stands
 returns-in-Err-clause-stands g c = λ stream books asks honest holds.

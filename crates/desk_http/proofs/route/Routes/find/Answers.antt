@@ -1,5 +1,3 @@
-use Rattle.std.proofs.Common.{List, ℕ, subst, sym, ◌∙◌}
-use Rattle.matchit.specs.Seek.{first}
 use Rattle.desk_http.proofs.RouteLemmas.{found_path, on_route}
 use Rattle.desk_http.proofs.route.Routes.find.Goals as goal
 
