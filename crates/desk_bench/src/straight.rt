@@ -7,8 +7,8 @@ use desk_book::{Desk, Request};
 use desk_codes::{Bic, check_digit};
 use desk_index::IndexedRegister;
 use desk_rules::MOST_ENTRIES;
+use desk_streams::Sink;
 use std::alloc::Global;
-use std::io::Write;
 
 /// What is written.
 #[derive(Clone, Copy, Debug, PartialEq, Eq)]
@@ -28,7 +28,7 @@ const OPENING: [&[u8]; 3] = [
 
 /// Writes a line, once all is ready, and then the statement of an account that holds so many securities, or the totals of as
 /// many.
-pub fn write_straight<W: Write>(
+pub fn write_straight<W: Sink>(
     alloc: Global,
     form: Form,
     count: u32,
@@ -41,7 +41,7 @@ pub fn write_straight<W: Write>(
     for number in 0..count {
         issue(alloc, &mut desk, number)?;
     }
-    writer.write_all(b"begins\n")?;
+    writer.put(b"begins\n")?;
     match form {
         Form::Statement => {
             let owner = Bic::parse(b"ALPHDEFF").map_err(|_| Failure::Form)?;

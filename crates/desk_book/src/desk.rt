@@ -20,8 +20,8 @@ use crate::requests::task::{Task, task_of};
 use desk_codes::{AccountId, Bic};
 use desk_register::Register;
 use desk_rules::Reply;
+use desk_streams::Sink;
 use std::alloc::{AllocError, Global};
-use std::io::Write;
 use std::marker::Model;
 
 /// A desk over a register. Where what a request began cannot be taken back, or the register does not show after a
@@ -90,7 +90,7 @@ impl<R: Register> Desk<R> {
     /// WriteFailed: the writer failed, or took no byte. Memory: a growth of memory was refused. Storage: the device failed.
     /// After these two what was written, if anything, is a front of an answer, and where it cannot be shown that the tables
     /// are as before, the desk is closed from then on. Closed: the desk was closed, and nothing was written.
-    pub fn holdings_to<W: Write>(
+    pub fn holdings_to<W: Sink>(
         &mut self,
         alloc: Global,
         owner: Bic,
@@ -107,6 +107,7 @@ impl<R: Register> Desk<R> {
         ensures later { IsLater (R.view self.old.register) (R.view self.new.register) }
         ensures blame { BlamesDevice result self.new.is_closed (R.view self.old.register) (R.view self.new.register) }
         ensures in_memory { R.in_memory ≡ true → self.old.is_closed ≡ false → self.new.is_closed ≡ false }
+        ensures unwritten { result ≡ Err ToFault.WriteFailed → W.may_fail ≡ true }
     {
         let account = AccountId::read(account);
         self.report(alloc, Report::Holdings(owner, account), writer)
@@ -116,7 +117,7 @@ impl<R: Register> Desk<R> {
     /// `Request::Sums`. Gives its status, 200, and no type. No row is kept. The desk's tables stay.
     ///
     /// The faults are those of `holdings_to`.
-    pub fn sums_to<W: Write>(&mut self, alloc: Global, writer: &mut W) -> Result<Head, ToFault>
+    pub fn sums_to<W: Sink>(&mut self, alloc: Global, writer: &mut W) -> Result<Head, ToFault>
         ensures written { (books : Books) → (R.view self.new.register).is_honest → Holds self.old.is_closed (R.view self.old.register) books
             → WritesAsked (R.view self.old.register).room books sums result (W.contents writer.old) (W.contents writer.new) }
         ensures keeps { (books : Books) → (R.view self.new.register).is_honest → Holds self.old.is_closed (R.view self.old.register) books
@@ -127,12 +128,13 @@ impl<R: Register> Desk<R> {
         ensures later { IsLater (R.view self.old.register) (R.view self.new.register) }
         ensures blame { BlamesDevice result self.new.is_closed (R.view self.old.register) (R.view self.new.register) }
         ensures in_memory { R.in_memory ≡ true → self.old.is_closed ≡ false → self.new.is_closed ≡ false }
+        ensures unwritten { result ≡ Err ToFault.WriteFailed → W.may_fail ≡ true }
     {
         self.report(alloc, Report::Totals, writer)
     }
 
     /// Writes a report straight to a writer.
-    fn report<W: Write>(
+    fn report<W: Sink>(
         &mut self,
         alloc: Global,
         report: Report,
@@ -148,6 +150,7 @@ impl<R: Register> Desk<R> {
         ensures later { IsLater (R.view self.old.register) (R.view self.new.register) }
         ensures blame { BlamesDevice result self.new.is_closed (R.view self.old.register) (R.view self.new.register) }
         ensures in_memory { R.in_memory ≡ true → self.old.is_closed ≡ false → self.new.is_closed ≡ false }
+        ensures unwritten { result ≡ Err ToFault.WriteFailed → W.may_fail ≡ true }
     {
         if self.is_closed {
             return Err(ToFault::Closed);

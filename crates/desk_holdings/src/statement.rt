@@ -10,10 +10,10 @@ ghost use Rattle.desk_holdings.specs.Statement.{IsStatementDay, Writes};
 use crate::fault::WalkFault;
 use crate::walk::holdings_rows;
 use desk_codes::{AccountId, Day};
-use desk_msg::HoldingsWriter;
+use desk_msg::{HoldingsWriter, SinkFault};
 use desk_register::{Fault, Register, Stage};
+use desk_streams::Sink;
 use std::alloc::Global;
-use std::io::Write;
 
 /// 1 January 1970.
 fn first_day() -> Day
@@ -40,7 +40,7 @@ fn statement_day<R: Register>(alloc: Global, register: &mut R) -> Result<Day, Fa
 /// Sink: the writer failed, or memory was wanted for a row or for the end of the statement. Memory and Storage: a call of
 /// the register failed, or, Storage, a store does not show what it holds, as in `holdings_rows`. After an `Err` what was
 /// written, if anything, is a front of the statement; where the writer failed, nothing is said of it.
-pub fn write_statement<R: Register, W: Write>(
+pub fn write_statement<R: Register, W: Sink>(
     alloc: Global,
     register: &mut R,
     account: AccountId,
@@ -51,6 +51,7 @@ pub fn write_statement<R: Register, W: Write>(
     ensures written { Writes account result (R.view register.old) (R.view register.new) (W.contents writer.old) (W.contents writer.new) }
     ensures read { HaveRead (at_register result) (R.view register.old) (R.view register.new) }
     ensures in_memory { R.in_memory ≡ true → result ≢ Err WalkFault.Memory }
+    ensures unwritten { result ≡ Err (WalkFault.Sink SinkFault.Write) → W.may_fail ≡ true }
 {
     let limit = register.limit();
     let entries = register.count(alloc)?.min(limit);

@@ -9,7 +9,7 @@ ghost use Rattle.desk_holdings.specs.Walking.{IsNextRow};
 use crate::fault::WalkFault;
 use crate::order::is_above;
 use desk_codes::{AccountId, Isin};
-use desk_msg::{RowSink, StatementRow};
+use desk_msg::{RowSink, SinkFault, StatementRow};
 use desk_register::{Fault, Register, Stage};
 use std::alloc::Global;
 
@@ -62,6 +62,7 @@ pub fn holdings_rows<R: Register, S: RowSink>(
     ensures took { Took S.took account result (R.view register.old) (R.view register.new) sink.old sink.new }
     ensures read { HaveRead (at_register result) (R.view register.old) (R.view register.new) }
     ensures in_memory { R.in_memory ≡ true → result ≢ Err WalkFault.Memory }
+    ensures unwritten { result ≡ Err (WalkFault.Sink SinkFault.Write) → S.may_fail ≡ true }
 {
     let count = register.count(alloc)?;
     let mut last = None;

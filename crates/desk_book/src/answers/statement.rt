@@ -1,5 +1,5 @@
 //! The statement of what a participant's account holds, written straight to a writer. It only reads.
-ghost use Rattle.std.specs.Prelude.{◌≡◌, false, IfOk};
+ghost use Rattle.std.specs.Prelude.{◌≡◌, true, false, Err, IfOk};
 ghost use Rattle.desk_rules.specs.Books.{Books};
 ghost use Rattle.desk_rules.specs.Questions.{refused_question};
 ghost use Rattle.desk_rules.specs.Content.{history_of};
@@ -19,14 +19,14 @@ use desk_holdings::{WalkFault, write_statement};
 use desk_msg::SinkFault;
 use desk_register::{Fault, Register, Stage};
 use desk_rules::{Refusal, question_refused};
+use desk_streams::Sink;
 use std::alloc::Global;
-use std::io::Write;
 
 /// The type of a statement of holdings.
 const STATEMENT: u16 = 535;
 
 /// Writes what an account holds, as its owner asks for it. None names no account.
-pub fn write_holdings<R: Register, W: Write>(
+pub fn write_holdings<R: Register, W: Sink>(
     alloc: Global,
     register: &mut R,
     owner: Bic,
@@ -37,6 +37,7 @@ pub fn write_holdings<R: Register, W: Write>(
     ensures written { (books : Books) → IfTrusted (R.view register.old) (R.view register.new) (Keeps (R.view register.old).room books (R.view register.old).content
         → Writes (TellsHoldings books owner account) (told_of_walk result) (W.contents writer.old) (W.contents writer.new)) }
     ensures read { HaveRead (at_register result) (R.view register.old) (R.view register.new) }
+    ensures unwritten { result ≡ Err (WalkFault.Sink SinkFault.Write) → W.may_fail ≡ true }
 {
     let is_participant = register.participant(alloc, owner)?;
     if !is_participant {
@@ -46,7 +47,7 @@ pub fn write_holdings<R: Register, W: Write>(
 }
 
 /// Writes what an account holds, where it is this participant's.
-fn write_own_holdings<R: Register, W: Write>(
+fn write_own_holdings<R: Register, W: Sink>(
     alloc: Global,
     register: &mut R,
     owner: Bic,
@@ -57,6 +58,7 @@ fn write_own_holdings<R: Register, W: Write>(
     ensures written { (books : Books) → IfTrusted (R.view register.old) (R.view register.new) (Keeps (R.view register.old).room books (R.view register.old).content
         → Writes (TellsOwner books owner account) (told_of_walk result) (W.contents writer.old) (W.contents writer.new)) }
     ensures read { HaveRead (at_register result) (R.view register.old) (R.view register.new) }
+    ensures unwritten { result ≡ Err (WalkFault.Sink SinkFault.Write) → W.may_fail ≡ true }
 {
     let Some(account) = account else {
         return write_refusal(alloc, Refusal::AccountNotSenders.number(), writer);
@@ -86,7 +88,7 @@ fn is_own<R: Register>(
 }
 
 /// Writes the statement of an account.
-fn write_account<R: Register, W: Write>(
+fn write_account<R: Register, W: Sink>(
     alloc: Global,
     register: &mut R,
     account: AccountId,
@@ -96,6 +98,7 @@ fn write_account<R: Register, W: Write>(
     ensures written { (books : Books) → IfTrusted (R.view register.old) (R.view register.new) (Keeps (R.view register.old).room books (R.view register.old).content
         → Writes (IsStatement books account) (told_of_walk result) (W.contents writer.old) (W.contents writer.new)) }
     ensures read { HaveRead (at_register result) (R.view register.old) (R.view register.new) }
+    ensures unwritten { result ≡ Err (WalkFault.Sink SinkFault.Write) → W.may_fail ≡ true }
 {
     write_statement(alloc, register, account, writer)?;
     Ok(Head {
@@ -105,9 +108,10 @@ fn write_account<R: Register, W: Write>(
 }
 
 /// Writes the refusal of a question.
-fn write_refusal<W: Write>(alloc: Global, number: u8, writer: &mut W) -> Result<Head, WalkFault>
+fn write_refusal<W: Sink>(alloc: Global, number: u8, writer: &mut W) -> Result<Head, WalkFault>
     ensures written { Writes (λ reply. reply ≡ refused_question number) (told_of_walk result) (W.contents writer.old) (W.contents writer.new) }
     ensures register { at_register result ≡ Ok tt }
+    ensures unwritten { result ≡ Err (WalkFault.Sink SinkFault.Write) → W.may_fail ≡ true }
 {
     let Ok(reply) = question_refused(alloc, number) else {
         return Err(WalkFault::Sink(SinkFault::Memory));

@@ -1,5 +1,5 @@
 //! The totals of a register's currencies and securities, written row by row as they are read. It only reads.
-ghost use Rattle.std.specs.Prelude.{◌≡◌, ◌∷◌, ◌++◌, List, ℕ, Bool, true, is_some, IfOk, OnOk};
+ghost use Rattle.std.specs.Prelude.{◌≡◌, ◌∷◌, ◌++◌, List, ℕ, Bool, true, is_some, Err, IfOk, OnOk};
 ghost use Rattle.desk_rules.specs.Books.{Books};
 ghost use Rattle.desk_rules.specs.Content.{history_of};
 ghost use Rattle.desk_rules.specs.Facts.{kind_of};
@@ -18,15 +18,15 @@ use desk_codes::{Ccy, Isin};
 use desk_holdings::WalkFault;
 use desk_msg::SinkFault;
 use desk_register::{Fault, Register, Stage};
+use desk_streams::Sink;
 use std::alloc::Global;
-use std::io::Write;
 
 /// The currencies of the desk, in the order of their letters.
 const CURRENCIES: [Ccy; 6] = [Ccy::Chf, Ccy::Eur, Ccy::Gbp, Ccy::Jpy, Ccy::Kwd, Ccy::Usd];
 
 /// Writes the totals of all currencies that were paid in and of all securities, each row as soon as it is read. No row is
 /// kept. With no `begin` open.
-pub fn write_sums<R: Register, W: Write>(
+pub fn write_sums<R: Register, W: Sink>(
     alloc: Global,
     register: &mut R,
     writer: &mut W,
@@ -35,6 +35,7 @@ pub fn write_sums<R: Register, W: Write>(
     ensures written { (books : Books) → IfTrusted (R.view register.old) (R.view register.new) (Keeps (R.view register.old).room books (R.view register.old).content
         → Writes (λ reply. IsToldSums books reply books) (told_of_walk result) (W.contents writer.old) (W.contents writer.new)) }
     ensures read { HaveRead (at_register result) (R.view register.old) (R.view register.new) }
+    ensures unwritten { result ≡ Err (WalkFault.Sink SinkFault.Write) → W.may_fail ≡ true }
 {
     write_text(writer, b"{\"cash\":[")?;
     write_currencies(alloc, register, writer)?;
@@ -48,7 +49,7 @@ pub fn write_sums<R: Register, W: Write>(
 }
 
 /// Writes the rows of the currencies that were paid in, in the order of their letters.
-fn write_currencies<R: Register, W: Write>(
+fn write_currencies<R: Register, W: Sink>(
     alloc: Global,
     register: &mut R,
     writer: &mut W,
@@ -57,6 +58,7 @@ fn write_currencies<R: Register, W: Write>(
     ensures written { (books : Books) → IfTrusted (R.view register.old) (R.view register.new) (Keeps (R.view register.old).room books (R.view register.old).content
         → WritesText (IsCashText (R.view register.old).content) result (W.contents writer.old) (W.contents writer.new)) }
     ensures read { HaveRead (at_register result) (R.view register.old) (R.view register.new) }
+    ensures unwritten { result ≡ Err (WalkFault.Sink SinkFault.Write) → W.may_fail ≡ true }
 {
     let mut is_later = false;
     'currencies: for index in 0..CURRENCIES.len() {
@@ -66,7 +68,7 @@ fn write_currencies<R: Register, W: Write>(
 }
 
 /// Writes the row of a currency, if any of it was paid in. Gives whether a row was written up to here.
-fn write_currency<R: Register, W: Write>(
+fn write_currency<R: Register, W: Sink>(
     alloc: Global,
     register: &mut R,
     ccy: Ccy,
@@ -76,6 +78,7 @@ fn write_currency<R: Register, W: Write>(
     requires stage { (R.view register.old).stage ≡ Stage.Idle }
     ensures written { IfTrusted (R.view register.old) (R.view register.new) (WritesCurrency (R.view register.old).content ccy is_later result (W.contents writer.old) (W.contents writer.new)) }
     ensures read { HaveRead (at_register result) (R.view register.old) (R.view register.new) }
+    ensures unwritten { result ≡ Err (WalkFault.Sink SinkFault.Write) → W.may_fail ≡ true }
 {
     let Some(total) = cash_total(alloc, register, ccy)? else {
         return Ok(is_later);
@@ -105,7 +108,7 @@ fn cash_total<R: Register>(
 }
 
 /// Writes the rows of all securities, in the order of their bytes.
-fn write_securities<R: Register, W: Write>(
+fn write_securities<R: Register, W: Sink>(
     alloc: Global,
     register: &mut R,
     writer: &mut W,
@@ -114,6 +117,7 @@ fn write_securities<R: Register, W: Write>(
     ensures written { (books : Books) → IfTrusted (R.view register.old) (R.view register.new) (Keeps (R.view register.old).room books (R.view register.old).content
         → WritesText (IsSecuritiesText (R.view register.old).content) result (W.contents writer.old) (W.contents writer.new)) }
     ensures read { HaveRead (at_register result) (R.view register.old) (R.view register.new) }
+    ensures unwritten { result ≡ Err (WalkFault.Sink SinkFault.Write) → W.may_fail ≡ true }
 {
     let count = register.count(alloc)?;
     let mut last = None;
@@ -128,7 +132,7 @@ fn write_securities<R: Register, W: Write>(
 }
 
 /// Writes the row of a registered security.
-fn write_security<R: Register, W: Write>(
+fn write_security<R: Register, W: Sink>(
     alloc: Global,
     register: &mut R,
     isin: Isin,
@@ -139,6 +143,7 @@ fn write_security<R: Register, W: Write>(
     ensures written { IfTrusted (R.view register.old) (R.view register.new) (is_some (kind_of (history_of (R.view register.old).content) isin) ≡ true
         → WritesSecurity (R.view register.old).content isin is_later result (W.contents writer.old) (W.contents writer.new)) }
     ensures read { HaveRead (at_register result) (R.view register.old) (R.view register.new) }
+    ensures unwritten { result ≡ Err (WalkFault.Sink SinkFault.Write) → W.may_fail ≡ true }
 {
     let total = security_total(alloc, register, isin)?;
     let Ok(text) = security_text(alloc, &total) else {

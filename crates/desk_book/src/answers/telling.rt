@@ -1,5 +1,5 @@
 //! Answers that are written straight to a writer from an open desk's register, and what is left of it then.
-ghost use Rattle.std.specs.Prelude.{◌≡◌, true, false};
+ghost use Rattle.std.specs.Prelude.{◌≡◌, true, false, Err};
 ghost use Rattle.desk_rules.specs.Books.{Books};
 ghost use Rattle.desk_register.specs.View.{IfTrusted};
 ghost use Rattle.desk_holdings.specs.Ends.{HaveRead, at_register};
@@ -15,9 +15,10 @@ use crate::fault::ToFault;
 use desk_codes::{AccountId, Bic};
 use desk_engine::{Failure, recover};
 use desk_holdings::WalkFault;
+use desk_msg::SinkFault;
 use desk_register::{Fault, Register, Stage};
+use desk_streams::Sink;
 use std::alloc::Global;
-use std::io::Write;
 
 /// How it ended that an answer was written.
 #[derive(Clone, Copy, Debug, PartialEq, Eq)]
@@ -37,7 +38,7 @@ pub enum Report {
 }
 
 /// Writes a report to a writer, and sees what is left of the register.
-pub fn tell_to<R: Register, W: Write>(
+pub fn tell_to<R: Register, W: Sink>(
     alloc: Global,
     register: &mut R,
     report: Report,
@@ -48,6 +49,7 @@ pub fn tell_to<R: Register, W: Write>(
         → Writes (IsReported (R.view register.old).room books report) result.result (W.contents writer.old) (W.contents writer.new) }
     ensures ends { EndsWriting result.result result.is_lost (R.view register.old) (R.view register.new) }
     ensures in_memory { R.in_memory ≡ true → result.is_lost ≡ false }
+    ensures unwritten { result.result ≡ Err ToFault.WriteFailed → W.may_fail ≡ true }
 {
     let written = write_report(alloc, register, report, writer);
     let is_lost = is_lost_by(alloc, register, &written);
@@ -58,7 +60,7 @@ pub fn tell_to<R: Register, W: Write>(
 }
 
 /// Writes a report to a writer.
-fn write_report<R: Register, W: Write>(
+fn write_report<R: Register, W: Sink>(
     alloc: Global,
     register: &mut R,
     report: Report,
@@ -68,6 +70,7 @@ fn write_report<R: Register, W: Write>(
     ensures written { (books : Books) → IfTrusted (R.view register.old) (R.view register.new) (Keeps (R.view register.old).room books (R.view register.old).content
         → Writes (IsReported (R.view register.old).room books report) (told_of_walk result) (W.contents writer.old) (W.contents writer.new)) }
     ensures read { HaveRead (at_register result) (R.view register.old) (R.view register.new) }
+    ensures unwritten { result ≡ Err (WalkFault.Sink SinkFault.Write) → W.may_fail ≡ true }
 {
     match report {
         Report::Holdings(owner, account) => write_holdings(alloc, register, owner, account, writer),

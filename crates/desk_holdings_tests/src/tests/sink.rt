@@ -42,9 +42,10 @@ impl KeepingSink {
 }
 
 impl RowSink for KeepingSink {
-    ghost use Rattle.std.specs.Prelude.{◌≡◌, ◌++◌, [], ◌∷◌};
+    ghost use Rattle.std.specs.Prelude.{◌≡◌, ◌++◌, [], ◌∷◌, true};
 
     ghost took = { λ before row after. after ≡ before ++ row ∷ [] };
+    ghost may_fail = { true };
 
     fn take(&mut self, row: StatementRow) -> Result<(), SinkFault> {
         if self.rows.len() == self.room {

@@ -1,5 +1,5 @@
 //! The statement of holdings, MT535, written row by row.
-ghost use Rattle.std.specs.Prelude.{◌≡◌, ◌<◌, ◌^◌, ◌++◌, ◌∷◌, [], false, Err, IfOk, OnOk, OnErr, codes, if◌then◌else◌};
+ghost use Rattle.std.specs.Prelude.{◌≡◌, ◌<◌, ◌^◌, ◌++◌, ◌∷◌, [], true, false, Err, IfOk, OnOk, OnErr, codes, if◌then◌else◌};
 ghost use Rattle.std.specs.Str.{byte};
 ghost use Rattle.std.specs.Io.KnownBytes.{Appends};
 ghost use Rattle.desk_codes.specs.Number.{written_number};
@@ -14,9 +14,9 @@ use crate::writing::pieces::value_of;
 use crate::writing::statement_row::{RowSink, SinkFault, StatementRow};
 use crate::writing::status::{Own, own_value};
 use desk_codes::{AccountId, Day, write_number};
+use desk_streams::Sink;
 use desk_text::{BlockPart, FIRST_LINE, LAST_LINE, append_parts};
 use std::alloc::{AllocError, Global};
-use std::io::Write;
 
 /// What a statement says of itself.
 #[derive(Clone, Copy)]
@@ -179,7 +179,7 @@ pub struct HoldingsWriter<'a, W> {
     is_begun: bool,
 }
 
-impl<'a, W: Write> HoldingsWriter<'a, W> {
+impl<'a, W: Sink> HoldingsWriter<'a, W> {
     /// A statement without a row yet, of an account on a day, after so many entries. Nothing is written yet, and no
     /// memory is taken.
     ///
@@ -214,6 +214,7 @@ impl<'a, W: Write> HoldingsWriter<'a, W> {
     pub fn finish(self) -> Result<(), SinkFault>
         ensures written { OnOk result (Appends (W.contents self.entry.writer.now) (W.contents self.exit.0.now) (rest_text self.entry.heading self.entry.is_begun)) }
         ensures memory { result ≡ Err SinkFault.Memory → self.exit.0.now ≡ self.entry.writer.now }
+        ensures unwritten { result ≡ Err SinkFault.Write → W.may_fail ≡ true }
     {
         let HoldingsWriter {
             writer,
@@ -224,21 +225,22 @@ impl<'a, W: Write> HoldingsWriter<'a, W> {
         let Ok(rest) = write_rest(alloc, &heading, is_begun) else {
             return Err(SinkFault::Memory);
         };
-        match writer.write_all(&rest) {
+        match writer.put(&rest) {
             Ok(()) => Ok(()),
             Err(_) => Err(SinkFault::Write),
         }
     }
 }
 
-impl<W: Write> RowSink for HoldingsWriter<'_, W> {
+impl<W: Sink> RowSink for HoldingsWriter<'_, W> {
     ghost took = { λ before row after. TakesRow W.contents before row after };
+    ghost may_fail = { W.may_fail };
 
     fn take(&mut self, row: StatementRow) -> Result<(), SinkFault> {
         let Ok(text) = write_row(self.alloc, &self.heading, self.is_begun, row) else {
             return Err(SinkFault::Memory);
         };
-        if self.writer.write_all(&text).is_err() {
+        if self.writer.put(&text).is_err() {
             return Err(SinkFault::Write);
         }
         self.is_begun = true;
@@ -248,7 +250,8 @@ impl<W: Write> RowSink for HoldingsWriter<'_, W> {
 
 /// Hands rows to a sink, in their order.
 fn take_all<S: RowSink>(sink: &mut S, rows: &[StatementRow]) -> Result<(), SinkFault>
-    ensures { OnOk result (TookAll S.took sink.old rows.now sink.new) }
+    ensures took { OnOk result (TookAll S.took sink.old rows.now sink.new) }
+    ensures unwritten { result ≡ Err SinkFault.Write → S.may_fail ≡ true }
 {
     for row in rows {
         sink.take(*row)?;
@@ -257,7 +260,7 @@ fn take_all<S: RowSink>(sink: &mut S, rows: &[StatementRow]) -> Result<(), SinkF
 }
 
 /// Writes the statement of these rows.
-fn write_statement<W: Write>(
+fn write_statement<W: Sink>(
     alloc: Global,
     writer: &mut W,
     entries: u64,
@@ -266,7 +269,8 @@ fn write_statement<W: Write>(
     rows: &[StatementRow],
 ) -> Result<(), SinkFault>
     requires { entries < 10 ^ 15 }
-    ensures { OnOk result (Appends (W.contents writer.old) (W.contents writer.new) (holdings entries day account.now rows.now)) }
+    ensures written { OnOk result (Appends (W.contents writer.old) (W.contents writer.new) (holdings entries day account.now rows.now)) }
+    ensures unwritten { result ≡ Err SinkFault.Write → W.may_fail ≡ true }
 {
     let mut statement = HoldingsWriter::new(alloc, writer, entries, day, account);
     take_all(&mut statement, rows)?;
