@@ -73,6 +73,7 @@ impl<R: Register> Desk<R> {
             → Steps (R.view self.old.register).room books (asked_by request.now) result self.new.is_closed (R.view self.new.register) }
         ensures closed { self.new.is_closed ≡ says_closed result }
         ensures stays { self.old.is_closed ≡ true → says_closed result ≡ true }
+        ensures untouched { self.old.is_closed ≡ true → self.new ≡ self.old }
         ensures later { IsLater (R.view self.old.register) (R.view self.new.register) }
         ensures blame { BlamesRequest result (R.view self.old.register) (R.view self.new.register) }
         ensures in_memory { R.in_memory ≡ true → self.old.is_closed ≡ false → says_closed result ≡ false }
@@ -177,6 +178,7 @@ impl<R: Register> Desk<R> {
         ensures later { IsLater (R.view self.old.register) (R.view self.new.register) }
         ensures stays { self.old.is_closed ≡ true → IfOk result (λ answers. All (λ answer. says_closed answer ≡ true) answers.items) }
         ensures stays_closed { self.old.is_closed ≡ true → self.new.is_closed ≡ true }
+        ensures untouched { self.old.is_closed ≡ true → self.new ≡ self.old }
         ensures blame { IfOk result (λ answers. IfCounted (R.view self.new.register) (count_by says_storage answers.items + (R.view self.old.register).failures ≤ (R.view self.new.register).failures)) }
         ensures in_memory { R.in_memory ≡ true → self.old.is_closed ≡ false → self.new.is_closed ≡ false }
     {
@@ -197,6 +199,7 @@ impl<R: Register> Desk<R> {
             → IsPerformed (R.view self.old.register).room books task result self.new.is_closed (R.view self.new.register) }
         ensures closed { self.new.is_closed ≡ says_closed result }
         ensures stays { self.old.is_closed ≡ true → says_closed result ≡ true }
+        ensures untouched { self.old.is_closed ≡ true → self.new ≡ self.old }
         ensures later { IsLater (R.view self.old.register) (R.view self.new.register) }
         ensures blame { BlamesRequest result (R.view self.old.register) (R.view self.new.register) }
         ensures in_memory { R.in_memory ≡ true → self.old.is_closed ≡ false → says_closed result ≡ false }

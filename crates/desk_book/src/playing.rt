@@ -45,6 +45,7 @@ impl<R: Register> Desk<R> {
         ensures unwritten { result ≡ Err PlayFault.WriteFailed → O.may_fail ≡ true }
         ensures taken { (taken : List ℕ) × Consumes (I.remaining reader.old) (I.remaining reader.new) taken × (length taken ≤ LONGEST_SCRIPT + 1) }
         ensures stays { self.old.is_closed ≡ true → self.new.is_closed ≡ true }
+        ensures untouched { self.old.is_closed ≡ true → self.new ≡ self.old }
         ensures later { IsLater (R.view self.old.register) (R.view self.new.register) }
         ensures in_memory { R.in_memory ≡ true → self.old.is_closed ≡ false → self.new.is_closed ≡ false }
     {
@@ -74,6 +75,7 @@ impl<R: Register> Desk<R> {
             → PlaysFront self.old.is_closed books script.now self.new.is_closed (R.view self.old.register) (R.view self.new.register) }
         ensures failed { OnErr result (O.may_fail ≡ true) }
         ensures stays { self.old.is_closed ≡ true → self.new.is_closed ≡ true }
+        ensures untouched { self.old.is_closed ≡ true → self.new ≡ self.old }
         ensures later { IsLater (R.view self.old.register) (R.view self.new.register) }
         ensures in_memory { R.in_memory ≡ true → self.old.is_closed ≡ false → self.new.is_closed ≡ false }
     {
@@ -101,6 +103,7 @@ impl<R: Register> Desk<R> {
             → (answers : List (Result Reply Fault)) × HasPlayed self.old.is_closed books (item_of item.now ∷ []) answers self.new.is_closed (R.view self.old.register) (R.view self.new.register) }
         ensures failed { OnErr result (O.may_fail ≡ true) }
         ensures stays { self.old.is_closed ≡ true → self.new.is_closed ≡ true }
+        ensures untouched { self.old.is_closed ≡ true → self.new ≡ self.old }
         ensures later { IsLater (R.view self.old.register) (R.view self.new.register) }
         ensures in_memory { R.in_memory ≡ true → self.old.is_closed ≡ false → self.new.is_closed ≡ false }
     {

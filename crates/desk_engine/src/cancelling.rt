@@ -1,5 +1,5 @@
 //! What an accepted cancellation calls off.
-ghost use Rattle.std.specs.Prelude.{◌≡◌, IfOk, OnOk};
+ghost use Rattle.std.specs.Prelude.{◌≡◌, IfOk, OnOk, true, IsOk};
 ghost use Rattle.desk_register.specs.Changes.{appended};
 ghost use Rattle.desk_register.specs.View.{IfTrusted, IsChange, IsRead};
 ghost use Rattle.desk_rules.specs.Books.{Books};
@@ -65,6 +65,7 @@ fn off_with<R: Register>(
 ) -> Result<CallsOff, Fault>
     ensures value { Reading (R.view register.old) (R.view register.new) (λ c. IfOk result (λ r. r ≡ off_with c.standing number state mate)) }
     ensures read { IsRead result (R.view register.old) (R.view register.new) }
+    ensures in_memory { R.in_memory ≡ true → IsOk result }
 {
     let Some(mate) = mate else {
         return Ok(CallsOff::Nothing(state));
@@ -84,6 +85,7 @@ fn off_by<R: Register>(
 ) -> Result<CallsOff, Fault>
     ensures value { Reading (R.view register.old) (R.view register.new) (λ c. IfOk result (λ r. r ≡ off_by c.standing named)) }
     ensures read { IsRead result (R.view register.old) (R.view register.new) }
+    ensures in_memory { R.in_memory ≡ true → IsOk result }
 {
     let Some(number) = named else {
         return Ok(CallsOff::Nothing(State::NoInstruction));
@@ -105,6 +107,7 @@ pub fn calls_off<R: Register>(
 ) -> Result<CallsOff, Fault>
     ensures value { Reading (R.view register.old) (R.view register.new) (λ c. IfOk result (λ r. r ≡ off_by c.standing (named_by (history_of c) sender.now order.now))) }
     ensures read { IsRead result (R.view register.old) (R.view register.new) }
+    ensures in_memory { R.in_memory ≡ true → IsOk result }
 {
     let named = instruction_named(alloc, register, sender, order)?;
     off_by(alloc, register, named)

@@ -1,5 +1,5 @@
 //! Why an entry whose key is new is refused: the first check that fails.
-ghost use Rattle.std.specs.Prelude.{◌≡◌, ◌+◌, nat_lt, not, is_some, List, [], ◌∷◌, IfOk, bytes_eq, option_map};
+ghost use Rattle.std.specs.Prelude.{◌≡◌, ◌+◌, nat_lt, not, is_some, List, [], ◌∷◌, IfOk, bytes_eq, option_map, true, IsOk};
 ghost use Rattle.desk_codes.specs.Number.{number_of};
 ghost use Rattle.desk_register.specs.Looked.{IsPaid};
 ghost use Rattle.desk_register.specs.View.{IsRead};
@@ -61,6 +61,7 @@ fn refuse_participant<R: Register>(
     ensures value { Reading (R.view register.old) (R.view register.new) (λ c. IfOk result (λ r.
         r ≡ first_refusal (check (is_participant (history_of c) bic) Refusal.Exists ∷ []))) }
     ensures read { IsRead result (R.view register.old) (R.view register.new) }
+    ensures in_memory { R.in_memory ≡ true → IsOk result }
 {
     if register.participant(alloc, bic)? {
         return Ok(Some(Refusal::Exists));
@@ -78,6 +79,7 @@ fn refuse_account<R: Register>(
     ensures value { Reading (R.view register.old) (R.view register.new) (λ c. IfOk result (λ r.
         r ≡ first_refusal (check (is_some (owner_of (history_of c) account)) Refusal.Exists ∷ check (not (is_participant (history_of c) bic)) Refusal.ParticipantUnknown ∷ []))) }
     ensures read { IsRead result (R.view register.old) (R.view register.new) }
+    ensures in_memory { R.in_memory ≡ true → IsOk result }
 {
     if register.owner(alloc, account)?.is_some() {
         return Ok(Some(Refusal::Exists));
@@ -97,6 +99,7 @@ fn refuse_security<R: Register>(
     ensures value { Reading (R.view register.old) (R.view register.new) (λ c. IfOk result (λ r.
         r ≡ first_refusal (check (is_some (kind_of (history_of c) isin)) Refusal.Exists ∷ []))) }
     ensures read { IsRead result (R.view register.old) (R.view register.new) }
+    ensures in_memory { R.in_memory ≡ true → IsOk result }
 {
     if register.security(alloc, isin)?.is_some() {
         return Ok(Some(Refusal::Exists));
@@ -113,6 +116,7 @@ fn refuse_issue<R: Register>(
     ensures value { Reading (R.view register.old) (R.view register.new) (λ c. IfOk result (λ r.
         r ≡ first_refusal (checks_in c (Entry.Issue movement.now)))) }
     ensures read { IsRead result (R.view register.old) (R.view register.new) }
+    ensures in_memory { R.in_memory ≡ true → IsOk result }
 {
     if register.owner(alloc, movement.account)?.is_none() {
         return Ok(Some(Refusal::AccountUnknown));
@@ -135,6 +139,7 @@ fn refuse_redemption<R: Register>(
     ensures value { Reading (R.view register.old) (R.view register.new) (λ c. IfOk result (λ r.
         r ≡ first_refusal (checks_in c (Entry.Redeem movement.now)))) }
     ensures read { IsRead result (R.view register.old) (R.view register.new) }
+    ensures in_memory { R.in_memory ≡ true → IsOk result }
 {
     if register.owner(alloc, movement.account)?.is_none() {
         return Ok(Some(Refusal::AccountUnknown));
@@ -168,6 +173,7 @@ fn refuse_pay_in<R: Register>(
     ensures value { Reading (R.view register.old) (R.view register.new) (λ c. IfOk result (λ r.
         r ≡ first_refusal (checks_in c (Entry.PayIn payment.now)))) }
     ensures read { IsRead result (R.view register.old) (R.view register.new) }
+    ensures in_memory { R.in_memory ≡ true → IsOk result }
 {
     if !register.participant(alloc, payment.bic)? {
         return Ok(Some(Refusal::ParticipantUnknown));
@@ -188,6 +194,7 @@ fn refuse_pay_out<R: Register>(
     ensures value { Reading (R.view register.old) (R.view register.new) (λ c. IfOk result (λ r.
         r ≡ first_refusal (checks_in c (Entry.PayOut payment.now)))) }
     ensures read { IsRead result (R.view register.old) (R.view register.new) }
+    ensures in_memory { R.in_memory ≡ true → IsOk result }
 {
     if !register.participant(alloc, payment.bic)? {
         return Ok(Some(Refusal::ParticipantUnknown));
@@ -208,6 +215,7 @@ fn refuse_instruction<R: Register>(
     ensures value { Reading (R.view register.old) (R.view register.new) (λ c. IfOk result (λ r.
         r ≡ first_refusal (checks_in c (Entry.Instruct sender.now instruction.now)))) }
     ensures read { IsRead result (R.view register.old) (R.view register.new) }
+    ensures in_memory { R.in_memory ≡ true → IsOk result }
 {
     if !is_desk(&instruction.place) {
         return Ok(Some(Refusal::PlaceNotUs));
@@ -251,6 +259,7 @@ fn refuse_cancellation<R: Register>(
     ensures value { Reading (R.view register.old) (R.view register.new) (λ c. IfOk result (λ r.
         r ≡ first_refusal (checks_in c (Entry.Cancel sender.now order.now)))) }
     ensures read { IsRead result (R.view register.old) (R.view register.new) }
+    ensures in_memory { R.in_memory ≡ true → IsOk result }
 {
     let Some(number) = instruction_named(alloc, register, sender, order)? else {
         return Ok(Some(Refusal::NoSuchInstruction));
@@ -268,6 +277,7 @@ fn refuse_run<R: Register>(
     ensures value { Reading (R.view register.old) (R.view register.new) (λ c. IfOk result (λ r.
         r ≡ first_refusal (check (is_after (last_run (history_of c)) (number_of day)) Refusal.DayGoesBack ∷ []))) }
     ensures read { IsRead result (R.view register.old) (R.view register.new) }
+    ensures in_memory { R.in_memory ≡ true → IsOk result }
 {
     let last = register.last_run(alloc)?;
     if goes_back(last, day) {
@@ -284,6 +294,7 @@ pub fn refuse<R: Register>(
 ) -> Result<Option<Refusal>, Fault>
     ensures value { Reading (R.view register.old) (R.view register.new) (λ c. IfOk result (λ r. r ≡ first_refusal (checks_in c entry.now))) }
     ensures read { IsRead result (R.view register.old) (R.view register.new) }
+    ensures in_memory { R.in_memory ≡ true → IsOk result }
 {
     match entry {
         Entry::Participant { bic, .. } => refuse_participant(alloc, register, *bic),

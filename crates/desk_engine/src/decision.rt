@@ -1,5 +1,5 @@
 //! What the desk decides on an entry, whatever register it keeps.
-ghost use Rattle.std.specs.Prelude.{◌≡◌, ◌↔◌, nat_le, length, option_map, IfOk, IsTrue, Some};
+ghost use Rattle.std.specs.Prelude.{◌≡◌, ◌↔◌, nat_le, length, option_map, IfOk, IsTrue, Some, true, IsOk};
 ghost use Rattle.desk_register.specs.View.{IsRead};
 ghost use Rattle.desk_rules.specs.History.{as_asked, sender_of};
 ghost use Rattle.desk_engine.specs.Deciding.{IsVerdictIfKnown};
@@ -23,6 +23,7 @@ pub fn is_from_stranger<R: Register>(
 ) -> Result<bool, Fault>
     ensures value { Reading (R.view register.old) (R.view register.new) (λ c. IfOk result (λ r. r ≡ is_from_stranger (history_of c) (sender_of entry.now))) }
     ensures read { IsRead result (R.view register.old) (R.view register.new) }
+    ensures in_memory { R.in_memory ≡ true → IsOk result }
 {
     match entry.sender() {
         Sender::Operator => Ok(false),
@@ -61,6 +62,7 @@ fn verdict_on_key<R: Register>(
 ) -> Result<Option<Verdict>, Fault>
     ensures value { Reading (R.view register.old) (R.view register.new) (λ c. IfOk result (λ r. IsVerdictIfKnown (history_of c) entry.now r)) }
     ensures read { IsRead result (R.view register.old) (R.view register.new) }
+    ensures in_memory { R.in_memory ≡ true → IsOk result }
 {
     let sender = entry.sender();
     let reference = entry.reference();
@@ -83,6 +85,7 @@ fn verdict_on_new<R: Register>(
 ) -> Result<Verdict, Fault>
     ensures value { Reading (R.view register.old) (R.view register.new) (λ c. IfOk result (λ r. r ≡ first_failing (checks_in c entry.now) (nat_le limit (length (history_of c))))) }
     ensures read { IsRead result (R.view register.old) (R.view register.new) }
+    ensures in_memory { R.in_memory ≡ true → IsOk result }
 {
     if let Some(refusal) = refuse(alloc, register, entry)? {
         return Ok(Verdict::Refuse(refusal));
@@ -97,6 +100,7 @@ fn verdict_on_new<R: Register>(
 pub fn decide<R: Register>(alloc: Global, register: &mut R, entry: &Entry) -> Result<Verdict, Fault>
     ensures verdict { (books : Books) → Reading (R.view register.old) (R.view register.new) (λ c. AreTables books c → IfOk result (λ verdict. IsVerdict (R.view register.old).room books entry.now verdict)) }
     ensures read { IsRead result (R.view register.old) (R.view register.new) }
+    ensures in_memory { R.in_memory ≡ true → IsOk result }
 {
     let limit = register.limit();
     if is_from_stranger(alloc, register, entry)? {

@@ -1,5 +1,5 @@
 //! The instruction that a cancellation names.
-ghost use Rattle.std.specs.Prelude.{◌≡◌, ◌==◌, IfOk};
+ghost use Rattle.std.specs.Prelude.{◌≡◌, ◌==◌, IfOk, true, IsOk};
 ghost use Rattle.desk_msg.specs.MessageType.{number_of_type};
 ghost use Rattle.desk_register.specs.View.{IsRead};
 ghost use Rattle.desk_rules.specs.Content.{history_of};
@@ -40,6 +40,7 @@ pub fn instruction_named<R: Register>(
 ) -> Result<Option<u64>, Fault>
     ensures value { Reading (R.view register.old) (R.view register.new) (λ c. IfOk result (λ r. r ≡ named_by (history_of c) sender.now order.now)) }
     ensures read { IsRead result (R.view register.old) (R.view register.new) }
+    ensures in_memory { R.in_memory ≡ true → IsOk result }
 {
     let key = Sender::Participant(*sender);
     let Some(number) = register.number_of(alloc, key, order.previous)? else {

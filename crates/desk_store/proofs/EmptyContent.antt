@@ -50,6 +50,11 @@ begun_making old new has (Ok count) h =
     record { is_open = r.1.is_open; now = r.1.now_is; committed = r.1.committed_is; mode = r.1.mode; marks = r.4 }
 begun_making old new has (Err e) h = tt
 
+-- it begins where none was open
+pub begun_outside : (old new : State) → old.now.schema ≡ no_schema → (r : Result ℕ Error) → Executes begin_text [] old new r → OnOk r (old.in_transaction ≡ false)
+begun_outside old new has (Ok count) h = (runs_as begin_text [] old new no_schema has Begin begin_is begin_plain count h).0
+begun_outside old new has (Err e) h = tt
+
 -- ---- no row, no content
 
 -- each table is empty

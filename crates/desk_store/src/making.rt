@@ -27,6 +27,7 @@ use std::alloc::Global;
 /// Begins the transaction in which the tables are made: where there are none yet, `begin` of the desk's tables says nothing.
 fn begin_making<S: Alter>(conn: &mut Connection<S>) -> Result<usize, Error>
     ensures ok { HasCleanDisk (state S.Store conn.new) → IsTrue (state S.Store conn.old).is_open → (state S.Store conn.old).now.schema ≡ no_schema → OnOk result (Begins (state S.Store conn.old) (state S.Store conn.new)) }
+    ensures outside { HasCleanDisk (state S.Store conn.new) → (state S.Store conn.old).now.schema ≡ no_schema → OnOk result ((state S.Store conn.old).in_transaction ≡ false) }
     ensures later { IsLater (state S.Store conn.old) (state S.Store conn.new) }
 {
     conn.execute("BEGIN", &[])
@@ -46,6 +47,7 @@ fn has_no_table<S: Alter>(conn: &Connection<S>) -> bool
 /// Makes the tables, in one transaction, and says their version.
 fn make<S: Alter>(conn: &mut Connection<S>) -> Result<(), Error>
     ensures made { HasCleanDisk (state S.Store conn.new) → IsTrue (state S.Store conn.old).is_open → (state S.Store conn.old).now.schema ≡ no_schema → OnOk result (IsMade (state S.Store conn.new)) }
+    ensures outside { HasCleanDisk (state S.Store conn.new) → (state S.Store conn.old).now.schema ≡ no_schema → OnOk result ((state S.Store conn.old).in_transaction ≡ false) }
     ensures later { IsLater (state S.Store conn.old) (state S.Store conn.new) }
 {
     begin_making(conn)?;
@@ -71,6 +73,8 @@ impl<S: Alter + Drop> SqlRegister<S> {
         ensures limit { IfOk result (λ r. r.room ≡ limit) }
         ensures stage { IfOk result (λ r. r.stage ≡ Stage.Idle) }
         ensures unmade { IfOk result (λ r. (state S.Store conn).now.schema ≡ no_schema) }
+        ensures outside { IfOk result (λ r. HasCleanDisk (state S.Store r.connection) → (state S.Store conn).in_transaction ≡ false) }
+        ensures no_failure { IfOk result (λ r. r.failures ≡ 0) }
     {
         if !has_no_table(&conn) {
             return Err(Error::SqliteFailure(ErrorCode::CannotOpen));
@@ -105,6 +109,7 @@ impl SqlRegister<MemStore> {
         ensures honest { IfOk result (λ r. (shown (state over_memory r.connection) r.stage r.failures r.room).is_honest) }
         ensures limit { IfOk result (λ r. r.room ≡ limit) }
         ensures stage { IfOk result (λ r. r.stage ≡ Stage.Idle) }
+        ensures no_failure { IfOk result (λ r. r.failures ≡ 0) }
     {
         let conn = Connection::open_in_memory(alloc)?;
         SqlRegister::new(conn, limit)

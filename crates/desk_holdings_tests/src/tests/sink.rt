@@ -45,6 +45,7 @@ impl RowSink for KeepingSink {
     ghost use Rattle.std.specs.Prelude.{◌≡◌, ◌++◌, [], ◌∷◌, true};
 
     ghost took = { λ before row after. after ≡ before ++ row ∷ [] };
+
     ghost may_fail = { true };
 
     fn take(&mut self, row: StatementRow) -> Result<(), SinkFault> {

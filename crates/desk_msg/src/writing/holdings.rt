@@ -234,6 +234,7 @@ impl<'a, W: Sink> HoldingsWriter<'a, W> {
 
 impl<W: Sink> RowSink for HoldingsWriter<'_, W> {
     ghost took = { λ before row after. TakesRow W.contents before row after };
+
     ghost may_fail = { W.may_fail };
 
     fn take(&mut self, row: StatementRow) -> Result<(), SinkFault> {

@@ -31,3 +31,13 @@ returns-clause-made g c clean is_open blank =
       mode = done.mode;
       marks = done.marks;
     }
+
+pub returns-clause-outside : goal.returns-clause-outside
+returns-clause-outside g c clean blank =
+    let s1 = state g.S.Store c.begin_making.new.conn in
+    let s2 = state g.S.Store c.make_tables.new.conn in
+    let s3 = state g.S.Store c.set_version.new.conn in
+    let clean3 : HasCleanDisk s3 = omega (arith, clean, c.commit.ensures.later.clean) in
+    let clean2 : HasCleanDisk s2 = omega (arith, clean3, c.set_version.ensures.write.later.clean) in
+    let clean1 : HasCleanDisk s1 = omega (arith, clean2, c.make_tables.ensures.later.clean) in
+    c.in_ok-begin_making.ensures.outside clean1 blank

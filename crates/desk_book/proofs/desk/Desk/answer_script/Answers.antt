@@ -1,3 +1,4 @@
+use Rattle.std.proofs.Common.{refl, ◌∙◌}
 use Rattle.std.specs.Io.KnownBytes.{append_known}
 use Rattle.desk_book.specs.Script.{item_of}
 use Rattle.desk_book.proofs.RunLemmas.{later_on, never_later}
@@ -9,6 +10,7 @@ items-init g c =
     let v0 = g.R.Register.view c.args.self.now.register in
     record {
       closed = λ was. was;
+      untouched = λ was. refl;
       in_memory = λ is not_closed. not_closed;
       room = c.requires.room;
       later = never_later v0;
@@ -24,6 +26,7 @@ items-preserved g c =
     let v2 = g.R.Register.view c.answer_item.new.self.register in
     record {
       closed = λ was. a.stays (i.closed was);
+      untouched = λ was. a.untouched (i.closed was) ∙ i.untouched was;
       in_memory = λ is not_closed. a.in_memory is (i.in_memory is not_closed);
       room = a.room;
       later = later_on v0 v1 v2 i.later a.later;

@@ -10,6 +10,7 @@ use Rattle.desk_book.proofs.desk.Desk.answer_script.Given as goal
 abbrev pub invariant-items : goal.invariant-items
 invariant-items g l = record {
   closed : l.fn.self.is_closed ≡ true → l.self.is_closed ≡ true;
+  untouched : l.fn.self.is_closed ≡ true → l.self ≡ l.fn.self;
   in_memory : g.R.Register.in_memory ≡ true → l.fn.self.is_closed ≡ false → l.self.is_closed ≡ false;
   room : HasRoom l.outbox;
   later : IsLater (g.R.Register.view l.fn.self.register) (g.R.Register.view l.self.register);

@@ -18,6 +18,7 @@ requests-preserved g c =
       room = search rules;
       count = search rules;
       closed = λ was. (let stays = a.stays (i.closed was).0 in (a.closed ∙ stays, rw items (All-push (λ answer. says_closed answer ≡ true) c.requests.answers.items c.ask-answer.result (i.closed was).1 stays)));
+      untouched = λ was. a.untouched (i.closed was).0 ∙ i.untouched was;
       blame = rw items (blamed v0 v1 v2 c.requests.answers.items c.ask-answer.result a.later i.blame a.blame);
       in_memory = λ is not_closed. a.closed ∙ a.in_memory is (i.in_memory is not_closed);
       later = later_on v0 v1 v2 i.later a.later;

@@ -12,6 +12,7 @@ invariant-requests g l = record {
   room : length l.requests ≤ vec_capacity l.answers;
   count : vec_len l.answers ≡ l.request-index;
   closed : l.fn.self.is_closed ≡ true → (l.self.is_closed ≡ true) × All (λ answer. says_closed answer ≡ true) l.answers.items;
+  untouched : l.fn.self.is_closed ≡ true → l.self ≡ l.fn.self;
   blame : IfCounted (g.R.Register.view l.self.register) (count_by says_storage l.answers.items + (g.R.Register.view l.fn.self.register).failures ≤ (g.R.Register.view l.self.register).failures);
   in_memory : g.R.Register.in_memory ≡ true → l.fn.self.is_closed ≡ false → l.self.is_closed ≡ false;
   later : IsLater (g.R.Register.view l.fn.self.register) (g.R.Register.view l.self.register);
