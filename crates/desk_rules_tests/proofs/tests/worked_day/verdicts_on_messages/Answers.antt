@@ -1,9 +1,0 @@
-use Rattle.std.specs.Prelude.{◌≡◌, ℕ, refl, option_and_then}
-use Rattle.std.proofs.Common.{ap, arith}
-use Rattle.desk_rules.specs.History.{instructed}
-use Rattle.desk_rules.specs.Balances.{quantity_on}
-use Rattle.desk_rules_tests.specs.WorkedDay.{a_1, share}
-use Rattle.desk_rules_tests.proofs.tests.worked_day.verdicts_on_messages.Goals as goal
-
-pub returns-clause-reused : goal.returns-clause-reused
-returns-clause-reused c = (refl, λ e. let same : ◌≡◌ {A = ℕ} 400 401 = ap (λ x. quantity_on a_1 share (option_and_then instructed x)) e in omega arith)
