@@ -1,8 +1,18 @@
 -- What the parser of words makes of those that ask for something, and what is taken for a call says it.
-use Rattle.std.proofs.Common.{◌≡◌, ◌≢◌, ◌==◌, ◌∙◌, ◌⊎◌, inl, inr, sym, ap, ap₂, ℕ, Bool, true, false, List, [], ◌∷◌, Option, Some, None, option_map, slice_index, codes, refl, arith, subst}
-use Rattle.std.specs.Prelude.{IfSome, IsSomeAnd}
+use Rattle.std.proofs.Common.{◌≡◌, ◌≢◌, ◌==◌, ◌∙◌, ◌⊎◌, ◌<◌, ◌≤◌, ◌^◌, inl, inr, sym, ap, ap₂, ℕ, Bool, true, false, List, [], ◌∷◌, Option, Some, None, option_map, slice_index, codes, refl, arith, subst}
+use Rattle.std.specs.Prelude.{IfSome, IsSomeAnd, pos, decimal, FitsSigned, ◌≤ℤ◌}
+use Rattle.std.specs.Int.{w64}
+use Rattle.std.specs.Char.{digit_value}
+use Rattle.std.specs.Str.Parse.{IsNumeral, digits_value, signed_digits_value, starts_with_minus, without_leading_plus, without_leading_sign}
+use Rattle.std.proofs.lemmas.Bool.{le-leb}
+use Rattle.std.proofs.lemmas.Fmt.{decimal_is_IsNumeral}
+use Rattle.clap.specs.ValueTests.{is_signed_in}
+use Rattle.clap.specs.declared.builder.value_parser.ValueParser.TheVariants.{Signed}
+use Rattle.clap.proofs.ValueTestLemmas.{Accepts-accepts}
+use lib.Signed.{le_z_yes}
+use lib.Dec.{T}
 use Rattle.std.specs.Str.{bytes_eq}
-use Rattle.clap.specs.Lexer.{long_of, short_of}
+use Rattle.clap.specs.Lexer.{long_of, short_of, without_minus}
 use Rattle.std.specs.Box.{box_value}
 use Rattle.clap.specs.declared.parser.matches.ArgMatches.{ArgMatches}
 use Rattle.clap.specs.declared.parser.matches.ArgMatches.TheViews.{out-ArgMatches, out-SubCommand}
@@ -45,6 +55,79 @@ no_short : (word : List ℕ) → slice_index word 0 ≢ 45 → short_of word ≡
 no_short [] other = refl
 no_short (c ∷ word) other = let e : (c == 45) ≡ false = is_other c other in rw e refl
 
+no_minus : (word : List ℕ) → slice_index word 0 ≢ 45 → without_minus word ≡ word
+no_minus [] other = refl
+no_minus (c ∷ word) other = let e : (c == 45) ≡ false = is_other c other in rw e refl
+
+-- a number that is written in digits begins with no sign, and lies between bounds where it does
+
+is_digit : (c : ℕ) → digit_value c < 10 → (c ≢ 45) × (c ≢ 43)
+is_digit c digit = (
+  (λ is. (let bad : digit_value 45 < 10 = subst (λ d. digit_value d < 10) is digit in absurd (omega (arith, bad)))),
+  (λ is. (let bad : digit_value 43 < 10 = subst (λ d. digit_value d < 10) is digit in absurd (omega (arith, bad)))),
+)
+
+is_no_plus : (c : ℕ) → c ≢ 43 → (c == 43) ≡ false
+is_no_plus c other = go (c == 43) refl
+  where
+    go : (b : Bool) → (c == 43) ≡ b → (c == 43) ≡ false
+    go false e = e
+    go true e = grind (arith, other, e)
+
+no_sign : (text : List ℕ) → IsNumeral 10 text → (slice_index text 0 ≢ 45) × (starts_with_minus text ≡ false) × (without_leading_sign text ≡ text) × (without_leading_plus text ≡ text)
+no_sign [] numeral = absurd (omega (arith, numeral.0))
+no_sign (c ∷ text) numeral =
+    let digit = is_digit c numeral.1.0 in
+    let minus : (c == 45) ≡ false = is_other c digit.0 in
+    let plus : (c == 43) ≡ false = is_no_plus c digit.1 in
+    (digit.0, minus, rw (minus, plus) refl, rw plus refl)
+
+in_order : (a b : ℕ) → a ≤ b → pos a ≤ℤ pos b
+in_order a b h = le_z_yes (subst T (sym (le-leb a b h)) tt)
+
+signed_in : (text : List ℕ) (n high : ℕ) → IsNumeral 10 text → digits_value 10 text ≡ n → 1 ≤ n → n ≤ high → high < 2 ^ 63 → is_signed_in (pos 1) (pos high) text ≡ true
+signed_in text n high numeral value low most small =
+    let plain = no_sign text numeral in
+    let z : signed_digits_value 10 text ≡ pos n = rw (plain.2, plain.1) (ap pos value) in
+    let below : n < 2 ^ 63 = omega (arith, most, small) in
+    Accepts-accepts false (Signed (pos 1) (pos high)) text (
+      subst (IsNumeral 10) (sym plain.2) numeral,
+      subst (FitsSigned w64) (sym z) (record { sfits = below }),
+      subst (λ v. pos 1 ≤ℤ v) (sym z) (in_order 1 n low),
+      subst (λ v. v ≤ℤ pos high) (sym z) (in_order n high most),
+    )
+
+-- and it is read as that number
+module _ (n : ℕ) (small : n < 2 ^ 64) where
+  pub reads_back : (k : ℕ) → n < 2 ^ k → IsNumeral 10 (without_leading_plus (decimal n)) × (digits_value 10 (without_leading_plus (decimal n)) < 2 ^ k)
+  reads_back k fits =
+      let is = decimal_is_IsNumeral n small in
+      rw ((no_sign (decimal n) is.0).3) (is.0, rw is.1 fits)
+
+  pub read_value : digits_value 10 (without_leading_plus (decimal n)) ≡ n
+  read_value = let is = decimal_is_IsNumeral n small in rw ((no_sign (decimal n) is.0).3) is.1
+
+-- what the parser finds of a number that is written in digits
+record IsTaken (high : ℕ) (text : List ℕ) : Type 0 where
+  dashes : bytes_eq text (45 ∷ 45 ∷ []) ≡ false
+  long : long_of text ≡ None
+  short : short_of text ≡ None
+  plain : without_minus text ≡ text
+  fits : is_signed_in (pos 1) (pos high) text ≡ true
+
+number_taken : (n high : ℕ) → 1 ≤ n → n ≤ high → high < 2 ^ 63 → IsTaken high (decimal n)
+number_taken n high low most small =
+    let below : n < 2 ^ 64 = omega (arith, most, small) in
+    let is = decimal_is_IsNumeral n below in
+    let other = (no_sign (decimal n) is.0).0 in
+    record {
+      dashes = no_dashes (decimal n) other;
+      long = no_long (decimal n) other;
+      short = no_short (decimal n) other;
+      plain = no_minus (decimal n) other;
+      fits = signed_in (decimal n) n high is.0 is.1 low most small;
+    }
+
 -- the words are taken
 
 takes_isin : (program code : List ℕ) → bytes_eq code (45 ∷ 45 ∷ []) ≡ false → long_of code ≡ None → short_of code ≡ None → takes desk_app (program ∷ words_for (isin code)) ≡ true
@@ -74,14 +157,24 @@ takes_explain : (program : List ℕ) → takes desk_app (program ∷ words_for (
 unfolding clap_on_literals
 takes_explain program = refl
 
+takes_number : (program text : List ℕ) → IsTaken 99 text → takes desk_app (program ∷ codes "explain" ∷ text ∷ []) ≡ true
+unfolding clap_on_literals
+takes_number program text is = rw (is.dashes, is.long, is.short, is.fits) refl
+
+takes_service : (program port count : List ℕ) → IsTaken 65535 port → IsTaken 1000000 count
+    → takes desk_app (program ∷ codes "serve" ∷ codes "--port" ∷ port ∷ codes "--count" ∷ count ∷ []) ≡ true
+unfolding clap_on_literals
+takes_service program port count a b = rw (a.dashes, a.long, a.short, a.fits, b.dashes, b.long, b.short, b.fits) refl
+
 pub takes_asked : (program : List ℕ) (asked : CallValue) → IsAskable asked → takes desk_app (program ∷ words_for asked) ≡ true
 takes_asked program (isin code) other = takes_isin program code (no_dashes code other) (no_long code other) (no_short code other)
 takes_asked program (read mt) is = takes_read program mt is
 takes_asked program play is = takes_play program
 takes_asked program check is = takes_check program
 takes_asked program (explain Catalogue) is = takes_explain program
-takes_asked program (explain (Number number)) never = absurd never
-takes_asked program (serve port count) never = absurd never
+takes_asked program (explain (Number number)) is = takes_number program (decimal number) (number_taken number 99 is.0 is.1 (omega arith))
+takes_asked program (serve port count) is =
+    takes_service program (decimal port) (decimal count) (number_taken port 65535 is.0.0 is.0.1 (omega arith)) (number_taken count 1000000 is.1 is.2 (omega arith))
 
 pub takes_nothing : (program : List ℕ) → takes desk_app (program ∷ []) ≡ true
 unfolding clap_on_literals
@@ -118,14 +211,44 @@ enters_explain : (program : List ℕ) → IsSomeAnd (subcommand_of desk_app (pro
 unfolding clap_on_literals
 enters_explain program = (refl, refl)
 
+enters_number : (program text : List ℕ) → IsTaken 99 text
+    → IsSomeAnd (subcommand_of desk_app (program ∷ codes "explain" ∷ text ∷ [])) (λ p. (p.0 ≡ codes "explain") × (first_of (codes "number") p.1 ≡ Some text) × (one_of (codes "number") p.1 ≡ Some text))
+unfolding clap_on_literals
+enters_number program text is = (refl, rw (is.dashes, is.long, is.short) refl, rw (is.dashes, is.long, is.short, is.plain) refl)
+
+enters_service : (program port count : List ℕ) → IsTaken 65535 port → IsTaken 1000000 count
+    → IsSomeAnd (subcommand_of desk_app (program ∷ codes "serve" ∷ codes "--port" ∷ port ∷ codes "--count" ∷ count ∷ []))
+    (λ p. (p.0 ≡ codes "serve") × (one_of (codes "port") p.1 ≡ Some port) × (one_of (codes "count") p.1 ≡ Some count))
+unfolding clap_on_literals
+enters_service program port count a b =
+    (refl, rw (a.dashes, a.long, a.short, b.dashes, b.long, b.short, a.plain) refl, rw (a.dashes, a.long, a.short, b.dashes, b.long, b.short, b.plain) refl)
+
+number_entered : (found : Option (List ℕ × List Row)) (n : ℕ) → n < 2 ^ 8
+    → IsSomeAnd found (λ p. (p.0 ≡ codes "explain") × (first_of (codes "number") p.1 ≡ Some (decimal n)) × (one_of (codes "number") p.1 ≡ Some (decimal n)))
+    → IsSomeAnd found (λ p. IsSpelledOut (explain (Number n)) p.0 p.1)
+number_entered None n small is = is
+number_entered (Some p) n small is = (is.0, is.1, is.2, small)
+
+service_entered : (found : Option (List ℕ × List Row)) (port count : ℕ) → port < 2 ^ 16 → count < 2 ^ 32
+    → IsSomeAnd found (λ p. (p.0 ≡ codes "serve") × (one_of (codes "port") p.1 ≡ Some (decimal port)) × (one_of (codes "count") p.1 ≡ Some (decimal count)))
+    → IsSomeAnd found (λ p. IsSpelledOut (serve port count) p.0 p.1)
+service_entered None port count a b is = is
+service_entered (Some p) port count a b is = (is.0, is.1, a, is.2, b)
+
 pub enters_asked : (program : List ℕ) (asked : CallValue) → IsAskable asked → IsSomeAnd (subcommand_of desk_app (program ∷ words_for asked)) (λ p. IsSpelledOut asked p.0 p.1)
 enters_asked program (isin code) other = enters_isin program code (no_dashes code other) (no_long code other) (no_short code other)
 enters_asked program (read mt) is = enters_read program mt is
 enters_asked program play is = enters_play program
 enters_asked program check is = enters_check program
 enters_asked program (explain Catalogue) is = enters_explain program
-enters_asked program (explain (Number number)) never = absurd never
-enters_asked program (serve port count) never = absurd never
+enters_asked program (explain (Number number)) is =
+    let small : number < 2 ^ 8 = omega (arith, is.1) in
+    number_entered _ number small (enters_number program (decimal number) (number_taken number 99 is.0 is.1 (omega arith)))
+enters_asked program (serve port count) is =
+    let a : port < 2 ^ 16 = omega (arith, is.0.1) in
+    let b : count < 2 ^ 32 = omega (arith, is.2) in
+    service_entered _ port count a b
+    (enters_service program (decimal port) (decimal count) (number_taken port 65535 is.0.0 is.0.1 (omega arith)) (number_taken count 1000000 is.1 is.2 (omega arith)))
 
 pub enters_nothing : (program : List ℕ) → subcommand_of desk_app (program ∷ []) ≡ None
 unfolding clap_on_literals
@@ -165,8 +288,8 @@ module _ (asked : CallValue) (name : List ℕ) (f : Found) where
       go play h = let bad : 112 ≡ 105 = ap (λ t. slice_index t 0) (sym h ∙ is) in absurd (omega (arith, bad))
       go check h = let bad : 99 ≡ 105 = ap (λ t. slice_index t 0) (sym h ∙ is) in absurd (omega (arith, bad))
       go (explain Catalogue) h = let bad : 101 ≡ 105 = ap (λ t. slice_index t 0) (sym h.0 ∙ is) in absurd (omega (arith, bad))
-      go (explain (Number number)) h = absurd h
-      go (serve port count) h = absurd h
+      go (explain (Number number)) h = let bad : 101 ≡ 105 = ap (λ t. slice_index t 0) (sym h.0 ∙ is) in absurd (omega (arith, bad))
+      go (serve port count) h = let bad : 115 ≡ 105 = ap (λ t. slice_index t 0) (sym h.0 ∙ is) in absurd (omega (arith, bad))
 
   named_read : name ≡ codes "read" → IsSpelledOut asked name (rows_of f) → (mt : Mt) × (asked ≡ read mt) × (one_text f (codes "mt") ≡ Some (digits_of_type mt)) × (is_instruction mt ≡ true)
   named_read is named = go asked named
@@ -177,26 +300,69 @@ module _ (asked : CallValue) (name : List ℕ) (f : Found) where
       go play h = let bad : 112 ≡ 114 = ap (λ t. slice_index t 0) (sym h ∙ is) in absurd (omega (arith, bad))
       go check h = let bad : 99 ≡ 114 = ap (λ t. slice_index t 0) (sym h ∙ is) in absurd (omega (arith, bad))
       go (explain Catalogue) h = let bad : 101 ≡ 114 = ap (λ t. slice_index t 0) (sym h.0 ∙ is) in absurd (omega (arith, bad))
-      go (explain (Number number)) h = absurd h
-      go (serve port count) h = absurd h
+      go (explain (Number number)) h = let bad : 101 ≡ 114 = ap (λ t. slice_index t 0) (sym h.0 ∙ is) in absurd (omega (arith, bad))
+      go (serve port count) h = let bad : 115 ≡ 114 = ap (λ t. slice_index t 0) (sym h.0 ∙ is) in absurd (omega (arith, bad))
 
-  named_explain : name ≡ codes "explain" → IsSpelledOut asked name (rows_of f) → (asked ≡ explain Catalogue) × (first_value f (codes "number") ≡ None)
+  -- the words of `explain`: none behind it, or a number
+  IsTopicNamed : Type 0
+  IsTopicNamed =
+      ((asked ≡ explain Catalogue) × (first_value f (codes "number") ≡ None))
+      ⊎ ((n : ℕ) × (asked ≡ explain (Number n)) × (n < 2 ^ 8) × (first_value f (codes "number") ≡ Some (decimal n)) × (one_text f (codes "number") ≡ Some (decimal n)))
+
+  named_explain : name ≡ codes "explain" → IsSpelledOut asked name (rows_of f) → IsTopicNamed
+  unfolding IsTopicNamed
   named_explain is named = go asked named
     where
-      go : (a : CallValue) → IsSpelledOut a name (rows_of f) → (a ≡ explain Catalogue) × (first_value f (codes "number") ≡ None)
+      go : (a : CallValue) → IsSpelledOut a name (rows_of f)
+          → ((a ≡ explain Catalogue) × (first_value f (codes "number") ≡ None))
+          ⊎ ((n : ℕ) × (a ≡ explain (Number n)) × (n < 2 ^ 8) × (first_value f (codes "number") ≡ Some (decimal n)) × (one_text f (codes "number") ≡ Some (decimal n)))
       go (isin code) h = let bad : 105 ≡ 101 = ap (λ t. slice_index t 0) (sym h.0 ∙ is) in absurd (omega (arith, bad))
       go (read mt) h = let bad : 114 ≡ 101 = ap (λ t. slice_index t 0) (sym h.0 ∙ is) in absurd (omega (arith, bad))
       go check h = let bad : 99 ≡ 101 = ap (λ t. slice_index t 0) (sym h ∙ is) in absurd (omega (arith, bad))
       go play h = let bad : 112 ≡ 101 = ap (λ t. slice_index t 0) (sym h ∙ is) in absurd (omega (arith, bad))
-      go (explain Catalogue) h = (refl, first_value-rows f (codes "number") ∙ h.1)
-      go (explain (Number number)) h = absurd h
-      go (serve port count) h = absurd h
+      go (explain Catalogue) h = inl (refl, first_value-rows f (codes "number") ∙ h.1)
+      go (explain (Number number)) h = inr (number, refl, h.3, first_value-rows f (codes "number") ∙ h.1, one_text-rows f (codes "number") ∙ h.2)
+      go (serve port count) h = let bad : 115 ≡ 101 = ap (λ t. slice_index t 0) (sym h.0 ∙ is) in absurd (omega (arith, bad))
 
-  pub no_topic : name ≡ codes "explain" → (first_value f (codes "number") ≡ None → ⊥) → IsSpelledOut asked name (rows_of f) → ⊥
-  no_topic is some named = some (named_explain is named).1
+  pub no_topic : name ≡ codes "explain" → (first_value f (codes "number") ≡ None → ⊥)
+      → ((n : ℕ) → n < 2 ^ 8 → first_value f (codes "number") ≡ Some (decimal n) → one_text f (codes "number") ≡ Some (decimal n) → ⊥)
+      → IsSpelledOut asked name (rows_of f) → ⊥
+  unfolding IsTopicNamed
+  no_topic is some number named = elim (named_explain is named) [ inl none ↦ some none.1 | inr one ↦ number one.0 one.2 one.3 one.4 ]
 
-  pub same_topic : (found : Topic) → name ≡ codes "explain" → (first_value f (codes "number") ≡ None → found ≡ Catalogue) → IsSpelledOut asked name (rows_of f) → explain found ≡ asked
-  same_topic found is one named = let n = named_explain is named in ap explain (one n.1) ∙ sym n.0
+  pub same_topic : (found : Topic) → name ≡ codes "explain" → (first_value f (codes "number") ≡ None → found ≡ Catalogue)
+      → ((n : ℕ) → n < 2 ^ 8 → first_value f (codes "number") ≡ Some (decimal n) → one_text f (codes "number") ≡ Some (decimal n) → found ≡ Number n)
+      → IsSpelledOut asked name (rows_of f) → explain found ≡ asked
+  unfolding IsTopicNamed
+  same_topic found is none number named =
+      elim (named_explain is named) [ inl all ↦ ap explain (none all.1) ∙ sym all.0 | inr one ↦ ap explain (number one.0 one.2 one.3 one.4) ∙ sym one.1 ]
+
+  named_serve : name ≡ codes "serve" → IsSpelledOut asked name (rows_of f)
+      → (port : ℕ) × (count : ℕ) × (asked ≡ serve port count) × (one_text f (codes "port") ≡ Some (decimal port)) × (port < 2 ^ 16) × (one_text f (codes "count") ≡ Some (decimal count)) × (count < 2 ^ 32)
+  named_serve is named = go asked named
+    where
+      go : (a : CallValue) → IsSpelledOut a name (rows_of f)
+          → (port : ℕ) × (count : ℕ) × (a ≡ serve port count) × (one_text f (codes "port") ≡ Some (decimal port)) × (port < 2 ^ 16) × (one_text f (codes "count") ≡ Some (decimal count)) × (count < 2 ^ 32)
+      go (isin code) h = let bad : 105 ≡ 115 = ap (λ t. slice_index t 0) (sym h.0 ∙ is) in absurd (omega (arith, bad))
+      go (read mt) h = let bad : 114 ≡ 115 = ap (λ t. slice_index t 0) (sym h.0 ∙ is) in absurd (omega (arith, bad))
+      go check h = let bad : 99 ≡ 115 = ap (λ t. slice_index t 0) (sym h ∙ is) in absurd (omega (arith, bad))
+      go play h = let bad : 112 ≡ 115 = ap (λ t. slice_index t 0) (sym h ∙ is) in absurd (omega (arith, bad))
+      go (explain Catalogue) h = let bad : 101 ≡ 115 = ap (λ t. slice_index t 0) (sym h.0 ∙ is) in absurd (omega (arith, bad))
+      go (explain (Number number)) h = let bad : 101 ≡ 115 = ap (λ t. slice_index t 0) (sym h.0 ∙ is) in absurd (omega (arith, bad))
+      go (serve port count) h = (port, count, refl, one_text-rows f (codes "port") ∙ h.1, h.2, one_text-rows f (codes "count") ∙ h.3, h.4)
+
+  pub no_service : name ≡ codes "serve"
+      → ((port count : ℕ) → port < 2 ^ 16 → one_text f (codes "port") ≡ Some (decimal port) → count < 2 ^ 32 → one_text f (codes "count") ≡ Some (decimal count) → ⊥)
+      → IsSpelledOut asked name (rows_of f) → ⊥
+  no_service is none named = let n = named_serve is named in none n.0 n.1 n.4 n.3 n.6 n.5
+
+  pub same_service : (port count : ℕ) → name ≡ codes "serve"
+      → ((p n : ℕ) → p < 2 ^ 16 → one_text f (codes "port") ≡ Some (decimal p) → n < 2 ^ 32 → one_text f (codes "count") ≡ Some (decimal n) → (port ≡ p) × (count ≡ n))
+      → IsSpelledOut asked name (rows_of f) → serve port count ≡ asked
+  same_service port count is one named =
+      let n = named_serve is named in
+      let same = one n.0 n.1 n.4 n.3 n.6 n.5 in
+      ap₂ serve same.0 same.1 ∙ sym n.2
 
   pub no_code : name ≡ codes "isin" → None ≡ first_value f (codes "code") → IsSpelledOut asked name (rows_of f) → ⊥
   no_code is none named = let n = named_isin is named in let bad : None ≡ Some n.0 = none ∙ n.2 in cc

@@ -1,5 +1,5 @@
 -- Which words ask for what.
-use Rattle.std.specs.Prelude.{◌≡◌, ◌≢◌, ◌⊎◌, ℕ, List, [], ◌∷◌, Option, Some, None, pos, true, codes, decimal, slice_index, IsSomeAnd, MatchOption}
+use Rattle.std.specs.Prelude.{◌≡◌, ◌≢◌, ◌⊎◌, ◌<◌, ◌≤◌, ◌^◌, ℕ, List, [], ◌∷◌, Option, Some, None, pos, true, codes, decimal, slice_index, IsSomeAnd, MatchOption}
 use Rattle.std.specs.Str.{byte}
 use Rattle.std.specs.Str.Parse.{IsNumeral, digits_value, without_leading_plus}
 use Rattle.clap.specs.Words.{App, Row, Rule, first_of, new_app, new_rule, fault_of, one_of, subcommand_of, with_rule, with_subcommand, IsAmong}
@@ -46,16 +46,16 @@ words_for (explain Catalogue) = codes "explain" ∷ []
 words_for (explain (Number number)) = codes "explain" ∷ decimal number ∷ []
 words_for (serve port count) = codes "serve" ∷ codes "--port" ∷ decimal port ∷ codes "--count" ∷ decimal count ∷ []
 
--- The code does not begin as an option, by a hyphen, and the type is one of an instruction. Of words that ask to
--- serve, or for one number, only the other way is said: what is taken for them says so (`IsSaid`).
+-- The code does not begin as an option, by a hyphen, the type is one of an instruction, and the numbers are those that may be
+-- asked for.
 abbrev pub IsAskable : CallValue → Type 0
 IsAskable (isin code) = slice_index code 0 ≢ byte "-"
 IsAskable (read mt) = is_instruction mt ≡ true
 IsAskable play = Unit {0}
 IsAskable check = Unit {0}
 IsAskable (explain Catalogue) = Unit {0}
-IsAskable (explain (Number number)) = ⊥
-IsAskable (serve port count) = ⊥
+IsAskable (explain (Number number)) = (1 ≤ number) × (number ≤ 99)
+IsAskable (serve port count) = ((1 ≤ port) × (port ≤ 65535)) × (1 ≤ count) × (count ≤ 1000000)
 
 -- what a subcommand's name and matches ask for, spelled out as `words_for` spells it
 abbrev pub IsSpelledOut : CallValue → List ℕ → List Row → Type 0
@@ -64,8 +64,10 @@ IsSpelledOut (read mt) name rows = (name ≡ codes "read") × (one_of (codes "mt
 IsSpelledOut play name rows = name ≡ codes "play"
 IsSpelledOut check name rows = name ≡ codes "check"
 IsSpelledOut (explain Catalogue) name rows = (name ≡ codes "explain") × (first_of (codes "number") rows ≡ None)
-IsSpelledOut (explain (Number number)) name rows = ⊥
-IsSpelledOut (serve port count) name rows = ⊥
+IsSpelledOut (explain (Number number)) name rows =
+    (name ≡ codes "explain") × (first_of (codes "number") rows ≡ Some (decimal number)) × (one_of (codes "number") rows ≡ Some (decimal number)) × (number < 2 ^ 8)
+IsSpelledOut (serve port count) name rows =
+    (name ≡ codes "serve") × (one_of (codes "port") rows ≡ Some (decimal port)) × (port < 2 ^ 16) × (one_of (codes "count") rows ≡ Some (decimal count)) × (count < 2 ^ 32)
 
 -- what the parser of words knows of the program
 abbrev pub code_rule : Rule

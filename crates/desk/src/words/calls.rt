@@ -1,5 +1,5 @@
 //! What the words ask for.
-ghost use Rattle.std.specs.Prelude.{◌≡◌, ◌⊎◌, [], ◌∷◌, ℕ, List, true, codes, map, IfErr, IfOk, IfSome, IsSomeAnd, MatchResult};
+ghost use Rattle.std.specs.Prelude.{◌≡◌, ◌⊎◌, ◌<◌, ◌^◌, decimal, [], ◌∷◌, ℕ, List, true, codes, map, IfErr, IfOk, IfSome, IsSomeAnd, MatchResult};
 ghost use Rattle.clap.specs.Words.{first_value, found_of, kind_of, one_text, rows_of, subcommand_rows_of};
 ghost use Rattle.desk_msg.specs.MessageType.{digits_of_type, is_instruction, number_of_type};
 ghost use Rattle.desk_msg.specs.declared.mt.Mt.{Mt};
@@ -119,6 +119,8 @@ fn type_in(inner: &ArgMatches) -> Option<Mt>
 fn topic_in(inner: &ArgMatches) -> Option<Topic>
     ensures said { IfSome result (λ topic. IsTopic topic (first_value (found_of inner.now) (codes "number")) (one_text (found_of inner.now) (codes "number"))) }
     ensures asked { first_value (found_of inner.now) (codes "number") ≡ None → IsSomeAnd result (λ topic. topic ≡ Topic.Catalogue) }
+    ensures number { (number : ℕ) → number < 2 ^ 8 → first_value (found_of inner.now) (codes "number") ≡ Some (decimal number) → one_text (found_of inner.now) (codes "number") ≡ Some (decimal number)
+        → IsSomeAnd result (λ topic. topic ≡ Topic.Number number) }
 {
     match inner.get_str("number") {
         None => Some(Topic::Catalogue),
@@ -130,6 +132,9 @@ fn topic_in(inner: &ArgMatches) -> Option<Topic>
 fn service_in(inner: &ArgMatches) -> Option<Service>
     ensures port { IfSome result (λ service. IsSomeAnd (one_text (found_of inner.now) (codes "port")) (IsNumberText service.port)) }
     ensures count { IfSome result (λ service. IsSomeAnd (one_text (found_of inner.now) (codes "count")) (IsNumberText service.count)) }
+    ensures asked { (port count : ℕ) → port < 2 ^ 16 → one_text (found_of inner.now) (codes "port") ≡ Some (decimal port)
+        → count < 2 ^ 32 → one_text (found_of inner.now) (codes "count") ≡ Some (decimal count)
+        → IsSomeAnd result (λ service. (service.port ≡ port) × (service.count ≡ count)) }
 {
     let port = inner.get_one::<u16>("port")?;
     let count = inner.get_one::<u32>("count")?;
