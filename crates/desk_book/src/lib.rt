@@ -5,7 +5,7 @@
 //! something in specs/Forms.antt; `first_item` of `script.rt` reads one. `task_of` says what a request is read as,
 //! `Desk::ask` (`desk.rt`, `answering.rt`, `questions.rt`) answers it, and `Desk::play` (`playing.rt`) a whole script.
 //! Statements (`statement.rt`) and sums (`summing.rt`) are written row by row, as they are read: `Desk::holdings_to` and
-//! `Desk::sums_to` (`telling.rt`) write them to any writer, which specs/WrittenTo.antt speaks of, and `ask` to memory. What
+//! `Desk::sums_to` (`telling.rt`) write them to any `Sink`, which specs/WrittenTo.antt speaks of, and `ask` to memory. What
 //! may be relied on after every answer stands in specs/Headline.antt.
 #![tactic(auto)]
 

@@ -1,5 +1,5 @@
 //! The walk over an account's holdings: what a statement of holdings is made of, row by row, from any register to any sink;
-//! and the statement itself, written so from any register to any writer.
+//! and the statement itself, written so from any register to any `Sink`.
 //!
 //! `holdings_rows` tells a sink each security of which an account holds some, in the order of the ISINs, with how much it
 //! holds and how the security is counted; it keeps no rows, so it takes no memory of its own, however much is held. It only
