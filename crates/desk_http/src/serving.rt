@@ -40,7 +40,7 @@ pub fn serve_one<I: Source, O: Sink, R: Register>(
         → Serves desk.old.is_closed books (I.remaining reader.old) desk.new.is_closed (R.view desk.old.register) (R.view desk.new.register) }
     ensures unwritten { result ≡ Err HttpFault.WriteFailed → O.may_fail ≡ true }
     ensures taken { (taken : List ℕ) × Consumes (I.remaining reader.old) (I.remaining reader.new) taken × (length taken ≤ LONGEST_REQUEST) }
-    ensures stays { desk.old.is_closed ≡ true → desk.new.is_closed ≡ true }
+    ensures untouched { desk.old.is_closed ≡ true → desk.new ≡ desk.old }
     ensures later { IsLater (R.view desk.old.register) (R.view desk.new.register) }
     ensures in_memory { R.in_memory ≡ true → desk.old.is_closed ≡ false → desk.new.is_closed ≡ false }
 {
@@ -76,7 +76,7 @@ fn respond<O: Sink, R: Register>(
     ensures stands { (stream : Option (List ℕ)) (books : Books) → IfSome stream (λ bytes. Connection bytes (asked_by_found input.now found)) → (R.view desk.new.register).is_honest → Holds desk.old.is_closed (R.view desk.old.register) books
         → Serves desk.old.is_closed books stream desk.new.is_closed (R.view desk.old.register) (R.view desk.new.register) }
     ensures failed { OnErr result (O.may_fail ≡ true) }
-    ensures stays { desk.old.is_closed ≡ true → desk.new.is_closed ≡ true }
+    ensures untouched { desk.old.is_closed ≡ true → desk.new ≡ desk.old }
     ensures later { IsLater (R.view desk.old.register) (R.view desk.new.register) }
     ensures in_memory { R.in_memory ≡ true → desk.old.is_closed ≡ false → desk.new.is_closed ≡ false }
 {
@@ -101,7 +101,7 @@ fn answer<O: Sink, R: Register>(
     ensures stands { (stream : Option (List ℕ)) (books : Books) → IfSome stream (λ bytes. Connection bytes (Ok (asked_by request.now))) → (R.view desk.new.register).is_honest → Holds desk.old.is_closed (R.view desk.old.register) books
         → Serves desk.old.is_closed books stream desk.new.is_closed (R.view desk.old.register) (R.view desk.new.register) }
     ensures failed { OnErr result (O.may_fail ≡ true) }
-    ensures stays { desk.old.is_closed ≡ true → desk.new.is_closed ≡ true }
+    ensures untouched { desk.old.is_closed ≡ true → desk.new ≡ desk.old }
     ensures later { IsLater (R.view desk.old.register) (R.view desk.new.register) }
     ensures in_memory { R.in_memory ≡ true → desk.old.is_closed ≡ false → desk.new.is_closed ≡ false }
 {
