@@ -1,4 +1,4 @@
-"""Times the bench program beside plain Python, the same work and the same figures in one run; scripts played over tables in
+"""Times the program of the trials beside plain Python, the same work and the same figures in one run; scripts played over tables in
 SQL, beside their statements asked of Python's SQLite; and, with no Python beside them, a register that takes entries in, the
 desk's program playing scripts, and the same served over HTTP."""
 
@@ -157,9 +157,9 @@ MOST_TURNS, ENOUGH_SECONDS = 9, 10
 DESK = "crates/desk/out/desk"
 LONGEST_SCRIPT = 16_777_216
 
-# The program that plays scripts over tables in SQL; and the folder in which its files are made, one that lies in memory,
-# where there is such.
-TABLES = "crates/desk_store_trials/out/desk_store_trials"
+# The program that does one kind of work, and plays scripts over tables in SQL; and the folder in which its files are made,
+# one that lies in memory, where there is such.
+TRIALS = "crates/desk_trials/out/desk_trials"
 SHARED_MEMORY = "/dev/shm"
 
 # In the scripts that are played: the security, the request for the totals, and after how many rounds a run settles
@@ -372,7 +372,7 @@ def played_by_desk(script, pairs):
 
 def played_in_tables(script, pairs):
     """As `played`, over tables in SQL in memory."""
-    return played(TABLES, script, pairs)
+    return played(TRIALS, script, pairs)
 
 
 @contextlib.contextmanager
@@ -385,7 +385,7 @@ def new_path():
 def played_in_file(script, pairs):
     """As `played`, over tables in SQL in a new file."""
     with new_path() as path:
-        return played(TABLES, script, pairs, path)
+        return played(TRIALS, script, pairs, path)
 
 
 @functools.lru_cache(maxsize=1)
@@ -425,7 +425,7 @@ def compare_tables():
     """The tables after a day, of the desk and of the bare one, whose statements are timed beside it."""
     script, pairs = mixed_script(SIZES[0])
     with new_path() as path:
-        played(TABLES, script, pairs, path)
+        played(TRIALS, script, pairs, path)
         with contextlib.closing(sqlite3.connect(path)) as connection:
             if rows_in(connection) != rows_in(bare_desk(script).connection):
                 sys.exit("store: the tables of the bare desk are others than the desk's")
@@ -556,12 +556,12 @@ def measure_http():
     )
 
 
-def main(program, kinds):
+def main(kinds):
     for kind in kinds or [*KINDS, "block", "register", "play", "store", "http"]:
         if kind == "block":
-            measure_blocks(program)
+            measure_blocks(TRIALS)
         elif kind == "register":
-            measure_register(program)
+            measure_register(TRIALS)
         elif kind == "play":
             measure_play()
         elif kind == "store":
@@ -569,7 +569,7 @@ def main(program, kinds):
         elif kind == "http":
             measure_http()
         else:
-            compare(program, kind, *KINDS[kind])
+            compare(TRIALS, kind, *KINDS[kind])
 
 
-main(sys.argv[1], sys.argv[2:])
+main(sys.argv[1:])

@@ -11,7 +11,7 @@ OUTSIDE = "wrong_programs"
 WELL = "echo '99999 passed, 0 failed'"
 # the scripts that the gate runs on the program over tables in SQL too
 SHARED = ["random_scripts", "refuse_memory", "run_cases"]
-TABLES = "crates/desk_store_trials/out/desk_store_trials"
+TABLES = "crates/desk_trials/out/desk_trials"
 
 # each way in which a part goes wrong: how its script is changed, and what ./test says of it
 FAULTS = {

@@ -1,11 +1,16 @@
-//! A drawn day, taken in by registers of both stores, and beside them the plain program.
+//! Days drawn from a seed, taken in by registers of both stores, and beside them the plain program.
 ghost use Rattle.std.specs.Prelude.{◌≡◌};
 
-use crate::draws::Draws;
+mod drawing;
+mod draws;
+mod plain;
+mod tally;
+
+use crate::days::drawing::{ACCOUNTS, PARTICIPANTS, SECURITIES, drawn, opening};
+use crate::days::draws::Draws;
+use crate::days::plain::Plain;
+use crate::days::tally::Tally;
 use crate::failure::Failure;
-use crate::market::{ACCOUNTS, PARTICIPANTS, SECURITIES, drawn, opening};
-use crate::plain::Plain;
-use crate::tally::Tally;
 use desk_codes::Ccy;
 use desk_index::IndexedRegister;
 use desk_lists::ListRegister;
@@ -21,10 +26,39 @@ const LIMIT: u64 = 100;
 /// How many entries a day is asked to take in.
 const ENTRIES: u64 = 130;
 
+/// Tries so many seeds, from one on, and prints each that tells a difference, and at the end how many passed. Whether all did.
+pub fn try_all(rt: &(impl Print + AllocGlobal), seed: u32, count: u32) -> Result<bool, Failure> {
+    let mut failed = 0u32;
+    let mut tally = Tally::new();
+    for number in 0..count {
+        let seed = seed.wrapping_add(number);
+        if !agrees(rt.alloc(), seed, &mut tally)? {
+            println!(rt; "seed {seed} differs")?;
+            failed = failed.wrapping_add(1);
+        }
+    }
+    print_tally(rt, &tally)?;
+    let passed = count.wrapping_sub(failed);
+    println!(rt; "{passed} passed, {failed} failed")?;
+    Ok(failed == 0)
+}
+
+fn print_tally(rt: &impl Print, tally: &Tally) -> Result<(), Failure> {
+    let free = tally.settled_free;
+    let against_payment = tally.settled_against_payment;
+    let securities = tally.lacking_securities;
+    let money = tally.lacking_money;
+    let cancelled = tally.cancelled;
+    println!(rt;
+        "instructions settled free {free}, settled against payment {against_payment}, lacking securities {securities}, lacking money {money}, cancelled {cancelled}"
+    )?;
+    Ok(())
+}
+
 /// Whether registers of both stores take in a day that is drawn from a seed as the plain program says: the verdict on
 /// each entry and the reply to it, and at the end where each entry stands, what each account holds, what cash each
 /// participant has, and what was sent. How its instructions fared is counted.
-pub fn agrees(alloc: Global, seed: u32, tally: &mut Tally) -> Result<bool, Failure> {
+fn agrees(alloc: Global, seed: u32, tally: &mut Tally) -> Result<bool, Failure> {
     let mut draws = Draws::new(seed);
     let mut lists = Ledger::<ListRegister>::new(alloc, LIMIT);
     let mut index = Ledger::<IndexedRegister>::new(alloc, LIMIT);

@@ -1,23 +1,45 @@
-//! Days drawn from a seed, tried at registers of both stores beside the plain program of the definitions:
-//! `desk_trials SEED COUNT`. Each day counts; each seed that tells a difference is printed, and how the instructions of all
-//! days fared. The last line says 'N passed, M failed'.
+//! What the tests and the benchmark run, in place of the program: `desk_trials KIND ..`. What it is asked for is a `Work`.
+//!
+//! `days SEED COUNT` tries days that are drawn from seeds at registers of both stores, beside the plain program of the
+//! definitions, for tests/drawn_registers. Each day counts; each seed that tells a difference is printed, and how the
+//! instructions of all days fared. The last line says 'N passed, M failed'.
+//!
+//! `connection SENT RESPONSE [SETUP]`, the names of files, tries what a connection sends, and the response that is wanted,
+//! in each way in which the bytes may come and go, for tests/http_cases. The setup is a script that is played on the desk
+//! first. Each way counts; the last line says 'N passed, M failed'.
+//!
+//! `play` plays a script from standard input on a new desk whose register stands in SQL tables in memory, and `play FILE`
+//! in a new file of that path. What is printed and the exit status are those of `desk play`; a file that cannot be made, or
+//! has tables already, is `fault 61`.
+//!
+//! `day STORE` asks a register a day's entries, for tests/refuse_register, which refuses it growths of memory. STORE is
+//! `lists` or `index`.
+//!
+//! `statement COUNT` and `sums COUNT` write the statement of an account that holds so many securities, or the totals of as
+//! many, straight to standard output, for tests/bounded_memory.
+//!
+//! `isin COUNT`, `number COUNT`, `block COUNT`, `lists COUNT` and `index COUNT` do one kind of the desk's work that many
+//! times and print a figure of it, so that two programs can be seen to have done the same. The text of a block comes on
+//! standard input. bench/run times it.
 #![tactic(auto)]
 
+mod connections;
 mod days;
-mod draws;
+mod digits;
 mod failure;
+mod figures;
 mod market;
-mod plain;
-mod tally;
+mod registers;
+mod reports;
+mod tables;
+mod work;
 
 use crate::failure::Failure;
-use crate::tally::Tally;
-use std::alloc::Global;
+use crate::work::Work;
 use std::env;
 use std::process::ExitCode;
-use std::rt::Env;
 
-/// The exit statuses: of trials that all passed, of a difference, of other words, and of a fault.
+/// The exit statuses: of what was done or passed, of a difference, of other words, and of a fault.
 const DONE: u8 = 0;
 
 const DIFFERS: u8 = 1;
@@ -27,49 +49,45 @@ const USAGE: u8 = 2;
 const FAULT: u8 = 3;
 
 fn main(rt: HostRuntime) -> ExitCode {
-    match answer(&rt) {
-        Ok(status) => ExitCode::from(status),
-        Err(_) => ExitCode::from(FAULT),
-    }
+    ExitCode::from(match answer(&rt) {
+        Ok(status) => status,
+        Err(failure) => tell(&rt, failure),
+    })
 }
 
 /// Does what the words ask for. Gives the exit status.
-fn answer(rt: &(impl Print + AllocGlobal + Env)) -> Result<u8, Failure> {
+fn answer(rt: &HostRuntime) -> Result<u8, Failure> {
     let words: Vec<String> = env::args(rt)?.collect(rt.alloc())?;
-    let [_, seed, count] = words.as_slice() else {
+    let Some(work) = Work::read(&words) else {
         return Ok(USAGE);
     };
-    let (Ok(seed), Ok(count)) = (seed.as_str().parse::<u32>(), count.as_str().parse::<u32>()) else {
-        return Ok(USAGE);
-    };
-    try_all(rt, seed, count)
+    Ok(if done(rt, work)? { DONE } else { DIFFERS })
 }
 
-/// Tries so many seeds, from one on, and prints each that tells a difference, and at the end how many passed.
-fn try_all(rt: &(impl Print + AllocGlobal), seed: u32, count: u32) -> Result<u8, Failure> {
-    let mut failed = 0u32;
-    let mut tally = Tally::new();
-    for number in 0..count {
-        let seed = seed.wrapping_add(number);
-        if !days::agrees(rt.alloc(), seed, &mut tally)? {
-            println!(rt; "seed {seed} differs")?;
-            failed = failed.wrapping_add(1);
-        }
+/// Does a work. Whether there was no difference.
+fn done(rt: &HostRuntime, work: Work<'_>) -> Result<bool, Failure> {
+    match work {
+        Work::Days { seed, count } => days::try_all(rt, seed, count),
+        Work::Connection {
+            sent,
+            response,
+            setup,
+        } => connections::try_files(rt, sent, response, setup),
+        Work::Play(path) => tables::play_script(rt, path),
+        Work::Day(store) => registers::try_store(rt, store),
+        Work::Report(form, count) => reports::print(rt, form, count),
+        Work::Figure(kind, count) => figures::print(rt, kind, count),
     }
-    print_tally(rt, &tally)?;
-    let passed = count.wrapping_sub(failed);
-    println!(rt; "{passed} passed, {failed} failed")?;
-    Ok(if failed == 0 { DONE } else { DIFFERS })
 }
 
-fn print_tally(rt: &impl Print, tally: &Tally) -> Result<(), Failure> {
-    let free = tally.settled_free;
-    let against_payment = tally.settled_against_payment;
-    let securities = tally.lacking_securities;
-    let money = tally.lacking_money;
-    let cancelled = tally.cancelled;
-    println!(rt;
-        "instructions settled free {free}, settled against payment {against_payment}, lacking securities {securities}, lacking money {money}, cancelled {cancelled}"
-    )?;
-    Ok(())
+/// Tells a failure, and gives its status. Where nothing can be written the status alone tells it.
+fn tell(rt: &impl Print, failure: Failure) -> u8 {
+    let _ = match failure {
+        Failure::Memory => println!(rt; "fault 60"),
+        Failure::Storage => println!(rt; "fault 61"),
+        Failure::Input => println!(rt; "fault io"),
+        Failure::Stream => Ok(()),
+        _ => println!(rt; "{failure:?}"),
+    };
+    FAULT
 }
