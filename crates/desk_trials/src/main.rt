@@ -12,6 +12,8 @@
 //! in a new file of that path. What is printed and the exit status are those of `desk play`; a file that cannot be made, or
 //! has tables already, is `fault 61`.
 //!
+//! `damaged` tells what the calls that read the tables answer of damaged rows, a line for each row.
+//!
 //! `day STORE` asks a register a day's entries, for tests/refuse_register, which refuses it growths of memory. STORE is
 //! `lists` or `index`.
 //!
@@ -24,6 +26,7 @@
 #![tactic(auto)]
 
 mod connections;
+mod damaged;
 mod days;
 mod digits;
 mod failure;
@@ -74,6 +77,7 @@ fn done(rt: &HostRuntime, work: Work<'_>) -> Result<bool, Failure> {
             setup,
         } => connections::try_files(rt, sent, response, setup),
         Work::Play(path) => tables::play_script(rt, path),
+        Work::Damaged => damaged::tell_all(rt),
         Work::Day(store) => registers::try_store(rt, store),
         Work::Report(form, count) => reports::print(rt, form, count),
         Work::Figure(kind, count) => figures::print(rt, kind, count),

@@ -20,6 +20,8 @@ pub enum Work<'a> {
     },
     /// A script is played over tables, in memory or in a new file of a path.
     Play(Option<&'a str>),
+    /// Damaged rows are read.
+    Damaged,
     /// A day's entries are asked of a register.
     Day(Store),
     /// A report of so many securities is written.
@@ -33,6 +35,7 @@ impl<'a> Work<'a> {
     pub fn read(words: &'a [String]) -> Option<Work<'a>> {
         match words {
             [_, kind] if kind.as_str() == "play" => Some(Work::Play(None)),
+            [_, kind] if kind.as_str() == "damaged" => Some(Work::Damaged),
             [_, kind, word] => Work::of_one(kind.as_str(), word.as_str()),
             [_, kind, first, second] => {
                 Work::of_two(kind.as_str(), first.as_str(), second.as_str())

@@ -1,0 +1,39 @@
+//! What the rows of the trials are looked up by.
+
+use desk_codes::{AccountId, Bic, Day, Isin, Reference};
+use desk_msg::Instruction;
+use desk_samples::entries::{
+    EntryFault, SHARE, account, bic, day, delivery, instruction, isin, reference,
+};
+use std::alloc::Global;
+
+/// A key of each kind.
+#[derive(Clone, Copy)]
+pub struct Keys {
+    /// ALPHDEFF
+    pub bic: Bic,
+    /// A-1
+    pub account: AccountId,
+    /// DE0007164600
+    pub isin: Isin,
+    /// A1
+    pub reference: Reference,
+    /// 29 February 2024
+    pub day: Day,
+    /// 400 of the security, delivered free by ALPHDEFF to BETADEFF
+    pub delivery: Instruction,
+}
+
+impl Keys {
+    /// The keys of the rows.
+    pub fn new(alloc: Global) -> Result<Keys, EntryFault> {
+        Ok(Keys {
+            bic: bic("ALPHDEFF")?,
+            account: account("A-1")?,
+            isin: isin(SHARE)?,
+            reference: reference("A1")?,
+            day: day(b"20240229")?,
+            delivery: instruction(alloc, delivery("A1"))?,
+        })
+    }
+}
