@@ -10,7 +10,7 @@ use std::io;
 use std::process::ExitCode;
 
 /// The exit status of the program.
-#[derive(Clone, Copy, Debug, PartialEq, Eq)]
+#[derive(Clone, Copy)]
 pub enum Status {
     /// What was asked for was done
     Done = 0,
@@ -31,7 +31,7 @@ impl From<Status> for ExitCode {
 }
 
 /// What is told in place of an answer.
-#[derive(Clone, Copy, Debug, PartialEq, Eq)]
+#[derive(Clone, Copy)]
 pub enum Failure {
     /// Memory is wanting
     Memory,

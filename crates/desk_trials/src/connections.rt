@@ -44,7 +44,7 @@ pub fn try_files(
 }
 
 /// How many ways passed, and how many did not.
-#[derive(Clone, Copy, Debug)]
+#[derive(Clone, Copy)]
 struct Counts {
     passed: usize,
     failed: usize,

@@ -1,32 +1,16 @@
-//! What the calls that read the desk's tables answer of a damaged row: of one that no call of the desk writes, though
-//! the tables take it. Each row is put in sound and then changed; what is answered of the sound one is told too.
+//! What a call that reads the desk's tables answers of a damaged row: of one that no call of the desk writes, though the
+//! tables take it. The row is put in sound and then changed.
 
-mod amounts;
 mod calls;
-mod entries;
-mod finding;
-mod instructions;
 mod keys;
-mod messages;
-mod rows;
-mod trial;
 
 use crate::damaged::keys::Keys;
-use crate::damaged::trial::Trial;
 use crate::failure::Failure;
+pub use calls::Call;
 use desk_tables::making::make_tables;
 use desk_tables::values::CORRUPT;
 use sqlite::{Alter, Connection, Error, ErrorCode, MemStore};
 use std::alloc::Global;
-
-/// The trials, by the crate or the table that is read.
-const TRIALS: [&[Trial]; 5] = [
-    amounts::TRIALS,
-    entries::TRIALS,
-    finding::TRIALS,
-    instructions::TRIALS,
-    messages::TRIALS,
-];
 
 /// What came of a row.
 #[derive(Clone, Copy)]
@@ -56,6 +40,24 @@ impl Outcome {
     }
 }
 
+/// Prints what a call answers where a statement put a row into new tables, and another, if one is given, damaged it.
+pub fn tell(
+    rt: &(impl Print + AllocGlobal),
+    call: Call,
+    row: &str,
+    change: Option<&str>,
+) -> Result<bool, Failure> {
+    let alloc = rt.alloc();
+    let keys = Keys::new(alloc)?;
+    let mut conn = with_row(alloc, row)?;
+    let outcome = match change {
+        Some(change) if !is_taken(&mut conn, change)? => Outcome::Refused,
+        _ => outcome_of(call.answer(&mut conn, alloc, &keys))?,
+    };
+    println!(rt; "{}", outcome.as_str())?;
+    Ok(true)
+}
+
 /// A new database in memory, with the desk's tables and a row in them.
 fn with_row(alloc: Global, row: &str) -> Result<Connection<MemStore>, Error> {
     let mut conn = Connection::open_in_memory(alloc)?;
@@ -64,15 +66,9 @@ fn with_row(alloc: Global, row: &str) -> Result<Connection<MemStore>, Error> {
     Ok(conn)
 }
 
-/// Damages the row of a table. Gives whether the tables take what it becomes.
-fn damage<S: Alter>(
-    conn: &mut Connection<S>,
-    alloc: Global,
-    table: &str,
-    change: &str,
-) -> Result<bool, Error> {
-    let text = format!(in alloc; "UPDATE {table} SET {change}")?;
-    match conn.execute(text.as_str(), &[]) {
+/// Changes rows. Gives whether the tables take what they become.
+fn is_taken<S: Alter>(conn: &mut Connection<S>, change: &str) -> Result<bool, Error> {
+    match conn.execute(change, &[]) {
         Ok(_) => Ok(true),
         Err(Error::SqliteFailure(ErrorCode::ConstraintViolation(_))) => Ok(false),
         Err(error) => Err(error),
@@ -90,55 +86,4 @@ fn outcome_of(answer: Result<bool, Error>) -> Result<Outcome, Error> {
         Err(error) if error == CORRUPT => Ok(Outcome::Damaged),
         Err(_) => Ok(Outcome::Failed),
     }
-}
-
-/// What comes of the row of a trial, damaged where a change is given.
-fn tried(
-    alloc: Global,
-    keys: &Keys,
-    trial: &Trial,
-    change: Option<&str>,
-) -> Result<Outcome, Error> {
-    let mut conn = with_row(alloc, trial.row)?;
-    let taken = match change {
-        Some(change) => damage(&mut conn, alloc, trial.table, change)?,
-        None => true,
-    };
-    if !taken {
-        return Ok(Outcome::Refused);
-    }
-    outcome_of(trial.call.answer(&mut conn, alloc, keys))
-}
-
-/// Tells what comes of the row of a trial, damaged where a change is given.
-fn tell(
-    rt: &(impl Print + AllocGlobal),
-    keys: &Keys,
-    trial: &Trial,
-    name: &str,
-    change: Option<&str>,
-) -> Result<(), Failure> {
-    let outcome = tried(rt.alloc(), keys, trial, change)?;
-    println!(rt; "{}, {}: {}", trial.name, name, outcome.as_str())?;
-    Ok(())
-}
-
-/// Tells what comes of the row of a trial, sound and with each of its damages.
-fn tell_trial(rt: &(impl Print + AllocGlobal), keys: &Keys, trial: &Trial) -> Result<(), Failure> {
-    tell(rt, keys, trial, "a sound row", None)?;
-    for (name, change) in trial.damages {
-        tell(rt, keys, trial, name, Some(change))?;
-    }
-    Ok(())
-}
-
-/// Tells of each damaged row, in a line, what the call that reads it answers.
-pub fn tell_all(rt: &(impl Print + AllocGlobal)) -> Result<bool, Failure> {
-    let keys = Keys::new(rt.alloc())?;
-    for trials in TRIALS {
-        for trial in trials {
-            tell_trial(rt, &keys, trial)?;
-        }
-    }
-    Ok(true)
 }

@@ -59,53 +59,84 @@ fn print_tally(rt: &impl Print, tally: &Tally) -> Result<(), Failure> {
 /// each entry and the reply to it, and at the end where each entry stands, what each account holds, what cash each
 /// participant has, and what was sent. How its instructions fared is counted.
 fn agrees(alloc: Global, seed: u32, tally: &mut Tally) -> Result<bool, Failure> {
-    let mut draws = Draws::new(seed);
-    let mut lists = Ledger::<ListRegister>::new(alloc, LIMIT);
-    let mut index = Ledger::<IndexedRegister>::new(alloc, LIMIT);
-    let mut history = Vec::new(alloc);
-    for number in 0..ENTRIES {
-        let entry = match opening(number)? {
-            Some(entry) => entry,
-            None => drawn(alloc, &mut draws, &history)?,
-        };
-        if !takes_in(alloc, &mut lists, &mut index, &mut history, entry)? {
-            return Ok(false);
-        }
-    }
-    let plain = Plain::new(alloc, &history)?;
-    count_fates(alloc, &history, &plain, tally)?;
-    Ok(
-        is_as_plain(alloc, &mut lists.into_register(), &history, &plain)?
-            && is_as_plain(alloc, &mut index.into_register(), &history, &plain)?,
-    )
+    let mut day = TradingDay {
+        lists: Ledger::new(alloc, LIMIT),
+        index: Ledger::new(alloc, LIMIT),
+        history: Vec::new(alloc),
+    };
+    Ok(day.passes(alloc, &mut Draws::new(seed))? && day.ends_as_plain(alloc, tally)?)
 }
 
-/// Whether both take in an entry, or refuse it, as the plain program says, with the same reply.
-fn takes_in(
-    alloc: Global,
-    lists: &mut Ledger<ListRegister>,
-    index: &mut Ledger<IndexedRegister>,
-    history: &mut Vec<Entry>,
-    entry: Entry,
-) -> Result<bool, Failure> {
-    let wanted = Plain::new(alloc, history)?.verdict(history, &entry, LIMIT);
-    let entered = lists.enter(alloc, entry)?;
-    if index.enter(alloc, entry)? != entered {
-        return Ok(false);
+/// A day as it goes, in registers of both stores, and the entries that they took in.
+#[derive(Drop)]
+struct TradingDay {
+    lists: Ledger<ListRegister>,
+    index: Ledger<IndexedRegister>,
+    history: Vec<Entry>,
+}
+
+impl TradingDay {
+    /// Whether both take in the day's entries, or refuse them, as the plain program says.
+    fn passes(&mut self, alloc: Global, draws: &mut Draws) -> Result<bool, Failure> {
+        for number in 0..ENTRIES {
+            let entry = match opening(number)? {
+                Some(entry) => entry,
+                None => drawn(alloc, draws, &self.history)?,
+            };
+            if !self.takes_in(alloc, entry)? {
+                return Ok(false);
+            }
+        }
+        Ok(true)
     }
-    let applied = match (entered, wanted) {
-        (Entered::Accepted(applied), Verdict::Accept) => applied,
-        (Entered::Repeated(number), Verdict::Repeat(first)) => return Ok(number == first),
-        (Entered::Refused(refusal), Verdict::Refuse(reason)) => return Ok(refusal == reason),
-        _ => return Ok(false),
-    };
-    history.push(entry)?;
-    let Some(wanted) = Plain::new(alloc, history)?.last_reply(alloc, history)? else {
-        return Ok(false);
-    };
-    let first = lists.reply(alloc, applied.number)?;
-    let second = index.reply(alloc, applied.number)?;
-    Ok(is_reply(&first, &wanted) && is_reply(&second, &wanted))
+
+    /// Whether both take in an entry, or refuse it, as the plain program says, with the same reply.
+    fn takes_in(&mut self, alloc: Global, entry: Entry) -> Result<bool, Failure> {
+        let wanted = Plain::new(alloc, &self.history)?.verdict(&self.history, &entry, LIMIT);
+        let entered = self.lists.enter(alloc, entry)?;
+        if self.index.enter(alloc, entry)? != entered {
+            return Ok(false);
+        }
+        match (entered, wanted) {
+            (Entered::Accepted(applied), Verdict::Accept) => {
+                self.history.push(entry)?;
+                self.replies(alloc, applied.number)
+            }
+            (Entered::Repeated(number), Verdict::Repeat(first)) => Ok(number == first),
+            (Entered::Refused(refusal), Verdict::Refuse(reason)) => Ok(refusal == reason),
+            _ => Ok(false),
+        }
+    }
+
+    /// Whether both keep the plain program's reply to the last entry, which has this number.
+    fn replies(&mut self, alloc: Global, number: u64) -> Result<bool, Failure> {
+        let plain = Plain::new(alloc, &self.history)?;
+        let Some(wanted) = plain.last_reply(alloc, &self.history)? else {
+            return Ok(false);
+        };
+        let first = self.lists.reply(alloc, number)?;
+        let second = self.index.reply(alloc, number)?;
+        Ok(is_reply(&first, &wanted) && is_reply(&second, &wanted))
+    }
+
+    /// Whether both hold at the end what the plain program makes of the day. Counts how its instructions fared.
+    fn ends_as_plain(self, alloc: Global, tally: &mut Tally) -> Result<bool, Failure> {
+        let plain = Plain::new(alloc, &self.history)?;
+        count_fates(alloc, &self.history, &plain, tally)?;
+        Ok(
+            is_as_plain(
+                alloc,
+                &mut self.lists.into_register(),
+                &self.history,
+                &plain,
+            )? && is_as_plain(
+                alloc,
+                &mut self.index.into_register(),
+                &self.history,
+                &plain,
+            )?,
+        )
+    }
 }
 
 fn is_reply(kept: &Option<Reply>, wanted: &Reply) -> bool {

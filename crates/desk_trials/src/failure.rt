@@ -8,7 +8,7 @@ use std::alloc::{AllocError, AllocFailed};
 use std::io;
 
 /// Why a work came to no end.
-#[derive(Clone, Copy, Debug, PartialEq, Eq)]
+#[derive(Clone, Copy, Debug)]
 pub enum Failure {
     /// A name that the work begins with is not of its form.
     Form,

@@ -11,7 +11,7 @@ use desk_lists::ListRegister;
 use std::io::Read;
 
 /// A kind of the desk's work.
-#[derive(Clone, Copy, Debug, PartialEq, Eq)]
+#[derive(Clone, Copy)]
 pub enum Kind {
     /// Codes are checked.
     Isin,

@@ -12,7 +12,8 @@
 //! in a new file of that path. What is printed and the exit status are those of `desk play`; a file that cannot be made, or
 //! has tables already, is `fault 61`.
 //!
-//! `damaged` tells what the calls that read the tables answer of damaged rows, a line for each row.
+//! `damaged CALL ROW [CHANGE]` tells what a call that reads the tables answers of a row, for tests/damaged_rows: ROW is a
+//! statement that puts it into new tables, and CHANGE one that damages it.
 //!
 //! `day STORE` asks a register a day's entries, for tests/refuse_register, which refuses it growths of memory. STORE is
 //! `lists` or `index`.
@@ -77,7 +78,7 @@ fn done(rt: &HostRuntime, work: Work<'_>) -> Result<bool, Failure> {
             setup,
         } => connections::try_files(rt, sent, response, setup),
         Work::Play(path) => tables::play_script(rt, path),
-        Work::Damaged => damaged::tell_all(rt),
+        Work::Damaged { call, row, change } => damaged::tell(rt, call, row, change),
         Work::Day(store) => registers::try_store(rt, store),
         Work::Report(form, count) => reports::print(rt, form, count),
         Work::Figure(kind, count) => figures::print(rt, kind, count),

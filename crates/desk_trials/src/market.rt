@@ -15,7 +15,7 @@ use desk_samples::entries::{EntryFault, SHARE, account, bic, isin};
 pub const OPENING: u32 = 5;
 
 /// A side of a delivery.
-#[derive(Clone, Copy, Debug, PartialEq, Eq)]
+#[derive(Clone, Copy)]
 pub enum Side {
     Deliverer,
     Receiver,
@@ -44,7 +44,7 @@ impl Side {
 }
 
 /// So many units that are delivered at once, and what is paid for them.
-#[derive(Clone, Copy, Debug, PartialEq, Eq)]
+#[derive(Clone, Copy)]
 pub struct Lot {
     quantity: u64,
     cash: Option<Cash>,
@@ -93,14 +93,14 @@ impl Lot {
 }
 
 /// A participant with its safekeeping account.
-#[derive(Clone, Copy, Debug, PartialEq, Eq)]
+#[derive(Clone, Copy)]
 pub struct Party {
     pub bic: Bic,
     pub account: AccountId,
 }
 
 /// A deliverer and a receiver of one security, which is counted in units.
-#[derive(Clone, Copy, Debug, PartialEq, Eq)]
+#[derive(Clone, Copy)]
 pub struct Market {
     pub deliverer: Party,
     pub receiver: Party,

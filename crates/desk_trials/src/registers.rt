@@ -15,7 +15,7 @@ use desk_samples::memory::MemoryRegister;
 use std::alloc::Global;
 
 /// Where a register in memory keeps its entries.
-#[derive(Clone, Copy, Debug, PartialEq, Eq)]
+#[derive(Clone, Copy)]
 pub enum Store {
     /// In lists
     Lists,

@@ -11,7 +11,7 @@ use std::alloc::Global;
 use std::io;
 
 /// What is written.
-#[derive(Clone, Copy, Debug, PartialEq, Eq)]
+#[derive(Clone, Copy)]
 pub enum Form {
     /// The statement of an account
     Statement,

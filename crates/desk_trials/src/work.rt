@@ -1,11 +1,12 @@
 //! What the words ask for.
 
+use crate::damaged::Call;
 use crate::figures::Kind;
 use crate::registers::Store;
 use crate::reports::Form;
 
 /// What the words ask for.
-#[derive(Clone, Copy, Debug)]
+#[derive(Clone, Copy)]
 pub enum Work<'a> {
     /// So many days are drawn, from a seed on.
     Days {
@@ -20,8 +21,12 @@ pub enum Work<'a> {
     },
     /// A script is played over tables, in memory or in a new file of a path.
     Play(Option<&'a str>),
-    /// Damaged rows are read.
-    Damaged,
+    /// A row is put into tables, damaged where a change is given, and read.
+    Damaged {
+        call: Call,
+        row: &'a str,
+        change: Option<&'a str>,
+    },
     /// A day's entries are asked of a register.
     Day(Store),
     /// A report of so many securities is written.
@@ -35,17 +40,15 @@ impl<'a> Work<'a> {
     pub fn read(words: &'a [String]) -> Option<Work<'a>> {
         match words {
             [_, kind] if kind.as_str() == "play" => Some(Work::Play(None)),
-            [_, kind] if kind.as_str() == "damaged" => Some(Work::Damaged),
             [_, kind, word] => Work::of_one(kind.as_str(), word.as_str()),
             [_, kind, first, second] => {
                 Work::of_two(kind.as_str(), first.as_str(), second.as_str())
             }
-            [_, kind, sent, response, setup] if kind.as_str() == "connection" => Some(
-                Work::Connection {
-                    sent: sent.as_str(),
-                    response: response.as_str(),
-                    setup: Some(setup.as_str()),
-                },
+            [_, kind, first, second, third] => Work::of_three(
+                kind.as_str(),
+                first.as_str(),
+                second.as_str(),
+                third.as_str(),
             ),
             _ => None,
         }
@@ -73,6 +76,33 @@ impl<'a> Work<'a> {
                 sent: first,
                 response: second,
                 setup: None,
+            },
+            "damaged" => Work::Damaged {
+                call: Call::read(first)?,
+                row: second,
+                change: None,
+            },
+            _ => return None,
+        })
+    }
+
+    /// What a kind and three words ask for.
+    fn of_three(
+        kind: &'a str,
+        first: &'a str,
+        second: &'a str,
+        third: &'a str,
+    ) -> Option<Work<'a>> {
+        Some(match kind {
+            "connection" => Work::Connection {
+                sent: first,
+                response: second,
+                setup: Some(third),
+            },
+            "damaged" => Work::Damaged {
+                call: Call::read(first)?,
+                row: second,
+                change: Some(third),
             },
             _ => return None,
         })

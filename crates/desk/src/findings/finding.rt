@@ -17,7 +17,7 @@ use std::io;
 pub const TOLD: usize = 40;
 
 /// A line of a script, and the cause that is told in place of an answer to it.
-#[derive(Clone, Copy, Debug, PartialEq, Eq)]
+#[derive(Clone, Copy)]
 pub struct Finding<'a> {
     /// Its number, counted from 1
     pub line: usize,

@@ -7,7 +7,7 @@ use super::lines::{first_line, is_stop, said_by};
 use std::alloc::{AllocError, Global};
 
 /// What an answer tells in place of what was asked for.
-#[derive(Clone, Copy, Debug, PartialEq, Eq)]
+#[derive(Clone, Copy)]
 pub struct Telling<'a> {
     /// The number of a refusal or a fault; 0 where it tells none
     pub number: u8,
@@ -16,7 +16,7 @@ pub struct Telling<'a> {
 }
 
 /// Where a reader of answers stands.
-#[derive(Clone, Copy, Debug, PartialEq, Eq)]
+#[derive(Clone, Copy)]
 pub enum Place<'a> {
     /// In front of an answer
     Before,

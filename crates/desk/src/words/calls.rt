@@ -13,7 +13,7 @@ use std::alloc::{AllocError, Global};
 use std::convert::AsStr;
 
 /// What the words ask for.
-#[derive(Clone, Copy, Debug, PartialEq, Eq)]
+#[derive(Clone, Copy)]
 pub enum Call<'a> {
     /// Whether a code is an ISIN
     Isin(&'a str),
@@ -30,7 +30,7 @@ pub enum Call<'a> {
 }
 
 /// What is explained.
-#[derive(Clone, Copy, Debug, PartialEq, Eq)]
+#[derive(Clone, Copy)]
 pub enum Topic {
     /// Each refusal and each fault
     Catalogue,
@@ -39,7 +39,7 @@ pub enum Topic {
 }
 
 /// What is served.
-#[derive(Clone, Copy, Debug, PartialEq, Eq)]
+#[derive(Clone, Copy)]
 pub struct Service {
     /// The port of 127.0.0.1
     pub port: u16,

@@ -1,7 +1,7 @@
 //! Numbers drawn from a seed.
 
 /// Numbers drawn from a seed, the same each time: the upper half of a linear congruential generator's state.
-#[derive(Clone, Copy, Debug)]
+#[derive(Clone, Copy)]
 pub struct Draws {
     state: u64,
 }

@@ -4,7 +4,7 @@ use desk_msg::Reason;
 use desk_rules::{Standing, State};
 
 /// How many paired instructions settled, free or against payment, lack something at the end, or are cancelled.
-#[derive(Clone, Copy, Debug)]
+#[derive(Clone, Copy)]
 pub struct Tally {
     pub settled_free: u64,
     pub settled_against_payment: u64,
