@@ -73,7 +73,7 @@ fn first_row<S: Alter>(conn: &mut Connection<S>, floor: i64, end: u64) -> Result
 }
 
 /// The place of the first due pair past another place, whose day is not after a given one; with none, of the first of all.
-/// None where there is none. A row that says no place is answered with an error of its column.
+/// None where there is none. A place below 0, which no call writes, is passed over.
 pub fn next_due<S: Alter>(
     conn: &mut Connection<S>,
     after: Option<Place>,

@@ -31,7 +31,7 @@ fn rows_of<S: Alter>(conn: &mut Connection<S>, number: u64) -> Result<Vec<Row>, 
 }
 
 /// Where the instruction of a number stands; what is no instruction stands nowhere. A row that says no standing is
-/// answered with `DatabaseCorrupt`.
+/// answered with `DatabaseCorrupt`, and one with a number below 0 with an error of its column.
 pub fn standing<S: Alter>(conn: &mut Connection<S>, number: u64) -> Result<Standing, Error>
     ensures value { IfSound (state S.Store conn.old) (state S.Store conn.new) (AreStandings (state S.Store conn.old).now → IfOk result (λ r. r ≡ standing_in (state S.Store conn.old).now number)) }
     ensures look { IsLook result (state S.Store conn.old) (state S.Store conn.new) }
