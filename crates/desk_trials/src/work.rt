@@ -39,6 +39,7 @@ impl<'a> Work<'a> {
     /// What the program's words ask for; None where it is nothing.
     pub fn read(words: &'a [String]) -> Option<Work<'a>> {
         match words {
+            [_] => Some(Work::Play(None)),
             [_, kind] if kind.as_str() == "play" => Some(Work::Play(None)),
             [_, kind, word] => Work::of_one(kind.as_str(), word.as_str()),
             [_, kind, first, second] => {
