@@ -8,9 +8,9 @@
 //! in each way in which the bytes may come and go, for tests/http_cases. The setup is a script that is played on the desk
 //! first. Each way counts; the last line says 'N passed, M failed'.
 //!
-//! `play`, or no word, plays a script from standard input on a new desk whose register stands in SQL tables in memory, and `play FILE`
-//! in a new file of that path. What is printed and the exit status are those of `desk play`; a file that cannot be made, or
-//! has tables already, is `fault 61`.
+//! `play`, or no word, plays a script from standard input on a new desk whose register stands in SQL tables in memory, and
+//! `play FILE` in a new file of that path. What is printed and the exit status are those of `desk play`; a file that cannot
+//! be made, or has tables already, is `fault 61`.
 //!
 //! `damaged CALL ROW [CHANGE]` tells what a call that reads the tables answers of a row, for tests/damaged_rows: ROW is a
 //! statement that puts it into new tables, and CHANGE one that damages it.
