@@ -55,6 +55,14 @@ def trials_of_tables(room):
         write_script(f"{room}/tests/{part}", WELL)
 
 
+def trials_of_groups(room):
+    """A group of parts that runs beside another and is killed in the middle."""
+    path = f"{room}/tests/drawn_registers"
+    write_script(path, "kill -9 $PPID", WELL)
+    yield fails("a group of parts is killed", run(room, "./test"), "test: beside_the_desk did not come to its end\n")
+    write_script(path, WELL)
+
+
 def trials_of_programs(room, programs):
     for program in programs:
         write_script(f"{room}/tests/prove_all", *proofs(it for it in programs if it != program))
@@ -85,5 +93,6 @@ def trials(room):
     yield passes("a sound gate", run(room, "./test"), "9 passed, 0 failed\n")
     yield from trials_of_parts(room)
     yield from trials_of_tables(room)
+    yield from trials_of_groups(room)
     yield from trials_of_programs(room, programs)
     yield from trials_of_tools(room)
