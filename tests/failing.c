@@ -1,8 +1,9 @@
-/* Loaded before the C library, this fails one call on a file or folder below a folder: of the calls that open, read,
-   write, cut or settle such a file, the one whose number, counted from 1, the environment variable FAILED_CALL gives.
-   The folder is FAILED_BELOW. FAILED_AS says how it fails: `unmade`, with EIO and nothing done; `half`, with ENOSPC
-   and, of a write, its first half written; `made`, with EIO and all done. It says `failed NAME` on standard error when
-   it does. With no such variable, or 0, it fails nothing. */
+/* Loaded before the C library, this fails one call or two on a file or folder below a folder: of the calls that open, read,
+   write, cut or settle such a file, the one whose number, counted from 1, the environment variable FAILED_CALL gives, and
+   the one so many calls behind it as FAILED_BEHIND gives. The folder is FAILED_BELOW. FAILED_AS says how it fails:
+   `unmade`, with EIO and nothing done; `half`, with ENOSPC and, of a write, its first half written; `made`, with EIO and
+   all done. It says `failed NAME` on standard error when it does. With no such variable, or 0, it fails nothing; with no
+   FAILED_BEHIND, or 0, one call. */
 #define _GNU_SOURCE
 #include <errno.h>
 #include <fcntl.h>
@@ -21,6 +22,9 @@ static enum how chosen;
 /* the calls to come before the one that fails, and that one; 0 once there is none */
 static unsigned long left;
 
+/* how many calls behind that one a second one fails; 0 for none */
+static unsigned long behind;
+
 __attribute__((constructor)) static void begin(void)
 {
     const char *number = getenv("FAILED_CALL");
@@ -28,7 +32,9 @@ __attribute__((constructor)) static void begin(void)
     below = getenv("FAILED_BELOW");
     if (number == NULL || as == NULL || below == NULL)
         return;
+    const char *second = getenv("FAILED_BEHIND");
     left = strtoul(number, NULL, 10);
+    behind = second == NULL ? 0 : strtoul(second, NULL, 10);
     chosen = strcmp(as, "made") == 0 ? MADE : strcmp(as, "half") == 0 ? HALF : UNMADE;
 }
 
@@ -38,6 +44,8 @@ static enum how met_at(const char *path, const char *name)
     char told[64];
     if (left == 0 || strncmp(path, below, strlen(below)) != 0 || --left != 0)
         return WELL;
+    left = behind;
+    behind = 0;
     int length = snprintf(told, sizeof told, "failed %s\n", name);
     if (syscall(SYS_write, STDERR_FILENO, told, (size_t)length) != length)
         abort();

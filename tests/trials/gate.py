@@ -56,11 +56,12 @@ def trials_of_tables(room):
 
 
 def trials_of_groups(room):
-    """A group of parts that runs beside another and is killed in the middle."""
-    path = f"{room}/tests/drawn_registers"
-    write_script(path, "kill -9 $PPID", WELL)
-    yield fails("a group of parts is killed", run(room, "./test"), "test: beside_the_desk did not come to its end\n")
-    write_script(path, WELL)
+    """Groups of parts that run beside others and are killed in the middle."""
+    for part, group in (("edits_apply", "beside_the_proofs"), ("drawn_registers", "beside_the_desk")):
+        path = f"{room}/tests/{part}"
+        write_script(path, "kill -9 $PPID", WELL)
+        yield fails(f"{group} is killed", run(room, "./test"), f"test: {group} did not come to its end\n")
+        write_script(path, WELL)
 
 
 def trials_of_programs(room, programs):

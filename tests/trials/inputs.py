@@ -64,6 +64,30 @@ int main(int count, char **words)
 }
 """
 
+# writes for a question in two calls, and takes back what the first or the second failed to write; the other failure closes it
+SETTLES = """#include <fcntl.h>
+#include <stdio.h>
+#include <unistd.h>
+int main(int count, char **words)
+{
+    char line[8];
+    int closed = 0, file = open(words[count - 1], O_RDWR | O_CREAT, 0600);
+    if (file < 0) {
+        puts("fault 61");
+        return 3;
+    }
+    while (fgets(line, sizeof line, stdin) != NULL) {
+        int failed = 0;
+        for (int at = 1; at <= 2 && !closed && !failed; at += 1)
+            if (pwrite(file, line, 4, 4 * at) != 4)
+                failed = at;
+        closed = closed || (failed && (failed != UNDOES || ftruncate(file, 0) != 0));
+        puts(closed ? "500\\nfault 62\\n." : failed ? "500\\nfault 61\\n." : "200\\n{}\\n.");
+    }
+    return 0;
+}
+"""
+
 
 def trials(room):
     def tried(script, *words):
@@ -98,9 +122,14 @@ def trials(room):
     write(f"{room}/opens.c", OPENS)
     for name, stops in (("stops", "-DSTOPS=1"), ("goes_on", "-DSTOPS=0")):
         run(room, "gcc", stops, "-o", f"{room}/{name}", f"{room}/opens.c")
-    for name, told, ended in (("stops", passes, "6 passed, 0 failed"), ("goes_on", fails, "3 passed, 4 failed")):
+    for name, told, ended in (("stops", passes, "10 passed, 0 failed"), ("goes_on", fails, "5 passed, 6 failed")):
         ran = tried("refuse_disk", f"{room}/{name}", "script")
         yield told(f"refuse_disk: a program that cannot open its file and {name}", ran, f"\n{ended}\n")
+    write(f"{room}/settles.c", SETTLES)
+    for undoes, told, ended in ((1, passes, "20 passed, 0 failed"), (2, fails, "16 passed, 5 failed")):
+        run(room, "gcc", f"-DUNDOES={undoes}", "-o", f"{room}/settles_{undoes}", f"{room}/settles.c")
+        ran = tried("refuse_disk", f"{room}/settles_{undoes}", "script")
+        yield told(f"refuse_disk: a program that takes back call {undoes} of two", ran, f"\n{ended}\n")
     yield fails("refuse_disk: no answer", tried("refuse_disk", silent, "script"), "1 requests are answered: status 0, b''")
     yield fails("refuse_disk: no script", tried("refuse_disk", silent), "there is no script to play\n")
     yield fails("refuse_words: no growth", tried("refuse_words", silent, "case"), "no refusal led to this")

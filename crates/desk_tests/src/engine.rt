@@ -1,30 +1,32 @@
 //! A full desk, which no case of the program shows, and a refusal told with ample memory.
 use desk_engine::refused_reply;
-use desk_rules::{Entry, Refusal};
+use desk_rules::Refusal;
 use desk_samples::entries::participant;
 use desk_samples::ledger::{Entered, Ledger};
 use std::alloc::Global;
 use std::test::Fail;
 
-/// Enters what is accepted.
-fn accepts(alloc: Global, ledger: &mut Ledger, entry: Entry) -> Result<(), Fail> {
-    let _applied = ledger
-        .enter(alloc, entry)?
-        .accepted()
-        .ok_or("not accepted")?;
-    Ok(())
+/// Enters a participant.
+fn enter(alloc: Global, ledger: &mut Ledger, key: &str, party: &str) -> Result<Entered, Fail> {
+    let entry = participant(key, party)?;
+    Ok(ledger.enter(alloc, entry)?)
 }
 
 /// A full desk refuses what is right, and answers a repeat.
 #[test]
 fn full(rt: HostRuntime) -> Result<(), Fail> {
-    let alloc = rt.alloc();
-    let mut ledger = Ledger::new(alloc, 1);
-    accepts(alloc, &mut ledger, participant("P1", "ALPHDEFF")?)?;
-    let further = ledger.enter(alloc, participant("P2", "BETADEFF")?)?;
-    assert!(rt; further == Entered::Refused(Refusal::Full));
-    let again = ledger.enter(alloc, participant("P1", "ALPHDEFF")?)?;
-    assert!(rt; again == Entered::Repeated(1));
+    let mut ledger = Ledger::new(rt.alloc(), 1);
+    let first = enter(rt.alloc(), &mut ledger, "P1", "ALPHDEFF")?;
+    assert!(rt; matches!(first, Entered::Accepted(_)));
+    for (key, party, want) in [
+        ("P2", "BETADEFF", Entered::Refused(Refusal::Full)),
+        ("P1", "ALPHDEFF", Entered::Repeated(1)),
+    ] {
+        assert!(rt;
+            enter(rt.alloc(), &mut ledger, key, party)? == want,
+            "at {key}"
+        );
+    }
     Ok(())
 }
 

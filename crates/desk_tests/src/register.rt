@@ -18,44 +18,65 @@ use std::process::Abort;
 use std::test::Fail;
 
 /// The entries of the day, from 0: 400 of the share go from A-1 to B-1, as the pair of the entries 7 and 8.
-fn entry(alloc: Global, number: u64) -> Result<Option<Entry>, EntryFault> {
-    Ok(Some(match number {
-        0 => participant("P1", "ALPHDEFF")?,
-        1 => participant("P2", "BETADEFF")?,
-        2 => new_account("C1", "ALPHDEFF", "A-1")?,
-        3 => new_account("C2", "BETADEFF", "B-1")?,
-        4 => security("S1", SHARE, Kind::Unit)?,
-        5 => issue("I1", "A-1", SHARE, 1000)?,
-        6 => instruct(alloc, delivery("A1"))?,
-        7 => instruct(alloc, receipt("B1"))?,
-        8 => run("R1", b"20240229")?,
-        _ => return Ok(None),
-    }))
+fn entry(alloc: Global, number: u64) -> Result<Entry, EntryFault> {
+    match number {
+        0 => participant("P1", "ALPHDEFF"),
+        1 => participant("P2", "BETADEFF"),
+        2 => new_account("C1", "ALPHDEFF", "A-1"),
+        3 => new_account("C2", "BETADEFF", "B-1"),
+        4 => security("S1", SHARE, Kind::Unit),
+        5 => issue("I1", "A-1", SHARE, 1000),
+        6 => instruct(alloc, delivery("A1")),
+        7 => instruct(alloc, receipt("B1")),
+        _ => run("R1", b"20240229"),
+    }
 }
 
-/// A register that took in the day.
-fn filled<R: MemoryRegister>(alloc: Global) -> Result<R, Fail> {
-    let mut ledger = Ledger::<R>::new(alloc, 1000);
+/// Takes in the day.
+fn fill<R: MemoryRegister>(alloc: Global, ledger: &mut Ledger<R>) -> Result<(), Fail> {
     for number in 0..9 {
-        let entry = entry(alloc, number)?.ok_or("no entry")?;
+        let entry = entry(alloc, number)?;
         let _applied = ledger
             .enter(alloc, entry)?
             .accepted()
             .ok_or("not accepted")?;
     }
-    Ok(ledger.into_register())
+    Ok(())
 }
 
-/// What is copied: the reply to the entry 6, the second message to ALPHDEFF, and the confirmation to the receiver.
+/// A register that took in the day.
+fn filled<R: MemoryRegister>(alloc: Global) -> Result<R, Fail> {
+    let mut ledger = Ledger::<R>::new(alloc, 1000);
+    match fill(alloc, &mut ledger) {
+        Ok(()) => Ok(ledger.into_register()),
+        Err(fail) => Err(fail),
+    }
+}
+
+/// Whether a message is of a type, about an instruction.
+fn is_sent(message: Option<Sent>, mt: u16, about: u64) -> bool {
+    match message {
+        Some(message) => message.mt == mt && message.about == about,
+        None => false,
+    }
+}
+
+/// What is copied: the second message to ALPHDEFF, and the confirmation to the receiver.
 fn copies<R: MemoryRegister>(rt: &impl Abort, alloc: Global, register: &mut R) -> Result<(), Fail> {
+    let deliverer = bic("ALPHDEFF")?;
+    assert!(rt; is_sent(register.sent(alloc, deliverer, 2)?, 546, 7));
+    assert!(rt; is_sent(register.confirmation(alloc, 8)?, 544, 8));
+    Ok(())
+}
+
+/// The reply to the entry 6, which is copied too.
+fn keeps_a_reply<R: MemoryRegister>(
+    rt: &impl Abort,
+    alloc: Global,
+    register: &mut R,
+) -> Result<(), Fail> {
     let reply = register.reply(alloc, 6)?.ok_or("no reply")?;
     assert!(rt; reply.text.as_bytes() == b"accepted 6".as_slice());
-    let sent = register
-        .sent(alloc, bic("ALPHDEFF")?, 2)?
-        .ok_or("no message")?;
-    assert!(rt; sent.mt == 546 && sent.about == 7);
-    let confirmation = register.confirmation(alloc, 8)?.ok_or("no confirmation")?;
-    assert!(rt; confirmation.mt == 544);
     Ok(())
 }
 
@@ -76,8 +97,8 @@ fn settled<R: MemoryRegister>(
     Ok(())
 }
 
-/// A message is sent, and taken back.
-fn goes_back<R: MemoryRegister>(rt: &impl Abort, alloc: Global) -> Result<(), Fail> {
+/// How many messages a new register has once one is sent, and once it is taken back.
+fn goes_back<R: MemoryRegister>(alloc: Global) -> Result<(u64, u64), Fail> {
     let message = Sent {
         bic: bic("ALPHDEFF")?,
         mt: 544,
@@ -87,17 +108,22 @@ fn goes_back<R: MemoryRegister>(rt: &impl Abort, alloc: Global) -> Result<(), Fa
     let mut register = R::empty(alloc, 10);
     register.begin(alloc)?;
     register.send(alloc, message)?;
-    assert!(rt; register.sent_count(alloc)? == 1);
+    let sent = register.sent_count(alloc)?;
     register.back(alloc)?;
-    assert!(rt; register.sent_count(alloc)? == 0);
-    Ok(())
+    Ok((sent, register.sent_count(alloc)?))
 }
 
 fn day_in<R: MemoryRegister>(rt: &impl Abort, alloc: Global) -> Result<(), Fail> {
+    assert!(rt; goes_back::<R>(alloc)? == (1, 0));
     let mut register = filled::<R>(alloc)?;
-    copies(rt, alloc, &mut register)?;
-    settled(rt, alloc, &mut register, isin(SHARE)?)?;
-    goes_back::<R>(rt, alloc)
+    day_on(rt, alloc, &mut register)
+}
+
+fn day_on<R: MemoryRegister>(rt: &impl Abort, alloc: Global, register: &mut R) -> Result<(), Fail> {
+    let share = isin(SHARE)?;
+    keeps_a_reply(rt, alloc, register)?;
+    copies(rt, alloc, register)?;
+    settled(rt, alloc, register, share)
 }
 
 #[test]

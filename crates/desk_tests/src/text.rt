@@ -3,7 +3,7 @@ mod vectors;
 
 use crate::text::vectors::DELIVER_AGAINST_PAYMENT;
 use desk_text::{
-    BlockPart, BlockWriter, TextFault, is_name, is_tag, is_value, read_block, write_block,
+    Block, BlockPart, BlockWriter, TextFault, is_name, is_tag, is_value, read_block, write_block,
 };
 use std::test::Fail;
 
@@ -84,15 +84,26 @@ const FIELDS: [Row; 2] = [
     ),
 ];
 
+/// Whether a block has such a field.
+fn is_there(block: &Block<'_>, row: Row) -> bool {
+    let (place, line, tag, path, values) = row;
+    match block.fields().get(place) {
+        Some(field) => {
+            field.line == line
+                && field.tag == tag
+                && field.path.as_slice() == path
+                && field.values.as_slice() == values
+        }
+        None => false,
+    }
+}
+
 #[test]
 fn reads_a_message(rt: HostRuntime) -> Result<(), Fail> {
     let block = read_block(rt.alloc(), DELIVER_AGAINST_PAYMENT.as_bytes())?;
     assert_eq!(rt; block.fields().len(), 17);
-    for (place, line, tag, path, values) in FIELDS {
-        let field = block.fields().get(place).ok_or("no such field")?;
-        assert!(rt; field.line == line && field.tag == tag, "at {line}");
-        assert!(rt; field.path.as_slice() == path, "at {line}");
-        assert!(rt; field.values.as_slice() == values, "at {line}");
+    for row in FIELDS {
+        assert!(rt; is_there(&block, row), "at {}", row.1);
     }
     Ok(())
 }
@@ -109,7 +120,12 @@ fn writes_parts(rt: HostRuntime) -> Result<(), Fail> {
     let want =
         b"{4:\r\n:16R:GENL\r\n:35B:ISIN DE0007164600\r\nBEARER\r\n\r\n:16S:GENL\r\n:99:\r\n-}";
     assert_eq!(rt; text.as_slice(), want.as_slice());
-    // A writer is as new after it has finished.
+    Ok(())
+}
+
+/// A writer is as new after it has finished.
+#[test]
+fn writes_once_more(rt: HostRuntime) -> Result<(), Fail> {
     let mut writer = BlockWriter::new(rt.alloc());
     writer.field(b"20C", b"x")?;
     let _first = writer.finish()?;

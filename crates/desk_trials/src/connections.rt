@@ -4,10 +4,10 @@ mod streams;
 
 use crate::connections::streams::{Pieces, Taking};
 use crate::failure::Failure;
+use crate::over_index::new_desk;
 use desk_book::{Desk, PIECE};
 use desk_http::{HttpFault, LONGEST_REQUEST, Routes, connection, serve_one};
 use desk_index::IndexedRegister;
-use desk_rules::MOST_ENTRIES;
 use std::alloc::Global;
 use std::rt::Files;
 use std::{fs, io};
@@ -70,6 +70,17 @@ struct Trial<'a> {
     setup: &'a [u8],
 }
 
+/// A way in which the bytes come and go. They come in pieces of a length, one of which ends at a cut (0: no cut).
+#[derive(Clone, Copy)]
+enum Way {
+    /// All goes well
+    Well { piece: usize, before_cut: usize },
+    /// This read fails
+    FailedRead { piece: usize, read: usize },
+    /// This write of a mouthful fails, or takes nothing
+    FailedWrite { write: usize, is_full: bool },
+}
+
 impl Trial<'_> {
     /// Tries every way.
     fn tried(&self, alloc: Global) -> Result<Counts, Failure> {
@@ -77,36 +88,49 @@ impl Trial<'_> {
             passed: 0,
             failed: 0,
         };
-        counts.count(self.is_whole_answered(alloc)?);
-        counts.count(self.is_answered(alloc, &mut self.desk(alloc)?, 1, 0)?);
-        for cut in 1..self.sent.len() {
-            counts.count(self.is_answered(alloc, &mut self.desk(alloc)?, usize::MAX, cut)?);
+        counts.count(self.is_as_said());
+        let byte_by_byte = Way::Well {
+            piece: 1,
+            before_cut: 0,
+        };
+        counts.count(self.passes(alloc, byte_by_byte)?);
+        for before_cut in 0..self.sent.len().max(1) {
+            let piece = usize::MAX;
+            counts.count(self.passes(alloc, Way::Well { piece, before_cut })?);
         }
         let piece = if self.sent.len() <= SHORT {
             1
         } else {
             usize::MAX
         };
-        for read in 1..self.reads(alloc, piece)?.saturating_add(1) {
-            counts.count(self.is_failed_read_told(alloc, piece, read)?);
+        let (reads, writes) = self.calls(alloc, piece)?;
+        for read in 1..reads.saturating_add(1) {
+            counts.count(self.passes(alloc, Way::FailedRead { piece, read })?);
         }
-        for write in 1..self.writes(alloc)?.saturating_add(1) {
-            counts.count(self.is_failed_write_told(alloc, write, false)?);
-            counts.count(self.is_failed_write_told(alloc, write, true)?);
+        for write in 1..writes.saturating_add(1) {
+            for is_full in [false, true] {
+                counts.count(self.passes(alloc, Way::FailedWrite { write, is_full })?);
+            }
         }
         Ok(counts)
     }
 
+    /// Whether the response ends with the text of HTTP's own refusal, where what is sent is refused so.
+    fn is_as_said(&self) -> bool {
+        match connection(self.routes, self.sent) {
+            Ok(_) => true,
+            Err(refusal) => self.response.ends_with(refusal.text().as_bytes()),
+        }
+    }
+
     /// A desk on which the setup was played.
     fn desk(&self, alloc: Global) -> Result<Desk<IndexedRegister>, Failure> {
-        let mut desk = Desk::new(IndexedRegister::new(alloc, MOST_ENTRIES));
-        if !self.setup.is_empty() {
-            let mut script = self.setup;
-            if desk.play(alloc, &mut script, &mut io::sink()).is_err() {
-                return Err(Failure::Setup);
-            }
+        let mut desk = new_desk(alloc);
+        let mut script = self.setup;
+        match desk.play(alloc, &mut script, &mut io::sink()) {
+            Ok(()) => Ok(desk),
+            Err(_) => Err(Failure::Setup),
         }
-        Ok(desk)
     }
 
     fn pieces(&self, piece: usize, before_cut: usize) -> Pieces<'_> {
@@ -119,14 +143,29 @@ impl Trial<'_> {
         }
     }
 
-    /// Whether what is sent, in one piece, gets the response on a new desk, and where it is refused by HTTP
-    /// itself, with the text that the response ends with.
-    fn is_whole_answered(&self, alloc: Global) -> Result<bool, Failure> {
-        let is_as_said = match connection(self.routes, self.sent) {
-            Ok(_) => true,
-            Err(refusal) => self.response.ends_with(refusal.text().as_bytes()),
-        };
-        Ok(is_as_said && self.is_answered(alloc, &mut self.desk(alloc)?, usize::MAX, 0)?)
+    /// How many reads of such pieces it takes, and how many writes where the writer takes a mouthful at a time.
+    fn calls(&self, alloc: Global, piece: usize) -> Result<(usize, usize), Failure> {
+        let mut desk = self.desk(alloc)?;
+        let mut reader = self.pieces(piece, 0);
+        let mut writer = Taking::new(alloc, MOUTHFUL);
+        let _ = serve_one(alloc, self.routes, &mut reader, &mut writer, &mut desk);
+        Ok((reader.reads, writer.writes))
+    }
+
+    /// Whether a new desk answers as it must where the bytes come and go in a way.
+    fn passes(&self, alloc: Global, way: Way) -> Result<bool, Failure> {
+        let mut desk = self.desk(alloc)?;
+        match way {
+            Way::Well { piece, before_cut } => self.is_answered(
+                alloc, &mut desk, piece, before_cut,
+            ),
+            Way::FailedRead { piece, read } => {
+                self.is_failed_read_told(alloc, &mut desk, piece, read)
+            }
+            Way::FailedWrite { write, is_full } => {
+                self.is_failed_write_told(alloc, &mut desk, write, is_full)
+            }
+        }
     }
 
     /// Whether a desk gives the response to what comes in such pieces, in few reads and writes.
@@ -138,7 +177,7 @@ impl Trial<'_> {
         before_cut: usize,
     ) -> Result<bool, Failure> {
         let mut reader = self.pieces(piece, before_cut);
-        let mut writer = Taking::all(alloc);
+        let mut writer = Taking::new(alloc, usize::MAX);
         match serve_one(alloc, self.routes, &mut reader, &mut writer, desk) {
             Ok(()) => Ok(
                 writer.taken.as_slice() == self.response
@@ -150,61 +189,42 @@ impl Trial<'_> {
         }
     }
 
-    /// How many reads it takes.
-    fn reads(&self, alloc: Global, piece: usize) -> Result<usize, Failure> {
-        let mut reader = self.pieces(piece, 0);
-        let mut desk = self.desk(alloc)?;
-        let _ = serve_one(alloc, self.routes, &mut reader, &mut io::sink(), &mut desk);
-        Ok(reader.reads)
-    }
-
-    /// How many writes it takes where the writer takes a mouthful at a time.
-    fn writes(&self, alloc: Global) -> Result<usize, Failure> {
-        let mut writer = Taking::all(alloc);
-        writer.piece = MOUTHFUL;
-        let mut desk = self.desk(alloc)?;
-        let mut reader = self.pieces(usize::MAX, 0);
-        let _ = serve_one(alloc, self.routes, &mut reader, &mut writer, &mut desk);
-        Ok(writer.writes)
-    }
-
     /// Whether a read that fails is told, with nothing written or asked: the same desk then gives the response.
     fn is_failed_read_told(
         &self,
         alloc: Global,
+        desk: &mut Desk<IndexedRegister>,
         piece: usize,
         read: usize,
     ) -> Result<bool, Failure> {
-        let mut desk = self.desk(alloc)?;
         let mut reader = self.pieces(piece, 0);
         reader.fails_at = read;
-        let mut writer = Taking::all(alloc);
-        let told = serve_one(alloc, self.routes, &mut reader, &mut writer, &mut desk);
-        Ok(
-            told == Err(HttpFault::ReadFailed)
-                && writer.writes == 0
-                && self.is_answered(alloc, &mut desk, usize::MAX, 0)?,
-        )
+        let mut writer = Taking::new(alloc, usize::MAX);
+        let told = serve_one(alloc, self.routes, &mut reader, &mut writer, desk);
+        if told != Err(HttpFault::ReadFailed) || writer.writes != 0 {
+            return Ok(false);
+        }
+        self.is_answered(alloc, desk, usize::MAX, 0)
     }
 
     /// Whether a write that fails is told, with the front of the response written; the same desk then gives the response.
     fn is_failed_write_told(
         &self,
         alloc: Global,
+        desk: &mut Desk<IndexedRegister>,
         write: usize,
         is_full: bool,
     ) -> Result<bool, Failure> {
-        let mut desk = self.desk(alloc)?;
         let mut reader = self.pieces(usize::MAX, 0);
-        let mut writer = Taking::all(alloc);
-        writer.piece = MOUTHFUL;
+        let mut writer = Taking::new(alloc, MOUTHFUL);
         writer.fails_at = write;
         writer.is_full = is_full;
-        let told = serve_one(alloc, self.routes, &mut reader, &mut writer, &mut desk);
-        Ok(
-            told == Err(HttpFault::WriteFailed)
-                && self.response.starts_with(writer.taken.as_slice())
-                && self.is_answered(alloc, &mut desk, usize::MAX, 0)?,
-        )
+        let told = serve_one(alloc, self.routes, &mut reader, &mut writer, desk);
+        if told != Err(HttpFault::WriteFailed)
+            || !self.response.starts_with(writer.taken.as_slice())
+        {
+            return Ok(false);
+        }
+        self.is_answered(alloc, desk, usize::MAX, 0)
     }
 }

@@ -18,6 +18,7 @@ use desk_register::Register;
 use desk_rules::{Entry, Reply, Sent, Verdict};
 use desk_samples::entries::{account, bic, isin};
 use desk_samples::ledger::{Entered, Ledger};
+use desk_samples::memory::MemoryRegister;
 use std::alloc::Global;
 
 /// The desk holds so many entries at most, so that some days end with a desk that is full.
@@ -44,14 +45,16 @@ pub fn try_all(rt: &(impl Print + AllocGlobal), seed: u32, count: u32) -> Result
 }
 
 fn print_tally(rt: &impl Print, tally: &Tally) -> Result<(), Failure> {
-    let free = tally.settled_free;
-    let against_payment = tally.settled_against_payment;
-    let securities = tally.lacking_securities;
-    let money = tally.lacking_money;
-    let cancelled = tally.cancelled;
-    println!(rt;
-        "instructions settled free {free}, settled against payment {against_payment}, lacking securities {securities}, lacking money {money}, cancelled {cancelled}"
-    )?;
+    print!(rt; "instructions settled free {}", tally.settled_free)?;
+    for (fate, count) in [
+        ("settled against payment", tally.settled_against_payment),
+        ("lacking securities", tally.lacking_securities),
+        ("lacking money", tally.lacking_money),
+        ("cancelled", tally.cancelled),
+    ] {
+        print!(rt; ", {fate} {count}")?;
+    }
+    println!(rt; "")?;
     Ok(())
 }
 
@@ -79,10 +82,10 @@ impl TradingDay {
     /// Whether both take in the day's entries, or refuse them, as the plain program says.
     fn passes(&mut self, alloc: Global, draws: &mut Draws) -> Result<bool, Failure> {
         for number in 0..ENTRIES {
-            let entry = match opening(number)? {
+            let entry = match opening(number) {
                 Some(entry) => entry,
-                None => drawn(alloc, draws, &self.history)?,
-            };
+                None => drawn(alloc, draws, &self.history),
+            }?;
             if !self.takes_in(alloc, entry)? {
                 return Ok(false);
             }
@@ -111,32 +114,45 @@ impl TradingDay {
     /// Whether both keep the plain program's reply to the last entry, which has this number.
     fn replies(&mut self, alloc: Global, number: u64) -> Result<bool, Failure> {
         let plain = Plain::new(alloc, &self.history)?;
-        let Some(wanted) = plain.last_reply(alloc, &self.history)? else {
-            return Ok(false);
-        };
-        let first = self.lists.reply(alloc, number)?;
-        let second = self.index.reply(alloc, number)?;
-        Ok(is_reply(&first, &wanted) && is_reply(&second, &wanted))
+        match plain.last_reply(alloc, &self.history)? {
+            Some(wanted) => Ok(
+                replies(alloc, &mut self.lists, number, &wanted)?
+                    && replies(alloc, &mut self.index, number, &wanted)?,
+            ),
+            None => Ok(false),
+        }
     }
 
     /// Whether both hold at the end what the plain program makes of the day. Counts how its instructions fared.
     fn ends_as_plain(self, alloc: Global, tally: &mut Tally) -> Result<bool, Failure> {
-        let plain = Plain::new(alloc, &self.history)?;
-        count_fates(alloc, &self.history, &plain, tally)?;
-        Ok(
-            is_as_plain(
-                alloc,
-                &mut self.lists.into_register(),
-                &self.history,
-                &plain,
-            )? && is_as_plain(
-                alloc,
-                &mut self.index.into_register(),
-                &self.history,
-                &plain,
-            )?,
-        )
+        let mut lists = self.lists.into_register();
+        let mut index = self.index.into_register();
+        ends_so(alloc, &mut lists, &mut index, &self.history, tally)
     }
+}
+
+/// The same, of registers that took in a history.
+fn ends_so(
+    alloc: Global,
+    lists: &mut ListRegister,
+    index: &mut IndexedRegister,
+    history: &[Entry],
+    tally: &mut Tally,
+) -> Result<bool, Failure> {
+    let plain = Plain::new(alloc, history)?;
+    count_fates(alloc, history, &plain, tally)?;
+    Ok(is_as_plain(alloc, lists, history, &plain)? && is_as_plain(alloc, index, history, &plain)?)
+}
+
+/// Whether a register keeps such a reply to the entry of a number.
+fn replies<R: MemoryRegister>(
+    alloc: Global,
+    ledger: &mut Ledger<R>,
+    number: u64,
+    wanted: &Reply,
+) -> Result<bool, Failure> {
+    let kept = ledger.reply(alloc, number)?;
+    Ok(is_reply(&kept, wanted))
 }
 
 fn is_reply(kept: &Option<Reply>, wanted: &Reply) -> bool {
@@ -202,11 +218,14 @@ fn stands_as_plain<R: Register>(
 ) -> Result<bool, Failure> {
     for index in 0..history.len() {
         let number = index as u64 + 1;
-        if register.standing(alloc, number)? != plain.standing(alloc, history, number)? {
+        let standing = register.standing(alloc, number)?;
+        let wanted = plain.standing(alloc, history, number)?;
+        if standing != wanted {
             return Ok(false);
         }
     }
-    Ok(register.count(alloc)? == history.len() as u64)
+    let count = register.count(alloc)?;
+    Ok(count == history.len() as u64)
 }
 
 fn holds_as_plain<R: Register>(
@@ -216,8 +235,8 @@ fn holds_as_plain<R: Register>(
     plain: &Plain,
 ) -> Result<bool, Failure> {
     for name in ACCOUNTS {
-        let account = account(name)?;
         for code in SECURITIES {
+            let account = account(name)?;
             let isin = isin(code)?;
             let quantity = register.position(alloc, account, isin)?;
             if !plain.holds(history, &account, &isin, quantity) {
@@ -235,13 +254,12 @@ fn has_as_plain<R: Register>(
     plain: &Plain,
 ) -> Result<bool, Failure> {
     for party in PARTICIPANTS {
-        let bic = bic(party)?;
-        let euros = register.cash(alloc, bic, Ccy::Eur)?;
-        let dollars = register.cash(alloc, bic, Ccy::Usd)?;
-        if !plain.has(history, &bic, Ccy::Eur, euros)
-            || !plain.has(history, &bic, Ccy::Usd, dollars)
-        {
-            return Ok(false);
+        for ccy in [Ccy::Eur, Ccy::Usd] {
+            let bic = bic(party)?;
+            let amount = register.cash(alloc, bic, ccy)?;
+            if !plain.has(history, &bic, ccy, amount) {
+                return Ok(false);
+            }
         }
     }
     Ok(true)

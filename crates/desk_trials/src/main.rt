@@ -33,6 +33,7 @@ mod digits;
 mod failure;
 mod figures;
 mod market;
+mod over_index;
 mod registers;
 mod reports;
 mod tables;

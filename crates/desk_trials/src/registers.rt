@@ -43,26 +43,33 @@ const DAY: u32 = 33;
 /// Asks a register of a store the day's entries. Whether it showed the same each time.
 pub fn try_store(rt: &(impl Print + AllocGlobal), store: Store) -> Result<bool, Failure> {
     match store {
-        Store::Lists => try_day::<ListRegister>(rt),
-        Store::Index => try_day::<IndexedRegister>(rt),
+        Store::Lists => try_ledger::<ListRegister>(rt),
+        Store::Index => try_ledger::<IndexedRegister>(rt),
     }
+}
+
+/// Asks a new register.
+fn try_ledger<R: MemoryRegister>(rt: &(impl Print + AllocGlobal)) -> Result<bool, Failure> {
+    let mut ledger = Ledger::<R>::new(rt.alloc(), TRIAL_ENTRIES);
+    try_day(rt, &mut ledger)
 }
 
 /// Asks a register the day's entries one after another, and prints what came of each, and at the end what the register
 /// shows. After a fault it is looked at whether the register shows what it showed before the entry, and the entry is
 /// asked again. Whether it showed the same each time.
-fn try_day<R: MemoryRegister>(rt: &(impl Print + AllocGlobal)) -> Result<bool, Failure> {
-    let alloc = rt.alloc();
+fn try_day<R: MemoryRegister>(
+    rt: &(impl Print + AllocGlobal),
+    ledger: &mut Ledger<R>,
+) -> Result<bool, Failure> {
     let market = Market::new()?;
-    let mut ledger = Ledger::<R>::new(alloc, TRIAL_ENTRIES);
     for number in 0..DAY {
         let entry = entry_at(&market, number)?;
-        let Some(entered) = try_entry(rt, &mut ledger, number, entry)? else {
+        let Some(entered) = try_entry(rt, ledger, number, entry)? else {
             return Ok(false);
         };
         println!(rt; "{number} {entered:?}")?;
     }
-    let end = shown_at_last(alloc, &mut ledger)?;
+    let end = shown_at_last(rt.alloc(), ledger)?;
     print!(rt; "{end}")?;
     Ok(true)
 }
@@ -75,16 +82,27 @@ fn try_entry<R: MemoryRegister>(
     entry: Entry,
 ) -> Result<Option<Entered>, Failure> {
     let before = shown_at_last(rt.alloc(), ledger)?;
-    let asked = ledger.enter(rt.alloc(), entry);
-    let Err(fault) = asked else {
-        return Ok(asked.ok());
-    };
-    println!(rt; "{number} {fault:?}")?;
-    if !shows(rt, ledger, &before)? {
-        return Ok(None);
+    match ledger.enter(rt.alloc(), entry) {
+        Ok(entered) => Ok(Some(entered)),
+        Err(fault) => {
+            println!(rt; "{number} {fault:?}")?;
+            try_again(rt, ledger, &entry, &before)
+        }
     }
-    let entered = ledger.enter(rt.alloc(), entry)?;
-    Ok(Some(entered))
+}
+
+/// Asks for an entry again. None where the register shows something else than before.
+fn try_again<R: MemoryRegister>(
+    rt: &(impl Print + AllocGlobal),
+    ledger: &mut Ledger<R>,
+    entry: &Entry,
+    before: &String,
+) -> Result<Option<Entered>, Failure> {
+    if shows(rt, ledger, before)? {
+        Ok(Some(ledger.enter(rt.alloc(), *entry)?))
+    } else {
+        Ok(None)
+    }
 }
 
 /// Whether the register shows what it showed before; where it does not, both are printed.
@@ -148,6 +166,9 @@ fn free_entry_at(market: &Market, number: u32) -> Result<Entry, Failure> {
 /// it. An instruction that finds no other is cancelled by its sender.
 fn paid_entry_at(market: &Market, number: u32) -> Result<Entry, Failure> {
     let own = reference(number)?;
+    let received = reference(25)?;
+    let delivered = reference(26)?;
+    let alone = reference(30)?;
     let leap = day(b"20240229")?;
     Ok(match number {
         22 => market.issue(own, Side::Deliverer, 2),
@@ -155,10 +176,10 @@ fn paid_entry_at(market: &Market, number: u32) -> Result<Entry, Failure> {
         24 => market.instruct(own, Side::Receiver, Lot::paid(), leap),
         25 => market.instruct(own, Side::Receiver, Lot::dear(), leap),
         26 => market.instruct(own, Side::Deliverer, Lot::dear(), leap),
-        28 => market.cancel(own, Side::Deliverer, Lot::dear(), reference(26)?),
-        29 => market.cancel(own, Side::Receiver, Lot::dear(), reference(25)?),
+        28 => market.cancel(own, Side::Deliverer, Lot::dear(), delivered),
+        29 => market.cancel(own, Side::Receiver, Lot::dear(), received),
         30 => market.instruct(own, Side::Deliverer, Lot::large(), leap),
-        31 => market.cancel(own, Side::Deliverer, Lot::large(), reference(30)?),
+        31 => market.cancel(own, Side::Deliverer, Lot::large(), alone),
         _ => run(own, leap),
     })
 }

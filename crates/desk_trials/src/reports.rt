@@ -2,10 +2,10 @@
 
 use crate::digits::digits;
 use crate::failure::Failure;
+use crate::over_index::new_desk;
 use desk_book::{Desk, Request};
 use desk_codes::{Bic, check_digit};
 use desk_index::IndexedRegister;
-use desk_rules::MOST_ENTRIES;
 use desk_streams::Sink;
 use std::alloc::Global;
 use std::io;
@@ -28,23 +28,23 @@ const OPENING: [&[u8]; 3] = [
 
 /// Writes the statement of an account that holds so many securities, or the totals of as many, to standard output.
 pub fn print(rt: &(impl Print + AllocGlobal), form: Form, count: u32) -> Result<bool, Failure> {
-    write_report(rt.alloc(), form, count, &mut io::writer(rt))?;
-    Ok(true)
+    let mut desk = new_desk(rt.alloc());
+    write_report(rt.alloc(), &mut desk, form, count, &mut io::writer(rt))
 }
 
 /// Writes a line, once all is ready, and then the report.
 fn write_report<W: Sink>(
     alloc: Global,
+    desk: &mut Desk<IndexedRegister>,
     form: Form,
     count: u32,
     writer: &mut W,
-) -> Result<(), Failure> {
-    let mut desk = Desk::new(IndexedRegister::new(alloc, MOST_ENTRIES));
+) -> Result<bool, Failure> {
     for command in &OPENING {
-        order(alloc, &mut desk, command)?;
+        order(alloc, desk, command)?;
     }
     for number in 0..count {
-        issue(alloc, &mut desk, number)?;
+        issue(alloc, desk, number)?;
     }
     writer.put(b"begins\n")?;
     match form {
@@ -56,7 +56,7 @@ fn write_report<W: Sink>(
             desk.sums_to(alloc, writer)?;
         }
     }
-    Ok(())
+    Ok(true)
 }
 
 /// Registers a security of its own for each number, and issues a million units of it.

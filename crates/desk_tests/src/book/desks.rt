@@ -1,34 +1,44 @@
 //! A desk over plain lists: one that may hold one entry, and several requests at once.
 use crate::book::over_lists::new_desk;
 use desk_book::*;
+use desk_lists::ListRegister;
 use desk_rules::Reply;
+use std::alloc::Global;
 use std::test::Fail;
 
-/// Whether an answer is a reply of this status, message type and text.
-fn is_reply(answer: &Result<Reply, Fault>, status: u16, mt: Option<u16>, text: &[u8]) -> bool {
+/// Whether an answer is a reply of this status and text.
+fn is_reply(answer: &Result<Reply, Fault>, (status, text): (u16, &[u8])) -> bool {
     match answer {
-        Ok(reply) => reply.status == status && reply.mt == mt && reply.text.as_bytes() == text,
+        Ok(reply) => reply.status == status && reply.text.as_bytes() == text,
         Err(_) => false,
     }
 }
 
+/// Whether a desk that has no room for another entry answers a command once more as accepted, and refuses a further one that
+/// is asked with it.
+fn is_full(alloc: Global, desk: &mut Desk<ListRegister>, first: &[u8]) -> Result<bool, Fail> {
+    let second = br#"{"op":"participant","ref":"P2","bic":"BETADEFF"}"#.as_slice();
+    let requests = [Request::Operator(first), Request::Operator(second)];
+    let answers = desk.ask_all(alloc, &requests)?;
+    let wanted = [
+        (200, b"accepted 1".as_slice()),
+        (422, b"refused 21".as_slice()),
+    ];
+    Ok(
+        answers.len() == 2
+            && answers
+                .iter()
+                .zip(wanted)
+                .all(|(answer, reply)| is_reply(answer, reply)),
+    )
+}
+
 #[test]
 fn a_desk_of_one_entry(rt: HostRuntime) -> Result<(), Fail> {
-    let alloc = rt.alloc();
-    let mut desk = new_desk(alloc, 1);
-    let first = Request::Operator(
-        br#"{"op":"participant","ref":"P1","bic":"ALPHDEFF"}"#.as_slice(),
-    );
-    let second = Request::Operator(
-        br#"{"op":"participant","ref":"P2","bic":"BETADEFF"}"#.as_slice(),
-    );
-    let accepted = desk.ask(alloc, &first);
-    assert!(rt; is_reply(&accepted, 200, None, b"accepted 1"));
-    let refused = desk.ask(alloc, &second);
-    assert!(rt; is_reply(&refused, 422, None, b"refused 21"));
-    let again = desk.ask_all(alloc, &[first, second])?;
-    assert_eq!(rt; again.len(), 2);
-    assert!(rt; is_reply(&again[0], 200, None, b"accepted 1"));
-    assert!(rt; is_reply(&again[1], 422, None, b"refused 21"));
+    let mut desk = new_desk(rt.alloc(), 1);
+    let command = br#"{"op":"participant","ref":"P1","bic":"ALPHDEFF"}"#.as_slice();
+    let reply = desk.ask(rt.alloc(), &Request::Operator(command))?;
+    assert!(rt; reply.status == 200 && reply.text.as_bytes() == b"accepted 1".as_slice());
+    assert!(rt; is_full(rt.alloc(), &mut desk, command)?);
     Ok(())
 }

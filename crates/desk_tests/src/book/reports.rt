@@ -1,9 +1,10 @@
-//! Statements and sums written straight to a writer, where a write or a call of the store fails.
-use crate::book::failed_plays::SOUND;
-use crate::book::failing::{FailingRegister, Plan};
+//! Statements and sums written straight to a writer, where a write fails.
+use crate::book::over_lists::new_desk;
 use crate::streams::Taking;
 use desk_book::*;
 use desk_codes::Bic;
+use desk_lists::ListRegister;
+use desk_rules::MOST_ENTRIES;
 use std::alloc::Global;
 use std::test::Fail;
 
@@ -25,77 +26,69 @@ const COMMANDS: [&[u8]; 11] = [
 /// The writer whose writes fail takes so many bytes a write.
 const MOUTHFUL: usize = 64;
 
-/// A desk that has accepted the commands, over a store of which calls fail from then on.
-fn desk_before(alloc: Global, plan: Plan) -> Result<Desk<FailingRegister>, Fail> {
-    let mut desk = Desk::new(FailingRegister::new(alloc, plan));
+/// Has a desk accept the commands.
+fn command(alloc: Global, desk: &mut Desk<ListRegister>) -> Result<(), Fail> {
     for command in &COMMANDS {
         let reply = desk.ask(alloc, &Request::Operator(command))?;
         if reply.status != 200 {
             return Err(Fail::from("a command is not accepted"));
         }
     }
-    Ok(desk)
+    Ok(())
 }
 
 /// Has the statement of B-1 written, or the sums where there is no owner.
 fn write_to(
     alloc: Global,
-    desk: &mut Desk<FailingRegister>,
-    owner: Option<Bic>,
+    desk: &mut Desk<ListRegister>,
+    owner: &Option<Bic>,
     writer: &mut Taking,
 ) -> Result<Head, ToFault> {
     match owner {
-        Some(owner) => desk.holdings_to(alloc, owner, b"B-1", writer),
+        Some(owner) => desk.holdings_to(alloc, *owner, b"B-1", writer),
         None => desk.sums_to(alloc, writer),
     }
 }
 
-/// What is written over a store of which no call fails, and how many calls the store has got then.
-fn whole(alloc: Global, owner: Option<Bic>) -> Result<(Taking, u64), Fail> {
-    let mut desk = desk_before(alloc, SOUND)?;
-    let mut writer = Taking::new(alloc, MOUTHFUL, 0);
-    let _head = write_to(alloc, &mut desk, owner, &mut writer)?;
-    Ok((writer, desk.into_register().calls()))
+/// Whether a write that fails is told, and a front of the text was written.
+fn is_failed_write_told(
+    alloc: Global,
+    desk: &mut Desk<ListRegister>,
+    owner: &Option<Bic>,
+    fails_at: usize,
+    want: &[u8],
+) -> bool {
+    let mut front = Taking::new(alloc, MOUTHFUL, fails_at);
+    let told = write_to(alloc, desk, owner, &mut front);
+    matches!(told, Err(ToFault::WriteFailed))
+        && front.writes == fails_at
+        && want.starts_with(&front.taken)
+}
+
+/// Whether each write that fails is told so. A report changes nothing, so the same desk is asked.
+fn are_failed_writes_told(
+    alloc: Global,
+    desk: &mut Desk<ListRegister>,
+    owner: &Option<Bic>,
+) -> Result<bool, Fail> {
+    let mut want = Taking::new(alloc, MOUTHFUL, 0);
+    let _head = write_to(alloc, desk, owner, &mut want)?;
+    for fails_at in 1..want.writes.saturating_add(1) {
+        if !is_failed_write_told(alloc, desk, owner, fails_at, &want.taken) {
+            return Ok(false);
+        }
+    }
+    Ok(want.writes > 1)
 }
 
 /// Whichever write fails, that is told, and a front of the text was written.
 #[test]
 fn each_failed_write_is_told(rt: HostRuntime) -> Result<(), Fail> {
-    let alloc = rt.alloc();
-    for owner in [Some(Bic::parse(b"BETADEFF")?), None] {
-        let (want, _) = whole(alloc, owner)?;
-        for fails_at in 1..want.writes.saturating_add(1) {
-            let mut desk = desk_before(alloc, SOUND)?;
-            let mut front = Taking::new(alloc, MOUTHFUL, fails_at);
-            let told = write_to(alloc, &mut desk, owner, &mut front);
-            assert!(rt; matches!(told, Err(ToFault::WriteFailed)), "at {fails_at}");
-            assert!(rt; front.writes == fails_at && want.taken.starts_with(&front.taken));
-        }
-    }
-    Ok(())
-}
-
-/// Whichever call fails, that is told, and a front of the text was written; the same again whole gives the same bytes.
-#[test]
-fn each_failed_call_is_told(rt: HostRuntime) -> Result<(), Fail> {
-    let alloc = rt.alloc();
-    let before = desk_before(alloc, SOUND)?.into_register().calls();
-    for owner in [Some(Bic::parse(b"BETADEFF")?), None] {
-        let (want, all) = whole(alloc, owner)?;
-        assert!(rt; before < all);
-        for first in before.saturating_add(1)..all.saturating_add(1) {
-            let mut desk = desk_before(alloc, Plan::failing(first, 1))?;
-            let mut front = Taking::new(alloc, MOUTHFUL, 0);
-            let told = write_to(alloc, &mut desk, owner, &mut front);
-            assert!(rt; matches!(told, Err(ToFault::Storage)), "at {first}");
-            assert!(rt; want.taken.starts_with(&front.taken), "at {first}");
-            let mut again = Taking::new(alloc, MOUTHFUL, 0);
-            let _head = write_to(alloc, &mut desk, owner, &mut again)?;
-            assert!(rt;
-                again.taken.as_slice() == want.taken.as_slice(),
-                "at {first}"
-            );
-        }
+    let owner = Bic::parse(b"BETADEFF")?;
+    let mut desk = new_desk(rt.alloc(), MOST_ENTRIES);
+    command(rt.alloc(), &mut desk)?;
+    for owner in [Some(owner), None] {
+        assert!(rt; are_failed_writes_told(rt.alloc(), &mut desk, &owner)?);
     }
     Ok(())
 }

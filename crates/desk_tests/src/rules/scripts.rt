@@ -103,9 +103,15 @@ fn sent_to(alloc: Global, books: Books, party: &str, number: u64) -> Result<Repl
     }
 }
 
+/// How far an entry has come.
+fn state(alloc: Global, books: Books, entry: u64) -> Result<State, Fail> {
+    Ok(state_of(alloc, books, entry)?)
+}
+
 /// Fails where a reply has another text, by the script's line.
-fn agree_reply(line: usize, reply: &Reply, text: &str) -> Result<(), Fail> {
-    agree(line, str::from_utf8(reply.text.as_bytes())?, text)
+fn agree_reply(line: usize, reply: Result<Reply, Fail>, text: &str) -> Result<(), Fail> {
+    let reply = reply?;
+    agree(line, Ok(str::from_utf8(reply.text.as_bytes())?), text)
 }
 
 /// Whether a message went to this participant, in this type, about this instruction.
@@ -115,7 +121,8 @@ fn is_sent(message: &Sent, expected: &(&str, u16, u64)) -> Result<bool, Fail> {
 }
 
 /// Whether these messages went out, and no other.
-fn are_sent(sent: &[Sent], expected: &[(&str, u16, u64)]) -> Result<bool, Fail> {
+fn are_sent(sent: Result<Vec<Sent>, Fail>, expected: &[(&str, u16, u64)]) -> Result<bool, Fail> {
+    let sent = sent?;
     for (message, one) in sent.iter().zip(expected) {
         if !is_sent(message, one)? {
             return Ok(false);
@@ -155,7 +162,12 @@ fn accept_all(
 }
 
 /// Fails where the script's line of a number doesn't find what it expects.
-fn agree<T: Copy + Debug + PartialEq>(line: usize, found: T, expected: T) -> Result<(), Fail> {
+fn agree<T: Copy + Debug + PartialEq>(
+    line: usize,
+    found: Result<T, Fail>,
+    expected: T,
+) -> Result<(), Fail> {
+    let found = found?;
     if found == expected {
         return Ok(());
     }
@@ -167,17 +179,17 @@ fn check(alloc: Global, books: Books, number: usize, line: &Line) -> Result<(), 
     match *line {
         // The desk decides on each as it comes.
         Line::Accept(_) => Ok(()),
-        Line::Settled(expected) => agree(number, books.settled, expected),
-        Line::Told(settled, waiting) => agree(number, told(books), (settled, waiting)),
-        Line::State(entry, state) => agree(number, state_of(alloc, books, entry)?, state),
-        Line::Reply(text) => agree_reply(number, &reply(alloc, books)?, text),
+        Line::Settled(expected) => agree(number, Ok(books.settled), expected),
+        Line::Told(settled, waiting) => agree(number, Ok(told(books)), (settled, waiting)),
+        Line::State(entry, expected) => agree(number, state(alloc, books, entry), expected),
+        Line::Reply(text) => agree_reply(number, reply(alloc, books), text),
         Line::Status(party, key, text) => {
-            agree_reply(number, &status(alloc, books, party, key)?, text)
+            agree_reply(number, status(alloc, books, party, key), text)
         }
         Line::SentTo(party, message, text) => {
-            agree_reply(number, &sent_to(alloc, books, party, message)?, text)
+            agree_reply(number, sent_to(alloc, books, party, message), text)
         }
-        Line::Sent(expected) => agree(number, are_sent(&sent(alloc, books)?, expected)?, true),
+        Line::Sent(expected) => agree(number, are_sent(sent(alloc, books), expected), true),
     }
 }
 

@@ -56,11 +56,11 @@ pub struct Taking {
 }
 
 impl Taking {
-    /// One that takes all.
-    pub fn all(alloc: Global) -> Taking {
+    /// One that takes such pieces, and does not fail.
+    pub fn new(alloc: Global, piece: usize) -> Taking {
         Taking {
             taken: Vec::new(alloc),
-            piece: usize::MAX,
+            piece,
             writes: 0,
             fails_at: 0,
             is_full: false,

@@ -27,13 +27,19 @@ pub struct Keys {
 impl Keys {
     /// The keys of the rows.
     pub fn new(alloc: Global) -> Result<Keys, EntryFault> {
+        let bic = bic("ALPHDEFF")?;
+        let account = account("A-1")?;
+        let isin = isin(SHARE)?;
+        let reference = reference("A1")?;
+        let day = day(b"20240229")?;
+        let delivery = instruction(alloc, delivery("A1"))?;
         Ok(Keys {
-            bic: bic("ALPHDEFF")?,
-            account: account("A-1")?,
-            isin: isin(SHARE)?,
-            reference: reference("A1")?,
-            day: day(b"20240229")?,
-            delivery: instruction(alloc, delivery("A1"))?,
+            bic,
+            account,
+            isin,
+            reference,
+            day,
+            delivery,
         })
     }
 }

@@ -45,29 +45,38 @@ struct Sides<'a> {
 
 /// What registers the participants, their accounts and the securities, and brings the first of them: the entry of a
 /// number, from 0; None where there are no more.
-pub fn opening(number: u64) -> Result<Option<Entry>, EntryFault> {
-    Ok(Some(match number {
-        0 => participant("P1", "ALPHDEFF")?,
-        1 => participant("P2", "BETADEFF")?,
-        2 => participant("P3", "GAMMDEFF")?,
-        3 => new_account("C1", "ALPHDEFF", "A-1")?,
-        4 => new_account("C2", "ALPHDEFF", "A-2")?,
-        5 => new_account("C3", "BETADEFF", "B-1")?,
-        6 => new_account("C4", "GAMMDEFF", "C-1")?,
-        7 => security("S1", SHARE, Kind::Unit)?,
-        8 => security("S2", BOND, Kind::FaceAmount)?,
-        9 => issue("I1", "A-1", SHARE, 300)?,
-        10 => issue("I2", "B-1", BOND, 200)?,
-        11 => pay_in("M1", "BETADEFF", Ccy::Eur, 2000)?,
-        12 => pay_in("M2", "ALPHDEFF", Ccy::Usd, 500)?,
-        _ => return Ok(None),
-    }))
+pub fn opening(number: u64) -> Option<Result<Entry, EntryFault>> {
+    Some(match number {
+        0 => participant("P1", "ALPHDEFF"),
+        1 => participant("P2", "BETADEFF"),
+        2 => participant("P3", "GAMMDEFF"),
+        3 => new_account("C1", "ALPHDEFF", "A-1"),
+        4 => new_account("C2", "ALPHDEFF", "A-2"),
+        5 => new_account("C3", "BETADEFF", "B-1"),
+        6 => new_account("C4", "GAMMDEFF", "C-1"),
+        7 => security("S1", SHARE, Kind::Unit),
+        8 => security("S2", BOND, Kind::FaceAmount),
+        9 => issue("I1", "A-1", SHARE, 300),
+        10 => issue("I2", "B-1", BOND, 200),
+        11 => pay_in("M1", "BETADEFF", Ccy::Eur, 2000),
+        12 => pay_in("M2", "ALPHDEFF", Ccy::Usd, 500),
+        _ => return None,
+    })
 }
 
 /// A drawn entry; a cancellation is of one of these that came before.
 pub fn drawn(alloc: Global, draws: &mut Draws, entries: &[Entry]) -> Result<Entry, EntryFault> {
     let key = drawn_key(alloc, draws)?;
-    let key = key.as_str();
+    drawn_under(alloc, key.as_str(), draws, entries)
+}
+
+/// A drawn entry of this reference.
+fn drawn_under(
+    alloc: Global,
+    key: &str,
+    draws: &mut Draws,
+    entries: &[Entry],
+) -> Result<Entry, EntryFault> {
     match draws.below(20) {
         0 => drawn_name(key, draws),
         1 => issue(key, drawn_account(draws), drawn_security(draws), 100),

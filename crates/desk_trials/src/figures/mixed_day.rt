@@ -29,21 +29,38 @@ const ASKED: u32 = 4;
 /// all but the last one. That lacks units, which the next hundred issues, or else money, and then both sides cancel it in
 /// the next hundred. The sums and a holding are asked for in between. The number of pairs that were settled.
 pub fn pairs_settled<R: MemoryRegister>(alloc: Global, count: u32) -> Result<u64, Failure> {
+    let mut ledger = Ledger::<R>::new(alloc, MOST_ENTRIES);
+    settle_pairs(alloc, &mut ledger, count)
+}
+
+fn settle_pairs<R: MemoryRegister>(
+    alloc: Global,
+    ledger: &mut Ledger<R>,
+    count: u32,
+) -> Result<u64, Failure> {
     let market = Market::new()?;
     let day = day(b"20240229")?;
-    let mut ledger = Ledger::<R>::new(alloc, MOST_ENTRIES);
     let mut settled = 0u64;
     for number in 0..count {
         let entry = entry_at(&market, day, number)?;
-        match ledger.enter(alloc, entry)? {
-            Entered::Accepted(applied) => settled = settled.wrapping_add(applied.settled),
-            _ => return Err(Failure::Refused),
-        }
+        settled = settled.wrapping_add(take_in(alloc, ledger, entry)?);
         if number % ASKED == 0 {
-            ask_sums(alloc, &market, &mut ledger)?;
+            ask_sums(alloc, &market, ledger)?;
         }
     }
     Ok(settled)
+}
+
+/// Takes an entry in. The number of pairs that it settled.
+fn take_in<R: MemoryRegister>(
+    alloc: Global,
+    ledger: &mut Ledger<R>,
+    entry: Entry,
+) -> Result<u64, Failure> {
+    match ledger.enter(alloc, entry)? {
+        Entered::Accepted(applied) => Ok(applied.settled),
+        _ => Err(Failure::Refused),
+    }
 }
 
 /// Asks for what is outstanding and held of the security, for what is paid in and held in cash, and for what the
@@ -71,25 +88,16 @@ fn entry_at(market: &Market, day: Day, number: u32) -> Result<Entry, Failure> {
         return market.opening(number);
     }
     let own = reference(number)?;
+    let last = reference(number.saturating_sub(1))?;
+    let short = reference(number.saturating_sub(SINCE_SHORT))?;
     let hundred = (number - OPENING) / HUNDRED;
     let place = (number - OPENING) % HUNDRED;
     Ok(match place {
         0 => market.issue(own, Side::Deliverer, 44 + u64::from(is_dear(hundred))),
         1 => market.pay_in(own, Side::Receiver, 2200),
-        2 | 3 | 4 => follow(
-            market,
-            own,
-            reference(number - SINCE_SHORT)?,
-            hundred,
-            place,
-        ),
+        2 | 3 | 4 => follow(market, own, short, hundred, place),
         5 => market.instruct(own, Side::Deliverer, Lot::large(), day),
-        6 => market.cancel(
-            own,
-            Side::Deliverer,
-            Lot::large(),
-            reference(number.saturating_sub(1))?,
-        ),
+        6 => market.cancel(own, Side::Deliverer, Lot::large(), last),
         7 if hundred > 0 => market.pay_out(own, Side::Deliverer, 2200),
         7 | 8 => market.issue(own, Side::Receiver, 1),
         99 => Entry::Run {
