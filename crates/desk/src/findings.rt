@@ -1,6 +1,5 @@
 //! What is found in a script by its answers: its lines, what the answers tell, and which line has which.
 mod finding;
-mod lines;
 mod told;
 
 pub use finding::{Finding, findings_in, tell_findings};

@@ -30,6 +30,7 @@ pub use laws::{
 pub use limits::{LONGEST_LINE, LONGEST_NUMBER, LONGEST_SCRIPT, MOST_DIGITS, PIECE};
 pub use requests::command::read_command;
 pub use requests::form::{count_of, instruction_type, number_of, party};
+pub use requests::line::{first_line, has_body, is_skipped, is_stop, said_by};
 pub use requests::request::Request;
 pub use requests::script::{Item, first_item, item_count};
 pub use requests::task::{Task, task_of};

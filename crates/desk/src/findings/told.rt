@@ -3,7 +3,7 @@ ghost use Rattle.std.specs.Prelude.{◌≡◌, ◌≤◌, ◌==◌, length, List
 ghost use Rattle.desk_book.specs.Lines.{script_lines};
 ghost use Rattle.desk.specs.Told.{behind_number as behind_number_of, behind_words as behind_words_of, ended, front_number as number_in_front, has_front as begins, next_stand, nothing as nothing_told, stand_of, told_by, told_from, told_in as all_told, told_in_line};
 
-use super::lines::{first_line, is_stop, said_by};
+use desk_book::{first_line, is_stop, said_by};
 use std::alloc::{AllocError, Global};
 
 /// What an answer tells in place of what was asked for.

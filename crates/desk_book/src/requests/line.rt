@@ -1,4 +1,4 @@
-//! The lines of a script.
+//! The lines of a script, and of answers.
 ghost use Rattle.std.specs.Prelude.{◌≡◌, ◌<◌, ◌≤◌, ◌==◌, ◌++◌, ◌∷◌, [], length, IfSome, IfNone};
 ghost use Rattle.std.specs.List.{position_or_len};
 ghost use Rattle.desk_book.specs.Lines.{script_lines, said_by as said_of, is_skipped as skips, has_body as posts, is_stop as stops, first_word as word_of};
@@ -9,7 +9,7 @@ pub const MESSAGE: &[u8] = b"in";
 /// The first word of a line that an operator's command follows.
 pub const COMMAND: &[u8] = b"op";
 
-/// The line that ends a body.
+/// The line that ends a body, or an answer.
 const STOP: &[u8] = b".";
 
 /// The first line with its line end, and what stands behind it; None of an empty text.
@@ -80,7 +80,7 @@ fn first_word(said: &[u8]) -> &[u8]
     &said[..index_of(said, b' ')]
 }
 
-/// Whether the line ends a body.
+/// Whether the line ends a body, or an answer.
 pub fn is_stop(line: &[u8]) -> bool
     ensures { result ≡ stops line.now }
 {
