@@ -19,7 +19,7 @@ listener = socket.create_server(("127.0.0.1", port))
 print("listening", port + ELSEWHERE, flush=True)
 for _ in range(count + FEWER):
     client, _ = listener.accept()
-    client.settimeout(0.1)
+    client.settimeout(0.5)
     got = b""
     try:
         while b"\\r\\n\\r\\n" not in got and (piece := client.recv(1024)):
