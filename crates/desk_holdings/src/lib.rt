@@ -13,7 +13,6 @@
 
 mod fault;
 mod laws;
-mod order;
 mod statement;
 mod walk;
 

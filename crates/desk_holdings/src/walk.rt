@@ -7,10 +7,9 @@ ghost use Rattle.desk_holdings.specs.Taking.{Took};
 ghost use Rattle.desk_holdings.specs.Walking.{IsNextRow};
 
 use crate::fault::WalkFault;
-use crate::order::is_above;
 use desk_codes::{AccountId, Isin};
 use desk_msg::{RowSink, SinkFault, StatementRow};
-use desk_register::{Fault, Register, Stage};
+use desk_register::{Fault, Register, Stage, is_above};
 use std::alloc::Global;
 
 /// The row of an account's first holding above a security, or above none; None where there is none. A store that answers

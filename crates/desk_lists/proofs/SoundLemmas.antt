@@ -55,7 +55,7 @@ sound_kept old new same amounts sound = record {
 -- what is outstanding all accounts hold, and what is paid all participants have
 
 pub total_held : (l : Listed) → IsSound l → (isin : List ℕ) → balance_in l (Outstanding isin) ≡ held_of (content_in l) isin
-total_held l sound isin = let kept = sound.totals.securities isin in let held = sound.balanced.securities isin in omega arith
+total_held l sound isin = let kept = sound.totals.securities isin in let held = sound.balanced.sums.securities isin in omega arith
 
 pub total_had : (l : Listed) → IsSound l → (ccy : Ccy) → balance_in l (Paid ccy) ≡ held_cash_of (content_in l) ccy
-total_had l sound ccy = let kept = sound.totals.currencies ccy in let held = sound.balanced.currencies ccy in omega arith
+total_had l sound ccy = let kept = sound.totals.currencies ccy in let held = sound.balanced.sums.currencies ccy in omega arith

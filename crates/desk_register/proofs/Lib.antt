@@ -1,3 +1,4 @@
+pub mod AddsUpLemmas
 pub mod CaseLemmas
 pub mod OnceLemmas
 pub mod RegisteredLemmas

@@ -1,3 +1,4 @@
+pub mod AddsUp
 pub mod Changes
 pub mod Checked
 pub mod Looked

@@ -6,11 +6,13 @@
 #![tactic(auto)]
 
 mod holding;
+mod order;
 mod outcome;
 mod places;
 mod register;
 
 pub use holding::Holding;
+pub use order::{is_above, is_less};
 pub use outcome::Outcome;
 pub use places::{is_before, is_past};
 pub use register::{Fault, MOST_FAILURES, Register, Stage};

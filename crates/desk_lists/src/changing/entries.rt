@@ -1,15 +1,15 @@
 //! What one entry says of participants, accounts, securities, cash and runs.
 ghost use Rattle.std.specs.Prelude.{◌≡◌, option_map};
 ghost use Rattle.desk_codes.specs.Number.{number_of};
-ghost use Rattle.desk_rules.specs.History.{has_key, run_day, same_sender};
+ghost use Rattle.desk_rules.specs.History.{run_day};
 ghost use Rattle.desk_register.specs.Changes.{first_standing};
 ghost use Rattle.desk_register.specs.Looked.{pays_in};
 ghost use Rattle.desk_rules.specs.Facts.{account_by, adds_participant, kind_by, owner_by, participant_by};
 
 use crate::balances::same_ccy;
-use desk_codes::{AccountId, Bic, Ccy, Day, Isin, Reference};
+use desk_codes::{AccountId, Bic, Ccy, Day, Isin};
 use desk_msg::Kind;
-use desk_rules::{Entry, Sender, Standing, State};
+use desk_rules::{Entry, Standing, State};
 
 /// Whether an entry registers a participant of this BIC.
 pub fn adds_participant(entry: &Entry, bic: &Bic) -> bool
@@ -87,25 +87,6 @@ pub fn pays_in(entry: &Entry, ccy: &Ccy) -> bool
         Entry::PayIn(payment) => same_ccy(&payment.ccy, ccy),
         _ => false,
     }
-}
-
-/// Whether two senders are one.
-pub fn same_sender(a: &Sender, b: &Sender) -> bool
-    ensures { result ≡ same_sender a.now b.now }
-{
-    match (a, b) {
-        (Sender::Operator, Sender::Operator) => true,
-        (Sender::Participant(a), Sender::Participant(b)) => a == b,
-        (Sender::Operator, Sender::Participant(_)) | (Sender::Participant(_), Sender::Operator) =>
-            false,
-    }
-}
-
-/// Whether an entry has this sender and reference.
-pub fn has_key(entry: &Entry, sender: &Sender, reference: &Reference) -> bool
-    ensures { result ≡ has_key sender.now reference.now entry.now }
-{
-    same_sender(&entry.sender(), sender) && entry.reference() == *reference
 }
 
 /// Where an entry stands as it is accepted.

@@ -76,7 +76,7 @@ pub fn number_of_key(kept: &[Kept], sender: &Sender, reference: &Reference) -> O
     ensures { result ≡ number_of_key (map (λ k. k.entry) kept.now) sender.now reference.now }
 {
     for (index, one) in kept.iter().enumerate() {
-        if entries::has_key(&one.entry, sender, reference) {
+        if one.entry.has_key(sender, reference) {
             return Some(index as u64 + 1);
         }
     }

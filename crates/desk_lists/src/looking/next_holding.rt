@@ -8,9 +8,8 @@ ghost use Rattle.desk_lists.specs.Search.{IsHeldAt};
 use crate::balance_key::BalanceKey;
 use crate::balances::balance_of;
 use crate::lists::Lists;
-use crate::looking::securities::is_above;
 use desk_codes::{AccountId, Isin};
-use desk_register::Holding;
+use desk_register::{Holding, is_above};
 
 /// The least of all ISINs.
 fn least_isin() -> Isin

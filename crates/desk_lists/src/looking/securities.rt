@@ -1,24 +1,13 @@
 //! The securities in the order of their bytes.
-ghost use Rattle.std.specs.Prelude.{◌≡◌, ◌↔◌, IsTrue};
 ghost use Rattle.desk_rules.specs.Content.{history_of};
 ghost use Rattle.desk_lists.specs.Lists.{content_in, listed};
-ghost use Rattle.desk_register.specs.Looked.{IsAboveText, IsLess, IsSecurityAfter};
+ghost use Rattle.desk_register.specs.Looked.{IsSecurityAfter};
 ghost use Rattle.desk_lists.specs.Search.{IsLesser, IsSecurityOf};
 
 use crate::lists::Lists;
 use desk_codes::Isin;
+use desk_register::{is_above, is_less};
 use desk_rules::Entry;
-use std::cmp::Ordering;
-
-/// Whether one ISIN is before another, in the order of bytes.
-fn is_less(a: &Isin, b: &Isin) -> bool
-    ensures { IsTrue result ↔ IsLess a.now b.now }
-{
-    match a.as_bytes().cmp(b.as_bytes()) {
-        Ordering::Less => true,
-        Ordering::Equal | Ordering::Greater => false,
-    }
-}
 
 /// The security that an entry registers, where it is above one, or above none.
 fn security_above(entry: &Entry, above: &Option<Isin>) -> Option<Isin>
@@ -31,16 +20,6 @@ fn security_above(entry: &Entry, above: &Option<Isin>) -> Option<Isin>
         return Some(*isin);
     }
     None
-}
-
-/// Whether an ISIN is above one, or above none.
-pub fn is_above(above: &Option<Isin>, isin: &Isin) -> bool
-    ensures { IsTrue result ↔ IsAboveText above.now isin.now }
-{
-    match above {
-        Some(least) => is_less(least, isin),
-        None => true,
-    }
 }
 
 /// The lesser of two ISINs, where there are two.

@@ -1,12 +1,12 @@
-//! The order of the ISINs.
+//! The order of the ISINs, that of their bytes.
 ghost use Rattle.std.specs.Prelude.{◌≡◌, ◌↔◌, IsTrue};
 ghost use Rattle.desk_register.specs.Looked.{IsAboveText, IsLess};
 
 use desk_codes::Isin;
 use std::cmp::Ordering;
 
-/// Whether one ISIN is before another, in the order of bytes.
-fn is_less(a: &Isin, b: &Isin) -> bool
+/// Whether one ISIN is before another.
+pub fn is_less(a: &Isin, b: &Isin) -> bool
     ensures { IsTrue result ↔ IsLess a.now b.now }
 {
     match a.as_bytes().cmp(b.as_bytes()) {
