@@ -1,7 +1,0 @@
-pub mod Columns
-pub mod Entries
-pub mod Filled
-pub mod Shown
-pub mod Reading
-pub mod Recorded
-pub mod Spelt

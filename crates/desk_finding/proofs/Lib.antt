@@ -1,6 +1,0 @@
-pub mod NumberedLemmas
-pub mod TextLemmas
-pub mod RowLemmas
-pub mod EntryLemmas
-pub mod LookLemmas
-pub mod SecurityLemmas

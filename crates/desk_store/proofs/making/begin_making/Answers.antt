@@ -1,9 +1,0 @@
-use Rattle.sqlite.specs.Held.{state}
-use Rattle.desk_store.proofs.EmptyContent.{begun_making, begun_outside}
-use Rattle.desk_store.proofs.making.begin_making.Goals as goal
-
-pub returns-clause-ok : goal.returns-clause-ok
-returns-clause-ok g c clean is_open has = begun_making (state g.S.Store c.args.conn.now) (state g.S.Store c.execute.new.self) has c.execute.result (c.execute.ensures.runs clean)
-
-pub returns-clause-outside : goal.returns-clause-outside
-returns-clause-outside g c clean has = begun_outside (state g.S.Store c.args.conn.now) (state g.S.Store c.execute.new.self) has c.execute.result (c.execute.ensures.runs clean)

@@ -1,9 +1,0 @@
-pub mod EndLemmas
-pub mod CallLemmas
-pub mod ControlLemmas
-pub mod StatementLemmas
-pub mod MadeLemmas
-pub mod MakingLemmas
-pub mod QueryLemmas
-pub mod ValueLemmas
-pub mod EditLemmas

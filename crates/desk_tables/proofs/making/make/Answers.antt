@@ -1,6 +1,0 @@
-use Rattle.sqlite.specs.Held.{state}
-use Rattle.desk_tables.proofs.MakingLemmas.{has_made}
-use Rattle.desk_tables.proofs.making.make.Goals as goal
-
-pub returns-clause-made : goal.returns-clause-made
-returns-clause-made g c clean is_open before after makes was = has_made (state g.S.Store c.args.conn.now) (state g.S.Store c.execute.new.self) _ before after makes was c.execute.result (c.execute.ensures.runs clean)

@@ -1,6 +1,0 @@
-pub mod Key
-pub mod Unmatched
-pub mod InContent
-pub mod Columns
-pub mod Shown
-pub mod Texts

@@ -1,0 +1,39 @@
+-- The effects in the form of the calls' clauses.
+use Rattle.std.proofs.Common.{◌≡◌, ℕ, ◌+◌, ◌<◌, ◌^◌, pos, List, [], ◌∷◌, None, Some, Option, Ok, Err, Result, IfOk, OnOk, Vec, unwrap_or}
+use Rattle.std.specs.declared.alloc.Global.{Global}
+use Rattle.sqlite.specs.Order.{Row}
+use Rattle.sqlite.specs.declared.error.Error.{Error}
+use Rattle.sqlite.specs.declared.types.Value.TheVariants.{Int}
+use Rattle.sqlite.specs.State.{State, Executes, Shown}
+use Rattle.sql_tables.specs.Schema.{desk_schema}
+use Rattle.sql_amounts.specs.declared.key.AmountKey.{AmountKey}
+use Rattle.sql_amounts.specs.Keys.{ledger_of, texts_of}
+use Rattle.sql_amounts.specs.Statements.{amount_text, put_text, first_text, next_text}
+use Rattle.sql_amounts.specs.Amounts.{AreAmounts, amount_at}
+use Rattle.sql_tables.specs.Rows.{number_rows}
+use Rattle.sql_amounts.specs.Changes.{SetsAmount}
+use Rattle.sql_amounts.specs.Holdings.{ShowsNext}
+use Rattle.sql_amounts.proofs.EffectLemmas.{of_texts, puts, sets_first, shows_amount}
+use Rattle.sql_amounts.proofs.HoldingLemmas.{shows_next}
+
+module _ (old new : State) (has : old.now.schema ≡ desk_schema) (amounts : AreAmounts old.now) where
+  pub looked : (key : AmountKey) (r : Result (Vec Row Global) Error) → IfOk r (λ rows. Shown (amount_text (ledger_of key)) (of_texts (texts_of key) []) old new rows.items)
+      → IfOk r (λ rows. rows.items ≡ number_rows (amount_at old.now key))
+  looked key (Ok rows) h = shows_amount old new key rows.items has amounts h
+  looked key (Err e) h = tt
+
+  pub walked : (account : List ℕ) (above : Option (List ℕ)) (r : Result (Vec Row Global) Error) → IfOk r (λ rows. Shown next_text (of_texts (account, unwrap_or above []) []) old new rows.items)
+      → IfOk r (λ rows. ShowsNext old.now account above rows.items)
+  walked account above (Ok rows) h = shows_next old new account above rows.items has amounts h
+  walked account above (Err e) h = tt
+
+  module _ (key : AmountKey) (d : ℕ) where
+    pub raised : (q : ℕ) → amount_at old.now key ≡ Some q → q + d < 2 ^ 63 → (r : Result ℕ Error) → Executes (put_text (ledger_of key)) (of_texts (texts_of key) (Int (pos d) ∷ [])) old new r
+        → OnOk r (SetsAmount old.now new.now key (q + d))
+    raised q was small (Ok count) h = puts old new key d count has amounts q was small h
+    raised q was small (Err e) h = tt
+
+    pub inserted : amount_at old.now key ≡ None → d < 2 ^ 63 → (r : Result ℕ Error) → Executes (first_text (ledger_of key)) (of_texts (texts_of key) (Int (pos d) ∷ [])) old new r
+        → OnOk r (SetsAmount old.now new.now key d)
+    inserted absent small (Ok count) h = sets_first old new key d count has amounts absent small h
+    inserted absent small (Err e) h = tt

@@ -1,0 +1,12 @@
+use Rattle.sqlite.specs.Held.{state}
+use Rattle.sql_amounts.proofs.Meanings.{next_query}
+use Rattle.sql_amounts.proofs.ClauseLemmas.{walked}
+use Rattle.sql_amounts.proofs.holdings.next_rows.Goals as goal
+
+pub query-requires : goal.query-requires
+query-requires g c = record { query = next_query }
+
+pub returns-clause-value : goal.returns-clause-value
+returns-clause-value g c clean is_open has amounts =
+    walked (state g.S.Store c.args.conn.now) (state g.S.Store c.query.new.conn) has amounts c.args.account c.args.above c.query.result
+    (rw (c.as_bytes.ensures.bytes, c.bytes_of.ensures) at (c.query.ensures.shown clean))

@@ -1,0 +1,117 @@
+//! The calls on one amount.
+ghost use Rattle.std.specs.Prelude.{◌≡◌, ℕ, ◌+◌, ◌<◌, ◌^◌, is_some, IfOk, OnOk};
+ghost use Rattle.sql_tables.specs.Rows.{number_rows};
+ghost use Rattle.sql_amounts.specs.Amounts.{AreAmounts, amount_at};
+ghost use Rattle.sql_amounts.specs.Changes.{SetsAmount, Takes, had};
+ghost use Rattle.sql_tables.specs.Calls.{Looks, Soundly, Writes, tables};
+
+use crate::key::AmountKey;
+use crate::statements;
+use sql_tables::rows::only_number;
+use sql_tables::statement::{execute, query};
+use sql_tables::values::integer;
+use sqlite::types::ValueRef;
+use sqlite::{Alter, Connection, Error, Row};
+
+/// The rows of a key: one, or none.
+fn rows_of<S: Alter>(conn: &mut Connection<S>, key: &AmountKey) -> Result<Vec<Row>, Error>
+    ensures value { Soundly S.Store conn.old conn.new (AreAmounts (tables S.Store conn.old) → IfOk result (λ rows. rows.items ≡ number_rows (amount_at (tables S.Store conn.old) key.now))) }
+    ensures look { Looks S.Store conn.old conn.new result }
+{
+    let text = statements::amount_of_key(key.ledger());
+    query(
+        conn,
+        text,
+        &[ValueRef::Text(key.first()), ValueRef::Text(key.second())],
+    )
+}
+
+/// What is recorded under a key; None where nothing is. An amount below 0, which no call writes, is answered with
+/// `DatabaseCorrupt`.
+pub fn amount<S: Alter>(conn: &mut Connection<S>, key: &AmountKey) -> Result<Option<u64>, Error>
+    ensures value { Soundly S.Store conn.old conn.new (AreAmounts (tables S.Store conn.old) → IfOk result (λ r. r ≡ amount_at (tables S.Store conn.old) key.now)) }
+    ensures look { Looks S.Store conn.old conn.new result }
+{
+    let rows = rows_of(conn, key)?;
+    only_number(&rows)
+}
+
+/// Whether something is recorded under a key.
+fn is_recorded<S: Alter>(conn: &mut Connection<S>, key: &AmountKey) -> Result<bool, Error>
+    ensures value { Soundly S.Store conn.old conn.new (AreAmounts (tables S.Store conn.old) → IfOk result (λ r. r ≡ is_some (amount_at (tables S.Store conn.old) key.now))) }
+    ensures look { Looks S.Store conn.old conn.new result }
+{
+    let rows = rows_of(conn, key)?;
+    Ok(!rows.is_empty())
+}
+
+/// Takes an amount off, where there is as much: true. Where there is less, or nothing: false, and nothing has changed.
+/// What is 0 then stays recorded.
+pub fn take<S: Alter>(conn: &mut Connection<S>, key: &AmountKey, amount: u64) -> Result<bool, Error>
+    requires small { amount < 2 ^ 63 }
+    ensures changed { Soundly S.Store conn.old conn.new (AreAmounts (tables S.Store conn.old) → IfOk result (Takes (tables S.Store conn.old) (tables S.Store conn.new) key.now amount)) }
+    ensures write { Writes S.Store conn.old conn.new result }
+{
+    let text = statements::take_off(key.ledger());
+    let count = execute(
+        conn,
+        text,
+        &[
+            ValueRef::Text(key.first()),
+            ValueRef::Text(key.second()),
+            integer(amount),
+        ],
+    )?;
+    Ok(count == 1)
+}
+
+/// Puts an amount on what is recorded under a key.
+fn raise<S: Alter>(conn: &mut Connection<S>, key: &AmountKey, amount: u64) -> Result<usize, Error>
+    requires small { amount < 2 ^ 63 }
+    ensures changed { Soundly S.Store conn.old conn.new (AreAmounts (tables S.Store conn.old) → (recorded : ℕ) → amount_at (tables S.Store conn.old) key.now ≡ Some recorded → recorded + amount < 2 ^ 63 → OnOk result (SetsAmount (tables S.Store conn.old) (tables S.Store conn.new) key.now (recorded + amount))) }
+    ensures write { Writes S.Store conn.old conn.new result }
+{
+    let text = statements::put_on(key.ledger());
+    execute(
+        conn,
+        text,
+        &[
+            ValueRef::Text(key.first()),
+            ValueRef::Text(key.second()),
+            integer(amount),
+        ],
+    )
+}
+
+/// Records the first amount of a key.
+fn insert<S: Alter>(conn: &mut Connection<S>, key: &AmountKey, amount: u64) -> Result<usize, Error>
+    requires small { amount < 2 ^ 63 }
+    ensures changed { Soundly S.Store conn.old conn.new (AreAmounts (tables S.Store conn.old) → amount_at (tables S.Store conn.old) key.now ≡ None → OnOk result (SetsAmount (tables S.Store conn.old) (tables S.Store conn.new) key.now amount)) }
+    ensures write { Writes S.Store conn.old conn.new result }
+{
+    let text = statements::first_row(key.ledger());
+    execute(
+        conn,
+        text,
+        &[
+            ValueRef::Text(key.first()),
+            ValueRef::Text(key.second()),
+            integer(amount),
+        ],
+    )
+}
+
+/// Puts an amount on, whether or not something is recorded under the key. A sum that is not below 2^63 is refused with
+/// `ConstraintViolation`, and nothing has changed.
+pub fn put<S: Alter>(conn: &mut Connection<S>, key: &AmountKey, amount: u64) -> Result<(), Error>
+    requires small { amount < 2 ^ 63 }
+    ensures changed { Soundly S.Store conn.old conn.new (AreAmounts (tables S.Store conn.old) → had (tables S.Store conn.old) key.now + amount < 2 ^ 63 → OnOk result (SetsAmount (tables S.Store conn.old) (tables S.Store conn.new) key.now (had (tables S.Store conn.old) key.now + amount))) }
+    ensures write { Writes S.Store conn.old conn.new result }
+{
+    if is_recorded(conn, key)? {
+        raise(conn, key, amount)?;
+    } else {
+        insert(conn, key, amount)?;
+    }
+    Ok(())
+}

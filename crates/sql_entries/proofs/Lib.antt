@@ -1,0 +1,12 @@
+pub mod EffectLemmas
+pub mod EntryLemmas
+pub mod FindingTexts
+pub mod LookLemmas
+pub mod NumberedLemmas
+pub mod ReadingLemmas
+pub mod RegisterLemmas
+pub mod RowLemmas
+pub mod SameLemmas
+pub mod SecurityLemmas
+pub mod SpeltLemmas
+pub mod TextLemmas

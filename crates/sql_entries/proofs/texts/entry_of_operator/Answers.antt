@@ -1,0 +1,12 @@
+use Rattle.sqlite.specs.Held.{state}
+use Rattle.sql_entries.proofs.FindingTexts.{finds_entry_of_operator}
+use Rattle.sql_entries.proofs.LookLemmas.{operators_number}
+use Rattle.sql_entries.proofs.texts.entry_of_operator.Goals as goal
+
+pub query-requires : goal.query-requires
+query-requires g c = record { query = finds_entry_of_operator.query }
+
+pub returns-clause-shown : goal.returns-clause-shown
+returns-clause-shown g c clean is_open has register are =
+    operators_number (state g.S.Store c.args.conn.now) (state g.S.Store c.query.new.conn) has register are c.args.reference c.query.result
+    (rw c.as_bytes.ensures.bytes at (c.query.ensures.shown clean))

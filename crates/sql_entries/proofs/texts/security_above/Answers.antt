@@ -1,0 +1,12 @@
+use Rattle.sqlite.specs.Held.{state}
+use Rattle.sql_entries.proofs.FindingTexts.{finds_next_security}
+use Rattle.sql_entries.proofs.SecurityLemmas.{security_above_shown}
+use Rattle.sql_entries.proofs.texts.security_above.Goals as goal
+
+pub query-requires : goal.query-requires
+query-requires g c = record { query = finds_next_security.query }
+
+pub returns-clause-shown : goal.returns-clause-shown
+returns-clause-shown g c clean is_open has register are =
+    security_above_shown (state g.S.Store c.args.conn.now) (state g.S.Store c.query.new.conn) has register are c.args.isin c.query.result
+    (rw c.as_bytes.ensures.bytes at (c.query.ensures.shown clean))

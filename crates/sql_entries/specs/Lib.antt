@@ -1,0 +1,6 @@
+pub mod Columns
+pub mod Entries
+pub mod Filled
+pub mod Shown
+pub mod Reading
+pub mod Spelt

@@ -1,0 +1,108 @@
+//! The look-ups. Each fails as its statement does; a row that says nothing that the desk writes is told as a damaged
+//! database, `ErrorCode::DatabaseCorrupt`.
+ghost use Rattle.std.specs.Prelude.{◌≡◌, ℕ, List, Option, option_map, IfOk};
+ghost use Rattle.desk_codes.specs.Number.{number_of};
+ghost use Rattle.desk_rules.specs.declared.answers.reply.Kept.{Kept};
+ghost use Rattle.desk_rules.specs.Facts.{is_participant, owner_of, kind_of, last_run};
+ghost use Rattle.desk_rules.specs.History.{number_of_key};
+ghost use Rattle.desk_register.specs.Looked.{IsSecurityAfter};
+ghost use Rattle.sql_entries.specs.Entries.{AreEntries, entries_in};
+ghost use Rattle.sql_tables.specs.Rows.{number_rows, text_rows};
+ghost use Rattle.sql_tables.specs.Calls.{Looks, Soundly, tables};
+
+use crate::texts;
+use desk_codes::{AccountId, Bic, Day, Isin, Reference};
+use desk_msg::Kind;
+use desk_rules::Sender;
+use sql_tables::rows::{is_shown, only_bic, only_day, only_isin, only_kind, only_number};
+use sqlite::{Alter, Connection, Error, Row};
+
+/// The row of the first entry of this sender and reference.
+fn rows_of_key<S: Alter>(
+    conn: &mut Connection<S>,
+    sender: Sender,
+    reference: Reference,
+) -> Result<Vec<Row>, Error>
+    ensures shown { Soundly S.Store conn.old conn.new ((register : List Kept) → AreEntries (tables S.Store conn.old) register → IfOk result (λ rows. rows.items ≡ number_rows (number_of_key (entries_in register) sender reference))) }
+    ensures look { Looks S.Store conn.old conn.new result }
+{
+    match sender {
+        Sender::Operator => texts::entry_of_operator(conn, reference),
+        Sender::Participant(bic) => texts::entry_of_participant(conn, bic, reference),
+    }
+}
+
+/// The number of the first entry of this sender and reference; None where there is none.
+pub fn number_of<S: Alter>(
+    conn: &mut Connection<S>,
+    sender: Sender,
+    reference: Reference,
+) -> Result<Option<u64>, Error>
+    ensures value { Soundly S.Store conn.old conn.new ((register : List Kept) → AreEntries (tables S.Store conn.old) register → IfOk result (λ r. r ≡ number_of_key (entries_in register) sender reference)) }
+    ensures look { Looks S.Store conn.old conn.new result }
+{
+    let rows = rows_of_key(conn, sender, reference)?;
+    only_number(&rows)
+}
+
+/// Whether a BIC is a participant's.
+pub fn is_participant<S: Alter>(conn: &mut Connection<S>, bic: Bic) -> Result<bool, Error>
+    ensures value { Soundly S.Store conn.old conn.new ((register : List Kept) → AreEntries (tables S.Store conn.old) register → IfOk result (λ r. r ≡ is_participant (entries_in register) bic)) }
+    ensures look { Looks S.Store conn.old conn.new result }
+{
+    let rows = texts::participant(conn, bic)?;
+    is_shown(&rows)
+}
+
+/// Whose an account is; None where there is no such account.
+pub fn owner_of<S: Alter>(
+    conn: &mut Connection<S>,
+    account: AccountId,
+) -> Result<Option<Bic>, Error>
+    ensures value { Soundly S.Store conn.old conn.new ((register : List Kept) → AreEntries (tables S.Store conn.old) register → IfOk result (λ r. r ≡ owner_of (entries_in register) account)) }
+    ensures look { Looks S.Store conn.old conn.new result }
+{
+    let rows = texts::owner(conn, account)?;
+    only_bic(&rows)
+}
+
+/// How a security is counted; None where there is no such security.
+pub fn kind_of<S: Alter>(conn: &mut Connection<S>, isin: Isin) -> Result<Option<Kind>, Error>
+    ensures value { Soundly S.Store conn.old conn.new ((register : List Kept) → AreEntries (tables S.Store conn.old) register → IfOk result (λ r. r ≡ kind_of (entries_in register) isin)) }
+    ensures look { Looks S.Store conn.old conn.new result }
+{
+    let rows = texts::security(conn, isin)?;
+    only_kind(&rows)
+}
+
+/// The row of the first security above one; with none, of the first of all.
+fn rows_above<S: Alter>(conn: &mut Connection<S>, isin: Option<Isin>) -> Result<Vec<Row>, Error>
+    ensures shown { Soundly S.Store conn.old conn.new ((register : List Kept) → AreEntries (tables S.Store conn.old) register → IfOk result (λ rows. (found : Option (List ℕ)) × (rows.items ≡ text_rows found) × IsSecurityAfter (entries_in register) isin found)) }
+    ensures look { Looks S.Store conn.old conn.new result }
+{
+    match isin {
+        Some(isin) => texts::security_above(conn, isin),
+        None => texts::first_security(conn),
+    }
+}
+
+/// The first security, in order of its bytes, after one; with none, the first of all. None where there is none.
+pub fn security_after<S: Alter>(
+    conn: &mut Connection<S>,
+    isin: Option<Isin>,
+) -> Result<Option<Isin>, Error>
+    ensures value { Soundly S.Store conn.old conn.new ((register : List Kept) → AreEntries (tables S.Store conn.old) register → IfOk result (λ r. IsSecurityAfter (entries_in register) isin r)) }
+    ensures look { Looks S.Store conn.old conn.new result }
+{
+    let rows = rows_above(conn, isin)?;
+    only_isin(&rows)
+}
+
+/// The day of the last run; None before any.
+pub fn last_run<S: Alter>(conn: &mut Connection<S>) -> Result<Option<Day>, Error>
+    ensures value { Soundly S.Store conn.old conn.new ((register : List Kept) → AreEntries (tables S.Store conn.old) register → IfOk result (λ r. option_map number_of r ≡ last_run (entries_in register))) }
+    ensures look { Looks S.Store conn.old conn.new result }
+{
+    let rows = texts::last_run_day(conn)?;
+    only_day(&rows)
+}

@@ -1,0 +1,156 @@
+-- A call that only looks, told of the register, is a reading call.
+use Rattle.std.proofs.Common.{◌≡◌, ◌≢◌, inl, inr, refl, sym, ap, subst, ◌∙◌, ℕ, ◌≤◌, IsTrue, Result, Ok, Err, IfOk, arith}
+use Rattle.sqlite.specs.declared.error.Error.{Error}
+use Rattle.sqlite.specs.State.{State, HasCleanDisk}
+use Rattle.desk_register.specs.declared.register.Fault.{Fault}
+use Rattle.desk_register.specs.declared.register.Fault.TheVariants.{Memory, Storage}
+use Rattle.desk_register.specs.declared.register.Stage.{Stage}
+use Rattle.desk_register.specs.declared.register.Stage.TheVariants.{Idle, Begun, Failed}
+use Rattle.desk_register.specs.View.{IsLater as IsLaterView, IsRead, fallen}
+use Rattle.sql_tables.specs.Ends.{IfSound, IsLater, IsSame, IsUndone, FellLooking, IsLook}
+use Rattle.sql_register.specs.Content.{content_in}
+use Rattle.sql_register.specs.Holds.{IsDesk}
+use Rattle.sql_register.specs.Kept.{IsOpenDesk, IsKept, shown}
+use Rattle.sql_register.specs.Told.{IsTold}
+
+-- the disk was clean where it is now
+pub was_clean : (old new : State) → IsLater old new → HasCleanDisk new → HasCleanDisk old
+was_clean old new later clean = omega (arith, clean, later.clean)
+
+module _ (old new : State) (stage new_stage : Stage) (failures new_failures room : ℕ) where
+  pub later_view : IsLater old new → (HasCleanDisk new → IsTrue new.is_open → IsTrue old.is_open) → failures ≤ new_failures
+      → IsLaterView (shown old stage failures room) (shown new new_stage new_failures room)
+  later_view later opened grows = record { honest = was_clean old new later; sure = opened; failures = grows; room = refl }
+
+  -- where a look failed with no `begin` open, what is held is as it was
+  fell_content : IsKept old stage → IsLater old new → (HasCleanDisk new → IsTrue new.is_open → IsTrue old.is_open) → IfSound old new (FellLooking old new)
+      → HasCleanDisk new → IsTrue new.is_open → stage ≡ Idle → content_in new.now ≡ content_in old.now
+  fell_content kept later opened fell clean is_open idle =
+      let was_open = opened clean is_open in
+      let desk = kept (was_clean old new later clean) was_open in
+      elim (fell clean was_open desk.schema) [ inl same ↦ ap content_in same.now | inr undone ↦ ap content_in (undone.now is_open ∙ sym (desk.idle idle)) ]
+
+  fell_mark : IsKept old stage → IsLater old new → (HasCleanDisk new → IsTrue new.is_open → IsTrue old.is_open) → IfSound old new (FellLooking old new)
+      → HasCleanDisk new → IsTrue new.is_open → content_in new.committed ≡ content_in old.committed
+  fell_mark kept later opened fell clean is_open =
+      let was_open = opened clean is_open in
+      let desk = kept (was_clean old new later clean) was_open in
+      elim (fell clean was_open desk.schema) [ inl same ↦ ap content_in same.committed | inr undone ↦ ap content_in (undone.committed is_open) ]
+
+  module _ {X : Type 0} where
+    pub read_told : (given : Result X Error) (result : Result X Fault) → IsKept old stage → IsLook given old new → IsTold given result stage new_stage failures new_failures
+        → IsRead result (shown old stage failures room) (shown new new_stage new_failures room)
+    read_told (Ok x) result kept look told =
+        let same : HasCleanDisk new → IsTrue old.is_open → IsSame old new = λ clean was_open. look.ok clean was_open (kept (was_clean old new look.later clean) was_open).schema in
+        subst (λ r. IsRead r (shown old stage failures room) (shown new new_stage new_failures room)) (sym told.0) (record {
+          same = λ clean was_open. ap content_in (same clean was_open).now;
+          ok = record {
+            stage = told.1;
+            sure = λ clean was_open. (same clean was_open).is_open;
+            mark = λ clean was_open. ap content_in (same clean was_open).committed;
+            failures = λ clean few. told.2;
+          };
+          err = tt;
+          later = later_view look.later look.opened (omega (arith, told.2));
+          blame = record { storage = λ e. absurd (cc); memory = λ e. absurd (cc) };
+        })
+    read_told (Err e) result kept look told =
+        let fault = told.0 in
+        let counts = told.3 in
+        subst (λ r. IsRead r (shown old stage failures room) (shown new new_stage new_failures room)) (sym told.1) (record {
+          same = λ clean was_open. tt;
+          ok = tt;
+          err = record {
+            stage = told.2;
+            mark = λ clean is_open. fell_mark kept look.later look.opened look.err clean is_open;
+            content = λ clean is_open idle. fell_content kept look.later look.opened look.err clean is_open idle;
+          };
+          later = later_view look.later look.opened counts.grows;
+          blame = record {
+            storage = λ is clean few. counts.storage (let same : fault ≡ Storage = cc in same) few;
+            memory = λ is clean few. counts.memory (let same : fault ≡ Memory = cc in same);
+          };
+        })
+
+    pub value_told : (P : X → Type 0) (given : Result X Error) (result : Result X Fault) → IsKept old stage → IsLater old new → IfSound old new (IsDesk old.now → IfOk given P)
+        → IsTold given result stage new_stage failures new_failures → HasCleanDisk new → IsTrue old.is_open → stage ≢ Failed → IfOk result P
+    value_told P (Ok x) result kept later value told clean was_open goes =
+        let desk = kept (was_clean old new later clean) was_open in
+        subst (λ r. IfOk r P) (sym told.0) (value clean was_open desk.schema (desk.now goes))
+    value_told P (Err e) result kept later value told clean was_open goes = subst (λ r. IfOk r P) (sym told.1) tt
+
+    -- what is kept stays so after a look
+    pub kept_told : (given : Result X Error) (result : Result X Fault) → IsKept old stage → IsLook given old new → IsTold given result stage new_stage failures new_failures → IsKept new new_stage
+    kept_told (Ok x) result kept look told clean is_open =
+        let was_open = look.opened clean is_open in
+        let desk = kept (was_clean old new look.later clean) was_open in
+        let same = look.ok clean was_open desk.schema in
+        subst (IsOpenDesk new) (sym told.1) (same_desk same desk)
+      where
+        same_desk : IsSame old new → IsOpenDesk old stage → IsOpenDesk new stage
+        same_desk same desk = record {
+          committed = subst IsDesk (sym same.committed) desk.committed;
+          schema = ap (λ d. d.schema) same.now ∙ desk.schema;
+          now = λ goes. subst IsDesk (sym same.now) (desk.now goes);
+          idle = λ e. same.now ∙ desk.idle e ∙ sym same.committed;
+          closed = λ e. same.mode ∙ desk.closed e;
+          begun = λ e. same.mode ∙ desk.begun e;
+          unmarked = λ e. same.marks ∙ desk.unmarked e;
+          outside = λ out. same.marks ∙ desk.outside (sym same.mode ∙ out);
+        }
+    kept_told (Err e) result kept look told clean is_open =
+        let was_open = look.opened clean is_open in
+        let desk = kept (was_clean old new look.later clean) was_open in
+        subst (IsOpenDesk new) (sym told.2) (elim (look.err clean was_open desk.schema) [ inl same ↦ still stage same desk | inr undone ↦ gone stage undone desk is_open ])
+      where
+        still : (s : Stage) → IsSame old new → IsOpenDesk old s → IsOpenDesk new (fallen s)
+        still Idle same desk = record {
+          committed = subst IsDesk (sym same.committed) desk.committed;
+          schema = ap (λ d. d.schema) same.now ∙ desk.schema;
+          now = λ goes. subst IsDesk (sym same.now) (desk.now goes);
+          idle = λ e. same.now ∙ desk.idle e ∙ sym same.committed;
+          closed = λ e. same.mode ∙ desk.closed e;
+          begun = λ e. absurd (cc);
+          unmarked = λ e. absurd (cc);
+          outside = λ out. same.marks ∙ desk.outside (sym same.mode ∙ out);
+        }
+        still Begun same desk = lost same desk
+          where
+            lost : IsSame old new → IsOpenDesk old Begun → IsOpenDesk new Failed
+            lost same desk = record {
+              committed = subst IsDesk (sym same.committed) desk.committed;
+              schema = ap (λ d. d.schema) same.now ∙ desk.schema;
+              now = λ goes. absurd (goes refl);
+              idle = λ e. absurd (cc);
+              closed = λ e. absurd (cc);
+              begun = λ e. absurd (cc);
+              unmarked = λ e. absurd (cc);
+              outside = λ out. same.marks ∙ desk.outside (sym same.mode ∙ out);
+            }
+        still Failed same desk = record {
+          committed = subst IsDesk (sym same.committed) desk.committed;
+          schema = ap (λ d. d.schema) same.now ∙ desk.schema;
+          now = λ goes. absurd (goes refl);
+          idle = λ e. absurd (cc);
+          closed = λ e. absurd (cc);
+          begun = λ e. absurd (cc);
+          unmarked = λ e. absurd (cc);
+          outside = λ out. same.marks ∙ desk.outside (sym same.mode ∙ out);
+        }
+
+        gone : (s : Stage) → IsUndone old new → IsOpenDesk old s → IsTrue new.is_open → IsOpenDesk new (fallen s)
+        gone s undone desk is_open = record {
+          committed = subst IsDesk (sym (undone.committed is_open)) desk.committed;
+          schema = ap (λ d. d.schema) (undone.now is_open) ∙ desk.committed.schema;
+          now = λ goes. subst IsDesk (sym (undone.now is_open)) desk.committed;
+          idle = λ e. undone.now is_open ∙ sym (undone.committed is_open);
+          closed = λ e. undone.mode;
+          begun = λ e. absurd (never_begun s e);
+          unmarked = λ e. undone.marks;
+          outside = λ out. undone.marks;
+        }
+          where
+            never_begun : (s : Stage) → fallen s ≡ Begun → ⊥
+            never_begun Idle e = cc
+            never_begun Begun e = cc
+            never_begun Failed e = cc

@@ -1,0 +1,13 @@
+use Rattle.std.proofs.Common.{arith, subst, sym}
+use Rattle.sqlite.specs.Held.{state}
+use Rattle.sql_register.specs.Kept.{IsOpenDesk}
+use Rattle.sql_register.proofs.StageLemmas.{failed_desk}
+use Rattle.sql_register.proofs.calls.SqlRegisterRegister.back.Goals as goal
+
+pub invariant_of-self-in-Err : goal.invariant_of-self-in-Err
+invariant_of-self-in-Err g c = (
+  λ clean is_open. subst (IsOpenDesk (state g.S.Store c.take_back.new.conn)) (sym c.fault_of.ensures.stage)
+      (failed_desk (state g.S.Store c.self.inside.conn) (state g.S.Store c.take_back.new.conn) c.self.inside.course.stage
+      (c.self.invariant.0 (omega (arith, clean, c.take_back.ensures.later.clean)) (c.take_back.ensures.opened clean is_open)) (c.in-Err.ensures.err clean is_open)),
+  c.self.invariant.1,
+)

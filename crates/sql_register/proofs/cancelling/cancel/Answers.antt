@@ -1,0 +1,29 @@
+use Rattle.std.proofs.Common.{Ok, Err, Result, OnOk, ℕ, subst, arith}
+use Rattle.sqlite.specs.Held.{state}
+use Rattle.sqlite.specs.State.{State, HasCleanDisk}
+use Rattle.sqlite.specs.declared.error.Error.{Error}
+use Rattle.desk_register.specs.Changes.{CanCancel, cancelled, standing_at}
+use Rattle.desk_rules.specs.declared.history.standing.State.TheVariants.{Cancelled}
+use Rattle.sql_standings.specs.Standings.{StandingsChanged, standing_in}
+use Rattle.sql_tables.specs.Ends.{Stays}
+use Rattle.sql_standings.specs.Unmatched.{Forgets}
+use Rattle.sql_register.specs.Content.{content_in}
+use Rattle.sql_register.specs.Holds.{Becomes, IsDesk}
+use Rattle.sql_register.proofs.StandingContent.{cancels}
+use Rattle.sql_register.proofs.cancelling.cancel.Goals as goal
+
+becomes : (old mid new : State) (n : ℕ) (r : Result (Unit {0}) Error) → IsDesk old.now → CanCancel (content_in old.now) n → OnOk r (Stays mid new)
+    → StandingsChanged old.now mid.now (standing_at (standing_in old.now) n (record (standing_in old.now n) { state = Cancelled })) → OnOk r (Forgets mid.now new.now n) → OnOk r (Becomes new.now (cancelled n (content_in old.now)))
+becomes old mid new n (Ok tt) desk can stays stood forgot = cancels old.now mid.now new.now n desk can stays.schema stood forgot
+becomes old mid new n (Err e) desk can stays stood forgot = tt
+
+pub returns-clause-changed : goal.returns-clause-changed
+returns-clause-changed g c clean is_open has desk can =
+    let clean_mid : HasCleanDisk (state g.S.Store c.set_state.new.conn) = omega (arith, clean, c.forget_unmatched.ensures.write.later.clean) in
+    let mid = c.in_ok-set_state.ensures.write.ok clean_mid is_open has in
+    let stood = subst (λ k. StandingsChanged (state g.S.Store c.args.conn.now).now (state g.S.Store c.set_state.new.conn).now (standing_at (standing_in (state g.S.Store c.args.conn.now).now) k (record (standing_in (state g.S.Store c.args.conn.now).now k) { state = Cancelled })))
+    c.in_ok-number.ensures.same (c.in_ok-set_state.ensures.changed clean_mid is_open has desk.standings) in
+    let forgot = subst (λ k. OnOk c.forget_unmatched.result (Forgets (state g.S.Store c.set_state.new.conn).now (state g.S.Store c.forget_unmatched.new.conn).now k)) c.in_ok-number.ensures.same
+    (c.forget_unmatched.ensures.changed clean mid.is_open mid.schema) in
+    becomes (state g.S.Store c.args.conn.now) (state g.S.Store c.set_state.new.conn) (state g.S.Store c.forget_unmatched.new.conn) c.args.number c.forget_unmatched.result desk can
+    (c.forget_unmatched.ensures.write.ok clean mid.is_open mid.schema) stood forgot

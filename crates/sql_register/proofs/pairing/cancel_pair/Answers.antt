@@ -1,0 +1,24 @@
+use Rattle.std.proofs.Common.{◌≡◌, ◌∙◌, arith, ap, subst, sym}
+use Rattle.sqlite.specs.Held.{state}
+use Rattle.sqlite.specs.State.{HasCleanDisk}
+use Rattle.sql_standings.specs.Standings.{AreStandings}
+use Rattle.desk_rules.specs.declared.history.standing.State.TheVariants.{Cancelled}
+use Rattle.sql_tables.specs.Schema.{desk_schema}
+use Rattle.sql_register.proofs.PairCalls.{cancel_call, due_rows_kept}
+use Rattle.sql_register.proofs.pairing.cancel_pair.Goals as goal
+
+pub returns-clause-changed : goal.returns-clause-changed
+returns-clause-changed g c clean is_open has desk can =
+    let s0 = state g.S.Store c.args.conn.now in
+    let s1 = state g.S.Store c.later_day.new.conn in
+    let s2 = state g.S.Store c.stand_both.new.conn in
+    let s3 = state g.S.Store c.forget_due.new.conn in
+    let clean2 : HasCleanDisk s2 = omega (arith, clean, c.forget_due.ensures.write.later.clean) in
+    let clean1 : HasCleanDisk s1 = omega (arith, clean2, c.stand_both.ensures.write.later.clean) in
+    let same = c.in_ok-day.ensures.look.ok clean1 is_open has in
+    let has1 : s1.now.schema ≡ desk_schema = ap (λ d. d.schema) same.now ∙ has in
+    let stays2 = c.in_ok-stand_both.ensures.write.ok clean2 same.is_open has1 in
+    let stood = c.in_ok-stand_both.ensures.changed clean2 same.is_open has1 (subst AreStandings (sym same.now) desk.standings) in
+    let rows = due_rows_kept s0.now s1.now s2.now c.args.earlier c.args.later Cancelled same.now stood desk.due_rows in
+    cancel_call s0.now s1.now s2.now s2 s3 c.args.earlier c.args.later c.in_ok-day.day c.forget_due.result same.now desk can
+    (c.in_ok-day.ensures.value clean1 is_open has desk) stood (c.forget_due.ensures.write.ok clean stays2.is_open stays2.schema) (c.forget_due.ensures.changed clean stays2.is_open stays2.schema rows)

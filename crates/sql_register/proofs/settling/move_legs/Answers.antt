@@ -1,0 +1,78 @@
+use Rattle.std.proofs.Common.{rules, Bool, ◌<◌, ◌^◌, arith, lit<, subst}
+use Rattle.std.proofs.lemmas.Result.{err_from_is_err_and}
+use Rattle.sqlite.specs.Held.{state}
+use Rattle.sqlite.specs.State.{HasCleanDisk}
+use Rattle.desk_rules.proofs.ShortNumbers.{short_quantity}
+use Rattle.sql_tables.proofs.CallLemmas.{write_err, write_then}
+use Rattle.sql_register.specs.Settling.{TakesCash, TakesHeld}
+use Rattle.sql_register.proofs.LegLemmas.{legs_settled, pay_fits, put_fits}
+use Rattle.sql_register.proofs.settling.move_legs.Goals as goal
+
+pub take_held-requires-clause-small : goal.take_held-requires-clause-small
+take_held-requires-clause-small g c =
+    let i = c.args.later.now.instruction in
+    let short = short_quantity i.quantity (search rules) i.short in
+    let room : 10 ^ 18 < 2 ^ 63 = lit< tt in
+    omega (arith, short, room)
+
+pub put_held-requires : goal.put_held-requires
+put_held-requires g c =
+    let i = c.args.later.now.instruction in
+    let short = short_quantity i.quantity (search rules) i.short in
+    let room : 10 ^ 18 < 2 ^ 63 = lit< tt in
+    record { small = omega (arith, short, room) }
+
+pub returns-clause-changed : goal.returns-clause-changed
+returns-clause-changed g c clean is_open has amounts fits =
+    let s0 = state g.S.Store c.args.conn.now in
+    let s1 = state g.S.Store c.take_held.new.conn in
+    let s2 = state g.S.Store c.take_cash.new.conn in
+    let s3 = state g.S.Store c.put_held.new.conn in
+    let s4 = state g.S.Store c.put_cash.new.conn in
+    let clean3 : HasCleanDisk s3 = omega (arith, clean, c.in_ok-put_cash.ensures.write.later.clean) in
+    let clean2 : HasCleanDisk s2 = omega (arith, clean3, c.in_ok-put_held.ensures.write.later.clean) in
+    let clean1 : HasCleanDisk s1 = omega (arith, clean2, c.in_ok-take_cash.ensures.write.later.clean) in
+    let m1 = c.in_ok-take_held.ensures.write.ok clean1 is_open has in
+    let m2 = c.in_ok-take_cash.ensures.write.ok clean2 m1.is_open m1.schema in
+    let m3 = c.in_ok-put_held.ensures.write.ok clean3 m2.is_open m2.schema in
+    let earlier = c.args.earlier.now in
+    let later = c.args.later.now in
+    let from = c.delivery-from.result.now in
+    let to = c.receipt-to.result.now in
+    let takes = subst (λ (r : Bool). TakesHeld s0.now s1.now from.instruction.account later.instruction.isin later.instruction.quantity r) c.if-not-branch.false
+    (c.in_ok-take_held.ensures.changed clean1 is_open has amounts) in
+    let pays = subst (λ (r : Bool). TakesCash s1.now s2.now to.sender later.instruction.cash r) c.if-not-branch-2.false
+    (c.in_ok-take_cash.ensures.changed clean2 m1.is_open m1.schema takes.1.kept) in
+    let gives = c.in_ok-put_held.ensures.changed clean3 m2.is_open m2.schema pays.1.kept (put_fits s0.now s1.now s2.now s3.now s4.now earlier later from to c.delivery-from.ensures c.receipt-to.ensures fits takes pays) in
+    let paid = c.in_ok-put_cash.ensures.changed clean m3.is_open m3.schema gives.kept (pay_fits s0.now s1.now s2.now s3.now s4.now earlier later from to c.delivery-from.ensures c.receipt-to.ensures fits takes pays gives) in
+    legs_settled s0.now s1.now s2.now s3.now s4.now earlier later from to c.delivery-from.ensures c.receipt-to.ensures takes pays gives paid
+
+pub returns-in_err-take_cash-clause-write : goal.returns-in_err-take_cash-clause-write
+returns-in_err-take_cash-clause-write g c =
+    let s0 = state g.S.Store c.args.conn.now in
+    let s1 = state g.S.Store c.take_held.new.conn in
+    let s2 = state g.S.Store c.take_cash.new.conn in
+    let p = err_from_is_err_and c.from_residual-in_err-take_cash.result c.from_residual-in_err-take_cash.ensures.1 in
+    rw (p.1, p.2) (write_then _ _ s0 s1 s2 c.in_ok-take_held.ensures.write (write_err _ s1 s2 c.in_err-take_cash.ensures.write))
+
+pub returns-in_err-put_held-clause-write : goal.returns-in_err-put_held-clause-write
+returns-in_err-put_held-clause-write g c =
+    let s0 = state g.S.Store c.args.conn.now in
+    let s1 = state g.S.Store c.take_held.new.conn in
+    let s2 = state g.S.Store c.take_cash.new.conn in
+    let s3 = state g.S.Store c.put_held.new.conn in
+    let p = err_from_is_err_and c.from_residual-in_err-put_held.result c.from_residual-in_err-put_held.ensures.1 in
+    let taken = write_then _ _ s0 s1 s2 c.in_ok-take_held.ensures.write c.in_ok-take_cash.ensures.write in
+    rw (p.1, p.2) (write_then _ _ s0 s2 s3 taken (write_err _ s2 s3 c.in_err-put_held.ensures.write))
+
+pub returns-in_err-put_cash-clause-write : goal.returns-in_err-put_cash-clause-write
+returns-in_err-put_cash-clause-write g c =
+    let s0 = state g.S.Store c.args.conn.now in
+    let s1 = state g.S.Store c.take_held.new.conn in
+    let s2 = state g.S.Store c.take_cash.new.conn in
+    let s3 = state g.S.Store c.put_held.new.conn in
+    let s4 = state g.S.Store c.put_cash.new.conn in
+    let p = err_from_is_err_and c.from_residual-in_err-put_cash.result c.from_residual-in_err-put_cash.ensures.1 in
+    let taken = write_then _ _ s0 s1 s2 c.in_ok-take_held.ensures.write c.in_ok-take_cash.ensures.write in
+    let held = write_then _ _ s0 s2 s3 taken c.in_ok-put_held.ensures.write in
+    rw (p.1, p.2) (write_then _ _ s0 s3 s4 held (write_err _ s3 s4 c.in_err-put_cash.ensures.write))

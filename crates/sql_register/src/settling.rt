@@ -1,0 +1,272 @@
+//! A matched pair is tried: it settles, or it lacks something.
+ghost use Rattle.std.specs.Prelude.{◌≡◌, ◌≢◌, ◌+◌, ◌<◌, ◌^◌, [], true, Some, IfOk, OnOk, IsOk};
+ghost use Rattle.sqlite.specs.Held.{state};
+ghost use Rattle.desk_codes.specs.Number.{number_of};
+ghost use Rattle.sql_tables.specs.Calls.{Looks, Soundly, Writes, tables};
+ghost use Rattle.sql_tables.specs.Ends.{Stays};
+ghost use Rattle.sql_amounts.specs.Amounts.{AreAmounts};
+ghost use Rattle.desk_register.specs.Changes.{CanSettle, FitsCash, IsPairAt, SidesFit, TriesPair, delivering_side, receiving_side};
+ghost use Rattle.sql_standings.specs.Due.{AreDue};
+ghost use Rattle.sql_standings.specs.Standings.{AreStandings};
+ghost use Rattle.sql_register.specs.Content.{content_in};
+ghost use Rattle.sql_register.specs.Holds.{IsDesk};
+ghost use Rattle.sql_register.specs.Settling.{state_then, more_held, more_cash, AmountsSo, Closes, Frees, IsMarked, IsTrial, MovesBoth, MovesLegs, TakesCash, TakesHeld};
+
+use crate::looking::instruction;
+use crate::numbers::in_order;
+use crate::pairing::stand_both;
+use desk_codes::{AccountId, Bic, Day, Isin};
+use desk_msg::{Cash, Reason};
+use desk_register::Outcome;
+use desk_rules::{Instructed, Lack, State};
+use sql_amounts::{AmountKey, put, take};
+use sql_standings::due::forget_due;
+use sql_standings::standings::standing;
+use sql_tables::control::{go_back, release, save};
+use sql_tables::values::CORRUPT;
+use sqlite::{Alter, Connection, Error};
+use std::alloc::Global;
+
+/// Takes a quantity off an account, where it holds as much: true.
+fn take_held<S: Alter>(
+    conn: &mut Connection<S>,
+    account: AccountId,
+    isin: Isin,
+    quantity: u64,
+) -> Result<bool, Error>
+    requires some { 0 < quantity }
+    requires small { quantity < 2 ^ 63 }
+    ensures changed { Soundly S.Store conn.old conn.new (AreAmounts (tables S.Store conn.old) → IfOk result (TakesHeld (tables S.Store conn.old) (tables S.Store conn.new) account isin quantity)) }
+    ensures write { Writes S.Store conn.old conn.new result }
+{
+    take(conn, &AmountKey::Balance(account, isin), quantity)
+}
+
+/// Puts a quantity on an account.
+fn put_held<S: Alter>(
+    conn: &mut Connection<S>,
+    account: AccountId,
+    isin: Isin,
+    quantity: u64,
+) -> Result<(), Error>
+    requires small { quantity < 2 ^ 63 }
+    ensures changed { Soundly S.Store conn.old conn.new (AreAmounts (tables S.Store conn.old) → (content_in (tables S.Store conn.old)).position account isin + quantity < 2 ^ 63
+        → OnOk result (AmountsSo (tables S.Store conn.old) (tables S.Store conn.new) (more_held (content_in (tables S.Store conn.old)).position account isin quantity) (content_in (tables S.Store conn.old)).cash)) }
+    ensures write { Writes S.Store conn.old conn.new result }
+{
+    put(conn, &AmountKey::Balance(account, isin), quantity)
+}
+
+/// Takes the cash that is asked for off a participant, where it has as much, or where none is asked for: true.
+fn take_cash<S: Alter>(
+    conn: &mut Connection<S>,
+    bic: Bic,
+    asked: Option<Cash>,
+) -> Result<bool, Error>
+    ensures changed { Soundly S.Store conn.old conn.new (AreAmounts (tables S.Store conn.old) → IfOk result (TakesCash (tables S.Store conn.old) (tables S.Store conn.new) bic asked)) }
+    ensures write { Writes S.Store conn.old conn.new result }
+{
+    match asked {
+        None => Ok(true),
+        Some(Cash { ccy, amount, .. }) => take(conn, &AmountKey::Cash(bic, ccy), amount),
+    }
+}
+
+/// Puts the cash that is asked for on a participant's balance.
+fn put_cash<S: Alter>(conn: &mut Connection<S>, bic: Bic, asked: Option<Cash>) -> Result<(), Error>
+    ensures changed { Soundly S.Store conn.old conn.new (AreAmounts (tables S.Store conn.old) → FitsCash (content_in (tables S.Store conn.old)).cash bic asked
+        → OnOk result (AmountsSo (tables S.Store conn.old) (tables S.Store conn.new) (content_in (tables S.Store conn.old)).position (more_cash (content_in (tables S.Store conn.old)).cash bic asked))) }
+    ensures write { Writes S.Store conn.old conn.new result }
+{
+    match asked {
+        None => Ok(()),
+        Some(Cash { ccy, amount, .. }) => put(conn, &AmountKey::Cash(bic, ccy), amount),
+    }
+}
+
+/// The instruction of two that delivers.
+fn delivery<'a>(earlier: &'a Instructed, later: &'a Instructed) -> &'a Instructed
+    ensures { result.now ≡ delivering_side earlier.now later.now }
+{
+    if earlier.instruction.mt.is_delivery() {
+        return earlier;
+    }
+    later
+}
+
+/// The instruction of two that receives.
+fn receipt<'a>(earlier: &'a Instructed, later: &'a Instructed) -> &'a Instructed
+    ensures { result.now ≡ receiving_side earlier.now later.now }
+{
+    if earlier.instruction.mt.is_delivery() {
+        return later;
+    }
+    earlier
+}
+
+/// Moves the quantity of a pair from its deliverer's account to its receiver's, and its cash the other way. What is lacking
+/// is asked for first, securities before money; where money is, the quantity was taken, and is not put back here.
+fn move_legs<S: Alter>(
+    conn: &mut Connection<S>,
+    earlier: &Instructed,
+    later: &Instructed,
+) -> Result<Outcome, Error>
+    ensures changed { Soundly S.Store conn.old conn.new (AreAmounts (tables S.Store conn.old) → SidesFit (content_in (tables S.Store conn.old)) earlier.now later.now
+        → IfOk result (MovesLegs (tables S.Store conn.old) (tables S.Store conn.new) earlier.now later.now)) }
+    ensures write { Writes S.Store conn.old conn.new result }
+{
+    let from = delivery(earlier, later);
+    let to = receipt(earlier, later);
+    let isin = later.instruction.isin;
+    let quantity = later.instruction.quantity;
+    let cash = later.instruction.cash;
+    if !take_held(conn, from.instruction.account, isin, quantity)? {
+        return Ok(Outcome::Lacks(Lack::Securities));
+    }
+    if !take_cash(conn, to.sender, cash)? {
+        return Ok(Outcome::Lacks(Lack::Money));
+    }
+    put_held(conn, to.instruction.account, isin, quantity)?;
+    put_cash(conn, from.sender, cash)?;
+    Ok(Outcome::Settled)
+}
+
+/// Sets the savepoint of the pair, and moves both of its legs or none. The savepoint stays.
+fn move_both<S: Alter>(
+    conn: &mut Connection<S>,
+    earlier: &Instructed,
+    later: &Instructed,
+) -> Result<Outcome, Error>
+    ensures changed { Soundly S.Store conn.old conn.new (AreAmounts (tables S.Store conn.old) → SidesFit (content_in (tables S.Store conn.old)) earlier.now later.now
+        → (state S.Store conn.old).in_transaction ≡ true → (state S.Store conn.old).marks ≡ [] → IfOk result (MovesBoth (tables S.Store conn.old) (tables S.Store conn.new) earlier.now later.now)) }
+    ensures trial { IsTrial result (state S.Store conn.old) (state S.Store conn.new) (IsMarked (state S.Store conn.old) (state S.Store conn.new)) }
+{
+    save(conn)?;
+    let outcome = move_legs(conn, earlier, later)?;
+    if matches!(outcome, Outcome::Lacks(Lack::Money)) {
+        go_back(conn)?;
+    }
+    Ok(outcome)
+}
+
+/// How both instructions of a pair stand that has fared so.
+fn state_then(outcome: Outcome) -> State
+    ensures same { result ≡ state_then outcome }
+    ensures instruction { result ≢ State.NoInstruction }
+{
+    match outcome {
+        Outcome::Settled => State::Settled,
+        Outcome::Lacks(Lack::Securities) => State::Matched(Reason::Lack),
+        Outcome::Lacks(Lack::Money) => State::Matched(Reason::Money),
+    }
+}
+
+/// Lets a pair that is settled be due no more.
+fn free<S: Alter>(
+    conn: &mut Connection<S>,
+    day: Day,
+    number: u64,
+    outcome: Outcome,
+) -> Result<(), Error>
+    requires { number < 1_000_000_000 }
+    ensures changed { Soundly S.Store conn.old conn.new (AreDue (tables S.Store conn.old) → OnOk result (Frees (tables S.Store conn.old) (tables S.Store conn.new) (number_of day) number outcome)) }
+    ensures write { Writes S.Store conn.old conn.new result }
+{
+    match outcome {
+        Outcome::Settled => forget_due(conn, day, number),
+        Outcome::Lacks(_) => Ok(()),
+    }
+}
+
+/// A pair, by the numbers of its two instructions.
+#[derive(Clone, Copy, Debug, PartialEq, Eq)]
+pub struct FoundPair {
+    /// Of the earlier instruction
+    mate: u64,
+    /// Of the later one
+    number: u64,
+    earlier: Instructed,
+    later: Instructed,
+    ghost first: { 0 < mate },
+    ghost two: { mate < number },
+    ghost small: { number < 1_000_000_000 },
+}
+
+/// The number of the mate of an instruction.
+fn mate_of<S: Alter>(conn: &mut Connection<S>, number: u64) -> Result<u64, Error>
+    ensures value { Soundly S.Store conn.old conn.new (IsDesk (tables S.Store conn.old) → IfOk result (λ mate. ((content_in (tables S.Store conn.old)).standing number).mate ≡ Some mate)) }
+    ensures look { Looks S.Store conn.old conn.new result }
+{
+    let standing = standing(conn, number)?;
+    match standing.mate {
+        Some(mate) => Ok(mate),
+        None => Err(CORRUPT),
+    }
+}
+
+fn pair_of(
+    mate: u64,
+    number: u64,
+    earlier: Instructed,
+    later: Instructed,
+) -> Result<FoundPair, Error>
+    ensures value { IfOk result (λ p. (p.mate ≡ mate) × (p.number ≡ number) × (p.earlier ≡ earlier) × (p.later ≡ later)) }
+    ensures all { 0 < mate → mate < number → number < 1_000_000_000 → IsOk result }
+{
+    in_order(mate, number)?;
+    Ok(FoundPair {
+        mate,
+        number,
+        earlier,
+        later,
+    })
+}
+
+/// The pair of the later instruction's number.
+fn pair_at<S: Alter>(
+    conn: &mut Connection<S>,
+    alloc: Global,
+    number: u64,
+) -> Result<FoundPair, Error>
+    ensures value { Soundly S.Store conn.old conn.new (IsDesk (tables S.Store conn.old) → IfOk result (λ p. (p.number ≡ number) × IsPairAt (content_in (tables S.Store conn.old)) number p.mate p.earlier p.later)) }
+    ensures look { Looks S.Store conn.old conn.new result }
+{
+    let later = instruction(conn, alloc, number)?;
+    let mate = mate_of(conn, number)?;
+    let earlier = instruction(conn, alloc, mate)?;
+    pair_of(mate, number, earlier, later)
+}
+
+/// Lets both instructions of a pair stand as it fared.
+fn close<S: Alter>(
+    conn: &mut Connection<S>,
+    pair: &FoundPair,
+    outcome: Outcome,
+) -> Result<(), Error>
+    ensures changed { Soundly S.Store conn.old conn.new (AreStandings (tables S.Store conn.old) → AreDue (tables S.Store conn.old)
+        → OnOk result (Closes (tables S.Store conn.old) (tables S.Store conn.new) pair.now.mate pair.now.number (number_of pair.now.later.instruction.day) outcome)) }
+    ensures write { Writes S.Store conn.old conn.new result }
+{
+    stand_both(conn, pair.mate, pair.number, state_then(outcome))?;
+    free(conn, pair.later.instruction.day, pair.number, outcome)
+}
+
+/// Tries the matched pair of a number, due by a day: settles it, and moves its quantity between the accounts and its cash
+/// between the participants, where it is covered, else changes the reason alone. It works in a savepoint of its own, so it
+/// is of a transaction that has none.
+pub fn settle_pair<S: Alter>(
+    conn: &mut Connection<S>,
+    alloc: Global,
+    number: u64,
+    day: Day,
+) -> Result<Outcome, Error>
+    ensures changed { Soundly S.Store conn.old conn.new (IsDesk (tables S.Store conn.old) → CanSettle (content_in (tables S.Store conn.old)) number (number_of day)
+        → (state S.Store conn.old).in_transaction ≡ true → (state S.Store conn.old).marks ≡ [] → IfOk result (λ outcome. IsDesk (tables S.Store conn.new) × TriesPair (content_in (tables S.Store conn.old)) number outcome (content_in (tables S.Store conn.new)))) }
+    ensures trial { IsTrial result (state S.Store conn.old) (state S.Store conn.new) (Stays (state S.Store conn.old) (state S.Store conn.new)) }
+{
+    let pair = pair_at(conn, alloc, number)?;
+    let outcome = move_both(conn, &pair.earlier, &pair.later)?;
+    close(conn, &pair, outcome)?;
+    release(conn)?;
+    Ok(outcome)
+}

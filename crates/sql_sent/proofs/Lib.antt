@@ -1,0 +1,5 @@
+pub mod InsertLemmas
+pub mod MessageLemmas
+pub mod RowLemmas
+pub mod TableLemmas
+pub mod TextLemmas

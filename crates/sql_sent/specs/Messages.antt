@@ -1,0 +1,54 @@
+-- The table of what was sent: a list, in order of number.
+use Rattle.std.specs.Prelude.{◌≡◌, ◌+◌, ◌<◌, ◌^◌, ℕ, pos, List, [], ◌∷◌, ◌++◌, length, filter, bytes_eq, Option, None, Some, unwrap_or}
+use Rattle.std.specs.List.{AllByRecursion}
+use Rattle.std.specs.Int.{w64, cast_signed}
+use Rattle.sqlite.specs.Order.{Row}
+use Rattle.sqlite.specs.declared.types.Value.TheVariants.{Null, Int, Text as Words}
+use Rattle.sqlite.specs.Effect.{Database}
+use Rattle.desk_rules.specs.declared.answers.reply.Sent.{Sent}
+use Rattle.sql_tables.specs.Ends.{SparesOthers}
+use Rattle.sql_tables.specs.Rows.{number_rows}
+
+-- what was sent to the participant of a BIC, in order
+abbrev pub sent_to : List Sent → List ℕ → List Sent
+sent_to messages bic = filter (λ message. bytes_eq message.bic bic) messages
+
+-- a message as it is stored, with its number and its place among what was sent to its participant
+abbrev pub stored : ℕ → ℕ → Sent → Row
+stored number place message =
+    Int (pos number) ∷ Null ∷ Words message.bic ∷ Int (pos place) ∷ Int (pos message.mt) ∷ Int (cast_signed w64 message.about) ∷ Words message.text ∷ []
+
+-- the rows of messages that were sent after these
+abbrev pub rows_after : List Sent → List Sent → List Row
+rows_after before [] = []
+rows_after before (message ∷ more) = stored (length before + 1) (length (sent_to before message.bic) + 1) message ∷ rows_after (before ++ message ∷ []) more
+
+-- the table is this list
+pub record AreSent (db : Database) (messages : List Sent) : Type 0 where
+  pub rows : db.trees 11 ≡ rows_after [] messages
+  pub few : length messages < 2 ^ 63
+  pub fit : AllByRecursion (λ message. message.about < 2 ^ 64) messages
+
+-- ---- a message more
+
+-- the message is added, and no other table has changed
+pub record Adds (old new : Database) (messages : List Sent) (message : Sent) : Type 0 where
+  pub sent : AreSent new (messages ++ message ∷ [])
+  pub others : SparesOthers 11 13 old new
+
+-- ---- what a query shows
+
+-- a message as a query shows it
+abbrev pub shown : Sent → Row
+shown message = Words message.bic ∷ Int (pos message.mt) ∷ Int (cast_signed w64 message.about) ∷ Words message.text ∷ []
+
+-- the rows of a query for one message
+abbrev pub IsMessage : List Row → Option Sent → Type 0
+IsMessage rows None = rows ≡ []
+IsMessage rows (Some message) = (rows ≡ shown message ∷ []) × (message.about < 2 ^ 64)
+
+-- the rows of a query for the last number, which is 0 where there is none
+pub record IsLast (rows : List Row) (last : ℕ) : Type 0 where
+  pub found : Option ℕ
+  pub shown : rows ≡ number_rows found
+  pub is : unwrap_or found 0 ≡ last

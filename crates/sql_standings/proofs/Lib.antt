@@ -1,0 +1,12 @@
+pub mod DueCalls
+pub mod DueLemmas
+pub mod FirstLemmas
+pub mod KeyLemmas
+pub mod MeaningLemmas
+pub mod NextLemmas
+pub mod StandingCalls
+pub mod StandingLemmas
+pub mod UnmatchedEffects
+pub mod UnmatchedLaws
+pub mod UnmatchedMeanings
+pub mod UnmatchedRows

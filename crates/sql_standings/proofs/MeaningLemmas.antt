@@ -1,0 +1,135 @@
+-- What the texts mean.
+use Rattle.std.proofs.Common.{◌≡◌, ℕ, pos, List, [], ◌∷◌, codes, refl}
+use Rattle.sqlite.specs.declared.types.Value.TheVariants.{Null, Int}
+use Rattle.sqlite.specs.Term.{Term, lit, col, op2}
+use Rattle.sqlite.specs.Collation.TheVariants.{Binary}
+use Rattle.sqlite_sql.specs.declared.ops.BinaryOp.TheVariants.{Compare}
+use Rattle.sqlite_sql.specs.declared.ops.CompareOp.TheVariants.{Gt, Lt}
+use Rattle.sqlite.specs.Command.TheVariants.{Select, Insert, Update, Delete}
+use Rattle.sqlite.specs.Source.TheVariants.{Values}
+use Rattle.sqlite.specs.Listing.{understood}
+use Rattle.sqlite_tied.specs.Compute.{everything}
+use Rattle.sqlite.proofs.Callers.{command_of}
+use Rattle.sql_tables.specs.Schema.{desk_schema}
+use Rattle.sql_tables.specs.Statements.{IsEdit, IsQuery}
+use Rattle.sql_tables.specs.Queries.{plain, first_of, rising, equals}
+
+-- ---- where instructions stand
+
+abbrev pub read_text : List ℕ
+read_text = codes "SELECT mate, state, reason, asked FROM state WHERE number = ?1"
+
+abbrev pub add_text : List ℕ
+add_text = codes "INSERT INTO state (number, mate, state, reason, asked) VALUES (?1, 0, 1, 0, 0)"
+
+abbrev pub stand_text : List ℕ
+stand_text = codes "UPDATE state SET mate = ?2, state = ?3, reason = ?4 WHERE number = ?1"
+
+abbrev pub state_text : List ℕ
+state_text = codes "UPDATE state SET state = ?2, reason = ?3 WHERE number = ?1"
+
+abbrev pub ask_text : List ℕ
+ask_text = codes "UPDATE state SET asked = 1 WHERE number = ?1"
+
+-- the row of a number
+abbrev pub by_number : Term
+by_number = equals 0 0
+
+abbrev pub read_shown : List Term
+read_shown = col 1 2 ∷ col 1 3 ∷ col 1 4 ∷ col 1 5 ∷ []
+
+abbrev pub add_terms : List Term
+add_terms = col 0 0 ∷ lit Null ∷ lit (Int (pos 0)) ∷ lit (Int (pos 1)) ∷ lit (Int (pos 0)) ∷ lit (Int (pos 0)) ∷ []
+
+abbrev pub stand_shown : List Term
+stand_shown = col 1 0 ∷ col 1 0 ∷ lit Null ∷ col 0 1 ∷ col 0 2 ∷ col 0 3 ∷ col 1 5 ∷ []
+
+abbrev pub state_shown : List Term
+state_shown = col 1 0 ∷ col 1 0 ∷ lit Null ∷ col 1 2 ∷ col 0 1 ∷ col 0 2 ∷ col 1 5 ∷ []
+
+abbrev pub ask_shown : List Term
+ask_shown = col 1 0 ∷ col 1 0 ∷ lit Null ∷ col 1 2 ∷ col 1 3 ∷ col 1 4 ∷ lit (Int (pos 1)) ∷ []
+
+pub reads : IsQuery read_text
+unfolding understood everything
+reads = record { selects = refl; plain = (refl, refl); unlisted = refl }
+
+pub read_is : command_of (understood desk_schema read_text) ≡ Select (record { lets = []; body = plain 8 (by_number ∷ []) read_shown }) (codes "mate" ∷ codes "state" ∷ codes "reason" ∷ codes "asked" ∷ [])
+unfolding understood everything
+read_is = refl
+
+pub adds : IsEdit add_text
+unfolding understood everything
+adds = record { changes = refl; plain = (refl, refl) }
+
+pub add_is : command_of (understood desk_schema add_text) ≡ Insert 4 (Values add_terms 6)
+unfolding understood everything
+add_is = refl
+
+pub stands : IsEdit stand_text
+unfolding understood everything
+stands = record { changes = refl; plain = (refl, refl) }
+
+pub stand_is : command_of (understood desk_schema stand_text) ≡ Update 4 (record { lets = []; body = plain 8 (by_number ∷ []) stand_shown })
+unfolding understood everything
+stand_is = refl
+
+pub changes_state : IsEdit state_text
+unfolding understood everything
+changes_state = record { changes = refl; plain = (refl, refl) }
+
+pub state_is : command_of (understood desk_schema state_text) ≡ Update 4 (record { lets = []; body = plain 8 (by_number ∷ []) state_shown })
+unfolding understood everything
+state_is = refl
+
+pub asks : IsEdit ask_text
+unfolding understood everything
+asks = record { changes = refl; plain = (refl, refl) }
+
+pub ask_is : command_of (understood desk_schema ask_text) ≡ Update 4 (record { lets = []; body = plain 8 (by_number ∷ []) ask_shown })
+unfolding understood everything
+ask_is = refl
+
+-- ---- which places are due
+
+abbrev pub note_text : List ℕ
+note_text = codes "INSERT INTO due (place) VALUES (?1)"
+
+abbrev pub forget_text : List ℕ
+forget_text = codes "DELETE FROM due WHERE place = ?1"
+
+abbrev pub next_text : List ℕ
+next_text = codes "SELECT place FROM due WHERE place > ?1 AND place < ?2 ORDER BY place LIMIT 1"
+
+abbrev pub above : Term
+above = op2 (Compare Gt Binary) (col 1 0) (col 0 0)
+
+abbrev pub below : Term
+below = op2 (Compare Lt Binary) (col 1 0) (col 0 1)
+
+abbrev pub note_terms : List Term
+note_terms = col 0 0 ∷ lit Null ∷ []
+
+pub notes : IsEdit note_text
+unfolding understood everything
+notes = record { changes = refl; plain = (refl, refl) }
+
+pub note_is : command_of (understood desk_schema note_text) ≡ Insert 6 (Values note_terms 2)
+unfolding understood everything
+note_is = refl
+
+pub forgets : IsEdit forget_text
+unfolding understood everything
+forgets = record { changes = refl; plain = (refl, refl) }
+
+pub forget_is : command_of (understood desk_schema forget_text) ≡ Delete 6 (record { lets = []; body = plain 10 (by_number ∷ []) (col 1 0 ∷ []) })
+unfolding understood everything
+forget_is = refl
+
+pub finds_next : IsQuery next_text
+unfolding understood everything
+finds_next = record { selects = refl; plain = (refl, refl); unlisted = refl }
+
+pub next_is : command_of (understood desk_schema next_text) ≡ Select (record { lets = []; body = first_of 10 (above ∷ below ∷ []) (col 1 0 ∷ []) (col 1 0) rising }) (codes "place" ∷ [])
+unfolding understood everything
+next_is = refl

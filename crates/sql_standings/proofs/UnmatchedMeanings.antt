@@ -1,0 +1,34 @@
+-- What the texts mean.
+use Rattle.std.proofs.Common.{◌≡◌, [], ◌∷◌, codes, refl}
+use Rattle.sqlite.specs.Command.TheVariants.{Select, Insert, Delete}
+use Rattle.sqlite.specs.Source.TheVariants.{Values}
+use Rattle.sqlite.specs.Listing.{understood}
+use Rattle.sqlite_tied.specs.Compute.{everything}
+use Rattle.sqlite.proofs.Callers.{command_of}
+use Rattle.sql_tables.specs.Schema.{desk_schema}
+use Rattle.sql_tables.specs.Statements.{IsEdit, IsQuery}
+use Rattle.sql_standings.specs.Texts.{note_text, forget_text, first_text, note_terms, forget_query, first_query}
+
+pub note_is : command_of (understood desk_schema note_text) ≡ Insert 5 (Values note_terms 11)
+unfolding understood everything
+note_is = refl
+
+pub note_edits : IsEdit note_text
+unfolding understood everything
+note_edits = record { changes = refl; plain = (refl, refl) }
+
+pub forget_is : command_of (understood desk_schema forget_text) ≡ Delete 5 (record { lets = []; body = forget_query })
+unfolding understood everything
+forget_is = refl
+
+pub forget_edits : IsEdit forget_text
+unfolding understood everything
+forget_edits = record { changes = refl; plain = (refl, refl) }
+
+pub first_is : command_of (understood desk_schema first_text) ≡ Select (record { lets = []; body = first_query }) (codes "number" ∷ [])
+unfolding understood everything
+first_is = refl
+
+pub first_queries : IsQuery first_text
+unfolding understood everything
+first_queries = record { selects = refl; plain = (refl, refl); unlisted = refl }

@@ -1,0 +1,11 @@
+use Rattle.sqlite.specs.Held.{state}
+use Rattle.sql_standings.proofs.MeaningLemmas.{reads}
+use Rattle.sql_standings.proofs.StandingCalls.{shown}
+use Rattle.sql_standings.proofs.standings.rows_of.Goals as goal
+
+pub query-requires : goal.query-requires
+query-requires g c = record { query = reads }
+
+pub returns-clause-shown : goal.returns-clause-shown
+returns-clause-shown g c clean is_open has were =
+    shown (state g.S.Store c.args.conn.now) (state g.S.Store c.query.new.conn) c.args.number has were c.query.result (rw c.integer.ensures at (c.query.ensures.shown clean))

@@ -1,0 +1,12 @@
+use Rattle.std.proofs.Common.{◌∙◌}
+use Rattle.sqlite.specs.Held.{state}
+use Rattle.sql_standings.proofs.FirstLemmas.{finds_first, first_shown}
+use Rattle.sql_standings.proofs.unmatched.first_unmatched.Goals as goal
+
+pub returns-clause-found : goal.returns-clause-found
+returns-clause-found g c clean is_open has =
+    let old = state g.S.Store c.args.conn.now in
+    let new = state g.S.Store c.first_of.new.conn in
+    finds_first old.now _ c.in_ok-rows.rows.items c.only_number.result
+    (first_shown old new (record { sender = c.args.sender; instruction = c.args.instruction.now }) c.opposite_of.result c.in_ok-rows.rows.items has c.opposite_of.ensures (c.in_ok-rows.ensures.shown clean))
+    (λ found is. c.only_number.ensures found (c.deref.ensures.value ∙ is))

@@ -1,0 +1,12 @@
+pub mod CallLemmas
+pub mod ColumnLemmas
+pub mod ControlLemmas
+pub mod EditLemmas
+pub mod EndLemmas
+pub mod MadeLemmas
+pub mod MakingLemmas
+pub mod QueryLemmas
+pub mod ResultLemmas
+pub mod StatementLemmas
+pub mod ValueLemmas
+pub mod VersionLemmas

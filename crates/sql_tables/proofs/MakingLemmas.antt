@@ -1,0 +1,76 @@
+-- What a statement does that makes a table or an index.
+use Rattle.std.proofs.Common.{◌≡◌, inl, inr, ℕ, List, [], ◌∷◌, ◌++◌, false, None, Some, Ok, Err, Result, OnOk, slice_get, sym, ap, subst, ◌∙◌}
+use Rattle.std.specs.List.{AllByRecursion}
+use Rattle.sqlite.specs.Table.{Table}
+use Rattle.sqlite.specs.Schema.{Schema}
+use Rattle.sqlite.specs.Tree.{Trees}
+use Rattle.sqlite.specs.Effect.{Database}
+use Rattle.sqlite.specs.declared.error.Error.{Error}
+use Rattle.sqlite.specs.Command.{Command}
+use Rattle.sqlite.specs.Command.TheVariants.{CreateTable, CreateIndex}
+use Rattle.sqlite.specs.Does.{Tally, AtPlace, Defines, MakesIndex as Indexes, lacks_sequence}
+use Rattle.sqlite.specs.Change.{created, indexed, next_tree, KeepsRows}
+use Rattle.sqlite.specs.Listing.{understood}
+use Rattle.sqlite.specs.State.{State, mode_of, Writes, Executes}
+use Rattle.sqlite.proofs.Callers.{statement_of, runs_as}
+use Rattle.sql_tables.specs.Making.{Makes, MakesTable, MakesIndex, IsEmpty, HasMade}
+use Rattle.sql_tables.proofs.StatementLemmas.{went, same_value, same_command}
+
+-- tables whose rows are kept stay empty
+still_empty : (tables : List Table) (old new : Trees) → KeepsRows tables old new → AllByRecursion (λ table. old table.tree ≡ []) tables → AllByRecursion (λ table. new table.tree ≡ []) tables
+still_empty [] old new keeps empty = tt
+still_empty (t ∷ ts) old new keeps empty = (keeps.0 ∙ empty.0, still_empty ts old new keeps.1 empty.1)
+
+one_more : (P : Table → Type 0) (tables : List Table) (last : Table) → AllByRecursion P tables → P last → AllByRecursion P (tables ++ last ∷ [])
+one_more P [] last all it = (it, tt)
+one_more P (t ∷ ts) last all it = (all.0, one_more P ts last all.1 it)
+
+from_writes : (old new : State) (command : Command) (text : List ℕ) (count : ℕ) (after : Schema) → Writes old new None command text [] count → IsEmpty after new.now → HasMade after old new
+from_writes old new command text count after w empty = record { is_open = w.shown.is_open; empty = empty; mode = w.shown.mode; marks = w.marks }
+
+module _ (old new : State) (text : List ℕ) (before after : Schema) (makes : Makes text before after) (was : IsEmpty before old.now) (count : ℕ) (h : Executes text [] old new (Ok count)) where
+  whole : statement_of text (understood before text) ≡ text
+  whole = ap (statement_of text) makes.understood_as ∙ makes.whole
+
+  table_made : MakesTable text before after → HasMade after old new
+  table_made it =
+      let w = subst (λ t. Writes old new None CreateTable t [] count) whole (runs_as text [] old new before was.schema_is CreateTable (sym (same_command (understood before text)) ∙ it.makes) makes.plain count h) in
+      let all = went w.changed in
+      let first = went all.1 in
+      let made = first.1 in
+      let both : Ok made.table ≡ Ok it.table = sym made.defined ∙ it.defined in
+      let same : made.table ≡ it.table = same_value both in
+      let schema : first.0.schema ≡ after = made.is ∙ ap (λ s. created s made.table) was.schema_is ∙ ap (created before) same ∙ sym it.is in
+      let plain : lacks_sequence first.0.schema ≡ false = ap lacks_sequence schema ∙ makes.unsequenced in
+      let now : new.now ≡ first.0 = ap (λ (p : Tally × Database). p.1) (same_value all.2) ∙ same_value (rw plain at first.2) in
+      let schema_is : new.now.schema ≡ after = ap (λ (d : Database). d.schema) now ∙ schema in
+      let kept : AllByRecursion (λ table. first.0.trees table.tree ≡ []) before.tables =
+      still_empty before.tables old.now.trees first.0.trees (subst (λ (s : Schema). KeepsRows s.tables old.now.trees first.0.trees) was.schema_is made.others) was.empty in
+      let last : first.0.trees (next_tree before) ≡ [] = subst (λ s. first.0.trees (next_tree s) ≡ []) was.schema_is made.empty in
+      let more = one_more (λ table. first.0.trees table.tree ≡ []) before.tables (record it.table { tree = next_tree before }) kept last in
+      let empty : AllByRecursion (λ table. new.now.trees table.tree ≡ []) after.tables =
+      subst (λ (s : Schema). AllByRecursion (λ table. new.now.trees table.tree ≡ []) s.tables) (sym it.is) (subst (λ (d : Database). AllByRecursion (λ table. d.trees table.tree ≡ []) (created before it.table).tables) (sym now) more) in
+      from_writes old new CreateTable text count after w (record { schema_is = schema_is; empty = empty })
+
+  index_made : MakesIndex text before after → HasMade after old new
+  index_made it =
+      let w = subst (λ t. Writes old new None (CreateIndex it.place) t [] count) whole (runs_as text [] old new before was.schema_is (CreateIndex it.place) (sym (same_command (understood before text)) ∙ it.makes) makes.plain count h) in
+      let found : slice_get old.now.schema.tables it.place ≡ Some it.table = ap (λ (s : Schema). slice_get s.tables it.place) was.schema_is ∙ it.found in
+      let placed : Defines (mode_of old) (Indexes text old.now it.table) (Ok (w.tally, new.now)) = subst (λ x. AtPlace (λ table. Defines (mode_of old) (Indexes text old.now table)) x (Ok (w.tally, new.now))) found w.changed in
+      let first = went placed in
+      let made = first.1 in
+      let now : new.now ≡ first.0 = ap (λ (p : Tally × Database). p.1) (same_value first.2) in
+      let same : made.index ≡ it.index = same_value (sym made.defined ∙ it.defined) in
+      let schema_is : new.now.schema ≡ after = ap (λ (d : Database). d.schema) now ∙ made.is ∙ ap (λ s. indexed s it.table made.index) was.schema_is ∙ ap (indexed before it.table) same ∙ sym it.is in
+      let kept : AllByRecursion (λ table. first.0.trees table.tree ≡ []) before.tables =
+      still_empty before.tables old.now.trees first.0.trees (subst (λ (s : Schema). KeepsRows s.tables old.now.trees first.0.trees) was.schema_is made.rows) was.empty in
+      let empty : AllByRecursion (λ table. new.now.trees table.tree ≡ []) after.tables =
+      subst (λ (s : Schema). AllByRecursion (λ table. new.now.trees table.tree ≡ []) s.tables) (sym it.is) (subst (λ (d : Database). AllByRecursion (λ table. d.trees table.tree ≡ []) before.tables) (sym now) kept) in
+      from_writes old new (CreateIndex it.place) text count after w (record { schema_is = schema_is; empty = empty })
+
+pub has_made : (old new : State) (text : List ℕ) (before after : Schema) → Makes text before after → IsEmpty before old.now → (r : Result ℕ Error) → Executes text [] old new r → OnOk r (HasMade after old new)
+has_made old new text before after makes was (Ok count) h = elim makes.made [
+  | inl table ↦ table_made old new text before after makes was count h table
+  | inr index ↦ index_made old new text before after makes was count h index
+]
+has_made old new text before after makes was (Err e) h = tt

@@ -1,0 +1,84 @@
+-- What the texts mean that read and say the version, and what the first shows.
+use Rattle.std.proofs.Common.{◌≡◌, inl, inr, ℕ, pos, List, [], ◌∷◌, None, Some, Ok, Option, refl, ap, subst, ◌∙◌, arith, codes}
+use Rattle.sqlite.specs.Effect.{Database}
+use Rattle.sqlite.specs.Order.{Row}
+use Rattle.sqlite.specs.declared.types.Value.TheVariants.{Null, Int}
+use Rattle.sqlite.specs.Term.{Term, lit, col, eval_all}
+use Rattle.sqlite.specs.Command.TheVariants.{Select, Insert}
+use Rattle.sqlite.specs.Source.TheVariants.{Values}
+use Rattle.sqlite.specs.Listing.{understood}
+use Rattle.sqlite.specs.Program.{overlay}
+use Rattle.sqlite.specs.Edit.{edit_of, put_all}
+use Rattle.sqlite.specs.Rowids.TheVariants.{Chosen}
+use Rattle.sqlite.specs.Tree.{put_row}
+use Rattle.sqlite.specs.State.{State, Executes, Shown}
+use Rattle.sqlite.proofs.Callers.{command_of, reads_as}
+use Rattle.sqlite_tied.specs.Compute.{everything}
+use Rattle.sql_tables.specs.Schema.{desk_schema, version_table}
+use Rattle.sql_tables.specs.Statements.{IsEdit, IsQuery}
+use Rattle.sql_tables.specs.Ends.{SparesOthers}
+use Rattle.sql_tables.specs.Queries.{first_of, rising, IsFirst}
+use Rattle.sql_tables.specs.Rows.{number_rows}
+use Rattle.sql_tables.specs.Version.{rows_of, HasVersion, SetsVersion}
+use Rattle.sql_tables.proofs.EditLemmas.{inserts, spares}
+use Rattle.sql_tables.proofs.QueryLemmas.{all_kept, first_row}
+use Rattle.sql_tables.proofs.ValueLemmas.{cast_int, cast_null}
+
+abbrev pub version_text : List ℕ
+version_text = codes "SELECT number FROM version ORDER BY number LIMIT 1"
+
+abbrev pub set_text : List ℕ
+set_text = codes "INSERT INTO version (number) VALUES (?1)"
+
+abbrev pub set_terms : List Term
+set_terms = col 0 0 ∷ lit Null ∷ []
+
+pub version_is : command_of (understood desk_schema version_text) ≡ Select (record { lets = []; body = first_of 13 [] (col 1 0 ∷ []) (col 1 0) rising }) (codes "number" ∷ [])
+unfolding understood everything
+version_is = refl
+
+pub version_query : IsQuery version_text
+unfolding understood everything
+version_query = record { selects = refl; plain = (refl, refl); unlisted = refl }
+
+pub set_is : command_of (understood desk_schema set_text) ≡ Insert 8 (Values set_terms 2)
+unfolding understood everything
+set_is = refl
+
+pub set_edit : IsEdit set_text
+unfolding understood everything
+set_edit = record { changes = refl; plain = (refl, refl) }
+
+only : (number : Option ℕ) (rows : List Row) → IsFirst (rows_of number) [] (col 1 0 ∷ []) (col 1 0) rising rows → rows ≡ number_rows number
+only None rows (inl none) = none.0
+only None rows (inr one) = absurd one.1
+only (Some number) rows (inl none) = absurd (let e = none.1 in cc)
+only (Some number) rows (inr one) = elim one.1 [
+  | inl here ↦ one.2 ∙ ap (λ r. eval_all (col 1 0 ∷ []) ([] ∷ r ∷ []) ∷ []) here
+  | inr later ↦ absurd later
+]
+
+pub version_shown : (old new : State) → old.now.schema ≡ desk_schema → (number : Option ℕ) → HasVersion old.now number → (rows : List Row) → Shown version_text [] old new rows → rows ≡ number_rows number
+version_shown old new has number is rows h =
+    let answers = reads_as version_text [] old new desk_schema has _ version_is version_query.plain version_query.unlisted rows h in
+    let first = first_row 13 [] (col 1 0 ∷ []) (col 1 0) rising (overlay old.now.trees []) [] rows (answers.answer Null) in
+    only number rows (subst (λ xs. IsFirst xs [] (col 1 0 ∷ []) (col 1 0) rising rows) (all_kept (old.now.trees 13) ∙ is) first)
+
+module _ (old new : State) (has : old.now.schema ≡ desk_schema) where
+  version_put : (number count : ℕ) → Executes set_text (Int (pos number) ∷ []) old new (Ok count)
+      → (new.now.trees 13 ≡ put_row (Int (pos number) ∷ Null ∷ []) (old.now.trees 13)) × SparesOthers 13 14 old.now new.now
+  version_put number count h =
+      let params : Row = Int (pos number) ∷ [] in
+      let db = old.now.trees in
+      let made = inserts old new has set_text params count 8 version_table refl set_edit.plain h set_terms 2 refl set_is in
+      let edit = edit_of db version_table [] Chosen 0 made.0 in
+      let news : edit.news ≡ (Int (pos number) ∷ Null ∷ []) ∷ [] = ap (λ all. (edit_of db version_table [] Chosen 0 all).news) made.1 ∙ rw (cast_int (pos number), cast_null) refl in
+      (made.2.rows ∙ ap (put_all (db 13)) news, spares 13 14 old.now new.now edit (omega arith) (omega arith) made.2)
+
+  pub sets : (number count : ℕ) → HasVersion old.now None → Executes set_text (Int (pos number) ∷ []) old new (Ok count) → SetsVersion old.now new.now number
+  sets number count none h =
+      let it = version_put number count h in
+      record { version = it.0 ∙ ap (put_row (Int (pos number) ∷ Null ∷ [])) none; others = it.1 }
+
+pub no_version : (db : Database) → db.trees 13 ≡ [] → HasVersion db None
+no_version db empty = empty

@@ -1,0 +1,25 @@
+-- A call on the desk's tables, as clauses name it: by the connection before and after.
+use Rattle.std.specs.Prelude.{Result}
+use Rattle.sqlite_trees.specs.declared.store.Store.{Ghosts}
+use Rattle.sqlite.specs.declared.error.Error.{Error}
+use Rattle.sqlite.specs.Effect.{Database}
+use Rattle.sqlite.specs.Held.{Held, state}
+use Rattle.sql_tables.specs.Ends.{IfSound, IsLook, IsWrite}
+
+module _ {S : Type 0} (store : Ghosts S) where
+  -- what a connection shows
+  abbrev pub tables : Held S → Database
+  tables held = (state store held).now
+
+  module _ (old new : Held S) where
+    -- a fact, where answers over the call are to be trusted
+    abbrev pub Soundly : Type 0 → Type 0
+    Soundly fact = IfSound (state store old) (state store new) fact
+
+    -- the call only reads, and ends so
+    abbrev pub Looks : {X : Type 0} → Result X Error → Type 0
+    Looks result = IsLook result (state store old) (state store new)
+
+    -- the call changes the tables, and ends so
+    abbrev pub Writes : {X : Type 0} → Result X Error → Type 0
+    Writes result = IsWrite result (state store old) (state store new)

@@ -1,0 +1,84 @@
+-- How a call on the desk's tables ends.
+use Rattle.std.specs.Prelude.{◌≡◌, ◌⊎◌, ℕ, ◌+◌, ◌^◌, ◌≤◌, ◌<◌, [], IsTrue, false, Result, OnOk, OnErr, IfErr}
+use Rattle.sqlite_trees.specs.View.{doubt}
+use Rattle.sqlite_rules.specs.Edit.{IsNoIndex}
+use Rattle.sqlite.specs.Effect.{Database}
+use Rattle.sqlite.specs.declared.error.Error.{Error}
+use Rattle.sqlite.specs.declared.error.Error.TheVariants.{SqliteFailure}
+use Rattle.sqlite.specs.declared.error.ErrorCode.TheVariants.{OutOfMemory, TooBig}
+use Rattle.sqlite.specs.State.{State, HasCleanDisk}
+use Rattle.sql_tables.specs.Schema.{desk_schema}
+
+-- Where answers over a call are to be trusted, this holds: no wrong answer of the device was taken as true up to the
+-- call's end, the connection was open at its beginning, and its tables were the desk's.
+abbrev pub IfSound : State → State → Type 0 → Type 0
+IfSound old new fact = HasCleanDisk new → IsTrue old.is_open → old.now.schema ≡ desk_schema → fact
+
+-- a failure that names want of memory, or a value too large
+abbrev pub IsWant : Error → Type 0
+IsWant (SqliteFailure OutOfMemory) = Unit {0}
+IsWant (SqliteFailure TooBig) = Unit {0}
+IsWant error = ⊥
+
+module _ (old new : State) where
+  -- no doubt is taken back, and no fault forgotten
+  pub record IsLater : Type 0 where
+    pub clean : doubt old.is_clean ≤ doubt new.is_clean
+    pub faults : old.faults ≤ new.faults
+
+  -- the connection is open, in a transaction where it was, with the same savepoints; within one nothing was committed
+  pub record Stays : Type 0 where
+    pub is_open : IsTrue new.is_open
+    pub schema : new.now.schema ≡ desk_schema
+    pub mode : new.in_transaction ≡ old.in_transaction
+    pub marks : new.marks ≡ old.marks
+    pub committed : IsTrue old.in_transaction → new.committed ≡ old.committed
+
+  -- nothing has changed
+  pub record IsSame : Type 0 where
+    pub is_open : IsTrue new.is_open
+    pub now : new.now ≡ old.now
+    pub committed : new.committed ≡ old.committed
+    pub mode : new.in_transaction ≡ old.in_transaction
+    pub marks : new.marks ≡ old.marks
+
+  -- the store failed, and the transaction is taken back; where the device shut the connection nothing is shown any more
+  pub record IsUndone : Type 0 where
+    pub now : IsTrue new.is_open → new.now ≡ old.committed
+    pub committed : IsTrue new.is_open → new.committed ≡ old.committed
+    pub mode : new.in_transaction ≡ false
+    pub marks : new.marks ≡ []
+
+  -- a call that reads failed: nothing has changed, or the transaction is taken back
+  abbrev pub FellLooking : Type 0
+  FellLooking = IsSame ⊎ IsUndone
+
+  -- a call that changes the tables failed: within a transaction nothing was committed, or it is taken back
+  abbrev pub FellWriting : Type 0
+  FellWriting = IsTrue old.in_transaction → Stays ⊎ IsUndone
+
+  -- Where the store gave the transaction up, the failure says why: it wanted memory, or its device failed, which it counts up
+  -- to the greatest number.
+  abbrev pub SaysWhy : Error → Type 0
+  SaysWhy error = IsTrue old.in_transaction → new.in_transaction ≡ false → IsWant error ⊎ (old.faults + 1 < 2 ^ 64 → old.faults < new.faults)
+
+-- how a call ends that only reads
+pub record IsLook {X : Type 0} (result : Result X Error) (old new : State) : Type 0 where
+  pub ok : IfSound old new (OnOk result (IsSame old new))
+  pub err : IfSound old new (OnErr result (FellLooking old new))
+  pub why : IfSound old new (IfErr result (SaysWhy old new))
+  pub opened : HasCleanDisk new → IsTrue new.is_open → IsTrue old.is_open
+  pub later : IsLater old new
+
+-- how a call ends that changes the tables
+pub record IsWrite {X : Type 0} (result : Result X Error) (old new : State) : Type 0 where
+  pub ok : IfSound old new (OnOk result (Stays old new))
+  pub err : IfSound old new (OnErr result (FellWriting old new))
+  pub why : IfSound old new (IfErr result (SaysWhy old new))
+  pub opened : HasCleanDisk new → IsTrue new.is_open → IsTrue old.is_open
+  pub later : IsLater old new
+
+-- The tables whose trees stand before one place, or from another on, are as they were. (Of the tree of an index nothing is
+-- said but that it lists its table, which is sqlite's own promise.)
+abbrev pub SparesOthers : ℕ → ℕ → Database → Database → Type 0
+SparesOthers first end old new = (tree : ℕ) → (tree < first) ⊎ (end ≤ tree) → IsNoIndex desk_schema tree → new.trees tree ≡ old.trees tree

@@ -1,0 +1,10 @@
+pub mod Schema
+pub mod Ends
+pub mod Control
+pub mod Statements
+pub mod Making
+pub mod Queries
+pub mod Calls
+pub mod CashColumns
+pub mod Rows
+pub mod Version

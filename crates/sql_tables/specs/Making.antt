@@ -1,0 +1,59 @@
+-- How the tables are made, in a database that has none: one statement for each table, then one for each index beside a key's.
+use Rattle.std.specs.Prelude.{◌≡◌, ◌⊎◌, ℕ, List, [], false, IsTrue, take, slice_get, Ok, Some}
+use Rattle.std.specs.List.{AllByRecursion}
+use Rattle.sqlite.specs.Table.{Table}
+use Rattle.sqlite.specs.Schema.{Schema}
+use Rattle.sqlite_schema.specs.declared.schema.Index.{Index}
+use Rattle.sqlite_schema.specs.declared.command.Command.TheVariants.{CreateTable, CreateIndex}
+use Rattle.sqlite.specs.Effect.{Database}
+use Rattle.sqlite.specs.Given.{IsPlain}
+use Rattle.sqlite.specs.Listing.{understood}
+use Rattle.sqlite.specs.State.{State, text_of}
+use Rattle.sqlite.specs.Does.{lacks_sequence}
+use Rattle.sqlite_resolve.specs.declared.compiled.Compiled.{Compiled}
+use Rattle.sqlite.specs.Compile.{table_defined_by, index_defined_by}
+use Rattle.sqlite.specs.Change.{created, indexed}
+use Rattle.sql_tables.specs.Schema.{desk_tables, desk_indexes}
+use Rattle.sql_tables.specs.Statements.{command_in}
+
+-- the first so many tables and indexes
+abbrev pub first_of : ℕ → ℕ → Schema
+first_of tables indexes = record { tables = take tables desk_tables; indexes = take indexes desk_indexes; views = [] }
+
+-- the text is the definition of a table, which comes last
+pub record MakesTable (text : List ℕ) (before after : Schema) : Type 0 where
+  pub table : Table
+  pub defined : table_defined_by text ≡ Ok table
+  pub makes : command_in (understood before text) ≡ CreateTable
+  pub is : after ≡ created before table
+
+-- the text is the definition of an index of a table, which comes last
+pub record MakesIndex (text : List ℕ) (before after : Schema) : Type 0 where
+  pub place : ℕ
+  pub table : Table
+  pub index : Index
+  pub found : slice_get before.tables place ≡ Some table
+  pub defined : index_defined_by table text ≡ Ok index
+  pub makes : command_in (understood before text) ≡ CreateIndex place
+  pub is : after ≡ indexed before table index
+
+-- compiled against the tables before it, the text is one whole statement that makes what comes next
+pub record Makes (text : List ℕ) (before after : Schema) : Type 0 where
+  pub compiled : Compiled
+  pub understood_as : understood before text ≡ Ok compiled
+  pub whole : text_of text compiled ≡ text
+  pub plain : IsPlain (understood before text)
+  pub unsequenced : lacks_sequence after ≡ false
+  pub made : MakesTable text before after ⊎ MakesIndex text before after
+
+-- a database has these tables, and no row in any
+pub record IsEmpty (schema : Schema) (db : Database) : Type 0 where
+  pub schema_is : db.schema ≡ schema
+  pub empty : AllByRecursion (λ table. db.trees table.tree ≡ []) schema.tables
+
+-- within the transaction there are these tables, with no row
+pub record HasMade (schema : Schema) (old new : State) : Type 0 where
+  pub is_open : IsTrue new.is_open
+  pub empty : IsEmpty schema new.now
+  pub mode : new.in_transaction ≡ old.in_transaction
+  pub marks : new.marks ≡ old.marks

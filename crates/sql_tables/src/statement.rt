@@ -1,0 +1,38 @@
+//! The texts that change or read rows of the tables.
+
+ghost use Rattle.std.specs.Prelude.{IfOk, IfErr};
+ghost use Rattle.sqlite.specs.State.{HasCleanDisk, Executes, Shown, FailsToQuery};
+ghost use Rattle.sqlite.specs.Held.{state};
+ghost use Rattle.sqlite.specs.Values.{bound};
+ghost use Rattle.sql_tables.specs.Statements.{IsEdit, IsQuery};
+ghost use Rattle.sql_tables.specs.Calls.{Looks, Writes};
+
+use sqlite::types::ValueRef;
+use sqlite::{Alter, Connection, Error, Row};
+
+/// Puts rows into a table, changes some of its rows or takes some out, and says how many.
+pub fn execute<S: Alter>(
+    conn: &mut Connection<S>,
+    text: &str,
+    params: &[ValueRef<'_>],
+) -> Result<usize, Error>
+    requires edit { IsEdit text.now }
+    ensures runs { HasCleanDisk (state S.Store conn.new) → Executes text.now (bound params.now) (state S.Store conn.old) (state S.Store conn.new) result }
+    ensures write { Writes S.Store conn.old conn.new result }
+{
+    conn.execute(text, params)
+}
+
+/// The rows that a query shows.
+pub fn query<S: Alter>(
+    conn: &mut Connection<S>,
+    text: &str,
+    params: &[ValueRef<'_>],
+) -> Result<Vec<Row>, Error>
+    requires query { IsQuery text.now }
+    ensures shown { HasCleanDisk (state S.Store conn.new) → IfOk result (λ rows. Shown text.now (bound params.now) (state S.Store conn.old) (state S.Store conn.new) rows.items) }
+    ensures fails { HasCleanDisk (state S.Store conn.new) → IfErr result (FailsToQuery text.now (bound params.now) (state S.Store conn.old) (state S.Store conn.new)) }
+    ensures look { Looks S.Store conn.old conn.new result }
+{
+    conn.query_all(text, params)
+}
