@@ -1,7 +1,7 @@
 -- What `desk explain` answers.
 use Rattle.std.specs.Prelude.{◌≡◌, ◌≢◌, ℕ, List, ◌++◌, codes, decimal}
-use Rattle.desk_words.specs.declared.cause.Cause.{Cause}
-use Rattle.desk_words.specs.Causes.{catalogue_text, cause_text, number_of_cause}
+use Rattle.desk_causes.specs.declared.cause.Cause.{Cause}
+use Rattle.desk_causes.specs.Causes.{catalogue_text, cause_text, number_of_cause}
 use Rattle.desk.specs.declared.status.Status.{Status}
 use Rattle.desk.specs.declared.status.Status.TheVariants as exit
 use Rattle.desk.specs.declared.words.calls.Topic.{Topic}

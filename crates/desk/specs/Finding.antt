@@ -4,9 +4,9 @@ use Rattle.std.specs.List.{flat_map}
 use Rattle.std.specs.Str.{byte}
 use Rattle.desk_book.specs.Lines.{has_body, is_skipped, is_stop, said_by, script_lines}
 use Rattle.desk_text.specs.BlockGrammar.{is_printable}
-use Rattle.desk_words.specs.declared.cause.Cause.{Cause}
-use Rattle.desk_words.specs.declared.cause.TheConstants.{CAUSES}
-use Rattle.desk_words.specs.Causes.{cause_with, heading_of, meaning_of, number_of_cause}
+use Rattle.desk_causes.specs.declared.cause.Cause.{Cause}
+use Rattle.desk_causes.specs.declared.cause.TheConstants.{CAUSES}
+use Rattle.desk_causes.specs.Causes.{cause_with, heading_of, meaning_of, number_of_cause}
 use Rattle.desk.specs.declared.findings.finding.Finding.{Finding}
 use Rattle.desk.specs.declared.findings.finding.TheConstants.{TOLD}
 use Rattle.desk.specs.Told.{Told}

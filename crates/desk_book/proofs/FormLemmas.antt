@@ -1,18 +1,21 @@
 -- The words of a line.
-use Rattle.std.proofs.Common.{◌≡◌, ◌≢◌, ℕ, true, false, List, [], ◌∷◌, ◌++◌, All, codes, Option, Some, None, IfNone, Err, arith, refl, sym, ◌∙◌, ap, subst, ⊎_elim}
+use Rattle.std.proofs.Common.{◌≡◌, ◌≢◌, ℕ, true, false, List, [], ◌∷◌, ◌++◌, All, codes, length, Option, Some, None, IfNone, Err, arith, refl, sym, ◌∙◌, ap, subst, ⊎_elim}
 use Rattle.std.specs.Prelude.{nat_eq, take, drop}
 use Rattle.std.specs.Cmp.Lexicographic.{pointwise}
 use Rattle.std.proofs.lemmas.List.{append_cancel_left, take-append-drop}
+use Rattle.std.proofs.Math.Seq.{take-append_seam}
 use Rattle.std.proofs.lemmas.Bool.{false≢true}
 use Rattle.std.proofs.lemmas.List.Elements.{All-head, All-tail, All-weaker}
 use Rattle.desk_codes.specs.Characters.{IsCodeChar}
-use Rattle.desk_codes.specs.Bic.{ReadsBic}
+use Rattle.desk_codes.specs.Bic.{ReadsBic, party_of}
 use Rattle.desk_codes.specs.declared.fault.CodeFault.{CodeFault}
 use Rattle.desk_codes.specs.declared.fault.CodeFault.TheVariants.{Length, Prefix, Body, Check, Shape}
-use Rattle.desk_codes.proofs.BicLemmas.{shape_codes, same_bytes}
-use Rattle.desk_msg.specs.declared.mt.Mt.{Mt}
-use Rattle.desk_book.specs.Asked.{Asked, message, operator, status, sent, holdings, sums}
-use Rattle.desk_book.specs.Forms.{SpellsBic, IsLineOf, Asks}
+use Rattle.desk_codes.proofs.BicLemmas.{other_bytes, shape_codes, same_bytes}
+use Rattle.desk_book.specs.declared.requests.question.InstructionType.{InstructionType}
+use Rattle.desk_book.specs.declared.requests.question.Question.{Question}
+use Rattle.desk_book.specs.declared.requests.question.Question.TheVariants.{Message, Operator, Status, Sent, Holdings, Sums}
+use Rattle.desk_book.specs.Asked.{Asked}
+use Rattle.desk_book.specs.Forms.{Asks, IsLineOf, NamesParty, SpellsBic, body_of}
 
 abbrev pub NoSpace : List ℕ → Type 0
 NoSpace text = All (λ c. c ≢ 32) text
@@ -49,59 +52,69 @@ pub even_none : {T : Type 0} {P : Type 0} (o : Option T) → P → IfNone o P
 even_none None h = h
 even_none (Some x) h = tt
 
-pub said_is : (word said rest bic behind : List ℕ) → said ≡ word ++ rest → rest ≡ bic ++ 32 ∷ behind → said ≡ word ++ (bic ++ 32 ∷ behind)
-said_is word said rest bic behind begins is = begins ∙ ap (λ x. word ++ x) is
-
 -- a line that no body follows asks what its form says, or nothing
-pub nothing_asked : (said : List ℕ) → (said ≡ codes "sums" → ⊥) → ((sender reference : List ℕ) → ¬ IsLineOf (status sender reference) said) → ((receiver : List ℕ) (number : ℕ) → ¬ IsLineOf (sent receiver number) said)
-    → ((owner account : List ℕ) → ¬ IsLineOf (holdings owner account) said) → (a : Asked) → ¬ Asks said None a
-nothing_asked said other no_status no_sent no_holdings (message sender mt body) h = let b = h.behind in cc
-nothing_asked said other no_status no_sent no_holdings (operator body) h = let b = h.behind in cc
-nothing_asked said other no_status no_sent no_holdings (status sender reference) h = no_status sender reference h.form
-nothing_asked said other no_status no_sent no_holdings (sent receiver number) h = no_sent receiver number h.form
-nothing_asked said other no_status no_sent no_holdings (holdings owner account) h = no_holdings owner account h.form
-nothing_asked said other no_status no_sent no_holdings sums h = other h.form
+nothing_in : (said text : List ℕ) (question : Question) → (said ≡ codes "sums" → ⊥) → ((sender reference : List ℕ) → ¬ NamesParty (codes "status ") sender reference said)
+    → ((receiver : List ℕ) (number : ℕ) → ¬ IsLineOf (Sent receiver number) [] said) → ((owner account : List ℕ) → ¬ NamesParty (codes "holdings ") owner account said)
+    → IsLineOf question text said → body_of question text ≢ None
+nothing_in said text (Message sender kind) other no_status no_sent no_holdings form behind = cc
+nothing_in said text Operator other no_status no_sent no_holdings form behind = cc
+nothing_in said text (Status sender) other no_status no_sent no_holdings form behind = no_status sender text form
+nothing_in said text (Sent receiver number) other no_status no_sent no_holdings form behind = no_sent receiver number form
+nothing_in said text (Holdings owner) other no_status no_sent no_holdings form behind = no_holdings owner text form
+nothing_in said text Sums other no_status no_sent no_holdings form behind = other form
+
+pub nothing_asked : (said : List ℕ) → (said ≡ codes "sums" → ⊥) → ((sender reference : List ℕ) → ¬ NamesParty (codes "status ") sender reference said)
+    → ((receiver : List ℕ) (number : ℕ) → ¬ IsLineOf (Sent receiver number) [] said) → ((owner account : List ℕ) → ¬ NamesParty (codes "holdings ") owner account said)
+    → (a : Asked) → ¬ Asks said None a
+nothing_asked said other no_status no_sent no_holdings a h = nothing_in said a.text a.question other no_status no_sent no_holdings h.form h.behind
 
 -- a line that posts a body asks what its form says, or nothing
-pub nothing_posted : (said text : List ℕ) → (said ≡ codes "op" → ⊥) → ((sender : List ℕ) (mt : Mt) → ¬ IsLineOf (message sender mt []) said)
+posts_nothing : (said text body : List ℕ) (question : Question) → (said ≡ codes "op" → ⊥) → ((sender : List ℕ) (kind : InstructionType) → ¬ IsLineOf (Message sender kind) [] said)
+    → IsLineOf question text said → body_of question text ≢ Some body
+posts_nothing said text body (Message sender kind) op none form behind = none sender kind form
+posts_nothing said text body Operator op none form behind = op form
+posts_nothing said text body (Status sender) op none form behind = cc
+posts_nothing said text body (Sent receiver number) op none form behind = cc
+posts_nothing said text body (Holdings owner) op none form behind = cc
+posts_nothing said text body Sums op none form behind = cc
+
+pub nothing_posted : (said text : List ℕ) → (said ≡ codes "op" → ⊥) → ((sender : List ℕ) (kind : InstructionType) → ¬ IsLineOf (Message sender kind) [] said)
     → (a : Asked) → ¬ Asks said (Some text) a
-nothing_posted said text op none (message sender mt body) h = none sender mt h.form
-nothing_posted said text op none (operator body) h = op h.form
-nothing_posted said text op none (status sender reference) h = let b = h.behind in cc
-nothing_posted said text op none (sent receiver number) h = let b = h.behind in cc
-nothing_posted said text op none (holdings owner account) h = let b = h.behind in cc
-nothing_posted said text op none sums h = let b = h.behind in cc
+nothing_posted said text op none a h = posts_nothing said a.text text a.question op none h.form h.behind
 
 -- the rest of a line that begins with a word
-pub stripped : (n : ℕ) (word said rest : List ℕ) → pointwise nat_eq (take n said) word ≡ true → rest ≡ drop n said → said ≡ word ++ rest
-stripped n word said rest begins is = sym (take-append-drop n said) ∙ ap (λ x. x ++ drop n said) (same_bytes (take n said) word begins) ∙ ap (λ x. word ++ x) (sym is)
+pub stripped : (word said rest : List ℕ) → pointwise nat_eq (take (length word) said) word ≡ true → rest ≡ drop (length word) said → said ≡ word ++ rest
+stripped word said rest begins is =
+    let n = length word in
+    sym (take-append-drop n said) ∙ ap (λ x. x ++ drop n said) (same_bytes (take n said) word begins) ∙ ap (λ x. word ++ x) (sym is)
 
--- A text without a BIC before its first space names no party there.
+-- what stands behind the word
+behind_word : (word said rest party behind : List ℕ) → said ≡ word ++ rest → (named : NamesParty word party behind said) → rest ≡ named.0 ++ 32 ∷ behind
+behind_word word said rest party behind begins named = append_cancel_left word rest (named.0 ++ 32 ∷ behind) (sym begins ∙ named.2)
 
-pub no_party : (rest : List ℕ) → NoSpace rest → (bic party behind : List ℕ) → SpellsBic bic party → ¬ (rest ≡ bic ++ 32 ∷ behind)
-no_party rest none bic party behind spells is = none_to_split rest bic behind none is
+-- A line that does not begin with a word, or whose rest has no BIC before its first space, names no party there.
 
-pub other_party : (rest word further : List ℕ) → rest ≡ word ++ 32 ∷ further → NoSpace word → ((party : List ℕ) → ¬ SpellsBic word party)
-    → (bic party behind : List ℕ) → SpellsBic bic party → ¬ (rest ≡ bic ++ 32 ∷ behind)
-other_party rest word further split none bad bic party behind spells is =
-    let words = same_split word bic further behind none (bic_no_space bic party spells) (sym split ∙ is) in
+pub no_word : (word said party behind : List ℕ) → pointwise nat_eq (take (length word) said) word ≡ false → ¬ NamesParty word party behind said
+no_word word said party behind other named =
+    let rest = named.0 ++ 32 ∷ behind in
+    other_bytes (take (length word) said) word other (ap (take (length word)) named.2 ∙ take-append_seam word rest)
+
+pub no_party : (word said rest party behind : List ℕ) → said ≡ word ++ rest → NoSpace rest → ¬ NamesParty word party behind said
+no_party word said rest party behind begins none named = none_to_split rest named.0 behind none (behind_word word said rest party behind begins named)
+
+pub other_party : (word said rest first further : List ℕ) → said ≡ word ++ rest → rest ≡ first ++ 32 ∷ further → NoSpace first → ((party : List ℕ) → ¬ SpellsBic first party)
+    → (party behind : List ℕ) → ¬ NamesParty word party behind said
+other_party word said rest first further begins split none bad party behind named =
+    let words = same_split first named.0 further behind none (bic_no_space named.0 party named.1) (sym split ∙ behind_word word said rest party behind begins named) in
     let P : List ℕ → Type 0 = λ w. SpellsBic w party in
-    bad party (subst P (sym words.0) spells)
+    bad party (subst P (sym words.0) named.1)
 
-pub none_party : (word said rest : List ℕ) → said ≡ word ++ rest → ((bic party behind : List ℕ) → SpellsBic bic party → ¬ (rest ≡ bic ++ 32 ∷ behind))
-    → (bic party behind : List ℕ) → SpellsBic bic party → ¬ (said ≡ word ++ (bic ++ 32 ∷ behind))
-none_party word said rest begins none bic party behind spells is = none bic party behind spells (append_cancel_left word rest (bic ++ 32 ∷ behind) (sym begins ∙ is))
-
--- what stands behind the party of a text is what stands behind any
-pub same_behind : (rest bic party behind other named further : List ℕ) → SpellsBic bic party → rest ≡ bic ++ 32 ∷ behind → SpellsBic other named → rest ≡ other ++ 32 ∷ further → behind ≡ further
-same_behind rest bic party behind other named further spells is again also =
-    let words = same_split bic other behind further (bic_no_space bic party spells) (bic_no_space other named again) (sym is ∙ also) in
-    words.1
-
-pub behind_is : (word said rest bic party behind other named further : List ℕ) → said ≡ word ++ rest → SpellsBic bic party → rest ≡ bic ++ 32 ∷ behind → SpellsBic other named → said ≡ word ++ (other ++ 32 ∷ further)
-    → behind ≡ further
-behind_is word said rest bic party behind other named further begins spells is again also =
-    same_behind rest bic party behind other named further spells is again (append_cancel_left word rest (other ++ 32 ∷ further) (sym begins ∙ also))
+-- a line names one party behind a word, and one text behind that
+pub one_party : (word said p a q b : List ℕ) → NamesParty word p a said → NamesParty word q b said → (p ≡ q) × (a ≡ b)
+one_party word said p a q b first second =
+    let both : first.0 ++ 32 ∷ a ≡ second.0 ++ 32 ∷ b = append_cancel_left word (first.0 ++ 32 ∷ a) (second.0 ++ 32 ∷ b) (sym first.2 ∙ second.2) in
+    let words = same_split first.0 second.0 a b (bic_no_space first.0 p first.1) (bic_no_space second.0 q second.1) both in
+    (first.1.0 ∙ ap party_of words.0 ∙ sym second.1.0, words.1)
 
 pub is_not : (said word : List ℕ) → false ≡ pointwise nat_eq said word → pointwise nat_eq word word ≡ true → said ≡ word → ⊥
 is_not said word other same is = false≢true (other ∙ ap (λ x. pointwise nat_eq x word) is ∙ same)

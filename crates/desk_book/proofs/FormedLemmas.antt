@@ -1,12 +1,11 @@
 -- Who reads an entry, reads a well formed one.
-use Rattle.std.proofs.Common.{◌≡◌, ℕ, Bool, true, false, List, sym, subst}
-use Rattle.std.specs.Prelude.{MatchBool, Ok}
+use Rattle.std.proofs.Common.{◌≡◌, ℕ, List, sym, subst}
+use Rattle.std.specs.Prelude.{Ok}
 use Rattle.serde_json.specs.Data.{Data}
 use Rattle.desk_codes.specs.Bic.{IsBic}
 use Rattle.desk_msg.specs.declared.instruction.Message.{Message}
 use Rattle.desk_msg.specs.declared.instruction.Message.TheVariants.{New, Cancel as CancelMessage}
 use Rattle.desk_msg.specs.declared.mt.Mt.{Mt}
-use Rattle.desk_msg.specs.MessageType.{is_instruction}
 use Rattle.desk_msg.specs.Refused.{ReadsText}
 use Rattle.desk_rules.specs.declared.history.entry.Entry.{Entry}
 use Rattle.desk_rules.specs.declared.history.entry.Entry.TheVariants.{Participant, Account, Security, Issue, Redeem, PayIn, PayOut, Instruct, Cancel, Run}
@@ -21,10 +20,12 @@ use Rattle.desk_engine.specs.Applied.{no_books}
 use Rattle.desk_engine.proofs.KeptLemmas.{empty_kept}
 use Rattle.desk_book.specs.Answered.{Grows}
 use Rattle.desk_book.specs.Held.{KeepsFormed}
-use Rattle.desk_book.specs.Asked.{Asked, message, operator, status, sent, holdings, sums}
+use Rattle.desk_book.specs.declared.requests.question.Question.{Question}
+use Rattle.desk_book.specs.declared.requests.question.Question.TheVariants as questions
+use Rattle.desk_book.specs.Asked.{Asked, mt_of}
 use Rattle.desk_book.specs.Command.{IsCommand, SpellsCommand}
-use Rattle.desk_book.specs.Task.{IsTask, IsMessageTask, entry_of_message, unknown_form}
-use Rattle.desk_book.specs.declared.requests.task.Task.TheVariants.{Decide, Answer}
+use Rattle.desk_book.specs.Task.{IsTask, IsTaskOf, entry_of_message}
+use Rattle.desk_book.specs.declared.requests.task.Task.TheVariants.{Decide}
 
 pub command_formed : (d : Data) (entry : Entry) → IsCommand d entry → IsWellFormed entry
 command_formed d (Participant reference bic) c = (c.2, spelled_bic c.0 bic c.1)
@@ -46,17 +47,16 @@ pub entry_formed : (sender : List ℕ) (mt : Mt) (text : List ℕ) (m : Message)
 entry_formed sender mt text (New instruction) bic reads = (bic, readable mt text instruction reads)
 entry_formed sender mt text (CancelMessage order) bic reads = (bic, readable_cancellation mt text order reads)
 
-message_formed : (taken : Bool) (sender : List ℕ) (mt : Mt) (text : List ℕ) (entry : Entry) → MatchBool taken (IsMessageTask sender mt text (Decide entry)) (Decide entry ≡ Answer unknown_form) → IsWellFormed entry
-message_formed true sender mt text entry is = subst IsWellFormed (sym is.2) (entry_formed sender mt text is.0 is.3 is.1)
-message_formed false sender mt text entry is = absurd (cc)
+formed_of : (question : Question) (text : List ℕ) (entry : Entry) → IsTaskOf question text (Decide entry) → IsWellFormed entry
+formed_of (questions.Message sender kind) text entry is = subst IsWellFormed (sym is.2) (entry_formed sender (mt_of kind) text is.0 is.3 is.1)
+formed_of questions.Operator text entry is = spelled text entry is
+formed_of (questions.Status sender) text entry is = absurd is
+formed_of (questions.Sent receiver number) text entry is = absurd (cc)
+formed_of (questions.Holdings owner) text entry is = absurd is
+formed_of questions.Sums text entry is = absurd (cc)
 
 pub formed_by : (asked : Asked) (entry : Entry) → IsTask asked (Decide entry) → IsWellFormed entry
-formed_by (message sender mt text) entry is = message_formed (is_instruction mt) sender mt text entry is
-formed_by (operator text) entry is = spelled text entry is
-formed_by (status sender text) entry is = absurd is
-formed_by (sent receiver number) entry is = absurd (cc)
-formed_by (holdings owner account) entry is = absurd is
-formed_by sums entry is = absurd (cc)
+formed_by asked entry is = formed_of asked.question asked.text entry is
 
 -- what a verdict makes of books that are well formed is so, where the entry is
 pub formed_after : (verdict : Verdict) (books after : Books) (entry : Entry) → IsWellFormed entry → AreWellFormed books.history → Grows verdict books entry after → AreWellFormed after.history

@@ -3,7 +3,6 @@ use Rattle.std.proofs.Common.{◌≡◌, ◌⊎◌, inl, inr, ℕ, Bool, true, f
 use Rattle.std.proofs.lemmas.Bool.{cases_Bool}
 use Rattle.std.specs.Prelude.{MatchBool, Result, Ok}
 use Rattle.desk_msg.specs.declared.mt.Mt.{Mt}
-use Rattle.desk_msg.specs.MessageType.{is_instruction}
 use Rattle.desk_msg.specs.declared.instruction.Instruction.{Instruction}
 use Rattle.desk_rules.specs.declared.history.entry.Entry.{Entry}
 use Rattle.desk_rules.specs.declared.history.entry.Entry.TheVariants.{Cancel, Instruct}
@@ -28,11 +27,13 @@ use Rattle.desk_book.specs.declared.requests.task.Task.TheVariants.{Answer, Deci
 use Rattle.desk_book.specs.declared.answers.total.CashTotal.{CashTotal}
 use Rattle.desk_book.specs.declared.answers.total.SecurityTotal.{SecurityTotal}
 use Rattle.desk_book.specs.Answered.{IsAnswer, IsToldSums, AnsweredInTurn, Step, number_used, status_answer}
-use Rattle.desk_book.specs.Asked.{Asked, message, operator, status, sent, holdings, sums}
+use Rattle.desk_book.specs.declared.requests.question.Question.{Question}
+use Rattle.desk_book.specs.declared.requests.question.Question.TheVariants as questions
+use Rattle.desk_book.specs.Asked.{Asked, asked_with, mt_of}
 use Rattle.desk_book.specs.Known.{Agree, IsKnown, TellsNoAnswer, TellsUnread, done, refused, unanswered, unread}
 use Rattle.desk_book.specs.Statement.{IsStatement, TellsHoldings, TellsOwner}
 use Rattle.desk_book.specs.Totals.{AreCashSums, AreSums}
-use Rattle.desk_book.specs.Task.{IsMessageTask, IsTask, unknown_form}
+use Rattle.desk_book.specs.Task.{IsMessageTask, IsTask, IsTaskOf}
 use Rattle.desk_book.proofs.ConfirmedRuns.{ran}
 
 -- Questions.
@@ -110,27 +111,16 @@ status_unanswered reply (inr (inr (inr is))) = ap (λ r. r.status) is
 
 -- Replies.
 
-given_of : (a b : Reply) → Answer a ≡ Answer b → a ≡ b
-given_of a b e = cc
-
-of_unknown : (reply : Reply) → reply ≡ unknown_form → (reply.status ≡ 400) × TellsUnread reply
-of_unknown reply e = (ap (λ r. r.status) e, inl e)
-
 of_message : (mt : Mt) (sender text : List ℕ) (reply : Reply) → IsMessageTask sender mt text (Answer reply) → (reply.status ≡ 400) × TellsUnread reply
-of_message mt sender text reply r = (ap (λ r. r.status) r.2, inr (inr (r.0, r.2)))
+of_message mt sender text reply r = (ap (λ r. r.status) r.2, inr (r.0, r.2))
 
-of_taken : (taken : Bool) (mt : Mt) (sender text : List ℕ) (reply : Reply) → MatchBool taken (IsMessageTask sender mt text (Answer reply)) (Answer reply ≡ Answer unknown_form)
-    → (reply.status ≡ 400) × TellsUnread reply
-of_taken true mt sender text reply x = of_message mt sender text reply x
-of_taken false mt sender text reply x = of_unknown reply (given_of reply unknown_form x)
-
-of_answer : (asked : Asked) (reply : Reply) → IsTask asked (Answer reply) → (reply.status ≡ 400) × TellsUnread reply
-of_answer (message sender mt text) reply x = of_taken (is_instruction mt) mt sender text reply x
-of_answer (operator text) reply x = (ap (λ r. r.status) x.1, inr (inl x.1))
-of_answer (status sender text) reply x = absurd x
-of_answer (sent receiver number) reply x = let no : Answer reply ≡ Sent receiver number = x in cc
-of_answer (holdings owner account) reply x = absurd x
-of_answer sums reply x = let no : Answer reply ≡ Totals = x in cc
+of_answer : (question : Question) (text : List ℕ) (reply : Reply) → IsTaskOf question text (Answer reply) → (reply.status ≡ 400) × TellsUnread reply
+of_answer (questions.Message sender kind) text reply x = of_message (mt_of kind) sender text reply x
+of_answer questions.Operator text reply x = (ap (λ r. r.status) x.1, inl x.1)
+of_answer (questions.Status sender) text reply x = absurd x
+of_answer (questions.Sent receiver number) text reply x = let no : Answer reply ≡ Sent receiver number = x in cc
+of_answer (questions.Holdings owner) text reply x = absurd x
+of_answer questions.Sums text reply x = let no : Answer reply ≡ Totals = x in cc
 
 of_decided : (books : Books) (asked : Asked) (entry : Entry) (reply : Reply) → IsTask asked (Decide entry)
     → (reply.status ≡ 200) ⊎ ((reply.status ≡ 422) × TellsRefusal books entry reply) → IsKnown books asked reply
@@ -149,7 +139,7 @@ of_task limit books after asked (Sent bic number) reply is answer = of_question 
 of_task limit books after asked (Holdings owner account) reply is answer = of_question books asked reply (known_holdings books owner account reply answer.0)
 of_task limit books after asked Totals reply is answer = done (ap (λ r. r.status) answer.replied)
 of_task limit books after asked (Answer given) reply is answer =
-    let all = of_answer asked given is in
+    let all = of_answer asked.question asked.text given is in
     let P : Reply → Type 0 = λ r. (r.status ≡ 400) × TellsUnread r in
     let both : P reply = subst P (sym answer.0) all in
     unread both.0 both.1
@@ -175,16 +165,16 @@ agreeing limit books cash securities was are_cash are = record {
       omega arith;
 }
 
-told : (limit : ℕ) (books after : Books) (task : Task) (reply : Reply) → IsTask sums task → AreAccepted limit books → IsAnswer limit books task reply after
+told : (limit : ℕ) (books after : Books) (text : List ℕ) (task : Task) (reply : Reply) → IsTask (asked_with questions.Sums text) task → AreAccepted limit books → IsAnswer limit books task reply after
     → (told : IsToldSums books reply after) × Agree told.cash told.securities
-told limit books after (Decide entry) reply is was answer = let no : Decide entry ≡ Totals = is in cc
-told limit books after Totals reply is was answer = (answer, agreeing limit books answer.cash answer.securities was answer.are_cash answer.are)
-told limit books after (Status bic reference) reply is was answer = let no : Status bic reference ≡ Totals = is in cc
-told limit books after (Sent bic number) reply is was answer = let no : Sent bic number ≡ Totals = is in cc
-told limit books after (Holdings owner account) reply is was answer = let no : Holdings owner account ≡ Totals = is in cc
-told limit books after (Answer given) reply is was answer = let no : Answer given ≡ Totals = is in cc
+told limit books after text (Decide entry) reply is was answer = let no : Decide entry ≡ Totals = is in cc
+told limit books after text Totals reply is was answer = (answer, agreeing limit books answer.cash answer.securities was answer.are_cash answer.are)
+told limit books after text (Status bic reference) reply is was answer = let no : Status bic reference ≡ Totals = is in cc
+told limit books after text (Sent bic number) reply is was answer = let no : Sent bic number ≡ Totals = is in cc
+told limit books after text (Holdings owner account) reply is was answer = let no : Holdings owner account ≡ Totals = is in cc
+told limit books after text (Answer given) reply is was answer = let no : Answer given ≡ Totals = is in cc
 
-pub sums_agree : (limit : ℕ) (was is : Bool) (books last next : Books) (requests : List Asked) (answers : List (Result Reply Fault)) (reply : Reply)
-    → AreAccepted limit books → AnsweredInTurn limit was books requests answers is last → Step limit last sums (Ok reply) next
+pub sums_agree : (limit : ℕ) (was is : Bool) (books last next : Books) (requests : List Asked) (answers : List (Result Reply Fault)) (text : List ℕ) (reply : Reply)
+    → AreAccepted limit books → AnsweredInTurn limit was books requests answers is last → Step limit last (asked_with questions.Sums text) (Ok reply) next
     → (told : IsToldSums last reply next) × Agree told.cash told.securities
-sums_agree limit was is books last next requests answers reply start run step = told limit last next step.0 reply step.1 (ran limit was is books last requests answers start run) step.2
+sums_agree limit was is books last next requests answers text reply start run step = told limit last next text step.0 reply step.1 (ran limit was is books last requests answers start run) step.2

@@ -1,117 +1,97 @@
 -- A script's lines ask one list of items and no other.
-use Rattle.std.proofs.Common.{◌≡◌, ℕ, suc, ◌+◌, ◌<◌, ◌≤◌, true, false, cond, not, eqb, List, [], ◌∷◌, ◌++◌, length, Option, Some, None, arith, refl, sym, ◌∙◌, ap, subst, get_or, append_assoc, append-nil, length-append}
+use Rattle.std.proofs.Common.{◌≡◌, ℕ, suc, ◌+◌, ◌<◌, ◌≤◌, true, false, cond, not, eqb, List, [], ◌∷◌, ◌++◌, codes, length, Option, Some, None, arith, refl, sym, ◌∙◌, ap, subst, get_or, append_assoc, append-nil, length-append}
 use Rattle.std.proofs.lemmas.Bool.{false≢true, eqb-true}
 use Rattle.std.proofs.lemmas.List.Elements.{All-head, All-tail}
 use Rattle.std.specs.List.{prefix_len}
-use Rattle.desk_codes.specs.Bic.{party_of}
 use Rattle.desk_codes.specs.Number.{number_of}
-use Rattle.desk_msg.specs.declared.mt.Mt.{Mt}
-use Rattle.desk_msg.specs.declared.mt.Mt.TheVariants.{Mt540, Mt541, Mt542, Mt543, Mt544, Mt545, Mt546, Mt547}
-use Rattle.desk_book.specs.Asked.{Asked, message, operator, status, sent, holdings, sums}
+use Rattle.desk_book.specs.declared.requests.question.InstructionType.{InstructionType}
+use Rattle.desk_book.specs.declared.requests.question.InstructionType.TheVariants.{Mt540, Mt541, Mt542, Mt543}
+use Rattle.desk_book.specs.declared.requests.question.Question.{Question}
+use Rattle.desk_book.specs.declared.requests.question.Question.TheVariants.{Message, Operator, Status, Sent, Holdings, Sums}
+use Rattle.desk_book.specs.Asked.{Asked, asked_with, has_text, mt_of}
 use Rattle.desk_msg.specs.MessageType.{digits_of_type}
-use Rattle.desk_book.specs.Forms.{IsLineOf, Asks}
+use Rattle.desk_book.specs.Forms.{Asks, IsLineOf, body_of}
 use Rattle.desk_book.specs.Lines.{script_lines, said_by, is_skipped, has_body, is_stop}
 use Rattle.desk_book.specs.Script.{Item, ask, bad_line, Asking, ended, skipped, bodiless, posted, cut, Means, Script, HasNoStop, posted_text, BeginsWith, SpellsOnly}
-use Rattle.desk_book.proofs.FormLemmas.{bic_no_space, same_split}
+use Rattle.desk_book.proofs.FormLemmas.{one_party}
 
 -- One request for a line.
 
-type_of : List ℕ → Mt
-type_of digits =
-    let d = get_or digits 2 0 in
-    cond (eqb d 48) Mt540 (cond (eqb d 49) Mt541 (cond (eqb d 50) Mt542 (cond (eqb d 51) Mt543 (cond (eqb d 52) Mt544 (cond (eqb d 53) Mt545 (cond (eqb d 54) Mt546 Mt547))))))
+kind_of : List ℕ → InstructionType
+kind_of digits = let d = get_or digits 2 0 in cond (eqb d 48) Mt540 (cond (eqb d 49) Mt541 (cond (eqb d 50) Mt542 Mt543))
 
-type_back : (mt : Mt) → type_of (digits_of_type mt) ≡ mt
-unfolding type_of
-type_back Mt540 = refl
-type_back Mt541 = refl
-type_back Mt542 = refl
-type_back Mt543 = refl
-type_back Mt544 = refl
-type_back Mt545 = refl
-type_back Mt546 = refl
-type_back Mt547 = refl
+kind_back : (kind : InstructionType) → kind_of (digits_of_type (mt_of kind)) ≡ kind
+unfolding kind_of
+kind_back Mt540 = refl
+kind_back Mt541 = refl
+kind_back Mt542 = refl
+kind_back Mt543 = refl
 
-same_type : (a b : Mt) → digits_of_type a ≡ digits_of_type b → a ≡ b
-same_type a b e = sym (type_back a) ∙ ap type_of e ∙ type_back b
+pub same_kind : (a b : InstructionType) → digits_of_type (mt_of a) ≡ digits_of_type (mt_of b) → a ≡ b
+same_kind a b e = sym (kind_back a) ∙ ap kind_of e ∙ kind_back b
 
-same_message : (s t : List ℕ) (a b : Mt) (x y said : List ℕ) → x ≡ y → IsLineOf (message s a x) said → IsLineOf (message t b y) said → message s a x ≡ message t b y
-same_message s t a b x y said text f g =
-    let both : f.0 ++ 32 ∷ digits_of_type a ≡ g.0 ++ 32 ∷ digits_of_type b = let e = sym f.3 ∙ g.3 in cc in
-    let words = same_split f.0 g.0 (digits_of_type a) (digits_of_type b) (bic_no_space f.0 s f.1) (bic_no_space g.0 t g.1) both in
-    let kind = same_type a b words.1 in
-    let party : s ≡ t = f.1.0 ∙ ap party_of words.0 ∙ sym g.1.0 in
-    cc
-
-same_status : (s t r q said : List ℕ) → IsLineOf (status s r) said → IsLineOf (status t q) said → status s r ≡ status t q
-same_status s t r q said f g =
-    let both : f.0 ++ 32 ∷ r ≡ g.0 ++ 32 ∷ q = let e = sym f.2 ∙ g.2 in cc in
-    let words = same_split f.0 g.0 r q (bic_no_space f.0 s f.1) (bic_no_space g.0 t g.1) both in
-    let party : s ≡ t = f.1.0 ∙ ap party_of words.0 ∙ sym g.1.0 in
-    ap (λ z. status z r) party ∙ ap (λ z. status t z) words.1
-
-same_holdings : (s t r q said : List ℕ) → IsLineOf (holdings s r) said → IsLineOf (holdings t q) said → holdings s r ≡ holdings t q
-same_holdings s t r q said f g =
-    let both : f.0 ++ 32 ∷ r ≡ g.0 ++ 32 ∷ q = let e = sym f.2 ∙ g.2 in cc in
-    let words = same_split f.0 g.0 r q (bic_no_space f.0 s f.1) (bic_no_space g.0 t g.1) both in
-    let party : s ≡ t = f.1.0 ∙ ap party_of words.0 ∙ sym g.1.0 in
-    ap (λ z. holdings z r) party ∙ ap (λ z. holdings t z) words.1
-
-same_sent : (s t said : List ℕ) (n m : ℕ) → IsLineOf (sent s n) said → IsLineOf (sent t m) said → sent s n ≡ sent t m
-same_sent s t said n m f g =
-    let both : f.0 ++ 32 ∷ f.1 ≡ g.0 ++ 32 ∷ g.1 = let e = sym f.4 ∙ g.4 in cc in
-    let words = same_split f.0 g.0 f.1 g.1 (bic_no_space f.0 s f.2) (bic_no_space g.0 t g.2) both in
-    let party : s ≡ t = f.2.0 ∙ ap party_of words.0 ∙ sym g.2.0 in
-    let number : n ≡ m = f.3.is ∙ ap number_of words.1 ∙ sym g.3.is in
-    ap (λ z. sent z n) party ∙ ap (λ z. sent t z) number
-
--- the second letter of a line: no two forms without a body have the same
+-- the second letter of a line: no two questions have the same
 second_of : List ℕ → ℕ
 second_of line = get_or line 1 0
 
-second_status : (s r said : List ℕ) → IsLineOf (status s r) said → second_of said ≡ 116
-unfolding second_of
-second_status s r said f = ap second_of f.2
+second_in : Question → ℕ
+second_in (Message sender kind) = 110
+second_in Operator = 112
+second_in (Status sender) = 116
+second_in (Sent receiver number) = 101
+second_in (Holdings owner) = 111
+second_in Sums = 117
 
-second_sent : (s said : List ℕ) (n : ℕ) → IsLineOf (sent s n) said → second_of said ≡ 101
-unfolding second_of
-second_sent s said n f = ap second_of f.4
+second_is : (question : Question) (text said : List ℕ) → IsLineOf question text said → second_of said ≡ second_in question
+unfolding second_of second_in
+second_is (Message sender kind) text said f = ap second_of f.2
+second_is Operator text said f = ap second_of f
+second_is (Status sender) text said f = ap second_of f.2
+second_is (Sent receiver number) text said f = ap second_of f.2.2
+second_is (Holdings owner) text said f = ap second_of f.2
+second_is Sums text said f = ap second_of f
 
-second_holdings : (s r said : List ℕ) → IsLineOf (holdings s r) said → second_of said ≡ 111
-unfolding second_of
-second_holdings s r said f = ap second_of f.2
+-- Of two requests of one line, their questions are one, and so are their texts.
 
-second_sums : (said : List ℕ) → IsLineOf sums said → second_of said ≡ 117
-unfolding second_of
-second_sums said f = ap second_of f
+abbrev AreOne : Question → List ℕ → Question → List ℕ → Type 0
+AreOne p x q y = asked_with p x ≡ asked_with q y
+
+both_are : (p q : Question) (x y : List ℕ) → p ≡ q → x ≡ y → AreOne p x q y
+both_are p q x y same text = ap (λ r. asked_with r x) same ∙ ap (λ z. asked_with q z) text
+
+same_message : (s t : List ℕ) (a b : InstructionType) (x y said : List ℕ) → x ≡ y → IsLineOf (Message s a) x said → IsLineOf (Message t b) y said → AreOne (Message s a) x (Message t b) y
+same_message s t a b x y said text f g =
+    let named = one_party (codes "in ") said s (digits_of_type (mt_of a)) t (digits_of_type (mt_of b)) f g in
+    both_are (Message s a) (Message t b) x y (ap (λ z. Message z a) named.0 ∙ ap (Message t) (same_kind a b named.1)) text
+
+same_sent : (s t : List ℕ) (n m : ℕ) (x y said : List ℕ) → x ≡ y → IsLineOf (Sent s n) x said → IsLineOf (Sent t m) y said → AreOne (Sent s n) x (Sent t m) y
+same_sent s t n m x y said text f g =
+    let named = one_party (codes "sent ") said s f.0 t g.0 f.2 g.2 in
+    let number : n ≡ m = f.1.is ∙ ap number_of named.1 ∙ sym g.1.is in
+    both_are (Sent s n) (Sent t m) x y (ap (λ z. Sent z n) named.0 ∙ ap (Sent t) number) text
+
+one_text : {x y : List ℕ} → Some x ≡ Some y → x ≡ y
+one_text e = cc
+
+same_question : (p q : Question) (x y said : List ℕ) (body : Option (List ℕ)) → second_in p ≡ second_in q → IsLineOf p x said → IsLineOf q y said → body_of p x ≡ body → body_of q y ≡ body
+    → (has_text p ≡ false → x ≡ []) → (has_text q ≡ false → y ≡ []) → AreOne p x q y
+unfolding second_in
+same_question (Message s a) (Message t b) x y said body e f g h k first second = same_message s t a b x y said (one_text (h ∙ sym k)) f g
+same_question Operator Operator x y said body e f g h k first second = both_are Operator Operator x y refl (one_text (h ∙ sym k))
+same_question (Status s) (Status t) x y said body e f g h k first second =
+    let named = one_party (codes "status ") said s x t y f g in
+    both_are (Status s) (Status t) x y (ap Status named.0) named.1
+same_question (Sent s n) (Sent t m) x y said body e f g h k first second = same_sent s t n m x y said (first refl ∙ sym (second refl)) f g
+same_question (Holdings s) (Holdings t) x y said body e f g h k first second =
+    let named = one_party (codes "holdings ") said s x t y f g in
+    both_are (Holdings s) (Holdings t) x y (ap Holdings named.0) named.1
+same_question Sums Sums x y said body e f g h k first second = both_are Sums Sums x y refl (first refl ∙ sym (second refl))
+same_question p q x y said body e f g h k first second = absurd (omega (arith, e))
 
 one_request : (said : List ℕ) (body : Option (List ℕ)) (a b : Asked) → Asks said body a → Asks said body b → a ≡ b
-one_request said body (message s m x) (message t n y) h k =
-    let text : x ≡ y = let e = h.behind ∙ sym k.behind in cc in
-    same_message s t m n x y said text h.form k.form
-one_request said body (message s m x) (operator y) h k = let e = sym h.form.3 ∙ k.form in cc
-one_request said body (operator x) (message t n y) h k = let e = sym h.form ∙ k.form.3 in cc
-one_request said body (operator x) (operator y) h k = let e = h.behind ∙ sym k.behind in cc
-one_request said body (status s r) (status t q) h k = same_status s t r q said h.form k.form
-one_request said body (status s r) (sent t n) h k = let e = sym (second_status s r said h.form) ∙ second_sent t said n k.form in absurd (omega (arith, e))
-one_request said body (status s r) sums h k = let e = sym (second_status s r said h.form) ∙ second_sums said k.form in absurd (omega (arith, e))
-one_request said body (sent s n) (status t q) h k = let e = sym (second_sent s said n h.form) ∙ second_status t q said k.form in absurd (omega (arith, e))
-one_request said body (sent s n) (sent t m) h k = same_sent s t said n m h.form k.form
-one_request said body (sent s n) sums h k = let e = sym (second_sent s said n h.form) ∙ second_sums said k.form in absurd (omega (arith, e))
-one_request said body sums (status t q) h k = let e = sym (second_sums said h.form) ∙ second_status t q said k.form in absurd (omega (arith, e))
-one_request said body sums (sent t m) h k = let e = sym (second_sums said h.form) ∙ second_sent t said m k.form in absurd (omega (arith, e))
-one_request said body sums sums h k = refl
-one_request said body (holdings s r) (holdings t q) h k = same_holdings s t r q said h.form k.form
-one_request said body (holdings s r) (status t q) h k = let e = sym (second_holdings s r said h.form) ∙ second_status t q said k.form in absurd (omega (arith, e))
-one_request said body (holdings s r) (sent t n) h k = let e = sym (second_holdings s r said h.form) ∙ second_sent t said n k.form in absurd (omega (arith, e))
-one_request said body (holdings s r) sums h k = let e = sym (second_holdings s r said h.form) ∙ second_sums said k.form in absurd (omega (arith, e))
-one_request said body (status s r) (holdings t q) h k = let e = sym (second_status s r said h.form) ∙ second_holdings t q said k.form in absurd (omega (arith, e))
-one_request said body (sent s n) (holdings t q) h k = let e = sym (second_sent s said n h.form) ∙ second_holdings t q said k.form in absurd (omega (arith, e))
-one_request said body sums (holdings t q) h k = let e = sym (second_sums said h.form) ∙ second_holdings t q said k.form in absurd (omega (arith, e))
-one_request said body (message s m x) b h k = let e = h.behind ∙ sym k.behind in cc
-one_request said body (operator x) b h k = let e = h.behind ∙ sym k.behind in cc
-one_request said body a (message t n y) h k = let e = h.behind ∙ sym k.behind in cc
-one_request said body a (operator y) h k = let e = h.behind ∙ sym k.behind in cc
+one_request said body a b h k =
+    let letters = sym (second_is a.question a.text said h.form) ∙ second_is b.question b.text said k.form in
+    same_question a.question b.question a.text b.text said body letters h.form k.form h.behind k.behind h.empty k.empty
 
 one_item : (said : List ℕ) (body : Option (List ℕ)) (x y : Item) → Means said body x → Means said body y → x ≡ y
 one_item said body (ask a) (ask b) h k = ap ask (one_request said body a b h k)

@@ -1,15 +1,15 @@
 -- A request is read as one task at most.
-use Rattle.std.proofs.Common.{◌≡◌, ℕ, Bool, true, false, List, Some, None, sym, ◌∙◌, ap}
-use Rattle.std.specs.Prelude.{MatchBool}
+use Rattle.std.proofs.Common.{◌≡◌, ℕ, List, Some, None, sym, ◌∙◌, ap}
 use Rattle.desk_msg.proofs.TextLaws.{message_not_refusal, one_message_of_text, one_refusal}
 use Rattle.desk_msg.specs.declared.mt.Mt.{Mt}
-use Rattle.desk_msg.specs.MessageType.{is_instruction}
 use Rattle.desk_msg.specs.Refused.{refusal_line}
 use Rattle.desk_rules.specs.declared.history.entry.Entry.{Entry}
 use Rattle.desk_rules.specs.declared.answers.reply.Reply.{Reply}
 use Rattle.desk_rules.specs.Reply.{untyped_reply}
-use Rattle.desk_book.specs.Asked.{Asked, message, operator, status, sent, holdings, sums}
-use Rattle.desk_book.specs.Task.{IsMessageTask, IsCommandTask, IsHoldingsTask, IsStatusTask, IsTask, entry_of_message, unknown_form}
+use Rattle.desk_book.specs.declared.requests.question.Question.{Question}
+use Rattle.desk_book.specs.declared.requests.question.Question.TheVariants as questions
+use Rattle.desk_book.specs.Asked.{Asked, mt_of}
+use Rattle.desk_book.specs.Task.{IsMessageTask, IsCommandTask, IsHoldingsTask, IsStatusTask, IsTask, IsTaskOf, entry_of_message}
 use Rattle.desk_book.specs.declared.requests.task.Task.{Task}
 use Rattle.desk_book.specs.declared.requests.task.Task.TheVariants.{Answer, Decide, Holdings, Status}
 use Rattle.desk_book.proofs.OneCommand.{one_each}
@@ -31,11 +31,6 @@ one_of_message mt sender text (Answer a) (Answer b) x y = ap Answer (one_answer 
 one_of_message mt sender text (Decide a) b x y = absurd y
 one_of_message mt sender text (Answer a) b x y = absurd y
 one_of_message mt sender text a b x y = absurd x
-
-one_of_taken : (taken : Bool) (mt : Mt) (sender text : List ℕ) (a b : Task) → MatchBool taken (IsMessageTask sender mt text a) (a ≡ Answer unknown_form)
-    → MatchBool taken (IsMessageTask sender mt text b) (b ≡ Answer unknown_form) → a ≡ b
-one_of_taken true mt sender text a b x y = one_of_message mt sender text a b x y
-one_of_taken false mt sender text a b x y = x ∙ sym y
 
 one_of_command : (text : List ℕ) (a b : Task) → IsCommandTask text a → IsCommandTask text b → a ≡ b
 one_of_command text (Decide a) (Decide b) x y = ap Decide (one_each text a b x y)
@@ -64,10 +59,13 @@ one_of_holdings owner text (Holdings p (Some r)) b x y = absurd y
 one_of_holdings owner text (Holdings p None) b x y = absurd y
 one_of_holdings owner text a b x y = absurd x
 
+one_of_question : (question : Question) (text : List ℕ) (a b : Task) → IsTaskOf question text a → IsTaskOf question text b → a ≡ b
+one_of_question (questions.Message sender kind) text a b x y = one_of_message (mt_of kind) sender text a b x y
+one_of_question questions.Operator text a b x y = one_of_command text a b x y
+one_of_question (questions.Status sender) text a b x y = one_of_status sender text a b x y
+one_of_question (questions.Sent receiver number) text a b x y = x ∙ sym y
+one_of_question (questions.Holdings owner) text a b x y = one_of_holdings owner text a b x y
+one_of_question questions.Sums text a b x y = x ∙ sym y
+
 pub one_task : (asked : Asked) (a b : Task) → IsTask asked a → IsTask asked b → a ≡ b
-one_task (message sender mt text) a b x y = one_of_taken (is_instruction mt) mt sender text a b x y
-one_task (operator text) a b x y = one_of_command text a b x y
-one_task (status sender text) a b x y = one_of_status sender text a b x y
-one_task (sent receiver number) a b x y = x ∙ sym y
-one_task (holdings owner text) a b x y = one_of_holdings owner text a b x y
-one_task sums a b x y = x ∙ sym y
+one_task asked a b x y = one_of_question asked.question asked.text a b x y

@@ -1,5 +1,5 @@
 -- A script, item by item.
-use Rattle.std.proofs.Common.{◌≡◌, ℕ, ◌+◌, ◌≤◌, Bool, true, List, [], ◌∷◌, ◌++◌, count_by, refl, ap, sym, ◌∙◌, subst, arith, append-nil, append_assoc}
+use Rattle.std.proofs.Common.{◌≡◌, ℕ, ◌+◌, ◌≤◌, Bool, List, [], ◌∷◌, ◌++◌, count_by, refl, ap, sym, ◌∙◌, subst, arith, append-nil, append_assoc}
 use Rattle.std.specs.Prelude.{Option, Result, Ok, Err, OnOk}
 use Rattle.std.specs.Io.KnownBytes.{Appends, append_known}
 use Rattle.std.proofs.KnownBytes.{Appends-nil, Appends-trans}
@@ -7,10 +7,12 @@ use Rattle.desk_rules.specs.declared.answers.reply.Reply.{Reply}
 use Rattle.desk_rules.specs.Books.{Books}
 use Rattle.desk_register.specs.View.{View, IfCounted, IsLater}
 use Rattle.desk_book.specs.declared.fault.Fault.{Fault}
-use Rattle.desk_book.specs.Answered.{AnsweredInTurn, BlamesRequest, says_closed, says_storage}
+use Rattle.desk_book.specs.Answered.{AnsweredInTurn, says_closed, says_storage}
 use Rattle.desk_book.specs.Asked.{Asked, asked_by}
-use Rattle.desk_book.specs.declared.requests.request.Request.{Request}
+use Rattle.desk_book.specs.declared.requests.question.Request.{Request}
+use Rattle.desk_book.specs.DeskValue.{DeskValue}
 use Rattle.desk_book.specs.Held.{Holds, Steps}
+use Rattle.desk_book.specs.Left.{AnswersRequest}
 use Rattle.desk_book.specs.Played.{HasPlayed, PlaysFront, PlaysScript, answers_text, asked_in, answer_text}
 use Rattle.desk_book.specs.Items.{PlaysItem}
 use Rattle.desk_book.specs.Lines.{script_lines}
@@ -19,20 +21,21 @@ use Rattle.desk_book.specs.declared.requests.script.Item.{Item as ScriptItem}
 use Rattle.desk_book.specs.declared.requests.script.Item.TheVariants.{Ask, BadLine}
 use Rattle.desk_book.specs.WrittenAnswers.{written_bad_line}
 use Rattle.desk_book.proofs.HeadlineLemmas.{promised}
+use Rattle.desk_book.proofs.LeftLemmas.{says_so}
 use Rattle.desk_book.proofs.OutboxLemmas.{all_written}
 use Rattle.desk_book.proofs.RunLemmas.{counted_one, counted_then, run_then}
 
 -- One item.
 
-pub one_played : (was : Bool) (books : Books) (asked : Asked) (answer : Result Reply Fault) (is : Bool) (old new : View) → is ≡ says_closed answer → IsLater old new
-    → (was ≡ true → says_closed answer ≡ true) → BlamesRequest answer old new → Steps old.room books asked answer is new
-    → HasPlayed was books (ask asked ∷ []) (answer ∷ []) is old new
-one_played was books asked answer is old new closed later stays blame s = record {
+pub one_played : {R : Type 0} (view : R → View) (is_in_memory : Bool) (books : Books) (asked : Asked) (answer : Result Reply Fault) (old new : DeskValue R) → AnswersRequest view is_in_memory answer old new
+    → Steps (view old.register).room books asked answer new.is_closed (view new.register)
+    → HasPlayed old.is_closed books (ask asked ∷ []) (answer ∷ []) new.is_closed (view old.register) (view new.register)
+one_played view is_in_memory books asked answer old new a s = record {
   last = s.next;
-  in_turn = (stays, (s.next, s.step, (closed, refl)));
+  in_turn = (says_so view is_in_memory answer old new a, (s.next, s.step, (a.closed, refl)));
   holds = s.holds;
   promise = s.promise;
-  blame = counted_one answer old new later blame;
+  blame = counted_one answer (view old.register) (view new.register) a.left.later a.blame;
 }
 
 pub item_written : {E : Type 0} (was : Bool) (books : Books) (item : ScriptItem) (request : Request) (answer : Result Reply Fault) (text : List ℕ) (before after : Option (List ℕ)) (is : Bool) (old new : View) (r : Result (Unit {0}) E)

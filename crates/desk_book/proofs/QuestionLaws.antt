@@ -21,7 +21,8 @@ use Rattle.desk_register.proofs.CaseLemmas.{same_bytes}
 use Rattle.desk_book.specs.declared.requests.task.Task.{Task}
 use Rattle.desk_book.specs.declared.requests.task.Task.TheVariants.{Holdings, Status}
 use Rattle.desk_book.specs.Answered.{IsAnswer, Step, status_answer}
-use Rattle.desk_book.specs.Asked.{holdings, sent, status}
+use Rattle.desk_book.specs.declared.requests.question.Question.TheVariants as questions
+use Rattle.desk_book.specs.Asked.{asked_with}
 use Rattle.desk_book.specs.Statement.{TellsHoldings}
 use Rattle.desk_book.specs.Task.{IsHoldingsTask, IsStatusTask}
 
@@ -68,12 +69,12 @@ status_by : (limit : ℕ) (books after : Books) (sender text : List ℕ) (task :
 status_by limit books after sender text (Status bic reference) reply formed is answer = (answer.0 ∙ of_status books sender text bic reference formed is, answer.1)
 status_by limit books after sender text task reply formed is answer = absurd is
 
-pub status_told : (limit : ℕ) (books after : Books) (sender text : List ℕ) (reply : Reply) → AreWellFormed books.history → Step limit books (status sender text) (Ok reply) after
+pub status_told : (limit : ℕ) (books after : Books) (sender text : List ℕ) (reply : Reply) → AreWellFormed books.history → Step limit books (asked_with (questions.Status sender) text) (Ok reply) after
     → (reply ≡ status_reply books sender text) × (after ≡ books)
 status_told limit books after sender text reply formed step = status_by limit books after sender text step.0 reply formed step.1 step.2
 
-pub sent_told : (limit : ℕ) (books after : Books) (receiver : List ℕ) (number : ℕ) (reply : Reply) → Step limit books (sent receiver number) (Ok reply) after → (reply ≡ sent_reply books receiver number) × (after ≡ books)
-sent_told limit books after receiver number reply step =
+pub sent_told : (limit : ℕ) (books after : Books) (receiver text : List ℕ) (number : ℕ) (reply : Reply) → Step limit books (asked_with (questions.Sent receiver number) text) (Ok reply) after → (reply ≡ sent_reply books receiver number) × (after ≡ books)
+sent_told limit books after receiver text number reply step =
     let P : Task → Type 0 = λ task. IsAnswer limit books task reply after in
     subst P step.1 step.2
 
@@ -113,6 +114,6 @@ holdings_by limit books after owner text (Holdings bic None) reply formed is ans
 )
 holdings_by limit books after owner text task reply formed is answer = absurd is
 
-pub holdings_told : (limit : ℕ) (books after : Books) (owner text : List ℕ) (reply : Reply) → AreWellFormed books.history → Step limit books (holdings owner text) (Ok reply) after
+pub holdings_told : (limit : ℕ) (books after : Books) (owner text : List ℕ) (reply : Reply) → AreWellFormed books.history → Step limit books (asked_with (questions.Holdings owner) text) (Ok reply) after
     → TellsHoldings books owner (Some text) reply × (after ≡ books)
 holdings_told limit books after owner text reply formed step = holdings_by limit books after owner text step.0 reply formed step.1 step.2

@@ -13,7 +13,7 @@ use Rattle.desk_book.specs.declared.fault.Fault.TheVariants.{Memory, Storage, Cl
 use Rattle.desk_book.specs.declared.requests.task.Task.{Task}
 use Rattle.desk_book.specs.Answered.{AnsweredInTurn, BlamesRequest, Step, says_closed, says_storage}
 use Rattle.desk_book.specs.Asked.{Asked, asked_by}
-use Rattle.desk_book.specs.declared.requests.request.Request.{Request}
+use Rattle.desk_book.specs.declared.requests.question.Request.{Request}
 use Rattle.desk_book.specs.Headline.{KeepsPromise}
 use Rattle.desk_book.specs.Held.{Holds, Steps}
 use Rattle.desk_book.proofs.HeadlineLemmas.{promised}

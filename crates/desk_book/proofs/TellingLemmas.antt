@@ -15,7 +15,8 @@ use Rattle.desk_holdings.specs.Ends.{HaveRead, at_register, broken_off}
 use Rattle.desk_holdings.proofs.ReadingLemmas.{HasRead, broke_off, held_so, read_on, read_so}
 use Rattle.desk_codes.specs.Account.{IsAccount}
 use Rattle.desk_book.specs.Answered.{Step}
-use Rattle.desk_book.specs.Asked.{holdings, sums}
+use Rattle.desk_book.specs.declared.requests.question.Question.TheVariants as questions
+use Rattle.desk_book.specs.Asked.{asked_with}
 use Rattle.desk_book.specs.Held.{Holds, KeepsFormed}
 use Rattle.desk_book.specs.RowByRow.{EndsWriting, IsReported, told_of_walk}
 use Rattle.desk_book.specs.Task.{IsHoldingsTask}
@@ -82,11 +83,11 @@ holdings_task owner text (Some a) named reads is = (refl, is, named refl)
 
 -- what is reported is what is answered
 pub holdings_step : (limit : ℕ) (books : Books) (owner text : List ℕ) (account : Option (List ℕ)) (r : Result Head ToFault) (before after : Option (List ℕ)) → (IsSome account → IsAccount text) → (IsAccount text → IsSome account)
-    → IfSome account (λ a. a ≡ text) → Writes (IsReported limit books (reports.Holdings owner account)) r before after → WritesAsked limit books (holdings owner text) r before after
+    → IfSome account (λ a. a ≡ text) → Writes (IsReported limit books (reports.Holdings owner account)) r before after → WritesAsked limit books (asked_with (questions.Holdings owner) text) r before after
 holdings_step limit books owner text account r before after named reads is w =
-    writes_as (IsReported limit books (reports.Holdings owner account)) (λ reply. Step limit books (holdings owner text) (Ok reply) books) r before after
+    writes_as (IsReported limit books (reports.Holdings owner account)) (λ reply. Step limit books (asked_with (questions.Holdings owner) text) (Ok reply) books) r before after
     (λ reply told. (Holdings owner account, holdings_task owner text account named reads is, told)) w
 
-pub sums_step : (limit : ℕ) (books : Books) (r : Result Head ToFault) (before after : Option (List ℕ)) → Writes (IsReported limit books reports.Totals) r before after → WritesAsked limit books sums r before after
+pub sums_step : (limit : ℕ) (books : Books) (r : Result Head ToFault) (before after : Option (List ℕ)) → Writes (IsReported limit books reports.Totals) r before after → WritesAsked limit books (asked_with questions.Sums []) r before after
 sums_step limit books r before after w =
-    writes_as (IsReported limit books reports.Totals) (λ reply. Step limit books sums (Ok reply) books) r before after (λ reply told. (Totals, refl, told)) w
+    writes_as (IsReported limit books reports.Totals) (λ reply. Step limit books (asked_with questions.Sums []) (Ok reply) books) r before after (λ reply told. (Totals, refl, told)) w

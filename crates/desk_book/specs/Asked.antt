@@ -1,23 +1,34 @@
 -- What is asked of the desk.
-use Rattle.std.specs.Prelude.{ℕ, List}
+use Rattle.std.specs.Prelude.{ℕ, Bool, true, false, List}
 use Rattle.desk_msg.specs.declared.mt.Mt.{Mt}
-use Rattle.desk_book.specs.declared.requests.request.Request.{Request}
-use Rattle.desk_book.specs.declared.requests.request.Request.TheVariants.{Message, Operator, Status, Sent, Holdings, Sums}
+use Rattle.desk_msg.specs.declared.mt.Mt.TheVariants as types
+use Rattle.desk_book.specs.declared.requests.question.InstructionType.{InstructionType}
+use Rattle.desk_book.specs.declared.requests.question.InstructionType.TheVariants.{Mt540, Mt541, Mt542, Mt543}
+use Rattle.desk_book.specs.declared.requests.question.Question.{Question}
+use Rattle.desk_book.specs.declared.requests.question.Question.TheVariants.{Sent, Sums}
+use Rattle.desk_book.specs.declared.requests.question.Request.{Request}
 
--- A request by its values: parties by their BIC, texts by their bytes.
-pub data Asked : Type 0 where
-  message : (sender : List ℕ) (mt : Mt) (text : List ℕ) → Asked
-  operator : (text : List ℕ) → Asked
-  status : (sender reference : List ℕ) → Asked
-  sent : (receiver : List ℕ) (number : ℕ) → Asked
-  holdings : (owner account : List ℕ) → Asked
-  sums : Asked
+-- the type of settlement messages that it is
+abbrev pub mt_of : InstructionType → Mt
+mt_of Mt540 = types.Mt540
+mt_of Mt541 = types.Mt541
+mt_of Mt542 = types.Mt542
+mt_of Mt543 = types.Mt543
+
+-- a question is asked with a text
+abbrev pub has_text : Question → Bool
+has_text (Sent receiver number) = false
+has_text Sums = false
+has_text question = true
+
+-- A request by its values: a question, and the bytes that it is asked with.
+pub record Asked : Type 0 where
+  pub question : Question
+  pub text : List ℕ
+
+abbrev pub asked_with : Question → List ℕ → Asked
+asked_with question text = record { question = question; text = text }
 
 -- the values of a request of the code
 abbrev pub asked_by : Request → Asked
-asked_by (Message sender mt text) = message sender mt text.now
-asked_by (Operator text) = operator text.now
-asked_by (Status sender reference) = status sender reference.now
-asked_by (Sent receiver number) = sent receiver number
-asked_by (Holdings owner account) = holdings owner account.now
-asked_by Sums = sums
+asked_by request = asked_with request.question request.text.now

@@ -9,6 +9,7 @@ use Rattle.desk_rules.specs.Content.{Content}
 use Rattle.desk_register.specs.View.{View}
 use Rattle.desk_book.specs.Answered.{Step}
 use Rattle.desk_book.specs.Asked.{Asked}
+use Rattle.desk_book.specs.DeskValue.{DeskValue}
 use Rattle.desk_book.specs.Headline.{KeepsPromise}
 use Rattle.desk_book.specs.declared.fault.Fault.{Fault}
 
@@ -27,6 +28,11 @@ pub record IsReady (is_closed : Bool) (view : View) : Type 0 where
 -- an open desk keeps these books; of a closed one nothing is said
 abbrev pub Holds : Bool → View → Books → Type 0
 Holds is_closed view books = is_closed ≡ false → KeepsFormed view.room books view.content
+
+-- Where no wrong answer of the device was taken as true up to a call's end, this holds of all books that the desk held as
+-- it began. What contracts see of the desk's register is told by `view`.
+abbrev pub IfHolds : {R : Type 0} → (R → View) → DeskValue R → DeskValue R → (Books → Type 0) → Type 0
+IfHolds view old new Fact = (books : Books) → (view new.register).is_honest → Holds old.is_closed (view old.register) books → Fact books
 
 -- one step of a desk, what it holds then, and what may be relied on
 pub record Steps (limit : ℕ) (books : Books) (asked : Asked) (result : Result Reply Fault) (is_closed : Bool) (view : View) : Type 0 where

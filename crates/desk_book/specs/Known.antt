@@ -10,15 +10,14 @@ use Rattle.desk_rules.specs.Questions.{no_message, refused_question}
 use Rattle.desk_rules.specs.Refusals.{number_of_refusal}
 use Rattle.desk_rules.specs.Reply.{TellsRefusal, untyped_reply}
 use Rattle.desk_book.specs.Asked.{Asked}
-use Rattle.desk_book.specs.Task.{IsTask, no_command, unknown_form}
+use Rattle.desk_book.specs.Task.{IsTask, no_command}
 use Rattle.desk_book.specs.declared.requests.task.Task.TheVariants.{Decide}
 use Rattle.desk_book.specs.declared.answers.total.CashTotal.{CashTotal}
 use Rattle.desk_book.specs.declared.answers.total.SecurityTotal.{SecurityTotal}
 
--- What was asked could not be read: it has none of the desk's forms, it spells no command, or it is a text that is
--- refused, by a number of the texts' own.
+-- The text could not be read: it spells no command, or it is a message that is refused, by a number of the texts' own.
 abbrev pub TellsUnread : Reply → Type 0
-TellsUnread reply = (reply ≡ unknown_form) ⊎ (reply ≡ no_command) ⊎ ((refusal : TextRefusal) × (reply ≡ untyped_reply 400 (refusal_line refusal)))
+TellsUnread reply = (reply ≡ no_command) ⊎ ((refusal : TextRefusal) × (reply ≡ untyped_reply 400 (refusal_line refusal)))
 
 -- A question is refused: its sender is no participant, it used no such reference, the account is
 -- not its own, or there is no such sent message.

@@ -8,6 +8,7 @@ pub mod Headline
 pub mod Held
 pub mod Items
 pub mod Known
+pub mod Left
 pub mod Lines
 pub mod Members
 pub mod Played

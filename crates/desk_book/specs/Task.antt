@@ -1,5 +1,5 @@
 -- What a request is read as.
-use Rattle.std.specs.Prelude.{◌≡◌, ℕ, MatchBool, List, codes, Some, None, Ok, Err}
+use Rattle.std.specs.Prelude.{◌≡◌, ℕ, List, codes, Some, None, Ok, Err}
 use Rattle.desk_codes.specs.Account.{IsAccount}
 use Rattle.desk_codes.specs.Bic.{IsBic}
 use Rattle.desk_codes.specs.Reference.{IsReference}
@@ -8,22 +8,18 @@ use Rattle.desk_msg.specs.declared.instruction.Message.{Message}
 use Rattle.desk_msg.specs.declared.instruction.Message.TheVariants.{New, Cancel as CancelMessage}
 use Rattle.desk_msg.specs.declared.reading.refusal.TextRefusal.{TextRefusal}
 use Rattle.desk_msg.specs.declared.reading.refusal.ReadFault.TheVariants.{Refused}
-use Rattle.desk_msg.specs.MessageType.{is_instruction}
 use Rattle.desk_msg.specs.Refused.{ReadsText, refusal_line}
 use Rattle.desk_rules.specs.declared.history.entry.Entry.{Entry}
 use Rattle.desk_rules.specs.declared.history.entry.Entry.TheVariants.{Instruct, Cancel}
 use Rattle.desk_rules.specs.declared.answers.reply.Reply.{Reply}
 use Rattle.desk_rules.specs.Reply.{untyped_reply}
 use Rattle.desk_rules.specs.WellFormed.{IsWellFormed}
-use Rattle.desk_book.specs.Asked.{Asked, holdings, message, operator, sent, status, sums}
+use Rattle.desk_book.specs.declared.requests.question.Question.{Question}
+use Rattle.desk_book.specs.declared.requests.question.Question.TheVariants as questions
+use Rattle.desk_book.specs.Asked.{Asked, mt_of}
 use Rattle.desk_book.specs.Command.{SpellsCommand}
-use Rattle.desk_book.specs.WrittenAnswers.{bad_line_text}
 use Rattle.desk_book.specs.declared.requests.task.Task.{Task}
 use Rattle.desk_book.specs.declared.requests.task.Task.TheVariants.{Answer, Decide, Holdings, Sent, Status, Totals}
-
--- the answer to what is none of the desk's forms
-abbrev pub unknown_form : Reply
-unknown_form = untyped_reply 400 bad_line_text
 
 -- the entry that a participant's message asks for
 abbrev pub entry_of_message : List ℕ → Message → Entry
@@ -59,14 +55,18 @@ IsHoldingsTask owner text (Holdings bic (Some account)) = (bic ≡ owner) × (ac
 IsHoldingsTask owner text (Holdings bic None) = (bic ≡ owner) × ¬ IsAccount text
 IsHoldingsTask owner text task = ⊥
 
--- What a request gives the desk to do, one equation a form.
+-- What a question gives the desk to do that is asked with this text, one equation a question.
+abbrev pub IsTaskOf : Question → List ℕ → Task → Type 0
+IsTaskOf (questions.Message sender kind) text task = IsMessageTask sender (mt_of kind) text task
+IsTaskOf questions.Operator text task = IsCommandTask text task
+IsTaskOf (questions.Status sender) text task = IsStatusTask sender text task
+IsTaskOf (questions.Sent receiver number) text task = task ≡ Sent receiver number
+IsTaskOf (questions.Holdings owner) text task = IsHoldingsTask owner text task
+IsTaskOf questions.Sums text task = task ≡ Totals
+
+-- and what a request does
 abbrev pub IsTask : Asked → Task → Type 0
-IsTask (message sender mt text) task = MatchBool (is_instruction mt) (IsMessageTask sender mt text task) (task ≡ Answer unknown_form)
-IsTask (operator text) task = IsCommandTask text task
-IsTask (status sender text) task = IsStatusTask sender text task
-IsTask (sent receiver number) task = task ≡ Sent receiver number
-IsTask (holdings owner text) task = IsHoldingsTask owner text task
-IsTask sums task = task ≡ Totals
+IsTask asked task = IsTaskOf asked.question asked.text task
 
 -- a command to decide on is well formed
 abbrev pub IsFormed : Task → Type 0

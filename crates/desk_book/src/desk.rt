@@ -1,21 +1,23 @@
 //! The desk: requests, answered from a register's tables.
-ghost use Rattle.std.specs.Prelude.{◌≡◌, ◌↔◌, ◌+◌, ◌≤◌, true, false, map, All, count_by, Err, IfErr, IfOk, OnErr};
+ghost use Rattle.std.specs.Prelude.{◌≡◌, ◌+◌, ◌≤◌, [], true, false, map, All, count_by, IfErr, IfOk, OnErr};
 ghost use Rattle.desk_rules.specs.Books.{Books};
-ghost use Rattle.desk_register.specs.View.{IfCounted, IsLater};
-ghost use Rattle.desk_book.specs.Answered.{ActsOnce, AnsweredInTurn, BlamesRequest, says_closed, says_storage};
-ghost use Rattle.desk_book.specs.Asked.{asked_by, holdings, sums};
+ghost use Rattle.desk_register.specs.View.{IfCounted};
+ghost use Rattle.desk_book.specs.Answered.{ActsOnce, AnsweredInTurn, says_closed, says_storage};
+ghost use Rattle.desk_book.specs.declared.requests.question.Question.TheVariants as questions;
+ghost use Rattle.desk_book.specs.Asked.{asked_by, asked_with};
 ghost use Rattle.desk_book.specs.Headline.{KeepsPromise};
-ghost use Rattle.desk_book.specs.Held.{Holds, IsReady, Steps};
+ghost use Rattle.desk_book.specs.Held.{Holds, IfHolds, IsReady, Steps};
+ghost use Rattle.desk_book.specs.Left.{AnswersRequest, EndsReport, LeavesDesk};
 ghost use Rattle.desk_book.specs.Answering.{IsPerformed};
 ghost use Rattle.desk_book.specs.RowByRow.{IsReported};
 ghost use Rattle.desk_book.specs.Task.{IsFormed};
-ghost use Rattle.desk_book.specs.WrittenTo.{BlamesDevice, StaysOpen, Writes, WritesAsked};
+ghost use Rattle.desk_book.specs.WrittenTo.{Writes, WritesAsked};
 
 use crate::answers::answering::answer;
 use crate::answers::head::Head;
 use crate::answers::telling::{Report, tell_to};
 use crate::fault::{Fault, ToFault};
-use crate::requests::request::Request;
+use crate::requests::question::Request;
 use crate::requests::task::{Task, task_of};
 use desk_codes::{AccountId, Bic};
 use desk_register::Register;
@@ -69,20 +71,15 @@ impl<R: Register> Desk<R> {
     /// Answers a request. After `Memory` and `Storage` all is as before; after `Closed` the desk answers nothing
     /// any more.
     pub fn ask(&mut self, alloc: Global, request: &Request<'_>) -> Result<Reply, Fault>
-        ensures step { (books : Books) → (R.view self.new.register).is_honest → Holds self.old.is_closed (R.view self.old.register) books
-            → Steps (R.view self.old.register).room books (asked_by request.now) result self.new.is_closed (R.view self.new.register) }
-        ensures closed { self.new.is_closed ≡ says_closed result }
-        ensures stays { self.old.is_closed ≡ true → says_closed result ≡ true }
-        ensures untouched { self.old.is_closed ≡ true → self.new ≡ self.old }
-        ensures later { IsLater (R.view self.old.register) (R.view self.new.register) }
-        ensures blame { BlamesRequest result (R.view self.old.register) (R.view self.new.register) }
-        ensures in_memory { R.in_memory ≡ true → self.old.is_closed ≡ false → says_closed result ≡ false }
+        ensures step { IfHolds R.view self.old self.new (λ books.
+            Steps (R.view self.old.register).room books (asked_by request.now) result self.new.is_closed (R.view self.new.register)) }
+        ensures answers { AnswersRequest R.view R.in_memory result self.old self.new }
     {
         self.perform(alloc, task_of(alloc, request))
     }
 
     /// Writes what a participant's account holds straight to a writer, row by row as it is read: the text that `ask` answers
-    /// to `Request::Holdings` of this participant and these bytes, which name the account. Gives its status and its type. No
+    /// to `Question::Holdings` of this participant with these bytes, which name the account. Gives its status and its type. No
     /// row is kept, so that no more memory is wanted for many rows than for one. The desk's tables stay.
     ///
     /// A refusal is no fault: status 422, and `refused 10` (the participant is none) or `refused 15` (the account is not
@@ -98,38 +95,26 @@ impl<R: Register> Desk<R> {
         account: &[u8],
         writer: &mut W,
     ) -> Result<Head, ToFault>
-        ensures written { (books : Books) → (R.view self.new.register).is_honest → Holds self.old.is_closed (R.view self.old.register) books
-            → WritesAsked (R.view self.old.register).room books (holdings owner account.now) result (W.contents writer.old) (W.contents writer.new) }
-        ensures keeps { (books : Books) → (R.view self.new.register).is_honest → Holds self.old.is_closed (R.view self.old.register) books
-            → Holds self.new.is_closed (R.view self.new.register) books × KeepsPromise self.new.is_closed (R.view self.new.register) books }
-        ensures closed { result ≡ Err ToFault.Closed ↔ self.old.is_closed ≡ true }
-        ensures untouched { self.old.is_closed ≡ true → (self.new ≡ self.old) × (writer.new ≡ writer.old) }
-        ensures stays { StaysOpen result self.new.is_closed }
-        ensures later { IsLater (R.view self.old.register) (R.view self.new.register) }
-        ensures blame { BlamesDevice result self.new.is_closed (R.view self.old.register) (R.view self.new.register) }
-        ensures in_memory { R.in_memory ≡ true → self.old.is_closed ≡ false → self.new.is_closed ≡ false }
-        ensures unwritten { result ≡ Err ToFault.WriteFailed → W.may_fail ≡ true }
+        ensures written { IfHolds R.view self.old self.new (λ books.
+            WritesAsked (R.view self.old.register).room books (asked_with (questions.Holdings owner) account.now) result (W.contents writer.old) (W.contents writer.new)) }
+        ensures keeps { IfHolds R.view self.old self.new (λ books.
+            Holds self.new.is_closed (R.view self.new.register) books × KeepsPromise self.new.is_closed (R.view self.new.register) books) }
+        ensures ends { EndsReport R.view R.in_memory W.may_fail result self.old self.new writer.old writer.new }
     {
         let account = AccountId::read(account);
         self.report(alloc, Report::Holdings(owner, account), writer)
     }
 
     /// Writes the desk's totals straight to a writer, row by row as they are read: the text that `ask` answers to
-    /// `Request::Sums`. Gives its status, 200, and no type. No row is kept. The desk's tables stay.
+    /// `Question::Sums`. Gives its status, 200, and no type. No row is kept. The desk's tables stay.
     ///
     /// The faults are those of `holdings_to`.
     pub fn sums_to<W: Sink>(&mut self, alloc: Global, writer: &mut W) -> Result<Head, ToFault>
-        ensures written { (books : Books) → (R.view self.new.register).is_honest → Holds self.old.is_closed (R.view self.old.register) books
-            → WritesAsked (R.view self.old.register).room books sums result (W.contents writer.old) (W.contents writer.new) }
-        ensures keeps { (books : Books) → (R.view self.new.register).is_honest → Holds self.old.is_closed (R.view self.old.register) books
-            → Holds self.new.is_closed (R.view self.new.register) books × KeepsPromise self.new.is_closed (R.view self.new.register) books }
-        ensures closed { result ≡ Err ToFault.Closed ↔ self.old.is_closed ≡ true }
-        ensures untouched { self.old.is_closed ≡ true → (self.new ≡ self.old) × (writer.new ≡ writer.old) }
-        ensures stays { StaysOpen result self.new.is_closed }
-        ensures later { IsLater (R.view self.old.register) (R.view self.new.register) }
-        ensures blame { BlamesDevice result self.new.is_closed (R.view self.old.register) (R.view self.new.register) }
-        ensures in_memory { R.in_memory ≡ true → self.old.is_closed ≡ false → self.new.is_closed ≡ false }
-        ensures unwritten { result ≡ Err ToFault.WriteFailed → W.may_fail ≡ true }
+        ensures written { IfHolds R.view self.old self.new (λ books.
+            WritesAsked (R.view self.old.register).room books (asked_with questions.Sums []) result (W.contents writer.old) (W.contents writer.new)) }
+        ensures keeps { IfHolds R.view self.old self.new (λ books.
+            Holds self.new.is_closed (R.view self.new.register) books × KeepsPromise self.new.is_closed (R.view self.new.register) books) }
+        ensures ends { EndsReport R.view R.in_memory W.may_fail result self.old self.new writer.old writer.new }
     {
         self.report(alloc, Report::Totals, writer)
     }
@@ -141,17 +126,11 @@ impl<R: Register> Desk<R> {
         report: Report,
         writer: &mut W,
     ) -> Result<Head, ToFault>
-        ensures written { (books : Books) → (R.view self.new.register).is_honest → Holds self.old.is_closed (R.view self.old.register) books
-            → Writes (IsReported (R.view self.old.register).room books report) result (W.contents writer.old) (W.contents writer.new) }
-        ensures keeps { (books : Books) → (R.view self.new.register).is_honest → Holds self.old.is_closed (R.view self.old.register) books
-            → Holds self.new.is_closed (R.view self.new.register) books × KeepsPromise self.new.is_closed (R.view self.new.register) books }
-        ensures closed { result ≡ Err ToFault.Closed ↔ self.old.is_closed ≡ true }
-        ensures untouched { self.old.is_closed ≡ true → (self.new ≡ self.old) × (writer.new ≡ writer.old) }
-        ensures stays { StaysOpen result self.new.is_closed }
-        ensures later { IsLater (R.view self.old.register) (R.view self.new.register) }
-        ensures blame { BlamesDevice result self.new.is_closed (R.view self.old.register) (R.view self.new.register) }
-        ensures in_memory { R.in_memory ≡ true → self.old.is_closed ≡ false → self.new.is_closed ≡ false }
-        ensures unwritten { result ≡ Err ToFault.WriteFailed → W.may_fail ≡ true }
+        ensures written { IfHolds R.view self.old self.new (λ books.
+            Writes (IsReported (R.view self.old.register).room books report) result (W.contents writer.old) (W.contents writer.new)) }
+        ensures keeps { IfHolds R.view self.old self.new (λ books.
+            Holds self.new.is_closed (R.view self.new.register) books × KeepsPromise self.new.is_closed (R.view self.new.register) books) }
+        ensures ends { EndsReport R.view R.in_memory W.may_fail result self.old self.new writer.old writer.new }
     {
         if self.is_closed {
             return Err(ToFault::Closed);
@@ -168,19 +147,16 @@ impl<R: Register> Desk<R> {
         alloc: Global,
         requests: &[Request<'_>],
     ) -> Result<Vec<Result<Reply, Fault>>, Fault>
-        ensures in_turn { IfOk result (λ answers. (books : Books) → (R.view self.new.register).is_honest → Holds self.old.is_closed (R.view self.old.register) books
-            → (last : Books) × AnsweredInTurn (R.view self.old.register).room self.old.is_closed books (map asked_by requests.now) answers.items self.new.is_closed last
+        ensures in_turn { IfOk result (λ answers. IfHolds R.view self.old self.new (λ books.
+            (last : Books) × AnsweredInTurn (R.view self.old.register).room self.old.is_closed books (map asked_by requests.now) answers.items self.new.is_closed last
             × Holds self.new.is_closed (R.view self.new.register) last
             × KeepsPromise self.new.is_closed (R.view self.new.register) last
-            × ActsOnce (R.view self.old.register).room books (map asked_by requests.now) answers.items last) }
+            × ActsOnce (R.view self.old.register).room books (map asked_by requests.now) answers.items last)) }
         ensures err { OnErr result (self.new ≡ self.old) }
         ensures memory { IfErr result (λ fault. fault ≡ Fault.Memory) }
-        ensures later { IsLater (R.view self.old.register) (R.view self.new.register) }
+        ensures left { LeavesDesk R.view R.in_memory self.old self.new }
         ensures stays { self.old.is_closed ≡ true → IfOk result (λ answers. All (λ answer. says_closed answer ≡ true) answers.items) }
-        ensures stays_closed { self.old.is_closed ≡ true → self.new.is_closed ≡ true }
-        ensures untouched { self.old.is_closed ≡ true → self.new ≡ self.old }
         ensures blame { IfOk result (λ answers. IfCounted (R.view self.new.register) (count_by says_storage answers.items + (R.view self.old.register).failures ≤ (R.view self.new.register).failures)) }
-        ensures in_memory { R.in_memory ≡ true → self.old.is_closed ≡ false → self.new.is_closed ≡ false }
     {
         let Ok(mut answers) = Vec::with_capacity(alloc, requests.len()) else {
             return Err(Fault::Memory);
@@ -195,14 +171,9 @@ impl<R: Register> Desk<R> {
     /// Answers what a request is read as, where there was memory to read it.
     fn perform(&mut self, alloc: Global, task: Result<Task, AllocError>) -> Result<Reply, Fault>
         requires formed { IfOk task (λ task. IsFormed task) }
-        ensures answered { (books : Books) → (R.view self.new.register).is_honest → Holds self.old.is_closed (R.view self.old.register) books
-            → IsPerformed (R.view self.old.register).room books task result self.new.is_closed (R.view self.new.register) }
-        ensures closed { self.new.is_closed ≡ says_closed result }
-        ensures stays { self.old.is_closed ≡ true → says_closed result ≡ true }
-        ensures untouched { self.old.is_closed ≡ true → self.new ≡ self.old }
-        ensures later { IsLater (R.view self.old.register) (R.view self.new.register) }
-        ensures blame { BlamesRequest result (R.view self.old.register) (R.view self.new.register) }
-        ensures in_memory { R.in_memory ≡ true → self.old.is_closed ≡ false → says_closed result ≡ false }
+        ensures answered { IfHolds R.view self.old self.new (λ books.
+            IsPerformed (R.view self.old.register).room books task result self.new.is_closed (R.view self.new.register)) }
+        ensures answers { AnswersRequest R.view R.in_memory result self.old self.new }
     {
         if self.is_closed {
             return Err(Fault::Closed);

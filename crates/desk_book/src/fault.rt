@@ -57,7 +57,7 @@ impl Fault {
     }
 }
 
-/// Why an answer was not written to its end. None of these has changed the tables.
+/// Why an answer was not written to its end. No table has changed, where the desk is open after it.
 #[derive(Clone, Copy, Debug, PartialEq, Eq, Error)]
 pub enum ToFault {
     /// The writer failed, or took no byte. Nothing is said of what was written.

@@ -27,7 +27,8 @@ ghost use Rattle.desk_rules.specs.Content.{Content};
 ghost use Rattle.desk_rules.specs.Questions.{sent_reply, status_reply};
 ghost use Rattle.desk_book.specs.Headline.{Headline};
 ghost use Rattle.desk_book.specs.Held.{KeepsFormed};
-ghost use Rattle.desk_book.specs.Asked.{Asked, holdings, sent, status, sums};
+ghost use Rattle.desk_book.specs.declared.requests.question.Question.TheVariants.{Holdings, Sent, Status, Sums};
+ghost use Rattle.desk_book.specs.Asked.{Asked, asked_with};
 ghost use Rattle.desk_book.specs.Statement.{TellsHoldings};
 ghost use Rattle.desk_book.specs.Task.{IsTask};
 ghost use Rattle.desk_rules.specs.declared.history.entry.Entry.{Entry};
@@ -102,8 +103,8 @@ pub fn accepted_stays()
 /// well formed, they agree: of each security the accounts hold just what is outstanding, and of each currency the
 /// participants just what was paid in less what was paid out.
 pub fn sums_agree()
-    ensures { (limit : ℕ) (was is : Bool) (books last next : Books) (requests : List Asked) (answers : List (Result Reply Fault)) (reply : Reply)
-        → AreAccepted limit books → AnsweredInTurn limit was books requests answers is last → Step limit last sums (Ok reply) next
+    ensures { (limit : ℕ) (was is : Bool) (books last next : Books) (requests : List Asked) (answers : List (Result Reply Fault)) (text : List ℕ) (reply : Reply)
+        → AreAccepted limit books → AnsweredInTurn limit was books requests answers is last → Step limit last (asked_with Sums text) (Ok reply) next
         → (told : IsToldSums last reply next) × Agree told.cash told.securities }
 {}
 
@@ -116,11 +117,11 @@ pub fn headline()
 /// sent to it, or what an account of its own holds. A text that is no reference, or names no account, is one that no well
 /// formed entry has.
 pub fn questions_answered()
-    ensures status { (limit : ℕ) (books after : Books) (sender text : List ℕ) (reply : Reply) → AreWellFormed books.history → Step limit books (status sender text) (Ok reply) after
+    ensures status { (limit : ℕ) (books after : Books) (sender text : List ℕ) (reply : Reply) → AreWellFormed books.history → Step limit books (asked_with (Status sender) text) (Ok reply) after
         → (reply ≡ status_reply books sender text) × (after ≡ books) }
-    ensures sent { (limit : ℕ) (books after : Books) (receiver : List ℕ) (number : ℕ) (reply : Reply) → Step limit books (sent receiver number) (Ok reply) after
+    ensures sent { (limit : ℕ) (books after : Books) (receiver text : List ℕ) (number : ℕ) (reply : Reply) → Step limit books (asked_with (Sent receiver number) text) (Ok reply) after
         → (reply ≡ sent_reply books receiver number) × (after ≡ books) }
-    ensures holdings { (limit : ℕ) (books after : Books) (owner text : List ℕ) (reply : Reply) → AreWellFormed books.history → Step limit books (holdings owner text) (Ok reply) after
+    ensures holdings { (limit : ℕ) (books after : Books) (owner text : List ℕ) (reply : Reply) → AreWellFormed books.history → Step limit books (asked_with (Holdings owner) text) (Ok reply) after
         → TellsHoldings books owner (Some text) reply × (after ≡ books) }
 {}
 

@@ -1,12 +1,13 @@
 //! Requests to replies: what is asked of the desk, as a script, an operator's command or a message, and how
 //! its answers are written.
 //!
-//! Begin with `Request` in `request.rt`. What a script asks stands in specs/Script.antt, which lines ask
+//! Begin with `Question` and `Request` in `question.rt`. What a script asks stands in specs/Script.antt, which lines ask
 //! something in specs/Forms.antt; `first_item` of `script.rt` reads one. `task_of` says what a request is read as,
 //! `Desk::ask` (`desk.rt`, `answering.rt`, `questions.rt`) answers it, and `Desk::play` (`playing.rt`) a whole script.
 //! Statements (`statement.rt`) and sums (`summing.rt`) are written row by row, as they are read: `Desk::holdings_to` and
 //! `Desk::sums_to` (`telling.rt`) write them to any `Sink`, which specs/WrittenTo.antt speaks of, and `ask` to memory. What
-//! may be relied on after every answer stands in specs/Headline.antt.
+//! may be relied on after every answer stands in specs/Headline.antt, and what each call leaves of a desk in
+//! specs/Left.antt.
 #![tactic(auto)]
 
 mod answers;
@@ -29,9 +30,9 @@ pub use laws::{
 };
 pub use limits::{LONGEST_LINE, LONGEST_NUMBER, LONGEST_SCRIPT, MOST_DIGITS, PIECE};
 pub use requests::command::read_command;
-pub use requests::form::{count_of, instruction_type, number_of, party};
+pub use requests::form::{count_of, number_of, party};
 pub use requests::line::{first_line, has_body, is_skipped, is_stop, said_by};
-pub use requests::request::Request;
+pub use requests::question::{InstructionType, Question, Request};
 pub use requests::script::{Item, first_item, item_count};
 pub use requests::task::{Task, task_of};
 pub use streams::outbox::Outbox;

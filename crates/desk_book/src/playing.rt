@@ -1,11 +1,10 @@
 //! A script, from a reader to a writer.
-ghost use Rattle.std.specs.Prelude.{◌≡◌, ℕ, ◌+◌, List, [], ◌∷◌, true, false, ◌<◌, ◌≤◌, length, IfSome, OnErr, OnOk, Result, Err};
+ghost use Rattle.std.specs.Prelude.{◌≡◌, ℕ, ◌+◌, List, [], ◌∷◌, true, ◌<◌, ◌≤◌, length, IfSome, OnErr, OnOk, Result, Err};
 ghost use Rattle.std.specs.Io.KnownBytes.{Consumes, append_known};
 ghost use Rattle.desk_rules.specs.declared.answers.reply.Reply.{Reply};
-ghost use Rattle.desk_rules.specs.Books.{Books};
-ghost use Rattle.desk_register.specs.View.{IsLater};
 ghost use Rattle.desk_book.specs.declared.fault.Fault.{Fault};
-ghost use Rattle.desk_book.specs.Held.{Holds};
+ghost use Rattle.desk_book.specs.Held.{IfHolds};
+ghost use Rattle.desk_book.specs.Left.{LeavesDesk};
 ghost use Rattle.desk_book.specs.Played.{HasPlayed, PlaysFront, PlaysScript};
 ghost use Rattle.desk_book.specs.Items.{PlaysItem};
 ghost use Rattle.desk_book.specs.Script.{item_of};
@@ -33,21 +32,18 @@ impl<R: Register> Desk<R> {
         reader: &mut I,
         writer: &mut O,
     ) -> Result<(), PlayFault>
-        ensures played { OnOk result ((books : Books) → (R.view self.new.register).is_honest → Holds self.old.is_closed (R.view self.old.register) books
-            → (script : List ℕ) × IfSome (I.remaining reader.old) (λ input. input ≡ script) × (length script ≤ LONGEST_SCRIPT)
-            × PlaysScript self.old.is_closed books script (O.contents writer.old) (O.contents writer.new) self.new.is_closed (R.view self.old.register) (R.view self.new.register)) }
+        ensures played { OnOk result (IfHolds R.view self.old self.new (λ books.
+            (script : List ℕ) × IfSome (I.remaining reader.old) (λ input. input ≡ script) × (length script ≤ LONGEST_SCRIPT)
+            × PlaysScript self.old.is_closed books script (O.contents writer.old) (O.contents writer.new) self.new.is_closed (R.view self.old.register) (R.view self.new.register))) }
         ensures unread { result ≡ Err PlayFault.ReadFailed → (self.new ≡ self.old) × (writer.new ≡ writer.old) × (I.may_fail ≡ true) }
         ensures too_long { result ≡ Err PlayFault.TooLong → (self.new ≡ self.old) × (writer.new ≡ writer.old) × IfSome (I.remaining reader.old) (λ input. LONGEST_SCRIPT < length input) }
         ensures memory { result ≡ Err PlayFault.Memory → (self.new ≡ self.old) × (writer.new ≡ writer.old) × (reader.new ≡ reader.old) }
-        ensures stands { result ≡ Err PlayFault.WriteFailed → (books : Books) → (R.view self.new.register).is_honest → Holds self.old.is_closed (R.view self.old.register) books
-            → (script : List ℕ) × IfSome (I.remaining reader.old) (λ input. input ≡ script) × (length script ≤ LONGEST_SCRIPT)
-            × PlaysFront self.old.is_closed books script self.new.is_closed (R.view self.old.register) (R.view self.new.register) }
+        ensures stands { result ≡ Err PlayFault.WriteFailed → IfHolds R.view self.old self.new (λ books.
+            (script : List ℕ) × IfSome (I.remaining reader.old) (λ input. input ≡ script) × (length script ≤ LONGEST_SCRIPT)
+            × PlaysFront self.old.is_closed books script self.new.is_closed (R.view self.old.register) (R.view self.new.register)) }
         ensures unwritten { result ≡ Err PlayFault.WriteFailed → O.may_fail ≡ true }
         ensures taken { (taken : List ℕ) × Consumes (I.remaining reader.old) (I.remaining reader.new) taken × (length taken ≤ LONGEST_SCRIPT + 1) }
-        ensures stays { self.old.is_closed ≡ true → self.new.is_closed ≡ true }
-        ensures untouched { self.old.is_closed ≡ true → self.new ≡ self.old }
-        ensures later { IsLater (R.view self.old.register) (R.view self.new.register) }
-        ensures in_memory { R.in_memory ≡ true → self.old.is_closed ≡ false → self.new.is_closed ≡ false }
+        ensures left { LeavesDesk R.view R.in_memory self.old self.new }
     {
         let Ok(mut outbox) = Outbox::new(alloc) else {
             return Err(PlayFault::Memory);
@@ -69,15 +65,12 @@ impl<R: Register> Desk<R> {
     ) -> io::Result<()>
         requires room { HasRoom outbox.old }
         requires empty { waits outbox.old ≡ [] }
-        ensures played { (books : Books) → (R.view self.new.register).is_honest → Holds self.old.is_closed (R.view self.old.register) books
-            → OnOk result (PlaysScript self.old.is_closed books script.now (O.contents writer.old) (O.contents writer.new) self.new.is_closed (R.view self.old.register) (R.view self.new.register)) }
-        ensures front { (books : Books) → (R.view self.new.register).is_honest → Holds self.old.is_closed (R.view self.old.register) books
-            → PlaysFront self.old.is_closed books script.now self.new.is_closed (R.view self.old.register) (R.view self.new.register) }
+        ensures played { IfHolds R.view self.old self.new (λ books.
+            OnOk result (PlaysScript self.old.is_closed books script.now (O.contents writer.old) (O.contents writer.new) self.new.is_closed (R.view self.old.register) (R.view self.new.register))) }
+        ensures front { IfHolds R.view self.old self.new (λ books.
+            PlaysFront self.old.is_closed books script.now self.new.is_closed (R.view self.old.register) (R.view self.new.register)) }
         ensures failed { OnErr result (O.may_fail ≡ true) }
-        ensures stays { self.old.is_closed ≡ true → self.new.is_closed ≡ true }
-        ensures untouched { self.old.is_closed ≡ true → self.new ≡ self.old }
-        ensures later { IsLater (R.view self.old.register) (R.view self.new.register) }
-        ensures in_memory { R.in_memory ≡ true → self.old.is_closed ≡ false → self.new.is_closed ≡ false }
+        ensures left { LeavesDesk R.view R.in_memory self.old self.new }
     {
         let mut rest = script;
         'items: while let Some((item, after)) = first_item(rest) {
@@ -97,15 +90,12 @@ impl<R: Register> Desk<R> {
     ) -> io::Result<()>
         requires room { HasRoom outbox.old }
         ensures room { OnOk result (HasRoom outbox.new) }
-        ensures played { (books : Books) → (R.view self.new.register).is_honest → Holds self.old.is_closed (R.view self.old.register) books
-            → OnOk result (PlaysItem self.old.is_closed books (item_of item.now) (append_known (O.contents writer.old) (waits outbox.old)) (append_known (O.contents writer.new) (waits outbox.new)) self.new.is_closed (R.view self.old.register) (R.view self.new.register)) }
-        ensures front { (books : Books) → (R.view self.new.register).is_honest → Holds self.old.is_closed (R.view self.old.register) books
-            → (answers : List (Result Reply Fault)) × HasPlayed self.old.is_closed books (item_of item.now ∷ []) answers self.new.is_closed (R.view self.old.register) (R.view self.new.register) }
+        ensures played { IfHolds R.view self.old self.new (λ books.
+            OnOk result (PlaysItem self.old.is_closed books (item_of item.now) (append_known (O.contents writer.old) (waits outbox.old)) (append_known (O.contents writer.new) (waits outbox.new)) self.new.is_closed (R.view self.old.register) (R.view self.new.register))) }
+        ensures front { IfHolds R.view self.old self.new (λ books.
+            (answers : List (Result Reply Fault)) × HasPlayed self.old.is_closed books (item_of item.now ∷ []) answers self.new.is_closed (R.view self.old.register) (R.view self.new.register)) }
         ensures failed { OnErr result (O.may_fail ≡ true) }
-        ensures stays { self.old.is_closed ≡ true → self.new.is_closed ≡ true }
-        ensures untouched { self.old.is_closed ≡ true → self.new ≡ self.old }
-        ensures later { IsLater (R.view self.old.register) (R.view self.new.register) }
-        ensures in_memory { R.in_memory ≡ true → self.old.is_closed ≡ false → self.new.is_closed ≡ false }
+        ensures left { LeavesDesk R.view R.in_memory self.old self.new }
     {
         match item {
             Item::Ask(request) => match self.ask(alloc, request) {

@@ -4,6 +4,6 @@ pub mod form;
 pub mod line;
 pub mod member;
 pub mod operation;
-pub mod request;
+pub mod question;
 pub mod script;
 pub mod task;

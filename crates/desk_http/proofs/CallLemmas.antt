@@ -6,14 +6,14 @@ use Rattle.httparse.specs.Spans.{name_and_value}
 use Rattle.std.specs.Cmp.Lexicographic.{pointwise}
 use Rattle.desk_codes.proofs.BicLemmas.{other_bytes, same_bytes}
 use Rattle.desk_codes.specs.Number.{number_of}
+use Rattle.desk_book.specs.declared.requests.question.Question.{Question}
+use Rattle.desk_book.specs.Asked.{has_text}
 use Rattle.desk_http.specs.declared.call.Call.{Call}
 use Rattle.desk_http.specs.declared.refusal.Refusal.{Refusal}
 use Rattle.desk_http.specs.declared.refusal.Refusal.TheVariants.{NotFound, MethodNotAllowed, PayloadTooLarge}
-use Rattle.desk_http.specs.declared.resource.Resource.{Resource}
 use Rattle.desk_http.specs.Connection.{Calls, nowhere, other_method, nothing, bodiless, posted, no_length}
 use Rattle.desk_http.specs.Length.{BodyLength, Fields, LengthBy, LengthUnder, within_limit}
-use Rattle.desk_http.specs.Paths.{IsPath, Path, has_body, method_of}
-use Rattle.desk_http.specs.Resources.{Names}
+use Rattle.desk_http.specs.Paths.{IsPath, Names, Path, method_of}
 
 -- A body keeps the limit.
 
@@ -66,22 +66,22 @@ no_path h target e none = nowhere (λ path is. none path (subst (λ t. IsPath pa
 pub no_method : (h : RequestHead) (target method : List ℕ) (path : Path) → target ≡ h.target → method ≡ h.method → IsPath path target → method ≢ method_of path → Calls h (Err MethodNotAllowed)
 no_method h target method path e m is other = other_method path (subst (λ t. IsPath path t) e is) (λ same. other (m ∙ same))
 
-pub no_name : (h : RequestHead) (target method : List ℕ) (path : Path) → target ≡ h.target → method ≡ h.method → IsPath path target → method ≡ method_of path → ((resource : Resource) → Names path resource → ⊥) → Calls h (Err NotFound)
+pub no_name : (h : RequestHead) (target method : List ℕ) (path : Path) → target ≡ h.target → method ≡ h.method → IsPath path target → method ≡ method_of path → ((question : Question) → Names path question → ⊥) → Calls h (Err NotFound)
 no_name h target method path e m is same none = nothing path (subst (λ t. IsPath path t) e is) (sym m ∙ same) none
 
-pub length_refused : (h : RequestHead) (target method : List ℕ) (path : Path) (resource : Resource) (fields : Fields) (refusal : Refusal) → target ≡ h.target → method ≡ h.method → IsPath path target → method ≡ method_of path
-    → Names path resource → fields ≡ map name_and_value h.fields → (has_body path ≡ true → BodyLength fields (Err refusal)) → (has_body path ≡ false → Same (Err refusal) (Ok 0)) → Calls h (Err refusal)
-length_refused h target method path resource fields refusal e m is same names f with without = by (has_body path) refl
+pub length_refused : (h : RequestHead) (target method : List ℕ) (path : Path) (question : Question) (fields : Fields) (refusal : Refusal) → target ≡ h.target → method ≡ h.method → IsPath path target → method ≡ method_of path
+    → Names path question → fields ≡ map name_and_value h.fields → (has_text question ≡ true → BodyLength fields (Err refusal)) → (has_text question ≡ false → Same (Err refusal) (Ok 0)) → Calls h (Err refusal)
+length_refused h target method path question fields refusal e m is same names f with without = by (has_text question) refl
   where
-    by : (q : Bool) → has_body path ≡ q → Calls h (Err refusal)
-    by true q = no_length path resource (subst (λ t. IsPath path t) e is) (sym m ∙ same) names q (subst (λ l. BodyLength l (Err refusal)) f (with q))
+    by : (q : Bool) → has_text question ≡ q → Calls h (Err refusal)
+    by true q = no_length path question (subst (λ t. IsPath path t) e is) (sym m ∙ same) names q (subst (λ l. BodyLength l (Err refusal)) f (with q))
     by false q = let never : Same (Err refusal) (Ok 0) = without q in cc
 
-pub called : (h : RequestHead) (target method : List ℕ) (path : Path) (resource : Resource) (fields : Fields) (count : ℕ) → target ≡ h.target → method ≡ h.method → IsPath path target → method ≡ method_of path
-    → Names path resource → fields ≡ map name_and_value h.fields → (has_body path ≡ true → BodyLength fields (Ok count)) → (has_body path ≡ false → Same (Ok count) (Ok 0)) → Calls h (Ok (record { resource = resource; length = count }))
-called h target method path resource fields count e m is same names f with without = by (has_body path) refl
+pub called : (h : RequestHead) (target method : List ℕ) (path : Path) (question : Question) (fields : Fields) (count : ℕ) → target ≡ h.target → method ≡ h.method → IsPath path target → method ≡ method_of path
+    → Names path question → fields ≡ map name_and_value h.fields → (has_text question ≡ true → BodyLength fields (Ok count)) → (has_text question ≡ false → Same (Ok count) (Ok 0)) → Calls h (Ok (record { question = question; length = count }))
+called h target method path question fields count e m is same names f with without = by (has_text question) refl
   where
-    by : (q : Bool) → has_body path ≡ q → Calls h (Ok (record { resource = resource; length = count }))
+    by : (q : Bool) → has_text question ≡ q → Calls h (Ok (record { question = question; length = count }))
     by true q = posted path (subst (λ t. IsPath path t) e is) (sym m ∙ same) names q (subst (λ l. BodyLength l (Ok count)) f (with q))
     by false q =
         let zero : Same (Ok count) (Ok 0) = without q in

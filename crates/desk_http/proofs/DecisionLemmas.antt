@@ -10,7 +10,7 @@ use Rattle.httparse.specs.declared.spans.RequestSpans.{RequestSpans}
 use Rattle.httparse.specs.Grammar.{RequestHead, ReadsRequest, HasNoRequest, NeverHasRequest, MayBecomeRequest, print_request}
 use Rattle.httparse.specs.Spans.{IsRequestAt, IsRequestOf, IsRequestWithin, RequestExceeds, RequestOverflows}
 use Rattle.httparse.proofs.GrammarLemmas.{ReadsRequest-append}
-use Rattle.desk_book.specs.Asked.{Asked}
+use Rattle.desk_book.specs.Asked.{Asked, asked_with}
 use Rattle.desk_http.specs.declared.call.Call.{Call}
 use Rattle.desk_http.specs.declared.decision.Decision.TheVariants.{Asks, Wants}
 use Rattle.desk_http.specs.declared.refusal.Refusal.{Refusal}
@@ -18,7 +18,6 @@ use Rattle.desk_http.specs.declared.refusal.Refusal.TheVariants.{BadRequest, Hea
 use Rattle.desk_http.specs.Connection.{Calls, Connection, HasHead, RefusesHead, front, no_head, refused, whole, cut}
 use Rattle.desk_http.specs.Decisions.{Decides, HasCall, IsDecision}
 use Rattle.desk_http.specs.Refusals.{refusal_of_error}
-use Rattle.desk_http.specs.Resources.{asked_of}
 use Rattle.desk_http.proofs.CallLemmas.{call_fits}
 
 -- Bytes behind.
@@ -75,14 +74,14 @@ asks_it bytes call start h fits =
     let long = long_is bytes h.head h.rest h.has in
     let place = h.place in
     let enough : call.length ≤ length h.rest = omega arith in
-    let P : List ℕ → Type 0 = λ body. (more : List ℕ) → Connection (bytes ++ more) (Ok (asked_of call.resource body)) in
+    let P : List ℕ → Type 0 = λ body. (more : List ℕ) → Connection (bytes ++ more) (Ok (asked_with call.question body)) in
     let is : take call.length h.rest ≡ take call.length (drop start bytes) = ap (λ l. take call.length l) (sym (rest_is bytes h.head h.rest h.has)) ∙ ap (λ k. take call.length (drop k bytes)) (sym place) in (
       omega arith,
       subst P is (λ more. by more (whole call h.head (h.rest ++ more) (head_then bytes more h.head h.rest h.has) h.calls (omega (arith, length-append h.rest more))) (take-append-le call.length h.rest more enough)),
     )
   where
-    by : (more : List ℕ) {a b : List ℕ} → Connection (bytes ++ more) (Ok (asked_of call.resource a)) → a ≡ b → Connection (bytes ++ more) (Ok (asked_of call.resource b))
-    by more c e = subst (λ l. Connection (bytes ++ more) (Ok (asked_of call.resource l))) e c
+    by : (more : List ℕ) {a b : List ℕ} → Connection (bytes ++ more) (Ok (asked_with call.question a)) → a ≡ b → Connection (bytes ++ more) (Ok (asked_with call.question b))
+    by more c e = subst (λ l. Connection (bytes ++ more) (Ok (asked_with call.question l))) e c
 
 pub wants_it : (bytes : List ℕ) (call : Call) (start : ℕ) → HasCall bytes call start → length bytes - start < call.length → IsDecision bytes (Wants (start + call.length))
 wants_it bytes call start h short =
@@ -198,6 +197,6 @@ outcome_then stream more outcome (no_head {refusal} h) other = by refusal h othe
     by refusal h other = absurd h
 outcome_then stream more outcome (refused head rest has calls) other = refused head (rest ++ more) (head_then stream more head rest has) calls
 outcome_then stream more outcome (whole call head rest has calls enough) other =
-    let P : List ℕ → Type 0 = λ body. Connection (stream ++ more) (Ok (asked_of call.resource body)) in
+    let P : List ℕ → Type 0 = λ body. Connection (stream ++ more) (Ok (asked_with call.question body)) in
     subst P (take-append-le call.length rest more enough) (whole call head (rest ++ more) (head_then stream more head rest has) calls (omega (arith, length-append rest more)))
 outcome_then stream more outcome (cut call head rest has calls short) other = absurd (other refl)

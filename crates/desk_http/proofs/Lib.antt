@@ -2,7 +2,7 @@ pub mod CallLemmas
 pub mod DecisionLemmas
 pub mod FieldLemmas
 pub mod OutcomeLemmas
-pub mod ResourceLemmas
+pub mod QuestionLemmas
 pub mod ResponseLemmas
 pub mod RouteLemmas
 pub mod ServeLemmas

@@ -5,21 +5,18 @@ use Rattle.std.proofs.lemmas.List.{append_cancel_left, take_all, take-append-dro
 use Rattle.httparse.specs.Grammar.{RequestHead, ReadsRequest, HasNoRequest, print_request}
 use Rattle.httparse.specs.Spans.{name_and_value}
 use Rattle.httparse.proofs.GrammarLemmas.{request_unique}
-use Rattle.desk_msg.specs.declared.mt.Mt.{Mt}
-use Rattle.desk_msg.specs.declared.mt.Mt.TheVariants.{Mt540, Mt541, Mt542, Mt543, Mt544, Mt545, Mt546, Mt547}
-use Rattle.desk_msg.specs.MessageType.{digits_of_type}
-use Rattle.desk_book.specs.Asked.{Asked}
+use Rattle.desk_book.specs.declared.requests.question.Question.{Question}
+use Rattle.desk_book.specs.declared.requests.question.Question.TheVariants.{Message, Operator, Status, Holdings, Sent, Sums}
+use Rattle.desk_book.specs.Asked.{Asked, asked_with, has_text}
+use Rattle.desk_book.proofs.OneReading.{same_kind}
 use Rattle.desk_http.specs.declared.call.Call.{Call}
 use Rattle.desk_http.specs.declared.refusal.Refusal.{Refusal}
 use Rattle.desk_http.specs.declared.refusal.Refusal.TheVariants.{BadRequest, NotFound, MethodNotAllowed, HeaderFieldsTooLarge}
-use Rattle.desk_http.specs.declared.resource.Resource.{Resource}
-use Rattle.desk_http.specs.declared.resource.Resource.TheVariants.{Message, Operator, Status, Holdings, Sent, Sums}
 use Rattle.desk_http.specs.declared.route.Route.{Route}
 use Rattle.desk_http.specs.declared.route.Route.TheVariants as routes
 use Rattle.desk_http.specs.Connection.{Calls, Connection, HasHead, IsLeftOpen, RefusesHead, front, nowhere, other_method, nothing, bodiless, posted, no_length, no_head, refused, whole, cut}
 use Rattle.desk_http.specs.Length.{BodyLength, LengthBy, LengthUnder}
-use Rattle.desk_http.specs.Paths.{IsPath, Path, message, operator, status, holdings, sent, sums, has_body, method_of}
-use Rattle.desk_http.specs.Resources.{Names, asked_of}
+use Rattle.desk_http.specs.Paths.{IsPath, Names, Path, message, operator, status, holdings, sent, sums, method_of}
 use Rattle.desk_http.specs.Rows.{route_of}
 use Rattle.desk_http.proofs.DecisionLemmas.{take_then}
 use Rattle.desk_http.proofs.RouteLemmas.{same_cut}
@@ -61,62 +58,48 @@ path_by p q target e _ _ = cc
 path_is : (p q : Path) (target : List ℕ) → IsPath p target → IsPath q target → p ≡ q
 path_is p q target a b = path_by p q target (sym (route_is p target a) ∙ route_is q target b) a b
 
--- A path names one resource.
+-- A path names one question.
 
-type_is : (a b : Mt) → digits_of_type a ≡ digits_of_type b → a ≡ b
-type_is a b e = by a b e
+question_is : (path : Path) (r s : Question) → Names path r → Names path s → r ≡ s
+question_is (message bic mt) r s n m = by r s n m
   where
-    by : (a b : Mt) → digits_of_type a ≡ digits_of_type b → a ≡ b
-    by Mt540 Mt540 e = refl
-    by Mt541 Mt541 e = refl
-    by Mt542 Mt542 e = refl
-    by Mt543 Mt543 e = refl
-    by Mt544 Mt544 e = refl
-    by Mt545 Mt545 e = refl
-    by Mt546 Mt546 e = refl
-    by Mt547 Mt547 e = refl
-    by a b e = let last : get_or (digits_of_type a) 2 0 ≡ get_or (digits_of_type b) 2 0 = ap (λ l. get_or l 2 0) e in absurd (omega arith)
-
-resource_is : (path : Path) (r s : Resource) → Names path r → Names path s → r ≡ s
-resource_is (message bic mt) r s n m = by r s n m
-  where
-    by : (r s : Resource) → Names (message bic mt) r → Names (message bic mt) s → r ≡ s
+    by : (r s : Question) → Names (message bic mt) r → Names (message bic mt) s → r ≡ s
     by (Message x t) (Message y u) n m =
         let who : x ≡ y = n.0.0 ∙ sym m.0.0 in
-        let what : t ≡ u = type_is t u (n.2 ∙ sym m.2) in
+        let what : t ≡ u = same_kind t u (n.1 ∙ sym m.1) in
         rw (who, what) refl
     by (Message x t) s n m = absurd m
     by r s n m = absurd n
-resource_is operator r s n m = by r s n m
+question_is operator r s n m = by r s n m
   where
-    by : (r s : Resource) → Names operator r → Names operator s → r ≡ s
+    by : (r s : Question) → Names operator r → Names operator s → r ≡ s
     by Operator Operator n m = refl
     by Operator s n m = absurd m
     by r s n m = absurd n
-resource_is (status bic) r s n m = by r s n m
+question_is (status bic) r s n m = by r s n m
   where
-    by : (r s : Resource) → Names (status bic) r → Names (status bic) s → r ≡ s
+    by : (r s : Question) → Names (status bic) r → Names (status bic) s → r ≡ s
     by (Status x) (Status y) n m = ap Status (n.0 ∙ sym m.0)
     by (Status x) s n m = absurd m
     by r s n m = absurd n
-resource_is (holdings bic) r s n m = by r s n m
+question_is (holdings bic) r s n m = by r s n m
   where
-    by : (r s : Resource) → Names (holdings bic) r → Names (holdings bic) s → r ≡ s
+    by : (r s : Question) → Names (holdings bic) r → Names (holdings bic) s → r ≡ s
     by (Holdings x) (Holdings y) n m = ap Holdings (n.0 ∙ sym m.0)
     by (Holdings x) s n m = absurd m
     by r s n m = absurd n
-resource_is (sent bic number) r s n m = by r s n m
+question_is (sent bic number) r s n m = by r s n m
   where
-    by : (r s : Resource) → Names (sent bic number) r → Names (sent bic number) s → r ≡ s
+    by : (r s : Question) → Names (sent bic number) r → Names (sent bic number) s → r ≡ s
     by (Sent x k) (Sent y l) n m =
         let who : x ≡ y = n.0.0 ∙ sym m.0.0 in
         let what : k ≡ l = n.1.is ∙ sym m.1.is in
         rw (who, what) refl
     by (Sent x k) s n m = absurd m
     by r s n m = absurd n
-resource_is sums r s n m = by r s n m
+question_is sums r s n m = by r s n m
   where
-    by : (r s : Resource) → Names sums r → Names sums s → r ≡ s
+    by : (r s : Question) → Names sums r → Names sums s → r ≡ s
     by Sums Sums n m = refl
     by Sums s n m = absurd m
     by r s n m = absurd n
@@ -137,18 +120,18 @@ under_is (encoding ∷ encodings) lengths a b x y = x ∙ sym y
 
 -- A head calls for one thing.
 
-abbrev call_with : Resource → Result ℕ Refusal → Result Call Refusal
-call_with resource (Ok count) = Ok (record { resource = resource; length = count })
-call_with resource (Err refusal) = Err refusal
+abbrev call_with : Question → Result ℕ Refusal → Result Call Refusal
+call_with question (Ok count) = Ok (record { question = question; length = count })
+call_with question (Err refusal) = Err refusal
 
-abbrev OnResource : RequestHead → Path → Resource → Result Call Refusal → Type 0
-OnResource h path resource x =
-    ((has_body path ≡ false) × (x ≡ call_with resource (Ok 0)))
-    ⊎ ((has_body path ≡ true) × (count : Result ℕ Refusal) × BodyLength (map name_and_value h.fields) count × (x ≡ call_with resource count))
+abbrev OnQuestion : RequestHead → Path → Question → Result Call Refusal → Type 0
+OnQuestion h path question x =
+    ((has_text question ≡ false) × (x ≡ call_with question (Ok 0)))
+    ⊎ ((has_text question ≡ true) × (count : Result ℕ Refusal) × BodyLength (map name_and_value h.fields) count × (x ≡ call_with question count))
 
 abbrev OnMethod : RequestHead → Path → Result Call Refusal → Type 0
 OnMethod h path x =
-    (((resource : Resource) → ¬ Names path resource) × (x ≡ Err NotFound)) ⊎ ((resource : Resource) × Names path resource × OnResource h path resource x)
+    (((question : Question) → ¬ Names path question) × (x ≡ Err NotFound)) ⊎ ((question : Question) × Names path question × OnQuestion h path question x)
 
 abbrev OnPath : RequestHead → Path → Result Call Refusal → Type 0
 OnPath h path x = ((h.method ≢ method_of path) × (x ≡ Err MethodNotAllowed)) ⊎ ((h.method ≡ method_of path) × OnMethod h path x)
@@ -161,24 +144,24 @@ on_target h x (nowhere none) = inl (none, refl)
 on_target h x (other_method path is other) = inr (path, is, inl (other, refl))
 on_target h x (nothing path is method none) = inr (path, is, inr (method, inl (none, refl)))
 on_target h x (bodiless {call} path is method names no_body zero) =
-    let same : call ≡ record { resource = call.resource; length = 0 } = ap (λ n. record { resource = call.resource; length = n }) zero in
-    inr (path, is, inr (method, inr (call.resource, names, inl (no_body, ap Ok same))))
-on_target h x (posted {call} path is method names body length) = inr (path, is, inr (method, inr (call.resource, names, inr (body, Ok call.length, length, refl))))
-on_target h x (no_length {refusal} path resource is method names body length) = inr (path, is, inr (method, inr (resource, names, inr (body, Err refusal, length, refl))))
+    let same : call ≡ record { question = call.question; length = 0 } = ap (λ n. record { question = call.question; length = n }) zero in
+    inr (path, is, inr (method, inr (call.question, names, inl (no_body, ap Ok same))))
+on_target h x (posted {call} path is method names body length) = inr (path, is, inr (method, inr (call.question, names, inr (body, Ok call.length, length, refl))))
+on_target h x (no_length {refusal} path question is method names body length) = inr (path, is, inr (method, inr (question, names, inr (body, Err refusal, length, refl))))
 
-by_resource : (h : RequestHead) (path : Path) (resource : Resource) (x y : Result Call Refusal) → OnResource h path resource x → OnResource h path resource y → x ≡ y
-by_resource h path resource x y (inl a) (inl b) = a.1 ∙ sym b.1
-by_resource h path resource x y (inl a) (inr b) = let bad = sym a.0 ∙ b.0 in cc
-by_resource h path resource x y (inr a) (inl b) = let bad = sym a.0 ∙ b.0 in cc
-by_resource h path resource x y (inr a) (inr b) = a.3 ∙ ap (call_with resource) (under_is _ _ a.1 b.1 a.2 b.2) ∙ sym b.3
+by_question : (h : RequestHead) (path : Path) (question : Question) (x y : Result Call Refusal) → OnQuestion h path question x → OnQuestion h path question y → x ≡ y
+by_question h path question x y (inl a) (inl b) = a.1 ∙ sym b.1
+by_question h path question x y (inl a) (inr b) = let bad = sym a.0 ∙ b.0 in cc
+by_question h path question x y (inr a) (inl b) = let bad = sym a.0 ∙ b.0 in cc
+by_question h path question x y (inr a) (inr b) = a.3 ∙ ap (call_with question) (under_is _ _ a.1 b.1 a.2 b.2) ∙ sym b.3
 
 by_method : (h : RequestHead) (path : Path) (x y : Result Call Refusal) → OnMethod h path x → OnMethod h path y → x ≡ y
 by_method h path x y (inl a) (inl b) = a.1 ∙ sym b.1
 by_method h path x y (inl a) (inr b) = absurd (a.0 b.0 b.1)
 by_method h path x y (inr a) (inl b) = absurd (b.0 a.0 a.1)
 by_method h path x y (inr a) (inr b) =
-    let P : Resource → Type 0 = λ r. OnResource h path r y in
-    by_resource h path a.0 x y a.2 (subst P (resource_is path b.0 a.0 b.1 a.1) b.2)
+    let P : Question → Type 0 = λ r. OnQuestion h path r y in
+    by_question h path a.0 x y a.2 (subst P (question_is path b.0 a.0 b.1 a.1) b.2)
 
 by_path : (h : RequestHead) (path : Path) (x y : Result Call Refusal) → OnPath h path x → OnPath h path y → x ≡ y
 by_path h path x y (inl a) (inl b) = a.1 ∙ sym b.1
@@ -200,7 +183,7 @@ call_is h x y a b = by_target h x y (on_target h x a) (on_target h y b)
 -- A stream.
 
 abbrev outcome_of : Result Call Refusal → List ℕ → Result Asked Refusal
-outcome_of (Ok call) rest = if nat_le call.length (length rest) then Ok (asked_of call.resource (take call.length rest)) else Err BadRequest
+outcome_of (Ok call) rest = if nat_le call.length (length rest) then Ok (asked_with call.question (take call.length rest)) else Err BadRequest
 outcome_of (Err refusal) rest = Err refusal
 
 abbrev Refused : List ℕ → Result Asked Refusal → Type 0

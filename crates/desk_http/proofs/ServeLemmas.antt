@@ -1,14 +1,17 @@
 -- A connection's request, asked once, and its response.
-use Rattle.std.proofs.Common.{◌≡◌, ℕ, ◌+◌, ◌≤◌, Bool, true, List, [], ◌∷◌, count_by, Option, IfSome, Result, Ok, Err, OnOk, refl, sym, ap, subst, ◌∙◌, arith}
+use Rattle.std.proofs.Common.{◌≡◌, ℕ, ◌+◌, ◌≤◌, Bool, List, [], ◌∷◌, count_by, Option, IfSome, Result, Ok, Err, OnOk, refl, sym, ap, subst, ◌∙◌, arith}
 use Rattle.std.specs.Io.KnownBytes.{Appends}
 use Rattle.desk_rules.specs.declared.answers.reply.Reply.{Reply}
 use Rattle.desk_rules.specs.Books.{Books}
-use Rattle.desk_register.specs.View.{View, IfCounted, IsLater}
+use Rattle.desk_register.specs.View.{View, IfCounted}
 use Rattle.desk_book.specs.declared.fault.Fault.{Fault}
-use Rattle.desk_book.specs.Answered.{BlamesRequest, says_closed, says_storage}
+use Rattle.desk_book.specs.Answered.{says_storage}
 use Rattle.desk_book.specs.Asked.{Asked}
+use Rattle.desk_book.specs.DeskValue.{DeskValue}
 use Rattle.desk_book.specs.Held.{Holds, Steps}
+use Rattle.desk_book.specs.Left.{AnswersRequest}
 use Rattle.desk_book.proofs.HeadlineLemmas.{promised}
+use Rattle.desk_book.proofs.LeftLemmas.{says_so}
 use Rattle.desk_book.proofs.RunLemmas.{counted_one}
 use Rattle.desk_http.specs.declared.call.Call.{Call}
 use Rattle.desk_http.specs.declared.refusal.Refusal.{Refusal}
@@ -19,27 +22,28 @@ use Rattle.desk_http.specs.Served.{Responds, Serves, answer_response, refusal_re
 abbrev pub Asks : Option (List ℕ) → Result Asked Refusal → Type 0
 Asks stream outcome = IfSome stream (λ bytes. Connection bytes outcome)
 
-pub one_served : (stream : Option (List ℕ)) (was : Bool) (books : Books) (asked : Asked) (answer : Result Reply Fault) (is : Bool) (old new : View) → Asks stream (Ok asked) → is ≡ says_closed answer → IsLater old new
-    → (was ≡ true → says_closed answer ≡ true) → BlamesRequest answer old new → Steps old.room books asked answer is new → Serves was books stream is old new
-one_served stream was books asked answer is old new asks closed later stays blame s = record {
-  outcome = Ok asked;
-  asks = asks;
-  answers = answer ∷ [];
-  last = s.next;
-  in_turn = (stays, (s.next, s.step, (closed, refl)));
-  holds = s.holds;
-  promise = s.promise;
-  blame = counted_one answer old new later blame;
-}
+module _ {R : Type 0} (view : R → View) (is_in_memory : Bool) where
+  pub one_served : (stream : Option (List ℕ)) (books : Books) (asked : Asked) (answer : Result Reply Fault) (old new : DeskValue R) → Asks stream (Ok asked) → AnswersRequest view is_in_memory answer old new
+      → Steps (view old.register).room books asked answer new.is_closed (view new.register) → Serves old.is_closed books stream new.is_closed (view old.register) (view new.register)
+  one_served stream books asked answer old new asks a s = record {
+    outcome = Ok asked;
+    asks = asks;
+    answers = answer ∷ [];
+    last = s.next;
+    in_turn = (says_so view is_in_memory answer old new a, (s.next, s.step, (a.closed, refl)));
+    holds = s.holds;
+    promise = s.promise;
+    blame = counted_one answer (view old.register) (view new.register) a.left.later a.blame;
+  }
 
-pub one_responded : {E : Type 0} (r : Result (Unit {0}) E) (text : List ℕ) (before after : Option (List ℕ)) (stream : Option (List ℕ)) (was : Bool) (books : Books) (asked : Asked) (answer : Result Reply Fault) (is : Bool) (old new : View)
-    → text ≡ answer_response answer → OnOk r (Appends before after text) → Asks stream (Ok asked) → is ≡ says_closed answer → IsLater old new → (was ≡ true → says_closed answer ≡ true) → BlamesRequest answer old new
-    → Steps old.room books asked answer is new → OnOk r (Responds was books stream before after is old new)
-unfolding one_served
-one_responded (Ok done) text before after stream was books asked answer is old new shown written asks closed later stays blame s =
-    let P : List ℕ → Type 0 = λ t. Appends before after t in
-    record { served = one_served stream was books asked answer is old new asks closed later stays blame s; written = subst P shown written }
-one_responded (Err fault) text before after stream was books asked answer is old new shown written asks closed later stays blame s = tt
+  pub one_responded : {E : Type 0} (r : Result (Unit {0}) E) (text : List ℕ) (before after : Option (List ℕ)) (stream : Option (List ℕ)) (books : Books) (asked : Asked) (answer : Result Reply Fault) (old new : DeskValue R)
+      → text ≡ answer_response answer → OnOk r (Appends before after text) → Asks stream (Ok asked) → AnswersRequest view is_in_memory answer old new
+      → Steps (view old.register).room books asked answer new.is_closed (view new.register) → OnOk r (Responds old.is_closed books stream before after new.is_closed (view old.register) (view new.register))
+  unfolding one_served
+  one_responded (Ok done) text before after stream books asked answer old new shown written asks a s =
+      let P : List ℕ → Type 0 = λ t. Appends before after t in
+      record { served = one_served stream books asked answer old new asks a s; written = subst P shown written }
+  one_responded (Err fault) text before after stream books asked answer old new shown written asks a s = tt
 
 none_counted : (view : View) → IfCounted view (count_by says_storage [] + view.failures ≤ view.failures)
 none_counted view honest few = omega arith

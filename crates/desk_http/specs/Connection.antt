@@ -2,14 +2,13 @@
 use Rattle.std.specs.Prelude.{◌≡◌, ◌≢◌, ◌<◌, ◌≤◌, ◌⊎◌, ℕ, true, false, List, length, map, take, Result, Ok, Err}
 use Rattle.httparse.specs.Grammar.{RequestHead, ReadsRequest, HasNoRequest, NeverHasRequest, MayBecomeRequest, EndsInTarget, print_request}
 use Rattle.httparse.specs.Spans.{RequestOverflows, RequestExceeds, name_and_value}
-use Rattle.desk_book.specs.Asked.{Asked}
+use Rattle.desk_book.specs.declared.requests.question.Question.{Question}
+use Rattle.desk_book.specs.Asked.{Asked, asked_with, has_text}
 use Rattle.desk_http.specs.declared.limits.TheConstants.{LONGEST_HEAD, MOST_FIELDS}
 use Rattle.desk_http.specs.declared.refusal.Refusal.{Refusal}
 use Rattle.desk_http.specs.declared.refusal.Refusal.TheVariants.{BadRequest, NotFound, MethodNotAllowed, HeaderFieldsTooLarge}
 use Rattle.desk_http.specs.declared.call.Call.{Call}
-use Rattle.desk_http.specs.declared.resource.Resource.{Resource}
-use Rattle.desk_http.specs.Paths.{IsPath, Path, has_body, method_of}
-use Rattle.desk_http.specs.Resources.{Names, asked_of}
+use Rattle.desk_http.specs.Paths.{IsPath, Names, Path, method_of}
 use Rattle.desk_http.specs.Length.{BodyLength}
 
 -- The head.
@@ -48,16 +47,16 @@ IsLeftOpen stream =
 
 -- The request.
 
--- What a head calls for: a resource and the length of the body, or a refusal. It is refused by the first of: a target
+-- What a head calls for: a question and the length of its body, or a refusal. It is refused by the first of: a target
 -- that is no path, another method, a part of the path that names nothing, the length of the body.
 pub data Calls (head : RequestHead) : Result Call Refusal → Type 0 where
   nowhere : ((path : Path) → ¬ IsPath path head.target) → Calls head (Err NotFound)
   other_method : (path : Path) → IsPath path head.target → head.method ≢ method_of path → Calls head (Err MethodNotAllowed)
-  nothing : (path : Path) → IsPath path head.target → head.method ≡ method_of path → ((resource : Resource) → ¬ Names path resource) → Calls head (Err NotFound)
-  bodiless : {call : Call} (path : Path) → IsPath path head.target → head.method ≡ method_of path → Names path call.resource → has_body path ≡ false → call.length ≡ 0 → Calls head (Ok call)
-  posted : {call : Call} (path : Path) → IsPath path head.target → head.method ≡ method_of path → Names path call.resource → has_body path ≡ true
+  nothing : (path : Path) → IsPath path head.target → head.method ≡ method_of path → ((question : Question) → ¬ Names path question) → Calls head (Err NotFound)
+  bodiless : {call : Call} (path : Path) → IsPath path head.target → head.method ≡ method_of path → Names path call.question → has_text call.question ≡ false → call.length ≡ 0 → Calls head (Ok call)
+  posted : {call : Call} (path : Path) → IsPath path head.target → head.method ≡ method_of path → Names path call.question → has_text call.question ≡ true
       → BodyLength (map name_and_value head.fields) (Ok call.length) → Calls head (Ok call)
-  no_length : {refusal : Refusal} (path : Path) (resource : Resource) → IsPath path head.target → head.method ≡ method_of path → Names path resource → has_body path ≡ true
+  no_length : {refusal : Refusal} (path : Path) (question : Question) → IsPath path head.target → head.method ≡ method_of path → Names path question → has_text question ≡ true
       → BodyLength (map name_and_value head.fields) (Err refusal) → Calls head (Err refusal)
 
 -- What a stream asks, or how it is refused: by its head, or since it ends before the body is whole.
@@ -65,5 +64,5 @@ pub data Connection (stream : List ℕ) : Result Asked Refusal → Type 0 where
   no_head : {refusal : Refusal} → RefusesHead stream refusal → Connection stream (Err refusal)
   refused : {refusal : Refusal} (head : RequestHead) (rest : List ℕ) → HasHead stream head rest → Calls head (Err refusal) → Connection stream (Err refusal)
   whole : (call : Call) (head : RequestHead) (rest : List ℕ) → HasHead stream head rest → Calls head (Ok call) → call.length ≤ length rest
-      → Connection stream (Ok (asked_of call.resource (take call.length rest)))
+      → Connection stream (Ok (asked_with call.question (take call.length rest)))
   cut : (call : Call) (head : RequestHead) (rest : List ℕ) → HasHead stream head rest → Calls head (Ok call) → length rest < call.length → Connection stream (Err BadRequest)

@@ -1,8 +1,8 @@
 -- What the bytes read so far say of the stream that they begin. Only private contracts speak of it.
 use Rattle.std.specs.Prelude.{◌≡◌, ◌<◌, ◌≤◌, ◌+◌, ℕ, List, ◌++◌, length, take, drop, Result, Ok, Err}
 use Rattle.httparse.specs.Grammar.{RequestHead, print_request}
-use Rattle.desk_book.specs.Asked.{Asked, asked_by}
-use Rattle.desk_book.specs.declared.requests.request.Request.{Request}
+use Rattle.desk_book.specs.Asked.{Asked, asked_by, asked_with}
+use Rattle.desk_book.specs.declared.requests.question.Request.{Request}
 use Rattle.desk_http.specs.declared.call.Call.{Call}
 use Rattle.desk_http.specs.declared.decision.Decision.{Decision}
 use Rattle.desk_http.specs.declared.decision.Decision.TheVariants.{Asks, Refuses, Wants}
@@ -10,11 +10,10 @@ use Rattle.desk_http.specs.declared.limits.TheConstants.{LONGEST_REQUEST}
 use Rattle.desk_http.specs.declared.refusal.Refusal.{Refusal}
 use Rattle.desk_http.specs.declared.refusal.Refusal.TheVariants.{BadRequest}
 use Rattle.desk_http.specs.Connection.{Calls, Connection, HasHead}
-use Rattle.desk_http.specs.Resources.{asked_of}
 
 -- what a call asks whose body begins here
 abbrev pub asked_at : List ℕ → Call → ℕ → Asked
-asked_at bytes call start = asked_of call.resource (take call.length (drop start bytes))
+asked_at bytes call start = asked_with call.question (take call.length (drop start bytes))
 
 -- whatever follows the bytes, they ask this
 abbrev pub Decides : List ℕ → Result Asked Refusal → Type 0

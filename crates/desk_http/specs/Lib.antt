@@ -3,7 +3,6 @@ pub mod Decisions
 pub mod Length
 pub mod Paths
 pub mod Refusals
-pub mod Resources
 pub mod Response
 pub mod Rows
 pub mod Served

@@ -1,6 +1,11 @@
--- The paths of the desk (RFC 3986, section 3.3).
-use Rattle.std.specs.Prelude.{◌≡◌, ◌≢◌, ◌≤◌, ℕ, List, ◌∷◌, ◌++◌, length, All, codes, Bool, true, false, if◌then◌else◌}
+-- The paths of the desk (RFC 3986, section 3.3), and what they ask.
+use Rattle.std.specs.Prelude.{◌≡◌, ◌≢◌, ◌≤◌, ℕ, List, ◌∷◌, ◌++◌, length, All, codes}
 use Rattle.std.specs.Str.{byte}
+use Rattle.desk_msg.specs.MessageType.{digits_of_type}
+use Rattle.desk_book.specs.declared.requests.question.Question.{Question}
+use Rattle.desk_book.specs.declared.requests.question.Question.TheVariants.{Message, Operator, Status, Holdings, Sent, Sums}
+use Rattle.desk_book.specs.Asked.{mt_of}
+use Rattle.desk_book.specs.Forms.{IsCount, SpellsBic}
 use Rattle.desk_http.specs.declared.route.Path.{Path as BorrowedPath}
 use Rattle.desk_http.specs.declared.route.Path.TheVariants as borrowed
 
@@ -36,12 +41,19 @@ path_of (borrowed.Holdings bic) = holdings bic.now
 path_of (borrowed.Sent bic number) = sent bic.now number.now
 path_of borrowed.Sums = sums
 
--- a body is sent to it
-abbrev pub has_body : Path → Bool
-has_body (sent bic number) = false
-has_body sums = false
-has_body path = true
-
 -- its method (RFC 9110, section 9)
 abbrev pub method_of : Path → List ℕ
-method_of path = if has_body path then codes "POST" else codes "GET"
+method_of (sent bic number) = codes "GET"
+method_of sums = codes "GET"
+method_of path = codes "POST"
+
+-- The path names this question: its parts are a party's BIC, the digits of an instruction's type, one to nine digits of a
+-- number.
+abbrev pub Names : Path → Question → Type 0
+Names (message bic mt) (Message sender kind) = SpellsBic bic sender × (digits_of_type (mt_of kind) ≡ mt)
+Names operator Operator = Unit {0}
+Names (status bic) (Status sender) = SpellsBic bic sender
+Names (holdings bic) (Holdings owner) = SpellsBic bic owner
+Names (sent bic number) (Sent receiver count) = SpellsBic bic receiver × IsCount number count
+Names sums Sums = Unit {0}
+Names path question = ⊥

@@ -2,24 +2,23 @@
 ghost use Rattle.std.specs.Prelude.{◌≡◌, ◌+◌, ◌≤◌, true, false, length, map, All, IfSome, IfNone, IsUtf8, Ok};
 ghost use Rattle.httparse.specs.Grammar.{RequestHead};
 ghost use Rattle.httparse.specs.Spans.{IsHeaderWithin, IsRequestAt, IsRequestOf, IsRequestWithin, header_bytes};
-ghost use Rattle.desk_book.specs.Asked.{asked_by};
+ghost use Rattle.desk_book.specs.Asked.{asked_by, has_text};
 ghost use Rattle.desk_http.specs.Decisions.{asked_at};
 ghost use Rattle.desk_http.specs.Connection.{Calls};
 ghost use Rattle.desk_http.specs.Length.{BodyLength};
-ghost use Rattle.desk_http.specs.Paths.{IsPath, Path as PathValue, has_body, path_of};
+ghost use Rattle.desk_http.specs.Paths.{IsPath, Path as PathValue, path_of};
 
 use crate::field::body_length;
 use crate::refusal::Refusal;
-use crate::resource::Resource;
 use crate::route::{Path, Routes};
-use desk_book::Request;
+use desk_book::{Question, Request};
 use httparse::spans::{HeaderSpan, RequestSpans};
 use std::str;
 
-/// What a head calls for: a resource, and how many bytes of body follow.
+/// What a head calls for: a question, and how many bytes of body follow, which are the text that it is asked with.
 #[derive(Clone, Copy, Debug, PartialEq, Eq)]
 pub struct Call {
-    pub resource: Resource,
+    pub question: Question,
     pub length: usize,
 }
 
@@ -29,7 +28,7 @@ impl Call {
         requires { start + self.length ≤ length bytes.now }
         ensures { asked_by result ≡ asked_at bytes.now self start }
     {
-        self.resource.request(&bytes[start..start + self.length])
+        self.question.with(&bytes[start..start + self.length])
     }
 }
 
@@ -50,11 +49,11 @@ pub fn call_of(
     if head.method.of(front) != path.method() {
         return Err(Refusal::MethodNotAllowed);
     }
-    let Some(resource) = path.resource() else {
+    let Some(question) = path.question() else {
         return Err(Refusal::NotFound);
     };
-    match length_for(&path, front, &fields[..head.headers]) {
-        Ok(length) => Ok(Call { resource, length }),
+    match length_for(&question, front, &fields[..head.headers]) {
+        Ok(length) => Ok(Call { question, length }),
         Err(refusal) => Err(refusal),
     }
 }
@@ -68,13 +67,13 @@ fn path_at<'a>(routes: &Routes, target: &'a [u8]) -> Option<Path<'a>>
     routes.find(str::from_utf8(target).unwrap())
 }
 
-/// The length of the body that is sent to a path.
-fn length_for(path: &Path<'_>, front: &[u8], fields: &[HeaderSpan]) -> Result<usize, Refusal>
+/// The length of the body that a question is asked with.
+fn length_for(question: &Question, front: &[u8], fields: &[HeaderSpan]) -> Result<usize, Refusal>
     requires { All (IsHeaderWithin (length front.now)) fields.now }
-    ensures posted { has_body (path_of path.now) ≡ true → BodyLength (map (header_bytes front.now) fields.now) result }
-    ensures bodiless { has_body (path_of path.now) ≡ false → result ≡ Ok 0 }
+    ensures posted { has_text question.now ≡ true → BodyLength (map (header_bytes front.now) fields.now) result }
+    ensures bodiless { has_text question.now ≡ false → result ≡ Ok 0 }
 {
-    if path.has_body() {
+    if question.has_text() {
         body_length(front, fields)
     } else {
         Ok(0)

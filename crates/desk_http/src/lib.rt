@@ -13,7 +13,6 @@ mod laws;
 mod limits;
 mod reading;
 mod refusal;
-mod resource;
 mod response;
 mod route;
 mod serving;

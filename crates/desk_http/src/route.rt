@@ -1,9 +1,10 @@
-//! The paths of the desk, and which of them a target is.
+//! The paths of the desk: which of them a target is, and what it asks.
 ghost use Rattle.std.specs.Prelude.{◌≡◌, List, ℕ, ◌∷◌, ◌++◌, IfSome, IfNone};
 ghost use Rattle.std.specs.Str.{byte};
-ghost use Rattle.desk_http.specs.Paths.{IsPart, IsPath, Path as PathValue, path_of};
+ghost use Rattle.desk_http.specs.Paths.{IsPart, IsPath, Names, Path as PathValue, method_of, path_of};
 ghost use Rattle.desk_http.specs.Rows.{IsOn, desk_rows};
 
+use desk_book::{InstructionType, Question, count_of, party};
 use desk_codes::split_at;
 use matchit::{InsertError, Router};
 use std::alloc::{AllocError, Global};
@@ -69,6 +70,36 @@ impl Routes {
         match self.router.at(target) {
             Ok(found) => Some(path_on(*found.value, target.as_bytes())),
             Err(_) => None,
+        }
+    }
+}
+
+impl Path<'_> {
+    /// Its method.
+    pub fn method(&self) -> &'static [u8]
+        ensures { result.now ≡ method_of (path_of self.now) }
+    {
+        match self {
+            Path::Sent(..) | Path::Sums => b"GET",
+            _ => b"POST",
+        }
+    }
+
+    /// The question that it names; None where a part is no BIC, no type of an instruction or no number of one to nine
+    /// digits.
+    pub fn question(&self) -> Option<Question>
+        ensures some { IfSome result (λ question. Names (path_of self.now) question) }
+        ensures none { IfNone result ((question : Question) → ¬ Names (path_of self.now) question) }
+    {
+        match *self {
+            Path::Message(bic, mt) => {
+                Some(Question::Message(party(bic)?, InstructionType::parse(mt)?))
+            }
+            Path::Operator => Some(Question::Operator),
+            Path::Status(bic) => Some(Question::Status(party(bic)?)),
+            Path::Holdings(bic) => Some(Question::Holdings(party(bic)?)),
+            Path::Sent(bic, number) => Some(Question::Sent(party(bic)?, count_of(number)?)),
+            Path::Sums => Some(Question::Sums),
         }
     }
 }

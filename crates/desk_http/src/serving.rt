@@ -1,9 +1,8 @@
 //! One connection: its request, asked of the desk, and the response.
-ghost use Rattle.std.specs.Prelude.{◌≡◌, ℕ, ◌+◌, ◌≤◌, List, [], true, false, length, Option, IfSome, IfOk, OnErr, OnOk, Ok, Err};
+ghost use Rattle.std.specs.Prelude.{◌≡◌, ℕ, ◌+◌, ◌≤◌, List, [], true, length, Option, IfSome, IfOk, OnErr, OnOk, Ok, Err};
 ghost use Rattle.std.specs.Io.KnownBytes.{Appends, Consumes};
-ghost use Rattle.desk_rules.specs.Books.{Books};
-ghost use Rattle.desk_register.specs.View.{IsLater};
-ghost use Rattle.desk_book.specs.Held.{Holds};
+ghost use Rattle.desk_book.specs.Held.{IfHolds};
+ghost use Rattle.desk_book.specs.Left.{LeavesDesk};
 ghost use Rattle.desk_book.specs.Asked.{asked_by};
 ghost use Rattle.desk_book.specs.Waiting.{HasRoom, waits};
 ghost use Rattle.desk_http.specs.Connection.{Connection};
@@ -32,17 +31,15 @@ pub fn serve_one<I: Source, O: Sink, R: Register>(
     writer: &mut O,
     desk: &mut Desk<R>,
 ) -> Result<(), HttpFault>
-    ensures responds { OnOk result ((books : Books) → (R.view desk.new.register).is_honest → Holds desk.old.is_closed (R.view desk.old.register) books
-        → Responds desk.old.is_closed books (I.remaining reader.old) (O.contents writer.old) (O.contents writer.new) desk.new.is_closed (R.view desk.old.register) (R.view desk.new.register)) }
+    ensures responds { OnOk result (IfHolds R.view desk.old desk.new (λ books.
+        Responds desk.old.is_closed books (I.remaining reader.old) (O.contents writer.old) (O.contents writer.new) desk.new.is_closed (R.view desk.old.register) (R.view desk.new.register))) }
     ensures unread { result ≡ Err HttpFault.ReadFailed → (desk.new ≡ desk.old) × (writer.new ≡ writer.old) × (I.may_fail ≡ true) }
     ensures memory { result ≡ Err HttpFault.Memory → (desk.new ≡ desk.old) × (writer.new ≡ writer.old) × (reader.new ≡ reader.old) }
-    ensures stands { result ≡ Err HttpFault.WriteFailed → (books : Books) → (R.view desk.new.register).is_honest → Holds desk.old.is_closed (R.view desk.old.register) books
-        → Serves desk.old.is_closed books (I.remaining reader.old) desk.new.is_closed (R.view desk.old.register) (R.view desk.new.register) }
+    ensures stands { result ≡ Err HttpFault.WriteFailed → IfHolds R.view desk.old desk.new (λ books.
+        Serves desk.old.is_closed books (I.remaining reader.old) desk.new.is_closed (R.view desk.old.register) (R.view desk.new.register)) }
     ensures unwritten { result ≡ Err HttpFault.WriteFailed → O.may_fail ≡ true }
     ensures taken { (taken : List ℕ) × Consumes (I.remaining reader.old) (I.remaining reader.new) taken × (length taken ≤ LONGEST_REQUEST) }
-    ensures untouched { desk.old.is_closed ≡ true → desk.new ≡ desk.old }
-    ensures later { IsLater (R.view desk.old.register) (R.view desk.new.register) }
-    ensures in_memory { R.in_memory ≡ true → desk.old.is_closed ≡ false → desk.new.is_closed ≡ false }
+    ensures left { LeavesDesk R.view R.in_memory desk.old desk.new }
 {
     let Ok(mut input) = Vec::with_capacity(alloc, LONGEST_REQUEST) else {
         return Err(HttpFault::Memory);
@@ -71,14 +68,12 @@ fn respond<O: Sink, R: Register>(
     requires within { IfOk found (λ f. f.1 + f.0.length ≤ length input.now) }
     requires room { HasRoom outbox.old }
     requires empty { waits outbox.old ≡ [] }
-    ensures responds { (stream : Option (List ℕ)) (books : Books) → IfSome stream (λ bytes. Connection bytes (asked_by_found input.now found)) → (R.view desk.new.register).is_honest → Holds desk.old.is_closed (R.view desk.old.register) books
-        → OnOk result (Responds desk.old.is_closed books stream (O.contents writer.old) (O.contents writer.new) desk.new.is_closed (R.view desk.old.register) (R.view desk.new.register)) }
-    ensures stands { (stream : Option (List ℕ)) (books : Books) → IfSome stream (λ bytes. Connection bytes (asked_by_found input.now found)) → (R.view desk.new.register).is_honest → Holds desk.old.is_closed (R.view desk.old.register) books
-        → Serves desk.old.is_closed books stream desk.new.is_closed (R.view desk.old.register) (R.view desk.new.register) }
+    ensures responds { (stream : Option (List ℕ)) → IfSome stream (λ bytes. Connection bytes (asked_by_found input.now found)) → IfHolds R.view desk.old desk.new (λ books.
+        OnOk result (Responds desk.old.is_closed books stream (O.contents writer.old) (O.contents writer.new) desk.new.is_closed (R.view desk.old.register) (R.view desk.new.register))) }
+    ensures stands { (stream : Option (List ℕ)) → IfSome stream (λ bytes. Connection bytes (asked_by_found input.now found)) → IfHolds R.view desk.old desk.new (λ books.
+        Serves desk.old.is_closed books stream desk.new.is_closed (R.view desk.old.register) (R.view desk.new.register)) }
     ensures failed { OnErr result (O.may_fail ≡ true) }
-    ensures untouched { desk.old.is_closed ≡ true → desk.new ≡ desk.old }
-    ensures later { IsLater (R.view desk.old.register) (R.view desk.new.register) }
-    ensures in_memory { R.in_memory ≡ true → desk.old.is_closed ≡ false → desk.new.is_closed ≡ false }
+    ensures left { LeavesDesk R.view R.in_memory desk.old desk.new }
 {
     match found {
         Ok((call, start)) => answer(alloc, &call.request(input, start), outbox, writer, desk),
@@ -96,14 +91,12 @@ fn answer<O: Sink, R: Register>(
 ) -> io::Result<()>
     requires room { HasRoom outbox.old }
     requires empty { waits outbox.old ≡ [] }
-    ensures responds { (stream : Option (List ℕ)) (books : Books) → IfSome stream (λ bytes. Connection bytes (Ok (asked_by request.now))) → (R.view desk.new.register).is_honest → Holds desk.old.is_closed (R.view desk.old.register) books
-        → OnOk result (Responds desk.old.is_closed books stream (O.contents writer.old) (O.contents writer.new) desk.new.is_closed (R.view desk.old.register) (R.view desk.new.register)) }
-    ensures stands { (stream : Option (List ℕ)) (books : Books) → IfSome stream (λ bytes. Connection bytes (Ok (asked_by request.now))) → (R.view desk.new.register).is_honest → Holds desk.old.is_closed (R.view desk.old.register) books
-        → Serves desk.old.is_closed books stream desk.new.is_closed (R.view desk.old.register) (R.view desk.new.register) }
+    ensures responds { (stream : Option (List ℕ)) → IfSome stream (λ bytes. Connection bytes (Ok (asked_by request.now))) → IfHolds R.view desk.old desk.new (λ books.
+        OnOk result (Responds desk.old.is_closed books stream (O.contents writer.old) (O.contents writer.new) desk.new.is_closed (R.view desk.old.register) (R.view desk.new.register))) }
+    ensures stands { (stream : Option (List ℕ)) → IfSome stream (λ bytes. Connection bytes (Ok (asked_by request.now))) → IfHolds R.view desk.old desk.new (λ books.
+        Serves desk.old.is_closed books stream desk.new.is_closed (R.view desk.old.register) (R.view desk.new.register)) }
     ensures failed { OnErr result (O.may_fail ≡ true) }
-    ensures untouched { desk.old.is_closed ≡ true → desk.new ≡ desk.old }
-    ensures later { IsLater (R.view desk.old.register) (R.view desk.new.register) }
-    ensures in_memory { R.in_memory ≡ true → desk.old.is_closed ≡ false → desk.new.is_closed ≡ false }
+    ensures left { LeavesDesk R.view R.in_memory desk.old desk.new }
 {
     match desk.ask(alloc, request) {
         Ok(reply) => write_response(

@@ -5,8 +5,8 @@ ghost use Rattle.desk.specs.ExplainAnswer.{IsExplainAnswer};
 
 use crate::status::Status;
 use crate::words::Topic;
+use desk_causes::{Cause, write_catalogue, write_cause};
 use desk_streams::Sink;
-use desk_words::{Cause, write_catalogue, write_cause};
 use std::io;
 
 /// Prints the whole catalogue, or what a number means that is told in place of an answer, and what to do about it. A

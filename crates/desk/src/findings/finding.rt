@@ -2,14 +2,14 @@
 ghost use Rattle.std.specs.Prelude.{◌≡◌, ◌≤◌, [], ◌∷◌, length, map, take, true, IfOk, MatchOption, OnErr, OnOk};
 ghost use Rattle.std.specs.List.{flat_map};
 ghost use Rattle.std.specs.Io.KnownBytes.{Appends};
-ghost use Rattle.desk_words.specs.Causes.{heading_of};
+ghost use Rattle.desk_causes.specs.Causes.{heading_of};
 ghost use Rattle.desk.specs.Finding.{asks as may_ask, count_of as how_many, count_text, finding_text, findings_in as all_found, found_at, found_by, found_here, front_text, in_body_behind, place_text, report_text, shown as is_shown_as, told_behind, told_text};
 ghost use Rattle.desk.specs.Told.{told_by};
 
 use super::told::Telling;
 use desk_book::{first_line, has_body, is_skipped, is_stop, said_by};
+use desk_causes::{CAUSES, Cause};
 use desk_streams::Sink;
-use desk_words::{CAUSES, Cause};
 use std::alloc::{AllocError, Global};
 use std::io;
 

@@ -1,19 +1,15 @@
 //! The lines that ask something.
-ghost use Rattle.std.specs.Prelude.{◌≡◌, ◌≤◌, ℕ, List, [], Some, None, true, All, length, IfSome, IfNone};
-ghost use Rattle.desk_msg.specs.declared.mt.Mt.{Mt};
-ghost use Rattle.desk_msg.specs.MessageType.{digits_of_type, is_instruction};
+ghost use Rattle.std.specs.Prelude.{◌≡◌, ◌≤◌, ℕ, List, [], Some, None, All, length, IfSome, IfNone};
 ghost use Rattle.desk_codes.specs.Characters.{IsDigit};
 ghost use Rattle.desk_codes.specs.Number.{number_of as number_by};
-ghost use Rattle.desk_book.specs.Asked.{holdings, message, sent, status};
-ghost use Rattle.desk_book.specs.Forms.{IsCount, IsLineOf, SpellsBic};
+ghost use Rattle.desk_book.specs.Forms.{IsCount, IsLineOf, NamesParty, SpellsBic};
 ghost use Rattle.desk_book.specs.Script.{Means, item_of};
 
 use crate::limits::{LONGEST_LINE, LONGEST_NUMBER, MOST_DIGITS};
 use crate::requests::line::COMMAND;
-use crate::requests::request::Request;
+use crate::requests::question::{InstructionType, Question};
 use crate::requests::script::Item;
 use desk_codes::{Bic, are_digits, split_at};
-use desk_msg::Mt;
 
 /// The line that asks for the desk's totals.
 const SUMS: &[u8] = b"sums";
@@ -26,10 +22,10 @@ pub fn posted<'a>(said: &'a [u8], text: &'a [u8]) -> Item<'a>
         return Item::BadLine;
     }
     if said == COMMAND {
-        return Item::Ask(Request::Operator(text));
+        return Item::Ask(Question::Operator.with(text));
     }
     match message_line(said) {
-        Some((sender, mt)) => Item::Ask(Request::Message(sender, mt, text)),
+        Some((sender, kind)) => Item::Ask(Question::Message(sender, kind).with(text)),
         None => Item::BadLine,
     }
 }
@@ -42,64 +38,53 @@ pub fn bodiless(said: &[u8]) -> Item<'_>
         return Item::BadLine;
     }
     if said == SUMS {
-        return Item::Ask(Request::Sums);
+        return Item::Ask(Question::Sums.with(&[]));
     }
-    if let Some((sender, reference)) = status_line(said) {
-        return Item::Ask(Request::Status(sender, reference));
+    if let Some((sender, text)) = behind_party(said, b"status ") {
+        return Item::Ask(Question::Status(sender).with(text));
     }
     if let Some((receiver, number)) = sent_line(said) {
-        return Item::Ask(Request::Sent(receiver, number));
+        return Item::Ask(Question::Sent(receiver, number).with(&[]));
     }
-    match holdings_line(said) {
-        Some((owner, account)) => Item::Ask(Request::Holdings(owner, account)),
+    match behind_party(said, b"holdings ") {
+        Some((owner, text)) => Item::Ask(Question::Holdings(owner).with(text)),
         None => Item::BadLine,
     }
 }
 
 /// The sender and the type that a line `in BIC MT` names.
-fn message_line(said: &[u8]) -> Option<(Bic, Mt)>
-    ensures form { IfSome result (λ named. IsLineOf (message named.0 named.1 []) said.now) }
-    ensures none { IfNone result ((sender : List ℕ) (mt : Mt) → ¬ IsLineOf (message sender mt []) said.now) }
+fn message_line(said: &[u8]) -> Option<(Bic, InstructionType)>
+    ensures form { IfSome result (λ named. IsLineOf (Question.Message named.0 named.1) [] said.now) }
+    ensures none { IfNone result ((sender : List ℕ) (kind : InstructionType) → ¬ IsLineOf (Question.Message sender kind) [] said.now) }
 {
-    let rest = said.strip_prefix(b"in ")?;
-    let (bic, digits) = split_at(rest, b' ')?;
-    let sender = party(bic)?;
-    let mt = instruction_type(digits)?;
-    Some((sender, mt))
-}
-
-/// The sender and the reference that a line `status BIC REF` names. What stands behind the BIC may be no reference.
-fn status_line(said: &[u8]) -> Option<(Bic, &[u8])>
-    ensures form { IfSome result (λ named. IsLineOf (status named.0 named.1.now) said.now) }
-    ensures none { IfNone result ((sender reference : List ℕ) → ¬ IsLineOf (status sender reference) said.now) }
-{
-    let rest = said.strip_prefix(b"status ")?;
-    let (bic, reference) = split_at(rest, b' ')?;
-    let sender = party(bic)?;
-    Some((sender, reference))
-}
-
-/// The participant and the account that a line `holdings BIC ACCOUNT` names. What stands behind the BIC may be no account.
-fn holdings_line(said: &[u8]) -> Option<(Bic, &[u8])>
-    ensures form { IfSome result (λ named. IsLineOf (holdings named.0 named.1.now) said.now) }
-    ensures none { IfNone result ((owner account : List ℕ) → ¬ IsLineOf (holdings owner account) said.now) }
-{
-    let rest = said.strip_prefix(b"holdings ")?;
-    let (bic, account) = split_at(rest, b' ')?;
-    let owner = party(bic)?;
-    Some((owner, account))
+    let Some(named) = behind_party(said, b"in ") else {
+        return None;
+    };
+    let kind = InstructionType::parse(named.1)?;
+    Some((named.0, kind))
 }
 
 /// The participant and the number that a line `sent BIC K` names.
 fn sent_line(said: &[u8]) -> Option<(Bic, u64)>
-    ensures form { IfSome result (λ named. IsLineOf (sent named.0 named.1) said.now) }
-    ensures none { IfNone result ((receiver : List ℕ) (number : ℕ) → ¬ IsLineOf (sent receiver number) said.now) }
+    ensures form { IfSome result (λ named. IsLineOf (Question.Sent named.0 named.1) [] said.now) }
+    ensures none { IfNone result ((receiver : List ℕ) (number : ℕ) → ¬ IsLineOf (Question.Sent receiver number) [] said.now) }
 {
-    let rest = said.strip_prefix(b"sent ")?;
-    let (bic, digits) = split_at(rest, b' ')?;
-    let receiver = party(bic)?;
-    let number = count_of(digits)?;
-    Some((receiver, number))
+    let Some(named) = behind_party(said, b"sent ") else {
+        return None;
+    };
+    let number = count_of(named.1)?;
+    Some((named.0, number))
+}
+
+/// The party whose BIC stands behind a word, up to a space, and what stands behind the space.
+fn behind_party<'a>(said: &'a [u8], word: &[u8]) -> Option<(Bic, &'a [u8])>
+    ensures some { IfSome result (λ named. NamesParty word.now named.0 named.1.now said.now) }
+    ensures none { IfNone result ((party behind : List ℕ) → ¬ NamesParty word.now party behind said.now) }
+{
+    let rest = said.strip_prefix(word)?;
+    let (bic, behind) = split_at(rest, b' ')?;
+    let party = party(bic)?;
+    Some((party, behind))
 }
 
 /// The party of a BIC; None where the text is no BIC (ISO 9362).
@@ -136,17 +121,4 @@ pub fn number_of(digits: &[u8]) -> u64
         number = 10 * number + u64::from(*c - b'0');
     }
     number
-}
-
-/// The type of three digits, of those that instruct: 540 to 543; None of any other text.
-pub fn instruction_type(digits: &[u8]) -> Option<Mt>
-    ensures digits { IfSome result (λ mt. digits_of_type mt ≡ digits.now) }
-    ensures instructs { IfSome result (λ mt. is_instruction mt ≡ true) }
-    ensures none { IfNone result ((mt : Mt) → is_instruction mt ≡ true
-        → ¬ (digits_of_type mt ≡ digits.now)) }
-{
-    match Mt::try_from(digits) {
-        Ok(mt) if mt.is_instruction() => Some(mt),
-        _ => None,
-    }
 }

@@ -6,7 +6,7 @@ ghost use Rattle.desk_book.specs.Items.{BeginsWithBody};
 
 use crate::requests::form::{bodiless, posted};
 use crate::requests::line::{first_line, has_body, is_skipped, is_stop, said_by};
-use crate::requests::request::Request;
+use crate::requests::question::Request;
 use desk_text::LONGEST_TEXT;
 
 /// So many bytes of a body count: one more than a message or a command may have.

@@ -1,14 +1,13 @@
 //! What a request is read as.
-ghost use Rattle.std.specs.Prelude.{◌≡◌, true, IfOk};
+ghost use Rattle.std.specs.Prelude.{◌≡◌, IfOk};
 ghost use Rattle.desk_rules.specs.Reply.{untyped_reply};
-ghost use Rattle.desk_book.specs.Asked.{asked_by};
-ghost use Rattle.desk_book.specs.Task.{IsTask, IsMessageTask, IsCommandTask, IsFormed, entry_of_message, unknown_form};
-ghost use Rattle.desk_msg.specs.MessageType.{is_instruction};
+ghost use Rattle.desk_book.specs.Asked.{asked_by, mt_of};
+ghost use Rattle.desk_book.specs.Task.{IsTask, IsMessageTask, IsCommandTask, IsFormed, entry_of_message};
 
 use crate::requests::command::read_command;
-use crate::requests::request::Request;
+use crate::requests::question::{InstructionType, Question, Request};
 use desk_codes::{AccountId, Bic, Reference};
-use desk_msg::{Message, Mt, ReadFault, read_instruction_text, refusal_text};
+use desk_msg::{Message, ReadFault, read_instruction_text, refusal_text};
 use desk_rules::{Entry, Reply, Text};
 use std::alloc::{AllocError, Global};
 
@@ -25,7 +24,7 @@ pub enum Task {
     Holdings(Bic, Option<AccountId>),
     /// The desk's totals
     Totals,
-    /// None of the desk's commands or questions, and the refusal that answers it
+    /// Nothing, since its text could not be read: the refusal answers it
     Answer(Reply),
 }
 
@@ -34,26 +33,28 @@ pub fn task_of(alloc: Global, request: &Request<'_>) -> Result<Task, AllocError>
     ensures task { IfOk result (λ task. IsTask (asked_by request.now) task) }
     ensures formed { IfOk result (λ task. IsFormed task) }
 {
-    match *request {
-        Request::Message(sender, mt, text) if mt.is_instruction() => {
-            message_task(alloc, sender, mt, text)
-        }
-        Request::Operator(text) => command_task(alloc, text),
-        Request::Status(sender, text) => Ok(Task::Status(sender, Reference::read(text))),
-        Request::Sent(receiver, number) => Ok(Task::Sent(receiver, number)),
-        Request::Holdings(owner, text) => Ok(Task::Holdings(owner, AccountId::read(text))),
-        Request::Sums => Ok(Task::Totals),
-        Request::Message(..) => Ok(Task::Answer(unknown(alloc)?)),
+    let text = request.text;
+    match request.question {
+        Question::Message(sender, kind) => message_task(alloc, sender, kind, text),
+        Question::Operator => command_task(alloc, text),
+        Question::Status(sender) => Ok(Task::Status(sender, Reference::read(text))),
+        Question::Sent(receiver, number) => Ok(Task::Sent(receiver, number)),
+        Question::Holdings(owner) => Ok(Task::Holdings(owner, AccountId::read(text))),
+        Question::Sums => Ok(Task::Totals),
     }
 }
 
 /// What a participant's message gives the desk to do.
-fn message_task(alloc: Global, sender: Bic, mt: Mt, text: &[u8]) -> Result<Task, AllocError>
-    requires { is_instruction mt ≡ true }
-    ensures task { IfOk result (λ task. IsMessageTask sender mt text.now task) }
+fn message_task(
+    alloc: Global,
+    sender: Bic,
+    kind: InstructionType,
+    text: &[u8],
+) -> Result<Task, AllocError>
+    ensures task { IfOk result (λ task. IsMessageTask sender (mt_of kind) text.now task) }
     ensures formed { IfOk result (λ task. IsFormed task) }
 {
-    match read_instruction_text(alloc, mt, text) {
+    match read_instruction_text(alloc, kind.mt(), text) {
         Ok(message) => {
             // what its type keeps: it is a BIC
             let _ = sender.as_bytes();
@@ -92,14 +93,6 @@ fn command_task(alloc: Global, text: &[u8]) -> Result<Task, AllocError>
             Ok(Task::Answer(bad_request(line)))
         }
     }
-}
-
-/// The answer to what is none of the desk's forms.
-fn unknown(alloc: Global) -> Result<Reply, AllocError>
-    ensures { IfOk result (λ reply. reply ≡ unknown_form) }
-{
-    let line = Vec::from_slice(alloc, b"refused 41")?;
-    Ok(bad_request(line))
 }
 
 /// The answer to what was refused as it was read: its line.

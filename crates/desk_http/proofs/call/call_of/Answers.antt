@@ -9,15 +9,15 @@ returns-in_default c = λ h at. no_path h c.of.result.now (c.of.ensures ∙ at.p
 pub returns-then-ne : goal.returns-then-ne
 returns-then-ne c = λ h at. no_method h c.of.result.now c.of-2.result.now (path_of c.in-Some.path) (c.of.ensures ∙ at.path) (c.of-2.ensures ∙ at.method) c.in-Some.ensures.some (differs _ _ _ c.if-ne.ensures c.method.ensures)
 
-pub returns-in_default-resource : goal.returns-in_default-resource
-returns-in_default-resource c = λ h at. no_name h c.of.result.now c.of-2.result.now (path_of c.in-Some.path) (c.of.ensures ∙ at.path) (c.of-2.ensures ∙ at.method) c.in-Some.ensures.some (agrees _ _ _ c.if-ne.ensures c.method.ensures) c.in_default-resource.ensures.none
+pub returns-in_default-question : goal.returns-in_default-question
+returns-in_default-question c = λ h at. no_name h c.of.result.now c.of-2.result.now (path_of c.in-Some.path) (c.of.ensures ∙ at.path) (c.of-2.ensures ∙ at.method) c.in-Some.ensures.some (agrees _ _ _ c.if-ne.ensures c.method.ensures) c.in_default-question.ensures.none
 
 pub returns-in-Err : goal.returns-in-Err
 returns-in-Err c = λ h at.
-    length_refused h c.of.result.now c.of-2.result.now (path_of c.in-Some.path) c.in-Some-resource.resource _ c.in-Err.refusal (c.of.ensures ∙ at.path) (c.of-2.ensures ∙ at.method) c.in-Some.ensures.some (agrees _ _ _ c.if-ne.ensures c.method.ensures)
-    c.in-Some-resource.ensures.some at.fields c.in-Err.ensures.posted c.in-Err.ensures.bodiless
+    length_refused h c.of.result.now c.of-2.result.now (path_of c.in-Some.path) c.in-Some-question.question _ c.in-Err.refusal (c.of.ensures ∙ at.path) (c.of-2.ensures ∙ at.method) c.in-Some.ensures.some (agrees _ _ _ c.if-ne.ensures c.method.ensures)
+    c.in-Some-question.ensures.some at.fields c.in-Err.ensures.posted c.in-Err.ensures.bodiless
 
 pub returns-in-Ok : goal.returns-in-Ok
 returns-in-Ok c = λ h at.
-    called h c.of.result.now c.of-2.result.now (path_of c.in-Some.path) c.in-Some-resource.resource _ c.in-Ok.length (c.of.ensures ∙ at.path) (c.of-2.ensures ∙ at.method) c.in-Some.ensures.some (agrees _ _ _ c.if-ne.ensures c.method.ensures)
-    c.in-Some-resource.ensures.some at.fields c.in-Ok.ensures.posted c.in-Ok.ensures.bodiless
+    called h c.of.result.now c.of-2.result.now (path_of c.in-Some.path) c.in-Some-question.question _ c.in-Ok.length (c.of.ensures ∙ at.path) (c.of-2.ensures ∙ at.method) c.in-Some.ensures.some (agrees _ _ _ c.if-ne.ensures c.method.ensures)
+    c.in-Some-question.ensures.some at.fields c.in-Ok.ensures.posted c.in-Ok.ensures.bodiless

@@ -14,8 +14,8 @@ returns-in-Ok-clause-told g c =
     let made = c.new.result in
     let held = c.new-desk.result.register in
     let same = c.new-desk.ensures.register in
-    told (g.R.Read.remaining c.args.reader.now) _ _ _ _ c.new-desk.result.is_closed c.play.new.self.is_closed (view_of_index held) (view_of_index c.play.new.self.register) (limit_is made held same c.new.ensures.limit) c.in-Ok.ensures.later.room c.new-desk.ensures.open
-    (c.in-Ok.ensures.in_memory refl c.new-desk.ensures.open) refl (lit< tt) tt (λ is. new_keeps made held same c.new.ensures.empty) c.in-Ok.ensures.played
+    told (g.R.Read.remaining c.args.reader.now) _ _ _ _ c.new-desk.result.is_closed c.play.new.self.is_closed (view_of_index held) (view_of_index c.play.new.self.register) (limit_is made held same c.new.ensures.limit) c.in-Ok.ensures.left.later.room c.new-desk.ensures.open
+    (c.in-Ok.ensures.left.in_memory refl c.new-desk.ensures.open) refl (lit< tt) tt (λ is. new_keeps made held same c.new.ensures.empty) c.in-Ok.ensures.played
 
 pub returns-in-Err-Memory-clause-told : goal.returns-in-Err-Memory-clause-told
 returns-in-Err-Memory-clause-told g c =

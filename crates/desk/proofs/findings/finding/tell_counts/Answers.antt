@@ -1,6 +1,6 @@
 use Rattle.std.proofs.Common.{map}
 use Rattle.desk.specs.Finding.{count_text, found_by}
-use Rattle.desk_words.proofs.WritingLemmas.{written}
+use Rattle.desk_causes.proofs.WritingLemmas.{written}
 use Rattle.desk.proofs.findings.finding.tell_counts.Goals as goal
 
 pub loop-cause-preserved : goal.loop-cause-preserved

@@ -11,16 +11,14 @@ returns-in-Ok-clause-played g c = λ books honest holds.
     let v1 = g.R.Register.view c.ask.new.self.register in
     let a = c.ask.ensures in
     item_written c.args.self.now.is_closed books c.args.item.now c.in-Ask.request c.ask.result (written_answer c.in-Ok.reply.status c.in-Ok.reply.mt c.in-Ok.reply.text) _ _ c.ask.new.self.is_closed v0 v1 c.answer.result c.in-Ask.is
-    (rw c.in-Ok.is refl) (one_played c.args.self.now.is_closed books (asked_by c.in-Ask.request) c.ask.result c.ask.new.self.is_closed v0 v1 a.closed a.later a.stays a.blame (a.step books honest holds))
+    (rw c.in-Ok.is refl) (one_played g.R.Register.view g.R.Register.in_memory books (asked_by c.in-Ask.request) c.ask.result c.args.self.now c.ask.new.self a.answers (a.step books honest holds))
     (rw c.as_bytes.ensures at c.answer.ensures.written)
 
 pub returns-in-Ok-clause-front : goal.returns-in-Ok-clause-front
 returns-in-Ok-clause-front g c = λ books honest holds.
-    let v0 = g.R.Register.view c.args.self.now.register in
-    let v1 = g.R.Register.view c.ask.new.self.register in
     let a = c.ask.ensures in
     rw c.in-Ask.is
-    (_, one_played c.args.self.now.is_closed books (asked_by c.in-Ask.request) c.ask.result c.ask.new.self.is_closed v0 v1 a.closed a.later a.stays a.blame (a.step books honest holds))
+    (_, one_played g.R.Register.view g.R.Register.in_memory books (asked_by c.in-Ask.request) c.ask.result c.args.self.now c.ask.new.self a.answers (a.step books honest holds))
 
 pub returns-in-Err-clause-played : goal.returns-in-Err-clause-played
 returns-in-Err-clause-played g c = λ books honest holds.
@@ -28,16 +26,14 @@ returns-in-Err-clause-played g c = λ books honest holds.
     let v1 = g.R.Register.view c.ask.new.self.register in
     let a = c.ask.ensures in
     item_written c.args.self.now.is_closed books c.args.item.now c.in-Ask.request c.ask.result (written_fault c.in-Err.fault) _ _ c.ask.new.self.is_closed v0 v1 c.fault.result c.in-Ask.is
-    (rw c.in-Err.is refl) (one_played c.args.self.now.is_closed books (asked_by c.in-Ask.request) c.ask.result c.ask.new.self.is_closed v0 v1 a.closed a.later a.stays a.blame (a.step books honest holds))
+    (rw c.in-Err.is refl) (one_played g.R.Register.view g.R.Register.in_memory books (asked_by c.in-Ask.request) c.ask.result c.args.self.now c.ask.new.self a.answers (a.step books honest holds))
     c.fault.ensures.written
 
 pub returns-in-Err-clause-front : goal.returns-in-Err-clause-front
 returns-in-Err-clause-front g c = λ books honest holds.
-    let v0 = g.R.Register.view c.args.self.now.register in
-    let v1 = g.R.Register.view c.ask.new.self.register in
     let a = c.ask.ensures in
     rw c.in-Ask.is
-    (_, one_played c.args.self.now.is_closed books (asked_by c.in-Ask.request) c.ask.result c.ask.new.self.is_closed v0 v1 a.closed a.later a.stays a.blame (a.step books honest holds))
+    (_, one_played g.R.Register.view g.R.Register.in_memory books (asked_by c.in-Ask.request) c.ask.result c.args.self.now c.ask.new.self a.answers (a.step books honest holds))
 
 pub returns-in-BadLine-clause-played : goal.returns-in-BadLine-clause-played
 returns-in-BadLine-clause-played g c = λ books honest holds.

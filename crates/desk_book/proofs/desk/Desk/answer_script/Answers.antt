@@ -1,7 +1,6 @@
-use Rattle.std.proofs.Common.{refl, ◌∙◌}
 use Rattle.std.specs.Io.KnownBytes.{append_known}
 use Rattle.desk_book.specs.Script.{item_of}
-use Rattle.desk_book.proofs.RunLemmas.{later_on, never_later}
+use Rattle.desk_book.proofs.LeftLemmas.{leaves_all, leaves_on}
 use Rattle.desk_book.proofs.PlayLemmas.{finished, front_and_one, front_played, more_so_far, none_so_far, script_played}
 use Rattle.desk_book.proofs.desk.Desk.answer_script.Goals as goal
 
@@ -9,11 +8,8 @@ pub items-init : goal.items-init
 items-init g c =
     let v0 = g.R.Register.view c.args.self.now.register in
     record {
-      closed = λ was. was;
-      untouched = λ was. refl;
-      in_memory = λ is not_closed. not_closed;
+      left = leaves_all g.R.Register.view g.R.Register.in_memory c.args.self.now;
       room = c.requires.room;
-      later = never_later v0;
       played = λ books honest holds. none_so_far c.args.self.now.is_closed books c.args.script.now (append_known (g.O.Write.contents c.args.writer.now) c.args.outbox.now.waiting.items) v0 holds;
     }
 
@@ -25,15 +21,12 @@ items-preserved g c =
     let v1 = g.R.Register.view c.items.self.register in
     let v2 = g.R.Register.view c.answer_item.new.self.register in
     record {
-      closed = λ was. a.stays (i.closed was);
-      untouched = λ was. a.untouched (i.closed was) ∙ i.untouched was;
-      in_memory = λ is not_closed. a.in_memory is (i.in_memory is not_closed);
+      left = leaves_on g.R.Register.view g.R.Register.in_memory c.args.self.now c.items.self c.answer_item.new.self i.left a.left;
       room = a.room;
-      later = later_on v0 v1 v2 i.later a.later;
       played = λ books honest holds.
-          let s = i.played books (a.later.honest honest) holds in
+          let s = i.played books (a.left.later.honest honest) holds in
           more_so_far v0 v1 v2 c.args.self.now.is_closed c.items.self.is_closed c.answer_item.new.self.is_closed books c.args.script.now c.items.rest.now c.in-Some.after.now
-          (append_known (g.O.Write.contents c.args.writer.now) c.args.outbox.now.waiting.items) (append_known (g.O.Write.contents c.items.writer) c.items.outbox.waiting.items) (append_known (g.O.Write.contents c.answer_item.new.writer) c.answer_item.new.outbox.waiting.items) (item_of c.in-Some.item) i.later a.later s c.in-Some.ensures.first
+          (append_known (g.O.Write.contents c.args.writer.now) c.args.outbox.now.waiting.items) (append_known (g.O.Write.contents c.items.writer) c.items.outbox.waiting.items) (append_known (g.O.Write.contents c.answer_item.new.writer) c.answer_item.new.outbox.waiting.items) (item_of c.in-Some.item) i.left.later a.left.later s c.in-Some.ensures.first
           (a.played s.played.last honest s.played.holds);
     }
 
@@ -41,10 +34,10 @@ pub returns-in_err-answer_item-clause-front : goal.returns-in_err-answer_item-cl
 returns-in_err-answer_item-clause-front g c = λ books honest holds.
     let i = c.items.invariant in
     let a = c.in_err-answer_item.ensures in
-    let s = i.played books (a.later.honest honest) holds in
+    let s = i.played books (a.left.later.honest honest) holds in
     front_and_one (g.R.Register.view c.args.self.now.register) (g.R.Register.view c.items.self.register) (g.R.Register.view c.answer_item.new.self.register)
     c.args.self.now.is_closed c.items.self.is_closed c.answer_item.new.self.is_closed books c.args.script.now c.items.rest.now c.in-Some.after.now
-    (append_known (g.O.Write.contents c.args.writer.now) c.args.outbox.now.waiting.items) (append_known (g.O.Write.contents c.items.writer) c.items.outbox.waiting.items) (item_of c.in-Some.item) i.later a.later s c.in-Some.ensures.first (a.front s.played.last honest s.played.holds)
+    (append_known (g.O.Write.contents c.args.writer.now) c.args.outbox.now.waiting.items) (append_known (g.O.Write.contents c.items.writer) c.items.outbox.waiting.items) (item_of c.in-Some.item) i.left.later a.left.later s c.in-Some.ensures.first (a.front s.played.last honest s.played.holds)
 
 pub returns-clause-played : goal.returns-clause-played
 returns-clause-played g c = λ books honest holds.

@@ -1,19 +1,16 @@
-use Rattle.std.proofs.Common.{◌≡◌, true, false, length}
+use Rattle.std.proofs.Common.{length}
 use Rattle.desk_rules.specs.Books.{Books}
-use Rattle.desk_register.specs.View.{IsLater}
 use Rattle.std.specs.Io.KnownBytes.{append_known}
 use Rattle.desk_book.specs.Held.{Holds}
+use Rattle.desk_book.specs.Left.{LeavesDesk}
 use Rattle.desk_book.specs.Waiting.{HasRoom}
 use Rattle.desk_book.proofs.PlayLemmas.{SoFar}
 use Rattle.desk_book.proofs.desk.Desk.answer_script.Given as goal
 
 abbrev pub invariant-items : goal.invariant-items
 invariant-items g l = record {
-  closed : l.fn.self.is_closed ≡ true → l.self.is_closed ≡ true;
-  untouched : l.fn.self.is_closed ≡ true → l.self ≡ l.fn.self;
-  in_memory : g.R.Register.in_memory ≡ true → l.fn.self.is_closed ≡ false → l.self.is_closed ≡ false;
+  left : LeavesDesk g.R.Register.view g.R.Register.in_memory l.fn.self l.self;
   room : HasRoom l.outbox;
-  later : IsLater (g.R.Register.view l.fn.self.register) (g.R.Register.view l.self.register);
   played : (books : Books) → (g.R.Register.view l.self.register).is_honest → Holds l.fn.self.is_closed (g.R.Register.view l.fn.self.register) books
       → SoFar l.fn.self.is_closed books l.script l.rest (append_known (g.O.Write.contents l.fn.writer) l.fn.outbox.waiting.items) (append_known (g.O.Write.contents l.writer) l.outbox.waiting.items) l.self.is_closed (g.R.Register.view l.fn.self.register) (g.R.Register.view l.self.register);
 }

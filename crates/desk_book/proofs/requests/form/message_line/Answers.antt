@@ -1,36 +1,22 @@
 -- What does not go by the form names no message.
-use Rattle.std.proofs.Common.{◌++◌, ◌∷◌, ◌∙◌, ap, codes, sym}
+use Rattle.std.proofs.Common.{ℕ, List, codes, subst, sym}
 use Rattle.desk_msg.specs.MessageType.{digits_of_type}
-use Rattle.desk_book.proofs.FormLemmas.{behind_is, even_none, no_party, none_party, other_party, said_is, stripped}
+use Rattle.desk_book.specs.Asked.{mt_of}
+use Rattle.desk_book.specs.Forms.{NamesParty}
+use Rattle.desk_book.proofs.FormLemmas.{even_none, one_party}
 use Rattle.desk_book.proofs.requests.form.message_line.Goals as goal
 
-pub returns-in_err-bic-clause-none : goal.returns-in_err-bic-clause-none
-returns-in_err-bic-clause-none c =
-    let begins = stripped 3 (codes "in ") c.args.said.now c.in_ok-rest.rest.now c.in_ok-rest.ensures.cases.0 c.in_ok-rest.ensures.cases.1 in
-    let none = no_party c.in_ok-rest.rest.now c.in_err-bic.ensures.none in
-    even_none c.from_residual-in_err-bic.result (λ sender mt form. none_party (codes "in ") c.args.said.now c.in_ok-rest.rest.now begins none form.0 sender (digits_of_type mt) form.1 form.3)
+pub returns-in_default-clause-none : goal.returns-in_default-clause-none
+returns-in_default-clause-none c = λ sender kind form. c.in_default.ensures.none sender (digits_of_type (mt_of kind)) form
 
-pub returns-in_err-sender-clause-none : goal.returns-in_err-sender-clause-none
-returns-in_err-sender-clause-none c =
-    let begins = stripped 3 (codes "in ") c.args.said.now c.in_ok-rest.rest.now c.in_ok-rest.ensures.cases.0 c.in_ok-rest.ensures.cases.1 in
-    let found = c.in_ok-bic.ensures.found in
-    let none = other_party c.in_ok-rest.rest.now c.in_ok-bic.bic.now c.in_ok-bic.digits.now found.0 found.1 c.in_err-sender.ensures.none in
-    even_none c.from_residual-in_err-sender.result (λ sender mt form. none_party (codes "in ") c.args.said.now c.in_ok-rest.rest.now begins none form.0 sender (digits_of_type mt) form.1 form.3)
-
-pub returns-in_err-mt-clause-none : goal.returns-in_err-mt-clause-none
-returns-in_err-mt-clause-none c =
-    let begins = stripped 3 (codes "in ") c.args.said.now c.in_ok-rest.rest.now c.in_ok-rest.ensures.cases.0 c.in_ok-rest.ensures.cases.1 in
-    even_none c.from_residual-in_err-mt.result
-    (λ sender mt form. c.in_err-mt.ensures.none mt form.2
-    (sym (behind_is (codes "in ") c.args.said.now c.in_ok-rest.rest.now c.in_ok-bic.bic.now c.in_ok-sender.sender c.in_ok-bic.digits.now form.0 sender (digits_of_type mt)
-    begins c.in_ok-sender.ensures.some c.in_ok-bic.ensures.found.0 form.1 form.3)))
+pub returns-in_err-kind-clause-none : goal.returns-in_err-kind-clause-none
+returns-in_err-kind-clause-none c =
+    even_none c.from_residual.result
+    (λ sender kind form.
+    c.in_err-kind.ensures.none kind
+    (sym (one_party (codes "in ") c.args.said.now c.in-Some.named.0 c.in-Some.named.1.now sender (digits_of_type (mt_of kind)) c.in-Some.ensures.some form).1))
 
 pub returns-clause-form : goal.returns-clause-form
 returns-clause-form c =
-    let begins = stripped 3 (codes "in ") c.args.said.now c.in_ok-rest.rest.now c.in_ok-rest.ensures.cases.0 c.in_ok-rest.ensures.cases.1 in (
-      c.in_ok-bic.bic.now,
-      c.in_ok-sender.ensures.some,
-      c.in_ok-mt.ensures.instructs,
-      said_is (codes "in ") c.args.said.now c.in_ok-rest.rest.now c.in_ok-bic.bic.now c.in_ok-bic.digits.now begins c.in_ok-bic.ensures.found.0
-          ∙ ap (λ digits. codes "in " ++ (c.in_ok-bic.bic.now ++ 32 ∷ digits)) (sym c.in_ok-mt.ensures.digits),
-    )
+    let P : List ℕ → Type 0 = λ behind. NamesParty (codes "in ") c.in-Some.named.0 behind c.args.said.now in
+    subst P (sym c.in_ok-kind.ensures.found) c.in-Some.ensures.some

@@ -1,7 +1,7 @@
 use Rattle.std.proofs.Common.{refl}
 use Rattle.desk_http.specs.Paths.{path_of}
-use Rattle.desk_http.proofs.ResourceLemmas.{names_nobody}
-use Rattle.desk_http.proofs.route.Path.resource.Goals as goal
+use Rattle.desk_http.proofs.QuestionLemmas.{names_nobody}
+use Rattle.desk_http.proofs.route.Path.question.Goals as goal
 
 pub returns-in_err-party-in-Message-clause-none : goal.returns-in_err-party-in-Message-clause-none
 returns-in_err-party-in-Message-clause-none c = names_nobody c.from_residual.result (path_of c.args.self.now) c.in-Message.bic.now (rw c.in-Message.is refl) c.in_err-party-in-Message.ensures.none

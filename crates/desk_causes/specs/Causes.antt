@@ -3,9 +3,9 @@ use Rattle.std.specs.Prelude.{ℕ, ◌==◌, Option, find, if◌then◌else◌, 
 use Rattle.std.specs.List.{flat_map}
 use Rattle.desk_rules.specs.Refusals.{number_of_refusal}
 use Rattle.desk_rules.specs.declared.answers.verdict.Refusal.TheVariants.{SenderUnknown, ReferenceReused, PlaceNotUs, UnknownSecurity, KindDiffers, AccountNotSenders, CounterpartyUnknown, NoSuchInstruction, AlreadyCancelled, AlreadySettled, Full, CancellationWaits, CommandReused, Exists, ParticipantUnknown, AccountUnknown, SecurityUnknown, OverLimit, NotEnough, DayGoesBack}
-use Rattle.desk_words.specs.declared.cause.Cause.{Cause}
-use Rattle.desk_words.specs.declared.cause.Cause.TheVariants.{NotBlock, BadLine, BadNesting, TooLong, Missing, Repeated, BadValue, Function, Entry, Command, Line, NoSuchMessage, NoMemory, DeviceFailed, DeskClosed}
-use Rattle.desk_words.specs.declared.cause.TheConstants.{CAUSES}
+use Rattle.desk_causes.specs.declared.cause.Cause.{Cause}
+use Rattle.desk_causes.specs.declared.cause.Cause.TheVariants.{NotBlock, BadLine, BadNesting, TooLong, Missing, Repeated, BadValue, Function, Entry, Command, Line, NoSuchMessage, NoMemory, DeviceFailed, DeskClosed}
+use Rattle.desk_causes.specs.declared.cause.TheConstants.{CAUSES}
 
 abbrev pub number_of_cause : Cause → ℕ
 number_of_cause NotBlock = 1

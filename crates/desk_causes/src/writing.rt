@@ -2,7 +2,7 @@
 ghost use Rattle.std.specs.Prelude.{◌≡◌, ◌++◌, codes, true, OnOk, OnErr};
 ghost use Rattle.std.specs.List.{flat_map};
 ghost use Rattle.std.specs.Io.KnownBytes.{Appends};
-ghost use Rattle.desk_words.specs.Causes.{catalogue_text, cause_text, heading_of, number_of_cause};
+ghost use Rattle.desk_causes.specs.Causes.{catalogue_text, cause_text, heading_of, number_of_cause};
 
 use crate::cause::{CAUSES, Cause};
 use desk_streams::Sink;

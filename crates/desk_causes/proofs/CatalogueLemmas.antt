@@ -9,10 +9,10 @@ use Rattle.desk_msg.specs.declared.reading.refusal.TextRefusal.{TextRefusal}
 use Rattle.desk_msg.specs.declared.reading.refusal.TextRefusal.TheVariants as text
 use Rattle.desk_msg.specs.declared.fault.MsgFault.TheVariants as fields
 use Rattle.desk_rules.specs.declared.answers.verdict.Refusal.TheVariants.{SenderUnknown, ReferenceReused, PlaceNotUs, UnknownSecurity, KindDiffers, AccountNotSenders, CounterpartyUnknown, NoSuchInstruction, AlreadyCancelled, AlreadySettled, Full, CancellationWaits, CommandReused, Exists, ParticipantUnknown, AccountUnknown, SecurityUnknown, OverLimit, NotEnough, DayGoesBack}
-use Rattle.desk_words.specs.Causes.{heading_of, number_of_cause}
-use Rattle.desk_words.specs.declared.cause.Cause.{Cause}
-use Rattle.desk_words.specs.declared.cause.Cause.TheVariants.{NotBlock, BadLine, BadNesting, TooLong, Missing, Repeated, BadValue, Function, Entry, Command, Line, NoSuchMessage, NoMemory, DeviceFailed, DeskClosed}
-use Rattle.desk_words.specs.declared.cause.TheConstants.{CAUSES}
+use Rattle.desk_causes.specs.Causes.{heading_of, number_of_cause}
+use Rattle.desk_causes.specs.declared.cause.Cause.{Cause}
+use Rattle.desk_causes.specs.declared.cause.Cause.TheVariants.{NotBlock, BadLine, BadNesting, TooLong, Missing, Repeated, BadValue, Function, Entry, Command, Line, NoSuchMessage, NoMemory, DeviceFailed, DeskClosed}
+use Rattle.desk_causes.specs.declared.cause.TheConstants.{CAUSES}
 
 pub listed : (cause : Cause) → Contains CAUSES cause
 listed NotBlock = (0, lit< tt, refl)

@@ -1,5 +1,5 @@
-use Rattle.desk_words.proofs.CatalogueLemmas.{listed, one_meaning, text_told}
-use Rattle.desk_words.proofs.laws.told_in_words.Goals as goal
+use Rattle.desk_causes.proofs.CatalogueLemmas.{listed, one_meaning, text_told}
+use Rattle.desk_causes.proofs.laws.told_in_words.Goals as goal
 
 pub returns-clause-listed : goal.returns-clause-listed
 returns-clause-listed c = listed

@@ -1,7 +1,7 @@
 //! What the numbers of refusals and faults mean, and what to do about them.
 ghost use Rattle.std.specs.Prelude.{◌≡◌, ◌≢◌, ◌==◌, All, MatchOption, find};
-ghost use Rattle.desk_words.specs.Causes.{cause_with, meaning_of, number_of_cause, remedy_of};
-ghost use Rattle.desk_words.specs.declared.cause.Cause.{Cause as AnyCause};
+ghost use Rattle.desk_causes.specs.Causes.{cause_with, meaning_of, number_of_cause, remedy_of};
+ghost use Rattle.desk_causes.specs.declared.cause.Cause.{Cause as AnyCause};
 
 use desk_rules::Refusal;
 
