@@ -1,6 +1,6 @@
-"""Times the program of the trials beside plain Python, the same work and the same figures in one run; scripts played over tables in
-SQL, beside their statements asked of Python's SQLite; and, with no Python beside them, a register that takes entries in, the
-desk's program playing scripts, and the same served over HTTP."""
+"""Times the program of the bench beside Python, the same work and the same figures in one run; scripts played over tables in SQL,
+beside their statements asked of Python's SQLite; a register that takes entries in, and the desk's program playing scripts;
+and the same served over HTTP, beside a server of Python's. bench/RESULTS.md has the figures of a run."""
 
 import contextlib
 import functools
@@ -159,7 +159,7 @@ LONGEST_SCRIPT = 16_777_216
 
 # The program that does one kind of work, and plays scripts over tables in SQL; and the folder in which its files are made,
 # one that lies in memory, where there is such.
-TRIALS = "crates/desk_trials/out/desk_trials"
+BENCH = "crates/desk_bench/out/desk_bench"
 SHARED_MEMORY = "/dev/shm"
 
 # In the scripts that are played: the security, the request for the totals, and after how many rounds a run settles
@@ -372,7 +372,7 @@ def played_by_desk(script, pairs):
 
 def played_in_tables(script, pairs):
     """As `played`, over tables in SQL in memory."""
-    return played(TRIALS, script, pairs)
+    return played(BENCH, script, pairs)
 
 
 @contextlib.contextmanager
@@ -385,7 +385,7 @@ def new_path():
 def played_in_file(script, pairs):
     """As `played`, over tables in SQL in a new file."""
     with new_path() as path:
-        return played(TRIALS, script, pairs, path)
+        return played(BENCH, script, pairs, path)
 
 
 @functools.lru_cache(maxsize=1)
@@ -425,7 +425,7 @@ def compare_tables():
     """The tables after a day, of the desk and of the bare one, whose statements are timed beside it."""
     script, pairs = mixed_script(SIZES[0])
     with new_path() as path:
-        played(TRIALS, script, pairs, path)
+        played(BENCH, script, pairs, path)
         with contextlib.closing(sqlite3.connect(path)) as connection:
             if rows_in(connection) != rows_in(bare_desk(script).connection):
                 sys.exit("store: the tables of the bare desk are others than the desk's")
@@ -559,9 +559,9 @@ def measure_http():
 def main(kinds):
     for kind in kinds or [*KINDS, "block", "register", "play", "store", "http"]:
         if kind == "block":
-            measure_blocks(TRIALS)
+            measure_blocks(BENCH)
         elif kind == "register":
-            measure_register(TRIALS)
+            measure_register(BENCH)
         elif kind == "play":
             measure_play()
         elif kind == "store":
@@ -569,7 +569,7 @@ def main(kinds):
         elif kind == "http":
             measure_http()
         else:
-            compare(TRIALS, kind, *KINDS[kind])
+            compare(BENCH, kind, *KINDS[kind])
 
 
 main(sys.argv[1:])

@@ -10,7 +10,7 @@ import re
 import sqlite3
 
 # the crates whose statements these are
-CRATES = ["tables", "entries", "finding", "amounts", "unmatched", "standings", "sent"]
+CRATES = ["sql_tables", "sql_entries", "sql_standings", "sql_amounts", "sql_sent"]
 STATEMENT = re.compile(r'"((?:CREATE|SELECT|INSERT|UPDATE|DELETE|BEGIN|COMMIT|SAVEPOINT|RELEASE|ROLLBACK)\b[^"]*)"')
 
 CURRENCIES = ["CHF", "EUR", "GBP", "JPY", "KWD", "USD"]
@@ -28,7 +28,7 @@ def texts():
     """The texts of the statements, as the sources have them."""
     found = []
     for crate in CRATES:
-        for name in sorted(glob.glob(f"crates/desk_{crate}/src/*.rt")):
+        for name in sorted(glob.glob(f"crates/{crate}/src/*.rt")):
             with open(name, encoding="utf-8") as file:
                 found += STATEMENT.findall(file.read())
     return found

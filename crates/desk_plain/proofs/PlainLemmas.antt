@@ -1,4 +1,4 @@
--- What the steps of the plain program show.
+-- What the steps of the computation show.
 use Rattle.std.proofs.Common.{◌≡◌, ◌≢◌, ℕ, zero, suc, ◌+◌, ◌-◌, ◌<◌, ◌≤◌, inl, inr, Bool, true, false, List, [], ◌∷◌, ◌++◌, All, AllPairs, MatchOption, filter, length, take, get_or, Option, Some, None, append_assoc, append-nil, refl, sym, ◌∙◌, ap, subst, arith, add-one, length-take}
 use Rattle.std.proofs.lemmas.List.{take_all, take_more}
 use Rattle.std.proofs.lemmas.List.Sums.{length-filter, count_by-le-length}

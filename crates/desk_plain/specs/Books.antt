@@ -1,4 +1,4 @@
--- How values of the plain program are read as those of the definitions.
+-- How values are read as those of the definitions.
 use Rattle.desk_plain.specs.declared.books.Books.{Books}
 use Rattle.desk_rules.specs.Books.{Books as IsBooks}
 

@@ -1,7 +1,7 @@
 //! What a list of entries says of participants, accounts, securities, runs and keys.
 ghost use Rattle.std.specs.Prelude.{◌≡◌};
 ghost use Rattle.desk_rules.specs.Facts.{adds_participant, is_participant, kind_by, kind_of, last_run, owner_by, owner_of};
-ghost use Rattle.desk_rules.specs.History.{has_key, number_of_key, same_sender};
+ghost use Rattle.desk_rules.specs.History.{number_of_key};
 
 use crate::history::run_day;
 use desk_codes::{AccountId, Bic, Isin, Reference};
@@ -87,29 +87,12 @@ pub fn last_run(entries: &[Entry]) -> Option<u64>
     }
 }
 
-fn same_sender(a: &Sender, b: &Sender) -> bool
-    ensures { result ≡ same_sender a.now b.now }
-{
-    match (a, b) {
-        (Sender::Operator, Sender::Operator) => true,
-        (Sender::Participant(a), Sender::Participant(b)) => a == b,
-        (Sender::Operator, Sender::Participant(_)) | (Sender::Participant(_), Sender::Operator) =>
-            false,
-    }
-}
-
-fn has_key(sender: &Sender, reference: &Reference, entry: &Entry) -> bool
-    ensures { result ≡ has_key sender.now reference.now entry.now }
-{
-    same_sender(&entry.sender(), sender) && entry.reference() == *reference
-}
-
 /// The number of the entry with a key.
 pub fn number_of_key(entries: &[Entry], sender: &Sender, reference: &Reference) -> Option<u64>
     ensures { result ≡ number_of_key entries.now sender.now reference.now }
 {
     for (index, entry) in entries.iter().enumerate() {
-        if has_key(sender, reference, entry) {
+        if entry.has_key(sender, reference) {
             return Some(index as u64 + 1);
         }
     }

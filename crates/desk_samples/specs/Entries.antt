@@ -9,7 +9,7 @@ use Rattle.desk_codes.specs.Isin.{ReadsIsin}
 use Rattle.desk_codes.specs.Day.{IsDay}
 use Rattle.desk_rules.specs.declared.history.entry.Movement.{Movement}
 use Rattle.desk_rules.specs.declared.history.entry.Entry.{Entry}
-use Rattle.desk_rules.specs.declared.history.entry.Entry.TheVariants.{Issue, Redeem}
+use Rattle.desk_rules.specs.declared.history.entry.Entry.TheVariants.{Issue}
 use Rattle.desk_msg.specs.declared.reading.refusal.ReadFault.{ReadFault}
 use Rattle.desk_msg.specs.declared.reading.refusal.ReadFault.TheVariants as reads
 use Rattle.desk_samples.specs.declared.entries.EntryFault.{EntryFault}
@@ -66,9 +66,6 @@ pub record IsMovementOf (key name code : List ℕ) (amount : ℕ) (movement : Mo
   pub isin : movement.isin ≡ code
   pub quantity : movement.quantity ≡ amount
 
--- the movements of an issue and of a redemption
+-- the movement of an issue
 abbrev pub Issues : (Movement → Type 0) → Entry → Type 0
 Issues Says entry = (movement : Movement) × (entry ≡ Issue movement) × Says movement
-
-abbrev pub Redeems : (Movement → Type 0) → Entry → Type 0
-Redeems Says entry = (movement : Movement) × (entry ≡ Redeem movement) × Says movement

@@ -4,7 +4,6 @@ use Rattle.std.specs.Str.{byte}
 use Rattle.desk_codes.specs.Bic.{party_of}
 use Rattle.desk_text.specs.BlockGrammar.{opening, closing, field_line}
 use Rattle.desk_msg.specs.declared.mt.Mt.{Mt}
-use Rattle.desk_msg.specs.declared.mt.Mt.TheVariants.{Mt540, Mt541, Mt542, Mt543}
 use Rattle.desk_msg.specs.declared.instruction.CancelOrder.{CancelOrder}
 use Rattle.desk_msg.specs.declared.instruction.Instruction.{Instruction}
 use Rattle.desk_msg.specs.declared.instruction.Message.TheVariants as messages
@@ -47,42 +46,10 @@ texts_seen texts = record {
   amount = texts.amount.now;
 }
 
--- 400 of a share, delivered free by ALPHDEFF to BETADEFF
-abbrev pub free_delivery : List ℕ → TextsSeen
-free_delivery key = record {
-  sender = codes "ALPHDEFF";
-  mt = Mt542;
-  key = key;
-  account = codes "A-1";
-  isin = codes "DE0007164600";
-  kind = codes "UNIT";
-  quantity = codes "400";
-  other = codes "BETADEFF";
-  place = codes "DESKDEFF";
-  day = codes "20240229";
-  amount = [];
-}
-
--- the receipt of it
-abbrev pub free_receipt : List ℕ → TextsSeen
-free_receipt key = record (free_delivery key) {
-  sender = codes "BETADEFF";
-  mt = Mt540;
-  account = codes "B-1";
-  other = codes "ALPHDEFF";
-}
-
 -- lines, a line feed behind each, and then a text
 abbrev pub fed : List (List ℕ) → List ℕ → List ℕ
 fed [] text = text
 fed (line ∷ lines) text = line ++ byte "\n" ∷ fed lines text
-
--- the same against EUR 1000.50
-abbrev pub paid : TextsSeen → TextsSeen
-paid texts = record texts {
-  mt = if is_delivery texts.mt then Mt543 else Mt541;
-  amount = fed (codes ":16R:AMT" ∷ codes ":19A::SETT//EUR1000,50" ∷ codes ":16S:AMT" ∷ []) [];
-}
 
 -- a field with a qualifier, `:tag::QUAL//value`
 abbrev pub generic_line : List ℕ → List ℕ → List ℕ → List ℕ

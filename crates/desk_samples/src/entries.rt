@@ -2,8 +2,8 @@
 ghost use Rattle.std.specs.Prelude.{◌≡◌, ◌<◌, ◌≤◌, [], ◌∷◌, IfErr, IfOk, string_bytes};
 ghost use Rattle.desk_codes.specs.Bic.{party_of};
 ghost use Rattle.desk_rules.specs.declared.history.entry.RunRule.TheVariants.{Passes};
-ghost use Rattle.desk_samples.specs.Entries.{Issues, IsMovementOf, Redeems, IsMadeOf, account_text, bic_text, day_text, isin_text, reference_text};
-ghost use Rattle.desk_samples.specs.Instructed.{Instructs, IsInstructed, agent_of, free_delivery, free_receipt, message_text, paid, texts_seen};
+ghost use Rattle.desk_samples.specs.Entries.{Issues, IsMovementOf, IsMadeOf, account_text, bic_text, day_text, isin_text, reference_text};
+ghost use Rattle.desk_samples.specs.Instructed.{Instructs, IsInstructed, agent_of, message_text, texts_seen};
 ghost use Rattle.desk_rules.specs.declared.limits.TheConstants.{MOST_QUANTITY};
 
 use desk_codes::{AccountId, Bic, CodeFault, Day, Isin, Reference};
@@ -14,15 +14,6 @@ use thiserror::Error;
 
 /// A security that is counted in units.
 pub const SHARE: &str = "DE0007164600";
-
-/// A security that is counted by face amount.
-pub const BOND: &str = "US0378331005";
-
-/// A security that nobody registers.
-pub const UNKNOWN: &str = "US5949181045";
-
-/// The lines of an amount of EUR 1000.50.
-const AMOUNT: &str = ":16R:AMT\n:19A::SETT//EUR1000,50\n:16S:AMT\n";
 
 /// Why an entry cannot be made of the texts that are to name it.
 #[derive(Clone, Copy, Debug, Error)]
@@ -154,7 +145,7 @@ pub fn security(key: &str, code: &str, kind: Kind) -> Result<Entry, EntryFault>
     })
 }
 
-/// So much of a security, put on an account or taken off it.
+/// So much of a security, put on an account.
 fn movement(key: &str, name: &str, code: &str, quantity: u64) -> Result<Movement, EntryFault>
     requires some { 0 < quantity }
     requires within { quantity ≤ MOST_QUANTITY }
@@ -177,16 +168,6 @@ pub fn issue(key: &str, name: &str, code: &str, quantity: u64) -> Result<Entry, 
         (Issues (IsMovementOf key.now name.now code.now quantity)) result }
 {
     Ok(Entry::Issue(movement(key, name, code, quantity)?))
-}
-
-/// So much of a security redeemed from an account.
-pub fn redeem(key: &str, name: &str, code: &str, quantity: u64) -> Result<Entry, EntryFault>
-    requires some { 0 < quantity }
-    requires within { quantity ≤ MOST_QUANTITY }
-    ensures { IsMadeOf (reference_text key.now ∷ account_text name.now ∷ isin_text code.now ∷ [])
-        (Redeems (IsMovementOf key.now name.now code.now quantity)) result }
-{
-    Ok(Entry::Redeem(movement(key, name, code, quantity)?))
 }
 
 /// A settlement run for the pairs due by a day.
@@ -219,51 +200,19 @@ pub struct InstructionTexts<'a> {
 }
 
 /// 400 of the share delivered free by ALPHDEFF to BETADEFF.
-pub fn delivery(key: &str) -> InstructionTexts<'_>
-    ensures { texts_seen result ≡ free_delivery key.now }
-{
-    InstructionTexts {
-        sender: "ALPHDEFF",
-        mt: Mt::Mt542,
-        key,
-        account: "A-1",
-        isin: SHARE,
-        kind: "UNIT",
-        quantity: "400",
-        other: "BETADEFF",
-        place: "DESKDEFF",
-        day: "20240229",
-        amount: "",
-    }
-}
-
-/// The receipt of it.
-pub fn receipt(key: &str) -> InstructionTexts<'_>
-    ensures { texts_seen result ≡ free_receipt key.now }
-{
-    InstructionTexts {
-        sender: "BETADEFF",
-        mt: Mt::Mt540,
-        account: "B-1",
-        other: "ALPHDEFF",
-        ..delivery(key)
-    }
-}
-
-/// The same against EUR 1000.50.
-pub fn against_payment(texts: InstructionTexts<'_>) -> InstructionTexts<'_>
-    ensures { texts_seen result ≡ paid (texts_seen texts.entry) }
-{
-    InstructionTexts {
-        mt: if texts.mt.is_delivery() {
-            Mt::Mt543
-        } else {
-            Mt::Mt541
-        },
-        amount: AMOUNT,
-        ..texts
-    }
-}
+pub const DELIVERY: InstructionTexts<'static> = InstructionTexts {
+    sender: "ALPHDEFF",
+    mt: Mt::Mt542,
+    key: "A1",
+    account: "A-1",
+    isin: SHARE,
+    kind: "UNIT",
+    quantity: "400",
+    other: "BETADEFF",
+    place: "DESKDEFF",
+    day: "20240229",
+    amount: "",
+};
 
 /// The qualifier of the other side: the receiving agent of a delivery, the delivering agent of a receipt.
 fn agent_of(mt: Mt) -> &'static str

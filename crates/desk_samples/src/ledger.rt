@@ -1,5 +1,5 @@
 //! A register in memory that takes in what the desk accepts, entry by entry, as the desk does.
-ghost use Rattle.std.specs.Prelude.{◌≡◌, ◌≢◌, ◌≤◌, ◌+◌, false, length, option_map, IfErr, IfNone, IfOk, IfSome, IsOk, OnErr};
+ghost use Rattle.std.specs.Prelude.{◌≡◌, ◌≤◌, ◌+◌, false, length, option_map, IfErr, IfOk, IsOk, OnErr};
 ghost use Rattle.desk_codes.specs.Number.{number_of};
 ghost use Rattle.desk_rules.specs.Balances.{issued, redeemed};
 ghost use Rattle.desk_rules.specs.Books.{Books};
@@ -8,7 +8,6 @@ ghost use Rattle.desk_rules.specs.Facts.{is_participant, kind_of, last_run, owne
 ghost use Rattle.desk_rules.specs.History.{entry_at, number_of_key};
 ghost use Rattle.desk_rules.specs.Questions.{sent_at};
 ghost use Rattle.desk_register.specs.Looked.{IsDuePairAfter, IsFirstOpposite, IsHoldingAfter, IsPaid, IsSecurityAfter, confirmation_in, held_cash_of, held_of, reply_at, sent_to};
-ghost use Rattle.desk_engine.specs.declared.applied.Applied.{Applied as AppliedValue};
 ghost use Rattle.desk_engine.specs.Applied.{CanApply, Keeps, no_books};
 ghost use Rattle.desk_samples.specs.Ledger.{HasTaken, IsEntered, is_taken_in};
 ghost use Rattle.desk_samples.specs.Memory.{IsUnchanged, KeepsBooks};
@@ -16,17 +15,15 @@ ghost use Rattle.desk_samples.specs.Memory.{IsUnchanged, KeepsBooks};
 use crate::memory::MemoryRegister;
 use desk_codes::{AccountId, Bic, Ccy, Day, Isin, Reference};
 use desk_engine::{Applied, Failure, accept, decide};
-use desk_lists::ListRegister;
 use desk_msg::{Instruction, Kind};
 use desk_register::{Fault, Holding};
 use desk_rules::{Entry, MOST_ENTRIES, Place, Refusal, Reply, Sender, Sent, Standing, Verdict};
 use std::alloc::Global;
 use std::marker::Model;
 
-/// A register in memory, in plain lists where no other is named, with no `begin` open, that keeps the tables of a
-/// history.
+/// A register in memory, with no `begin` open, that keeps the tables of a history.
 #[derive(Drop)]
-pub struct Ledger<R: MemoryRegister = ListRegister> {
+pub struct Ledger<R: MemoryRegister> {
     register: R,
 }
 
@@ -43,7 +40,7 @@ impl<R: MemoryRegister> Model for Ledger<R> {
 }
 
 /// What came of an entry.
-#[derive(Clone, Copy, Debug, PartialEq, Eq)]
+#[derive(Clone, Copy, Debug)]
 pub enum Entered {
     /// It is accepted, and fared so.
     Accepted(Applied),
@@ -51,19 +48,6 @@ pub enum Entered {
     Repeated(u64),
     /// It is refused for this reason.
     Refused(Refusal),
-}
-
-impl Entered {
-    /// How it fared, where it was accepted.
-    pub fn accepted(self) -> Option<Applied>
-        ensures some { IfSome result (λ applied. self ≡ Entered.Accepted applied) }
-        ensures none { IfNone result ((applied : AppliedValue) → self ≢ Entered.Accepted applied) }
-    {
-        match self {
-            Entered::Accepted(applied) => Some(applied),
-            Entered::Repeated(_) | Entered::Refused(_) => None,
-        }
-    }
 }
 
 impl<R: MemoryRegister> Ledger<R> {
@@ -76,14 +60,6 @@ impl<R: MemoryRegister> Ledger<R> {
         Ledger {
             register: R::empty(alloc, limit),
         }
-    }
-
-    /// Its register.
-    pub fn into_register(self) -> R
-        ensures same { result ≡ self }
-        ensures keeps { KeepsBooks (R.view result) }
-    {
-        self.register
     }
 
     /// Takes an accepted entry in; after a fault all is taken back.
@@ -208,15 +184,6 @@ impl<R: MemoryRegister> Ledger<R> {
         ensures ok { IsOk result }
     {
         self.register.security_after(alloc, isin)
-    }
-
-    /// What an account holds of a security.
-    pub fn position(&mut self, alloc: Global, account: AccountId, isin: Isin) -> Result<u64, Fault>
-        ensures value { IfOk result (λ r. r ≡ (R.view self.old).content.position account isin) }
-        ensures same { IsUnchanged (R.view self.old) (R.view self.new) }
-        ensures ok { IsOk result }
-    {
-        self.register.position(alloc, account, isin)
     }
 
     /// The first security after one of which an account holds some, and how much; with none, the first of all.

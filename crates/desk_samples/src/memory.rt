@@ -1,12 +1,13 @@
 //! Registers in memory: the stores that a ledger may stand on.
-ghost use Rattle.std.specs.Prelude.{◌≡◌, ◌≤◌, true, length, refl};
+ghost use Rattle.std.specs.Prelude.{◌≡◌, ◌≤◌, true, refl};
 ghost use Rattle.desk_rules.specs.declared.limits.TheConstants.{MOST_ENTRIES};
+ghost use Rattle.desk_register.specs.declared.register.Stage.TheVariants.{Idle};
 ghost use Rattle.desk_register.specs.Changes.{empty_content};
 ghost use Rattle.desk_samples.specs.Memory.{HasNoDevice};
 
 use desk_index::IndexedRegister;
 use desk_lists::ListRegister;
-use desk_register::{Register, Stage};
+use desk_register::Register;
 use std::alloc::Global;
 
 /// A register in memory: there is nothing under it that could fail or lie.
@@ -16,11 +17,7 @@ pub trait MemoryRegister: Register + Drop {
         requires { limit ≤ MOST_ENTRIES }
         ensures empty { (Self.view result).content ≡ empty_content }
         ensures limit { (Self.view result).room ≡ limit }
-        ensures stage { (Self.view result).stage ≡ Stage.Idle };
-
-    /// Whether a `begin` is open, and whether a call within it has failed.
-    fn stage(&self) -> Stage
-        ensures { result ≡ (Self.view self.now).stage };
+        ensures stage { (Self.view result).stage ≡ Idle };
 
     ghost is_in_memory: { Self.in_memory ≡ true };
 
@@ -35,10 +32,6 @@ impl MemoryRegister for ListRegister {
     fn empty(alloc: Global, limit: u64) -> ListRegister {
         ListRegister::new(alloc, limit)
     }
-
-    fn stage(&self) -> Stage {
-        self.stage()
-    }
 }
 
 impl MemoryRegister for IndexedRegister {
@@ -48,9 +41,5 @@ impl MemoryRegister for IndexedRegister {
 
     fn empty(alloc: Global, limit: u64) -> IndexedRegister {
         IndexedRegister::new(alloc, limit)
-    }
-
-    fn stage(&self) -> Stage {
-        self.stage()
     }
 }

@@ -1,6 +1,6 @@
-//! The tests of the libraries: outside vectors, worked days, each allocating call once with ample memory, and what no clause
-//! says and no run of a program shows. They stand in a crate of their own, since a crate with tests is proved twice, and in
-//! one, since each such crate is compiled with all that it reaches.
+//! The tests of the libraries: outside vectors, worked days, and what no clause says and no run of a program shows. They
+//! stand in a crate of their own, since a crate with tests is proved twice, and in one, since each such crate is compiled
+//! with all that it reaches.
 #![tactic(auto)]
 
 #[cfg(test)]
@@ -8,16 +8,8 @@ mod book;
 #[cfg(test)]
 mod codes;
 #[cfg(test)]
-mod engine;
-#[cfg(test)]
-mod holdings;
-#[cfg(test)]
 mod msg;
 #[cfg(test)]
-mod register;
-#[cfg(test)]
 mod rules;
-#[cfg(test)]
-mod streams;
 #[cfg(test)]
 mod text;

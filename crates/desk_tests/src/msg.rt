@@ -1,40 +1,12 @@
-//! Each call that takes memory once, with ample memory, and rows from outside that no case of the program shows.
+//! Texts from outside that no case of the program shows.
 mod statements;
 mod vectors;
 
-use crate::msg::vectors::{CONFIRMED_DELIVERY, DELIVER_AGAINST_PAYMENT, STATUS_REFUSED};
-use desk_codes::{Ccy, Day, Reference};
-use desk_msg::{
-    Case, Message, MsgFault, Mt, Own, TextRefusal, Word, confirmation_text, fields_text,
-    read_confirmation, read_instruction_text, refusal_text, status_text,
-};
+use crate::msg::vectors::{CONFIRMED_DELIVERY, STATUS_REFUSED};
+use desk_codes::{Ccy, Reference};
+use desk_msg::{Case, MsgFault, Mt, Own, Word, read_confirmation, status_text};
 use desk_text::read_block;
-use std::alloc::Global;
 use std::test::Fail;
-
-/// What the delivery against payment says.
-const DELIVERY: &str =
-    "function NEWM\nreference A1\ndate 20240229\nisin DE0007164600\nquantity UNIT 400,\naccount A-1\nsettlement TRAD\nplace DESKDEFF\ncounterparty BETADEFF\namount EUR 1000,5";
-
-/// The delivery against payment, read.
-fn delivery(alloc: Global) -> Result<Message, Fail> {
-    Ok(read_instruction_text(alloc, Mt::Mt543, DELIVER_AGAINST_PAYMENT.as_bytes())?)
-}
-
-#[test]
-fn reads_an_instruction(rt: HostRuntime) -> Result<(), Fail> {
-    let fields = fields_text(rt.alloc(), &delivery(rt.alloc())?)?;
-    assert!(rt; fields.as_slice() == DELIVERY.as_bytes());
-    Ok(())
-}
-
-#[test]
-fn tells_a_refusal(rt: HostRuntime) -> Result<(), Fail> {
-    let refusal = TextRefusal::Fields(MsgFault::Repeated(Word::Seme));
-    let text = refusal_text(rt.alloc(), refusal)?;
-    assert!(rt; text.as_slice() == b"refused 6 SEME".as_slice());
-    Ok(())
-}
 
 /// A refusal's number has two digits.
 #[test]
@@ -47,17 +19,6 @@ fn writes_advices(rt: HostRuntime) -> Result<(), Fail> {
         let text = status_text(alloc, Own::Answer(10), Mt::Mt543, &reference, case)?;
         assert!(rt; text.as_slice() == wanted.as_bytes(), "at {number}");
     }
-    Ok(())
-}
-
-#[test]
-fn writes_a_confirmation(rt: HostRuntime) -> Result<(), Fail> {
-    let day = Day::read(b"20240229").ok_or("no day")?;
-    let Message::New(delivery) = delivery(rt.alloc())? else {
-        return Err("no instruction")?;
-    };
-    let text = confirmation_text(rt.alloc(), 2, &delivery, day)?;
-    assert!(rt; text.as_slice() == CONFIRMED_DELIVERY.as_bytes());
     Ok(())
 }
 

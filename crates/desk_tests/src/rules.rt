@@ -1,6 +1,6 @@
-//! The definitions, tried on a day worked by hand (`worked_day`); and two worked days through the plain program of the
-//! definitions, for what no case of the program asks: the questions, and a run of one pass. Each entry of a day is one that
-//! the desk accepts in its turn.
+//! The definitions, tried on a day worked by hand (`worked_day`); and two worked days through the definitions, computed
+//! (`desk_plain`), for what no case of the program asks: the questions, and a run of one pass. Each entry of a day is one
+//! that the desk accepts in its turn.
 //!
 //! A day is a script, and each script a constant: a check reads a constant once, while each call of a straight line adds
 //! to what it knows of the rest.
@@ -11,10 +11,10 @@ mod worked_day;
 
 use desk_msg::{Mt, Reason};
 use desk_rules::{Pair, Settled, State};
-use desk_samples::entries::InstructionTexts;
+use desk_samples::entries::{DELIVERY, InstructionTexts};
 use scripts::{Line, play};
 use std::test::Fail;
-use steps::{DELIVERY, PAID_DELIVERY, PAID_RECEIPT, Step};
+use steps::{PAID_DELIVERY, PAID_RECEIPT, Step};
 use texts::{DELIVERED_A1, MATCHED_B1, RECEIVED_B1, SENT_MATCHED_A1, UNMATCHED_A1};
 
 /// The day of the deliveries, and of the runs.

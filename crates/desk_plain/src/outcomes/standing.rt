@@ -1,12 +1,12 @@
-//! Where the entry of a number stands: its mate and its state.
+//! How far the entry of a number has come, and the pair that it is in.
 ghost use Rattle.std.specs.Prelude.{◌≡◌, IfOk};
 ghost use Rattle.std.specs.List.{list_any};
 ghost use Rattle.desk_rules.specs.History.{before};
-ghost use Rattle.desk_rules.specs.Pairing.{has_side, pair_of, mate_of};
+ghost use Rattle.desk_rules.specs.Pairing.{has_side, pair_of};
 ghost use Rattle.desk_rules.specs.Settlement.{passes_of, settled_before};
 ghost use Rattle.desk_rules.specs.Covered.{lack_of};
 ghost use Rattle.desk_rules.specs.Books.{is_settled};
-ghost use Rattle.desk_rules.specs.Standing.{is_called_off, is_cancelled, reason_of_lack, reason_below, open_state, state_of, standing_of};
+ghost use Rattle.desk_rules.specs.Standing.{is_called_off, is_cancelled, reason_of_lack, reason_below, open_state, state_of};
 ghost use Rattle.desk_msg.specs.StatusText.{IsCase};
 ghost use Rattle.desk_rules.specs.Reply.{cancellation_case};
 ghost use Rattle.desk_plain.specs.Books.{seen};
@@ -16,7 +16,7 @@ use crate::history::{before, instruction_at, is_cancel_requested, is_cancelled_p
 use crate::outcomes::settlement::{is_due, passes_of, settled_before};
 use crate::sums::cover::lack_of;
 use desk_msg::{Case, Reason};
-use desk_rules::{Entry, Lack, Pair, Settled, Standing, State};
+use desk_rules::{Entry, Lack, Pair, Settled, State};
 use std::alloc::{AllocError, Global};
 
 /// The pair that an entry is in.
@@ -29,17 +29,6 @@ pub fn pair_of(pairs: &[Pair], number: u64) -> Option<Pair>
         }
     }
     None
-}
-
-/// The other side of the pair that an entry is in.
-pub fn mate_of(pairs: &[Pair], number: u64) -> Option<u64>
-    ensures { result ≡ mate_of pairs.now number }
-{
-    match pair_of(pairs, number) {
-        Some(pair) if pair.earlier == number => Some(pair.later),
-        Some(pair) => Some(pair.earlier),
-        None => None,
-    }
 }
 
 fn is_in_settled(settled: &[Settled], number: u64) -> bool
@@ -138,17 +127,6 @@ pub fn state_of(alloc: Global, books: Books, number: u64) -> Result<State, Alloc
         return Ok(State::Cancelled);
     }
     open_state(alloc, books, pair)
-}
-
-/// Where the entry of a number stands.
-pub fn standing_of(alloc: Global, books: Books, number: u64) -> Result<Standing, AllocError>
-    ensures { IfOk result (λ standing. standing ≡ standing_of (seen books.entry) number) }
-{
-    Ok(Standing {
-        mate: mate_of(books.pairs, number),
-        state: state_of(alloc, books, number)?,
-        cancel_requested: is_cancel_requested(books.history, number),
-    })
 }
 
 /// How a cancellation stands, by the instruction that it names.

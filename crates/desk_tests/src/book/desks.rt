@@ -18,7 +18,10 @@ fn is_reply(answer: &Result<Reply, Fault>, (status, text): (u16, &[u8])) -> bool
 /// is asked with it.
 fn is_full(alloc: Global, desk: &mut Desk<ListRegister>, first: &[u8]) -> Result<bool, Fail> {
     let second = br#"{"op":"participant","ref":"P2","bic":"BETADEFF"}"#.as_slice();
-    let requests = [Request::Operator(first), Request::Operator(second)];
+    let requests = [
+        Question::Operator.with(first),
+        Question::Operator.with(second),
+    ];
     let answers = desk.ask_all(alloc, &requests)?;
     let wanted = [
         (200, b"accepted 1".as_slice()),
@@ -37,7 +40,7 @@ fn is_full(alloc: Global, desk: &mut Desk<ListRegister>, first: &[u8]) -> Result
 fn a_desk_of_one_entry(rt: HostRuntime) -> Result<(), Fail> {
     let mut desk = new_desk(rt.alloc(), 1);
     let command = br#"{"op":"participant","ref":"P1","bic":"ALPHDEFF"}"#.as_slice();
-    let reply = desk.ask(rt.alloc(), &Request::Operator(command))?;
+    let reply = desk.ask(rt.alloc(), &Question::Operator.with(command))?;
     assert!(rt; reply.status == 200 && reply.text.as_bytes() == b"accepted 1".as_slice());
     assert!(rt; is_full(rt.alloc(), &mut desk, command)?);
     Ok(())

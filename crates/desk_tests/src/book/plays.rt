@@ -1,9 +1,9 @@
 //! How many reads and how many writes a script takes that is played on a desk in memory, and what stands where one fails.
 use crate::book::over_lists::new_desk;
-use crate::streams::{Pieces, Taking};
 use desk_book::*;
 use desk_register::Register;
 use desk_rules::MOST_ENTRIES;
+use desk_samples::streams::{FailingSink, FailingSource};
 use std::alloc::Global;
 use std::test::Fail;
 
@@ -62,15 +62,10 @@ fn play(
     alloc: Global,
     script: &[u8],
     (piece, fails_at): (usize, usize),
-    writer: &mut Taking,
+    writer: &mut FailingSink,
 ) -> Result<Played, Fail> {
     let mut desk = new_desk(alloc, MOST_ENTRIES);
-    let mut reader = Pieces {
-        rest: script,
-        piece,
-        reads: 0,
-        fails_at,
-    };
+    let mut reader = FailingSource::new(script, piece, fails_at);
     let is_whole = desk.play(alloc, &mut reader, writer).is_ok();
     Ok(Played {
         is_whole,
@@ -86,7 +81,7 @@ fn is_failed_read_told(
     piece: usize,
     fails_at: usize,
 ) -> Result<bool, Fail> {
-    let mut writer = Taking::new(alloc, usize::MAX, 0);
+    let mut writer = FailingSink::new(alloc, usize::MAX, 0);
     let played = play(alloc, script, (piece, fails_at), &mut writer)?;
     let told = Played {
         is_whole: false,
@@ -107,7 +102,7 @@ fn a_script_read_in_pieces(rt: HostRuntime) -> Result<(), Fail> {
             reads,
             entries: SOME as u64,
         };
-        let mut writer = Taking::new(rt.alloc(), usize::MAX, 0);
+        let mut writer = FailingSink::new(rt.alloc(), usize::MAX, 0);
         assert_eq!(rt; play(rt.alloc(), &script, (piece, 0), &mut writer)?, whole);
         for fails_at in 1..reads.saturating_add(1) {
             assert!(rt; is_failed_read_told(rt.alloc(), &script, piece, fails_at)?);
@@ -124,7 +119,7 @@ fn is_failed_write_told(
     answers: &[u8],
     fails_at: usize,
 ) -> Result<bool, Fail> {
-    let mut writer = Taking::new(alloc, usize::MAX, fails_at);
+    let mut writer = FailingSink::new(alloc, usize::MAX, fails_at);
     let played = play(alloc, script, (usize::MAX, 0), &mut writer)?;
     let taken = fails_at.saturating_sub(1).saturating_mul(PIECE);
     let told = taken.saturating_add(PIECE).min(answers.len());
@@ -142,7 +137,7 @@ fn is_failed_write_told(
 #[test]
 fn answers_in_pieces(rt: HostRuntime) -> Result<(), Fail> {
     let script = accounts(rt.alloc(), MANY)?;
-    let mut whole = Taking::new(rt.alloc(), usize::MAX, 0);
+    let mut whole = FailingSink::new(rt.alloc(), usize::MAX, 0);
     let _played = play(rt.alloc(), &script, (usize::MAX, 0), &mut whole)?;
     let answers = whole.taken.as_slice();
     let writes = answers.len().div_ceil(PIECE);

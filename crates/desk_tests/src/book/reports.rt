@@ -1,10 +1,10 @@
 //! Statements and sums written straight to a writer, where a write fails.
 use crate::book::over_lists::new_desk;
-use crate::streams::Taking;
 use desk_book::*;
 use desk_codes::Bic;
 use desk_lists::ListRegister;
 use desk_rules::MOST_ENTRIES;
+use desk_samples::streams::FailingSink;
 use std::alloc::Global;
 use std::test::Fail;
 
@@ -29,7 +29,7 @@ const MOUTHFUL: usize = 64;
 /// Has a desk accept the commands.
 fn command(alloc: Global, desk: &mut Desk<ListRegister>) -> Result<(), Fail> {
     for command in &COMMANDS {
-        let reply = desk.ask(alloc, &Request::Operator(command))?;
+        let reply = desk.ask(alloc, &Question::Operator.with(command))?;
         if reply.status != 200 {
             return Err(Fail::from("a command is not accepted"));
         }
@@ -42,7 +42,7 @@ fn write_to(
     alloc: Global,
     desk: &mut Desk<ListRegister>,
     owner: &Option<Bic>,
-    writer: &mut Taking,
+    writer: &mut FailingSink,
 ) -> Result<Head, ToFault> {
     match owner {
         Some(owner) => desk.holdings_to(alloc, *owner, b"B-1", writer),
@@ -58,7 +58,7 @@ fn is_failed_write_told(
     fails_at: usize,
     want: &[u8],
 ) -> bool {
-    let mut front = Taking::new(alloc, MOUTHFUL, fails_at);
+    let mut front = FailingSink::new(alloc, MOUTHFUL, fails_at);
     let told = write_to(alloc, desk, owner, &mut front);
     matches!(told, Err(ToFault::WriteFailed))
         && front.writes == fails_at
@@ -71,7 +71,7 @@ fn are_failed_writes_told(
     desk: &mut Desk<ListRegister>,
     owner: &Option<Bic>,
 ) -> Result<bool, Fail> {
-    let mut want = Taking::new(alloc, MOUTHFUL, 0);
+    let mut want = FailingSink::new(alloc, MOUTHFUL, 0);
     let _head = write_to(alloc, desk, owner, &mut want)?;
     for fails_at in 1..want.writes.saturating_add(1) {
         if !is_failed_write_told(alloc, desk, owner, fails_at, &want.taken) {

@@ -1,10 +1,7 @@
-//! Statements of holdings: worked texts, and a writer that fails.
+//! Statements of holdings: worked texts.
 use crate::msg::vectors::STATEMENT;
-use crate::streams::Taking;
 use desk_codes::{AccountId, Day, Isin};
-use desk_msg::{HoldingsWriter, Kind, RowSink, SinkFault, StatementRow, holdings_text};
-use std::alloc::Global;
-use std::process::Abort;
+use desk_msg::{Kind, StatementRow, holdings_text};
 use std::test::Fail;
 
 /// The day of the worked statement.
@@ -44,46 +41,5 @@ fn writes_a_face_amount(rt: HostRuntime) -> Result<(), Fail> {
     let text = holdings_text(rt.alloc(), 12, day()?, &account()?, &[first, second])?;
     let want = STATEMENT.replace(rt.alloc(), "UNIT/7,", "FAMT/99999999999999,")?;
     assert!(rt; text.as_slice() == want.as_bytes());
-    Ok(())
-}
-
-fn take_both(
-    mut sink: HoldingsWriter<'_, Taking>,
-    first: StatementRow,
-    second: StatementRow,
-) -> Result<(), SinkFault> {
-    sink.take(first)?;
-    sink.take(second)?;
-    sink.finish()
-}
-
-/// Writes the worked statement, until something fails.
-fn write_to(alloc: Global, writer: &mut Taking) -> Result<Result<(), SinkFault>, Fail> {
-    let first = row(b"DE0007164600", Kind::Unit, 400)?;
-    let second = row(b"US0378331005", Kind::Unit, 7)?;
-    let account = account()?;
-    let sink = HoldingsWriter::new(alloc, writer, 12, day()?, &account);
-    Ok(take_both(sink, first, second))
-}
-
-/// What is written by a writer that fails at one write.
-fn check_failure(rt: &impl Abort, alloc: Global, fails_at: usize) -> Result<(), Fail> {
-    let mut writer = Taking::new(alloc, usize::MAX, fails_at);
-    let answer = write_to(alloc, &mut writer)?;
-    if fails_at == 4 {
-        assert!(rt; answer == Ok(()) && writer.taken.as_slice() == STATEMENT.as_bytes());
-    } else {
-        assert!(rt; answer == Err(SinkFault::Write) && writer.writes == fails_at);
-        assert!(rt; STATEMENT.as_bytes().starts_with(&writer.taken));
-    }
-    Ok(())
-}
-
-/// What was written before a failure is the front of the statement; nothing is written after it.
-#[test]
-fn each_failed_write(rt: HostRuntime) -> Result<(), Fail> {
-    for fails_at in 1..=4 {
-        check_failure(&rt, rt.alloc(), fails_at)?;
-    }
     Ok(())
 }

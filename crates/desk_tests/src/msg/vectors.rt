@@ -1,49 +1,5 @@
 //! Texts from outside, for the tests.
 
-/// An MT543 with fields and sequences that nobody uses.
-pub const DELIVER_AGAINST_PAYMENT: &str = "\
-{4:\n\
-:16R:GENL\n\
-:20C::SEME//A1\n\
-:23G:NEWM\n\
-:98C::PREP//20240226101500\n\
-:16S:GENL\n\
-:16R:TRADDET\n\
-:98A::SETT//20240229\n\
-:98A::TRAD//20240227\n\
-:90B::DEAL//ACTU/EUR2,50125\n\
-:35B:ISIN DE0007164600\n\
-ORDINARY SHARES\n\
-BEARER\n\
-:16R:FIA\n\
-:11A::DENO//EUR\n\
-:16S:FIA\n\
-:70E::SPRO//NOTE OF THE DESK\n\
-:16S:TRADDET\n\
-:16R:FIAC\n\
-:36B::SETT//UNIT/400,\n\
-:97A::SAFE//A-1\n\
-:16S:FIAC\n\
-:16R:SETDET\n\
-:22F::SETR//TRAD\n\
-:16R:SETPRTY\n\
-:95P::BUYR//BETADEFF\n\
-:16S:SETPRTY\n\
-:16R:SETPRTY\n\
-:95P::REAG//BETADEFFXXX\n\
-:16S:SETPRTY\n\
-:16R:SETPRTY\n\
-:95P::PSET//DESKDEFF\n\
-:16S:SETPRTY\n\
-:16R:AMT\n\
-:19A::SETT//EUR1000,50\n\
-:16S:AMT\n\
-:16S:SETDET\n\
-:16R:OTHRPRTY\n\
-:95P::MEOR//ALPHDEFF\n\
-:16S:OTHRPRTY\n\
--}\n";
-
 /// The answer to a reference that was used.
 pub const STATUS_REFUSED: &str = "\
 {4:\r\n\

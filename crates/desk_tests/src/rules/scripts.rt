@@ -1,4 +1,4 @@
-//! Worked days as scripts: what comes to the desk, and what the plain program of the definitions is to give of it.
+//! Worked days as scripts: what comes to the desk, and what the definitions, computed, are to give of it.
 use super::steps::Step;
 use desk_plain::{
     Books, pairing_of, reply_to, sent_of, sent_reply, settled_count, settlement_of, state_of,

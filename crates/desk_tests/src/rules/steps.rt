@@ -3,29 +3,14 @@ use desk_codes::Ccy;
 use desk_msg::{Kind, Mt};
 use desk_rules::{Entry, MOST_PAID, MOST_QUANTITY, Payment, RunRule};
 use desk_samples::entries::{
-    InstructionTexts, SHARE, bic, instruct, issue, new_account, participant, reference, run,
-    security,
+    DELIVERY, InstructionTexts, SHARE, bic, instruct, issue, new_account, participant, reference,
+    run, security,
 };
 use std::alloc::Global;
 use std::test::Fail;
 
-/// 400 of the share delivered free by ALPHDEFF to BETADEFF. Each use gives it a reference.
-pub const DELIVERY: InstructionTexts<'static> = InstructionTexts {
-    sender: "ALPHDEFF",
-    mt: Mt::Mt542,
-    key: "",
-    account: "A-1",
-    isin: SHARE,
-    kind: "UNIT",
-    quantity: "400",
-    other: "BETADEFF",
-    place: "DESKDEFF",
-    day: "20240229",
-    amount: "",
-};
-
-/// The receipt of it.
-pub const RECEIPT: InstructionTexts<'static> = InstructionTexts {
+/// The receipt of the delivery.
+const RECEIPT: InstructionTexts<'static> = InstructionTexts {
     sender: "BETADEFF",
     mt: Mt::Mt540,
     account: "B-1",

@@ -1,0 +1,222 @@
+//! The calls that read the tables. Of each it is said whether it finds something.
+
+use crate::damaged::keys::Keys;
+use desk_codes::Ccy;
+use desk_rules::{Sender, State};
+use sql_amounts::{AmountKey, amount, next_holding};
+use sql_entries::{
+    entry_at, entry_count, is_participant, kind_of, last_run, number_of, owner_of, reply_at,
+    security_after,
+};
+use sql_sent::{confirmation_of, last_place, sent_at, sent_count};
+use sql_standings::due::next_due;
+use sql_standings::standings::standing;
+use sql_standings::unmatched::first_unmatched;
+use sql_tables::version::version;
+use sqlite::{Alter, Connection, Error};
+use std::alloc::Global;
+
+/// Of `sql_amounts`: `amount` of a key of each kind, and `next_holding`.
+#[derive(Clone, Copy)]
+pub enum AmountCall {
+    Balance,
+    Cash,
+    Security,
+    Currency,
+    NextHolding,
+}
+
+/// Of `sql_entries`, by number.
+#[derive(Clone, Copy)]
+pub enum EntryCall {
+    EntryCount,
+    EntryAt,
+    ReplyAt,
+}
+
+/// Of `sql_entries`, by what an entry names: `number_of` of either sender, `security_after` with none and with one before
+/// it, and the others.
+#[derive(Clone, Copy)]
+pub enum FindingCall {
+    NumberOfOperator,
+    NumberOfParticipant,
+    IsParticipant,
+    OwnerOf,
+    KindOf,
+    FirstSecurity,
+    SecurityAfter,
+    LastRun,
+}
+
+/// Of `sql_standings`.
+#[derive(Clone, Copy)]
+pub enum InstructionCall {
+    Standing,
+    NextDue,
+    FirstUnmatched,
+}
+
+/// Of `sql_sent`, and the version of `sql_tables`.
+#[derive(Clone, Copy)]
+pub enum MessageCall {
+    SentAt,
+    ConfirmationOf,
+    SentCount,
+    LastPlace,
+    Version,
+}
+
+/// Any of them.
+#[derive(Clone, Copy)]
+pub enum Call {
+    Amount(AmountCall),
+    Entry(EntryCall),
+    Finding(FindingCall),
+    Instruction(InstructionCall),
+    Message(MessageCall),
+}
+
+/// Whether something is found.
+fn found<T: Drop>(answer: Result<Option<T>, Error>) -> Result<bool, Error> {
+    match answer {
+        Ok(it) => Ok(it.is_some()),
+        Err(error) => Err(error),
+    }
+}
+
+/// Whether a number is above 0.
+fn counted(answer: Result<u64, Error>) -> Result<bool, Error> {
+    match answer {
+        Ok(count) => Ok(count > 0),
+        Err(error) => Err(error),
+    }
+}
+
+impl AmountCall {
+    fn answer<S: Alter>(self, conn: &mut Connection<S>, keys: &Keys) -> Result<bool, Error> {
+        let key = match self {
+            AmountCall::Balance => AmountKey::Balance(keys.account, keys.isin),
+            AmountCall::Cash => AmountKey::Cash(keys.bic, Ccy::Eur),
+            AmountCall::Security => AmountKey::Security(keys.isin),
+            AmountCall::Currency => AmountKey::Currency(Ccy::Eur),
+            AmountCall::NextHolding => return found(next_holding(conn, keys.account, None)),
+        };
+        found(amount(conn, &key))
+    }
+}
+
+impl EntryCall {
+    fn answer<S: Alter>(self, conn: &mut Connection<S>, alloc: Global) -> Result<bool, Error> {
+        match self {
+            EntryCall::EntryCount => counted(entry_count(conn)),
+            EntryCall::EntryAt => found(entry_at(conn, alloc, 1)),
+            EntryCall::ReplyAt => found(reply_at(conn, alloc, 1)),
+        }
+    }
+}
+
+impl FindingCall {
+    fn read(name: &str) -> Option<FindingCall> {
+        Some(match name {
+            "number_of_operator" => FindingCall::NumberOfOperator,
+            "number_of_participant" => FindingCall::NumberOfParticipant,
+            "is_participant" => FindingCall::IsParticipant,
+            "owner_of" => FindingCall::OwnerOf,
+            "kind_of" => FindingCall::KindOf,
+            "first_security" => FindingCall::FirstSecurity,
+            "security_after" => FindingCall::SecurityAfter,
+            "last_run" => FindingCall::LastRun,
+            _ => return None,
+        })
+    }
+
+    fn answer<S: Alter>(self, conn: &mut Connection<S>, keys: &Keys) -> Result<bool, Error> {
+        let participant = Sender::Participant(keys.bic);
+        match self {
+            FindingCall::NumberOfOperator => found(number_of(
+                conn,
+                Sender::Operator,
+                keys.reference,
+            )),
+            FindingCall::NumberOfParticipant => found(number_of(conn, participant, keys.reference)),
+            FindingCall::IsParticipant => is_participant(conn, keys.bic),
+            FindingCall::OwnerOf => found(owner_of(conn, keys.account)),
+            FindingCall::KindOf => found(kind_of(conn, keys.isin)),
+            FindingCall::FirstSecurity => found(security_after(conn, None)),
+            FindingCall::SecurityAfter => found(security_after(conn, Some(keys.isin))),
+            FindingCall::LastRun => found(last_run(conn)),
+        }
+    }
+}
+
+impl InstructionCall {
+    fn answer<S: Alter>(self, conn: &mut Connection<S>, keys: &Keys) -> Result<bool, Error> {
+        match self {
+            InstructionCall::Standing => Ok(standing(conn, 1)?.state != State::NoInstruction),
+            InstructionCall::NextDue => found(next_due(conn, None, keys.day)),
+            InstructionCall::FirstUnmatched => found(first_unmatched(
+                conn,
+                keys.bic,
+                &keys.delivery,
+            )),
+        }
+    }
+}
+
+impl MessageCall {
+    fn answer<S: Alter>(
+        self,
+        conn: &mut Connection<S>,
+        alloc: Global,
+        keys: &Keys,
+    ) -> Result<bool, Error> {
+        match self {
+            MessageCall::SentAt => found(sent_at(conn, alloc, keys.bic, 1)),
+            MessageCall::ConfirmationOf => found(confirmation_of(conn, alloc, 8)),
+            MessageCall::SentCount => counted(sent_count(conn)),
+            MessageCall::LastPlace => counted(last_place(conn, keys.bic)),
+            MessageCall::Version => found(version(conn)),
+        }
+    }
+}
+
+impl Call {
+    /// The call of a name; None where there is no such call.
+    pub fn read(name: &str) -> Option<Call> {
+        Some(match name {
+            "balance" => Call::Amount(AmountCall::Balance),
+            "cash" => Call::Amount(AmountCall::Cash),
+            "security" => Call::Amount(AmountCall::Security),
+            "currency" => Call::Amount(AmountCall::Currency),
+            "next_holding" => Call::Amount(AmountCall::NextHolding),
+            "entry_count" => Call::Entry(EntryCall::EntryCount),
+            "entry_at" => Call::Entry(EntryCall::EntryAt),
+            "reply_at" => Call::Entry(EntryCall::ReplyAt),
+            "standing" => Call::Instruction(InstructionCall::Standing),
+            "next_due" => Call::Instruction(InstructionCall::NextDue),
+            "first_unmatched" => Call::Instruction(InstructionCall::FirstUnmatched),
+            "sent_at" => Call::Message(MessageCall::SentAt),
+            "confirmation_of" => Call::Message(MessageCall::ConfirmationOf),
+            "sent_count" => Call::Message(MessageCall::SentCount),
+            "last_place" => Call::Message(MessageCall::LastPlace),
+            "version" => Call::Message(MessageCall::Version),
+            _ => Call::Finding(FindingCall::read(name)?),
+        })
+    }
+
+    /// Whether it finds something.
+    pub fn answer<S: Alter>(
+        self,
+        conn: &mut Connection<S>,
+        alloc: Global,
+        keys: &Keys,
+    ) -> Result<bool, Error> {
+        match self {
+            Call::Amount(call) => call.answer(conn, keys),
+            Call::Entry(call) => call.answer(conn, alloc),
+            Call::Finding(call) => call.answer(conn, keys),
+            Call::Instruction(call) => call.answer(conn, keys),
+            Call::Message(call) => call.answer(conn, alloc, keys),
+        }
+    }
+}

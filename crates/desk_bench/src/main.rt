@@ -1,0 +1,94 @@
+//! The bench, which the tests and the benchmark run in place of the program: `desk_bench KIND ..`. What it is asked for is
+//! a `Work`.
+//!
+//! `connection SENT RESPONSE [SETUP]`, the names of files, tries what a connection sends, and the response that is wanted,
+//! in each way in which the bytes may come and go, for tests/http_cases. The setup is a script that is played on the desk
+//! first. Each way counts; the last line says 'N passed, M failed'.
+//!
+//! `play`, or no word, plays a script from standard input on a new desk whose register stands in SQL tables in memory, and
+//! `play FILE` in a new file of that path. What is printed and the exit status are those of `desk play`; a file that cannot
+//! be made, or has tables already, is `fault 61`.
+//!
+//! `damaged CALL ROW [CHANGE]` tells what a call that reads the tables answers of a row, for tests/damaged_rows: ROW is a
+//! statement that puts it into new tables, and CHANGE one that damages it.
+//!
+//! `day STORE` asks a register a day's entries, for tests/refuse_register, which refuses it growths of memory. STORE is
+//! `lists` or `index`.
+//!
+//! `statement COUNT` and `sums COUNT` write the statement of an account that holds so many securities, or the totals of as
+//! many, straight to standard output, for tests/bounded_memory.
+//!
+//! `isin COUNT`, `number COUNT`, `block COUNT`, `lists COUNT` and `index COUNT` do one kind of the desk's work that many
+//! times and print a figure of it, so that two programs can be seen to have done the same. The text of a block comes on
+//! standard input. bench/run times it.
+#![tactic(auto)]
+
+mod connections;
+mod damaged;
+mod digits;
+mod failure;
+mod figures;
+mod market;
+mod over_index;
+mod registers;
+mod reports;
+mod tables;
+mod work;
+
+use crate::failure::Failure;
+use crate::work::Work;
+use std::env;
+use std::process::ExitCode;
+
+/// The exit statuses: of what was done or passed, of a difference, of other words, and of a fault.
+const DONE: u8 = 0;
+
+const DIFFERS: u8 = 1;
+
+const USAGE: u8 = 2;
+
+const FAULT: u8 = 3;
+
+fn main(rt: HostRuntime) -> ExitCode {
+    ExitCode::from(match answer(&rt) {
+        Ok(status) => status,
+        Err(failure) => tell(&rt, failure),
+    })
+}
+
+/// Does what the words ask for. Gives the exit status.
+fn answer(rt: &HostRuntime) -> Result<u8, Failure> {
+    let words: Vec<String> = env::args(rt)?.collect(rt.alloc())?;
+    let Some(work) = Work::read(&words) else {
+        return Ok(USAGE);
+    };
+    Ok(if done(rt, work)? { DONE } else { DIFFERS })
+}
+
+/// Does a work. Whether there was no difference.
+fn done(rt: &HostRuntime, work: Work<'_>) -> Result<bool, Failure> {
+    match work {
+        Work::Connection {
+            sent,
+            response,
+            setup,
+        } => connections::try_files(rt, sent, response, setup),
+        Work::Play(path) => tables::play_script(rt, path),
+        Work::Damaged { call, row, change } => damaged::tell(rt, call, row, change),
+        Work::Day(store) => registers::try_store(rt, store),
+        Work::Report(form, count) => reports::print(rt, form, count),
+        Work::Figure(kind, count) => figures::print(rt, kind, count),
+    }
+}
+
+/// Tells a failure, and gives its status. Where nothing can be written the status alone tells it.
+fn tell(rt: &impl Print, failure: Failure) -> u8 {
+    let _ = match failure {
+        Failure::Memory => println!(rt; "fault 60"),
+        Failure::Storage => println!(rt; "fault 61"),
+        Failure::Input => println!(rt; "fault io"),
+        Failure::Stream => Ok(()),
+        _ => println!(rt; "{failure:?}"),
+    };
+    FAULT
+}

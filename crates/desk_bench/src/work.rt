@@ -1,0 +1,106 @@
+//! What the words ask for.
+
+use crate::damaged::Call;
+use crate::figures::Kind;
+use crate::registers::Store;
+use crate::reports::Form;
+
+/// What the words ask for.
+#[derive(Clone, Copy)]
+pub enum Work<'a> {
+    /// What a connection sends is tried; the names of files.
+    Connection {
+        sent: &'a str,
+        response: &'a str,
+        setup: Option<&'a str>,
+    },
+    /// A script is played over tables, in memory or in a new file of a path.
+    Play(Option<&'a str>),
+    /// A row is put into tables, damaged where a change is given, and read.
+    Damaged {
+        call: Call,
+        row: &'a str,
+        change: Option<&'a str>,
+    },
+    /// A day's entries are asked of a register.
+    Day(Store),
+    /// A report of so many securities is written.
+    Report(Form, u32),
+    /// So much work of a kind is done, and its figure printed.
+    Figure(Kind, u32),
+}
+
+impl<'a> Work<'a> {
+    /// What the program's words ask for; None where it is nothing.
+    pub fn read(words: &'a [String]) -> Option<Work<'a>> {
+        match words {
+            [_] => Some(Work::Play(None)),
+            [_, kind] if kind.as_str() == "play" => Some(Work::Play(None)),
+            [_, kind, word] => Work::of_one(kind.as_str(), word.as_str()),
+            [_, kind, first, second] => {
+                Work::of_two(kind.as_str(), first.as_str(), second.as_str())
+            }
+            [_, kind, first, second, third] => Work::of_three(
+                kind.as_str(),
+                first.as_str(),
+                second.as_str(),
+                third.as_str(),
+            ),
+            _ => None,
+        }
+    }
+
+    /// What a kind and one word ask for.
+    fn of_one(kind: &'a str, word: &'a str) -> Option<Work<'a>> {
+        Some(match kind {
+            "play" => Work::Play(Some(word)),
+            "day" => Work::Day(Store::read(word)?),
+            "statement" => Work::Report(Form::Statement, number(word)?),
+            "sums" => Work::Report(Form::Sums, number(word)?),
+            _ => Work::Figure(Kind::read(kind)?, number(word)?),
+        })
+    }
+
+    /// What a kind and two words ask for.
+    fn of_two(kind: &'a str, first: &'a str, second: &'a str) -> Option<Work<'a>> {
+        Some(match kind {
+            "connection" => Work::Connection {
+                sent: first,
+                response: second,
+                setup: None,
+            },
+            "damaged" => Work::Damaged {
+                call: Call::read(first)?,
+                row: second,
+                change: None,
+            },
+            _ => return None,
+        })
+    }
+
+    /// What a kind and three words ask for.
+    fn of_three(
+        kind: &'a str,
+        first: &'a str,
+        second: &'a str,
+        third: &'a str,
+    ) -> Option<Work<'a>> {
+        Some(match kind {
+            "connection" => Work::Connection {
+                sent: first,
+                response: second,
+                setup: Some(third),
+            },
+            "damaged" => Work::Damaged {
+                call: Call::read(first)?,
+                row: second,
+                change: Some(third),
+            },
+            _ => return None,
+        })
+    }
+}
+
+fn number(word: &str) -> Option<u32> {
+    word.parse::<u32>().ok()
+}
