@@ -1,4 +1,4 @@
-"""A plain server of connections (docs/RULES.md, 'The desk over HTTP'): what a connection asks by all that it sends, and
+"""A plain server of connections (docs/PROGRAM.md, 'The desk over HTTP'): what a connection asks by all that it sends, and
 the response."""
 
 import re

@@ -1,4 +1,4 @@
-"""A plain player of scripts on a new desk (docs/RULES.md, 'The program')."""
+"""A plain player of scripts on a new desk (docs/PROGRAM.md, 'Scripts')."""
 
 import re
 

@@ -10,7 +10,7 @@ import time
 
 from .room import copy, fails, run, write, write_script
 
-CRATES = "desk_text: smallvec\ndesk_tests: desk_text\ndesk: desk_text clap\ndesk_trials: desk_text\n"
+CRATES = "desk_text: smallvec\ndesk_tests: desk_text\ndesk: desk_text clap\ndesk_bench: desk_text\n"
 SOURCES = [
     "crates.txt",
     "crates/desk/src/main.rt",
@@ -18,9 +18,9 @@ SOURCES = [
     "crates/desk/proofs/run.antt",
     "crates/desk_text/src/of_tests/lib.rt",
 ]
-NO_SOURCES = ["crates/desk_tests/src/lib.rt", "crates/desk_trials/src/main.rt", "crates/desk/stdout"]
+NO_SOURCES = ["crates/desk_tests/src/lib.rt", "crates/desk_bench/src/main.rt", "crates/desk/stdout"]
 # a checkout may lie anywhere, also below folders that are named as those of a repository
-PLACES = ["clone", "x_tests/clone", "desk_trials/clone"]
+PLACES = ["clone", "x_tests/clone", "desk_bench/clone"]
 PROGRAM = 'echo "{}: $*"; exit 7'
 LIBRARIES = "if [ $* = lib ] && [ ${PWD##*/} = desk_text ]; then exit; fi"
 NAMED = '[ "$*" = "run -- --help" ] && [ ${PWD##*/} = desk ] || exit 2'

@@ -3,6 +3,8 @@
 from .room import TESTS, fails, passes, run, write, write_script
 
 SHOWN = "A page.\n\n    $ ./desk tell 1\n    told 1\n\n    at once\n    $ ./desk tell 3 | tr 3 4\n    told 4\n\n    at once\n"
+WHOLE = "| Where | Number |\n|---|---|\n| here | 1 to 2 |\n| there | 7, 60 |\n\n"
+ORDER = "| Of | Refused with the first |\n|---|---|\n| this | 2 |\n| that | 7, 1 |\n"
 OTHER = "\nA paragraph:\n\n    $ ls\n    any\n\n- an item\n    $ ./desk tell 5\n"
 
 
@@ -12,7 +14,8 @@ def trials(room):
         return run(room, f"{TESTS}/documents", f"{room}/program", f"{room}/page.md")
 
     tell = "tell) printf 'told %s\\r\\n\\nat once\\n' \"$2\" ;;"
-    write_script(f"{room}/program", 'case "$1" in', tell, "refuse) echo refused; exit 1 ;;", "*) exit 2 ;;", "esac")
+    explain = "explain) printf '%s: why\\n    what to do\\n' 'refused 1' 'refused 2' 'refused 7' 'fault 60' ;;"
+    write_script(f"{room}/program", 'case "$1" in', tell, "refuse) echo refused; exit 1 ;;", explain, "*) exit 2 ;;", "esac")
     write(f"{room}/file", "first\n  second\n    third\nlast")
     cited = f"From `{room}/file`, where it stands deeper:\n\n    second\n      third\n"
 
@@ -26,6 +29,18 @@ def trials(room):
     yield fails("an output that is cut off", documents(SHOWN.replace("told 4\n\n    at once\n", "told 4\n")), why)
     why = "page.md:1: ./desk refuse: it prints 1 lines, and 2 are shown\n0 passed, 1 failed\n"
     yield fails("an output that is too long", documents("    $ ./desk refuse\n    refused\n    so\n"), why)
+    yield passes("tables of refusals", documents(WHOLE + ORDER), "2 passed, 0 failed\n")
+    yield passes("a table of something else", documents(SHOWN + WHOLE.replace("Number", "Count")), "2 passed, 0 failed\n")
+    why = "page.md:1: 7 stands there 0 times\n0 passed, 1 failed\n"
+    yield fails("a table that lacks a refusal", documents(WHOLE.replace("7, 60", "60")), why)
+    why = "page.md:1: 2 stands there 2 times\n0 passed, 1 failed\n"
+    yield fails("a table that has one twice", documents(WHOLE.replace("7, 60", "2, 7, 60")), why)
+    why = "page.md:1: explain does not tell 3\n0 passed, 1 failed\n"
+    yield fails("a table of a refusal that there is not", documents(WHOLE.replace("1 to 2", "1 to 3")), why)
+    why = "page.md:1: explain does not tell 6\n0 passed, 1 failed\n"
+    yield fails("an order with one that there is not", documents(ORDER.replace("7, 1", "7, 6")), why)
+    why = "page.md:1: 'all' has no numbers\n0 passed, 1 failed\n"
+    yield fails("a table without its numbers", documents(WHOLE.replace("7, 60", "all")), why)
     why = "page.md:1: ./desk refuse: nothing is shown behind it\n0 passed, 1 failed\n"
     yield fails("a command without its output", documents("    $ ./desk refuse\n"), why)
     why = "page.md:1: ./desk other: status 2\n0 passed, 1 failed\n"
@@ -37,7 +52,11 @@ def trials(room):
     why = f"page.md:3: there is no {room}/none\n0 passed, 1 failed\n"
     yield fails("a block of no file", documents(cited.replace("/file", "/none")), why)
     why = "page.md: the link none.md leads nowhere\n2 passed, 1 failed\n"
-    yield fails("a link to no file", documents(f"{SHOWN}\nSee [it](none.md) and [this](page.md#part).\n"), why)
+    yield fails("a link to no file", documents(f"{SHOWN}\nSee [it](none.md) and [this](page.md).\n"), why)
+    linked = f"{SHOWN}\n## The `first`\n\n[it](#the-first), [it](page.md#the-first)\n"
+    yield passes("links to a heading", documents(linked), "2 passed, 0 failed\n")
+    why = "page.md: the link #the-first leads nowhere\n2 passed, 1 failed\n"
+    yield fails("a link to no heading", documents(f"{SHOWN}\n## The second\n\n[it](#the-first)\n"), why)
     yield fails("nothing shown", documents("A page.\n"), "documents: nothing is shown\n0 passed, 1 failed\n")
     no_page = run(room, f"{TESTS}/documents", f"{room}/program", f"{room}/none.md")
     yield fails("no document", no_page, f"documents: there is no {room}/none.md\n0 passed, 1 failed\n")

@@ -4,10 +4,10 @@ the other, gives each kind of answer."""
 import re
 
 from generate.chance import Chance
+from generate.comparing import DEFAULT_SEED
+from generate.comparing_streams import is_heard_out
 from generate.scripts import random_script
-from generate.stream_trial import is_heard_out
 from generate.streams import random_streams, sent_by
-from generate.trial import DEFAULT_SEED
 from plain.connections import responses
 from plain.scripts import answers_to
 

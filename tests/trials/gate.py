@@ -11,7 +11,7 @@ OUTSIDE = "wrong_programs"
 WELL = "echo '99999 passed, 0 failed'"
 # the scripts that the gate runs on the program over tables in SQL too
 SHARED = ["random_scripts", "refuse_memory", "run_cases"]
-TABLES = "crates/desk_trials/out/desk_trials"
+TABLES = "crates/desk_bench/out/desk_bench"
 
 # each way in which a part goes wrong: how its script is changed, and what ./test says of it
 FAULTS = {
@@ -57,7 +57,7 @@ def trials_of_tables(room):
 
 def trials_of_groups(room):
     """Groups of parts that run beside others and are killed in the middle."""
-    for part, group in (("edits_apply", "beside_the_proofs"), ("drawn_registers", "beside_the_desk")):
+    for part, group in (("edits_apply", "beside_the_proofs"), ("damaged_rows", "beside_the_desk")):
         path = f"{room}/tests/{part}"
         write_script(path, "kill -9 $PPID", WELL)
         yield fails(f"{group} is killed", run(room, "./test"), f"test: {group} did not come to its end\n")
