@@ -15,6 +15,8 @@
 //! `day STORE` asks a register a day's entries, for tests/refuse_register, which refuses it growths of memory. STORE is
 //! `lists` or `index`.
 //!
+//! `schema FILE` opens a file and tells `ours` where its schema is the desk's, else `not ours`, for tests/opened_files.
+//!
 //! `statement COUNT` and `sums COUNT` write the statement of an account that holds so many securities, or the totals of as
 //! many, straight to standard output, for tests/bounded_memory.
 //!
@@ -29,6 +31,7 @@ mod digits;
 mod failure;
 mod figures;
 mod market;
+mod opening;
 mod over_index;
 mod registers;
 mod reports;
@@ -76,6 +79,7 @@ fn done(rt: &HostRuntime, work: Work<'_>) -> Result<bool, Failure> {
         Work::Play(path) => tables::play_script(rt, path),
         Work::Damaged { call, row, change } => damaged::tell(rt, call, row, change),
         Work::Day(store) => registers::try_store(rt, store),
+        Work::Schema(path) => opening::tell_schema(rt, path),
         Work::Report(form, count) => reports::print(rt, form, count),
         Work::Figure(kind, count) => figures::print(rt, kind, count),
     }

@@ -24,6 +24,8 @@ pub enum Work<'a> {
     },
     /// A day's entries are asked of a register.
     Day(Store),
+    /// A file is opened, and its schema looked at.
+    Schema(&'a str),
     /// A report of so many securities is written.
     Report(Form, u32),
     /// So much work of a kind is done, and its figure printed.
@@ -55,6 +57,7 @@ impl<'a> Work<'a> {
         Some(match kind {
             "play" => Work::Play(Some(word)),
             "day" => Work::Day(Store::read(word)?),
+            "schema" => Work::Schema(word),
             "statement" => Work::Report(Form::Statement, number(word)?),
             "sums" => Work::Report(Form::Sums, number(word)?),
             _ => Work::Figure(Kind::read(kind)?, number(word)?),

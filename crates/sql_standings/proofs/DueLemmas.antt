@@ -183,7 +183,7 @@ notes_due old new n count small has were h =
     record {
       kept = record {
         rising = subst IsTable (sym rows_are) (IsTable-put_row (due_row n) held were.rising);
-        formed = subst (AllByRecursion IsDueRow) (sym rows_are) (all-put_row IsDueRow (due_row n) held (record { place = n; is = refl; small = small }) were.formed);
+        formed = subst (AllByRecursion IsDueRow) (sym rows_are) (all-put_row IsDueRow (due_row n) held (record { place = n; rest = Null ∷ []; is = refl; bare = inl refl; small = small }) were.formed);
       };
       due_are = ap is_due_among rows_are ∙ put_due n held were.formed;
       others = spares 10 11 old.now new.now (edit_of old.now.trees due_table [] Chosen 0 made.0) (omega arith) (omega arith) made.2;
@@ -277,7 +277,7 @@ is_among floor end (x ∷ xs) r formed h = elim (cases_Bool (is_between floor en
 
 -- what is due between the two is among the rows that pass
 among_due : (floor : ℤ) (end : ℕ) (rows : List Row) (n : ℕ) → AllByRecursion IsDueRow rows → is_due_among rows (place_numbered n) ≡ true → is_gt (int_cmp (pos n) floor) ≡ true → n < end
-    → (r : Row) × Among (filter (is_between floor end) rows) r × (r ≡ due_row n)
+    → (r : Row) × Among (filter (is_between floor end) rows) r × (rowid r ≡ Int (pos n))
 among_due floor end [] n formed due high low = absurd (let e : false ≡ true = due in cc)
 among_due floor end (x ∷ xs) n formed due high low =
     let rest = filter (is_between floor end) xs in
@@ -286,7 +286,7 @@ among_due floor end (x ∷ xs) n formed due high low =
           let between : is_between floor end x ≡ true = ap (λ k. is_gt (int_cmp (pos k) floor) && nat_lt k end) own ∙ and_from (is_gt (int_cmp (pos n) floor)) (nat_lt n end) high (lt-ltb n end low) in (
             x,
             subst (λ b. Among (cond b (x ∷ rest) rest) x) (sym between) (inl refl),
-            formed.0.is ∙ ap due_row (sym (own_place x formed.0) ∙ own),
+            own_rowid x formed.0 ∙ ap (λ k. Int (pos k)) (sym (own_place x formed.0) ∙ own),
           ))
       | inr apart ↦ (let it = among_due floor end xs n formed.1 (sym (ap (λ b. b || is_due_among xs (place_numbered n)) apart) ∙ due) high low in (
         it.0,
@@ -322,7 +322,7 @@ shows_first old new floor end rows has were h =
             first = (
               record { due = is.1; above = is.2; below = is.3 },
               λ m other. (let r = among_due floor end held m were.formed other.due other.above other.below in
-                  let least : nat_lt m n ≡ false = sym (number_below m n) ∙ ap (λ v. is_lt (value_cmp v (Int (pos n)))) (sym (ap rowid r.2)) ∙ ap (λ v. is_lt (value_cmp (rowid r.0) v)) (sym (own_rowid it.0 is.0)) ∙ it.3 r.0 r.1 in
+                  let least : nat_lt m n ≡ false = sym (number_below m n) ∙ ap (λ v. is_lt (value_cmp v (Int (pos n)))) (sym r.2) ∙ ap (λ v. is_lt (value_cmp (rowid r.0) v)) (sym (own_rowid it.0 is.0)) ∙ it.3 r.0 r.1 in
                   ltb-false m n least),
             );
           })

@@ -9,7 +9,7 @@ use Rattle.sqlite.specs.Effect.{Database}
 use Rattle.desk_rules.specs.declared.history.pair.Place.{Place}
 use Rattle.desk_rules.specs.Settlement.{is_before, is_past}
 use Rattle.sql_tables.specs.Ends.{SparesOthers}
-use Rattle.sql_tables.specs.Rows.{number_rows}
+use Rattle.sql_tables.specs.Rows.{IsBare, number_rows}
 use Rattle.sql_standings.specs.Standings.{number_of_row}
 
 -- ---- a place as one number: its day, and nine digits for the later instruction's number
@@ -19,13 +19,15 @@ place_numbered n = record { day = n / 1_000_000_000; number = n % 1_000_000_000 
 
 -- ---- the rows
 
--- The row of a place. SQL keeps the place as the number of the row, and nothing in its column.
+-- The row of a place, as it is put in. SQL keeps the place as the number of the row, and nothing in its column.
 abbrev pub due_row : ℕ → Row
 due_row place = Int (pos place) ∷ Null ∷ []
 
 pub record IsDueRow (row : Row) : Type 0 where
   pub place : ℕ
-  pub is : row ≡ due_row place
+  pub rest : Row
+  pub is : row ≡ Int (pos place) ∷ rest
+  pub bare : IsBare rest
   pub small : place < 2 ^ 63
 
 -- each row is that of a place, and the places rise

@@ -1,5 +1,5 @@
 -- What the texts mean that read and say the version, and what the first shows.
-use Rattle.std.proofs.Common.{◌≡◌, inl, inr, ℕ, pos, List, [], ◌∷◌, None, Some, Ok, Option, refl, ap, subst, ◌∙◌, arith, codes}
+use Rattle.std.proofs.Common.{◌≡◌, inl, inr, ℕ, pos, List, [], ◌∷◌, None, Some, Ok, Option, refl, sym, ap, subst, ◌∙◌, arith, codes}
 use Rattle.sqlite.specs.Effect.{Database}
 use Rattle.sqlite.specs.Order.{Row}
 use Rattle.sqlite.specs.declared.types.Value.TheVariants.{Null, Int}
@@ -17,9 +17,9 @@ use Rattle.sqlite_tied.specs.Compute.{everything}
 use Rattle.sql_tables.specs.Schema.{desk_schema, version_table}
 use Rattle.sql_tables.specs.Statements.{IsEdit, IsQuery}
 use Rattle.sql_tables.specs.Ends.{SparesOthers}
-use Rattle.sql_tables.specs.Queries.{first_of, rising, IsFirst}
+use Rattle.sql_tables.specs.Queries.{first_of, rising, Among, IsFirst}
 use Rattle.sql_tables.specs.Rows.{number_rows}
-use Rattle.sql_tables.specs.Version.{rows_of, HasVersion, SetsVersion}
+use Rattle.sql_tables.specs.Version.{HasVersion, SayVersion, SetsVersion}
 use Rattle.sql_tables.proofs.EditLemmas.{inserts, spares}
 use Rattle.sql_tables.proofs.QueryLemmas.{all_kept, first_row}
 use Rattle.sql_tables.proofs.ValueLemmas.{cast_int, cast_null}
@@ -49,11 +49,11 @@ pub set_edit : IsEdit set_text
 unfolding understood everything
 set_edit = record { changes = refl; plain = (refl, refl) }
 
-only : (number : Option ℕ) (rows : List Row) → IsFirst (rows_of number) [] (col 1 0 ∷ []) (col 1 0) rising rows → rows ≡ number_rows number
-only None rows (inl none) = none.0
-only None rows (inr one) = absurd one.1
-only (Some number) rows (inl none) = absurd (let e = none.1 in cc)
-only (Some number) rows (inr one) = elim one.1 [
+only : (number : Option ℕ) (held rows : List Row) → SayVersion held number → IsFirst held [] (col 1 0 ∷ []) (col 1 0) rising rows → rows ≡ number_rows number
+only None held rows is (inl none) = none.0
+only None held rows is (inr one) = absurd (subst (λ xs. Among xs one.0) is one.1)
+only (Some number) held rows is (inl none) = absurd (let e = sym none.1 ∙ is.2 in cc)
+only (Some number) held rows is (inr one) = elim (subst (λ xs. Among xs one.0) is.2 one.1) [
   | inl here ↦ one.2 ∙ ap (λ r. eval_all (col 1 0 ∷ []) ([] ∷ r ∷ []) ∷ []) here
   | inr later ↦ absurd later
 ]
@@ -62,7 +62,7 @@ pub version_shown : (old new : State) → old.now.schema ≡ desk_schema → (nu
 version_shown old new has number is rows h =
     let answers = reads_as version_text [] old new desk_schema has _ version_is version_query.plain version_query.unlisted rows h in
     let first = first_row 13 [] (col 1 0 ∷ []) (col 1 0) rising (overlay old.now.trees []) [] rows (answers.answer Null) in
-    only number rows (subst (λ xs. IsFirst xs [] (col 1 0 ∷ []) (col 1 0) rising rows) (all_kept (old.now.trees 13) ∙ is) first)
+    only number (old.now.trees 13) rows is (subst (λ xs. IsFirst xs [] (col 1 0 ∷ []) (col 1 0) rising rows) (all_kept (old.now.trees 13)) first)
 
 module _ (old new : State) (has : old.now.schema ≡ desk_schema) where
   version_put : (number count : ℕ) → Executes set_text (Int (pos number) ∷ []) old new (Ok count)
@@ -78,7 +78,7 @@ module _ (old new : State) (has : old.now.schema ≡ desk_schema) where
   pub sets : (number count : ℕ) → HasVersion old.now None → Executes set_text (Int (pos number) ∷ []) old new (Ok count) → SetsVersion old.now new.now number
   sets number count none h =
       let it = version_put number count h in
-      record { version = it.0 ∙ ap (put_row (Int (pos number) ∷ Null ∷ [])) none; others = it.1 }
+      record { version = (Null ∷ [], inl refl, it.0 ∙ ap (put_row (Int (pos number) ∷ Null ∷ [])) none); others = it.1 }
 
 pub no_version : (db : Database) → db.trees 13 ≡ [] → HasVersion db None
 no_version db empty = empty

@@ -1,6 +1,6 @@
--- The rows of a look-up, which shows one column of one row, or no row.
-use Rattle.std.specs.Prelude.{ℕ, pos, List, [], ◌∷◌, Option, Some, None}
-use Rattle.sqlite.specs.declared.types.Value.TheVariants.{Int, Text as Words}
+-- The rows of a look-up, which shows one column of one row, or no row; and the rows of a table whose only column is its key.
+use Rattle.std.specs.Prelude.{◌≡◌, ◌⊎◌, ℕ, pos, List, [], ◌∷◌, Option, Some, None}
+use Rattle.sqlite.specs.declared.types.Value.TheVariants.{Null, Int, Text as Words}
 use Rattle.sqlite.specs.Order.{Row}
 
 -- the number that was found, or none was
@@ -12,3 +12,8 @@ number_rows (Some number) = (Int (pos number) ∷ []) ∷ []
 abbrev pub text_rows : Option (List ℕ) → List Row
 text_rows None = []
 text_rows (Some text) = (Words text ∷ []) ∷ []
+
+-- What such a row holds behind its number: NULL in the column's own place, or nothing, as other programs may write it. No
+-- query tells the two apart.
+abbrev pub IsBare : Row → Type 0
+IsBare rest = (rest ≡ Null ∷ []) ⊎ (rest ≡ [])

@@ -1,17 +1,19 @@
 -- The table of the version: one row, or none.
 use Rattle.std.specs.Prelude.{◌≡◌, ℕ, pos, List, [], ◌∷◌, Option, None, Some}
 use Rattle.sqlite_value.specs.Order.{Row}
-use Rattle.sqlite.specs.declared.types.Value.TheVariants.{Null, Int}
+use Rattle.sqlite.specs.declared.types.Value.TheVariants.{Int}
 use Rattle.sqlite.specs.Effect.{Database}
 use Rattle.sql_tables.specs.Ends.{SparesOthers}
+use Rattle.sql_tables.specs.Rows.{IsBare}
 
-abbrev pub rows_of : Option ℕ → List Row
-rows_of None = []
-rows_of (Some number) = (Int (pos number) ∷ Null ∷ []) ∷ []
+-- the rows say this version, or none
+abbrev pub SayVersion : List Row → Option ℕ → Type 0
+SayVersion rows None = rows ≡ []
+SayVersion rows (Some number) = (rest : Row) × IsBare rest × (rows ≡ (Int (pos number) ∷ rest) ∷ [])
 
 -- the table says this version, or none
 abbrev pub HasVersion : Database → Option ℕ → Type 0
-HasVersion db number = db.trees 13 ≡ rows_of number
+HasVersion db number = SayVersion (db.trees 13) number
 
 -- the table says a version, and no other has changed
 pub record SetsVersion (old new : Database) (number : ℕ) : Type 0 where

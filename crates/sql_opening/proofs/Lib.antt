@@ -1,0 +1,3 @@
+mod CheckLemmas
+mod FormLemmas
+mod OrderLemmas

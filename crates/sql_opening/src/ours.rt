@@ -1,0 +1,233 @@
+//! Whether a schema is the desk's.
+ghost use Rattle.std.specs.Prelude.{◌≡◌, ◌↔◌, IsTrue};
+ghost use Rattle.sqlite.specs.Held.{state};
+ghost use Rattle.sql_tables.specs.Schema.{desk_indexes, desk_schema, desk_tables};
+ghost use Rattle.sql_opening.specs.Forms.{AreAllFormed};
+ghost use Rattle.sql_opening.specs.Order.{AreInOrder};
+
+use crate::columns::WantedColumn::{self, Number, Optional, Text};
+use crate::tables::{WantedIndex, WantedTable, are_indexes, are_tables};
+use sqlite::{Alter, Connection};
+use sqlite_items::Items;
+use sqlite_schema::schema::{Index, Schema, Table};
+
+const BALANCE: [WantedColumn<'static>; 3] = [Text("account"), Text("isin"), Number("quantity")];
+
+const CASH: [WantedColumn<'static>; 3] = [Text("bic"), Text("currency"), Number("amount")];
+
+const TOTAL: [WantedColumn<'static>; 3] = [Text("subject"), Text("code"), Number("amount")];
+
+const REGISTER: [WantedColumn<'static>; 21] = [
+    Optional("number"),
+    Text("sender"),
+    Text("reference"),
+    Number("kind"),
+    Text("about"),
+    Text("bic"),
+    Text("account"),
+    Text("isin"),
+    Text("unit"),
+    Number("quantity"),
+    Text("currency"),
+    Number("amount"),
+    Text("day"),
+    Number("rule"),
+    Number("mt"),
+    Text("settlement"),
+    Text("place"),
+    Text("previous"),
+    Number("status"),
+    Optional("reply_mt"),
+    Text("reply"),
+];
+
+const STATE: [WantedColumn<'static>; 5] = [
+    Optional("number"),
+    Number("mate"),
+    Number("state"),
+    Number("reason"),
+    Number("asked"),
+];
+
+const UNMATCHED: [WantedColumn<'static>; 10] = [
+    Optional("number"),
+    Text("isin"),
+    Text("day"),
+    Number("quantity"),
+    Text("sender"),
+    Text("counterparty"),
+    Number("mt"),
+    Text("unit"),
+    Text("currency"),
+    Number("amount"),
+];
+
+const DUE: [WantedColumn<'static>; 1] = [Optional("place")];
+
+const SENT: [WantedColumn<'static>; 6] = [
+    Optional("number"),
+    Text("bic"),
+    Number("place"),
+    Number("mt"),
+    Number("about"),
+    Text("text"),
+];
+
+const VERSION: [WantedColumn<'static>; 1] = [Optional("number")];
+
+fn are_desk_tables(tables: &[Table]) -> bool
+    ensures { IsTrue result ↔ (tables.now ≡ desk_tables) }
+{
+    are_tables(
+        tables,
+        &[
+            WantedTable {
+                name: "balance",
+                tree: 0,
+                columns: &BALANCE,
+                is_numbered: false,
+                unique: Some((1, 2)),
+            },
+            WantedTable {
+                name: "cash",
+                tree: 2,
+                columns: &CASH,
+                is_numbered: false,
+                unique: Some((1, 2)),
+            },
+            WantedTable {
+                name: "total",
+                tree: 4,
+                columns: &TOTAL,
+                is_numbered: false,
+                unique: Some((1, 2)),
+            },
+            WantedTable {
+                name: "register",
+                tree: 6,
+                columns: &REGISTER,
+                is_numbered: true,
+                unique: Some((2, 3)),
+            },
+            WantedTable {
+                name: "state",
+                tree: 8,
+                columns: &STATE,
+                is_numbered: true,
+                unique: None,
+            },
+            WantedTable {
+                name: "unmatched",
+                tree: 9,
+                columns: &UNMATCHED,
+                is_numbered: true,
+                unique: None,
+            },
+            WantedTable {
+                name: "due",
+                tree: 10,
+                columns: &DUE,
+                is_numbered: true,
+                unique: None,
+            },
+            WantedTable {
+                name: "sent",
+                tree: 11,
+                columns: &SENT,
+                is_numbered: true,
+                unique: Some((2, 3)),
+            },
+            WantedTable {
+                name: "version",
+                tree: 13,
+                columns: &VERSION,
+                is_numbered: true,
+                unique: None,
+            },
+        ],
+    )
+}
+
+fn are_desk_indexes(indexes: &[Index]) -> bool
+    ensures { IsTrue result ↔ (indexes.now ≡ desk_indexes) }
+{
+    are_indexes(
+        indexes,
+        &[
+            WantedIndex {
+                name: "sqlite_autoindex_balance_1",
+                tree: 1,
+                table: 0,
+                columns: &[1, 2],
+                is_unique: true,
+            },
+            WantedIndex {
+                name: "sqlite_autoindex_cash_1",
+                tree: 3,
+                table: 2,
+                columns: &[1, 2],
+                is_unique: true,
+            },
+            WantedIndex {
+                name: "sqlite_autoindex_total_1",
+                tree: 5,
+                table: 4,
+                columns: &[1, 2],
+                is_unique: true,
+            },
+            WantedIndex {
+                name: "sqlite_autoindex_register_1",
+                tree: 7,
+                table: 6,
+                columns: &[2, 3],
+                is_unique: true,
+            },
+            WantedIndex {
+                name: "sqlite_autoindex_sent_1",
+                tree: 12,
+                table: 11,
+                columns: &[2, 3],
+                is_unique: true,
+            },
+            WantedIndex {
+                name: "register_about",
+                tree: 14,
+                table: 6,
+                columns: &[4, 5],
+                is_unique: false,
+            },
+            WantedIndex {
+                name: "unmatched_key",
+                tree: 15,
+                table: 9,
+                columns: &[2, 3, 4, 5, 6, 7, 8, 9, 10],
+                is_unique: false,
+            },
+            WantedIndex {
+                name: "sent_about",
+                tree: 16,
+                table: 11,
+                columns: &[5],
+                is_unique: false,
+            },
+        ],
+    )
+}
+
+/// Whether a schema is the desk's: its tables, in their order, then its indexes, and nothing else.
+pub fn is_desk(schema: &Schema) -> bool
+    ensures { IsTrue result ↔ (schema.now ≡ desk_schema) }
+{
+    are_desk_tables(schema.tables.as_slice())
+        && are_desk_indexes(schema.indexes.as_slice())
+        && schema.views.as_slice().is_empty()
+}
+
+/// Whether the database of a connection is the desk's. Then, where its rows stand in order, each has the form of its table, and
+/// no key comes twice: so the library has found it, and nothing is read again.
+pub fn has_desk_tables<S: Alter>(conn: &Connection<S>) -> bool
+    ensures exact { IsTrue result ↔ ((state S.Store conn.now).now.schema ≡ desk_schema) }
+    ensures formed { IsTrue result → IsTrue (state S.Store conn.now).is_open → AreInOrder desk_schema (state S.Store conn.now).now.trees → AreAllFormed (state S.Store conn.now).now.trees }
+{
+    is_desk(conn.schema())
+}
