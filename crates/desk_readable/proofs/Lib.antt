@@ -1,0 +1,5 @@
+pub mod SmallNumbers
+pub mod PartLemmas
+pub mod InstructionFields
+pub mod CancellationFields
+pub mod Readable
