@@ -1,0 +1,3 @@
+pub mod KeptHistory
+pub mod Replayed
+pub mod Taken
