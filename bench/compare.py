@@ -1,0 +1,61 @@
+"""Runs each workload of workloads.txt by turns in two built checkouts: compare.py OLD NEW [SEED]. A workload is a line NAME
+CRATE WORD..: the proved program of the crate is run with the words in the folder bench of its checkout, the word SEED being
+a number, and a last word <FILE its standard input. Prints the median processor seconds of both and their ratio, and stops
+where what they print differs."""
+
+import os
+import statistics
+import subprocess
+import sys
+
+TURNS = 9
+USUAL_SEED = 1
+
+
+def workloads_of(checkout):
+    with open(os.path.join(checkout, "bench", "workloads.txt"), encoding="ascii") as lines:
+        return [line.split() for line in lines if line.strip()]
+
+
+def run(checkout, crate, words):
+    """What the program prints, and the processor seconds that it takes."""
+    program = os.path.join(checkout, "crates", crate, "out", crate)
+    folder = os.path.join(checkout, "bench")
+    source = subprocess.DEVNULL
+    if words and words[-1].startswith("<"):
+        source = open(os.path.join(folder, words[-1][1:]), "rb")
+        words = words[:-1]
+    child = subprocess.Popen([program, *words], cwd=folder, stdin=source, stdout=subprocess.PIPE)
+    printed = child.stdout.read()
+    _, status, used = os.wait4(child.pid, 0)
+    child.returncode = os.waitstatus_to_exitcode(status)
+    if child.returncode != 0:
+        sys.exit(f"{program} {' '.join(words)} ended with status {child.returncode}")
+    return printed, used.ru_utime + used.ru_stime
+
+
+def main():
+    if len(sys.argv) not in (3, 4):
+        sys.exit("usage: bench/run OLD NEW [SEED]")
+    checkouts = [os.path.abspath(path) for path in sys.argv[1:3]]
+    seed = sys.argv[3] if len(sys.argv) == 4 else str(USUAL_SEED)
+    print(f"seed {seed}, {TURNS} turns, processor seconds, medians", flush=True)
+    print("| workload | old | new | old over new |")
+    print("|---|--:|--:|--:|", flush=True)
+    for name, crate, *words in workloads_of(checkouts[1]):
+        words = [seed if word == "SEED" else word for word in words]
+        times = [[], []]
+        printed = None
+        for turn in range(TURNS):
+            # which of the two begins changes from turn to turn
+            for which in ((0, 1), (1, 0))[turn % 2]:
+                text, seconds = run(checkouts[which], crate, words)
+                if printed not in (None, text):
+                    sys.exit(f"{name}: {checkouts[which]} prints {text!r}, and before it was {printed!r}")
+                printed = text
+                times[which].append(seconds)
+        old, new = (statistics.median(of) for of in times)
+        print(f"| {name} | {old:.3f} | {new:.3f} | {old / new:.2f} |", flush=True)
+
+
+main()

@@ -1,0 +1,137 @@
+//! Connections, each with its head.
+
+use crate::codes::{bic, isin, reference};
+use crate::days::{new_desk, play};
+use crate::digest::Digest;
+use crate::draw::Draw;
+use crate::failure::Failure;
+use crate::messages::{drawn_side, drawn_trade};
+use crate::script::Script;
+use crate::trade::{Party, add_all};
+use desk_book::Desk;
+use desk_http::{Routes, serve_one};
+use desk_index::IndexedRegister;
+use itoa::Buffer;
+use std::alloc::Global;
+
+/// Who is there.
+const PARTICIPANTS: u32 = 50;
+
+/// What stands in a head behind the first line, before the length.
+const HEAD: &[u8] =
+    b" HTTP/1.1\r\nHost: 127.0.0.1:8080\r\nUser-Agent: curl/8.5.0\r\nAccept: */*\r\nContent-Type: text/plain; charset=us-ascii\r\nConnection: close\r\nContent-Length: ";
+
+/// Serves so many connections on one desk: messages, commands, and questions.
+pub fn serve_all(
+    alloc: Global,
+    draw: &mut Draw,
+    count: u32,
+    digest: &mut Digest,
+) -> Result<(), Failure> {
+    let Ok(routes) = Routes::new(alloc) else {
+        return Err(Failure::Memory);
+    };
+    let mut desk = new_desk(alloc);
+    open(alloc, &mut desk, digest)?;
+    let mut sent = Vec::new(alloc);
+    let mut body = Vec::new(alloc);
+    for number in 0..count {
+        sent.clear();
+        body.clear();
+        add_request(draw, number, &mut body, &mut sent)?;
+        serve(alloc, &routes, &sent, &mut desk, digest)?;
+    }
+    Ok(())
+}
+
+fn serve(
+    alloc: Global,
+    routes: &Routes,
+    sent: &[u8],
+    desk: &mut Desk<IndexedRegister>,
+    digest: &mut Digest,
+) -> Result<(), Failure> {
+    let mut reader = sent;
+    match serve_one(alloc, routes, &mut reader, digest, desk) {
+        Ok(()) => Ok(()),
+        Err(_) => Err(Failure::Connection),
+    }
+}
+
+/// Registers who is there.
+fn open(
+    alloc: Global,
+    desk: &mut Desk<IndexedRegister>,
+    digest: &mut Digest,
+) -> Result<(), Failure> {
+    let mut text = Vec::new(alloc);
+    let mut script = Script { text: &mut text };
+    for number in 0..PARTICIPANTS {
+        script.participant(number, number)?;
+        let party = Party {
+            owner: number,
+            account: number,
+        };
+        script.account(100 + number, party)?;
+        script.security(200 + number, &isin(number))?;
+        script.move_units(b"issue", 300 + number, number, &isin(number), 1_000_000)?;
+        script.move_cash(b"payin", 400 + number, number, 2_000_000_000)?;
+    }
+    play(alloc, desk, &text, digest)
+}
+
+/// Adds what a connection sends.
+fn add_request(
+    draw: &mut Draw,
+    number: u32,
+    body: &mut Vec<u8>,
+    sent: &mut Vec<u8>,
+) -> Result<(), Failure> {
+    let owner = draw.below(PARTICIPANTS);
+    match draw.below(10) {
+        0..6 => {
+            let trade = drawn_trade(draw, PARTICIPANTS, number.wrapping_mul(2));
+            let side = drawn_side(draw);
+            trade.add_instruction(body, side)?;
+            let sender = bic(trade.party(side).owner);
+            add_posted(sent, &[b"/in/", &sender, b"/", trade.mt(side)], body)
+        }
+        6 | 7 => {
+            add_all(
+                body,
+                &[&reference(draw.below(number.wrapping_mul(2).max(1)))],
+            )?;
+            add_posted(sent, &[b"/status/", &bic(owner)], body)
+        }
+        8 => {
+            let mut digits = Buffer::new();
+            let place = digits.format(draw.below(20).wrapping_add(1)).as_bytes();
+            add_all(
+                sent,
+                &[b"GET /out/", &bic(owner), b"/", place, HEAD, b"0\r\n\r\n"],
+            )
+        }
+        _ => {
+            add_all(
+                body,
+                &[
+                    b"{\"op\":\"payin\",\"ref\":\"",
+                    &reference(number),
+                    b"\",\"bic\":\"",
+                    &bic(owner),
+                    b"\",\"ccy\":\"EUR\",\"amount\":100}",
+                ],
+            )?;
+            add_posted(sent, &[b"/ops"], body)
+        }
+    }
+}
+
+/// Adds a head with a target, and its body.
+fn add_posted(sent: &mut Vec<u8>, target: &[&[u8]], body: &[u8]) -> Result<(), Failure> {
+    let mut digits = Buffer::new();
+    let length = digits.format(body.len()).as_bytes();
+    add_all(sent, &[b"POST "])?;
+    add_all(sent, target)?;
+    add_all(sent, &[HEAD, length, b"\r\n\r\n", body])
+}

@@ -1,0 +1,78 @@
+//! A history that was kept, taken in once more.
+ghost use Rattle.std.specs.Prelude.{◌≡◌};
+ghost use Rattle.desk_register.specs.View.{IfTrusted};
+ghost use Rattle.desk_replay.specs.KeptHistory.{HoldsKept};
+
+use crate::day::{Day, Depository};
+use crate::days::{new_desk, play_day};
+use crate::digest::Digest;
+use crate::draw::Draw;
+use crate::failure::Failure;
+use crate::size::Size;
+use desk_index::IndexedRegister;
+use desk_register::Register;
+use desk_replay::replay;
+use desk_rules::{Kept, MOST_ENTRIES};
+use std::alloc::Global;
+
+/// A depository of two hundred participants, with a run each 500 pairs, at which nothing is asked.
+const COMMANDED: Depository = Depository {
+    participants: 200,
+    accounts: 500,
+    securities: 100,
+    issued: 3,
+    pairs_a_run: 500,
+    is_asked: false,
+};
+
+/// Plays a day, and takes what its register kept into another one.
+pub fn take_in_again(
+    alloc: Global,
+    seed: u64,
+    round: u64,
+    size: Size,
+    digest: &mut Digest,
+) -> Result<(), Failure> {
+    let kept = kept_of_day(alloc, seed, round, size, digest)?;
+    let mut register = IndexedRegister::new(alloc, MOST_ENTRIES);
+    let is_whole = replay(alloc, &mut register, &kept)?;
+    digest.add_number(u64::from(is_whole));
+    digest.add_number(register.count(alloc)?);
+    digest.add_number(register.sent_count(alloc)?);
+    Ok(())
+}
+
+/// What a register keeps of a day.
+fn kept_of_day(
+    alloc: Global,
+    seed: u64,
+    round: u64,
+    size: Size,
+    digest: &mut Digest,
+) -> Result<Vec<Kept>, Failure> {
+    let mut day = Day::new(alloc, COMMANDED, Draw::new(seed, round))?;
+    let mut desk = new_desk(alloc);
+    play_day(alloc, &mut desk, &mut day, size.of(50_000), digest)?;
+    let mut register = desk.into_register();
+    let mut kept = Vec::new(alloc);
+    for number in 0..register.count(alloc)? {
+        if let Some(one) = kept_at(alloc, &mut register, number.wrapping_add(1))? {
+            kept.push(one)?;
+        }
+    }
+    Ok(kept)
+}
+
+/// What a register keeps of the entry of a number.
+fn kept_at(
+    alloc: Global,
+    register: &mut IndexedRegister,
+    number: u64,
+) -> Result<Option<Kept>, Failure> {
+    let entry = register.entry(alloc, number)?;
+    let reply = register.reply(alloc, number)?;
+    match (entry, reply) {
+        (Some(entry), Some(reply)) => Ok(Some(Kept { entry, reply })),
+        _ => Ok(None),
+    }
+}

@@ -1,0 +1,106 @@
+//! Statements and totals of many securities.
+
+use crate::codes::isin;
+use crate::days::{new_desk, play};
+use crate::digest::Digest;
+use crate::draw::Draw;
+use crate::failure::Failure;
+use crate::script::Script;
+use crate::size::Size;
+use crate::trade::Party;
+use desk_book::Desk;
+use desk_index::IndexedRegister;
+use std::alloc::Global;
+
+/// One account holds some of every security, so many others a few each.
+const OTHERS: u32 = 200;
+
+/// So many an other one holds.
+const FEW: u32 = 20;
+
+/// Issues securities, and asks for statements and totals, with a change before each.
+pub fn ask_reports(
+    alloc: Global,
+    seed: u64,
+    round: u64,
+    size: Size,
+    digest: &mut Digest,
+) -> Result<(), Failure> {
+    let mut draw = Draw::new(seed, round);
+    let mut desk = new_desk(alloc);
+    let mut isins = Vec::new(alloc);
+    for number in 0..size.of(8_000) {
+        isins.push(isin(number.wrapping_mul(104_729)))?;
+    }
+    open(alloc, &mut desk, &mut draw, &isins, digest)?;
+    ask(alloc, &mut desk, &mut draw, &isins, digest)
+}
+
+fn party(number: u32) -> Party {
+    Party {
+        owner: 0,
+        account: number,
+    }
+}
+
+fn drawn(draw: &mut Draw, isins: &[[u8; 12]]) -> [u8; 12] {
+    let count = u32::try_from(isins.len()).unwrap_or(1).max(1);
+    let number = draw.below(count);
+    isins
+        .get(number as usize)
+        .copied()
+        .unwrap_or(*b"DE0007164600")
+}
+
+/// Registers and issues all.
+fn open(
+    alloc: Global,
+    desk: &mut Desk<IndexedRegister>,
+    draw: &mut Draw,
+    isins: &[[u8; 12]],
+    digest: &mut Digest,
+) -> Result<(), Failure> {
+    let mut text = Vec::new(alloc);
+    let mut script = Script { text: &mut text };
+    script.participant(0, 0)?;
+    for number in 0..OTHERS + 1 {
+        script.account(1 + number, party(number))?;
+    }
+    script.move_cash(b"payin", 500, 0, 1_000_000)?;
+    let mut own = 1_000u32;
+    for isin in isins {
+        script.security(own, isin)?;
+        let quantity = draw.below(1_000_000).wrapping_add(1);
+        script.move_units(b"issue", own.wrapping_add(1), 0, isin, quantity)?;
+        own = own.wrapping_add(2);
+    }
+    for number in 0..OTHERS * FEW {
+        let isin = drawn(draw, isins);
+        script.move_units(b"issue", own, 1 + number % OTHERS, &isin, 1 + number)?;
+        own = own.wrapping_add(1);
+    }
+    play(alloc, desk, &text, digest)
+}
+
+/// Asks for the statement of the large account and for the totals, in turn with those of the others.
+fn ask(
+    alloc: Global,
+    desk: &mut Desk<IndexedRegister>,
+    draw: &mut Draw,
+    isins: &[[u8; 12]],
+    digest: &mut Digest,
+) -> Result<(), Failure> {
+    let mut text = Vec::new(alloc);
+    let mut script = Script { text: &mut text };
+    for number in 0..12 {
+        let own = 900_000_000 + 2 * number;
+        script.move_units(b"issue", own, 0, &drawn(draw, isins), 1)?;
+        script.holdings(party(0))?;
+        for _ in 0..50 {
+            script.holdings(party(draw.below(OTHERS + 1).max(1)))?;
+        }
+        script.move_units(b"redeem", own + 1, 0, &drawn(draw, isins), 1)?;
+        script.sums()?;
+    }
+    play(alloc, desk, &text, digest)
+}
