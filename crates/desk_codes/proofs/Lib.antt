@@ -1,5 +1,7 @@
 pub mod Summing
 pub mod StoredLemmas
+pub mod WordLemmas
+pub mod PaddedLemmas
 pub mod NumberLemmas
 pub mod PlainLemmas
 pub mod WrittenSpells

@@ -13,7 +13,8 @@ const LONGEST: usize = 35;
 /// (ISO 15022, field 97A, format 35x; the standard's set x has fewer characters).
 #[derive(Clone, Copy, Debug, PartialEq, Eq, PartialOrd, Ord)]
 pub struct AccountId {
-    text: ShortText<35>,
+    // with room for whole words, by which it is compared
+    text: ShortText<40>,
 }
 
 impl Model for AccountId {

@@ -1,5 +1,8 @@
 //! Days of the Gregorian calendar.
-ghost use Rattle.std.specs.Prelude.{◌≡◌, ◌↔◌, All, IsSome, IfSome, length, pos};
+ghost use Rattle.std.specs.Prelude.{◌≡◌, ◌↔◌, All, IsSome, IfSome, length, nat_eq, pos, refl};
+ghost use Rattle.std.specs.Ordering.{as_partial_cmp, nat_cmp};
+ghost use Rattle.std.specs.Cmp.{partial_equiv_from_equiv, unsigned_po};
+ghost use Rattle.std.specs.Cmp.Lexicographic.{pointwise, slice_cmp, slice_partial_cmp, lists_agrees, lists_po, nat_list_eq_equiv, nat_list_cmp_total, texts_ties};
 ghost use Rattle.jiff.specs.Words.{IsDate, IsYmd};
 ghost use Rattle.desk_codes.specs.Characters.{IsDigit};
 ghost use Rattle.desk_codes.specs.Number.{number_of};
@@ -7,12 +10,14 @@ ghost use Rattle.desk_codes.specs.Day.{IsDay, day_number, year_of, month_of, day
 
 use crate::characters::{are_digits, ascii_str};
 use crate::number::whole_number;
+use crate::words::order_words;
 use jiff::civil::Date;
+use std::cmp::Ordering;
 use std::marker::Model;
 
 /// A day of the years 0000 to 9999, as eight digits YYYYMMDD (ISO 15022, format 8!n). The order of the
 /// digits is the order of the calendar.
-#[derive(Clone, Copy, Debug, PartialEq, Eq, PartialOrd, Ord)]
+#[derive(Clone, Copy, Debug)]
 pub struct Day {
     digits: [u8; 8],
 }
@@ -78,6 +83,47 @@ impl Day {
         ensures { result.now ≡ self.now }
     {
         ascii_str(&self.digits)
+    }
+}
+
+impl PartialEq for Day {
+    ghost eq = { pointwise nat_eq };
+
+    ghost laws = { partial_equiv_from_equiv nat_list_eq_equiv };
+
+    #[inline]
+    fn eq(&self, other: &Day) -> bool {
+        self.cmp(other).is_eq()
+    }
+}
+
+impl Eq for Day {
+    ghost laws = { nat_list_eq_equiv };
+}
+
+impl PartialOrd for Day {
+    ghost partial_cmp = { slice_partial_cmp (as_partial_cmp nat_cmp) };
+
+    ghost laws = { lists_po unsigned_po };
+
+    #[inline]
+    fn partial_cmp(&self, other: &Day) -> Option<Ordering> {
+        Some(self.cmp(other))
+    }
+}
+
+impl Ord for Day {
+    ghost cmp = { slice_cmp nat_cmp };
+
+    ghost total = { nat_list_cmp_total };
+
+    ghost matches_partial_cmp = { lists_agrees (λ a b. refl) };
+
+    ghost matches_eq = { texts_ties };
+
+    #[inline]
+    fn cmp(&self, other: &Day) -> Ordering {
+        order_words(&self.digits, &other.digits)
     }
 }
 

@@ -1,16 +1,21 @@
 //! The identification number of a security (ISO 6166).
-ghost use Rattle.std.specs.Prelude.{◌≡◌, ◌↔◌, ◌≤◌, ◌<◌, ◌^◌, ◌+◌, All, IsTrue, length};
+ghost use Rattle.std.specs.Prelude.{◌≡◌, ◌↔◌, ◌≤◌, ◌<◌, ◌^◌, ◌+◌, All, IsTrue, length, nat_eq, refl};
 ghost use Rattle.std.specs.Option.{SomeIff};
+ghost use Rattle.std.specs.Ordering.{as_partial_cmp, nat_cmp};
+ghost use Rattle.std.specs.Cmp.{partial_equiv_from_equiv, unsigned_po};
+ghost use Rattle.std.specs.Cmp.Lexicographic.{pointwise, slice_cmp, slice_partial_cmp, lists_agrees, lists_po, nat_list_eq_equiv, nat_list_cmp_total, texts_ties};
 ghost use Rattle.desk_codes.specs.Characters.{IsCodeChar};
 ghost use Rattle.desk_codes.specs.CheckDigit.{IsIsin, check_of, weight};
 ghost use Rattle.desk_codes.specs.Isin.{ReadsIsin};
 
 use crate::characters::{are_capitals, ascii_str};
 use crate::fault::CodeFault;
+use crate::words::order_words;
+use std::cmp::Ordering;
 use std::marker::Model;
 
 /// An ISIN: two letters, nine letters or digits, and their check digit (ISO 6166).
-#[derive(Clone, Copy, Debug, PartialEq, Eq, PartialOrd, Ord)]
+#[derive(Clone, Copy, Debug)]
 pub struct Isin {
     bytes: [u8; 12],
 }
@@ -66,6 +71,47 @@ impl Isin {
         ensures { result.now ≡ self.now }
     {
         ascii_str(&self.bytes)
+    }
+}
+
+impl PartialEq for Isin {
+    ghost eq = { pointwise nat_eq };
+
+    ghost laws = { partial_equiv_from_equiv nat_list_eq_equiv };
+
+    #[inline]
+    fn eq(&self, other: &Isin) -> bool {
+        self.cmp(other).is_eq()
+    }
+}
+
+impl Eq for Isin {
+    ghost laws = { nat_list_eq_equiv };
+}
+
+impl PartialOrd for Isin {
+    ghost partial_cmp = { slice_partial_cmp (as_partial_cmp nat_cmp) };
+
+    ghost laws = { lists_po unsigned_po };
+
+    #[inline]
+    fn partial_cmp(&self, other: &Isin) -> Option<Ordering> {
+        Some(self.cmp(other))
+    }
+}
+
+impl Ord for Isin {
+    ghost cmp = { slice_cmp nat_cmp };
+
+    ghost total = { nat_list_cmp_total };
+
+    ghost matches_partial_cmp = { lists_agrees (λ a b. refl) };
+
+    ghost matches_eq = { texts_ties };
+
+    #[inline]
+    fn cmp(&self, other: &Isin) -> Ordering {
+        order_words(&self.bytes, &other.bytes)
     }
 }
 

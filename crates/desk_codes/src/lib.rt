@@ -17,6 +17,7 @@ mod laws;
 mod number;
 mod reference;
 mod short_text;
+mod words;
 mod written;
 
 pub use account::AccountId;

@@ -6,11 +6,13 @@ ghost use Rattle.std.specs.Cmp.{partial_equiv_from_equiv};
 ghost use Rattle.std.proofs.Common.{rules};
 ghost use Rattle.std.specs.Prelude.{Some};
 
+use crate::words::order_words;
 use std::cmp::Ordering;
 use std::fmt;
 use std::marker::Model;
 
-/// A text of at most `N` bytes, with zeros behind it. A contract sees the text.
+/// A text of at most `N` bytes, with zeros behind it. A contract sees the text. It is compared by words of eight bytes,
+/// soonest where `N` is a multiple of eight.
 #[derive(Clone, Copy)]
 pub struct ShortText<const N: usize> {
     bytes: [u8; N],
@@ -57,8 +59,9 @@ impl<const N: usize> PartialEq for ShortText<N> {
 
     ghost laws = { partial_equiv_from_equiv nat_list_eq_equiv };
 
+    #[inline]
     fn eq(&self, other: &ShortText<N>) -> bool {
-        self.as_bytes() == other.as_bytes()
+        self.cmp(other).is_eq()
     }
 }
 
@@ -71,6 +74,7 @@ impl<const N: usize> PartialOrd for ShortText<N> {
 
     ghost laws = { texts_po };
 
+    #[inline]
     fn partial_cmp(&self, other: &ShortText<N>) -> Option<Ordering> {
         Some(self.cmp(other))
     }
@@ -85,8 +89,14 @@ impl<const N: usize> Ord for ShortText<N> {
 
     ghost matches_eq = { texts_ties };
 
+    // The zeros behind the texts are compared with them, and the lengths where these are the same.
+    #[inline]
     fn cmp(&self, other: &ShortText<N>) -> Ordering {
-        self.as_bytes().cmp(other.as_bytes())
+        let order = order_words(&self.bytes, &other.bytes);
+        if order.is_ne() {
+            return order;
+        }
+        self.len.cmp(&other.len)
     }
 }
 
