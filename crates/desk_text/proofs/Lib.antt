@@ -9,3 +9,5 @@ pub mod SeenLemmas
 pub mod PartLemmas
 pub mod LawLemmas
 pub mod OpenLemmas
+pub mod FeedLemmas
+pub mod PrintLemmas

@@ -9,3 +9,4 @@ pub mod Seen
 pub mod Steps
 pub mod PartsSeen
 pub mod Writing
+pub mod Scanning

@@ -16,6 +16,7 @@ mod limits;
 mod lines;
 mod parts;
 mod reading;
+mod scanning;
 mod spelling;
 mod writing;
 

@@ -7,6 +7,7 @@ ghost use Rattle.desk_text.specs.BlockGrammar.{is_capital, is_digit, is_name as 
 ghost use Rattle.desk_text.specs.Written.{is_value as spells_value};
 
 use crate::limits::LONGEST_NAME;
+use crate::scanning::{are_printable, find_feed};
 
 fn are_name_characters(name: &[u8]) -> bool
     ensures { result ≡ list_all (λ c. is_capital c || is_digit c) name.now }
@@ -51,7 +52,7 @@ pub fn is_tag(tag: &[u8]) -> bool
 pub fn is_printable_line(line: &[u8]) -> bool
     ensures { result ≡ is_first line.now }
 {
-    line.iter().all(|c| *c >= 0x20 && *c <= 0x7E)
+    are_printable(line)
 }
 
 /// Whether a line may go on a value: printable, and it begins with neither `:` nor `-`.
@@ -65,16 +66,13 @@ pub fn is_further_line(line: &[u8]) -> bool
 }
 
 /// What stands before the first line feed, and after it.
+#[inline]
 pub fn split_feed(text: &[u8]) -> Option<(&[u8], &[u8])>
     ensures found { IfSome result (λ parts. (text.now ≡ parts.0.now ++ byte "\n" ∷ parts.1.now) × All (λ c. c ≢ byte "\n") parts.0.now) }
     ensures none { IfNone result (All (λ c. c ≢ byte "\n") text.now) }
 {
-    for (index, c) in text.iter().enumerate() {
-        if *c == b'\n' {
-            return Some((&text[..index], &text[index + 1..]));
-        }
-    }
-    None
+    let index = find_feed(text)?;
+    Some((&text[..index], &text[index + 1..]))
 }
 
 /// Whether all lines may go on a value.
