@@ -9,5 +9,6 @@ pub mod SeenLemmas
 pub mod PartLemmas
 pub mod LawLemmas
 pub mod OpenLemmas
+pub mod PutLemmas
 pub mod FeedLemmas
 pub mod PrintLemmas

@@ -15,6 +15,7 @@ mod laws;
 mod limits;
 mod lines;
 mod parts;
+mod placing;
 mod reading;
 mod scanning;
 mod spelling;
