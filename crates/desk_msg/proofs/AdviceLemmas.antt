@@ -1,6 +1,6 @@
 -- The parts of an advice are right.
-use Rattle.std.proofs.Common.{◌≡◌, ℕ, List, [], ◌∷◌, ◌++◌, codes, refl, IsTrue, lit<, ◌∙◌, ap, append_assoc}
-use Rattle.desk_codes.specs.Reference.{IsReference}
+use Rattle.std.proofs.Common.{◌≡◌, ℕ, List, [], ◌∷◌, ◌++◌, codes, refl, IsTrue, lit<, ◌∙◌, ap}
+use Rattle.desk_text.specs.BlockGrammar.{is_first}
 use Rattle.desk_text.specs.Written.{Part, field_part, close_part, is_value, AreParts}
 use Rattle.desk_text.proofs.LawLemmas.{value-right}
 use Rattle.desk_msg.specs.declared.mt.Mt.{Mt}
@@ -11,11 +11,10 @@ use Rattle.desk_msg.specs.declared.writing.status.Reason.TheVariants.{Future, La
 use Rattle.desk_msg.specs.declared.writing.status.Case.{Case}
 use Rattle.desk_msg.specs.declared.writing.status.Case.TheVariants.{Unmatched, Matched, Cancelled, CancelDone, CancelWaits, NewRefused, CancelRefused}
 use Rattle.desk_msg.specs.OwnText.{last_digits, own_reference}
-use Rattle.std.proofs.lemmas.List.{append-nil}
 use Rattle.desk_msg.specs.MessageType.{digits_of_type}
 use Rattle.desk_msg.specs.StatusText.{code_of_reason, statuses_of, function_of_advice, advice_parts}
 use Rattle.desk_msg.specs.AdviceParts.{status_with, reason_with, parts_of}
-use Rattle.desk_msg.proofs.PrintableLemmas.{digits-printable, printable_text}
+use Rattle.desk_msg.proofs.PrintableLemmas.{digits-printable}
 
 -- the sequence that an advice is in
 abbrev general : List (List ℕ)
@@ -71,17 +70,12 @@ pub parts_right : (own link related : List ℕ) (about : Case) → IsTrue (is_va
 parts_right own link related about o l r =
     (refl, lit< tt, (refl, o, (refl, function_right about, (refl, lit< tt, (refl, l, (refl, r, (refl, statuses_right about)))))))
 
+pub own_first : (own : Own) → IsTrue (is_first (codes ":SEME//" ++ own_reference own))
+own_first (Answer entries) = digits-printable 15 entries
+own_first (Sent n) = digits-printable 15 n
+
 pub own_right : (own : Own) → IsTrue (is_value (codes ":SEME//" ++ own_reference own))
-own_right (Answer entries) = value-right (codes ":SEME//" ++ own_reference (Answer entries)) (digits-printable 15 entries)
-own_right (Sent n) = value-right (codes ":SEME//" ++ own_reference (Sent n)) (digits-printable 15 n)
-
-pub related_right : (reference : List ℕ) → IsReference reference → IsTrue (is_value (codes ":RELA//" ++ reference))
-related_right reference is = value-right (codes ":RELA//" ++ reference) (printable_text reference is.printable)
-
--- the parts, from what was added one after another
-pub parts_are : (n h s z front statuses back : List Part) → n ≡ [] → h ≡ n ++ front → s ≡ h ++ statuses → z ≡ s ++ back → z ≡ front ++ (statuses ++ back)
-parts_are n h s z front statuses back none eh es ez =
-    ez ∙ ap (λ w. w ++ back) (es ∙ ap (λ w. w ++ statuses) (eh ∙ ap (λ w. w ++ front) none)) ∙ append_assoc front statuses back
+own_right own = value-right (codes ":SEME//" ++ own_reference own) (own_first own)
 
 -- the parts of these values are those of the advice
 pub advice_values : (own : Own) (mt : Mt) (reference : List ℕ) (about : Case) (o l r : List ℕ) → o ≡ codes ":SEME//" ++ own_reference own → l ≡ codes ":LINK//" ++ digits_of_type mt → r ≡ codes ":RELA//" ++ reference → parts_of o l r about ≡ advice_parts own mt reference about
@@ -90,7 +84,3 @@ advice_values own mt reference about o l r eo el er =
     ap (λ v. parts_of v l r about) eo
     ∙ ap (λ v. parts_of (codes ":SEME//" ++ own_reference own) v r about) el
     ∙ ap (λ v. parts_of (codes ":SEME//" ++ own_reference own) (codes ":LINK//" ++ digits_of_type mt) v about) er
-
--- the pieces of a value, in a row
-pub value_is : (value items front piece text : List ℕ) → value ≡ items → items ≡ front ++ (piece ++ []) → piece ≡ text → value ≡ front ++ text
-value_is value items front piece text ev ei ep = ev ∙ ei ∙ ap (λ w. front ++ w) (append-nil piece ∙ ep)

@@ -50,7 +50,7 @@ read_cash fields true (Some cash) part e is all =
     let text = given.says.1.2 in
     number_back text.0 cash.amount (decimals_of cash.ccy) (few_decimals cash.ccy) text.2
 
-printed_cash : (cash : Option Cash) → IsReadCash cash → IsPrintedCash cash
+pub printed_cash : (cash : Option Cash) → IsReadCash cash → IsPrintedCash cash
 printed_cash None read = tt
 printed_cash (Some cash) read = amount_printable cash.ccy (written_number cash.amount (decimals_of cash.ccy)) (number_text cash.amount (decimals_of cash.ccy) read)
 
@@ -107,7 +107,7 @@ pub record AreReadBack (i : Instruction) (day : List ℕ) : Type 0 where
   pub counterparty : list_all is_printable i.counterparty ≡ true
   pub cash : IsReadCash i.cash
 
-are_printed : (i : Instruction) (day : List ℕ) → AreReadBack i day → ArePrintable i day
+pub are_printed : (i : Instruction) (day : List ℕ) → AreReadBack i day → ArePrintable i day
 are_printed i day back = record {
   reference = printable_text i.reference back.reference.printable;
   day_text = day_text day back.is_day;

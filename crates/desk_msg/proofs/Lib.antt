@@ -5,6 +5,7 @@ pub mod MessageLemmas
 pub mod LineLemmas
 pub mod DigitsLemmas
 pub mod PrintableLemmas
+pub mod StatusLemmas
 pub mod AdviceLemmas
 pub mod ConfirmationLemmas
 pub mod ConfirmedTexts

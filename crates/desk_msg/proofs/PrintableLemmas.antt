@@ -1,5 +1,5 @@
 -- Values of one line.
-use Rattle.std.proofs.Common.{◌≡◌, ℕ, zero, suc, ◌+◌, ◌<◌, ◌≤◌, ◌/◌, ◌%◌, true, ◌&&◌, List, [], ◌∷◌, ◌++◌, All, refl, sym, ◌∙◌, ap, append_assoc, arith}
+use Rattle.std.proofs.Common.{◌≡◌, ℕ, zero, suc, ◌+◌, ◌<◌, ◌≤◌, ◌/◌, ◌%◌, true, ◌&&◌, List, [], ◌∷◌, All, refl, sym, ◌∙◌, ap, arith}
 use Rattle.std.specs.List.{list_all}
 use Rattle.std.proofs.lemmas.List.Folds.{list_all-append}
 use Rattle.std.proofs.lemmas.List.Elements.{All-head, All-tail}
@@ -27,14 +27,6 @@ digits-printable (suc k) n =
 pub two_digits : (n : ℕ) → n ≤ 99 → (48 + n / 10) ∷ (48 + n % 10) ∷ [] ≡ last_digits 2 n
 unfolding last_digits
 two_digits n h = let small : n / 10 % 10 ≡ n / 10 = omega arith in ap (λ d. (48 + d) ∷ (48 + n % 10) ∷ []) (sym small)
-
--- a list with a table behind it, which is these
-pub added : {X : Type 0} (a b table ps : List X) → b ≡ a ++ table → table ≡ ps → b ≡ a ++ ps
-added a b table ps e is = e ∙ ap (λ w. a ++ w) is
-
--- a list with two more behind it, one after the other
-pub next_parts : {X : Type 0} (a b z ps qs : List X) → b ≡ a ++ ps → z ≡ b ++ qs → z ≡ a ++ (ps ++ qs)
-next_parts a b z ps qs e more = more ∙ ap (λ w. w ++ qs) e ∙ append_assoc a ps qs
 
 pub printable_text : (text : List ℕ) → All IsPrintable text → list_all is_printable text ≡ true
 printable_text [] all = refl

@@ -1,15 +1,10 @@
 -- The parts of an advice by their values: what StatusText.antt defines, in the words of the writer. Only proofs and private
 -- contracts speak of it.
-use Rattle.std.specs.Prelude.{ℕ, List, [], ◌∷◌, ◌++◌, map, codes}
-use Rattle.desk_text.specs.declared.parts.BlockPart.{BlockPart}
+use Rattle.std.specs.Prelude.{ℕ, List, [], ◌∷◌, ◌++◌, codes}
 use Rattle.desk_text.specs.Written.{Part, open_part, field_part, close_part}
 use Rattle.desk_msg.specs.declared.writing.status.Case.{Case}
 use Rattle.desk_msg.specs.declared.writing.status.Case.TheVariants.{NewRefused, CancelRefused}
 use Rattle.desk_msg.specs.StatusText.{function_of_advice, statuses_of}
-use Rattle.desk_text.specs.PartsSeen.{part_seen}
-
-abbrev pub parts_seen : List BlockPart → List Part
-parts_seen parts = map part_seen parts
 
 abbrev pub header_of : List ℕ → List ℕ → List ℕ → List ℕ → List Part
 header_of own function link related =

@@ -1,8 +1,7 @@
 -- The parts of a confirmation by their values: what ConfirmationText.antt defines, in the words of the writer. Only proofs
--- and private contracts speak of it.
+-- speak of it.
 use Rattle.std.specs.Prelude.{ℕ, List, [], ◌∷◌, ◌++◌, codes}
 use Rattle.desk_text.specs.Written.{Part, open_part, field_part, close_part}
-use Rattle.desk_msg.specs.declared.writing.confirmation.Values.{Values}
 use Rattle.desk_msg.specs.Depository.{desk_bic}
 
 -- The parts of a confirmation with these values, in the order of its fields: own and related reference, day, security, quantity,
@@ -33,6 +32,3 @@ parts_listed own related day security quantity account settlement counterparty p
     ∷ field_part (codes "95P") (codes ":PSET//" ++ desk_bic)
     ∷ close_part (codes "SETPRTY")
     ∷ (paid ++ close_part (codes "SETDET") ∷ [])
-
-abbrev pub parts_with : Values → List Part → List Part
-parts_with v paid = parts_listed v.own.now v.related.now v.day.now v.security.now v.quantity.now v.account.now v.settlement.now v.counterparty.now paid

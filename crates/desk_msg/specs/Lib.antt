@@ -14,6 +14,7 @@ pub mod Depository
 pub mod ConfirmationText
 pub mod Confirms
 pub mod ConfirmationParts
+pub mod ConfirmationPieces
 pub mod HoldingsText
 pub mod HoldingsPieces
 pub mod TookRows

@@ -1,103 +1,102 @@
 //! The confirmation of a settlement, MT544 to MT547, as it is written.
-ghost use Rattle.std.specs.Prelude.{◌≡◌, ◌<◌, ◌≤◌, ◌^◌, ◌++◌, ◌∷◌, [], List, ℕ, IfOk, codes, length, if◌then◌else◌, Ok};
-ghost use Rattle.std.specs.Str.{byte};
+ghost use Rattle.std.specs.Prelude.{◌≡◌, ◌<◌, ◌≤◌, ◌^◌, ◌++◌, List, IfOk, codes, if◌then◌else◌, Ok};
 ghost use Rattle.std.specs.Option.{ForSome};
 ghost use Rattle.desk_codes.specs.Number.{written_number};
 ghost use Rattle.desk_text.specs.Fields.{Found, IsBlock};
-ghost use Rattle.desk_text.specs.Written.{AreParts, block_text, fields_written};
 ghost use Rattle.desk_msg.specs.MessageType.{is_delivery};
 ghost use Rattle.desk_msg.specs.Profile.{code_of_kind};
-ghost use Rattle.desk_msg.specs.AdviceParts.{parts_seen};
-ghost use Rattle.desk_msg.specs.ConfirmationText.{confirmation, confirming_type, amount_text, paid_parts};
-ghost use Rattle.desk_msg.specs.ConfirmationParts.{parts_with};
+ghost use Rattle.desk_msg.specs.ConfirmationText.{confirmation, confirming_type, paid_parts};
+ghost use Rattle.desk_msg.specs.ConfirmationPieces.{text_with, paid_text};
+ghost use Rattle.desk_msg.specs.HoldingsPieces.{text_of};
 ghost use Rattle.desk_msg.specs.Confirms.{Confirms, confirmed_of};
 
-use crate::instruction::{Cash, Instruction, Kind};
-use crate::writing::pieces::{add_parts, new_parts, value_of};
+use crate::instruction::{Instruction, Kind};
+use crate::writing::pieces::joined;
 use crate::writing::status::{Own, own_value};
 use desk_codes::{Day, write_number};
-use desk_text::{BlockPart, write_block};
 use std::alloc::{AllocError, Global};
 
-/// The values of a confirmation's fields, but the amount's.
+/// What a confirmation's fields say, but the amount's; of the quantity and of the counterparty also what their values
+/// begin with.
 #[derive(Clone, Copy)]
 struct Values<'a> {
     own: &'a [u8],
     related: &'a [u8],
     day: &'a [u8],
     security: &'a [u8],
+    quantity_begins: &'a [u8],
     quantity: &'a [u8],
     account: &'a [u8],
     settlement: &'a [u8],
+    counterparty_begins: &'a [u8],
     counterparty: &'a [u8],
 }
 
-/// The confirmation with these values, and with the parts of the amount.
+/// The lines of the amount in pieces; where nothing is paid there are none, and all are empty.
+#[derive(Clone, Copy)]
+struct PaidLines<'a> {
+    front: &'a [u8],
+    currency: &'a [u8],
+    amount: &'a [u8],
+    end: &'a [u8],
+}
+
+/// The confirmation of these values, and of the lines of the amount.
 fn write_confirmation(
     alloc: Global,
     values: &Values<'_>,
-    paid: &[BlockPart<'_>],
+    paid: &PaidLines<'_>,
 ) -> Result<Vec<u8>, AllocError>
-    requires { AreParts [] (parts_with values.now (parts_seen paid.now)) }
-    ensures text { IfOk result (λ text. text.items ≡ block_text (parts_with values.now (parts_seen paid.now))) }
-    ensures block { IfOk result (λ text. IsBlock text.items (fields_written (parts_with values.now (parts_seen paid.now)))) }
+    ensures { IfOk result (λ text. text.items ≡ text_with values.now (paid_text paid.now)) }
 {
-    let mut parts = new_parts(alloc)?;
-    add_parts(
-        &mut parts,
+    joined(
+        alloc,
         &[
-            BlockPart::Open(b"GENL"),
-            BlockPart::Field(b"20C", values.own),
-            BlockPart::Field(b"23G", b"NEWM"),
-            BlockPart::Open(b"LINK"),
-            BlockPart::Field(b"20C", values.related),
-            BlockPart::Close(b"LINK"),
-            BlockPart::Close(b"GENL"),
-            BlockPart::Open(b"TRADDET"),
-            BlockPart::Field(b"98A", values.day),
-            BlockPart::Field(b"35B", values.security),
-            BlockPart::Close(b"TRADDET"),
-            BlockPart::Open(b"FIAC"),
-            BlockPart::Field(b"36B", values.quantity),
-            BlockPart::Field(b"97A", values.account),
-            BlockPart::Close(b"FIAC"),
-            BlockPart::Open(b"SETDET"),
-            BlockPart::Field(b"22F", values.settlement),
-            BlockPart::Open(b"SETPRTY"),
-            BlockPart::Field(b"95P", values.counterparty),
-            BlockPart::Close(b"SETPRTY"),
-            BlockPart::Open(b"SETPRTY"),
-            BlockPart::Field(b"95P", b":PSET//DESKDEFF"),
-            BlockPart::Close(b"SETPRTY"),
+            b"{4:\r\n:16R:GENL\r\n:20C:",
+            values.own,
+            b"\r\n:23G:NEWM\r\n:16R:LINK\r\n:20C::RELA//",
+            values.related,
+            b"\r\n:16S:LINK\r\n:16S:GENL\r\n:16R:TRADDET\r\n:98A::ESET//",
+            values.day,
+            b"\r\n:35B:ISIN ",
+            values.security,
+            b"\r\n:16S:TRADDET\r\n:16R:FIAC\r\n:36B:",
+            values.quantity_begins,
+            values.quantity,
+            b"\r\n:97A::SAFE//",
+            values.account,
+            b"\r\n:16S:FIAC\r\n:16R:SETDET\r\n:22F::SETR//",
+            values.settlement,
+            b"\r\n:16R:SETPRTY\r\n:95P:",
+            values.counterparty_begins,
+            values.counterparty,
+            b"\r\n:16S:SETPRTY\r\n:16R:SETPRTY\r\n:95P::PSET//DESKDEFF\r\n:16S:SETPRTY\r\n",
+            paid.front,
+            paid.currency,
+            paid.amount,
+            paid.end,
+            b":16S:SETDET\r\n-}",
         ],
-    )?;
-    add_parts(&mut parts, paid)?;
-    add_parts(&mut parts, &[BlockPart::Close(b"SETDET")])?;
-    write_block(alloc, &parts)
+    )
 }
 
-/// The value of the quantity.
-fn quantity_value(alloc: Global, kind: Kind, quantity: u64) -> Result<Vec<u8>, AllocError>
-    ensures value { IfOk result (λ value. value.items ≡ codes ":ESTT//" ++ code_of_kind kind ++ byte "/" ∷ written_number quantity 0) }
-    ensures fits { quantity < 2 ^ 64 }
+/// A number in units of so many decimals, as it is written.
+fn number_text(alloc: Global, number: u64, decimals: usize) -> Result<Vec<u8>, AllocError>
+    requires { decimals ≤ 3 }
+    ensures value { IfOk result (λ text. text.items ≡ written_number number decimals) }
+    ensures fits { number < 2 ^ 64 }
 {
-    let begins: &[u8] = match kind {
+    write_number(alloc, number, decimals)
+}
+
+/// What the value of the quantity begins with.
+fn quantity_begins(kind: Kind) -> &'static [u8]
+    ensures { result.now ≡ codes ":ESTT//" ++ (code_of_kind kind ++ codes "/") }
+{
+    match kind {
         Kind::Unit => b":ESTT//UNIT/",
         Kind::FaceAmount => b":ESTT//FAMT/",
-    };
-    let number = write_number(alloc, quantity, 0)?;
-    value_of(alloc, begins, &number)
-}
-
-/// The value of the amount.
-fn amount_value(alloc: Global, cash: Cash) -> Result<Vec<u8>, AllocError>
-    ensures value { IfOk result (λ value. value.items ≡ codes ":ESTT//" ++ amount_text cash) }
-    ensures fits { cash.amount < 2 ^ 64 }
-{
-    let number = write_number(alloc, cash.amount, cash.ccy.decimals())?;
-    let mut value = value_of(alloc, b":ESTT//", cash.ccy.as_bytes())?;
-    value.extend_from_slice(&number)?;
-    Ok(value)
+    }
 }
 
 /// What the value of the counterparty begins with: the receiving agent of a delivery, the delivering one of a receipt.
@@ -107,15 +106,15 @@ fn counterparty_begins(delivers: bool) -> &'static [u8]
     if delivers { b":REAG//" } else { b":DEAG//" }
 }
 
-/// The confirmation with the parts of the amount, if there is one.
+/// The confirmation with the lines of the amount, if there is one.
 fn confirmation_with(
     alloc: Global,
     n: u64,
     instruction: &Instruction,
     day: Day,
-    paid: &[BlockPart<'_>],
+    paid: &PaidLines<'_>,
 ) -> Result<Vec<u8>, AllocError>
-    requires paid { parts_seen paid.now ≡ paid_parts instruction.now.cash }
+    requires paid { paid_text paid.now ≡ text_of (paid_parts instruction.now.cash) }
     requires fits { ForSome instruction.now.cash (λ cash. cash.amount < 2 ^ 64) }
     ensures text { IfOk result (λ text. text.items ≡ confirmation n instruction.now day) }
     ensures said { IfOk result (λ text. (said : List Found) × IsBlock text.items said × Confirms (confirming_type instruction.now.mt) said (Ok (confirmed_of instruction.now day))) }
@@ -123,23 +122,18 @@ fn confirmation_with(
     let instruction = *instruction;
     let own = own_value(Own::Sent(n));
     let digits = day.write();
-    let begins = counterparty_begins(instruction.mt.is_delivery());
-    let related = value_of(alloc, b":RELA//", instruction.reference.as_bytes())?;
-    let settled = value_of(alloc, b":ESET//", &digits)?;
-    let security = value_of(alloc, b"ISIN ", instruction.isin.as_bytes())?;
-    let quantity = quantity_value(alloc, instruction.kind, instruction.quantity)?;
-    let account = value_of(alloc, b":SAFE//", instruction.account.as_bytes())?;
-    let settlement = value_of(alloc, b":SETR//", instruction.settlement.as_bytes())?;
-    let counterparty = value_of(alloc, begins, instruction.counterparty.as_bytes())?;
+    let quantity = number_text(alloc, instruction.quantity, 0)?;
     let values = Values {
         own: &own,
-        related: &related,
-        day: &settled,
-        security: &security,
+        related: instruction.reference.as_bytes(),
+        day: &digits,
+        security: instruction.isin.as_bytes(),
+        quantity_begins: quantity_begins(instruction.kind),
         quantity: &quantity,
-        account: &account,
-        settlement: &settlement,
-        counterparty: &counterparty,
+        account: instruction.account.as_bytes(),
+        settlement: instruction.settlement.as_bytes(),
+        counterparty_begins: counterparty_begins(instruction.mt.is_delivery()),
+        counterparty: instruction.counterparty.as_bytes(),
     };
     write_confirmation(alloc, &values, paid)
 }
@@ -160,14 +154,23 @@ pub fn confirmation_text(
 {
     match instruction.cash {
         Some(cash) => {
-            let amount = amount_value(alloc, cash)?;
-            let paid = [
-                BlockPart::Open(b"AMT"),
-                BlockPart::Field(b"19A", &amount),
-                BlockPart::Close(b"AMT"),
-            ];
+            let amount = number_text(alloc, cash.amount, cash.ccy.decimals())?;
+            let paid = PaidLines {
+                front: b":16R:AMT\r\n:19A::ESTT//",
+                currency: cash.ccy.as_bytes(),
+                amount: &amount,
+                end: b"\r\n:16S:AMT\r\n",
+            };
             confirmation_with(alloc, n, instruction, day, &paid)
         }
-        None => confirmation_with(alloc, n, instruction, day, &[]),
+        None => {
+            let paid = PaidLines {
+                front: b"",
+                currency: b"",
+                amount: b"",
+                end: b"",
+            };
+            confirmation_with(alloc, n, instruction, day, &paid)
+        }
     }
 }

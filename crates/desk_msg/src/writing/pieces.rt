@@ -1,12 +1,8 @@
-//! Values and blocks out of pieces.
-ghost use Rattle.std.specs.Prelude.{◌≡◌, ◌++◌, [], IfOk, OnOk};
-ghost use Rattle.desk_msg.specs.AdviceParts.{parts_seen};
+//! Texts out of pieces.
+ghost use Rattle.std.specs.Prelude.{◌≡◌, ◌++◌, IfOk};
+ghost use Rattle.std.specs.List.{flat_map};
 
-use desk_text::BlockPart;
 use std::alloc::{AllocError, Global};
-
-/// So many parts a status advice or a confirmation has at most.
-const MOST_PARTS: usize = 27;
 
 /// A value: what it begins with, and the text behind it.
 pub fn value_of(alloc: Global, begins: &[u8], text: &[u8]) -> Result<Vec<u8>, AllocError>
@@ -18,19 +14,22 @@ pub fn value_of(alloc: Global, begins: &[u8], text: &[u8]) -> Result<Vec<u8>, Al
     Ok(value)
 }
 
-/// No parts yet, with room for those of a status advice or a confirmation.
-pub fn new_parts<'a>(alloc: Global) -> Result<Vec<BlockPart<'a>>, AllocError>
-    ensures { IfOk result (λ parts. parts.items ≡ []) }
-{
-    Vec::with_capacity(alloc, MOST_PARTS)
+/// How many bytes pieces have together.
+fn room_of(pieces: &[&[u8]]) -> usize {
+    let mut room = 0usize;
+    for piece in pieces {
+        room = room.saturating_add(piece.len());
+    }
+    room
 }
 
-/// Adds a table of parts.
-pub fn add_parts<'a>(
-    parts: &mut Vec<BlockPart<'a>>,
-    table: &[BlockPart<'a>],
-) -> Result<(), AllocError>
-    ensures { OnOk result (parts_seen parts.new.items ≡ parts_seen parts.old.items ++ parts_seen table.now) }
+/// Pieces, one behind the other.
+pub fn joined(alloc: Global, pieces: &[&[u8]]) -> Result<Vec<u8>, AllocError>
+    ensures { IfOk result (λ text. text.items ≡ flat_map (λ piece. piece.now) pieces.now) }
 {
-    parts.extend_from_slice(table)
+    let mut text = Vec::with_capacity(alloc, room_of(pieces))?;
+    for piece in pieces {
+        text.extend_from_slice(piece)?;
+    }
+    Ok(text)
 }

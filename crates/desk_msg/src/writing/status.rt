@@ -1,19 +1,18 @@
 //! The status advice, MT548.
-ghost use Rattle.std.specs.Prelude.{◌≡◌, ◌≤◌, ◌<◌, ◌^◌, ◌++◌, ◌∷◌, [], map, IfOk, OnOk, IsTrue, codes};
+ghost use Rattle.std.specs.Prelude.{◌≡◌, ◌≤◌, ◌++◌, IfOk, IsTrue, codes};
+ghost use Rattle.std.specs.List.{flat_map};
 ghost use Rattle.desk_text.specs.Fields.{IsBlock};
-ghost use Rattle.desk_text.specs.Written.{AreParts, block_text, fields_written, open_part, field_part, close_part, is_value};
-ghost use Rattle.desk_text.specs.PartsSeen.{part_seen};
-ghost use Rattle.desk_msg.specs.MessageType.{digits_of_type};
-ghost use Rattle.desk_msg.specs.OwnText.{last_digits, own_reference, sequence_parts};
+ghost use Rattle.desk_text.specs.Lines.{written};
+ghost use Rattle.desk_text.specs.BlockGrammar.{is_first};
+ghost use Rattle.desk_text.specs.Written.{block_text, fields_written, lines_of_part, is_value};
+ghost use Rattle.desk_msg.specs.OwnText.{last_digits, own_reference};
 ghost use Rattle.desk_msg.specs.StatusText.{advice, advice_parts, code_of_reason, statuses_of, function_of_advice, IsOwn, IsCase};
-ghost use Rattle.desk_msg.specs.AdviceParts.{refused_number};
-ghost use Rattle.desk_msg.specs.AdviceParts.{parts_seen, header_of, status_with, reason_with, parts_of};
+ghost use Rattle.desk_msg.specs.AdviceParts.{refused_number, parts_of};
 
 use crate::mt::Mt;
 use crate::writing::digits::fifteen_digits;
-use crate::writing::pieces::{add_parts, new_parts, value_of};
+use crate::writing::pieces::joined;
 use desk_codes::Reference;
-use desk_text::{BlockPart, write_block};
 use std::alloc::{AllocError, Global};
 
 /// Which number the reference of one of the desk's own texts has.
@@ -81,88 +80,70 @@ fn refusal_value(number: u8) -> [u8; 14]
     value
 }
 
-/// The value of a pending status' reason.
-fn pending_value(reason: Reason) -> &'static [u8]
-    ensures value { result.now ≡ codes ":PEND//" ++ code_of_reason reason }
-    ensures right { IsTrue (is_value result.now) }
+/// The lines of a pending status' reason, and of the status' end.
+fn pending_lines<'a>(reason: Reason) -> &'a [u8]
+    ensures { result.now ≡ codes ":16R:REAS\r\n:24B::PEND//" ++ (code_of_reason reason ++ codes "\r\n:16S:REAS\r\n:16S:STAT\r\n") }
 {
     match reason {
-        Reason::Future => b":PEND//FUTU",
-        Reason::Lack => b":PEND//LACK",
-        Reason::Money => b":PEND//MONY",
+        Reason::Future => b":16R:REAS\r\n:24B::PEND//FUTU\r\n:16S:REAS\r\n:16S:STAT\r\n",
+        Reason::Lack => b":16R:REAS\r\n:24B::PEND//LACK\r\n:16S:REAS\r\n:16S:STAT\r\n",
+        Reason::Money => b":16R:REAS\r\n:24B::PEND//MONY\r\n:16S:REAS\r\n:16S:STAT\r\n",
     }
 }
 
-/// A status.
-fn status(status: &[u8]) -> [BlockPart<'_>; 3]
-    ensures { parts_seen result ≡ status_with status.now [] }
-{
-    [
-        BlockPart::Open(b"STAT"),
-        BlockPart::Field(b"25D", status),
-        BlockPart::Close(b"STAT"),
-    ]
+/// The lines of statuses, in three pieces.
+#[derive(Clone, Copy)]
+struct StatusLines<'a> {
+    front: &'a [u8],
+    value: &'a [u8],
+    end: &'a [u8],
 }
 
-/// A status with its reason.
-fn reasoned<'a>(status: &'a [u8], reason: &'a [u8]) -> [BlockPart<'a>; 6]
-    ensures { parts_seen result ≡ status_with status.now (reason_with reason.now []) }
+/// Lines in one piece.
+fn whole(front: &[u8]) -> StatusLines<'_>
+    ensures { result.front.now ++ (result.value.now ++ result.end.now) ≡ front.now }
 {
-    [
-        BlockPart::Open(b"STAT"),
-        BlockPart::Field(b"25D", status),
-        BlockPart::Open(b"REAS"),
-        BlockPart::Field(b"24B", reason),
-        BlockPart::Close(b"REAS"),
-        BlockPart::Close(b"STAT"),
-    ]
+    StatusLines {
+        front,
+        value: b"",
+        end: b"",
+    }
 }
 
-/// A refusal with its narrative.
-fn refused<'a>(status: &'a [u8], narrative: &'a [u8]) -> [BlockPart<'a>; 7]
-    ensures { parts_seen result ≡ status_with status.now (reason_with (codes ":REJT//NARR") (field_part (codes "70D") narrative.now ∷ [])) }
-{
-    [
-        BlockPart::Open(b"STAT"),
-        BlockPart::Field(b"25D", status),
-        BlockPart::Open(b"REAS"),
-        BlockPart::Field(b"24B", b":REJT//NARR"),
-        BlockPart::Field(b"70D", narrative),
-        BlockPart::Close(b"REAS"),
-        BlockPart::Close(b"STAT"),
-    ]
-}
-
-/// Adds the statuses of a case; the narrative is that of a refusal.
-fn add_statuses<'a>(
-    parts: &mut Vec<BlockPart<'a>>,
-    about: Case,
-    narrative: &'a [u8],
-) -> Result<(), AllocError>
+/// The lines of the statuses of a case; the narrative is the value of a refusal's.
+fn status_lines<'a>(about: Case, narrative: &'a [u8]) -> StatusLines<'a>
     requires { narrative.now ≡ codes ":REAS//DESK " ++ last_digits 2 (refused_number about) }
-    ensures { OnOk result (parts_seen parts.new.items ≡ parts_seen parts.old.items ++ statuses_of about) }
+    ensures { result.front.now ++ (result.value.now ++ result.end.now) ≡ written (flat_map lines_of_part (statuses_of about)) }
 {
     match about {
-        Case::Unmatched => {
-            add_parts(parts, &status(b":IPRC//PACK"))?;
-            add_parts(parts, &reasoned(b":MTCH//NMAT", b":NMAT//CMIS"))?;
-        }
-        Case::Matched(reason) => {
-            add_parts(parts, &status(b":IPRC//PACK"))?;
-            add_parts(parts, &status(b":MTCH//MACH"))?;
-            add_parts(parts, &reasoned(b":SETT//PEND", pending_value(reason)))?;
-        }
-        Case::Cancelled => add_parts(parts, &status(b":IPRC//CAND"))?,
-        Case::CancelDone => add_parts(parts, &status(b":CPRC//CAND"))?,
-        Case::CancelWaits => add_parts(parts, &status(b":CPRC//PACK"))?,
-        Case::NewRefused(_) => add_parts(parts, &refused(b":IPRC//REJT", narrative))?,
-        Case::CancelRefused(_) => add_parts(parts, &refused(b":CPRC//REJT", narrative))?,
+        Case::Unmatched => StatusLines {
+            front: b":16R:STAT\r\n:25D::IPRC//PACK\r\n:16S:STAT\r\n",
+            value: b":16R:STAT\r\n:25D::MTCH//NMAT\r\n",
+            end: b":16R:REAS\r\n:24B::NMAT//CMIS\r\n:16S:REAS\r\n:16S:STAT\r\n",
+        },
+        Case::Matched(reason) => StatusLines {
+            front: b":16R:STAT\r\n:25D::IPRC//PACK\r\n:16S:STAT\r\n:16R:STAT\r\n:25D::MTCH//MACH\r\n:16S:STAT\r\n",
+            value: b":16R:STAT\r\n:25D::SETT//PEND\r\n",
+            end: pending_lines(reason),
+        },
+        Case::Cancelled => whole(b":16R:STAT\r\n:25D::IPRC//CAND\r\n:16S:STAT\r\n"),
+        Case::CancelDone => whole(b":16R:STAT\r\n:25D::CPRC//CAND\r\n:16S:STAT\r\n"),
+        Case::CancelWaits => whole(b":16R:STAT\r\n:25D::CPRC//PACK\r\n:16S:STAT\r\n"),
+        Case::NewRefused(_) => StatusLines {
+            front: b":16R:STAT\r\n:25D::IPRC//REJT\r\n:16R:REAS\r\n:24B::REJT//NARR\r\n:70D:",
+            value: narrative,
+            end: b"\r\n:16S:REAS\r\n:16S:STAT\r\n",
+        },
+        Case::CancelRefused(_) => StatusLines {
+            front: b":16R:STAT\r\n:25D::CPRC//REJT\r\n:16R:REAS\r\n:24B::REJT//NARR\r\n:70D:",
+            value: narrative,
+            end: b"\r\n:16S:REAS\r\n:16S:STAT\r\n",
+        },
     }
-    Ok(())
 }
 
 /// The value of the function.
-fn function_value(about: Case) -> &'static [u8]
+fn function_value<'a>(about: Case) -> &'a [u8]
     ensures value { result.now ≡ function_of_advice about }
     ensures right { IsTrue (is_value result.now) }
 {
@@ -184,38 +165,41 @@ fn refusal_number(about: Case) -> u8
     }
 }
 
-/// The advice with these values.
+/// The advice with these values, and with the type and the reference of the message that it is about.
 fn write_advice<'a>(
     alloc: Global,
     about: Case,
     own: &'a [u8],
-    link: &'a [u8],
-    related: &'a [u8],
+    digits: &'a [u8],
+    reference: &'a [u8],
     narrative: &'a [u8],
 ) -> Result<Vec<u8>, AllocError>
-    requires own { IsTrue (is_value own.now) }
-    requires link { IsTrue (is_value link.now) }
-    requires related { IsTrue (is_value related.now) }
+    requires own { IsTrue (is_first own.now) }
+    requires digits { IsTrue (is_first digits.now) }
+    requires reference { IsTrue (is_first reference.now) }
     requires narrative { narrative.now ≡ codes ":REAS//DESK " ++ last_digits 2 (refused_number about) }
-    ensures text { IfOk result (λ text. text.items ≡ block_text (parts_of own.now link.now related.now about)) }
-    ensures block { IfOk result (λ text. IsBlock text.items (fields_written (parts_of own.now link.now related.now about))) }
+    ensures text { IfOk result (λ text. text.items ≡ block_text (parts_of own.now (codes ":LINK//" ++ digits.now) (codes ":RELA//" ++ reference.now) about)) }
+    ensures block { IfOk result (λ text. IsBlock text.items (fields_written (parts_of own.now (codes ":LINK//" ++ digits.now) (codes ":RELA//" ++ reference.now) about))) }
 {
-    let mut parts = new_parts(alloc)?;
-    add_parts(
-        &mut parts,
+    let lines = status_lines(about, narrative);
+    joined(
+        alloc,
         &[
-            BlockPart::Open(b"GENL"),
-            BlockPart::Field(b"20C", own),
-            BlockPart::Field(b"23G", function_value(about)),
-            BlockPart::Open(b"LINK"),
-            BlockPart::Field(b"13A", link),
-            BlockPart::Field(b"20C", related),
-            BlockPart::Close(b"LINK"),
+            b"{4:\r\n:16R:GENL\r\n:20C:",
+            own,
+            b"\r\n:23G:",
+            function_value(about),
+            b"\r\n:16R:LINK\r\n:13A::LINK//",
+            digits,
+            b"\r\n:20C::RELA//",
+            reference,
+            b"\r\n:16S:LINK\r\n",
+            lines.front,
+            lines.value,
+            lines.end,
+            b":16S:GENL\r\n-}",
         ],
-    )?;
-    add_statuses(&mut parts, about, narrative)?;
-    add_parts(&mut parts, &[BlockPart::Close(b"GENL")])?;
-    write_block(alloc, &parts)
+    )
 }
 
 /// The status advice, MT548, about the message of that type and reference. The only fault is want of memory.
@@ -234,8 +218,13 @@ pub fn status_text(
     ensures block { IfOk result (λ text. IsBlock text.items (fields_written (advice_parts own mt reference.now about))) }
 {
     let sender = own_value(own);
-    let link = value_of(alloc, b":LINK//", mt.as_str().as_bytes())?;
-    let related = value_of(alloc, b":RELA//", reference.as_bytes())?;
     let narrative = refusal_value(refusal_number(about));
-    write_advice(alloc, about, &sender, &link, &related, &narrative)
+    write_advice(
+        alloc,
+        about,
+        &sender,
+        mt.as_str().as_bytes(),
+        reference.as_bytes(),
+        &narrative,
+    )
 }

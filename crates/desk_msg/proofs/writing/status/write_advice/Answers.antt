@@ -1,31 +1,26 @@
-use Rattle.std.proofs.Common.{◌≡◌, ◌∙◌, ap, sym, subst, List, [], ◌∷◌, ◌++◌, codes, IfOk}
-use Rattle.desk_text.specs.Written.{Part, open_part, close_part, AreParts, block_text}
-use Rattle.desk_msg.specs.StatusText.{statuses_of, function_of_advice}
-use Rattle.desk_msg.specs.AdviceParts.{parts_seen, header_of, parts_of}
-use Rattle.desk_msg.proofs.AdviceLemmas.{parts_right, parts_are}
+use Rattle.std.proofs.Common.{List, ℕ, codes, ◌++◌}
+use Rattle.desk_text.specs.Fields.{IsBlock}
+use Rattle.desk_text.specs.Written.{block_text, fields_written}
+use Rattle.desk_text.proofs.LawLemmas.{value-right}
+use Rattle.desk_text.proofs.PartLemmas.{parts_block}
+use Rattle.desk_msg.specs.AdviceParts.{parts_of}
+use Rattle.desk_msg.proofs.AdviceLemmas.{parts_right}
+use Rattle.desk_msg.proofs.StatusLemmas.{advice_is, ok_then}
 use Rattle.desk_msg.proofs.writing.status.write_advice.Goals as goal
-
-pub write_block-requires : goal.write_block-requires
-write_block-requires c =
-    let written : parts_seen c.add_parts-2.new.parts.items ≡ parts_of c.args.own.now c.args.link.now c.args.related.now c.args.about =
-    parts_are (parts_seen c.in_ok-parts.parts.items) (parts_seen c.add_parts.new.parts.items) (parts_seen c.add_statuses.new.parts.items) (parts_seen c.add_parts-2.new.parts.items)
-    (open_part (codes "GENL") ∷ header_of c.args.own.now (function_of_advice c.args.about) c.args.link.now c.args.related.now) (statuses_of c.args.about) (close_part (codes "GENL") ∷ [])
-    (ap parts_seen c.in_ok-parts.ensures)
-    (c.in_ok-add_parts.ensures
-    ∙ ap (λ function. parts_seen c.in_ok-parts.parts.items ++ (open_part (codes "GENL") ∷ header_of c.args.own.now function c.args.link.now c.args.related.now)) c.function_value.ensures.value)
-    c.in_ok-add_statuses.ensures c.in_ok-add_parts-2.ensures in
-    let P : List Part → Type 0 = AreParts [] in
-    subst P (sym (ap parts_seen c.deref.ensures.value ∙ written))
-    (parts_right c.args.own.now c.args.link.now c.args.related.now c.args.about c.requires.own c.requires.link c.requires.related)
 
 pub returns-clause-text : goal.returns-clause-text
 returns-clause-text c =
-    let written : parts_seen c.add_parts-2.new.parts.items ≡ parts_of c.args.own.now c.args.link.now c.args.related.now c.args.about =
-    parts_are (parts_seen c.in_ok-parts.parts.items) (parts_seen c.add_parts.new.parts.items) (parts_seen c.add_statuses.new.parts.items) (parts_seen c.add_parts-2.new.parts.items)
-    (open_part (codes "GENL") ∷ header_of c.args.own.now (function_of_advice c.args.about) c.args.link.now c.args.related.now) (statuses_of c.args.about) (close_part (codes "GENL") ∷ [])
-    (ap parts_seen c.in_ok-parts.ensures)
-    (c.in_ok-add_parts.ensures
-    ∙ ap (λ function. parts_seen c.in_ok-parts.parts.items ++ (open_part (codes "GENL") ∷ header_of c.args.own.now function c.args.link.now c.args.related.now)) c.function_value.ensures.value)
-    c.in_ok-add_statuses.ensures c.in_ok-add_parts-2.ensures in
-    let P : List Part → Type 0 = λ parts. IfOk c.write_block.result (λ text. text.items ≡ block_text parts) in
-    subst P (ap parts_seen c.deref.ensures.value ∙ written) c.write_block.ensures.text
+    let is = advice_is c.args.own.now c.function_value.result.now c.args.digits.now c.args.reference.now c.status_lines-lines.result.front.now c.status_lines-lines.result.value.now c.status_lines-lines.result.end.now c.args.about
+    c.requires.own c.requires.digits c.requires.reference c.function_value.ensures.value c.status_lines-lines.ensures in
+    rw (← is) c.joined.ensures
+
+pub returns-clause-block : goal.returns-clause-block
+returns-clause-block c =
+    let own = c.args.own.now in
+    let link : List ℕ = codes ":LINK//" ++ c.args.digits.now in
+    let related : List ℕ = codes ":RELA//" ++ c.args.reference.now in
+    let is = advice_is c.args.own.now c.function_value.result.now c.args.digits.now c.args.reference.now c.status_lines-lines.result.front.now c.status_lines-lines.result.value.now c.status_lines-lines.result.end.now c.args.about
+    c.requires.own c.requires.digits c.requires.reference c.function_value.ensures.value c.status_lines-lines.ensures in
+    let Q : List ℕ → Type 0 = λ text. IsBlock text (fields_written (parts_of own link related c.args.about)) in
+    ok_then (λ t. t.items) c.joined.result (block_text (parts_of own link related c.args.about)) Q (rw (← is) c.joined.ensures)
+    (parts_block (parts_of own link related c.args.about) (parts_right own link related c.args.about (value-right own c.requires.own) (value-right link c.requires.digits) (value-right related c.requires.reference)))
