@@ -1,16 +1,18 @@
 -- The first holding of an account, key by key.
 use Rattle.std.proofs.Common.{◌≡◌, ℕ, ◌<◌, Bool, true, false, List, [], ◌∷◌, Option, Some, None, refl, ap, sym, ◌∙◌, subst, arith}
 use Rattle.std.specs.Prelude.{bytes_eq, is_some, not, unwrap_or}
-use Rattle.std.specs.List.{list_any, filter, AllByRecursion}
+use Rattle.std.specs.List.{list_any, filter, All, AllByRecursion}
 use Rattle.std.specs.List.Sorted.{IsStrictlySortedBy}
 use Rattle.std.specs.Map.{keys_of, lookup}
-use Rattle.std.specs.BTreeMap.{is_at}
-use Rattle.std.specs.BTreeMap.Range.{entries_between, range_contains}
+use Rattle.std.specs.BTreeMap.{get, is_at, BTreeMap}
+use Rattle.std.specs.BTreeMap.Range.{entries_between, range_contains, IsRangeOf}
 use Rattle.std.specs.Cmp.Lexicographic.{nat_list_cmp_total}
 use Rattle.std.specs.Ordering.{is_eq, is_le, ordering_reverse}
 use Rattle.std.specs.declared.cmp.Ordering.{Ordering}
 use Rattle.std.specs.declared.cmp.Ordering.TheVariants.{Less, Equal, Greater}
+use Rattle.std.specs.declared.ops.Bound.{Bound}
 use Rattle.std.specs.declared.ops.Bound.TheVariants.{Included, Unbounded}
+use Rattle.std.proofs.lemmas.List.Elements.{All-head, All-tail}
 use Rattle.std.proofs.lemmas.List.Kept.{IsStrictlySortedBy-filter}
 use Rattle.std.proofs.lemmas.Map.Keys.{sorted_head, sorted_tail}
 use Rattle.std.proofs.lemmas.Map.Text.{is_eq-slice_cmp}
@@ -22,7 +24,7 @@ use Rattle.desk_lists.specs.declared.balance_key.BalanceKey.{BalanceKey}
 use Rattle.desk_lists.specs.declared.balance_key.BalanceKey.TheVariants.{Cash, Outstanding, Paid, Position}
 use Rattle.desk_lists.specs.BalanceKeys.{HasNoneBelow, balance_cmp, first_key, least_isin, text_cmp}
 use Rattle.desk_lists.specs.Lists.{Listed, content_in}
-use Rattle.desk_lists.specs.Search.{IsHeldAt}
+use Rattle.desk_lists.specs.Search.{IsHeldAbove}
 use Rattle.desk_lists.proofs.BalanceLemmas.{key_true, tied_keys}
 use Rattle.desk_lists.proofs.FloorLemmas.{by_order}
 use Rattle.desk_lists.proofs.ListingLemmas.{less_less, not_less_itself}
@@ -155,24 +157,45 @@ module _ (content : Content) (account : List ℕ) (above : Option (List ℕ)) (x
 
   module _ (j : List ℕ) (at : x ≡ Position account j) where
     -- the first that is held is the first of all
-    pub first_is_held : (holding : Holding) → IsHeldAt content account above j (Some holding) → IsHoldingAfter content account above (Some holding)
+    pub first_is_held : (holding : Holding) → IsHeldAbove (content.position account j) above j (Some holding) → IsHoldingAfter content account above (Some holding)
     first_is_held holding found = (
-      subst (HoldsAbove content account above) (sym found.1) found.0,
-      found.2 ∙ ap (content.position account) (sym found.1),
+      subst (HoldsAbove content account above) (sym found.2) (found.0, found.1),
+      found.3 ∙ ap (content.position account) (sym found.2),
       λ other holds less. first_or_behind (Position account other) x ks ts is (left other holds)
-          (λ first. let same : other ≡ j = let both = first ∙ at in cc in not_less_itself other holding.isin (same ∙ sym found.1) less)
+          (λ first. let same : other ≡ j = let both = first ∙ at in cc in not_less_itself other holding.isin (same ∙ sym found.2) less)
           (λ there.
           let order : balance_cmp (Position account j) (Position account other) ≡ Less = subst (λ z. balance_cmp z (Position account other) ≡ Less) at (behind_first (Position account other) there) in
           let up : IsLess j other = sym (position_cmp account j other) ∙ order in
-          let down : IsLess other j = subst (IsLess other) found.1 less in
+          let down : IsLess other j = subst (IsLess other) found.2 less in
           not_less_itself j j refl (less_less j other j up down)),
     )
 
     -- where the first is not held, all stand behind it
-    pub all_behind : IsHeldAt content account above j None → (isin : List ℕ) → HoldsAbove content account above isin → has (Position account isin) ts ≡ true
+    pub all_behind : IsHeldAbove (content.position account j) above j None → (isin : List ℕ) → HoldsAbove content account above isin → has (Position account isin) ts ≡ true
     all_behind none isin holds = first_or_behind (Position account isin) x ks ts is (left isin holds)
         (λ first. let same : isin ≡ j = let both = first ∙ at in cc in absurd (none (subst (HoldsAbove content account above) same holds)))
         (λ there. there)
+
+-- The amounts of some entries.
+
+-- each is what is recorded of its key
+pub record AreRecorded (balances : BalanceKey → Option ℕ) (es : List (BalanceKey × ℕ)) : Type 0 where
+  pub each : All (λ e. balances e.0 ≡ Some e.1) es
+
+pub range_recorded : (from to : Bound BalanceKey) (m : BTreeMap BalanceKey ℕ) (es s : List (BalanceKey × ℕ)) → s ≡ es → IsRangeOf balance_cmp from to m es → AreRecorded (get balance_cmp m) s
+range_recorded from to m es s is range = subst (AreRecorded (get balance_cmp m)) (sym is) (record { each = λ k d below. (range.0 k d below).1 })
+
+-- the first is what is recorded of its key, and so is each behind it
+module _ (balances : BalanceKey → Option ℕ) (key : BalanceKey) (amount : ℕ) (es ts : List (BalanceKey × ℕ)) (is : es ≡ (key, amount) ∷ ts) (recorded : AreRecorded balances es) where
+  pub first_recorded : balances key ≡ Some amount
+  first_recorded = All-head (λ e. balances e.0 ≡ Some e.1) (key, amount) ts (subst (All (λ e. balances e.0 ≡ Some e.1)) is recorded.each)
+
+  pub recorded_behind : AreRecorded balances ts
+  recorded_behind = record { each = All-tail (λ e. balances e.0 ≡ Some e.1) (key, amount) ts (subst (All (λ e. balances e.0 ≡ Some e.1)) is recorded.each) }
+
+-- what is recorded of a position is held
+pub held_amount : (l : Listed) (account isin : List ℕ) (key : BalanceKey) (amount : ℕ) → key ≡ Position account isin → l.balances key ≡ Some amount → amount ≡ (content_in l).position account isin
+held_amount l account isin key amount at recorded = ap (λ o. unwrap_or o 0) (sym recorded ∙ ap l.balances at)
 
 -- An account's key, and another's.
 

@@ -1,5 +1,5 @@
 -- What a walk through the entries finds and sums up, entry by entry. Only private contracts and proofs speak of it.
-use Rattle.std.specs.Prelude.{◌≡◌, ◌⊎◌, ℕ, if◌then◌else◌, List, map, sum_by, Option, Some, None, option_map}
+use Rattle.std.specs.Prelude.{◌≡◌, ◌<◌, ◌⊎◌, ℕ, if◌then◌else◌, List, map, sum_by, Option, Some, None, option_map}
 use Rattle.std.specs.List.{filter_map}
 use Rattle.desk_rules.specs.declared.history.entry.Entry.{Entry}
 use Rattle.desk_rules.specs.declared.history.pair.Place.{Place}
@@ -8,11 +8,10 @@ use Rattle.desk_lists.specs.declared.looking.holdings.Summed.TheVariants.{Curren
 use Rattle.desk_lists.specs.declared.balance_key.BalanceKey.{BalanceKey}
 use Rattle.desk_lists.specs.declared.balance_key.BalanceKey.TheVariants.{Cash, Position}
 use Rattle.desk_lists.specs.Lists.{Listed, balance_in}
-use Rattle.desk_rules.specs.Content.{Content}
 use Rattle.desk_rules.specs.Facts.{account_by, participant_by}
 use Rattle.desk_rules.specs.Settlement.{is_before}
 use Rattle.desk_register.specs.declared.holding.Holding.{Holding}
-use Rattle.desk_register.specs.Looked.{HoldsAbove, IsAboveText, IsLess}
+use Rattle.desk_register.specs.Looked.{IsAboveText, IsLess}
 use Rattle.desk_register.specs.Registered.{security_by}
 
 -- the balance that counts in a sum, of the account or the participant that an entry registers
@@ -40,10 +39,10 @@ abbrev pub IsSecurityOf : Entry → Option (List ℕ) → Option (List ℕ) → 
 IsSecurityOf entry above None = (isin : List ℕ) → security_by entry ≡ Some isin → IsAboveText above isin → ⊥
 IsSecurityOf entry above (Some isin) = (security_by entry ≡ Some isin) × IsAboveText above isin
 
--- what an account holds of a security, where it is some, and above one
-abbrev pub IsHeldAt : Content → List ℕ → Option (List ℕ) → List ℕ → Option Holding → Type 0
-IsHeldAt content account above isin None = HoldsAbove content account above isin → ⊥
-IsHeldAt content account above isin (Some holding) = HoldsAbove content account above isin × (holding.isin ≡ isin) × (holding.quantity ≡ content.position account isin)
+-- so much of a security as a holding, where it is some, and the security is above one
+abbrev pub IsHeldAbove : ℕ → Option (List ℕ) → List ℕ → Option Holding → Type 0
+IsHeldAbove quantity above isin None = (0 < quantity) × IsAboveText above isin → ⊥
+IsHeldAbove quantity above isin (Some holding) = (0 < quantity) × IsAboveText above isin × (holding.isin ≡ isin) × (holding.quantity ≡ quantity)
 
 -- the lesser of two, where there are two
 abbrev pub IsLesser : Option (List ℕ) → Option (List ℕ) → Option (List ℕ) → Type 0

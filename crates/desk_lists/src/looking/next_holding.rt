@@ -1,12 +1,11 @@
 //! The holdings of an account, in the order of the ISINs.
 ghost use Rattle.std.specs.Prelude.{◌≡◌, Some, None};
 ghost use Rattle.desk_lists.specs.BalanceKeys.{first_key, least_isin};
-ghost use Rattle.desk_lists.specs.Lists.{balance_in, content_in, listed};
+ghost use Rattle.desk_lists.specs.Lists.{content_in, listed};
 ghost use Rattle.desk_register.specs.Looked.{IsHoldingAfter};
-ghost use Rattle.desk_lists.specs.Search.{IsHeldAt};
+ghost use Rattle.desk_lists.specs.Search.{IsHeldAbove};
 
 use crate::balance_key::BalanceKey;
-use crate::balances::balance_of;
 use crate::lists::Lists;
 use desk_codes::{AccountId, Isin};
 use desk_register::{Holding, is_above};
@@ -31,17 +30,10 @@ fn first_key(account: &AccountId, above: &Option<Isin>) -> BalanceKey
     }
 }
 
-/// What is held of a position's security, where it is some, and above one, or above none.
-fn held_at(lists: &Lists, account: &AccountId, isin: &Isin, above: &Option<Isin>) -> Option<Holding>
-    ensures { IsHeldAt (content_in (listed lists.now)) account.now above.now isin.now result }
+/// So much of a security as a holding, where it is some, and the security is above one, or above none.
+fn held_above(quantity: u64, isin: &Isin, above: &Option<Isin>) -> Option<Holding>
+    ensures { IsHeldAbove quantity above.now isin.now result }
 {
-    let quantity = balance_of(
-        lists,
-        &BalanceKey::Position {
-            account: *account,
-            isin: *isin,
-        },
-    );
     if quantity == 0 {
         return None;
     }
@@ -58,7 +50,7 @@ fn held_at(lists: &Lists, account: &AccountId, isin: &Isin, above: &Option<Isin>
 pub fn holding_after(lists: &Lists, account: &AccountId, above: &Option<Isin>) -> Option<Holding>
     ensures { IsHoldingAfter (content_in (listed lists.now)) account.now above.now result }
 {
-    for (key, _) in lists.balances.range(first_key(account, above)..) {
+    for (key, amount) in lists.balances.range(first_key(account, above)..) {
         let BalanceKey::Position {
             account: holder,
             isin,
@@ -69,7 +61,7 @@ pub fn holding_after(lists: &Lists, account: &AccountId, above: &Option<Isin>) -
         if holder != account {
             return None;
         }
-        if let Some(holding) = held_at(lists, account, isin, above) {
+        if let Some(holding) = held_above(*amount, isin, above) {
             return Some(holding);
         }
     }

@@ -1,8 +1,10 @@
-use Rattle.std.proofs.Common.{refl, ap, ◌∙◌}
+use Rattle.std.proofs.Common.{Some, None, refl, ap, ◌∙◌, subst}
 use Rattle.std.specs.Map.{keys_of}
+use Rattle.std.specs.declared.ops.Bound.TheVariants.{Included, Unbounded}
 use Rattle.desk_lists.specs.BalanceKeys.{first_key}
 use Rattle.desk_lists.specs.Lists.{content_in, listed}
-use Rattle.desk_lists.proofs.HoldingLemmas.{all_behind, all_filter, all_from, first_is_held, from_behind, its_holder, none_past, other_holder, sorted_behind, sorted_filter}
+use Rattle.desk_lists.specs.Search.{IsHeldAbove}
+use Rattle.desk_lists.proofs.HoldingLemmas.{all_behind, all_filter, all_from, first_is_held, first_recorded, from_behind, held_amount, its_holder, none_past, other_holder, range_recorded, recorded_behind, sorted_behind, sorted_filter}
 use Rattle.desk_lists.proofs.looking.next_holding.holding_after.Goals as goal
 
 pub loop-key-init : goal.loop-key-init
@@ -14,6 +16,7 @@ loop-key-init c =
       left = all_from (listed c.args.lists.now) c.args.lists.now.floored c.args.account.now c.args.above.now c.args.lists.now.balances.entries c.into_iter-key-iterator.result (λ q. refl) at;
       sorted = rw at (sorted_filter start c.args.lists.now.balances.entries c.range-key-items.ensures.ordered);
       from = rw at (all_filter start c.args.lists.now.balances.entries);
+      amounts = range_recorded (Included c.first_key.result) Unbounded c.args.lists.now.balances _ _ c.into_iter-key-iterator.ensures.into_iter_gives (c.range-key-items.ensures.in_range tt);
     }
 
 pub returns-in_default : goal.returns-in_default
@@ -26,10 +29,13 @@ returns-then-ne c =
     none_past (content_in (listed c.args.lists.now)) c.args.account.now c.args.above.now c.in-Some.key.now (keys_of c.loop-key.key-iterator) (keys_of c.next.new.self) (ap keys_of c.in-Some.ensures.steps) c.loop-key.invariant.left c.loop-key.invariant.sorted c.loop-key.invariant.from
     (other_holder c.in-Some.key.now c.in-Position.holder c.in-Position.isin c.args.account.now c.in-Position.is c.if-ne.ensures)
 
-pub returns-in-Some-held_at : goal.returns-in-Some-held_at
-returns-in-Some-held_at c =
-    first_is_held (content_in (listed c.args.lists.now)) c.args.account.now c.args.above.now c.in-Some.key.now (keys_of c.loop-key.key-iterator) (keys_of c.next.new.self) (ap keys_of c.in-Some.ensures.steps) c.loop-key.invariant.left c.loop-key.invariant.sorted c.loop-key.invariant.from
-    c.in-Position.isin (its_holder c.in-Some.key.now c.in-Position.holder c.in-Position.isin c.args.account.now c.in-Position.is c.if-ne.ensures) c.in-Some-held_at.holding c.in-Some-held_at.ensures
+pub returns-in-Some-held_above : goal.returns-in-Some-held_above
+returns-in-Some-held_above c =
+    let content = content_in (listed c.args.lists.now) in
+    let at = its_holder c.in-Some.key.now c.in-Position.holder c.in-Position.isin c.args.account.now c.in-Position.is c.if-ne.ensures in
+    let amount = held_amount (listed c.args.lists.now) c.args.account.now c.in-Position.isin c.in-Some.key.now c.in-Some.amount.now at (first_recorded (listed c.args.lists.now).balances c.in-Some.key.now c.in-Some.amount.now c.loop-key.key-iterator c.next.new.self c.in-Some.ensures.steps c.loop-key.invariant.amounts) in
+    first_is_held content c.args.account.now c.args.above.now c.in-Some.key.now (keys_of c.loop-key.key-iterator) (keys_of c.next.new.self) (ap keys_of c.in-Some.ensures.steps) c.loop-key.invariant.left c.loop-key.invariant.sorted c.loop-key.invariant.from
+    c.in-Position.isin at c.in-Some-held_above.holding (subst (λ q. IsHeldAbove q c.args.above.now c.in-Position.isin (Some c.in-Some-held_above.holding)) amount c.in-Some-held_above.ensures)
 
 pub loop-key-preserved : goal.loop-key-preserved
 loop-key-preserved c =
@@ -37,9 +43,12 @@ loop-key-preserved c =
     let keys = keys_of c.loop-key.key-iterator in
     let behind = keys_of c.next.new.self in
     let steps = ap keys_of c.in-Some.ensures.steps in
+    let at = its_holder c.in-Some.key.now c.in-Position.holder c.in-Position.isin c.args.account.now c.in-Position.is c.if-ne.ensures in
+    let amount = held_amount (listed c.args.lists.now) c.args.account.now c.in-Position.isin c.in-Some.key.now c.in-Some.amount.now at (first_recorded (listed c.args.lists.now).balances c.in-Some.key.now c.in-Some.amount.now c.loop-key.key-iterator c.next.new.self c.in-Some.ensures.steps c.loop-key.invariant.amounts) in
     record {
       left = all_behind content c.args.account.now c.args.above.now c.in-Some.key.now keys behind steps c.loop-key.invariant.left c.loop-key.invariant.sorted c.loop-key.invariant.from
-          c.in-Position.isin (its_holder c.in-Some.key.now c.in-Position.holder c.in-Position.isin c.args.account.now c.in-Position.is c.if-ne.ensures) c.in_default-held_at.ensures;
+          c.in-Position.isin at (subst (λ q. IsHeldAbove q c.args.above.now c.in-Position.isin None) amount c.in_default-held_above.ensures);
       sorted = sorted_behind content c.args.account.now c.args.above.now c.in-Some.key.now keys behind steps c.loop-key.invariant.left c.loop-key.invariant.sorted c.loop-key.invariant.from;
       from = from_behind content c.args.account.now c.args.above.now c.in-Some.key.now keys behind steps c.loop-key.invariant.left c.loop-key.invariant.sorted c.loop-key.invariant.from;
+      amounts = recorded_behind (listed c.args.lists.now).balances c.in-Some.key.now c.in-Some.amount.now c.loop-key.key-iterator c.next.new.self c.in-Some.ensures.steps c.loop-key.invariant.amounts;
     }
