@@ -70,14 +70,14 @@ impl ListRegister {
     pub fn owner_at(&self, number: u64, account: &AccountId) -> Option<Bic>
         ensures { result ≡ option_and_then (owner_by account.now) (entry_at (history_of (view_of_lists self.now).content) number) }
     {
-        entries::owner_by(&self.entry_at(number)?, account)
+        entries::owner_by(by_number::kept_entry(&self.lists, number)?, account)
     }
 
     /// The kind that the entry of a number gives a security.
     pub fn kind_at(&self, number: u64, isin: &Isin) -> Option<Kind>
         ensures { result ≡ option_and_then (kind_by isin.now) (entry_at (history_of (view_of_lists self.now).content) number) }
     {
-        entries::kind_by(&self.entry_at(number)?, isin)
+        entries::kind_by(by_number::kept_entry(&self.lists, number)?, isin)
     }
 
     /// What is outstanding of a security, which all registered accounts hold together.

@@ -1,5 +1,5 @@
 //! Entries found in the lists by their number.
-ghost use Rattle.std.specs.Prelude.{◌≡◌, IfOk};
+ghost use Rattle.std.specs.Prelude.{◌≡◌, IfOk, option_copied};
 ghost use Rattle.desk_rules.specs.History.{entry_at, instruction_at};
 ghost use Rattle.desk_rules.specs.Content.{history_of};
 ghost use Rattle.desk_lists.specs.Lists.{content_in, listed, standing_in};
@@ -9,14 +9,21 @@ use crate::lists::Lists;
 use desk_rules::{Entry, Instructed, Reply, Standing, State};
 use std::alloc::{AllocError, Global};
 
-/// The entry of a number.
-pub fn entry(lists: &Lists, number: u64) -> Option<Entry>
-    ensures { result ≡ entry_at (history_of (content_in (listed lists.now))) number }
+/// The entry of a number, where it is kept.
+pub fn kept_entry(lists: &Lists, number: u64) -> Option<&Entry>
+    ensures { option_copied result ≡ entry_at (history_of (content_in (listed lists.now))) number }
 {
     if number == 0 || number > lists.kept.len() as u64 {
         return None;
     }
-    Some(lists.kept[(number - 1) as usize].entry)
+    Some(&lists.kept[(number - 1) as usize].entry)
+}
+
+/// The entry of a number.
+pub fn entry(lists: &Lists, number: u64) -> Option<Entry>
+    ensures { result ≡ entry_at (history_of (content_in (listed lists.now))) number }
+{
+    kept_entry(lists, number).copied()
 }
 
 /// The reply that is kept with the entry of a number.
@@ -34,7 +41,7 @@ pub fn reply(lists: &Lists, alloc: Global, number: u64) -> Result<Option<Reply>,
 pub fn instruction(lists: &Lists, number: u64) -> Option<Instructed>
     ensures { result ≡ instruction_at (history_of (content_in (listed lists.now))) number }
 {
-    entry(lists, number)?.instructed()
+    kept_entry(lists, number)?.instructed()
 }
 
 /// Where the entry of a number stands.

@@ -1,6 +1,6 @@
 use Rattle.std.proofs.Common.{◌≤◌, ◌∙◌, sym, ap, arith, length, Some}
 use Rattle.desk_lists.proofs.LookingLemmas.{entry_of}
-use Rattle.desk_lists.proofs.looking.by_number.entry.Goals as goal
+use Rattle.desk_lists.proofs.looking.by_number.kept_entry.Goals as goal
 
 pub returns : goal.returns
 returns c =
