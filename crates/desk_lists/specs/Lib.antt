@@ -5,3 +5,4 @@ pub mod ListView
 pub mod Moves
 pub mod Named
 pub mod Search
+pub mod Transfers

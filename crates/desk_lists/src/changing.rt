@@ -6,4 +6,5 @@ pub mod recording;
 pub mod requests;
 pub mod settling;
 pub mod standings;
+pub mod transfer;
 pub mod trimming;

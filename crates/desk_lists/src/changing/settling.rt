@@ -1,19 +1,21 @@
 //! A pair, settled in the lists.
 ghost use Rattle.std.specs.Prelude.{◌≡◌, ◌<◌, ◌≤◌, ◌+◌, ◌^◌, ◌↔◌, ℕ, Some, None, false, length, IfOk, IsTrue, OnOk, true};
-ghost use Rattle.desk_register.specs.Changes.{CanSettle, FitsCash, HasCash, LacksCash, SidesFit, TriesPair, TriesSides, delivering_side, receiving_side, standing_both};
+ghost use Rattle.desk_register.specs.Changes.{CanSettle, FitsCash, HasCash, LacksCash, TriesPair, standing_both};
 ghost use Rattle.desk_lists.specs.Balanced.{IsSound};
 ghost use Rattle.desk_lists.specs.Lists.{balance_in, content_in, listed, standing_in, undone};
+ghost use Rattle.desk_lists.specs.Transfers.{TransferFits, TriesTransfer};
 ghost use Rattle.desk_lists.specs.Moves.{with_less, with_more, SameBooks, SameEntries, SameTotals, moved_between, paid_between};
 
 use crate::balance_key::BalanceKey;
 use crate::balances::{add_to, balance_of, take_from};
 use crate::changing::standings::stand_both;
+use crate::changing::transfer::{Transfer, transfer_of};
 use crate::lists::{Change, Lists};
-use crate::looking::by_number::{instruction, standing};
+use crate::looking::by_number::standing;
 use desk_codes::Bic;
 use desk_msg::{Cash, Reason};
 use desk_register::Outcome;
-use desk_rules::{Instructed, Lack, Standing, State};
+use desk_rules::{Lack, Standing, State};
 use std::alloc::AllocError;
 
 /// Takes so much off one balance and puts it on another, or on the same.
@@ -67,26 +69,6 @@ fn pay(
     move_between(lists, changes, from, to, amount)
 }
 
-/// The instruction of two that delivers.
-fn delivery<'a>(earlier: &'a Instructed, later: &'a Instructed) -> &'a Instructed
-    ensures { result.now ≡ delivering_side earlier.now later.now }
-{
-    if earlier.instruction.mt.is_delivery() {
-        return earlier;
-    }
-    later
-}
-
-/// The instruction of two that receives.
-fn receipt<'a>(earlier: &'a Instructed, later: &'a Instructed) -> &'a Instructed
-    ensures { result.now ≡ receiving_side earlier.now later.now }
-{
-    if earlier.instruction.mt.is_delivery() {
-        return later;
-    }
-    earlier
-}
-
 /// Whether an instruction waits for a reason, with this mate.
 fn waits_for(standing: &Standing, mate: u64, reason: Reason) -> bool
     ensures waits { result ≡ true → (standing.now.mate ≡ Some mate) × (standing.now.state ≡ State.Matched reason) }
@@ -124,47 +106,44 @@ fn wait(
     stand_both(lists, changes, mate, number, State::Matched(reason))
 }
 
-/// Tries a pair by its two instructions.
-fn settle_sides(
+/// Tries a pair by what it moves.
+fn settle_transfer(
     lists: &mut Lists,
     changes: &mut Vec<Change>,
     number: u64,
     mate: u64,
-    earlier: &Instructed,
-    later: &Instructed,
+    transfer: &Transfer,
 ) -> Result<Outcome, AllocError>
     requires some { 0 < mate }
     requires two { mate < number }
     requires known { number ≤ length lists.old.kept.items }
-    requires fits { SidesFit (content_in (listed lists.old)) earlier.now later.now }
-    ensures settled { IfOk result (λ outcome. TriesSides (content_in (listed lists.old)) number mate earlier.now later.now outcome (content_in (listed lists.new))) }
+    requires fits { TransferFits (content_in (listed lists.old)) transfer.now }
+    ensures settled { IfOk result (λ outcome. TriesTransfer (content_in (listed lists.old)) number mate transfer.now outcome (content_in (listed lists.new))) }
     ensures rest { OnOk result (SameTotals (listed lists.old) (listed lists.new)) }
     ensures before { undone changes.new.items (listed lists.new) ≡ undone changes.old.items (listed lists.old) }
 {
-    let from = delivery(earlier, later);
-    let to = receipt(earlier, later);
-    let isin = later.instruction.isin;
-    let quantity = later.instruction.quantity;
-    let cash = later.instruction.cash;
+    let isin = transfer.isin;
+    let quantity = transfer.quantity;
+    let cash = transfer.cash;
     let given = BalanceKey::Position {
-        account: from.instruction.account,
-        isin,
-    };
-    let taken = BalanceKey::Position {
-        account: to.instruction.account,
+        account: transfer.given,
         isin,
     };
     if balance_of(lists, &given) < quantity {
         wait(lists, changes, mate, number, Reason::Lack)?;
         return Ok(Outcome::Lacks(Lack::Securities));
     }
-    if lacks_cash(lists, to.sender, cash) {
+    if lacks_cash(lists, transfer.receiver, cash) {
         wait(lists, changes, mate, number, Reason::Money)?;
         return Ok(Outcome::Lacks(Lack::Money));
     }
+    let taken = BalanceKey::Position {
+        account: transfer.taken,
+        isin,
+    };
     stand_both(lists, changes, mate, number, State::Settled)?;
     move_between(lists, changes, given, taken, quantity)?;
-    pay(lists, changes, to.sender, from.sender, cash)?;
+    pay(lists, changes, transfer.receiver, transfer.deliverer, cash)?;
     Ok(Outcome::Settled)
 }
 
@@ -181,8 +160,7 @@ pub fn try_settle(
     ensures sound { OnOk result (IsSound (listed lists.new)) }
     ensures before { undone changes.new.items (listed lists.new) ≡ undone changes.old.items (listed lists.old) }
 {
-    let later = instruction(lists, number).unwrap();
     let mate = standing(lists, number).mate.unwrap();
-    let earlier = instruction(lists, mate).unwrap();
-    settle_sides(lists, changes, number, mate, &earlier, &later)
+    let transfer = transfer_of(lists, mate, number);
+    settle_transfer(lists, changes, number, mate, &transfer)
 }

@@ -1,11 +1,14 @@
 //! Entries found in the lists by their number.
-ghost use Rattle.std.specs.Prelude.{◌≡◌, IfOk, option_copied};
+ghost use Rattle.std.specs.Prelude.{◌≡◌, IfOk, option_copied, option_map};
 ghost use Rattle.desk_rules.specs.History.{entry_at, instruction_at};
 ghost use Rattle.desk_rules.specs.Content.{history_of};
 ghost use Rattle.desk_lists.specs.Lists.{content_in, listed, standing_in};
+ghost use Rattle.desk_lists.specs.Transfers.{as_instructed};
 ghost use Rattle.desk_register.specs.Looked.{reply_at};
 
 use crate::lists::Lists;
+use desk_codes::Bic;
+use desk_msg::Instruction;
 use desk_rules::{Entry, Instructed, Reply, Standing, State};
 use std::alloc::{AllocError, Global};
 
@@ -42,6 +45,19 @@ pub fn instruction(lists: &Lists, number: u64) -> Option<Instructed>
     ensures { result ≡ instruction_at (history_of (content_in (listed lists.now))) number }
 {
     kept_entry(lists, number)?.instructed()
+}
+
+/// The sender and the text of the instruction of a number, where they are kept.
+pub fn kept_instruction(lists: &Lists, number: u64) -> Option<(&Bic, &Instruction)>
+    ensures { option_map (λ p. as_instructed p.0.now p.1.now) result ≡ instruction_at (history_of (content_in (listed lists.now))) number }
+{
+    match kept_entry(lists, number)? {
+        Entry::Instruct {
+            sender,
+            instruction,
+        } => Some((sender, instruction)),
+        _ => None,
+    }
 }
 
 /// Where the entry of a number stands.

@@ -1,27 +1,30 @@
 use Rattle.std.proofs.Common.{◌≡◌, Some, rules}
-use Rattle.std.proofs.lemmas.Result.{IfOk-weaker}
-use Rattle.desk_rules.specs.History.{instruction_at}
-use Rattle.desk_rules.specs.Content.{history_of}
-use Rattle.desk_register.specs.Changes.{TriesSides}
-use Rattle.desk_lists.specs.Lists.{content_in, listed, standing_in}
+use Rattle.desk_lists.specs.Lists.{content_in, listed}
+use Rattle.desk_lists.proofs.LookingLemmas.{instruction_within}
+use Rattle.desk_lists.proofs.SettleLemmas.{known_pair, pair_fits, tries_pair}
 use Rattle.desk_lists.proofs.SoundLemmas.{sound_tried}
 use Rattle.desk_lists.proofs.changing.settling.try_settle.Goals as goal
+
+pub transfer_of-transfer-requires : goal.transfer_of-transfer-requires
+transfer_of-transfer-requires c =
+    let content = content_in (listed c.args.lists.now) in
+    let mate : (content.standing c.args.number).mate ≡ Some c.unwrap-mate.result = search rules in
+    known_pair content c.args.number c.requires.fits.0 c.unwrap-mate.result c.requires.fits.1 mate
+
+pub settle_transfer-requires-clause-known : goal.settle_transfer-requires-clause-known
+settle_transfer-requires-clause-known c = (instruction_within c.args.lists.now.kept.items c.args.number c.requires.fits.1.later c.requires.fits.1.pair.is_later).1
+
+pub settle_transfer-requires-clause-fits : goal.settle_transfer-requires-clause-fits
+settle_transfer-requires-clause-fits c =
+    let content = content_in (listed c.args.lists.now) in
+    let mate : (content.standing c.args.number).mate ≡ Some c.unwrap-mate.result = search rules in
+    pair_fits content c.args.number c.requires.fits.0 c.unwrap-mate.result c.requires.fits.1 mate c.transfer_of-transfer.result c.transfer_of-transfer.ensures
 
 pub returns-clause-settled : goal.returns-clause-settled
 returns-clause-settled c =
     let content = content_in (listed c.args.lists.now) in
-    let later : instruction_at (history_of content) c.args.number ≡ Some c.unwrap-later.result = search rules in
-    let mate : (standing_in (listed c.args.lists.now).standings c.args.number).mate ≡ Some c.unwrap-mate.result = search rules in
-    let earlier : instruction_at (history_of content) c.unwrap-mate.result ≡ Some c.unwrap-earlier.result = search rules in
-    IfOk-weaker c.settle_sides.result (λ outcome. TriesSides content c.args.number c.unwrap-mate.result c.unwrap-earlier.result c.unwrap-later.result outcome (content_in (listed c.settle_sides.new.lists))) _
-    (λ outcome ends. record {
-      mate = c.unwrap-mate.result;
-      earlier = c.unwrap-earlier.result;
-      later = c.unwrap-later.result;
-      pair = record { is_later = later; has_mate = mate; is_earlier = earlier };
-      ends = ends;
-    })
-    c.settle_sides.ensures.settled
+    let mate : (content.standing c.args.number).mate ≡ Some c.unwrap-mate.result = search rules in
+    tries_pair content c.args.number c.requires.fits.0 c.unwrap-mate.result c.requires.fits.1 mate c.transfer_of-transfer.result c.transfer_of-transfer.ensures c.settle_transfer.result (content_in (listed c.settle_transfer.new.lists)) c.settle_transfer.ensures.settled
 
 pub returns-clause-sound : goal.returns-clause-sound
-returns-clause-sound c = sound_tried c.settle_sides.result (listed c.args.lists.now) (listed c.settle_sides.new.lists) c.args.number c.requires.sound (returns-clause-settled c) c.settle_sides.ensures.rest
+returns-clause-sound c = sound_tried c.settle_transfer.result (listed c.args.lists.now) (listed c.settle_transfer.new.lists) c.args.number c.requires.sound (returns-clause-settled c) c.settle_transfer.ensures.rest
