@@ -2,10 +2,10 @@
 use Rattle.std.proofs.Common.{◌≡◌, ℕ, ◌<◌, ◌≤◌, Bool, true, false, List, [], ◌∷◌, Option, Some, None, refl, ap, sym, ◌∙◌, subst, arith, ◌⊎◌, inl, inr}
 use Rattle.std.proofs.lemmas.Bool.{false_from_ne_true}
 use Rattle.std.specs.List.{list_any, filter, AllByRecursion}
-use Rattle.std.specs.Ordering.{is_eq, is_le, nat_cmp, ordering_then}
+use Rattle.std.specs.Ordering.{is_eq, nat_cmp, ordering_then}
 use Rattle.std.specs.declared.cmp.Ordering.{Ordering}
 use Rattle.std.specs.declared.cmp.Ordering.TheVariants.{Less, Equal, Greater}
-use Rattle.std.specs.declared.ops.Bound.TheVariants.{Included, Unbounded}
+use Rattle.std.specs.declared.ops.Bound.TheVariants.{Excluded, Unbounded}
 use Rattle.std.specs.List.Sorted.{IsStrictlySortedBy}
 use Rattle.std.specs.BTreeMap.{is_at}
 use Rattle.std.specs.BTreeMap.Range.{range_contains}
@@ -52,25 +52,27 @@ not_below a b i j e (inr later) = let same = later.0 in let lt = later.1 in grin
 below_from_less : (p q : Place) → place_cmp (p.day, p.number) (q.day, q.number) ≡ Less → is_before q p ≡ false
 below_from_less p q e = false_from_ne_true (is_before q p) (λ before. not_below p.day q.day p.number q.number e (before_true q p before))
 
-up_to : (a b i j : ℕ) → (a < b) ⊎ ((a ≡ b) × (i < j)) → is_le (ordering_then (nat_cmp a b) (nat_cmp i j)) ≡ true
+up_to : (a b i j : ℕ) → (a < b) ⊎ ((a ≡ b) × (i < j)) → ordering_then (nat_cmp a b) (nat_cmp i j) ≡ Less
 up_to a b i j (inl lt) = grind arith
 up_to a b i j (inr later) = let e = later.0 in let lt = later.1 in grind arith
 
-from_beginning : (above : Option Place) (p : Place) → is_past above p ≡ true → is_le (place_cmp (beginning above) (p.day, p.number)) ≡ true
-from_beginning None p up = grind arith
-from_beginning (Some a) p up = up_to a.day p.day a.number p.number (before_true a p up)
+behind_beginning : (above : Option Place) (p : Place) → 0 < p.number → is_past above p ≡ true → place_cmp (beginning above) (p.day, p.number) ≡ Less
+behind_beginning None p some up = grind arith
+behind_beginning (Some a) p some up = up_to a.day p.day a.number p.number (before_true a p up)
 
-in_range : (a k : ℕ × ℕ) → is_le (place_cmp a k) ≡ true → range_contains place_cmp (Included a) Unbounded k ≡ true
+in_range : (a k : ℕ × ℕ) → place_cmp a k ≡ Less → range_contains place_cmp (Excluded a) Unbounded k ≡ true
 in_range a k e = rw e refl
 
--- all due pairs stand from the beginning on
-pub all_from : (places : BTreeSet (ℕ × ℕ)) (content : Content) (day : ℕ) (above : Option Place) (s : List (ℕ × ℕ)) → HasDue places content
-    → s ≡ keys_between place_cmp (Included (beginning above)) Unbounded places → (p : Place) → IsDue content day above p → has (p.day, p.number) s ≡ true
-all_from places content day above s due is p d =
+-- all due pairs stand behind the beginning
+pub all_behind_beginning : (places : BTreeSet (ℕ × ℕ)) (content : Content) (day : ℕ) (above : Option Place) (s : List (ℕ × ℕ)) → HasDue places content
+    → s ≡ keys_between place_cmp (Excluded (beginning above)) Unbounded places → (p : Place) → IsDue content day above p → has (p.day, p.number) s ≡ true
+all_behind_beginning places content day above s due is p d =
     let q : ℕ × ℕ = (p.day, p.number) in
-    rw is (any_filter (is_at (place_cmp q)) (range_contains place_cmp (Included (beginning above)) Unbounded) places.keys
-    (λ k e. in_range (beginning above) k (subst (λ z. is_le (place_cmp (beginning above) z) ≡ true) (same_place q k e) (from_beginning above p d.above)))
-    (due.each p d.pair))
+    let pair = d.pair in
+    let less = pair.is_earlier in
+    rw is (any_filter (is_at (place_cmp q)) (range_contains place_cmp (Excluded (beginning above)) Unbounded) places.keys
+    (λ k e. in_range (beginning above) k (subst (λ z. place_cmp (beginning above) z ≡ Less) (same_place q k e) (behind_beginning above p (omega arith) d.above)))
+    (due.each p pair))
 
 -- a place is the first of some, or stands behind it
 pub first_or_behind : {G : Type 0} (q x : ℕ × ℕ) (s t : List (ℕ × ℕ)) → s ≡ x ∷ t → has q s ≡ true → (q ≡ x → G) → (has q t ≡ true → G) → G

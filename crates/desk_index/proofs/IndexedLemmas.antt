@@ -30,6 +30,7 @@ use Rattle.desk_register.specs.declared.outcome.Outcome.TheVariants as outcomes
 use Rattle.desk_register.specs.declared.outcome.Outcome.TheVariants.{Lacks}
 use Rattle.desk_register.specs.Changes.{CanSettle, TriesPair, TriesSides, appended, cancelled, first_standing, pair_cancelled, paired, requested_by, requests_noted, standing_at, standing_both, with_request, with_sent}
 use Rattle.desk_rules.specs.Content.{Content, history_of}
+use Rattle.desk_register.specs.Looked.{IsMatchedPair}
 use Rattle.desk_index.specs.DuePlaces.{HasDue, HoldsDue, PlacedAt, place_cmp}
 use Rattle.desk_index.specs.Indexed.{HoldsOn, IsIndexed}
 use Rattle.desk_index.specs.Known.{AreKnown}
@@ -447,15 +448,31 @@ module _ (known : Known) (numbers : BTreeSet (MatchKey × ℕ)) (places places' 
   settled_so n mate earlier later (Lacks LacksMoney) two placed ok ends =
       after_standing known numbers places places' noted old new mate n (Matched LackOfMoney) honest was_sure stage indexed ok two (λ e. cc) all placed (ap (λ c. c.register) ends.2) (ap (λ c. c.standing) ends.2)
 
-  pub after_settle : (r : Result Outcome Fault) (n : ℕ) {day : ℕ} → CanSettle old.content n day → PlacedAt places' (instruction_at (history_of old.content) n) n
+  -- the pair of a number that can settle has its place already
+  placed_already : (n : ℕ) {day : ℕ} → CanSettle old.content n day → PlacedAt places' (instruction_at (history_of old.content) n) n
+  placed_already n can =
+      let day = number_of can.later.instruction.day in
+      let pair : IsMatchedPair old.content (record { day = day; number = n }) = record {
+        later = can.later;
+        mate = can.mate;
+        reason = can.later_reason;
+        is_later = can.pair.is_later;
+        has_mate = can.pair.has_mate;
+        is_earlier = can.two;
+        matched = can.later_matched;
+        day = refl;
+      } in
+      subst (λ o. PlacedAt places' o n) (sym can.pair.is_later) (all (day, n) ((indexed.due_now (begun_is_not_failed old.stage stage)).each (record { day = day; number = n }) pair))
+
+  pub after_settle : (r : Result Outcome Fault) (n : ℕ) {day : ℕ} → CanSettle old.content n day
       → (new.is_honest → old.is_sure → IfOk r (λ outcome. TriesPair old.content n outcome new.content)) → OnOk r (Stays old new) → OnErr r (Falls old new) → IsIndexed new known numbers places' noted
-  after_settle (Ok outcome) n can placed settles ok err =
+  after_settle (Ok outcome) n can settles ok err =
       let s = settles honest was_sure in
       let mates : Some s.mate ≡ Some can.mate = sym s.pair.has_mate ∙ can.pair.has_mate in
       let mate : s.mate ≡ can.mate = cc in
       let less = can.two in
-      settled_so n s.mate s.earlier s.later outcome (omega arith) placed ok s.ends
-  after_settle (Err f) n can placed settles ok err = after_fault known numbers places places' noted old new honest sure stage indexed all err
+      settled_so n s.mate s.earlier s.later outcome (omega arith) (placed_already n can) ok s.ends
+  after_settle (Err f) n can settles ok err = after_fault known numbers places places' noted old new honest sure stage indexed all err
 
 -- what was added since `begin` is tidied
 pub retidied : (known : Known) (numbers numbers' : BTreeSet (MatchKey × ℕ)) (places places' : BTreeSet (ℕ × ℕ)) (noted : List Entry) (count : ℕ) (view : View) → view.stage ≢ Failed → count ≡ length noted

@@ -22,7 +22,7 @@ abbrev pub IsDueAt : Content → ℕ → Option Place → ℕ × ℕ → Option 
 IsDueAt content day above at None = IsDue content day above (record { day = at.0; number = at.1 }) → ⊥
 IsDueAt content day above at (Some p) = IsDue content day above p × ((p.day, p.number) ≡ at)
 
--- where the search begins
+-- the place behind which the search begins; no entry has the number 0
 abbrev pub beginning : Option Place → ℕ × ℕ
 beginning None = (0, 0)
 beginning (Some p) = (p.day, p.number)

@@ -6,7 +6,7 @@ ghost use Rattle.desk_index.specs.IndexView.{view_of_index};
 
 use crate::entries::known::Known;
 use crate::indexed_register::IndexedRegister;
-use crate::noting::{note_entry, note_message, note_pair, touch_both, untouch_waiting};
+use crate::noting::{note_entry, note_message, note_pair, touch_both, touch_settled};
 use crate::pairs::due_places::first_due;
 use crate::pairs::opposites::first_open_opposite;
 use crate::sent::heading::heading_of;
@@ -248,15 +248,7 @@ impl Register for IndexedRegister {
 
     fn settle_pair(&mut self, alloc: Global, number: u64, day: Day) -> Result<Outcome, Fault> {
         let mate = self.held.standing_at(number).mate.unwrap_or(number);
-        if note_pair(
-            &self.held,
-            &mut self.matched,
-            &mut self.touched,
-            mate,
-            number,
-        )
-        .is_err()
-        {
+        if self.touched.reserve(2).is_err() {
             return Err(self.held.fail());
         }
         match self.held.settle_pair(alloc, number, day) {
@@ -270,7 +262,7 @@ impl Register for IndexedRegister {
                     mate,
                     number,
                 );
-                untouch_waiting(&mut self.touched, outcome);
+                touch_settled(&mut self.touched, mate, number, outcome);
                 Ok(outcome)
             }
             Err(fault) => Err(fault),

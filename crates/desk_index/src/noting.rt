@@ -1,6 +1,7 @@
 //! What an entry, a pair, and a message add to the look-ups.
-ghost use Rattle.std.specs.Prelude.{◌≡◌, ◌+◌, ◌++◌, ◌∷◌, [], List, length, true, OnOk, OnErr, Some};
+ghost use Rattle.std.specs.Prelude.{◌≡◌, ◌+◌, ◌≤◌, ◌++◌, ◌∷◌, [], List, length, true, OnOk, OnErr, Some};
 ghost use Rattle.std.specs.BTreeSet.{contains};
+ghost use Rattle.std.specs.Vec.{vec_capacity, vec_len};
 ghost use Rattle.desk_rules.specs.declared.history.entry.Entry.{Entry as EntryValue};
 ghost use Rattle.desk_rules.specs.History.{instructed, instruction_at};
 ghost use Rattle.desk_rules.specs.Content.{history_of};
@@ -10,7 +11,7 @@ ghost use Rattle.desk_index.specs.DuePlaces.{HoldsDue, PlacedAt, place_cmp};
 ghost use Rattle.desk_index.specs.Known.{AreKnown};
 ghost use Rattle.desk_index.specs.Messages.{AreMessagesOf};
 ghost use Rattle.desk_index.specs.Open.{HoldsOpen, OpensAt};
-ghost use Rattle.desk_index.specs.Touched.{still_touched};
+ghost use Rattle.desk_index.specs.Touched.{then_touched};
 
 use crate::collections::ordered::put_key;
 use crate::entries::known::Known;
@@ -101,18 +102,27 @@ pub fn touch_both(touched: &mut Vec<u64>, earlier: u64, later: u64) -> Result<()
     ensures { OnOk result (touched.new.items ≡ touched.old.items ++ earlier ∷ later ∷ []) }
 {
     touched.reserve(2)?;
-    touched.push(earlier).unwrap();
-    touched.push(later).unwrap();
+    push_both(touched, earlier, later);
     Ok(())
 }
 
-/// Forgets that the two of a pair, noted last, stand otherwise, where the pair was tried and has not settled.
-pub fn untouch_waiting(touched: &mut Vec<u64>, outcome: Outcome)
-    ensures { touched.new.items ≡ still_touched outcome touched.old.items }
+/// Notes that the two of a pair that was tried stand otherwise, where it has settled. There is room for both.
+pub fn touch_settled(touched: &mut Vec<u64>, earlier: u64, later: u64, outcome: Outcome)
+    requires { vec_len touched.old + 2 ≤ vec_capacity touched.old }
+    ensures { touched.new.items ≡ then_touched outcome earlier later touched.old.items }
 {
-    if let Outcome::Lacks(_) = outcome {
-        touched.truncate(touched.len().saturating_sub(2));
+    if let Outcome::Settled = outcome {
+        push_both(touched, earlier, later);
     }
+}
+
+/// Adds two numbers, for which there is room.
+fn push_both(touched: &mut Vec<u64>, earlier: u64, later: u64)
+    requires { vec_len touched.old + 2 ≤ vec_capacity touched.old }
+    ensures { touched.new.items ≡ touched.old.items ++ earlier ∷ later ∷ [] }
+{
+    touched.push(earlier).unwrap();
+    touched.push(later).unwrap();
 }
 
 /// Notes a pair by its place, where its number is an instruction's.

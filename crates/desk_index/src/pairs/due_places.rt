@@ -7,6 +7,7 @@ ghost use Rattle.desk_index.specs.DuePlaces.{HasDue, IsDueAt, beginning};
 use desk_lists::ListRegister;
 use desk_rules::Place;
 use std::collections::BTreeSet;
+use std::ops::Bound;
 
 /// The pair that stands at a place, where it is due by a day and above a place.
 fn due_at(held: &ListRegister, at: (u64, u64), day: u64, above: &Option<Place>) -> Option<Place>
@@ -19,7 +20,7 @@ fn due_at(held: &ListRegister, at: (u64, u64), day: u64, above: &Option<Place>) 
     Some(place)
 }
 
-/// Where to begin, to find what is above a place.
+/// The place behind which to begin, to find what is above one.
 fn beginning(above: &Option<Place>) -> (u64, u64)
     ensures { result ≡ beginning above.now }
 {
@@ -39,7 +40,7 @@ pub fn first_due(
     requires { HasDue places.now (view_of_lists held.now).content }
     ensures { IsDuePairAfter (view_of_lists held.now).content day above.now result }
 {
-    for place in places.range(beginning(above)..) {
+    for place in places.range((Bound::Excluded(beginning(above)), Bound::Unbounded)) {
         if place.0 > day {
             return None;
         }

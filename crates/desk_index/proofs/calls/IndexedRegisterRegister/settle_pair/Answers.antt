@@ -1,17 +1,16 @@
 use Rattle.std.proofs.Common.{refl}
 use Rattle.desk_lists.specs.ListView.{view_of_lists}
 use Rattle.desk_register.proofs.ViewLemmas.{blames_memory}
-use Rattle.desk_index.proofs.IndexedLemmas.{after_failure, after_settle, retidied, still_begun, where_it_went}
+use Rattle.desk_index.proofs.IndexedLemmas.{after_failure, after_settle, retidied, still_begun}
 use Rattle.desk_index.proofs.ToldLemmas.{told_fails, told_settled}
 use Rattle.desk_index.proofs.calls.IndexedRegisterRegister.settle_pair.Goals as goal
 
 pub invariant_of-self : goal.invariant_of-self
 invariant_of-self c =
     let r = c.args.self.now in
-    let noting = c.note_pair in
     record {
-      indexed = after_failure r.known r.known r.unmatched r.unmatched r.matched noting.new.places r.noted.items r.noted.items (view_of_lists r.held) (view_of_lists c.fail.new.self) r.indexed
-          c.fail.ensures.stage c.fail.ensures.mark (λ q there. there) noting.ensures.all refl (λ keyed. keyed);
+      indexed = after_failure r.known r.known r.unmatched r.unmatched r.matched r.matched r.noted.items r.noted.items (view_of_lists r.held) (view_of_lists c.fail.new.self) r.indexed
+          c.fail.ensures.stage c.fail.ensures.mark (λ q there. there) (λ q there. there) refl (λ keyed. keyed);
       sent_indexed = told_fails r.messages r.told.items r.held c.fail.new.self r.sent_indexed c.fail.ensures.stage c.fail.ensures.mark;
     }
 
@@ -21,13 +20,12 @@ returns-then-is_err-clause-change c = record { ok = tt; err = c.fail.ensures.fal
 pub invariant_of-self-in-Ok : goal.invariant_of-self-in-Ok
 invariant_of-self-in-Ok c =
     let r = c.args.self.now in
-    let noting = c.note_pair in
     let change = c.settle_pair.ensures.change in
     let held = view_of_lists c.settle_pair.new.self in
-    let indexed = after_settle r.known r.unmatched r.matched noting.new.places r.noted.items (view_of_lists r.held) (view_of_lists c.settle_pair.new.self) tt tt tt c.requires.stage r.indexed noting.ensures.all
-    c.settle_pair.result c.args.number (c.requires.fits tt tt) (where_it_went noting.result c.if-is_err.ensures.value noting.ensures.opened) c.settle_pair.ensures.settled change.ok change.err in
+    let indexed = after_settle r.known r.unmatched r.matched r.matched r.noted.items (view_of_lists r.held) (view_of_lists c.settle_pair.new.self) tt tt tt c.requires.stage r.indexed (λ q there. there)
+    c.settle_pair.result c.args.number (c.requires.fits tt tt) c.settle_pair.ensures.settled change.ok change.err in
     record {
-      indexed = retidied r.known r.unmatched c.tidy_new.new.numbers noting.new.places c.tidy_new.new.places r.noted.items c.noted_count-noted.result held
+      indexed = retidied r.known r.unmatched c.tidy_new.new.numbers r.matched c.tidy_new.new.places r.noted.items c.noted_count-noted.result held
           (still_begun (view_of_lists r.held) held c.requires.stage c.in-Ok.ensures.change.ok) c.noted_count-noted.ensures c.tidy_new.ensures.unmatched c.tidy_new.ensures.matched indexed;
       sent_indexed = told_settled r.messages r.told.items r.held c.settle_pair.new.self r.sent_indexed c.settle_pair.result c.args.number (c.settle_pair.ensures.settled tt tt) change.ok change.err;
     }
@@ -35,10 +33,9 @@ invariant_of-self-in-Ok c =
 pub invariant_of-self-in-Err-1 : goal.invariant_of-self-in-Err-1
 invariant_of-self-in-Err-1 c =
     let r = c.args.self.now in
-    let noting = c.note_pair in
     let change = c.settle_pair.ensures.change in
     record {
-      indexed = after_settle r.known r.unmatched r.matched noting.new.places r.noted.items (view_of_lists r.held) (view_of_lists c.settle_pair.new.self) tt tt tt c.requires.stage r.indexed noting.ensures.all
-          c.settle_pair.result c.args.number (c.requires.fits tt tt) (where_it_went noting.result c.if-is_err.ensures.value noting.ensures.opened) c.settle_pair.ensures.settled change.ok change.err;
+      indexed = after_settle r.known r.unmatched r.matched r.matched r.noted.items (view_of_lists r.held) (view_of_lists c.settle_pair.new.self) tt tt tt c.requires.stage r.indexed (λ q there. there)
+          c.settle_pair.result c.args.number (c.requires.fits tt tt) c.settle_pair.ensures.settled change.ok change.err;
       sent_indexed = told_settled r.messages r.told.items r.held c.settle_pair.new.self r.sent_indexed c.settle_pair.result c.args.number (c.settle_pair.ensures.settled tt tt) change.ok change.err;
     }
