@@ -5,4 +5,5 @@ pub mod ListView
 pub mod Moves
 pub mod Named
 pub mod Search
+pub mod Shifts
 pub mod Transfers

@@ -2,10 +2,12 @@
 ghost use Rattle.std.specs.Prelude.{◌≡◌, ◌+◌, ◌<◌, ◌≤◌, ◌^◌, OnOk};
 ghost use Rattle.desk_rules.specs.Balances.{same_ccy};
 ghost use Rattle.desk_lists.specs.Lists.{balance_in, listed, undone};
+ghost use Rattle.desk_lists.specs.Shifts.{shifted, CanShift};
 ghost use Rattle.desk_lists.specs.Moves.{with_balance, with_less, with_more, SameEntries};
 
 use crate::balance_key::BalanceKey;
 use crate::changing::changes::put_balance;
+use crate::changing::shift::Shift;
 use crate::lists::{Change, Lists};
 use desk_codes::Ccy;
 use std::alloc::AllocError;
@@ -24,18 +26,19 @@ pub fn balance_of(lists: &Lists, key: &BalanceKey) -> u64
     lists.balances.get(key).copied().unwrap_or(0)
 }
 
-/// Lets the balance of a key be so much, and says how the balances are then.
-fn set_balance(
+/// Lets the balance of a key change so, and says how the balances are then.
+fn shift_balance(
     lists: &mut Lists,
     changes: &mut Vec<Change>,
     key: BalanceKey,
-    amount: u64,
+    shift: Shift,
 ) -> Result<(), AllocError>
-    ensures put { OnOk result (balance_in (listed lists.new) ≡ with_balance (balance_in (listed lists.old)) key amount) }
+    requires { CanShift (balance_in (listed lists.old) key) shift }
+    ensures put { OnOk result (balance_in (listed lists.new) ≡ with_balance (balance_in (listed lists.old)) key (shifted (balance_in (listed lists.old) key) shift)) }
     ensures rest { OnOk result (SameEntries (listed lists.old) (listed lists.new)) }
     ensures before { undone changes.new.items (listed lists.new) ≡ undone changes.old.items (listed lists.old) }
 {
-    put_balance(lists, changes, key, amount)
+    put_balance(lists, changes, key, shift)
 }
 
 /// Puts so much more on the balance of a key.
@@ -50,8 +53,7 @@ pub fn add_to(
     ensures rest { OnOk result (SameEntries (listed lists.old) (listed lists.new)) }
     ensures before { undone changes.new.items (listed lists.new) ≡ undone changes.old.items (listed lists.old) }
 {
-    let more = balance_of(lists, &key) + amount;
-    set_balance(lists, changes, key, more)
+    shift_balance(lists, changes, key, Shift::More(amount))
 }
 
 /// Takes so much off the balance of a key.
@@ -66,6 +68,5 @@ pub fn take_from(
     ensures rest { OnOk result (SameEntries (listed lists.old) (listed lists.new)) }
     ensures before { undone changes.new.items (listed lists.new) ≡ undone changes.old.items (listed lists.old) }
 {
-    let less = balance_of(lists, &key) - amount;
-    set_balance(lists, changes, key, less)
+    shift_balance(lists, changes, key, Shift::Less(amount))
 }

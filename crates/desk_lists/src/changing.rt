@@ -5,6 +5,7 @@ pub mod entries;
 pub mod recording;
 pub mod requests;
 pub mod settling;
+pub mod shift;
 pub mod standings;
 pub mod transfer;
 pub mod trimming;

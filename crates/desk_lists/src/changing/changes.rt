@@ -2,10 +2,12 @@
 ghost use Rattle.std.specs.Prelude.{◌≡◌, ◌<◌, ◌∷◌, ◌++◌, [], Some, length, IfOk, OnOk, OnErr, slice_set};
 ghost use Rattle.desk_lists.specs.BalanceKeys.{with_record, HasNoNought};
 ghost use Rattle.desk_lists.specs.Lists.{balance_in, listed, undo, undone};
+ghost use Rattle.desk_lists.specs.Shifts.{shifted, CanShift};
 ghost use Rattle.desk_lists.specs.Moves.{kept_for_good, SameEntries};
 
 use crate::balance_key::BalanceKey;
 use crate::changing::recording;
+use crate::changing::shift::Shift;
 use crate::lists::{Change, Lists};
 use desk_rules::{Kept, Sent, Standing};
 use std::alloc::AllocError;
@@ -41,13 +43,14 @@ impl Lists {
         }
     }
 
-    /// Records a balance, and gives what was recorded of it.
-    fn record_balance(&mut self, key: &BalanceKey, amount: u64) -> Result<Option<u64>, AllocError>
-        ensures put { OnOk result (listed self.new ≡ record (listed self.old) { balances = with_record (listed self.old).balances key.now (Some amount) }) }
+    /// Records a balance as it is once it has changed, and gives what was recorded of it.
+    fn record_balance(&mut self, key: &BalanceKey, shift: Shift) -> Result<Option<u64>, AllocError>
+        requires { CanShift (balance_in (listed self.old) key.now) shift }
+        ensures put { OnOk result (listed self.new ≡ record (listed self.old) { balances = with_record (listed self.old).balances key.now (Some (shifted (balance_in (listed self.old) key.now) shift)) }) }
         ensures was { IfOk result (λ was. was ≡ (listed self.old).balances key.now) }
         ensures err { OnErr result (listed self.new ≡ listed self.old) }
     {
-        recording::record(&mut self.balances, key, amount)
+        recording::record(&mut self.balances, key, shift)
     }
 }
 
@@ -126,19 +129,20 @@ pub fn stand(
     Ok(())
 }
 
-/// Lets the balance of a key be so much.
+/// Lets the balance of a key change so.
 pub fn put_balance(
     lists: &mut Lists,
     changes: &mut Vec<Change>,
     key: BalanceKey,
-    amount: u64,
+    shift: Shift,
 ) -> Result<(), AllocError>
-    ensures put { OnOk result (listed lists.new ≡ record (listed lists.old) { balances = with_record (listed lists.old).balances key (Some amount) }) }
+    requires { CanShift (balance_in (listed lists.old) key) shift }
+    ensures put { OnOk result (listed lists.new ≡ record (listed lists.old) { balances = with_record (listed lists.old).balances key (Some (shifted (balance_in (listed lists.old) key) shift)) }) }
     ensures before { OnOk result (undone changes.new.items (listed lists.new) ≡ undone changes.old.items (listed lists.old)) }
     ensures err { OnErr result ((listed lists.new ≡ listed lists.old) × (changes.new.items ≡ changes.old.items)) }
 {
     changes.reserve(1)?;
-    let was = lists.record_balance(&key, amount)?;
+    let was = lists.record_balance(&key, shift)?;
     changes.push(Change::Moved { key, was }).unwrap();
     Ok(())
 }

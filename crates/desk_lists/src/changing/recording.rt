@@ -1,25 +1,34 @@
 //! The balances that are recorded, by their keys.
-ghost use Rattle.std.specs.Prelude.{◌≡◌, Some, IfOk, OnOk, OnErr};
+ghost use Rattle.std.specs.Prelude.{◌≡◌, Some, IfOk, OnOk, OnErr, unwrap_or};
 ghost use Rattle.std.specs.BTreeMap.{get};
 ghost use Rattle.desk_lists.specs.BalanceKeys.{balance_cmp, put_back, with_record, without_nought, HasNoneBelow, IsFromLeast};
+ghost use Rattle.desk_lists.specs.Shifts.{shifted, CanShift};
 
 use crate::balance_key::BalanceKey;
+use crate::changing::shift::{Shift, shifted};
 use std::alloc::AllocError;
 use std::collections::BTreeMap;
 
-/// Records a balance, and gives what was recorded of it.
+/// Records a balance as it is once it has changed, and gives what was recorded of it. Only a balance that was not
+/// recorded wants memory.
 pub fn record(
     balances: &mut BTreeMap<BalanceKey, u64>,
     key: &BalanceKey,
-    amount: u64,
+    shift: Shift,
 ) -> Result<Option<u64>, AllocError>
-    ensures put { OnOk result (get balance_cmp balances.new ≡ with_record (get balance_cmp balances.old) key.now (Some amount)) }
+    requires { CanShift (unwrap_or (get balance_cmp balances.old key.now) 0) shift }
+    ensures put { OnOk result (get balance_cmp balances.new ≡ with_record (get balance_cmp balances.old) key.now (Some (shifted (unwrap_or (get balance_cmp balances.old key.now) 0) shift))) }
     ensures was { IfOk result (λ was. was ≡ get balance_cmp balances.old key.now) }
     ensures err { OnErr result (get balance_cmp balances.new ≡ get balance_cmp balances.old) }
     ensures floored { HasNoneBelow (get balance_cmp balances.old) → HasNoneBelow (get balance_cmp balances.new) }
 {
     is_from_least(key);
-    Ok(balances.insert(*key, amount)?)
+    if let Some(amount) = balances.get_mut(key) {
+        let was = *amount;
+        *amount = shifted(was, shift);
+        return Ok(Some(was));
+    }
+    Ok(balances.insert(*key, shifted(0, shift))?)
 }
 
 /// Takes a balance out that is recorded as 0. No memory is taken.

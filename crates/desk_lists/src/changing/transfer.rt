@@ -13,7 +13,7 @@ use desk_msg::{Cash, Instruction};
 
 /// What a pair moves: a quantity of a security between two accounts, and cash, if any is asked for, between their
 /// participants.
-#[derive(Clone, Copy, Debug)]
+#[derive(Clone, Copy)]
 pub struct Transfer {
     pub deliverer: Bic,
     pub given: AccountId,

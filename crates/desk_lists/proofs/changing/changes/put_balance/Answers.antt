@@ -1,6 +1,7 @@
 use Rattle.std.proofs.Common.{◌≡◌, ◌++◌, ◌∷◌, [], ap, ◌∙◌, rules}
 use Rattle.desk_lists.specs.declared.lists.Change.TheVariants.{Moved}
-use Rattle.desk_lists.specs.Lists.{listed, undone}
+use Rattle.desk_lists.specs.Lists.{balance_in, listed, undone}
+use Rattle.desk_lists.specs.Shifts.{shifted}
 use Rattle.desk_lists.proofs.ListsLemmas.{before_moved}
 use Rattle.desk_lists.proofs.changing.changes.put_balance.Goals as goal
 
@@ -9,4 +10,4 @@ returns-clause-before c =
     let l = listed c.args.lists.now in
     let changes = c.args.changes.now.items ++ Moved c.args.key c.in_ok-was.was' ∷ [] in
     let logged : c.push.new.self.items ≡ changes = search rules in
-    rw logged (ap (undone changes) c.in_ok-was.ensures.put ∙ before_moved c.args.changes.now.items l c.args.key c.in_ok-was.was' c.args.amount c.in_ok-was.ensures.was)
+    rw logged (ap (undone changes) c.in_ok-was.ensures.put ∙ before_moved c.args.changes.now.items l c.args.key c.in_ok-was.was' (shifted (balance_in l c.args.key) c.args.shift) c.in_ok-was.ensures.was)
