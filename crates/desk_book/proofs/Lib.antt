@@ -13,6 +13,7 @@ pub mod ScriptLemmas
 pub mod ExactLemmas
 pub mod CommandLemmas
 pub mod RowLemmas
+mod RowTextLemmas
 pub mod OneReading
 pub mod OneCommand
 pub mod OneTask

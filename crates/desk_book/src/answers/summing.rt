@@ -12,8 +12,8 @@ ghost use Rattle.desk_book.specs.Totals.{IsTotal, TotalsCash};
 ghost use Rattle.desk_book.specs.WrittenTo.{Writes};
 
 use crate::answers::head::Head;
-use crate::answers::total::{CashTotal, SecurityTotal, cash_text, security_text};
-use crate::streams::writing::{write_row, write_text};
+use crate::answers::total::{CashTotal, SecurityTotal, write_cash_row, write_security_row};
+use crate::streams::writing::write_text;
 use desk_codes::{Ccy, Isin};
 use desk_holdings::WalkFault;
 use desk_msg::SinkFault;
@@ -83,10 +83,7 @@ fn write_currency<R: Register, W: Sink>(
     let Some(total) = cash_total(alloc, register, ccy)? else {
         return Ok(is_later);
     };
-    let Ok(text) = cash_text(alloc, &total) else {
-        return Err(WalkFault::Sink(SinkFault::Memory));
-    };
-    write_row(writer, is_later, text.as_bytes())?;
+    write_cash_row(writer, is_later, &total)?;
     Ok(true)
 }
 
@@ -146,10 +143,7 @@ fn write_security<R: Register, W: Sink>(
     ensures unwritten { result ≡ Err (WalkFault.Sink SinkFault.Write) → W.may_fail ≡ true }
 {
     let total = security_total(alloc, register, isin)?;
-    let Ok(text) = security_text(alloc, &total) else {
-        return Err(WalkFault::Sink(SinkFault::Memory));
-    };
-    write_row(writer, is_later, text.as_bytes())
+    write_security_row(writer, is_later, &total)
 }
 
 /// The total of a registered security.

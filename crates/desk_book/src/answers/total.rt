@@ -1,12 +1,15 @@
 //! A row of the desk's totals, as compact JSON.
-ghost use Rattle.std.specs.Prelude.{◌≡◌, IfOk, string_bytes};
-ghost use Rattle.serde_json.specs.View.{view};
-ghost use Rattle.serde_json.specs.Written.{compact_text};
+ghost use Rattle.std.specs.Prelude.{◌≡◌, ◌≤◌, ◌++◌, true, drop, IfErr, OnErr, OnOk};
+ghost use Rattle.std.specs.Io.KnownBytes.{Appends};
+ghost use Rattle.serde_json.specs.Written.{comma_if, compact_text};
 ghost use Rattle.desk_book.specs.Sums.{cash_data, security_data};
 
+use crate::streams::backward::{number_before, text_before};
+use crate::streams::writing::write_text;
 use desk_codes::{Ccy, Isin};
-use serde_json::{Value, json};
-use std::alloc::{AllocError, Global};
+use desk_holdings::WalkFault;
+use desk_msg::SinkFault;
+use desk_streams::Sink;
 
 /// The total of a currency, in minor units.
 #[derive(Clone, Copy, Debug, PartialEq, Eq)]
@@ -28,28 +31,68 @@ pub struct SecurityTotal {
     pub outstanding: u64,
 }
 
-/// The text of one row.
-pub fn cash_text(alloc: Global, total: &CashTotal) -> Result<String, AllocError>
-    ensures { IfOk result (λ text. string_bytes text ≡ compact_text (cash_data total.now)) }
+/// The most bytes of a row with a comma before it.
+const LONGEST_ROW: usize = 96;
+
+/// Writes the row of a currency, behind a comma where rows stand before it.
+pub fn write_cash_row<W: Sink>(
+    writer: &mut W,
+    is_later: bool,
+    total: &CashTotal,
+) -> Result<(), WalkFault>
+    ensures written { OnOk result (Appends (W.contents writer.old) (W.contents writer.new) (comma_if is_later ++ compact_text (cash_data total.now))) }
+    ensures fault { IfErr result (λ fault. fault ≡ WalkFault.Sink SinkFault.Write) }
+    ensures unwritten { OnErr result (W.may_fail ≡ true) }
 {
-    cash_value(alloc, total)?.to_string(alloc)
+    let mut room = [0; LONGEST_ROW];
+    let start = cash_row(&mut room, is_later, total);
+    write_text(writer, &room[start..])
 }
 
-fn cash_value(alloc: Global, total: &CashTotal) -> Result<Value, AllocError>
-    ensures { IfOk result (λ value. view value ≡ cash_data total.now) }
+/// Makes the row of a currency at the end of the room, behind a comma where rows stand before it. Gives where it begins.
+fn cash_row(room: &mut [u8; LONGEST_ROW], is_later: bool, total: &CashTotal) -> usize
+    ensures within { result ≤ LONGEST_ROW }
+    ensures row { drop result room.new ≡ comma_if is_later ++ compact_text (cash_data total.now) }
 {
-    json!(in alloc; {"ccy": total.ccy.as_str(), "held": total.held, "net": total.net})
+    let end = text_before(room, LONGEST_ROW, b"}");
+    let end = number_before(room, end, b",\"net\":", total.net);
+    let end = number_before(room, end, b"\",\"held\":", total.held);
+    let end = text_before(room, end, total.ccy.as_bytes());
+    let end = text_before(room, end, b"{\"ccy\":\"");
+    text_before(room, end, comma_before(is_later))
 }
 
-/// The text of one row.
-pub fn security_text(alloc: Global, total: &SecurityTotal) -> Result<String, AllocError>
-    ensures { IfOk result (λ text. string_bytes text ≡ compact_text (security_data total.now)) }
+/// Writes the row of a security, behind a comma where rows stand before it.
+pub fn write_security_row<W: Sink>(
+    writer: &mut W,
+    is_later: bool,
+    total: &SecurityTotal,
+) -> Result<(), WalkFault>
+    ensures written { OnOk result (Appends (W.contents writer.old) (W.contents writer.new) (comma_if is_later ++ compact_text (security_data total.now))) }
+    ensures fault { IfErr result (λ fault. fault ≡ WalkFault.Sink SinkFault.Write) }
+    ensures unwritten { OnErr result (W.may_fail ≡ true) }
 {
-    security_value(alloc, total)?.to_string(alloc)
+    let mut room = [0; LONGEST_ROW];
+    let start = security_row(&mut room, is_later, total);
+    write_text(writer, &room[start..])
 }
 
-fn security_value(alloc: Global, total: &SecurityTotal) -> Result<Value, AllocError>
-    ensures { IfOk result (λ value. view value ≡ security_data total.now) }
+/// Makes the row of a security at the end of the room, behind a comma where rows stand before it. Gives where it begins.
+fn security_row(room: &mut [u8; LONGEST_ROW], is_later: bool, total: &SecurityTotal) -> usize
+    ensures within { result ≤ LONGEST_ROW }
+    ensures row { drop result room.new ≡ comma_if is_later ++ compact_text (security_data total.now) }
 {
-    json!(in alloc; {"held": total.held, "isin": total.isin.as_str(), "outstanding": total.outstanding})
+    let end = text_before(room, LONGEST_ROW, b"}");
+    let end = number_before(room, end, b"\",\"outstanding\":", total.outstanding);
+    let end = text_before(room, end, total.isin.as_bytes());
+    let end = text_before(room, end, b",\"isin\":\"");
+    let end = number_before(room, end, b"{\"held\":", total.held);
+    text_before(room, end, comma_before(is_later))
+}
+
+/// The comma between two rows.
+fn comma_before(is_later: bool) -> &'static [u8]
+    ensures { result.now ≡ comma_if is_later }
+{
+    if is_later { b"," } else { b"" }
 }
