@@ -10,6 +10,7 @@ pub mod LeftLemmas
 pub mod LineLemmas
 pub mod FormLemmas
 pub mod ScriptLemmas
+pub mod StopLemmas
 pub mod ExactLemmas
 pub mod CommandLemmas
 pub mod RowLemmas

@@ -1,6 +1,7 @@
 -- How an item is split off a script, and played. Only proofs and private contracts speak of it.
-use Rattle.std.specs.Prelude.{◌≡◌, ℕ, true, Bool, List, [], ◌∷◌, ◌++◌, Option, Result}
+use Rattle.std.specs.Prelude.{◌≡◌, ◌==◌, ℕ, true, Bool, fold, List, [], ◌∷◌, ◌++◌, Option, Result}
 use Rattle.std.specs.List.{concat}
+use Rattle.std.specs.Str.{byte}
 use Rattle.std.specs.Io.KnownBytes.{Appends}
 use Rattle.desk_rules.specs.declared.answers.reply.Reply.{Reply}
 use Rattle.desk_rules.specs.Books.{Books}
@@ -18,6 +19,10 @@ pub record BeginsWithBody (lines : List (List ℕ)) (text : List ℕ) (rest : Li
   pub inside : HasNoStop body
   pub stops : is_stop stop ≡ true
   pub is : text ≡ concat body
+
+-- a text ends where a line does: it is empty, or its last byte is a line feed
+abbrev pub ends_line : List ℕ → Bool
+ends_line text = fold (λ _ c. c == byte "\n") true text
 
 -- one item was played, and its answer written
 pub record PlaysItem (was : Bool) (books : Books) (item : Item) (before after : Option (List ℕ)) (is : Bool) (old new : View) : Type 0 where
