@@ -1,5 +1,5 @@
 //! Answers on their way out: they wait until there are as many bytes as are written at once.
-ghost use Rattle.std.specs.Prelude.{◌≡◌, ◌<◌, ◌≤◌, [], true, vec_capacity, vec_len, IfOk, OnErr, OnOk};
+ghost use Rattle.std.specs.Prelude.{◌≡◌, ◌<◌, ◌≤◌, [], true, drop, vec_capacity, vec_len, IfOk, OnErr, OnOk};
 ghost use Rattle.std.specs.Io.KnownBytes.{Appends, append_known};
 ghost use Rattle.std.specs.Fmt.{decimal};
 ghost use Rattle.desk_book.specs.Waiting.{HasRoom, waits};
@@ -7,10 +7,14 @@ ghost use Rattle.desk_book.specs.WrittenAnswers.{head_line, written_answer, writ
 
 use crate::fault::Fault;
 use crate::limits::PIECE;
+use crate::streams::backward::{DIGITS, number_before, text_before};
 use desk_streams::Sink;
 use itoa::Buffer;
 use std::alloc::{AllocError, Global};
 use std::io;
+
+/// The room in which the first line of an answer is made: for two numbers, a space and a line feed.
+const HEAD_ROOM: usize = 2 * DIGITS + 2;
 
 /// The bytes that wait to be written.
 #[derive(Drop)]
@@ -103,12 +107,9 @@ impl Outbox {
         ensures written { OnOk result (Appends (append_known (W.contents writer.old) (waits self.old)) (append_known (W.contents writer.new) (waits self.new)) (head_line status mt)) }
         ensures failed { OnErr result (W.may_fail ≡ true) }
     {
-        self.add_number(writer, status)?;
-        if let Some(mt) = mt {
-            self.add(writer, b" ")?;
-            self.add_number(writer, mt)?;
-        }
-        self.add(writer, b"\n")
+        let mut room = [0; HEAD_ROOM];
+        let start = head_line(&mut room, status, mt);
+        self.add(writer, &room[start..])
     }
 
     /// Writes what waits still.
@@ -117,6 +118,21 @@ impl Outbox {
         ensures failed { OnErr result (W.may_fail ≡ true) }
     {
         writer.put(&self.waiting)
+    }
+}
+
+/// Makes the first line of an answer at the end of the room. Gives where it begins.
+fn head_line(room: &mut [u8; HEAD_ROOM], status: u16, mt: Option<u16>) -> usize
+    ensures within { result ≤ HEAD_ROOM }
+    ensures line { drop result room.new ≡ head_line status mt }
+{
+    let end = text_before(room, HEAD_ROOM, b"\n");
+    match mt {
+        Some(mt) => {
+            let end = number_before(room, end, b" ", u64::from(mt));
+            number_before(room, end, b"", u64::from(status))
+        }
+        None => number_before(room, end, b"", u64::from(status)),
     }
 }
 
