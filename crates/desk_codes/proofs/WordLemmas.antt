@@ -1,5 +1,5 @@
 -- The order of bytes is that of the numbers which they write, the greatest first.
-use Rattle.std.proofs.Common.{◌≡◌, ◌≢◌, ℕ, zero, suc, ◌+◌, ◌*◌, ◌<◌, ◌≤◌, List, [], ◌∷◌, ◌++◌, length, get_or, take, drop, refl, sym, ap, ◌∙◌, arith, lit<, is_eq, nat_cmp, Ordering, Less, Equal, Greater, w64, take-append-drop, length-take-le, length-drop, take-add}
+use Rattle.std.proofs.Common.{◌≡◌, ◌≢◌, ℕ, zero, suc, ◌+◌, ◌*◌, ◌<◌, ◌≤◌, List, [], ◌∷◌, ◌++◌, length, get_or, take, drop, refl, sym, ap, ◌∙◌, arith, lit<, is_eq, nat_cmp, Ordering, Less, Equal, Greater, w32, w64, take-append-drop, length-take-le, length-drop, take-add}
 use Rattle.std.specs.Int.{from_be_bytes}
 use Rattle.std.specs.Ordering.{ordering_then, MatchOrdering}
 use Rattle.std.specs.Cmp.Lexicographic.{slice_cmp, texts_ties, same_text, nat_list_cmp_total}
@@ -23,7 +23,7 @@ bytes_drop (suc n) [] h = h
 bytes_drop (suc n) (x ∷ text) h = bytes_drop n text (λ j. h (suc j))
 
 -- the number that bytes write behind a number
-abbrev written : ℕ → List ℕ → ℕ
+abbrev pub written : ℕ → List ℕ → ℕ
 written n [] = n
 written n (b ∷ bs) = written (n * 256 + b) bs
 
@@ -62,18 +62,32 @@ by_numbers (u ∷ us) (v ∷ vs) a e p q = by (by_numbers us vs (a * 256 + u) as
         let less : v < u = l in
         ap (λ r. ordering_then r (slice_cmp nat_cmp us vs)) is ∙ sym (above _ _ (rises vs us (a * 256 + v) (a * 256 + u) (sym as_long) (λ k. q (suc k)) (omega arith)))
 
--- eight bytes write the number that a word is read as
-word_written : (us : List ℕ) → length us ≡ 8 → from_be_bytes w64 us ≡ written 0 us
-word_written (b0 ∷ b1 ∷ b2 ∷ b3 ∷ b4 ∷ b5 ∷ b6 ∷ b7 ∷ []) e = omega arith
-word_written [] e = absurd (omega arith)
-word_written (b0 ∷ []) e = absurd (omega arith)
-word_written (b0 ∷ b1 ∷ []) e = absurd (omega arith)
-word_written (b0 ∷ b1 ∷ b2 ∷ []) e = absurd (omega arith)
-word_written (b0 ∷ b1 ∷ b2 ∷ b3 ∷ []) e = absurd (omega arith)
-word_written (b0 ∷ b1 ∷ b2 ∷ b3 ∷ b4 ∷ []) e = absurd (omega arith)
-word_written (b0 ∷ b1 ∷ b2 ∷ b3 ∷ b4 ∷ b5 ∷ []) e = absurd (omega arith)
-word_written (b0 ∷ b1 ∷ b2 ∷ b3 ∷ b4 ∷ b5 ∷ b6 ∷ []) e = absurd (omega arith)
-word_written (b0 ∷ b1 ∷ b2 ∷ b3 ∷ b4 ∷ b5 ∷ b6 ∷ b7 ∷ b8 ∷ rest) e = absurd (omega arith)
+-- the number that a word, and half a word, is read as
+pub word_written : (text : List ℕ) (k x : ℕ) → k + 8 ≤ length text → x ≡ from_be_bytes w64 (take 8 (drop k text)) → x ≡ written 0 (take 8 (drop k text))
+word_written text k x within is = is ∙ eight (take 8 (drop k text)) (length-take-le 8 (drop k text) (omega (arith, length-drop k text)))
+  where
+    eight : (us : List ℕ) → length us ≡ 8 → from_be_bytes w64 us ≡ written 0 us
+    eight (b0 ∷ b1 ∷ b2 ∷ b3 ∷ b4 ∷ b5 ∷ b6 ∷ b7 ∷ []) e = omega arith
+    eight [] e = absurd (omega arith)
+    eight (b0 ∷ []) e = absurd (omega arith)
+    eight (b0 ∷ b1 ∷ []) e = absurd (omega arith)
+    eight (b0 ∷ b1 ∷ b2 ∷ []) e = absurd (omega arith)
+    eight (b0 ∷ b1 ∷ b2 ∷ b3 ∷ []) e = absurd (omega arith)
+    eight (b0 ∷ b1 ∷ b2 ∷ b3 ∷ b4 ∷ []) e = absurd (omega arith)
+    eight (b0 ∷ b1 ∷ b2 ∷ b3 ∷ b4 ∷ b5 ∷ []) e = absurd (omega arith)
+    eight (b0 ∷ b1 ∷ b2 ∷ b3 ∷ b4 ∷ b5 ∷ b6 ∷ []) e = absurd (omega arith)
+    eight (b0 ∷ b1 ∷ b2 ∷ b3 ∷ b4 ∷ b5 ∷ b6 ∷ b7 ∷ b8 ∷ rest) e = absurd (omega arith)
+
+pub half_written : (text : List ℕ) (k x : ℕ) → k + 4 ≤ length text → x ≡ from_be_bytes w32 (take 4 (drop k text)) → x ≡ written 0 (take 4 (drop k text))
+half_written text k x within is = is ∙ four (take 4 (drop k text)) (length-take-le 4 (drop k text) (omega (arith, length-drop k text)))
+  where
+    four : (us : List ℕ) → length us ≡ 4 → from_be_bytes w32 us ≡ written 0 us
+    four (b0 ∷ b1 ∷ b2 ∷ b3 ∷ []) e = omega arith
+    four [] e = absurd (omega arith)
+    four (b0 ∷ []) e = absurd (omega arith)
+    four (b0 ∷ b1 ∷ []) e = absurd (omega arith)
+    four (b0 ∷ b1 ∷ b2 ∷ []) e = absurd (omega arith)
+    four (b0 ∷ b1 ∷ b2 ∷ b3 ∷ b4 ∷ rest) e = absurd (omega arith)
 
 pub then_assoc : (a b c : Ordering) → ordering_then (ordering_then a b) c ≡ ordering_then a (ordering_then b c)
 then_assoc Less b c = refl
@@ -96,51 +110,51 @@ front_first (u ∷ us) (v ∷ vs) xs ys e = ap (ordering_then (nat_cmp u v)) (fr
 pub front_same : (k j : ℕ) (xs ys : List ℕ) → j ≤ k → take k xs ≡ take k ys → take j xs ≡ take j ys
 front_same k j xs ys le same = sym (take-take j k xs le) ∙ ap (take j) same ∙ take-take j k ys le
 
-module _ (xs ys : List ℕ) (p : AreBytes xs) (q : AreBytes ys) (as_long : length xs ≡ length ys) (k : ℕ) (within : k + 8 ≤ length xs) (x y : ℕ)
-    (own : x ≡ from_be_bytes w64 (take 8 (drop k xs))) (other : y ≡ from_be_bytes w64 (take 8 (drop k ys))) where
-  own_length : length (take 8 (drop k xs)) ≡ 8
-  own_length = length-take-le 8 (drop k xs) (omega (arith, length-drop k xs))
+module _ (xs ys : List ℕ) (p : AreBytes xs) (q : AreBytes ys) (as_long : length xs ≡ length ys) (n k : ℕ) (within : k + n ≤ length xs) (x y : ℕ)
+    (own : x ≡ written 0 (take n (drop k xs))) (other : y ≡ written 0 (take n (drop k ys))) where
+  own_length : length (take n (drop k xs)) ≡ n
+  own_length = length-take-le n (drop k xs) (omega (arith, length-drop k xs))
 
-  other_length : length (take 8 (drop k ys)) ≡ 8
-  other_length = length-take-le 8 (drop k ys) (omega (arith, length-drop k ys))
+  other_length : length (take n (drop k ys)) ≡ n
+  other_length = length-take-le n (drop k ys) (omega (arith, length-drop k ys))
 
-  words : slice_cmp nat_cmp (take 8 (drop k xs)) (take 8 (drop k ys)) ≡ nat_cmp x y
+  words : slice_cmp nat_cmp (take n (drop k xs)) (take n (drop k ys)) ≡ nat_cmp x y
   words =
-      by_numbers (take 8 (drop k xs)) (take 8 (drop k ys)) 0 (own_length ∙ sym other_length) (bytes_take 8 (drop k xs) (bytes_drop k xs p)) (bytes_take 8 (drop k ys) (bytes_drop k ys q))
-      ∙ (λ i. nat_cmp (sym (own ∙ word_written _ own_length) i) (sym (other ∙ word_written _ other_length) i))
+      by_numbers (take n (drop k xs)) (take n (drop k ys)) 0 (own_length ∙ sym other_length) (bytes_take n (drop k xs) (bytes_drop k xs p)) (bytes_take n (drop k ys) (bytes_drop k ys q))
+      ∙ (λ i. nat_cmp (sym own i) (sym other i))
 
   -- behind a front that is the same, the words decide, and then what is behind them
-  word_first : take k xs ≡ take k ys → slice_cmp nat_cmp xs ys ≡ ordering_then (nat_cmp x y) (slice_cmp nat_cmp (drop 8 (drop k xs)) (drop 8 (drop k ys)))
+  word_first : take k xs ≡ take k ys → slice_cmp nat_cmp xs ys ≡ ordering_then (nat_cmp x y) (slice_cmp nat_cmp (drop n (drop k xs)) (drop n (drop k ys)))
   word_first front =
       (λ i. slice_cmp nat_cmp (sym (take-append-drop k xs) i) (sym (take-append-drop k ys) i))
       ∙ front_first (take k xs) (take k ys) (drop k xs) (drop k ys) (ap length front)
       ∙ ap (λ o. ordering_then o (slice_cmp nat_cmp (drop k xs) (drop k ys))) (ap (slice_cmp nat_cmp (take k xs)) (sym front) ∙ tied_itself nat_list_cmp_total (take k xs))
-      ∙ (λ i. slice_cmp nat_cmp (sym (take-append-drop 8 (drop k xs)) i) (sym (take-append-drop 8 (drop k ys)) i))
-      ∙ front_first (take 8 (drop k xs)) (take 8 (drop k ys)) (drop 8 (drop k xs)) (drop 8 (drop k ys)) (own_length ∙ sym other_length)
-      ∙ ap (λ o. ordering_then o (slice_cmp nat_cmp (drop 8 (drop k xs)) (drop 8 (drop k ys)))) words
+      ∙ (λ i. slice_cmp nat_cmp (sym (take-append-drop n (drop k xs)) i) (sym (take-append-drop n (drop k ys)) i))
+      ∙ front_first (take n (drop k xs)) (take n (drop k ys)) (drop n (drop k xs)) (drop n (drop k ys)) (own_length ∙ sym other_length)
+      ∙ ap (λ o. ordering_then o (slice_cmp nat_cmp (drop n (drop k xs)) (drop n (drop k ys)))) words
 
   decides : (o : Ordering) → MatchOrdering (nat_cmp x y) (x < y) (x ≡ y) (y < x) → x ≢ y → ordering_then (nat_cmp x y) o ≡ nat_cmp x y
-  decides o h n = by (nat_cmp x y) h
+  decides o h apart = by (nat_cmp x y) h
     where
       by : (r : Ordering) → MatchOrdering r (x < y) (x ≡ y) (y < x) → ordering_then r o ≡ r
       by Less l = refl
-      by Equal e = absurd (n e)
+      by Equal e = absurd (apart e)
       by Greater l = refl
 
   -- words that differ decide
   pub first_word : take k xs ≡ take k ys → x ≢ y → nat_cmp x y ≡ slice_cmp nat_cmp xs ys
-  first_word front n = sym (word_first front ∙ decides _ (ranked x y (nat_cmp x y) refl) n)
+  first_word front apart = sym (word_first front ∙ decides _ (ranked x y (nat_cmp x y) refl) apart)
 
   -- the last words decide
-  pub last_word : take k xs ≡ take k ys → k + 8 ≡ length xs → nat_cmp x y ≡ slice_cmp nat_cmp xs ys
+  pub last_word : take k xs ≡ take k ys → k + n ≡ length xs → nat_cmp x y ≡ slice_cmp nat_cmp xs ys
   last_word front end =
-      let none : drop 8 (drop k xs) ≡ [] = drop_all 8 (drop k xs) (omega (arith, length-drop k xs)) in
-      let nil : drop 8 (drop k ys) ≡ [] = drop_all 8 (drop k ys) (omega (arith, length-drop k ys)) in
+      let none : drop n (drop k xs) ≡ [] = drop_all n (drop k xs) (omega (arith, length-drop k xs)) in
+      let nil : drop n (drop k ys) ≡ [] = drop_all n (drop k ys) (omega (arith, length-drop k ys)) in
       sym (word_first front ∙ (λ i. ordering_then (nat_cmp x y) (slice_cmp nat_cmp (none i) (nil i))) ∙ then_Equal (nat_cmp x y))
 
   -- words that are one number are the same bytes
-  pub same_more : take k xs ≡ take k ys → x ≡ y → take (k + 8) xs ≡ take (k + 8) ys
+  pub same_more : take k xs ≡ take k ys → x ≡ y → take (k + n) xs ≡ take (k + n) ys
   same_more front same =
-      let tied : slice_cmp nat_cmp (take 8 (drop k xs)) (take 8 (drop k ys)) ≡ Equal = words ∙ ap (nat_cmp x) (sym same) ∙ tied_itself nat_cmp_total x in
-      let bytes = same_text (take 8 (drop k xs)) (take 8 (drop k ys)) (sym (texts_ties (take 8 (drop k xs)) (take 8 (drop k ys)) ∙ ap is_eq tied)) in
-      take-add k 8 xs ∙ (λ i. front i ++ bytes i) ∙ sym (take-add k 8 ys)
+      let tied : slice_cmp nat_cmp (take n (drop k xs)) (take n (drop k ys)) ≡ Equal = words ∙ ap (nat_cmp x) (sym same) ∙ tied_itself nat_cmp_total x in
+      let bytes = same_text (take n (drop k xs)) (take n (drop k ys)) (sym (texts_ties (take n (drop k xs)) (take n (drop k ys)) ∙ ap is_eq tied)) in
+      take-add k n xs ∙ (λ i. front i ++ bytes i) ∙ sym (take-add k n ys)

@@ -30,4 +30,4 @@ pub use isin::{Isin, check_digit};
 pub use laws::{one_check_digit, one_value, shortest_spelling, written_spells};
 pub use number::{NumberFault, read_number};
 pub use reference::Reference;
-pub use written::write_number;
+pub use written::{NumberText, write_number};

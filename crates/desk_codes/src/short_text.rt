@@ -1,5 +1,5 @@
 //! A short text inside an array, which the codes of variable length stand on.
-ghost use Rattle.std.specs.Prelude.{◌≡◌, ◌≤◌, length, nat_eq, refl};
+ghost use Rattle.std.specs.Prelude.{◌≡◌, ◌≤◌, ◌<◌, ◌++◌, ◌∷◌, [], length, nat_eq, refl};
 ghost use Rattle.std.specs.Ordering.{nat_cmp};
 ghost use Rattle.std.specs.Cmp.Lexicographic.{pointwise, slice_cmp, nat_list_eq_equiv, nat_list_cmp_total, texts_ties, texts_po};
 ghost use Rattle.std.specs.Cmp.{partial_equiv_from_equiv};
@@ -44,6 +44,16 @@ impl<const N: usize> ShortText<N> {
             bytes,
             len: text.len(),
         }
+    }
+
+    /// A byte more, behind its text.
+    #[inline]
+    pub fn push(&mut self, byte: u8)
+        requires { length self.old < N }
+        ensures { self.new ≡ self.old ++ byte ∷ [] }
+    {
+        self.bytes[self.len] = byte;
+        self.len += 1;
     }
 
     /// Its bytes.

@@ -1,9 +1,0 @@
-use Rattle.std.proofs.Common.{◌≡◌, ◌<◌, ◌^◌, ◌++◌}
-use Rattle.desk_codes.specs.Number.{fraction, written_number}
-use Rattle.desk_codes.proofs.written.write_number.Given as goal
-
-abbrev pub invariant-loop-place : goal.invariant-loop-place
-invariant-loop-place l = record {
-  text : l.text.items ++ fraction l.place l.rest ≡ written_number l.value l.decimals;
-  small : l.rest < 10 ^ l.place;
-}
