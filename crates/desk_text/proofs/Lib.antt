@@ -11,4 +11,4 @@ pub mod LawLemmas
 pub mod OpenLemmas
 pub mod PutLemmas
 pub mod FeedLemmas
-pub mod PrintLemmas
+pub mod LaneLemmas

@@ -1,6 +1,5 @@
 -- The reader's steps, over plain lists.
-use Rattle.std.proofs.Common.{◌≡◌, ℕ, ◌+◌, Bool, true, false, cond, ◌&&◌, eqb, codes, nat_lt, List, [], ◌∷◌, ◌++◌, length, map, reverse, Option, Some, None, Result, Ok, Err, refl, sym, ap, ◌∙◌, append_assoc, append-nil}
-use Rattle.std.proofs.lemmas.List.{map_push}
+use Rattle.std.proofs.Common.{◌≡◌, ℕ, ◌+◌, ◌-◌, suc, zero, get_or, set, arith, Bool, true, false, cond, ◌&&◌, eqb, codes, nat_lt, List, [], ◌∷◌, ◌++◌, length, map, reverse, Option, Some, None, Result, Ok, Err, refl, sym, ap, ◌∙◌, append_assoc, append-nil}
 use Rattle.std.specs.Str.{bytes_eq}
 use Rattle.desk_text.specs.declared.limits.TheConstants.{DEEPEST}
 use Rattle.desk_text.specs.declared.fields.Field.{Field}
@@ -50,10 +49,14 @@ further_more found line true signs within k e = value_more found line (read_from
 further_more found line false signs within k e = absurd (let h = e in cc)
 
 -- the last field with one value line more
-pub extended : (old front now : List Field) (x x' : Field) (line : List ℕ) → old ≡ front ++ x ∷ [] → now ≡ front ++ x' ∷ [] → found_of x' ≡ record (found_of x) { values = (found_of x).values ++ line ∷ [] } → map found_of now ≡ extend_last (map found_of old) (line ∷ [])
-extended old front now x x' line before after same =
-    ap (map found_of) after ∙ map_push found_of front x' ∙ ap (λ z. map found_of front ++ z ∷ []) same
-    ∙ sym (extend_last-push (map found_of front) (found_of x) (line ∷ [])) ∙ ap (λ z. extend_last z (line ∷ [])) (sym (map_push found_of front x) ∙ sym (ap (map found_of) before))
+pub extended : (old : List Field) (n : ℕ) (x x' : Field) (line : List ℕ) → n ≡ length old - 1 → x ≡ get_or old n x → found_of x' ≡ record (found_of x) { values = (found_of x).values ++ line ∷ [] }
+    → map found_of (set old n x') ≡ extend_last (map found_of old) (line ∷ [])
+extended [] n x x' line last is same = refl
+extended (y ∷ []) zero x x' line last is same =
+    ap (λ f. f ∷ []) (same ∙ ap (λ z. record (found_of z) { values = (found_of z).values ++ line ∷ [] }) is)
+extended (y ∷ []) (suc n) x x' line last is same = absurd (omega arith)
+extended (y ∷ z ∷ old) zero x x' line last is same = absurd (omega arith)
+extended (y ∷ z ∷ old) (suc n) x x' line last is same = ap (λ rest. found_of y ∷ rest) (extended (z ∷ old) n x x' line (omega arith) is same)
 
 -- Where no value goes on, reading begins with no value lines.
 

@@ -1,13 +1,13 @@
 //! Reading a block.
-ghost use Rattle.std.specs.Prelude.{◌≡◌, ◌+◌, ◌≤◌, ◌<◌, ◌^◌, [], ◌∷◌, OnOk, IsErrOf, false, length, map};
+ghost use Rattle.std.specs.Prelude.{◌≡◌, ◌+◌, ◌≤◌, ◌<◌, ◌^◌, [], ◌∷◌, OnOk, IfOk, IsErrOf, false, length, map};
 ghost use Rattle.desk_text.specs.Lines.{lines_of};
 ghost use Rattle.desk_text.specs.Reading.{read_from, read_text, extend_last};
 ghost use Rattle.desk_text.specs.Signs.{sign_of};
-ghost use Rattle.desk_text.specs.Seen.{Reads, MayBeBlock, found_of, sign_seen};
+ghost use Rattle.desk_text.specs.Seen.{Reads, MayBeBlock, found_of, sign_seen, texts};
 ghost use Rattle.desk_text.specs.Steps.{Takes, After, Returns};
 
 use crate::faults::TextFault;
-use crate::fields::{Block, Field};
+use crate::fields::{Block, Field, USUAL_DEPTH};
 use crate::limits::{DEEPEST, LONGEST_TEXT};
 use crate::lines::{Line, next_line, read_line};
 use smallvec::SmallVec;
@@ -27,12 +27,25 @@ struct Reader<'a> {
 fn extend_value<'a>(fields: &mut Vec<Field<'a>>, line: &'a [u8]) -> Result<(), AllocError>
     ensures { OnOk result (map found_of fields.new.items ≡ extend_last (map found_of fields.old.items) (line.entry.now ∷ [])) }
 {
-    let Some(mut field) = fields.pop() else {
-        return Ok(());
-    };
-    field.values.push(line)?;
-    fields.push(field)?;
+    if let Some(field) = fields.last_mut() {
+        field.values.push(line)?;
+    }
     Ok(())
+}
+
+/// The path of a field that stands in these sequences, of which there are mostly one or two.
+#[inline(always)]
+fn path_of<'a>(
+    alloc: Global,
+    names: &[&'a [u8]],
+) -> Result<SmallVec<&'a [u8], USUAL_DEPTH>, AllocError>
+    ensures { IfOk result (λ path. texts path.items ≡ texts names.now) }
+{
+    match names {
+        [only] => Ok(SmallVec::from_buf_and_len(alloc, [*only, *only], 1)),
+        [outer, inner] => Ok(SmallVec::from_buf(alloc, [*outer, *inner])),
+        _ => SmallVec::from_slice(alloc, names),
+    }
 }
 
 impl<'a> Reader<'a> {
@@ -57,7 +70,7 @@ impl<'a> Reader<'a> {
                 _ => Err(TextFault::BadNesting(number)),
             },
             Line::Start(tag, first) => {
-                let path = SmallVec::from_slice(alloc, &self.names)?;
+                let path = path_of(alloc, &self.names)?;
                 let values = SmallVec::from_slice(alloc, &[first])?;
                 self.fields.push(Field {
                     path,

@@ -1,8 +1,8 @@
 //! Looking through a line or a text, many bytes at a time.
-ghost use Rattle.std.specs.Prelude.{◌≡◌, ◌+◌, ◌≤◌, ◌==◌, length, take, drop, IfSome, IfNone, if◌then◌else◌};
+ghost use Rattle.std.specs.Prelude.{◌≡◌, ◌+◌, ◌≤◌, ◌==◌, ◌||◌, length, take, drop, IfSome, IfNone, if◌then◌else◌};
 ghost use Rattle.std.specs.Int.{w64, trailing_zeros};
 ghost use Rattle.std.specs.List.{list_all};
-ghost use Rattle.desk_text.specs.BlockGrammar.{is_first};
+ghost use Rattle.desk_text.specs.BlockGrammar.{is_capital, is_digit, is_first};
 ghost use Rattle.desk_text.specs.Scanning.{IsFeedRun, IsFirstFeed, NoFeed};
 
 use std::simd::prelude::*;
@@ -12,6 +12,9 @@ const LANES: usize = 16;
 
 /// The same, where a text is shorter.
 const FEW_LANES: usize = 8;
+
+/// The same, of a name.
+const NAME_LANES: usize = 4;
 
 /// The lowest bit that is set; `lanes` where none is.
 #[inline(always)]
@@ -114,8 +117,8 @@ fn is_printable_at(line: &[u8], at: usize) -> bool
     ensures { result ≡ is_first (take LANES (drop at line.now)) }
 {
     let bytes = u8x16::from_slice(&line[at..]);
-    bytes.simd_lt(u8x16::splat(0x20)).to_bitmask() == 0
-        && bytes.simd_gt(u8x16::splat(0x7E)).to_bitmask() == 0
+    let wrong = bytes.simd_lt(u8x16::splat(0x20)) | bytes.simd_gt(u8x16::splat(0x7E));
+    wrong.to_bitmask() == 0
 }
 
 /// Whether the `FEW_LANES` bytes from that place on are printable.
@@ -125,8 +128,8 @@ fn are_few_printable_at(line: &[u8], at: usize) -> bool
     ensures { result ≡ is_first (take FEW_LANES (drop at line.now)) }
 {
     let bytes = u8x8::from_slice(&line[at..]);
-    bytes.simd_lt(u8x8::splat(0x20)).to_bitmask() == 0
-        && bytes.simd_gt(u8x8::splat(0x7E)).to_bitmask() == 0
+    let wrong = bytes.simd_lt(u8x8::splat(0x20)) | bytes.simd_gt(u8x8::splat(0x7E));
+    wrong.to_bitmask() == 0
 }
 
 /// Whether all characters are 0x20 to 0x7E, found byte by byte.
@@ -170,4 +173,43 @@ fn are_printable_in_short(line: &[u8]) -> bool
         return false;
     }
     are_few_printable_at(line, line.len() - FEW_LANES)
+}
+
+/// Whether the `NAME_LANES` characters from that place on are A to Z or 0 to 9.
+#[inline(always)]
+fn are_of_names_at(name: &[u8], at: usize) -> bool
+    requires { at + NAME_LANES ≤ length name.now }
+    ensures { result ≡ list_all (λ c. is_capital c || is_digit c) (take NAME_LANES (drop at name.now)) }
+{
+    let bytes = u8x4::from_slice(&name[at..]);
+    let outside = bytes.simd_lt(u8x4::splat(b'0')) | bytes.simd_gt(u8x4::splat(b'Z'));
+    let between = bytes.simd_gt(u8x4::splat(b'9')) & bytes.simd_lt(u8x4::splat(b'A'));
+    (outside | between).to_bitmask() == 0
+}
+
+/// Whether all characters are A to Z or 0 to 9, found one by one.
+#[inline(always)]
+fn are_of_names_by_one(name: &[u8]) -> bool
+    ensures { result ≡ list_all (λ c. is_capital c || is_digit c) name.now }
+{
+    name.iter()
+        .all(|c| c.is_ascii_uppercase() || c.is_ascii_digit())
+}
+
+/// Whether all characters are A to Z or 0 to 9.
+#[inline]
+pub fn are_of_names(name: &[u8]) -> bool
+    ensures { result ≡ list_all (λ c. is_capital c || is_digit c) name.now }
+{
+    if name.len() < NAME_LANES {
+        return are_of_names_by_one(name);
+    }
+    let mut at = 0;
+    while name.len() - at > NAME_LANES {
+        if !are_of_names_at(name, at) {
+            return false;
+        }
+        at += NAME_LANES;
+    }
+    are_of_names_at(name, name.len() - NAME_LANES)
 }

@@ -7,14 +7,7 @@ ghost use Rattle.desk_text.specs.BlockGrammar.{is_capital, is_digit, is_name as 
 ghost use Rattle.desk_text.specs.Written.{is_value as spells_value};
 
 use crate::limits::LONGEST_NAME;
-use crate::scanning::{are_printable, find_feed};
-
-fn are_name_characters(name: &[u8]) -> bool
-    ensures { result ≡ list_all (λ c. is_capital c || is_digit c) name.now }
-{
-    name.iter()
-        .all(|c| c.is_ascii_uppercase() || c.is_ascii_digit())
-}
+use crate::scanning::{are_of_names, are_printable, find_feed};
 
 /// Whether a sequence may have this name: 1 to `LONGEST_NAME` characters A to Z or 0 to 9.
 pub fn is_name(name: &[u8]) -> bool
@@ -26,7 +19,7 @@ pub fn is_name(name: &[u8]) -> bool
     if name.len() > LONGEST_NAME {
         return false;
     }
-    are_name_characters(name)
+    are_of_names(name)
 }
 
 /// Two digits, and at most one letter A to Z.

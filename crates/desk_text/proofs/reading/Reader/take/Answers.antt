@@ -1,13 +1,13 @@
 use Rattle.std.proofs.Common.{rules, ◌≡◌, [], ◌∷◌}
 use Rattle.std.proofs.lemmas.List.{map_push, reverse-reverse}
-use Rattle.std.proofs.lemmas.List.Elements.{same_from_all_zip}
+use Rattle.desk_text.specs.Seen.{texts}
 use Rattle.desk_text.specs.Steps.{open_names, found_by}
 use Rattle.desk_text.proofs.StepLemmas.{field_more, further_more}
 use Rattle.desk_text.proofs.reading.Reader.take.Goals as goal
 
 pub returns-in_ok-push-in-Start : goal.returns-in_ok-push-in-Start
 returns-in_ok-push-in-Start c = λ rest.
-    let path : c.in_ok-path-in-Start.path.items ≡ c.args.self.now.names.items = search (rules, same_from_all_zip) in
+    let path : texts c.in_ok-path-in-Start.path.items ≡ texts c.args.self.now.names.items = search rules in
     let values : c.in_ok-values-in-Start.values.items ≡ c.in-Start.first ∷ [] = search rules in
     let items = c.in_ok-push-in-Start.ensures.items in
     rw (c.in-Start.is, items, map_push, path, values, reverse-reverse) (field_more _ _ _)
