@@ -1,42 +1,14 @@
--- A statement is written with the values of its definition.
+-- A statement is what stands before its rows, these, and what ends it.
 use Rattle.std.proofs.Common.{◌≡◌, ℕ, List, [], ◌∷◌, ◌++◌, codes, ◌∙◌, ap, refl, sym, append_assoc, append-nil}
 use Rattle.std.specs.List.{flat_map}
 use Rattle.std.proofs.lemmas.List.Concat.{flat_map-append}
-use Rattle.desk_codes.specs.Number.{written_number}
 use Rattle.desk_text.specs.Lines.{written}
 use Rattle.desk_text.specs.Written.{Part, open_part, close_part, lines_of_part, first_line}
 use Rattle.desk_text.proofs.WrittenLemmas.{written-append}
-use Rattle.desk_msg.specs.declared.writing.status.Own.TheVariants.{Answer}
 use Rattle.desk_msg.specs.declared.writing.statement_row.StatementRow.{StatementRow}
 use Rattle.desk_msg.specs.declared.writing.holdings.Heading.{Heading}
-use Rattle.desk_msg.specs.Profile.{code_of_kind}
-use Rattle.desk_msg.specs.OwnText.{own_reference}
 use Rattle.desk_msg.specs.HoldingsText.{general_parts, row_parts, holdings, holdings_parts}
-use Rattle.desk_msg.specs.HoldingsPieces.{text_of, general_with, row_with, general_text, front_text, row_text, rest_text, written_by, has_row, added_by}
-
-pub general_written : (h : Heading) (activity own day account flag start new : List ℕ) → own ≡ codes ":SEME//" ++ own_reference (Answer h.entries) → day ≡ codes ":STAT//" ++ h.day → account ≡ codes ":SAFE//" ++ h.account → flag ≡ codes ":ACTI//" ++ activity
-    → start ≡ first_line → new ≡ start ++ text_of (general_with own day account flag) → new ≡ general_text h activity
-unfolding general_text
-general_written h activity own day account flag start new eo ed ea ef es e =
-    e ∙ ap (λ v. v ++ text_of (general_with own day account flag)) es
-    ∙ ap (λ v. first_line ++ text_of (general_with v day account flag)) eo
-    ∙ ap (λ v. first_line ++ text_of (general_with (codes ":SEME//" ++ own_reference (Answer h.entries)) v account flag)) ed
-    ∙ ap (λ v. first_line ++ text_of (general_with (codes ":SEME//" ++ own_reference (Answer h.entries)) (codes ":STAT//" ++ h.day) v flag)) ea
-    ∙ ap (λ v. first_line ++ text_of (general_with (codes ":SEME//" ++ own_reference (Answer h.entries)) (codes ":STAT//" ++ h.day) (codes ":SAFE//" ++ h.account) v)) ef
-
-pub row_written : (row : StatementRow) (security balance out new : List ℕ) → security ≡ codes "ISIN " ++ row.isin → balance ≡ codes ":AGGR//" ++ code_of_kind row.kind ++ 47 ∷ written_number row.quantity 0
-    → new ≡ out ++ text_of (row_with security balance) → new ≡ out ++ row_text row
-unfolding row_text
-row_written row security balance out new es eb e =
-    e ∙ ap (λ v. out ++ text_of (row_with v balance)) es ∙ ap (λ v. out ++ text_of (row_with (codes "ISIN " ++ row.isin) v)) eb
-
-pub front_written : (h : Heading) (start new : List ℕ) → start ≡ general_text h (codes "Y") → new ≡ start ++ text_of (open_part (codes "SUBSAFE") ∷ []) → new ≡ front_text h
-unfolding front_text
-front_written h start new es e = e ∙ ap (λ v. v ++ text_of (open_part (codes "SUBSAFE") ∷ [])) es
-
-pub empty_written : (h : Heading) (start new : List ℕ) → start ≡ general_text h (codes "N") → new ≡ start ++ codes "-}" → new ≡ holdings h.entries h.day h.account []
-unfolding holdings holdings_parts general_text
-empty_written h start new es e = e ∙ ap (λ v. v ++ codes "-}") es
+use Rattle.desk_msg.specs.HoldingsPieces.{text_of, general_text, front_text, row_text, rest_text, written_by, has_row, added_by}
 
 -- the lines of parts, and of more behind them
 pub text_of-append : (a b : List Part) → text_of (a ++ b) ≡ text_of a ++ text_of b

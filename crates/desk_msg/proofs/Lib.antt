@@ -21,3 +21,4 @@ pub mod OneConfirmation
 pub mod HoldingsLemmas
 pub mod TakenRows
 pub mod StatementLaws
+pub mod RowTexts

@@ -26,7 +26,7 @@ activity_right [] = refl
 activity_right (row ∷ rows) = refl
 
 -- the code of how a security is counted, in front of a number
-balance_text : (kind : Kind) (number : List ℕ) → list_all is_printable number ≡ true → list_all is_printable (codes ":AGGR//" ++ code_of_kind kind ++ 47 ∷ number) ≡ true
+pub balance_text : (kind : Kind) (number : List ℕ) → list_all is_printable number ≡ true → list_all is_printable (codes ":AGGR//" ++ code_of_kind kind ++ 47 ∷ number) ≡ true
 balance_text Units number p = p
 balance_text FaceAmount number p = p
 

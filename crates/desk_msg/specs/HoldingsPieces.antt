@@ -31,11 +31,6 @@ general_with own day account activity =
     ∷ close_part (codes "GENL")
     ∷ []
 
--- a row, by the values of its fields
-abbrev pub row_with : (security balance : List ℕ) → List Part
-row_with security balance =
-    open_part (codes "FIN") ∷ field_part (codes "35B") security ∷ field_part (codes "93B") balance ∷ close_part (codes "FIN") ∷ []
-
 -- the first line, and what is said of the statement itself
 unfoldable pub general_text : Heading → List ℕ → List ℕ
 general_text h activity = first_line ++ text_of (general_parts h.entries h.day h.account activity)

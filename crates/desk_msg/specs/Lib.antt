@@ -17,4 +17,5 @@ pub mod ConfirmationParts
 pub mod ConfirmationPieces
 pub mod HoldingsText
 pub mod HoldingsPieces
+pub mod RowPieces
 pub mod TookRows

@@ -5,8 +5,8 @@
 //! Fields read as one message or have one fault, and never both (`one_reading`). An `Instruction` or a `CancelOrder`
 //! keeps the conditions of the profile in its type, so that nothing above tests them again. `fields_text`,
 //! `refusal_text`, `status_text`, `confirmation_text` and `holdings_text` each write one defined text; an advice, a
-//! confirmation and a statement of holdings are tables of parts, and so blocks whose fields are known. A `HoldingsWriter`
-//! writes a statement row by row, to any `Sink`. `read_confirmation` reads what a block confirms, and each confirmation
+//! confirmation and a statement of holdings are defined as parts, and so are blocks whose fields are known. A
+//! `HoldingsWriter` writes a statement row by row, to any `Sink`. `read_confirmation` reads what a block confirms, and each confirmation
 //! that is written is read back as what was settled.
 //!
 //! Begin with specs/Profile.antt (the used fields as a table, and what their values say) and specs/Reads.antt (which

@@ -1,7 +1,6 @@
 //! The confirmation of a settlement, MT544 to MT547, as it is written.
-ghost use Rattle.std.specs.Prelude.{◌≡◌, ◌<◌, ◌≤◌, ◌^◌, ◌++◌, List, IfOk, codes, if◌then◌else◌, Ok};
+ghost use Rattle.std.specs.Prelude.{◌≡◌, ◌<◌, ◌^◌, ◌++◌, List, IfOk, codes, if◌then◌else◌, Ok};
 ghost use Rattle.std.specs.Option.{ForSome};
-ghost use Rattle.desk_codes.specs.Number.{written_number};
 ghost use Rattle.desk_text.specs.Fields.{Found, IsBlock};
 ghost use Rattle.desk_msg.specs.MessageType.{is_delivery};
 ghost use Rattle.desk_msg.specs.Profile.{code_of_kind};
@@ -11,9 +10,10 @@ ghost use Rattle.desk_msg.specs.HoldingsPieces.{text_of};
 ghost use Rattle.desk_msg.specs.Confirms.{Confirms, confirmed_of};
 
 use crate::instruction::{Instruction, Kind};
+use crate::writing::digits::number_text;
 use crate::writing::pieces::joined;
 use crate::writing::status::{Own, own_value};
-use desk_codes::{Day, write_number};
+use desk_codes::Day;
 use std::alloc::{AllocError, Global};
 
 /// What a confirmation's fields say, but the amount's; of the quantity and of the counterparty also what their values
@@ -78,15 +78,6 @@ fn write_confirmation(
             b":16S:SETDET\r\n-}",
         ],
     )
-}
-
-/// A number in units of so many decimals, as it is written.
-fn number_text(alloc: Global, number: u64, decimals: usize) -> Result<Vec<u8>, AllocError>
-    requires { decimals ≤ 3 }
-    ensures value { IfOk result (λ text. text.items ≡ written_number number decimals) }
-    ensures fits { number < 2 ^ 64 }
-{
-    write_number(alloc, number, decimals)
 }
 
 /// What the value of the quantity begins with.

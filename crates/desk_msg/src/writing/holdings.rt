@@ -1,21 +1,23 @@
 //! The statement of holdings, MT535, written row by row.
-ghost use Rattle.std.specs.Prelude.{◌≡◌, ◌<◌, ◌^◌, ◌++◌, ◌∷◌, [], true, false, Err, IfOk, OnOk, OnErr, codes, if◌then◌else◌};
-ghost use Rattle.std.specs.Str.{byte};
+ghost use Rattle.std.specs.Prelude.{◌≡◌, ◌<◌, ◌^◌, ◌++◌, true, false, Err, IfOk, OnOk, codes};
 ghost use Rattle.std.specs.Io.KnownBytes.{Appends};
-ghost use Rattle.desk_codes.specs.Number.{written_number};
-ghost use Rattle.desk_text.specs.Written.{open_part, close_part};
+ghost use Rattle.desk_codes.specs.Account.{IsAccount};
+ghost use Rattle.desk_codes.specs.CheckDigit.{IsIsin};
+ghost use Rattle.desk_codes.specs.Day.{IsDay};
+ghost use Rattle.desk_msg.specs.OwnText.{own_reference};
 ghost use Rattle.desk_msg.specs.Profile.{code_of_kind};
 ghost use Rattle.desk_msg.specs.HoldingsText.{holdings};
 ghost use Rattle.desk_msg.specs.TookRows.{TookAll};
-ghost use Rattle.desk_msg.specs.HoldingsPieces.{text_of, general_with, row_with, general_text, front_text, row_text, added_by, rest_text, TakesRow};
+ghost use Rattle.desk_msg.specs.HoldingsPieces.{added_by, rest_text, TakesRow};
+ghost use Rattle.desk_msg.specs.RowPieces.{pieces_text, row_behind, general_before};
 
 use crate::instruction::Kind;
-use crate::writing::pieces::value_of;
+use crate::writing::digits::number_text;
+use crate::writing::pieces::joined;
 use crate::writing::statement_row::{RowSink, SinkFault, StatementRow};
 use crate::writing::status::{Own, own_value};
-use desk_codes::{AccountId, Day, write_number};
+use desk_codes::{AccountId, Day};
 use desk_streams::Sink;
-use desk_text::{BlockPart, FIRST_LINE, LAST_LINE, append_parts};
 use std::alloc::{AllocError, Global};
 
 /// What a statement says of itself.
@@ -27,103 +29,110 @@ struct Heading {
     account: AccountId,
 }
 
-/// Adds what a statement says of itself, with these values.
-fn append_general<'a>(
-    out: &mut Vec<u8>,
-    own: &'a [u8],
-    day: &'a [u8],
-    account: &'a [u8],
-    activity: &'a [u8],
-) -> Result<(), AllocError>
-    ensures { OnOk result (out.new.items ≡ out.old.items ++ text_of (general_with own.now day.now account.now activity.now)) }
+/// What stands behind the account in a statement, or a row alone, in pieces.
+#[derive(Clone, Copy)]
+struct RowPieces<'a> {
+    front: &'a [u8],
+    security: &'a [u8],
+    balance_begins: &'a [u8],
+    quantity: &'a [u8],
+    end: &'a [u8],
+}
+
+/// What the line of a row's balance begins with, behind the line in front of it.
+fn balance_begins<'a>(kind: Kind) -> &'a [u8]
+    ensures { result.now ≡ codes "\r\n:93B::AGGR//" ++ (code_of_kind kind ++ codes "/") }
 {
-    append_parts(
-        out,
+    match kind {
+        Kind::Unit => b"\r\n:93B::AGGR//UNIT/",
+        Kind::FaceAmount => b"\r\n:93B::AGGR//FAMT/",
+    }
+}
+
+/// A row, with this text in front of its security.
+fn row_pieces<'a>(front: &'a [u8], row: &'a StatementRow, quantity: &'a [u8]) -> RowPieces<'a>
+    ensures text { pieces_text result ≡ row_behind front.now row.now.isin row.now.kind quantity.now }
+    ensures isin { IsIsin row.now.isin }
+{
+    RowPieces {
+        front,
+        security: row.isin.as_bytes(),
+        balance_begins: balance_begins(row.kind),
+        quantity,
+        end: b"\r\n:16S:FIN\r\n",
+    }
+}
+
+/// Text in one piece.
+fn one_piece(front: &[u8]) -> RowPieces<'_>
+    ensures { pieces_text result ≡ front.now }
+{
+    RowPieces {
+        front,
+        security: b"",
+        balance_begins: b"",
+        quantity: b"",
+        end: b"",
+    }
+}
+
+/// What these pieces are.
+fn write_pieces(alloc: Global, pieces: &RowPieces<'_>) -> Result<Vec<u8>, AllocError>
+    ensures { IfOk result (λ text. text.items ≡ pieces_text pieces.now) }
+{
+    joined(
+        alloc,
         &[
-            BlockPart::Open(b"GENL"),
-            BlockPart::Field(b"28E", b"1/ONLY"),
-            BlockPart::Field(b"20C", own),
-            BlockPart::Field(b"23G", b"NEWM"),
-            BlockPart::Field(b"98A", day),
-            BlockPart::Field(b"22F", b":SFRE//ADHO"),
-            BlockPart::Field(b"22F", b":CODE//COMP"),
-            BlockPart::Field(b"22F", b":STTY//CUST"),
-            BlockPart::Field(b"22F", b":STBA//SETT"),
-            BlockPart::Field(b"97A", account),
-            BlockPart::Field(b"17B", activity),
-            BlockPart::Field(b"17B", b":CONS//N"),
-            BlockPart::Close(b"GENL"),
+            pieces.front,
+            pieces.security,
+            pieces.balance_begins,
+            pieces.quantity,
+            pieces.end,
         ],
     )
 }
 
-/// The value of the activity flag.
-fn activity_value(has_rows: bool) -> &'static [u8]
-    ensures { result.now ≡ codes ":ACTI//" ++ (if has_rows then codes "Y" else codes "N") }
+/// A statement as far as its account, and these pieces behind it.
+fn write_behind(
+    alloc: Global,
+    own: &[u8],
+    day: &[u8],
+    account: &[u8],
+    pieces: &RowPieces<'_>,
+) -> Result<Vec<u8>, AllocError>
+    ensures { IfOk result (λ text. text.items ≡ general_before own.now day.now account.now (pieces_text pieces.now)) }
 {
-    if has_rows { b":ACTI//Y" } else { b":ACTI//N" }
+    joined(
+        alloc,
+        &[
+            b"{4:\r\n:16R:GENL\r\n:28E:1/ONLY\r\n:20C:",
+            own,
+            b"\r\n:23G:NEWM\r\n:98A::STAT//",
+            day,
+            b"\r\n:22F::SFRE//ADHO\r\n:22F::CODE//COMP\r\n:22F::STTY//CUST\r\n:22F::STBA//SETT\r\n:97A::SAFE//",
+            account,
+            pieces.front,
+            pieces.security,
+            pieces.balance_begins,
+            pieces.quantity,
+            pieces.end,
+        ],
+    )
 }
 
-/// The first line, and what a statement says of itself.
-fn write_general(alloc: Global, heading: &Heading, has_rows: bool) -> Result<Vec<u8>, AllocError>
-    ensures { IfOk result (λ text. text.items ≡ general_text heading.now (if has_rows then codes "Y" else codes "N")) }
+/// What a statement says of itself as far as its account, and these pieces behind it.
+fn write_general(
+    alloc: Global,
+    heading: &Heading,
+    pieces: &RowPieces<'_>,
+) -> Result<Vec<u8>, AllocError>
+    ensures text { IfOk result (λ text. text.items ≡ general_before (codes ":SEME//" ++ own_reference (Own.Answer heading.now.entries)) heading.now.day heading.now.account (pieces_text pieces.now)) }
+    ensures day { IsDay heading.now.day }
+    ensures account { IsAccount heading.now.account }
 {
     let own = own_value(Own::Answer(heading.entries));
-    let day = value_of(alloc, b":STAT//", &heading.day.write())?;
-    let account = value_of(alloc, b":SAFE//", heading.account.as_bytes())?;
-    let activity = activity_value(has_rows);
-    let mut text = Vec::from_slice(alloc, FIRST_LINE)?;
-    append_general(&mut text, &own, &day, &account, activity)?;
-    Ok(text)
-}
-
-/// The value of a row's balance.
-fn balance_value(alloc: Global, kind: Kind, quantity: u64) -> Result<Vec<u8>, AllocError>
-    ensures { IfOk result (λ value. value.items ≡ codes ":AGGR//" ++ code_of_kind kind ++ byte "/" ∷ written_number quantity 0) }
-{
-    let begins: &[u8] = match kind {
-        Kind::Unit => b":AGGR//UNIT/",
-        Kind::FaceAmount => b":AGGR//FAMT/",
-    };
-    let number = write_number(alloc, quantity, 0)?;
-    value_of(alloc, begins, &number)
-}
-
-/// Adds the lines of a row with these values.
-fn append_balance<'a>(
-    out: &mut Vec<u8>,
-    security: &'a [u8],
-    balance: &'a [u8],
-) -> Result<(), AllocError>
-    ensures { OnOk result (out.new.items ≡ out.old.items ++ text_of (row_with security.now balance.now)) }
-{
-    append_parts(
-        out,
-        &[
-            BlockPart::Open(b"FIN"),
-            BlockPart::Field(b"35B", security),
-            BlockPart::Field(b"93B", balance),
-            BlockPart::Close(b"FIN"),
-        ],
-    )
-}
-
-/// Adds the lines of a row.
-fn append_row(alloc: Global, out: &mut Vec<u8>, row: StatementRow) -> Result<(), AllocError>
-    ensures { OnOk result (out.new.items ≡ out.old.items ++ row_text row) }
-{
-    let security = value_of(alloc, b"ISIN ", row.isin.as_bytes())?;
-    let balance = balance_value(alloc, row.kind, row.quantity)?;
-    append_balance(out, &security, &balance)
-}
-
-/// What stands before the first row.
-fn write_front(alloc: Global, heading: &Heading) -> Result<Vec<u8>, AllocError>
-    ensures { IfOk result (λ text. text.items ≡ front_text heading.now) }
-{
-    let mut text = write_general(alloc, heading, true)?;
-    append_parts(&mut text, &[BlockPart::Open(b"SUBSAFE")])?;
-    Ok(text)
+    let day = heading.day.write();
+    write_behind(alloc, &own, &day, heading.account.as_bytes(), pieces)
 }
 
 /// What a row adds to a statement.
@@ -135,35 +144,26 @@ fn write_row(
 ) -> Result<Vec<u8>, AllocError>
     ensures { IfOk result (λ text. text.items ≡ added_by heading.now is_begun row) }
 {
-    let mut text = if is_begun {
-        Vec::new(alloc)
-    } else {
-        write_front(alloc, heading)?
-    };
-    append_row(alloc, &mut text, row)?;
-    Ok(text)
-}
-
-/// A statement without a row.
-fn write_empty(alloc: Global, heading: &Heading) -> Result<Vec<u8>, AllocError>
-    ensures { IfOk result (λ text. text.items ≡ holdings heading.now.entries heading.now.day heading.now.account []) }
-{
-    let mut text = write_general(alloc, heading, false)?;
-    text.extend_from_slice(LAST_LINE)?;
-    Ok(text)
+    let quantity = number_text(alloc, row.quantity, 0)?;
+    if is_begun {
+        let pieces = row_pieces(b":16R:FIN\r\n:35B:ISIN ", &row, &quantity);
+        return write_pieces(alloc, &pieces);
+    }
+    let front =
+        b"\r\n:17B::ACTI//Y\r\n:17B::CONS//N\r\n:16S:GENL\r\n:16R:SUBSAFE\r\n:16R:FIN\r\n:35B:ISIN ";
+    let pieces = row_pieces(front, &row, &quantity);
+    write_general(alloc, heading, &pieces)
 }
 
 /// What ends a statement; without a row it is the whole of it.
 fn write_rest(alloc: Global, heading: &Heading, is_begun: bool) -> Result<Vec<u8>, AllocError>
     ensures { IfOk result (λ text. text.items ≡ rest_text heading.now is_begun) }
 {
-    if !is_begun {
-        return write_empty(alloc, heading);
+    if is_begun {
+        return Vec::from_slice(alloc, b":16S:SUBSAFE\r\n-}");
     }
-    let mut text = Vec::new(alloc);
-    append_parts(&mut text, &[BlockPart::Close(b"SUBSAFE")])?;
-    text.extend_from_slice(LAST_LINE)?;
-    Ok(text)
+    let pieces = one_piece(b"\r\n:17B::ACTI//N\r\n:17B::CONS//N\r\n:16S:GENL\r\n-}");
+    write_general(alloc, heading, &pieces)
 }
 
 /// A statement of holdings on its way to a writer. Its rows are taken one by one, and each is written at once, so that no

@@ -1,18 +1,8 @@
 //! Texts out of pieces.
-ghost use Rattle.std.specs.Prelude.{◌≡◌, ◌++◌, IfOk};
+ghost use Rattle.std.specs.Prelude.{◌≡◌, IfOk};
 ghost use Rattle.std.specs.List.{flat_map};
 
 use std::alloc::{AllocError, Global};
-
-/// A value: what it begins with, and the text behind it.
-pub fn value_of(alloc: Global, begins: &[u8], text: &[u8]) -> Result<Vec<u8>, AllocError>
-    ensures { IfOk result (λ value. value.items ≡ begins.now ++ text.now) }
-{
-    let mut value = Vec::with_capacity(alloc, begins.len().saturating_add(text.len()))?;
-    value.extend_from_slice(begins)?;
-    value.extend_from_slice(text)?;
-    Ok(value)
-}
 
 /// How many bytes pieces have together.
 fn room_of(pieces: &[&[u8]]) -> usize {
