@@ -6,8 +6,8 @@
 //! keeps the conditions of the profile in its type, so that nothing above tests them again. `fields_text`,
 //! `refusal_text`, `status_text`, `confirmation_text` and `holdings_text` each write one defined text; an advice, a
 //! confirmation and a statement of holdings are defined as parts, and so are blocks whose fields are known. A
-//! `HoldingsWriter` writes a statement row by row, to any `Sink`. `read_confirmation` reads what a block confirms, and each confirmation
-//! that is written is read back as what was settled.
+//! `HoldingsWriter` writes a statement row by row, to any `Sink`. `read_confirmation` reads what a block confirms, and
+//! each confirmation that is written is read back as what was settled.
 //!
 //! Begin with specs/Profile.antt (the used fields as a table, and what their values say) and specs/Reads.antt (which
 //! fields read as which message), which src/reading/profile.rt and src/reading/value.rt follow; then
