@@ -1,5 +1,5 @@
 -- Changes that are kept for good, and balances of 0 that are taken out.
-use Rattle.std.proofs.Common.{◌≡◌, ℕ, Bool, true, false, List, [], ◌∷◌, ◌++◌, Option, Some, None, refl, ap, sym, ◌∙◌}
+use Rattle.std.proofs.Common.{◌≡◌, ◌≢◌, ℕ, Bool, true, false, List, [], ◌∷◌, ◌++◌, Option, Some, None, refl, ap, sym, ◌∙◌}
 use Rattle.std.specs.Prelude.{◌||◌}
 use Rattle.std.specs.List.{list_any}
 use Rattle.std.proofs.lemmas.Bool.{or_parts}
@@ -8,7 +8,7 @@ use Rattle.desk_register.proofs.CaseLemmas.{by_bool}
 use Rattle.desk_lists.specs.declared.balance_key.BalanceKey.{BalanceKey}
 use Rattle.desk_lists.specs.declared.lists.Change.{Change}
 use Rattle.desk_lists.specs.declared.lists.Change.TheVariants.{Appended, Moved, Sent as SentChange, Stood}
-use Rattle.desk_lists.specs.BalanceKeys.{HasNoNought, is_key, put_back}
+use Rattle.desk_lists.specs.BalanceKeys.{HasNoNought, is_key, put_back, with_record, without_nought}
 use Rattle.desk_lists.specs.Lists.{Listed, balance_in, content_in, standing_in, undo, undone}
 use Rattle.desk_lists.specs.Moves.{SameEntries, kept_for_good}
 use Rattle.desk_lists.proofs.AppendLemmas.{content_by_parts}
@@ -51,6 +51,18 @@ all_moved l changes lean = record {
 
 pub none_moved : (l : Listed) (changes : List Change) → changes ≡ [] → NoughtsAreMoved l changes → HasNoNought l.balances
 none_moved l changes none all = record { each = λ k e. (let bad : is_moved [] k ≡ true = ap (λ z. is_moved z k) (sym none) ∙ all.each k e in absurd (cc)) }
+
+-- none is recorded as 0 once one is recorded that is not, or one is taken out
+
+pub lean_recorded : (balances : BalanceKey → Option ℕ) (key : BalanceKey) (amount : ℕ) → amount ≢ 0 → HasNoNought balances → HasNoNought (with_record balances key (Some amount))
+lean_recorded balances key amount some lean = record {
+  each = λ k e. by_bool (is_key key k)
+      (λ t. let same : Some amount ≡ Some 0 = rw t at e in some (cc))
+      (λ f. lean.each k (rw f at e));
+}
+
+pub lean_without : (balances : BalanceKey → Option ℕ) (key : BalanceKey) → HasNoNought balances → HasNoNought (without_nought balances key)
+lean_without balances key lean = record { each = λ k e. lean.each k (nought_before balances key k e).1 }
 
 -- one change kept
 

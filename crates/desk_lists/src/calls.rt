@@ -43,6 +43,7 @@ impl ListRegister {
                 standings: Vec::new(alloc),
                 balances: BTreeMap::new(alloc),
                 sent: Vec::new(alloc),
+                may_have_nought: false,
             },
             changes: Vec::new(alloc),
             stage: Stage::Idle,

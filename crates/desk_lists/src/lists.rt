@@ -1,7 +1,7 @@
 //! The lists of a list register, and its changes that can be undone.
-ghost use Rattle.std.specs.Prelude.{◌≡◌, length};
+ghost use Rattle.std.specs.Prelude.{◌≡◌, false, length};
 ghost use Rattle.std.specs.BTreeMap.{get};
-ghost use Rattle.desk_lists.specs.BalanceKeys.{balance_cmp, HasNoneBelow};
+ghost use Rattle.desk_lists.specs.BalanceKeys.{balance_cmp, HasNoNought, HasNoneBelow};
 
 use crate::balance_key::BalanceKey;
 use desk_rules::{Kept, Sent, Standing};
@@ -27,6 +27,9 @@ pub struct Lists {
     pub standings: Vec<Standing>,
     pub balances: BTreeMap<BalanceKey, u64>,
     pub sent: Vec<Sent>,
+    /// Whether a balance may be recorded as 0
+    pub may_have_nought: bool,
     ghost standing_each: { length standings.items ≡ length kept.items },
     ghost floored: { HasNoneBelow (get balance_cmp balances) },
+    ghost lean: { may_have_nought ≡ false → HasNoNought (get balance_cmp balances) },
 }

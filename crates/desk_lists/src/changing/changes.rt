@@ -7,7 +7,7 @@ ghost use Rattle.desk_lists.specs.Moves.{kept_for_good, SameEntries};
 
 use crate::balance_key::BalanceKey;
 use crate::changing::recording;
-use crate::changing::shift::Shift;
+use crate::changing::shift::{Shift, shifted};
 use crate::lists::{Change, Lists};
 use desk_rules::{Kept, Sent, Standing};
 use std::alloc::AllocError;
@@ -30,7 +30,10 @@ impl Lists {
             Change::Sent => {
                 let _ = self.sent.pop();
             }
-            Change::Moved { key, was } => recording::put_back(&mut self.balances, &key, was),
+            Change::Moved { key, was } => {
+                self.may_have_nought = true;
+                recording::put_back(&mut self.balances, &key, was);
+            }
         }
     }
 
@@ -50,7 +53,11 @@ impl Lists {
         ensures was { IfOk result (λ was. was ≡ (listed self.old).balances key.now) }
         ensures err { OnErr result (listed self.new ≡ listed self.old) }
     {
-        recording::record(&mut self.balances, key, shift)
+        let was = recording::record(&mut self.balances, key, shift)?;
+        if shifted(was.unwrap_or(0), shift) == 0 {
+            self.may_have_nought = true;
+        }
+        Ok(was)
     }
 }
 
@@ -66,6 +73,22 @@ pub fn undo_all(lists: &mut Lists, changes: &mut Vec<Change>)
 
 /// Keeps all of these changes for good, and takes out the balances that they left at 0. No memory is taken.
 pub fn keep_all(lists: &mut Lists, changes: &mut Vec<Change>)
+    requires { HasNoNought (undone changes.old.items (listed lists.old)).balances }
+    ensures amounts { balance_in (listed lists.new) ≡ balance_in (listed lists.old) }
+    ensures rest { SameEntries (listed lists.old) (listed lists.new) }
+    ensures lean { HasNoNought (listed lists.new).balances }
+    ensures none { changes.new.items ≡ [] }
+{
+    if !lists.may_have_nought {
+        changes.truncate(0);
+        return;
+    }
+    keep_each(lists, changes);
+    lists.may_have_nought = false;
+}
+
+/// Keeps each of these changes for good, and takes out the balance that it moved where that is 0.
+fn keep_each(lists: &mut Lists, changes: &mut Vec<Change>)
     ensures amounts { balance_in (listed lists.new) ≡ balance_in (listed lists.old) }
     ensures rest { SameEntries (listed lists.old) (listed lists.new) }
     ensures lean { HasNoNought (undone changes.old.items (listed lists.old)).balances → HasNoNought (listed lists.new).balances }

@@ -1,6 +1,11 @@
-use Rattle.std.proofs.Common.{ap}
+use Rattle.std.proofs.Common.{ap, sym, subst}
+use Rattle.desk_lists.specs.BalanceKeys.{HasNoNought}
 use Rattle.desk_lists.specs.Lists.{listed}
+use Rattle.desk_lists.proofs.KeepLemmas.{lean_without}
 use Rattle.desk_lists.proofs.lists.Lists.keep.Goals as goal
 
 pub returns-in-Moved : goal.returns-in-Moved
 returns-in-Moved c = rw c.in-Moved.is (ap (λ z. record (listed c.args.self.now) { balances = z }) c.drop_nought.ensures.dropped)
+
+pub invariant_of-self-clause-lean : goal.invariant_of-self-clause-lean
+invariant_of-self-clause-lean c = λ none. subst HasNoNought (sym c.drop_nought.ensures.dropped) (lean_without (listed c.args.self.now).balances c.in-Moved.key (c.args.self.now.lean none))

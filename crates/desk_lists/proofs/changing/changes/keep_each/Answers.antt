@@ -2,7 +2,7 @@ use Rattle.std.proofs.Common.{◌≡◌, ◌++◌, ◌∷◌, [], ap, refl, sym,
 use Rattle.desk_lists.specs.Lists.{balance_in, listed}
 use Rattle.desk_lists.proofs.KeepLemmas.{NoughtsAreMoved, all_moved, kept_amounts, kept_entries, kept_noughts}
 use Rattle.desk_lists.specs.Moves.{SameEntries}
-use Rattle.desk_lists.proofs.changing.changes.keep_all.Goals as goal
+use Rattle.desk_lists.proofs.changing.changes.keep_each.Goals as goal
 
 pub loop-change-init : goal.loop-change-init
 loop-change-init c = (refl, record { kept = refl; standings = refl; sent = refl }, all_moved (listed c.args.lists.now) c.args.changes.now.items)

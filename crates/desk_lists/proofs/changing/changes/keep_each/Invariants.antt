@@ -3,7 +3,7 @@ use Rattle.desk_lists.specs.BalanceKeys.{HasNoNought}
 use Rattle.desk_lists.specs.Lists.{balance_in, listed, undone}
 use Rattle.desk_lists.specs.Moves.{SameEntries}
 use Rattle.desk_lists.proofs.KeepLemmas.{NoughtsAreMoved}
-use Rattle.desk_lists.proofs.changing.changes.keep_all.Given as goal
+use Rattle.desk_lists.proofs.changing.changes.keep_each.Given as goal
 
 abbrev pub invariant-loop-change : goal.invariant-loop-change
 invariant-loop-change l =
