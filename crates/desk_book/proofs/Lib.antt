@@ -11,6 +11,7 @@ pub mod LineLemmas
 pub mod FormLemmas
 pub mod ScriptLemmas
 pub mod StopLemmas
+pub mod UsualLemmas
 pub mod ExactLemmas
 pub mod CommandLemmas
 pub mod RowLemmas

@@ -18,6 +18,7 @@ pub mod Statement
 pub mod Sums
 pub mod Task
 pub mod Totals
+pub mod Usual
 pub mod Waiting
 pub mod WrittenAnswers
 pub mod WrittenTo

@@ -7,3 +7,4 @@ pub mod operation;
 pub mod question;
 pub mod script;
 pub mod task;
+pub mod usual;

@@ -13,12 +13,13 @@ use crate::requests::member::{member_count, text};
 use crate::requests::operation::{
     account, issue, participant, pay_in, pay_out, redeem, run, security,
 };
+use crate::requests::usual::usual_command;
 use desk_rules::Entry;
 use desk_text::LONGEST_TEXT;
 use serde_json::Value;
 use std::alloc::{AllocError, Global};
 
-/// The command that the bytes spell; None where they spell none.
+/// The command that the bytes spell; None where they spell none. What has not the usual form is read as JSON.
 pub fn read_command(alloc: Global, bytes: &[u8]) -> Result<Option<Entry>, AllocError>
     ensures read { IfOk result (λ found. IfSome found (λ entry. SpellsCommand bytes.now entry)) }
     ensures refused { IfOk result (λ found. IfNone found ((entry : EntryValue)
@@ -27,6 +28,9 @@ pub fn read_command(alloc: Global, bytes: &[u8]) -> Result<Option<Entry>, AllocE
 {
     if bytes.len() > LONGEST_TEXT {
         return Ok(None);
+    }
+    if let Some(entry) = usual_command(bytes) {
+        return Ok(Some(entry));
     }
     match Value::from_slice(alloc, bytes) {
         Ok(value) => Ok(command_of(&value)),

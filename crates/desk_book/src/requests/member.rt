@@ -1,5 +1,5 @@
 //! The members of a command's object, each read as what it must be.
-ghost use Rattle.std.specs.Prelude.{◌≡◌, ℕ, ◌<◌, ◌≤◌, List, Some, codes, IfSome, IfNone, OnSome, option_map};
+ghost use Rattle.std.specs.Prelude.{◌≡◌, ◌↔◌, IsSome, ℕ, ◌<◌, ◌≤◌, List, Some, codes, IfSome, IfNone, OnSome, option_map};
 ghost use Rattle.serde_json.specs.Events.{members_len};
 ghost use Rattle.serde_json.specs.Find.{as_object};
 ghost use Rattle.serde_json.specs.View.{view};
@@ -105,8 +105,15 @@ pub fn day_in(value: &Value) -> Option<Day>
     ensures none { IfNone result ((day : List ℕ) → IsDay day
         → ¬ (text_at (codes "day") (view value.now) ≡ Some day)) }
 {
+    day_of(text(value, "day")?.as_bytes())
+}
+
+/// The day that a text of eight digits names.
+pub fn day_of(text: &[u8]) -> Option<Day>
+    ensures found { IsSome result ↔ IsDay text.now }
+    ensures value { IfSome result (λ day. day ≡ text.now) }
+{
     let mut digits = [0; 8];
-    let text = text(value, "day")?.as_bytes();
     if text.len() != digits.len() {
         return None;
     }
