@@ -1,6 +1,6 @@
 -- Commands in the form in which most are written: no white space, first `op` and `ref`, nothing escaped. Only proofs and
 -- private contracts speak of it.
-use Rattle.std.specs.Prelude.{◌≡◌, ◌≢◌, ◌≤◌, ℕ, List, ◌∷◌, ◌++◌, Some, codes}
+use Rattle.std.specs.Prelude.{◌≡◌, ◌≢◌, ◌≤◌, ℕ, List, [], ◌∷◌, ◌++◌, Some, codes}
 use Rattle.std.specs.Str.{byte}
 use Rattle.serde_json.specs.Data.{Data}
 use Rattle.serde_json.specs.Read.{read}
@@ -19,8 +19,13 @@ quoted_before text rest = text ++ byte "\"" ∷ rest
 abbrev pub command_text : List ℕ → List ℕ → List ℕ → List ℕ
 command_text op reference rest = codes "{\"op\":\"" ++ quoted_before op (codes ",\"ref\":\"" ++ quoted_before reference rest)
 
+-- the bytes are JSON of this value, also with a line feed behind them
+pub record ReadsAs (bytes : List ℕ) (value : Data) : Type 0 where
+  pub alone : read bytes ≡ Some value
+  pub ended : read (bytes ++ byte "\n" ∷ []) ≡ Some value
+
 -- the bytes are JSON whose value spells the entry
 pub record IsSpelled (bytes : List ℕ) (entry : Entry) : Type 0 where
   pub value : Data
-  pub reads : read bytes ≡ Some value
+  pub reads : ReadsAs bytes value
   pub command : IsCommand value entry

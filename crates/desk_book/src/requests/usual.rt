@@ -1,14 +1,14 @@
 //! Operator's commands in the form in which most are written: as JSON without white space, with `op` and `ref` first and
-//! the other members of the operation behind them in the order that is told there, and with no character escaped. They are
-//! read straight from the bytes, with no memory taken; what has another form is not read here.
-ghost use Rattle.std.specs.Prelude.{◌≡◌, ◌≤◌, ℕ, List, ◌++◌, Some, All, codes, decimal, length, IfSome};
-ghost use Rattle.serde_json.specs.Read.{read};
+//! the other members of the operation behind them in the order that is told there, and with no character escaped; a line feed
+//! may stand behind it, as in a script. They are read straight from the bytes, with no memory taken; what has another form is
+//! not read here.
+ghost use Rattle.std.specs.Prelude.{◌≡◌, ◌≤◌, ℕ, List, ◌++◌, All, codes, decimal, length, IfSome};
 ghost use Rattle.desk_codes.specs.Currency.{letters_of};
 ghost use Rattle.desk_codes.specs.Reference.{IsReference};
 ghost use Rattle.desk_rules.specs.WellFormed.{IsMovement};
 ghost use Rattle.desk_book.specs.Command.{SpellsCommand, movement_object, payment_object};
 ghost use Rattle.desk_book.specs.Forms.{SpellsBic};
-ghost use Rattle.desk_book.specs.Usual.{IsSpelled, StandsForItself, command_text, quoted_before};
+ghost use Rattle.desk_book.specs.Usual.{IsSpelled, ReadsAs, StandsForItself, command_text, quoted_before};
 
 use crate::limits::LONGEST_NUMBER;
 use crate::requests::form::{number_of, party};
@@ -22,7 +22,7 @@ use itoa::Buffer;
 /// What stands behind the last member.
 const END: &[u8] = b"}";
 
-/// The command that the bytes spell in this form. None says nothing of them.
+/// The command that the bytes spell in this form, with a line feed behind it or without. None says nothing of them.
 pub fn usual_command(bytes: &[u8]) -> Option<Entry>
     requires { length bytes.now ≤ LONGEST_TEXT }
     ensures { IfSome result (λ entry. SpellsCommand bytes.now entry) }
@@ -30,7 +30,17 @@ pub fn usual_command(bytes: &[u8]) -> Option<Entry>
     if !bytes.is_ascii() {
         return None;
     }
-    let (op, behind) = text_behind(bytes, b"{\"op\":\"")?;
+    match bytes.strip_suffix(b"\n") {
+        Some(said) => spelled(said),
+        None => spelled(bytes),
+    }
+}
+
+/// The command that a text spells in this form.
+fn spelled(said: &[u8]) -> Option<Entry>
+    ensures { IfSome result (λ entry. IsSpelled said.now entry) }
+{
+    let (op, behind) = text_behind(said, b"{\"op\":\"")?;
     let (name, rest) = text_behind(behind, b",\"ref\":\"")?;
     let reference = Reference::read(name)?;
     operation(op, reference, rest)
@@ -134,8 +144,8 @@ fn movement(op: &[u8], reference: Reference, rest: &[u8]) -> Option<Movement>
     requires plain { All StandsForItself reference }
     requires reference { IsReference reference }
     ensures read { IfSome result (λ movement. IsMovement movement) }
-    ensures object { IfSome result (λ movement. read (command_text op.now reference rest.now)
-        ≡ Some (movement_object op.now movement.reference movement.account movement.isin movement.quantity)) }
+    ensures object { IfSome result (λ movement. ReadsAs (command_text op.now reference rest.now)
+        (movement_object op.now movement.reference movement.account movement.isin movement.quantity)) }
 {
     let (id, behind) = text_behind(rest, b",\"account\":\"")?;
     let (code, end) = text_behind(behind, b",\"isin\":\"")?;
@@ -162,7 +172,7 @@ fn payment(op: &[u8], reference: Reference, rest: &[u8]) -> Option<Payment>
     requires reference { IsReference reference }
     ensures read { IfSome result (λ payment. IsReference payment.reference) }
     ensures object { IfSome result (λ payment. (name : List ℕ) × SpellsBic name payment.bic
-        × (read (command_text op.now reference rest.now) ≡ Some (payment_object op.now payment.reference name (letters_of payment.ccy) payment.amount))) }
+        × ReadsAs (command_text op.now reference rest.now) (payment_object op.now payment.reference name (letters_of payment.ccy) payment.amount)) }
 {
     let (name, behind) = text_behind(rest, b",\"bic\":\"")?;
     let (letters, end) = text_behind(behind, b",\"ccy\":\"")?;
