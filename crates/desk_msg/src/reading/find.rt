@@ -40,7 +40,6 @@ fn value_begins(field: &Field, begins: &[u8]) -> bool
 }
 
 /// Whether a tag is these three characters.
-#[inline(always)]
 fn is_tag_of(tag: &[u8], x: u8, y: u8, z: u8) -> bool
     ensures { result ≡ bytes_eq tag.now (x ∷ y ∷ z ∷ []) }
 {
@@ -63,7 +62,6 @@ fn has_tag(tags: &[&[u8]], tag: &[u8]) -> bool
 }
 
 /// Whether a field's value begins as a row says, and it stands in the row's sequences.
-#[inline(never)]
 fn stands_there(field: &Field, row: &Row) -> bool
     ensures { result ≡ (starts_with nat_eq (first_value (found_of field.now).values) row.now.begins.now && pointwise bytes_eq (found_of field.now).path (texts row.now.path.now)) }
 {

@@ -9,6 +9,7 @@ use crate::fault::{MsgFault, Word};
 use crate::instruction::Message;
 use crate::mt::Mt;
 use crate::reading::message::read_message;
+use crate::writing::pieces::two_joined;
 use desk_text::{TextFault, read_block};
 use std::alloc::{AllocError, Global};
 use thiserror::Error;
@@ -84,18 +85,14 @@ fn line_text(alloc: Global, front: &[u8], line: usize) -> Result<Vec<u8>, AllocE
     ensures { IfOk result (λ text. text.items ≡ front.now ++ decimal line) }
 {
     let number = line.to_string(alloc)?;
-    let mut text = Vec::from_slice(alloc, front)?;
-    text.extend_from_slice(number.as_bytes())?;
-    Ok(text)
+    two_joined(alloc, front, number.as_bytes())
 }
 
 /// `refused`, the number and a field's word.
 fn word_text(alloc: Global, front: &[u8], word: Word) -> Result<Vec<u8>, AllocError>
     ensures { IfOk result (λ text. text.items ≡ front.now ++ letters_of_word word) }
 {
-    let mut text = Vec::from_slice(alloc, front)?;
-    text.extend_from_slice(word.as_str().as_bytes())?;
-    Ok(text)
+    two_joined(alloc, front, word.as_str().as_bytes())
 }
 
 /// A refusal's text: `refused 1`, `refused 2 LINE`, `refused 3 LINE`, `refused 4`, `refused 5 WORD`, `refused 6

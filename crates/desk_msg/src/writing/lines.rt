@@ -6,8 +6,21 @@ ghost use Rattle.desk_msg.specs.FieldsText.{message_text, named, trade_lines, se
 ghost use Rattle.desk_msg.specs.FedLines.{fed};
 
 use crate::instruction::{CancelOrder, Cash, Instruction, Message};
+use crate::writing::pieces::joined;
 use desk_codes::write_number;
 use std::alloc::{AllocError, Global};
+
+/// So many bytes the lines of a message seldom go beyond.
+const USUAL_ROOM: usize = 256;
+
+/// A text that begins so, with room for the lines of a message.
+fn begun(alloc: Global, first: &[u8]) -> Result<Vec<u8>, AllocError>
+    ensures { IfOk result (λ text. text.items ≡ first.now) }
+{
+    let mut text = Vec::with_capacity(alloc, USUAL_ROOM)?;
+    text.extend_from_slice(first)?;
+    Ok(text)
+}
 
 /// Adds a name, a space and a value, behind a line feed.
 fn add_line(text: &mut Vec<u8>, name: &[u8], value: &[u8]) -> Result<(), AllocError>
@@ -30,10 +43,7 @@ fn named_number(
     ensures { IfOk result (λ text. text.items ≡ named name.now (written_number value decimals)) }
 {
     let number = write_number(alloc, value, decimals)?;
-    let mut text = Vec::from_slice(alloc, name)?;
-    text.push(b' ')?;
-    text.extend_from_slice(&number)?;
-    Ok(text)
+    joined(alloc, &[name, b" ", &number])
 }
 
 /// Adds what is traded, and when.
@@ -75,7 +85,7 @@ fn add_cash(alloc: Global, text: &mut Vec<u8>, cash: Option<Cash>) -> Result<(),
 fn instruction_text(alloc: Global, instruction: &Instruction) -> Result<Vec<u8>, AllocError>
     ensures { IfOk result (λ text. text.items ≡ message_text (Message.New instruction.now)) }
 {
-    let mut text = Vec::from_slice(alloc, b"function NEWM")?;
+    let mut text = begun(alloc, b"function NEWM")?;
     add_trade(alloc, &mut text, instruction)?;
     add_settlement(&mut text, instruction)?;
     add_cash(alloc, &mut text, instruction.cash)?;
@@ -86,7 +96,7 @@ fn instruction_text(alloc: Global, instruction: &Instruction) -> Result<Vec<u8>,
 fn cancellation_text(alloc: Global, order: &CancelOrder) -> Result<Vec<u8>, AllocError>
     ensures { IfOk result (λ text. text.items ≡ message_text (Message.Cancel order.now)) }
 {
-    let mut text = Vec::from_slice(alloc, b"function CANC")?;
+    let mut text = begun(alloc, b"function CANC")?;
     add_line(&mut text, b"reference", order.reference.as_bytes())?;
     add_line(&mut text, b"previous", order.previous.as_bytes())?;
     Ok(text)

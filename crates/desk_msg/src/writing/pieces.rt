@@ -1,5 +1,5 @@
 //! Texts out of pieces.
-ghost use Rattle.std.specs.Prelude.{◌≡◌, IfOk};
+ghost use Rattle.std.specs.Prelude.{◌≡◌, ◌++◌, IfOk};
 ghost use Rattle.std.specs.List.{flat_map};
 
 use std::alloc::{AllocError, Global};
@@ -22,4 +22,11 @@ pub fn joined(alloc: Global, pieces: &[&[u8]]) -> Result<Vec<u8>, AllocError>
         text.extend_from_slice(piece)?;
     }
     Ok(text)
+}
+
+/// Two texts, one behind the other.
+pub fn two_joined<'a>(alloc: Global, front: &'a [u8], end: &'a [u8]) -> Result<Vec<u8>, AllocError>
+    ensures { IfOk result (λ text. text.items ≡ front.now ++ end.now) }
+{
+    joined(alloc, &[front, end])
 }

@@ -9,4 +9,4 @@ unfolding message_text
 returns c =
     fed_thrice (codes "function NEWM") c.add_trade.new.text.items c.add_settlement.new.text.items c.add_cash.new.text.items
     (trade_lines c.args.instruction.now) (settlement_lines c.args.instruction.now) (cash_lines c.args.instruction.now.cash)
-    (c.in_ok-add_trade.ensures ∙ ap (λ z. z ++ fed (trade_lines c.args.instruction.now)) c.in_ok-text.ensures.items) c.in_ok-add_settlement.ensures c.in_ok-add_cash.ensures
+    (c.in_ok-add_trade.ensures ∙ ap (λ z. z ++ fed (trade_lines c.args.instruction.now)) c.in_ok-text.ensures) c.in_ok-add_settlement.ensures c.in_ok-add_cash.ensures
