@@ -102,7 +102,7 @@ pub record ArePieces (n : ℕ) (i : Instruction) (today own related day security
 -- the text of pieces, as a function that keeps shut
 text_from : (own related day security quantity_begins quantity account settlement counterparty_begins counterparty paid : List ℕ) → List ℕ
 text_from own related day security quantity_begins quantity account settlement counterparty_begins counterparty paid =
-    codes "{4:\r\n:16R:GENL\r\n:20C:" ++ (own ++ traded_with related day security quantity_begins quantity account (settled_with settlement counterparty_begins counterparty paid))
+    codes "{4:\r\n:16R:GENL\r\n:20C:" ++ (own ++ traded_with related day security quantity_begins quantity account (settled_with settlement counterparty_begins counterparty (paid ++ codes ":16S:SETDET\r\n-}")))
 
 same_from : (a b c d e f g h i j k l m o p q r s t u v w : List ℕ) → a ≡ l → b ≡ m → c ≡ o → d ≡ p → e ≡ q → f ≡ r → g ≡ s → h ≡ t → i ≡ u → j ≡ v → k ≡ w → text_from a b c d e f g h i j k ≡ text_from l m o p q r s t u v w
 same_from a b c d e f g h i j k l m o p q r s t u v w ea eb ec ed ee ef eg eh ei ej ek = cc
@@ -127,7 +127,7 @@ pieces_written n i day p =
     let number : List ℕ = written_number i.quantity 0 in
     let begins : List ℕ = codes ":" ++ ((if is_delivery i.mt then codes "REAG" else codes "DEAG") ++ codes "//") in
     let rest : List ℕ = codes "\r\n:16S:SETPRTY\r\n:16R:SETPRTY\r\n:95P::PSET//DESKDEFF\r\n:16S:SETPRTY\r\n" ++ (text_of (paid_parts i.cash) ++ codes ":16S:SETDET\r\n-}") in
-    let settled : List ℕ = settled_with i.settlement begins i.counterparty (text_of (paid_parts i.cash)) in
+    let settled : List ℕ = settled_with i.settlement begins i.counterparty (text_of (paid_parts i.cash) ++ codes ":16S:SETDET\r\n-}") in
     let front : List ℕ → List ℕ = λ w. codes "{4:\r\n:16R:GENL\r\n:20C:" ++ (own ++ (codes "\r\n:23G:NEWM\r\n:16R:LINK\r\n:20C::RELA//" ++ (i.reference ++ (codes "\r\n:16S:LINK\r\n:16S:GENL\r\n:16R:TRADDET\r\n:98A::ESET//" ++ (day
     ++ (codes "\r\n:35B:ISIN " ++ (i.isin ++ (codes "\r\n:16S:TRADDET\r\n:16R:FIAC\r\n:36B:" ++ w)))))))) in
     ap front (kind_behind i.kind number (codes "\r\n:97A::SAFE//" ++ (i.account ++ settled)))
@@ -140,7 +140,7 @@ pieces_written n i day p =
 -- pieces that are right are the text of the confirmation
 pub pieces_are : (n : ℕ) (i : Instruction) (today own related day security quantity_begins quantity account settlement counterparty_begins counterparty paid : List ℕ) → ArePrintable i today
     → ArePieces n i today own related day security quantity_begins quantity account settlement counterparty_begins counterparty paid
-    → codes "{4:\r\n:16R:GENL\r\n:20C:" ++ (own ++ traded_with related day security quantity_begins quantity account (settled_with settlement counterparty_begins counterparty paid)) ≡ confirmation n i today
+    → codes "{4:\r\n:16R:GENL\r\n:20C:" ++ (own ++ traded_with related day security quantity_begins quantity account (settled_with settlement counterparty_begins counterparty (paid ++ codes ":16S:SETDET\r\n-}"))) ≡ confirmation n i today
 unfolding text_from
 pieces_are n i today own related day security quantity_begins quantity account settlement counterparty_begins counterparty paid printed v =
     same_from own related day security quantity_begins quantity account settlement counterparty_begins counterparty paid _ _ _ _ _ _ _ _ _ _ _

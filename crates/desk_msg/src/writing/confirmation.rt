@@ -2,10 +2,11 @@
 ghost use Rattle.std.specs.Prelude.{◌≡◌, ◌<◌, ◌^◌, ◌++◌, List, IfOk, codes, if◌then◌else◌, Ok};
 ghost use Rattle.std.specs.Option.{ForSome};
 ghost use Rattle.desk_text.specs.Fields.{Found, IsBlock};
+ghost use Rattle.desk_codes.specs.Currency.{letters_of};
 ghost use Rattle.desk_msg.specs.MessageType.{is_delivery};
 ghost use Rattle.desk_msg.specs.Profile.{code_of_kind};
 ghost use Rattle.desk_msg.specs.ConfirmationText.{confirmation, confirming_type, paid_parts};
-ghost use Rattle.desk_msg.specs.ConfirmationPieces.{text_with, paid_text};
+ghost use Rattle.desk_msg.specs.ConfirmationPieces.{text_with, paid_text, AreCodes};
 ghost use Rattle.desk_msg.specs.HoldingsPieces.{text_of};
 ghost use Rattle.desk_msg.specs.Confirms.{Confirms, confirmed_of};
 
@@ -13,7 +14,7 @@ use crate::instruction::{Instruction, Kind};
 use crate::writing::digits::number_text;
 use crate::writing::pieces::joined;
 use crate::writing::status::{Own, own_value};
-use desk_codes::Day;
+use desk_codes::{Ccy, Day};
 use std::alloc::{AllocError, Global};
 
 /// What a confirmation's fields say, but the amount's; of the quantity and of the counterparty also what their values
@@ -47,7 +48,7 @@ fn write_confirmation(
     values: &Values<'_>,
     paid: &PaidLines<'_>,
 ) -> Result<Vec<u8>, AllocError>
-    ensures { IfOk result (λ text. text.items ≡ text_with values.now (paid_text paid.now)) }
+    ensures { IfOk result (λ text. text.items ≡ text_with values.now paid.now) }
 {
     joined(
         alloc,
@@ -97,6 +98,51 @@ fn counterparty_begins(delivers: bool) -> &'static [u8]
     if delivers { b":REAG//" } else { b":DEAG//" }
 }
 
+/// What a confirmation of an instruction says, with its own reference, the day and the quantity as they are written.
+fn values_of<'a>(
+    instruction: &'a Instruction,
+    own: &'a [u8],
+    day: &'a [u8],
+    quantity: &'a [u8],
+) -> Values<'a>
+    ensures own { result.own.now ≡ own.now }
+    ensures related { result.related.now ≡ instruction.now.reference }
+    ensures day { result.day.now ≡ day.now }
+    ensures security { result.security.now ≡ instruction.now.isin }
+    ensures kind { result.quantity_begins.now ≡ codes ":ESTT//" ++ (code_of_kind instruction.now.kind ++ codes "/") }
+    ensures quantity { result.quantity.now ≡ quantity.now }
+    ensures account { result.account.now ≡ instruction.now.account }
+    ensures settlement { result.settlement.now ≡ instruction.now.settlement }
+    ensures side { result.counterparty_begins.now ≡ codes ":" ++ ((if is_delivery instruction.now.mt then codes "REAG" else codes "DEAG") ++ codes "//") }
+    ensures counterparty { result.counterparty.now ≡ instruction.now.counterparty }
+    ensures codes { AreCodes instruction.now }
+{
+    Values {
+        own,
+        related: instruction.reference.as_bytes(),
+        day,
+        security: instruction.isin.as_bytes(),
+        quantity_begins: quantity_begins(instruction.kind),
+        quantity,
+        account: instruction.account.as_bytes(),
+        settlement: instruction.settlement.as_bytes(),
+        counterparty_begins: counterparty_begins(instruction.mt.is_delivery()),
+        counterparty: instruction.counterparty.as_bytes(),
+    }
+}
+
+/// The lines of an amount, which is written so.
+fn paid_lines<'a>(ccy: &'a Ccy, amount: &'a [u8]) -> PaidLines<'a>
+    ensures { paid_text result ≡ codes ":16R:AMT\r\n:19A::ESTT//" ++ (letters_of ccy.now ++ (amount.now ++ codes "\r\n:16S:AMT\r\n")) }
+{
+    PaidLines {
+        front: b":16R:AMT\r\n:19A::ESTT//",
+        currency: ccy.as_bytes(),
+        amount,
+        end: b"\r\n:16S:AMT\r\n",
+    }
+}
+
 /// The confirmation with the lines of the amount, if there is one.
 fn confirmation_with(
     alloc: Global,
@@ -114,18 +160,7 @@ fn confirmation_with(
     let own = own_value(Own::Sent(n));
     let digits = day.write();
     let quantity = number_text(alloc, instruction.quantity, 0)?;
-    let values = Values {
-        own: &own,
-        related: instruction.reference.as_bytes(),
-        day: &digits,
-        security: instruction.isin.as_bytes(),
-        quantity_begins: quantity_begins(instruction.kind),
-        quantity: &quantity,
-        account: instruction.account.as_bytes(),
-        settlement: instruction.settlement.as_bytes(),
-        counterparty_begins: counterparty_begins(instruction.mt.is_delivery()),
-        counterparty: instruction.counterparty.as_bytes(),
-    };
+    let values = values_of(&instruction, &own, &digits, &quantity);
     write_confirmation(alloc, &values, paid)
 }
 
@@ -146,12 +181,7 @@ pub fn confirmation_text(
     match instruction.cash {
         Some(cash) => {
             let amount = number_text(alloc, cash.amount, cash.ccy.decimals())?;
-            let paid = PaidLines {
-                front: b":16R:AMT\r\n:19A::ESTT//",
-                currency: cash.ccy.as_bytes(),
-                amount: &amount,
-                end: b"\r\n:16S:AMT\r\n",
-            };
+            let paid = paid_lines(&cash.ccy, &amount);
             confirmation_with(alloc, n, instruction, day, &paid)
         }
         None => {

@@ -76,6 +76,13 @@ fn one_piece(front: &[u8]) -> RowPieces<'_>
     }
 }
 
+/// What stands behind the account in a statement without a row.
+fn empty_pieces<'a>() -> RowPieces<'a>
+    ensures { pieces_text result ≡ codes "\r\n:17B::ACTI//N\r\n:17B::CONS//N\r\n:16S:GENL\r\n-}" }
+{
+    one_piece(b"\r\n:17B::ACTI//N\r\n:17B::CONS//N\r\n:16S:GENL\r\n-}")
+}
+
 /// What these pieces are.
 fn write_pieces(alloc: Global, pieces: &RowPieces<'_>) -> Result<Vec<u8>, AllocError>
     ensures { IfOk result (λ text. text.items ≡ pieces_text pieces.now) }
@@ -162,7 +169,7 @@ fn write_rest(alloc: Global, heading: &Heading, is_begun: bool) -> Result<Vec<u8
     if is_begun {
         return Vec::from_slice(alloc, b":16S:SUBSAFE\r\n-}");
     }
-    let pieces = one_piece(b"\r\n:17B::ACTI//N\r\n:17B::CONS//N\r\n:16S:GENL\r\n-}");
+    let pieces = empty_pieces();
     write_general(alloc, heading, &pieces)
 }
 

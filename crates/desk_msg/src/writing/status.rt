@@ -1,5 +1,5 @@
 //! The status advice, MT548.
-ghost use Rattle.std.specs.Prelude.{◌≡◌, ◌≤◌, ◌++◌, IfOk, IsTrue, codes};
+ghost use Rattle.std.specs.Prelude.{◌≡◌, ◌≤◌, ◌++◌, IfOk, IsTrue, codes, if◌then◌else◌};
 ghost use Rattle.std.specs.List.{flat_map};
 ghost use Rattle.desk_text.specs.Fields.{IsBlock};
 ghost use Rattle.desk_text.specs.Lines.{written};
@@ -110,6 +110,17 @@ fn whole(front: &[u8]) -> StatusLines<'_>
     }
 }
 
+/// What stands before the narrative in the lines of a refusal, of an instruction or of a cancellation.
+fn refused_front<'a>(is_new: bool) -> &'a [u8]
+    ensures { result.now ≡ codes ":16R:STAT\r\n:25D::" ++ ((if is_new then codes "IPRC" else codes "CPRC") ++ codes "//REJT\r\n:16R:REAS\r\n:24B::REJT//NARR\r\n:70D:") }
+{
+    if is_new {
+        b":16R:STAT\r\n:25D::IPRC//REJT\r\n:16R:REAS\r\n:24B::REJT//NARR\r\n:70D:"
+    } else {
+        b":16R:STAT\r\n:25D::CPRC//REJT\r\n:16R:REAS\r\n:24B::REJT//NARR\r\n:70D:"
+    }
+}
+
 /// The lines of the statuses of a case; the narrative is the value of a refusal's.
 fn status_lines<'a>(about: Case, narrative: &'a [u8]) -> StatusLines<'a>
     requires { narrative.now ≡ codes ":REAS//DESK " ++ last_digits 2 (refused_number about) }
@@ -130,12 +141,12 @@ fn status_lines<'a>(about: Case, narrative: &'a [u8]) -> StatusLines<'a>
         Case::CancelDone => whole(b":16R:STAT\r\n:25D::CPRC//CAND\r\n:16S:STAT\r\n"),
         Case::CancelWaits => whole(b":16R:STAT\r\n:25D::CPRC//PACK\r\n:16S:STAT\r\n"),
         Case::NewRefused(_) => StatusLines {
-            front: b":16R:STAT\r\n:25D::IPRC//REJT\r\n:16R:REAS\r\n:24B::REJT//NARR\r\n:70D:",
+            front: refused_front(true),
             value: narrative,
             end: b"\r\n:16S:REAS\r\n:16S:STAT\r\n",
         },
         Case::CancelRefused(_) => StatusLines {
-            front: b":16R:STAT\r\n:25D::CPRC//REJT\r\n:16R:REAS\r\n:24B::REJT//NARR\r\n:70D:",
+            front: refused_front(false),
             value: narrative,
             end: b"\r\n:16S:REAS\r\n:16S:STAT\r\n",
         },

@@ -16,7 +16,7 @@ confirmation_with-requires-clause-paid c =
     let cash = c.in-Some.cash in
     let P : Cash → Type 0 = λ x. x.amount < 2 ^ 64 in
     let printed = printed_cash (Some cash) (cash_back (Some cash) (λ x e. subst P (one_cash cash x e) c.number_text.ensures.fits)) in
-    ap (λ w. codes ":16R:AMT\r\n:19A::ESTT//" ++ (w ++ (c.deref.result.now ++ codes "\r\n:16S:AMT\r\n"))) c.as_bytes.ensures
+    c.paid_lines-paid.ensures
     ∙ ap (λ w. codes ":16R:AMT\r\n:19A::ESTT//" ++ (letters_of cash.ccy ++ (w ++ codes "\r\n:16S:AMT\r\n")))
     (c.deref.ensures.value ∙ c.in_ok-amount-in-Some.ensures.value ∙ ap (λ d. written_number cash.amount d) c.decimals.ensures.value)
     ∙ paid_written cash printed
