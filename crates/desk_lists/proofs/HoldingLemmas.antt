@@ -4,14 +4,15 @@ use Rattle.std.specs.Prelude.{bytes_eq, is_some, not, unwrap_or}
 use Rattle.std.specs.List.{list_any, filter, All, AllByRecursion}
 use Rattle.std.specs.List.Sorted.{IsStrictlySortedBy}
 use Rattle.std.specs.Map.{keys_of, lookup}
+use Rattle.std.specs.Range.Bound.{IsForward}
 use Rattle.std.specs.BTreeMap.{get, is_at, BTreeMap}
-use Rattle.std.specs.BTreeMap.Range.{entries_between, range_contains, IsRangeOf}
+use Rattle.std.specs.BTreeMap.Range.{entries_between, is_from_start, range_contains, IsLeBy, IsLtBy, IsRangeOf}
 use Rattle.std.specs.Cmp.Lexicographic.{nat_list_cmp_total}
-use Rattle.std.specs.Ordering.{is_eq, is_le, ordering_reverse}
+use Rattle.std.specs.Ordering.{is_eq, is_le, is_lt, ordering_reverse}
 use Rattle.std.specs.declared.cmp.Ordering.{Ordering}
 use Rattle.std.specs.declared.cmp.Ordering.TheVariants.{Less, Equal, Greater}
 use Rattle.std.specs.declared.ops.Bound.{Bound}
-use Rattle.std.specs.declared.ops.Bound.TheVariants.{Included, Unbounded}
+use Rattle.std.specs.declared.ops.Bound.TheVariants.{Unbounded}
 use Rattle.std.proofs.lemmas.List.Elements.{All-head, All-tail}
 use Rattle.std.proofs.lemmas.List.Kept.{IsStrictlySortedBy-filter}
 use Rattle.std.proofs.lemmas.Map.Keys.{sorted_head, sorted_tail}
@@ -24,7 +25,7 @@ use Rattle.desk_lists.specs.declared.balance_key.BalanceKey.{BalanceKey}
 use Rattle.desk_lists.specs.declared.balance_key.BalanceKey.TheVariants.{Cash, Outstanding, Paid, Position}
 use Rattle.desk_lists.specs.BalanceKeys.{HasNoneBelow, balance_cmp, first_key, least_isin, text_cmp}
 use Rattle.desk_lists.specs.Lists.{Listed, content_in}
-use Rattle.desk_lists.specs.Search.{IsHeldAbove}
+use Rattle.desk_lists.specs.Search.{IsHeldAbove, start_of}
 use Rattle.desk_lists.proofs.BalanceLemmas.{key_true, tied_keys}
 use Rattle.desk_lists.proofs.FloorLemmas.{by_order}
 use Rattle.desk_lists.proofs.ListingLemmas.{less_less, not_less_itself}
@@ -51,20 +52,34 @@ has_filter q p (e ∷ es) passes there = by_bool (is_at (balance_cmp q) e.0)
     (λ other. let behind : has q (keys_of es) ≡ true = rw other at there in
     by_bool (p e) (λ kept. rw (kept, other) (has_filter q p es passes behind)) (λ lost. rw lost (has_filter q p es passes behind)))
 
-pub all_filter : (start : BalanceKey) (es : List (BalanceKey × ℕ)) → AllByRecursion (λ k. is_le (balance_cmp start k) ≡ true) (keys_of (entries_between balance_cmp (Included start) Unbounded es))
-all_filter start [] = tt
-all_filter start (e ∷ es) = by_bool (is_le (balance_cmp start e.0))
-    (λ kept. rw kept (kept, all_filter start es))
-    (λ lost. rw lost (all_filter start es))
+less_is_le : (o : Ordering) → is_lt o ≡ true → is_le o ≡ true
+less_is_le Less e = refl
+less_is_le Equal e = cc
+less_is_le Greater e = cc
+
+-- the search goes forward
+pub forward : (account : List ℕ) (above : Option (List ℕ)) → IsForward (IsLeBy balance_cmp) (IsLtBy balance_cmp) (start_of account above) Unbounded
+forward account None = tt
+forward account (Some a) = tt
+
+-- what is found stands from the first key on
+pub all_filter : (account : List ℕ) (above : Option (List ℕ)) (es : List (BalanceKey × ℕ)) → AllByRecursion (λ k. is_le (balance_cmp (first_key account above) k) ≡ true) (keys_of (entries_between balance_cmp (start_of account above) Unbounded es))
+all_filter account above [] = tt
+all_filter account None (e ∷ es) = by_bool (is_le (balance_cmp (first_key account None) e.0))
+    (λ kept. rw kept (kept, all_filter account None es))
+    (λ lost. rw lost (all_filter account None es))
+all_filter account (Some a) (e ∷ es) = by_bool (is_lt (balance_cmp (first_key account (Some a)) e.0))
+    (λ kept. rw kept (less_is_le _ kept, all_filter account (Some a) es))
+    (λ lost. rw lost (all_filter account (Some a) es))
 
 keys_filter : (p : BalanceKey → Bool) (es : List (BalanceKey × ℕ)) → keys_of (filter (λ e. p e.0) es) ≡ filter p (keys_of es)
 keys_filter p [] = refl
 keys_filter p (e ∷ es) = by_bool (p e.0) (λ kept. rw kept (ap (λ z. e.0 ∷ z) (keys_filter p es))) (λ lost. rw lost (keys_filter p es))
 
 -- what is left of sorted keys is sorted
-pub sorted_filter : (start : BalanceKey) (es : List (BalanceKey × ℕ)) → IsStrictlySortedBy balance_cmp (keys_of es) → IsStrictlySortedBy balance_cmp (keys_of (entries_between balance_cmp (Included start) Unbounded es))
+pub sorted_filter : (start : Bound BalanceKey) (es : List (BalanceKey × ℕ)) → IsStrictlySortedBy balance_cmp (keys_of es) → IsStrictlySortedBy balance_cmp (keys_of (entries_between balance_cmp start Unbounded es))
 sorted_filter start es sorted =
-    let p = range_contains balance_cmp (Included start) Unbounded in
+    let p = range_contains balance_cmp start Unbounded in
     subst (IsStrictlySortedBy balance_cmp) (sym (keys_filter p es)) (IsStrictlySortedBy-filter balance_cmp p (keys_of es) sorted)
 
 -- The order of an account's positions is that of their ISINs.
@@ -93,18 +108,18 @@ module _ (l : Listed) (floor : HasNoneBelow l.balances) (account : List ℕ) whe
   recorded_some None some = absurd (omega arith)
   recorded_some (Some n) some = refl
 
-  from_first : (above : Option (List ℕ)) (isin : List ℕ) → HoldsAbove (content_in l) account above isin → is_le (balance_cmp (first_key account above) (Position account isin)) ≡ true
+  from_first : (above : Option (List ℕ)) (isin : List ℕ) → HoldsAbove (content_in l) account above isin → is_from_start balance_cmp (start_of account above) (Position account isin) ≡ true
   from_first None isin holds = rw (position_cmp account least_isin isin) (not_greater least_isin isin (floor.each account isin (recorded_some (l.balances (Position account isin)) holds.0)))
   from_first (Some a) isin holds = rw (position_cmp account a isin) (let less = holds.1 in rw less refl)
 
   -- all that is held stands from the beginning on
-  pub all_from : (above : Option (List ℕ)) (es s : List (BalanceKey × ℕ)) → ((q : BalanceKey) → l.balances q ≡ lookup (is_at (balance_cmp q)) es) → s ≡ entries_between balance_cmp (Included (first_key account above)) Unbounded es
+  pub all_from : (above : Option (List ℕ)) (es s : List (BalanceKey × ℕ)) → ((q : BalanceKey) → l.balances q ≡ lookup (is_at (balance_cmp q)) es) → s ≡ entries_between balance_cmp (start_of account above) Unbounded es
       → (isin : List ℕ) → HoldsAbove (content_in l) account above isin → has (Position account isin) (keys_of s) ≡ true
   all_from above es s is between isin holds =
       let q = Position account isin in
       let there : is_some (lookup (is_at (balance_cmp q)) es) ≡ true = rw (sym (is q)) (recorded_some (l.balances q) holds.0) in
-      rw between (has_filter q (λ e. range_contains balance_cmp (Included (first_key account above)) Unbounded e.0) es
-      (λ e same. let first : is_le (balance_cmp (first_key account above) e.0) ≡ true = subst (λ z. is_le (balance_cmp (first_key account above) z) ≡ true) (same_key q e.0 same) (from_first above isin holds) in rw first refl)
+      rw between (has_filter q (λ e. range_contains balance_cmp (start_of account above) Unbounded e.0) es
+      (λ e same. let first : is_from_start balance_cmp (start_of account above) e.0 ≡ true = subst (λ z. is_from_start balance_cmp (start_of account above) z ≡ true) (same_key q e.0 same) (from_first above isin holds) in rw first refl)
       (found_has q es there))
 
 -- The first of some keys, and those behind it.

@@ -1,12 +1,15 @@
 -- What a walk through the entries finds and sums up, entry by entry. Only private contracts and proofs speak of it.
 use Rattle.std.specs.Prelude.{◌≡◌, ◌<◌, ◌⊎◌, ℕ, if◌then◌else◌, List, map, sum_by, Option, Some, None, option_map}
 use Rattle.std.specs.List.{filter_map}
+use Rattle.std.specs.declared.ops.Bound.{Bound}
+use Rattle.std.specs.declared.ops.Bound.TheVariants.{Excluded, Included}
 use Rattle.desk_rules.specs.declared.history.entry.Entry.{Entry}
 use Rattle.desk_rules.specs.declared.history.pair.Place.{Place}
 use Rattle.desk_lists.specs.declared.looking.holdings.Summed.{Summed}
 use Rattle.desk_lists.specs.declared.looking.holdings.Summed.TheVariants.{Currency, Security}
 use Rattle.desk_lists.specs.declared.balance_key.BalanceKey.{BalanceKey}
 use Rattle.desk_lists.specs.declared.balance_key.BalanceKey.TheVariants.{Cash, Position}
+use Rattle.desk_lists.specs.BalanceKeys.{first_key}
 use Rattle.desk_lists.specs.Lists.{Listed, balance_in}
 use Rattle.desk_rules.specs.Facts.{account_by, participant_by}
 use Rattle.desk_rules.specs.Settlement.{is_before}
@@ -38,6 +41,11 @@ sooner_of (Some best) (Some candidate) = if is_before candidate best then Some c
 abbrev pub IsSecurityOf : Entry → Option (List ℕ) → Option (List ℕ) → Type 0
 IsSecurityOf entry above None = (isin : List ℕ) → security_by entry ≡ Some isin → IsAboveText above isin → ⊥
 IsSecurityOf entry above (Some isin) = (security_by entry ≡ Some isin) × IsAboveText above isin
+
+-- where the search for holdings begins: at the first position of an account, or behind that of a security
+abbrev pub start_of : List ℕ → Option (List ℕ) → Bound BalanceKey
+start_of account None = Included (first_key account None)
+start_of account (Some isin) = Excluded (first_key account (Some isin))
 
 -- so much of a security as a holding, where it is some, and the security is above one
 abbrev pub IsHeldAbove : ℕ → Option (List ℕ) → List ℕ → Option Holding → Type 0

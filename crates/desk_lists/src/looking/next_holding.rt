@@ -1,14 +1,15 @@
 //! The holdings of an account, in the order of the ISINs.
 ghost use Rattle.std.specs.Prelude.{◌≡◌, Some, None};
-ghost use Rattle.desk_lists.specs.BalanceKeys.{first_key, least_isin};
+ghost use Rattle.desk_lists.specs.BalanceKeys.{least_isin};
 ghost use Rattle.desk_lists.specs.Lists.{content_in, listed};
 ghost use Rattle.desk_register.specs.Looked.{IsHoldingAfter};
-ghost use Rattle.desk_lists.specs.Search.{IsHeldAbove};
+ghost use Rattle.desk_lists.specs.Search.{start_of, IsHeldAbove};
 
 use crate::balance_key::BalanceKey;
 use crate::lists::Lists;
 use desk_codes::{AccountId, Isin};
 use desk_register::{Holding, is_above};
+use std::ops::Bound;
 
 /// The least of all ISINs.
 fn least_isin() -> Isin
@@ -18,15 +19,18 @@ fn least_isin() -> Isin
 }
 
 /// Where to begin, to find what an account holds above a security, or above none.
-fn first_key(account: &AccountId, above: &Option<Isin>) -> BalanceKey
-    ensures { result ≡ first_key account.now above.now }
+fn start_of(account: &AccountId, above: &Option<Isin>) -> Bound<BalanceKey>
+    ensures { result ≡ start_of account.now above.now }
 {
-    BalanceKey::Position {
-        account: *account,
-        isin: match above {
-            Some(isin) => *isin,
-            None => least_isin(),
-        },
+    match above {
+        Some(isin) => Bound::Excluded(BalanceKey::Position {
+            account: *account,
+            isin: *isin,
+        }),
+        None => Bound::Included(BalanceKey::Position {
+            account: *account,
+            isin: least_isin(),
+        }),
     }
 }
 
@@ -50,7 +54,10 @@ fn held_above(quantity: u64, isin: &Isin, above: &Option<Isin>) -> Option<Holdin
 pub fn holding_after(lists: &Lists, account: &AccountId, above: &Option<Isin>) -> Option<Holding>
     ensures { IsHoldingAfter (content_in (listed lists.now)) account.now above.now result }
 {
-    for (key, amount) in lists.balances.range(first_key(account, above)..) {
+    for (key, amount) in lists
+        .balances
+        .range((start_of(account, above), Bound::Unbounded))
+    {
         let BalanceKey::Position {
             account: holder,
             isin,

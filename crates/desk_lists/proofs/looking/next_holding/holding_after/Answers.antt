@@ -1,22 +1,23 @@
 use Rattle.std.proofs.Common.{Some, None, refl, ap, ◌∙◌, subst}
 use Rattle.std.specs.Map.{keys_of}
-use Rattle.std.specs.declared.ops.Bound.TheVariants.{Included, Unbounded}
-use Rattle.desk_lists.specs.BalanceKeys.{first_key}
+use Rattle.std.specs.declared.ops.Bound.TheVariants.{Unbounded}
 use Rattle.desk_lists.specs.Lists.{content_in, listed}
-use Rattle.desk_lists.specs.Search.{IsHeldAbove}
-use Rattle.desk_lists.proofs.HoldingLemmas.{all_behind, all_filter, all_from, first_is_held, first_recorded, from_behind, held_amount, its_holder, none_past, other_holder, range_recorded, recorded_behind, sorted_behind, sorted_filter}
+use Rattle.desk_lists.specs.Search.{IsHeldAbove, start_of}
+use Rattle.desk_lists.proofs.HoldingLemmas.{all_behind, all_filter, all_from, first_is_held, first_recorded, forward, from_behind, held_amount, its_holder, none_past, other_holder, range_recorded, recorded_behind, sorted_behind, sorted_filter}
 use Rattle.desk_lists.proofs.looking.next_holding.holding_after.Goals as goal
+
+pub range-key-items-requires : goal.range-key-items-requires
+range-key-items-requires c = rw c.start_of.ensures (forward c.args.account.now c.args.above.now)
 
 pub loop-key-init : goal.loop-key-init
 loop-key-init c =
-    let start = first_key c.args.account.now c.args.above.now in
     let is = c.into_iter-key-iterator.ensures.into_iter_gives ∙ c.range-key-items.ensures.between tt in
-    let at = rw c.first_key.ensures at is in
+    let at = rw c.start_of.ensures at is in
     record {
       left = all_from (listed c.args.lists.now) c.args.lists.now.floored c.args.account.now c.args.above.now c.args.lists.now.balances.entries c.into_iter-key-iterator.result (λ q. refl) at;
-      sorted = rw at (sorted_filter start c.args.lists.now.balances.entries c.range-key-items.ensures.ordered);
-      from = rw at (all_filter start c.args.lists.now.balances.entries);
-      amounts = range_recorded (Included c.first_key.result) Unbounded c.args.lists.now.balances _ _ c.into_iter-key-iterator.ensures.into_iter_gives (c.range-key-items.ensures.in_range tt);
+      sorted = rw at (sorted_filter (start_of c.args.account.now c.args.above.now) c.args.lists.now.balances.entries c.range-key-items.ensures.ordered);
+      from = rw at (all_filter c.args.account.now c.args.above.now c.args.lists.now.balances.entries);
+      amounts = range_recorded c.start_of.result Unbounded c.args.lists.now.balances _ _ c.into_iter-key-iterator.ensures.into_iter_gives (c.range-key-items.ensures.in_range tt);
     }
 
 pub returns-in_default : goal.returns-in_default
