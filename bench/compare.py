@@ -38,6 +38,9 @@ def main():
     if len(sys.argv) not in (3, 4):
         sys.exit("usage: bench/run OLD NEW [SEED]")
     checkouts = [os.path.abspath(path) for path in sys.argv[1:3]]
+    for checkout in checkouts:
+        if not os.path.isdir(os.path.join(checkout, "crates")):
+            sys.exit(f"{checkout} is no checkout")
     seed = sys.argv[3] if len(sys.argv) == 4 else str(USUAL_SEED)
     print(f"seed {seed}, {TURNS} turns, processor seconds, medians", flush=True)
     print("| workload | old | new | old over new |")

@@ -1,6 +1,7 @@
 //! Connections, each with its head.
 
 use crate::codes::{bic, isin, reference};
+use crate::day::BASES;
 use crate::days::{new_desk, play};
 use crate::digest::Digest;
 use crate::draw::Draw;
@@ -31,14 +32,15 @@ pub fn serve_all(
     let Ok(routes) = Routes::new(alloc) else {
         return Err(Failure::Memory);
     };
+    let base = draw.below(BASES);
     let mut desk = new_desk(alloc);
-    open(alloc, &mut desk, digest)?;
+    open(alloc, &mut desk, base, digest)?;
     let mut sent = Vec::new(alloc);
     let mut body = Vec::new(alloc);
     for number in 0..count {
         sent.clear();
         body.clear();
-        add_request(draw, number, &mut body, &mut sent)?;
+        add_request(draw, base, number, &mut body, &mut sent)?;
         serve(alloc, &routes, &sent, &mut desk, digest)?;
     }
     Ok(())
@@ -62,20 +64,22 @@ fn serve(
 fn open(
     alloc: Global,
     desk: &mut Desk<IndexedRegister>,
+    base: u32,
     digest: &mut Digest,
 ) -> Result<(), Failure> {
     let mut text = Vec::new(alloc);
     let mut script = Script { text: &mut text };
     for number in 0..PARTICIPANTS {
-        script.participant(number, number)?;
+        let owner = base.wrapping_add(number);
+        script.participant(number, owner)?;
         let party = Party {
-            owner: number,
-            account: number,
+            owner,
+            account: owner,
         };
         script.account(100 + number, party)?;
-        script.security(200 + number, &isin(number))?;
-        script.move_units(b"issue", 300 + number, number, &isin(number), 1_000_000)?;
-        script.move_cash(b"payin", 400 + number, number, 2_000_000_000)?;
+        script.security(200 + number, &isin(owner))?;
+        script.move_units(b"issue", 300 + number, owner, &isin(owner), 1_000_000)?;
+        script.move_cash(b"payin", 400 + number, owner, 2_000_000_000)?;
     }
     play(alloc, desk, &text, digest)
 }
@@ -83,14 +87,15 @@ fn open(
 /// Adds what a connection sends.
 fn add_request(
     draw: &mut Draw,
+    base: u32,
     number: u32,
     body: &mut Vec<u8>,
     sent: &mut Vec<u8>,
 ) -> Result<(), Failure> {
-    let owner = draw.below(PARTICIPANTS);
+    let owner = base.wrapping_add(draw.below(PARTICIPANTS));
     match draw.below(10) {
         0..6 => {
-            let trade = drawn_trade(draw, PARTICIPANTS, number.wrapping_mul(2));
+            let trade = drawn_trade(draw, base, PARTICIPANTS, number.wrapping_mul(2));
             let side = drawn_side(draw);
             trade.add_instruction(body, side)?;
             let sender = bic(trade.party(side).owner);

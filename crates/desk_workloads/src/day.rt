@@ -42,6 +42,9 @@ const MOST_LACKING: usize = 30;
 /// So many trades wait at most for their other side.
 const MOST_WAITING: usize = 60;
 
+/// The first participant, and the first account, is one of so many.
+pub const BASES: u32 = 300_000;
+
 /// Of so many requests a share falls to each kind.
 const SHARES: u32 = 1000;
 
@@ -57,6 +60,8 @@ struct Told {
 pub struct Day {
     depository: Depository,
     draw: Draw,
+    /// The number of the first participant and of the first account
+    base: u32,
     isins: Vec<[u8; 12]>,
     /// Trades that wait for their other side
     waiting: VecDeque<Told>,
@@ -78,13 +83,16 @@ pub struct Day {
 impl Day {
     /// The beginning of a day.
     pub fn new(alloc: Global, depository: Depository, draw: Draw) -> Result<Day, Failure> {
+        let mut draw = draw;
+        let base = draw.below(BASES);
         let mut isins = Vec::new(alloc);
         for number in 0..depository.securities {
-            isins.push(isin(number.wrapping_mul(7919)))?;
+            isins.push(isin(number.wrapping_mul(7919).wrapping_add(base)))?;
         }
         Ok(Day {
             depository,
             draw,
+            base,
             isins,
             waiting: VecDeque::new(alloc),
             lacking: VecDeque::new(alloc),
@@ -137,7 +145,7 @@ impl Day {
         let own = self.commands;
         let mut number = own;
         if number < participants {
-            script.participant(own, number)?;
+            script.participant(own, self.party(number).owner)?;
             return Ok(self.count_command());
         }
         number -= participants;
@@ -152,7 +160,7 @@ impl Day {
         }
         number -= securities;
         if number < participants {
-            script.move_cash(b"payin", own, number, EUROS)?;
+            script.move_cash(b"payin", own, self.party(number).owner, EUROS)?;
             return Ok(self.count_command());
         }
         number -= participants;
@@ -166,7 +174,8 @@ impl Day {
             return Ok(false);
         }
         let isin = self.isin_held(account, number % issued);
-        script.move_units(b"issue", self.commands, account, &isin, UNITS)?;
+        let holder = self.party(account).account;
+        script.move_units(b"issue", self.commands, holder, &isin, UNITS)?;
         Ok(self.count_command())
     }
 
@@ -177,9 +186,10 @@ impl Day {
 
     /// An account and its owner.
     fn party(&self, account: u32) -> Party {
+        let owner = account % self.depository.participants;
         Party {
-            owner: account % self.depository.participants,
-            account,
+            owner: self.base.wrapping_add(owner),
+            account: self.base.wrapping_add(account),
         }
     }
 
@@ -244,12 +254,15 @@ impl Day {
         let deliverer = self.draw.below(self.depository.accounts);
         let receiver = self.draw.below(self.depository.accounts);
         let which = self.draw.below(self.depository.issued);
-        let delivery = self.owner_added(deliverer)?;
-        let receipt = self.owner_added(receiver)?;
+        let isin = self.isin_held(deliverer, which);
+        let deliverer = self.party(deliverer);
+        let receiver = self.party(receiver);
+        let delivery = self.owner_added(deliverer.owner)?;
+        let receipt = self.owner_added(receiver.owner)?;
         let trade = Trade {
-            deliverer: self.party(deliverer),
-            receiver: self.party(receiver),
-            isin: self.isin_held(deliverer, which),
+            deliverer,
+            receiver,
+            isin,
             quantity: if self.draw.is_one_in(25) {
                 TOO_MANY
             } else {
@@ -276,10 +289,9 @@ impl Day {
         Ok(Told { trade, side })
     }
 
-    /// The number of a new reference of an account's owner.
-    fn owner_added(&mut self, account: u32) -> Result<u32, Failure> {
+    /// The number of a new reference of an owner.
+    fn owner_added(&mut self, owner: u32) -> Result<u32, Failure> {
         let number = self.owners.len();
-        let owner = self.party(account).owner;
         self.owners.push(owner)?;
         Ok(u32::try_from(number).unwrap_or(u32::MAX))
     }
@@ -321,7 +333,7 @@ impl Day {
         trade: &Trade,
         side: Side,
     ) -> Result<(), Failure> {
-        let own = self.owner_added(trade.party(side).account)?;
+        let own = self.owner_added(trade.party(side).owner)?;
         script.cancel(trade, side, own)
     }
 
@@ -332,13 +344,13 @@ impl Day {
         let account = self.draw.below(self.depository.accounts);
         let which = self.draw.below(self.depository.issued);
         let isin = self.isin_held(account, which);
-        let owner = self.party(account).owner;
+        let party = self.party(account);
         let amount = self.draw.below(900).wrapping_add(1);
         match self.draw.below(4) {
-            0 => script.move_units(b"issue", own, account, &isin, amount),
-            1 => script.move_units(b"redeem", own, account, &isin, amount),
-            2 => script.move_cash(b"payin", own, owner, amount),
-            _ => script.move_cash(b"payout", own, owner, amount),
+            0 => script.move_units(b"issue", own, party.account, &isin, amount),
+            1 => script.move_units(b"redeem", own, party.account, &isin, amount),
+            2 => script.move_cash(b"payin", own, party.owner, amount),
+            _ => script.move_cash(b"payout", own, party.owner, amount),
         }
     }
 

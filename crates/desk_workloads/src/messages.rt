@@ -40,12 +40,13 @@ pub fn read_messages(
     serve_all(alloc, &mut draw, size.of(10_000), digest)
 }
 
-/// A trade of any parties, whose references follow a number.
-pub fn drawn_trade(draw: &mut Draw, participants: u32, number: u32) -> Trade
+/// A trade of any of so many parties, the first of which has a number, in any of 50 securities that follow this number too.
+/// Its references follow another one.
+pub fn drawn_trade(draw: &mut Draw, base: u32, participants: u32, number: u32) -> Trade
     requires { 0 < participants }
 {
-    let from = draw.below(participants);
-    let to = draw.below(participants);
+    let from = base.wrapping_add(draw.below(participants));
+    let to = base.wrapping_add(draw.below(participants));
     Trade {
         deliverer: Party {
             owner: from,
@@ -55,7 +56,7 @@ pub fn drawn_trade(draw: &mut Draw, participants: u32, number: u32) -> Trade
             owner: to,
             account: to,
         },
-        isin: isin(draw.below(50)),
+        isin: isin(base.wrapping_add(draw.below(50))),
         quantity: draw.below(5_000).wrapping_add(1),
         euros: if draw.is_one_in(2) {
             0
@@ -84,7 +85,7 @@ fn read_short(
 ) -> Result<(), Failure> {
     let mut text = Vec::new(alloc);
     for number in 0..count {
-        let trade = drawn_trade(draw, 500, number.wrapping_mul(2));
+        let trade = drawn_trade(draw, 0, 500, number.wrapping_mul(2));
         let side = drawn_side(draw);
         text.clear();
         if draw.is_one_in(10) {
@@ -108,7 +109,7 @@ fn read_long(
 ) -> Result<(), Failure> {
     let mut text = Vec::new(alloc);
     for number in 0..count {
-        let trade = drawn_trade(draw, 500, number.wrapping_mul(2));
+        let trade = drawn_trade(draw, 0, 500, number.wrapping_mul(2));
         let side = drawn_side(draw);
         text.clear();
         add_long(draw, &mut text, &trade, side)?;

@@ -1,6 +1,7 @@
 //! Statements and totals of many securities.
 
 use crate::codes::isin;
+use crate::day::BASES;
 use crate::days::{new_desk, play};
 use crate::digest::Digest;
 use crate::draw::Draw;
@@ -27,19 +28,21 @@ pub fn ask_reports(
     digest: &mut Digest,
 ) -> Result<(), Failure> {
     let mut draw = Draw::new(seed, round);
+    let base = draw.below(BASES);
     let mut desk = new_desk(alloc);
     let mut isins = Vec::new(alloc);
     for number in 0..size.of(8_000) {
-        isins.push(isin(number.wrapping_mul(104_729)))?;
+        isins.push(isin(number.wrapping_mul(104_729).wrapping_add(base)))?;
     }
-    open(alloc, &mut desk, &mut draw, &isins, digest)?;
-    ask(alloc, &mut desk, &mut draw, &isins, digest)
+    open(alloc, &mut desk, &mut draw, base, &isins, digest)?;
+    ask(alloc, &mut desk, &mut draw, base, &isins, digest)
 }
 
-fn party(number: u32) -> Party {
+/// The one participant, and its account of a number.
+fn party(base: u32, number: u32) -> Party {
     Party {
-        owner: 0,
-        account: number,
+        owner: base,
+        account: base.wrapping_add(number),
     }
 }
 
@@ -57,26 +60,28 @@ fn open(
     alloc: Global,
     desk: &mut Desk<IndexedRegister>,
     draw: &mut Draw,
+    base: u32,
     isins: &[[u8; 12]],
     digest: &mut Digest,
 ) -> Result<(), Failure> {
     let mut text = Vec::new(alloc);
     let mut script = Script { text: &mut text };
-    script.participant(0, 0)?;
+    script.participant(0, base)?;
     for number in 0..OTHERS + 1 {
-        script.account(1 + number, party(number))?;
+        script.account(1 + number, party(base, number))?;
     }
-    script.move_cash(b"payin", 500, 0, 1_000_000)?;
+    script.move_cash(b"payin", 500, base, 1_000_000)?;
     let mut own = 1_000u32;
     for isin in isins {
         script.security(own, isin)?;
         let quantity = draw.below(1_000_000).wrapping_add(1);
-        script.move_units(b"issue", own.wrapping_add(1), 0, isin, quantity)?;
+        script.move_units(b"issue", own.wrapping_add(1), base, isin, quantity)?;
         own = own.wrapping_add(2);
     }
     for number in 0..OTHERS * FEW {
         let isin = drawn(draw, isins);
-        script.move_units(b"issue", own, 1 + number % OTHERS, &isin, 1 + number)?;
+        let holder = party(base, 1 + number % OTHERS).account;
+        script.move_units(b"issue", own, holder, &isin, 1 + number)?;
         own = own.wrapping_add(1);
     }
     play(alloc, desk, &text, digest)
@@ -87,6 +92,7 @@ fn ask(
     alloc: Global,
     desk: &mut Desk<IndexedRegister>,
     draw: &mut Draw,
+    base: u32,
     isins: &[[u8; 12]],
     digest: &mut Digest,
 ) -> Result<(), Failure> {
@@ -94,12 +100,13 @@ fn ask(
     let mut script = Script { text: &mut text };
     for number in 0..12 {
         let own = 900_000_000 + 2 * number;
-        script.move_units(b"issue", own, 0, &drawn(draw, isins), 1)?;
-        script.holdings(party(0))?;
-        for _ in 0..50 {
-            script.holdings(party(draw.below(OTHERS + 1).max(1)))?;
+        script.move_units(b"issue", own, base, &drawn(draw, isins), 1)?;
+        script.holdings(party(base, 0))?;
+        let first = draw.below(OTHERS);
+        for other in 0..50 {
+            script.holdings(party(base, 1 + (first + other) % OTHERS))?;
         }
-        script.move_units(b"redeem", own + 1, 0, &drawn(draw, isins), 1)?;
+        script.move_units(b"redeem", own + 1, base, &drawn(draw, isins), 1)?;
         script.sums()?;
     }
     play(alloc, desk, &text, digest)

@@ -1,6 +1,7 @@
 //! Settlement runs over much that waits.
 
 use crate::codes::isin;
+use crate::day::BASES;
 use crate::days::{new_desk, play};
 use crate::digest::Digest;
 use crate::draw::Draw;
@@ -32,11 +33,22 @@ pub fn settle_waiting(
 #[derive(Drop)]
 struct Market<'a> {
     script: Script<'a>,
+    /// The number of the first participant
+    base: u32,
     /// How many references there were
     references: u32,
 }
 
 impl Market<'_> {
+    /// The participant of a number and its account.
+    fn party(&self, number: u32) -> Party {
+        let number = self.base.wrapping_add(number);
+        Party {
+            owner: number,
+            account: number,
+        }
+    }
+
     fn reference(&mut self) -> u32 {
         self.references = self.references.wrapping_add(1);
         self.references
@@ -46,9 +58,10 @@ impl Market<'_> {
     fn open(&mut self, participants: u32, isins: &[[u8; 12]; 2]) -> Result<(), Failure> {
         for number in 0..participants {
             let first = self.reference();
-            self.script.participant(first, number)?;
+            let party = self.party(number);
+            self.script.participant(first, party.owner)?;
             let second = self.reference();
-            self.script.account(second, party(number))?;
+            self.script.account(second, party)?;
         }
         for isin in isins {
             let own = self.reference();
@@ -59,13 +72,15 @@ impl Market<'_> {
 
     fn issue(&mut self, number: u32, isin: &[u8; 12], quantity: u32) -> Result<(), Failure> {
         let own = self.reference();
+        let holder = self.party(number).account;
         self.script
-            .move_units(b"issue", own, number, isin, quantity)
+            .move_units(b"issue", own, holder, isin, quantity)
     }
 
     fn pay_in(&mut self, number: u32, euros: u32) -> Result<(), Failure> {
         let own = self.reference();
-        self.script.move_cash(b"payin", own, number, euros)
+        let owner = self.party(number).owner;
+        self.script.move_cash(b"payin", own, owner, euros)
     }
 
     /// Both sides of a delivery from an account to another.
@@ -78,8 +93,8 @@ impl Market<'_> {
         euros: u32,
     ) -> Result<(), Failure> {
         let trade = Trade {
-            deliverer: party(from),
-            receiver: party(to),
+            deliverer: self.party(from),
+            receiver: self.party(to),
             isin: *isin,
             quantity,
             euros,
@@ -94,13 +109,6 @@ impl Market<'_> {
     fn run(&mut self) -> Result<(), Failure> {
         let own = self.reference();
         self.script.run(own, TODAY)
-    }
-}
-
-fn party(number: u32) -> Party {
-    Party {
-        owner: number,
-        account: number,
     }
 }
 
@@ -121,6 +129,7 @@ fn settle_chains(
     let mut text = Vec::new(alloc);
     let mut market = Market {
         script: Script { text: &mut text },
+        base: draw.below(BASES),
         references: 0,
     };
     market.open(pairs.saturating_add(1), &isins)?;
@@ -153,6 +162,7 @@ fn try_again(
     let mut text = Vec::new(alloc);
     let mut market = Market {
         script: Script { text: &mut text },
+        base: draw.below(BASES),
         references: 0,
     };
     market.open(participants, &isins)?;
