@@ -5,7 +5,7 @@ ghost use Rattle.serde_json.specs.Written.{comma_if, compact_text};
 ghost use Rattle.desk_book.specs.Sums.{cash_data, security_data};
 
 use crate::streams::backward::{number_before, text_before};
-use crate::streams::writing::write_text;
+use crate::streams::writing::write_row;
 use desk_codes::{Ccy, Isin};
 use desk_holdings::WalkFault;
 use desk_msg::SinkFault;
@@ -31,7 +31,7 @@ pub struct SecurityTotal {
     pub outstanding: u64,
 }
 
-/// The most bytes of a row with a comma before it.
+/// The most bytes of a row.
 const LONGEST_ROW: usize = 96;
 
 /// Writes the row of a currency, behind a comma where rows stand before it.
@@ -45,21 +45,20 @@ pub fn write_cash_row<W: Sink>(
     ensures unwritten { OnErr result (W.may_fail ≡ true) }
 {
     let mut room = [0; LONGEST_ROW];
-    let start = cash_row(&mut room, is_later, total);
-    write_text(writer, &room[start..])
+    let start = cash_row(&mut room, total);
+    write_row(writer, is_later, &room[start..])
 }
 
-/// Makes the row of a currency at the end of the room, behind a comma where rows stand before it. Gives where it begins.
-fn cash_row(room: &mut [u8; LONGEST_ROW], is_later: bool, total: &CashTotal) -> usize
+/// Makes the row of a currency at the end of the room. Gives where it begins.
+fn cash_row(room: &mut [u8; LONGEST_ROW], total: &CashTotal) -> usize
     ensures within { result ≤ LONGEST_ROW }
-    ensures row { drop result room.new ≡ comma_if is_later ++ compact_text (cash_data total.now) }
+    ensures row { drop result room.new ≡ compact_text (cash_data total.now) }
 {
     let end = text_before(room, LONGEST_ROW, b"}");
     let end = number_before(room, end, b",\"net\":", total.net);
     let end = number_before(room, end, b"\",\"held\":", total.held);
     let end = text_before(room, end, total.ccy.as_bytes());
-    let end = text_before(room, end, b"{\"ccy\":\"");
-    text_before(room, end, comma_before(is_later))
+    text_before(room, end, b"{\"ccy\":\"")
 }
 
 /// Writes the row of a security, behind a comma where rows stand before it.
@@ -73,26 +72,18 @@ pub fn write_security_row<W: Sink>(
     ensures unwritten { OnErr result (W.may_fail ≡ true) }
 {
     let mut room = [0; LONGEST_ROW];
-    let start = security_row(&mut room, is_later, total);
-    write_text(writer, &room[start..])
+    let start = security_row(&mut room, total);
+    write_row(writer, is_later, &room[start..])
 }
 
-/// Makes the row of a security at the end of the room, behind a comma where rows stand before it. Gives where it begins.
-fn security_row(room: &mut [u8; LONGEST_ROW], is_later: bool, total: &SecurityTotal) -> usize
+/// Makes the row of a security at the end of the room. Gives where it begins.
+fn security_row(room: &mut [u8; LONGEST_ROW], total: &SecurityTotal) -> usize
     ensures within { result ≤ LONGEST_ROW }
-    ensures row { drop result room.new ≡ comma_if is_later ++ compact_text (security_data total.now) }
+    ensures row { drop result room.new ≡ compact_text (security_data total.now) }
 {
     let end = text_before(room, LONGEST_ROW, b"}");
     let end = number_before(room, end, b"\",\"outstanding\":", total.outstanding);
     let end = text_before(room, end, total.isin.as_bytes());
     let end = text_before(room, end, b",\"isin\":\"");
-    let end = number_before(room, end, b"{\"held\":", total.held);
-    text_before(room, end, comma_before(is_later))
-}
-
-/// The comma between two rows.
-fn comma_before(is_later: bool) -> &'static [u8]
-    ensures { result.now ≡ comma_if is_later }
-{
-    if is_later { b"," } else { b"" }
+    number_before(room, end, b"{\"held\":", total.held)
 }

@@ -1,5 +1,5 @@
 //! Operator's commands in the form in which most are written: as JSON without white space, with `op` and `ref` first and
-//! the other members of the operation behind them in the order that is told there, and with no character escaped; a line feed
+//! the other members behind them in the order that is told at each operation, and with no character escaped; a line feed
 //! may stand behind it, as in a script. They are read straight from the bytes, with no memory taken; what has another form is
 //! not read here.
 ghost use Rattle.std.specs.Prelude.{◌≡◌, ◌≤◌, ℕ, List, ◌++◌, All, codes, decimal, length, IfSome};

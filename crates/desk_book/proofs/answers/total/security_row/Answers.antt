@@ -8,4 +8,4 @@ pub returns-clause-row : goal.returns-clause-row
 returns-clause-row c =
     let nothing : drop 96 c.args.room.now ≡ [] = drop_all 96 c.args.room.now (omega arith) in
     let parts = security_parts c.args.total.now c.as_bytes.ensures.isin in
-    cc (c.as_bytes.ensures.bytes, c.comma_before.ensures)
+    cc c.as_bytes.ensures.bytes
