@@ -24,15 +24,14 @@ use Rattle.desk_engine.proofs.CancelLemmas.{asked_by, cancelled_named}
 use Rattle.desk_msg.specs.declared.instruction.CancelOrder.{CancelOrder}
 use Rattle.desk_register.specs.Looked.{kept_at}
 use Rattle.desk_rules.specs.declared.answers.verdict.Verdict.TheVariants.{Accept}
-use Rattle.desk_rules.specs.History.{before, entry_at, instruction_at, instructed, run_day}
+use Rattle.desk_rules.specs.History.{entry_at, instruction_at, instructed, run_day}
 use Rattle.desk_rules.specs.Pairing.{IsPairing, IsFree}
 use Rattle.desk_rules.specs.Settlement.{passes_of, is_due, settled_count}
 use Rattle.desk_rules.specs.Reply.{IsFirstReply, reply_to, waiting_count, is_settled_pair}
 use Rattle.desk_rules.specs.Books.{Books, AreBooks}
-use Rattle.desk_rules.specs.Verdict.{WasAccepted, IsVerdict, named_by}
+use Rattle.desk_rules.specs.Verdict.{IsVerdict, named_by}
 use Rattle.desk_rules.proofs.Decided.{In, In-from_Contains, Contains-from_In, filter-none}
-use Rattle.desk_rules.proofs.HistoryLemmas.{entry_at-front, entry_at-end, entry_at-some, length-before, slice_get-known, slice_get-front, slice_get-end}
-use Rattle.desk_rules.proofs.Existence.{books_exist}
+use Rattle.desk_rules.proofs.HistoryLemmas.{entry_at-front, entry_at-end, slice_get-known, slice_get-front, slice_get-end}
 use Rattle.desk_rules.proofs.SettlementLemmas.{due_facts}
 use Rattle.desk_rules.proofs.SettlementGrowth.{by_none}
 use Rattle.desk_rules.specs.Content.{Content, history_of}

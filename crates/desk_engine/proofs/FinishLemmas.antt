@@ -1,6 +1,6 @@
 -- A pass that begins, one that is over, and a run that has made its passes and is added.
 use Rattle.std.proofs.Common.{◌≡◌, ◌≢◌, inl, inr, ℕ, ◌+◌, ◌<◌, ◌≤◌, ◌==◌, Bool, true, false, ◌&&◌, List, [], ◌∷◌, ◌++◌, length, Contains, Option, Some, None, refl, ap, sym, ◌∙◌, subst, arith, length-append, append-nil, if◌then◌else◌}
-use Rattle.std.specs.Prelude.{option_and_then, nat_lt, not, Result, Ok, Err, OnOk}
+use Rattle.std.specs.Prelude.{option_and_then, nat_lt, Result, Ok, Err, OnOk}
 use Rattle.std.proofs.lemmas.Bool.{cases_Bool, cases_lt, cases_eq, ne_eqb, both_ways}
 use Rattle.std.proofs.lemmas.Bool.Decides.{nat_tests}
 use Rattle.std.proofs.lemmas.List.Elements.{filter-append}
@@ -28,7 +28,6 @@ use Rattle.desk_rules.specs.Settlement.{IsSettlement, is_due, precedes, settled_
 use Rattle.desk_rules.specs.Books.{Books, AreBooks}
 use Rattle.desk_rules.specs.Standing.{reason_of_lack}
 use Rattle.desk_rules.specs.Verdict.{WasAccepted, IsVerdict}
-use Rattle.desk_rules.specs.Reply.{is_settled_pair}
 use Rattle.desk_rules.specs.Content.{Content, history_of}
 use Rattle.desk_rules.specs.Stands.{reason_found, IsReason, IsInPair, StandsAt, StandsSo}
 use Rattle.desk_register.specs.Changes.{appended}

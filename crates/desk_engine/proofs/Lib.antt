@@ -7,6 +7,7 @@ mod CancelLemmas
 mod UnderwayLemmas
 mod DecisionLemmas
 mod FinishLemmas
+mod FurtherLemmas
 mod InstructLemmas
 mod KeepsLemmas
 mod PassLemmas
@@ -15,6 +16,7 @@ mod PassWhole
 mod ReplyLemmas
 mod SendingLemmas
 mod SentLemmas
+mod ShortLemmas
 pub mod SoundLemmas
 pub mod RunningLemmas
 mod StepLaws

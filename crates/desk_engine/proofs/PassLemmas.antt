@@ -1,5 +1,5 @@
 -- A run's pass over the due pairs, and what the register finds due.
-use Rattle.std.proofs.Common.{◌≡◌, ◌≢◌, inl, inr, ℕ, ◌+◌, ◌<◌, ◌≤◌, ◌==◌, Bool, true, false, ◌&&◌, List, [], ◌∷◌, ◌++◌, length, Contains, Option, Some, None, refl, ap, sym, ◌∙◌, subst, arith}
+use Rattle.std.proofs.Common.{◌≡◌, ◌≢◌, ◌⊎◌, inl, inr, ℕ, ◌+◌, ◌<◌, ◌≤◌, ◌==◌, Bool, true, false, ◌&&◌, List, [], ◌∷◌, ◌++◌, length, Contains, Option, Some, None, refl, ap, sym, ◌∙◌, subst, arith}
 use Rattle.std.specs.Prelude.{option_and_then, nat_lt, nat_le}
 use Rattle.std.proofs.lemmas.Bool.{ne_eqb, both_ways, lt-ltb, le-leb, leb-true}
 use Rattle.std.proofs.lemmas.Bool.Decides.{nat_tests}
@@ -29,6 +29,7 @@ use Rattle.desk_rules.proofs.HistoryLemmas.{entry_at-end, before-all}
 use Rattle.desk_rules.proofs.SettlementLemmas.{due_facts}
 use Rattle.desk_rules.proofs.SettlementGrowth.{IsPlaceOf, day_of-front}
 use Rattle.desk_rules.proofs.PairingLaws.{one_pair_of}
+use Rattle.desk_rules.proofs.Existence.{next_or_none}
 use Rattle.desk_engine.proofs.TablesLemmas.{pairs_known}
 use Rattle.desk_engine.proofs.PassSteps.{not_true_is, not_of}
 
@@ -193,10 +194,10 @@ module _ (books : Books) (reference day : List ℕ) (rule : RunRule) (pass : ℕ
   pub none_open : IsDuePairAfter content (number_of day) place None → (p : Pair) → IsOpen (books.history ++ Run reference day rule ∷ []) books.pairs settled (length books.history + 1) place p → ⊥
   none_open none p free = none (place_of (books.history ++ Run reference day rule ∷ []) p) (open_is_due p free)
 
-  -- the register's next due pair is the next that the pass takes
-  pub is_next : (next : Place) (due : IsDue content (number_of day) place next) → ((q : Place) → IsDue content (number_of day) place q → is_before q next ≡ false)
-      → (found : FoundPair next due.pair) → IsNext (books.history ++ Run reference day rule ∷ []) books.pairs settled (length books.history + 1) place found.waiting.pair
-  is_next next due least found =
+  -- a pair that the register finds due is open
+  pub due_open : (next : Place) (due : IsDue content (number_of day) place next) (found : FoundPair next due.pair)
+      → IsOpen (books.history ++ Run reference day rule ∷ []) books.pairs settled (length books.history + 1) place found.waiting.pair × (next ≡ place_of (books.history ++ Run reference day rule ∷ []) found.waiting.pair)
+  due_open next due found =
       let g = books.history ++ Run reference day rule ∷ [] in
       let p = found.waiting.pair in
       let known : p.later ≤ length books.history = pair_known p found.waiting.in_pair.paired in
@@ -204,13 +205,41 @@ module _ (books : Books) (reference day : List ℕ) (rule : RunRule) (pass : ℕ
       let days : day_of g p ≡ day_of books.history p = day_of-front books.history (Run reference day rule ∷ []) p known in
       let d : next.day ≡ day_of g p = at.day in
       let by : next.day ≤ number_of day = due.by in
-      let same : next ≡ place_of g p = place_same p next at.day at.number in
-      record {
-        is_open = record {
+      let same : next ≡ place_of g p = place_same p next at.day at.number in (
+        record {
           paired = found.waiting.in_pair.paired;
           due = due_in_run books.history reference day rule p found.waiting.in_pair.gone known (omega arith);
           unsettled = found.waiting.in_pair.unsettled;
           above = ap (is_past place) (sym same) ∙ due.above;
-        };
-        least = λ q free. ap (is_before (place_of g q)) (sym same) ∙ least (place_of g q) (open_is_due q free);
+        },
+        same,
+      )
+
+  -- the register's next due pair is the next that the pass takes
+  pub is_next : (next : Place) (due : IsDue content (number_of day) place next) → ((q : Place) → IsDue content (number_of day) place q → is_before q next ≡ false)
+      → (found : FoundPair next due.pair) → IsNext (books.history ++ Run reference day rule ∷ []) books.pairs settled (length books.history + 1) place found.waiting.pair
+  is_next next due least found =
+      let g = books.history ++ Run reference day rule ∷ [] in
+      let here = due_open next due found in
+      record {
+        is_open = here.0;
+        least = λ q free. ap (is_before (place_of g q)) (sym here.1) ∙ least (place_of g q) (open_is_due q free);
       }
+
+  -- the first pair that the register finds due past the place, or there is none
+  pub first_due : ((p : Place) × IsDuePairAfter content (number_of day) place (Some p)) ⊎ IsDuePairAfter content (number_of day) place None
+  first_due =
+      let g = books.history ++ Run reference day rule ∷ [] in
+      elim (next_or_none g books.pairs settled (length books.history + 1) place) [
+        | inl found ↦
+            let q = found.0 in
+            let is = found.1 in
+            inl (
+              place_of g q,
+              (
+                open_is_due q is.is_open,
+                λ r due. (let f = found_pair r due.pair in let here = due_open r due f in ap (λ z. is_before z (place_of g q)) here.1 ∙ is.least f.waiting.pair here.0),
+              ),
+            )
+        | inr none ↦ inr (λ r due. (let f = found_pair r due.pair in none f.waiting.pair (due_open r due f).0))
+      ]

@@ -28,6 +28,7 @@ use Rattle.desk_rules.specs.Cancelled.{is_cancel_requested}
 use Rattle.desk_rules.specs.Covered.{is_covered, lack_of}
 use Rattle.desk_rules.specs.Standing.{reason_of_lack}
 use Rattle.desk_rules.specs.Pairing.{IsSide, mate_in}
+use Rattle.desk_rules.specs.Settlement.{is_due}
 use Rattle.desk_rules.specs.Underway.{IsNext}
 use Rattle.desk_rules.specs.Books.{Books, AreBooks}
 use Rattle.desk_rules.specs.Verdict.{WasAccepted}
@@ -35,7 +36,7 @@ use Rattle.desk_rules.specs.declared.limits.TheConstants.{MOST_PAID, MOST_QUANTI
 use Rattle.desk_rules.specs.Content.{CashBalances, Content, history_of}
 use Rattle.desk_register.specs.Changes.{standing_both, CanSettle, FitsCash, HasCash, TriesPair, TriesSides, delivering_side as deliverer, receiving_side as receiver}
 use Rattle.desk_register.specs.Looked.{IsDue, IsDuePairAfter}
-use Rattle.desk_engine.specs.Pass.{settled_of, PassesAt, InstructionPasses, IsUnderway, is_below}
+use Rattle.desk_engine.specs.Pass.{due_left, settled_of, PassesAt, InstructionPasses, IsUnderway, is_below}
 use Rattle.desk_rules.proofs.Decided.{In, In-from_Contains, Contains-from_In, In-left, In-push_cases}
 use Rattle.desk_rules.proofs.HistoryLemmas.{before-all}
 use Rattle.desk_rules.proofs.SettlementLemmas.{ordered_pairs, begins_wider}
@@ -43,7 +44,7 @@ use Rattle.desk_rules.proofs.SettlementGrowth.{as_far_decided, decided_as_far, r
 use Rattle.desk_rules.specs.Tables.{AreCashBalances, ArePositions}
 use Rattle.desk_engine.proofs.PassLemmas.{FoundPair, found_pair, is_next, side_state, standing_at_instruction}
 use Rattle.desk_engine.proofs.PassSteps.{left_so, settled_so, side_settled, side_left}
-use Rattle.desk_engine.proofs.WaitingLemmas.{left_count, left_settled, left_lacks, unsettled_fewer}
+use Rattle.desk_engine.proofs.WaitingLemmas.{due_fewer, left_count, left_settled, left_lacks, unsettled_fewer}
 use Rattle.desk_engine.proofs.StepLemmas.{HasSides, covered_if, uncovered_if, lack_if, lack_money_if, settled_position, settled_cash}
 use Rattle.desk_engine.proofs.WithinLimits.{instructed_position_within, instructed_cash_within}
 
@@ -64,7 +65,7 @@ cash_fits cash from to (Some asked) few few_there has =
     omega arith
 
 -- where two numbers stand, and the rest
-both_stand : (P : ℕ → Standing → Type 0) (standing : ℕ → Standing) (m n : ℕ) (state : State) → P n (record (standing n) { mate = Some m; state = state }) → P m (record (standing m) { mate = Some n; state = state })
+pub both_stand : (P : ℕ → Standing → Type 0) (standing : ℕ → Standing) (m n : ℕ) (state : State) → P n (record (standing n) { mate = Some m; state = state }) → P m (record (standing m) { mate = Some n; state = state })
     → ((k : ℕ) → (k ≡ n → ⊥) → (k ≡ m → ⊥) → P k (standing k)) → (k : ℕ) → P k (standing_both standing m n state k)
 both_stand P standing m n state last first rest k = elim (cases_eq k n) [
   | inl is ↦
@@ -98,6 +99,7 @@ pub record PassedOn (books : Books) (reference day : List ℕ) (rule : RunRule) 
   pub count : length added ≡ settled_of outcome
   pub left : left_count (books.history ++ Run reference day rule ∷ []) (length books.history + 1) (Some next) (settled ++ added) books.pairs + settled_of outcome
       ≡ left_count (books.history ++ Run reference day rule ∷ []) (length books.history + 1) place settled books.pairs + 1
+  pub fewer : due_left books (Run reference day rule) settled ≡ settled_of outcome + due_left books (Run reference day rule) (settled ++ added)
 
 module _ (limit : ℕ) (books : Books) (reference day : List ℕ) (rule : RunRule) (pass : ℕ) (place : Option Place) (settled : List Settled) (old : Content)
     (are : AreBooks books) (was : WasAccepted limit books.history) (u : IsUnderway books (Run reference day rule) pass place settled old) where
@@ -314,6 +316,7 @@ module _ (limit : ℕ) (books : Books) (reference day : List ℕ) (rule : RunRul
         of_pass = λ x i. elim i [ inl is ↦ (ap (λ (z : Settled). z.run) (sym is), ap (λ (z : Settled). z.pass) (sym is)) | inr none ↦ absurd none ];
         count = refl;
         left = (let same = left_settled (books.history ++ e ∷ []) (length books.history + 1) place settled books.pairs q next order f.next_is n.found.place_is n.found.waiting.in_pair.unsettled pass in omega arith);
+        fewer = (let one = due_fewer (is_due (books.history ++ e ∷ []) (length books.history + 1)) books.pairs settled t order member n.found.waiting.in_pair.unsettled f.next_is.is_open.due in omega arith);
       }
 
   -- a pair that lacks something stays, and stands so on both sides
@@ -364,6 +367,7 @@ module _ (limit : ℕ) (books : Books) (reference day : List ℕ) (rule : RunRul
             let more = left_lacks (books.history ++ e ∷ []) (length books.history + 1) place settled books.pairs q next order f.next_is n.found.place_is n.found.waiting.in_pair.unsettled in
             let same : left_count (books.history ++ e ∷ []) (length books.history + 1) (Some next) (settled ++ []) books.pairs ≡ left_count (books.history ++ e ∷ []) (length books.history + 1) (Some next) settled books.pairs = ap (λ z. left_count (books.history ++ e ∷ []) (length books.history + 1) (Some next) z books.pairs) none in
             omega arith;
+        fewer = (let same : due_left books e (settled ++ []) ≡ due_left books e settled = ap (due_left books e) none in omega arith);
       }
 
   -- one pair more

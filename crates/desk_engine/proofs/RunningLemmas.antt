@@ -1,5 +1,5 @@
 -- The loops of a run, over the views of the register.
-use Rattle.std.specs.Prelude.{nat_lt}
+use Rattle.std.specs.Prelude.{Bool, nat_lt}
 use Rattle.std.proofs.lemmas.Bool.{ltb-true, ltb-false}
 use Rattle.desk_rules.specs.Settlement.{allows_more}
 use Rattle.std.proofs.Common.{◌≡◌, ◌≢◌, ◌⊎◌, inl, inr, ℕ, ◌+◌, ◌<◌, ◌≤◌, ◌^◌, true, false, ◌&&◌, refl, List, [], length, Option, Some, None, ap, sym, ◌∙◌, subst, arith}
@@ -21,7 +21,7 @@ use Rattle.desk_register.specs.declared.outcome.Outcome.TheVariants.{Lacks}
 use Rattle.desk_register.specs.Looked.{IsDuePairAfter}
 use Rattle.desk_engine.specs.Applied.{Keeps}
 use Rattle.desk_engine.specs.Tables.{Tables}
-use Rattle.desk_engine.specs.Pass.{CanPass, CanRun, CanTry, IsAtPass, IsTaken, PassEnds, RanTo, settled_of, told_of_try}
+use Rattle.desk_engine.specs.Pass.{CanPass, CanRun, CanTry, Fares, IsAtPass, PassEnds, RanTo, Takes, TakesPast, due_left, has_settled, one_if, settled_of, told_of_try}
 use Rattle.desk_engine.proofs.TablesLemmas.{length_is}
 use Rattle.desk_register.proofs.ViewLemmas.{later_then, stays_then}
 use Rattle.desk_engine.proofs.FinishLemmas.{first_begins}
@@ -35,13 +35,25 @@ told_keeps : (m n : ℕ) (earlier : Instructed) (day : List ℕ) (outcome : Outc
 told_keeps m n earlier day outcomes.Settled content = refl
 told_keeps m n earlier day (Lacks lack) content = refl
 
-pub taken_keeps : (old new : Content) (day : List ℕ) (place : Option Place) (taken : Option Taken) → IsTaken old day place taken new → new.register ≡ old.register
-taken_keeps old new day place None t = ap (λ (c : Content). c.register) t.1
-taken_keeps old new day place (Some taken) t =
-    let try = t.1 in
+fares_keeps : (old new : Content) (n : ℕ) (day : List ℕ) (settles : Bool) → Fares old n day settles new → new.register ≡ old.register
+fares_keeps old new n day settles t =
+    let try = t.tried in
     ap (λ (c : Content). c.register) try.told
-    ∙ told_keeps try.tried.mate taken.place.number try.tried.earlier day taken.outcome try.between
-    ∙ settles_keeps old try.between taken.place.number taken.outcome try.tried
+    ∙ told_keeps try.tried.mate n try.tried.earlier day t.outcome try.between
+    ∙ settles_keeps old try.between n t.outcome try.tried
+
+pub taken_keeps : (old new : Content) (day : List ℕ) (place : Option Place) (taken : Option Taken) → Takes old day place taken new → new.register ≡ old.register
+taken_keeps old new day place None t = ap (λ (c : Content). c.register) t.1
+taken_keeps old new day place (Some taken) t = fares_keeps old new taken.place.number day taken.settles t.1
+
+pub past_keeps : (old new : Content) (day : List ℕ) (place : Option Place) (taken : Option Taken) → TakesPast old day place taken new → new.register ≡ old.register
+past_keeps old new day place None t = ap (λ (c : Content). c.register) t.1
+past_keeps old new day place (Some taken) t = fares_keeps old new taken.place.number day taken.settles t.1
+
+-- how many a try settles
+pub one_settled : (outcome : Outcome) → settled_of outcome ≡ one_if (has_settled outcome)
+one_settled outcomes.Settled = refl
+one_settled (Lacks lack) = refl
 
 -- One pass.
 
@@ -67,7 +79,7 @@ running_begins room count v0 v day stays later same entries = record {
 }
 
 pub running_goes_on : (room count : ℕ) (v0 v w : View) (day : List ℕ) (place : Option Place) (tried settled waiting new_settled new_waiting : ℕ) (taken : Taken) → Running room count v0 v day place tried settled waiting
-    → Stays v w → IsLater v w → (w.is_honest → v.is_sure → IsTaken v.content day place (Some taken) w.content) → new_settled ≡ settled + settled_of taken.outcome
+    → Stays v w → IsLater v w → (w.is_honest → v.is_sure → Takes v.content day place (Some taken) w.content) → new_settled ≡ settled + one_if taken.settles
     → new_settled + new_waiting ≡ settled + waiting + 1 → Running room count v0 w day (Some taken.place) (tried + 1) new_settled new_waiting
 running_goes_on room count v0 v w day place tried settled waiting new_settled new_waiting taken r stays later took settles all = record {
   entries = λ honest sure. r.entries (later.honest honest) sure;
@@ -77,9 +89,12 @@ running_goes_on room count v0 v w day place tried settled waiting new_settled ne
   kept = λ honest sure. taken_keeps v.content w.content day place (Some taken) (took honest (r.stays.sure (later.honest honest) sure)) ∙ r.kept (later.honest honest) sure;
   underway = λ honest sure books reference rule pass start at.
       let honest1 = later.honest honest in
+      let t = took honest (r.stays.sure honest1 sure) in
+      let one : settled_of t.1.outcome ≡ one_if taken.settles = one_settled t.1.outcome ∙ ap one_if t.1.settled in
       let P : ℕ → Type 0 = λ k. Underway books reference day rule pass start (Some taken.place) (tried + 1) k new_waiting w.content in
-      subst P (sym settles) (goes_on room books reference day rule pass start place tried settled waiting new_waiting v.content w.content taken at.are_books at.accepted
-      (r.underway honest1 sure books reference rule pass start at) (took honest (r.stays.sure honest1 sure)) (omega arith));
+      let sum : settled + settled_of t.1.outcome ≡ new_settled = omega arith in
+      subst P sum (goes_on room books reference day rule pass start place tried settled waiting new_waiting v.content w.content (record { place = taken.place; outcome = t.1.outcome }) at.are_books at.accepted
+      (r.underway honest1 sure books reference rule pass start at) (t.0, t.1.tried) (omega arith));
 }
 
 pub running_can_try : (room count : ℕ) (v0 v : View) (day : List ℕ) (place : Option Place) (tried settled waiting : ℕ) → room ≡ v0.room → Running room count v0 v day place tried settled waiting → (v0.is_honest → v0.is_sure → CanPass room day v0.content)
@@ -93,7 +108,7 @@ running_can_try room count v0 v day place tried settled waiting here r may hones
     (r.underway honest sure0 can.books can.reference can.rule can.pass can.settled at) next due)
 
 pub running_ends_none : (room count : ℕ) (v0 v w : View) (day : List ℕ) (place : Option Place) (tried settled waiting : ℕ) (books : Books) (reference : List ℕ) (rule : RunRule) (pass : ℕ) (start : List Settled) → Running room count v0 v day place tried settled waiting
-    → IsLater v w → (w.is_honest → v.is_sure → IsTaken v.content day place None w.content) → w.is_honest → v0.is_sure → IsAtPass room books (Run reference day rule) pass start v0.content
+    → IsLater v w → (w.is_honest → v.is_sure → Takes v.content day place None w.content) → w.is_honest → v0.is_sure → IsAtPass room books (Run reference day rule) pass start v0.content
     → PassEnds books (Run reference day rule) pass start settled waiting w.content
 running_ends_none room count v0 v w day place tried settled waiting books reference rule pass start r later took honest sure at =
     let honest1 = later.honest honest in
@@ -210,7 +225,7 @@ module _ (room count : ℕ) (v0 v : View) (day : List ℕ) (rule : RunRule) (aga
       record { books = can.books; reference = []; rule = rule; pass = at.0; settled = at.1; at_pass = at.2 }
 
   pub passing_goes_on : (w : View) (total count_so left : ℕ) → rule ≡ Passes → 0 < last → Stays v w → IsLater v w → (w.is_honest → v.is_sure → w.content.register ≡ v.content.register)
-      → ((books : Books) (reference : List ℕ) (rule : RunRule) (pass : ℕ) (start : List Settled) → w.is_honest → v.is_sure → IsAtPass v.room books (Run reference day rule) pass start v.content → PassEnds books (Run reference day rule) pass start count_so left w.content)
+      → ((books : Books) (reference : List ℕ) (rule : RunRule) (pass : ℕ) (start : List Settled) → w.is_honest → v.is_sure → IsAtPass v.room books (Run reference day rule) pass start v.content → due_left books (Run reference day rule) start ≡ waiting → PassEnds books (Run reference day rule) pass start count_so left w.content)
       → (settled + count_so < 2 ^ 64 → total ≡ settled + count_so) → count < 2 ^ 64
       → Passing room count v0 w day rule (again + 1) total left count_so
   passing_goes_on w total count_so left passes some stays later kept ends sum small = record {
@@ -228,7 +243,7 @@ module _ (room count : ℕ) (v0 v : View) (day : List ℕ) (rule : RunRule) (aga
           underway = goes_again books reference day rule again settled waiting last v.content tables.are_books ran passes some;
           told = ran.told;
         }) in
-        let over = ends books reference rule (ran.pass + 1) ran.settled honest (p.stays.sure honest1 sure) at in
+        let over = ends books reference rule (ran.pass + 1) ran.settled honest (p.stays.sure honest1 sure) at ran.over.waits in
         let exact = again_over books reference day rule again settled waiting last count_so left (settled + count_so) v.content w.content tables.are_books ran some (omega arith) over in
         let few = settled_few books reference day rule (again + 1) (settled + count_so) left count_so w.content tables.are_books exact in
         let number = length_is v0.content books.history tables.history in

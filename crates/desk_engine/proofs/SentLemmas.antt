@@ -1,5 +1,5 @@
 -- What one entry more sends, and a run so far.
-use Rattle.std.proofs.Common.{◌≡◌, inl, inr, ℕ, ◌+◌, ◌*◌, ◌<◌, ◌≤◌, ◌==◌, true, false, List, [], ◌∷◌, ◌++◌, length, Contains, Option, Some, None, refl, ap, sym, ◌∙◌, subst, arith, length-append, append_assoc, append-nil}
+use Rattle.std.proofs.Common.{◌≡◌, inl, inr, ℕ, ◌+◌, ◌*◌, ◌<◌, ◌≤◌, ◌==◌, true, false, List, [], ◌∷◌, ◌++◌, length, Contains, Some, None, refl, ap, sym, ◌∙◌, arith, length-append, append_assoc, append-nil}
 use Rattle.std.specs.List.{flat_map}
 use Rattle.std.proofs.lemmas.List.Concat.{flat_map-cons}
 use Rattle.std.proofs.lemmas.Bool.{cases_Bool, ne_eqb}
@@ -22,7 +22,7 @@ use Rattle.desk_rules.specs.Sent.{confirmed, date_in, told, told_by, told_to, to
 use Rattle.desk_rules.proofs.Decided.{In, In-from_Contains, In-push_cases}
 use Rattle.desk_rules.proofs.HistoryLemmas.{instruction_at-front}
 use Rattle.desk_rules.proofs.ConfirmedSums.{legs_of}
-use Rattle.desk_rules.proofs.SentFronts.{flat-append, flat-none, if_not, paired_inside, notices_grow, sent_whole}
+use Rattle.desk_rules.proofs.SentFronts.{flat-append, flat-none, if_not, paired_inside, sent_whole}
 use Rattle.desk_rules.proofs.SentNumbers.{Every, IsKnown, all_known, every_flat, every_if, sent_counted, sent_length}
 use Rattle.desk_rules.proofs.PairingLemmas.{decided_pairing}
 use Rattle.desk_rules.proofs.SettlementLemmas.{decided_settlement}

@@ -1,8 +1,7 @@
 -- What is kept is sound.
-use Rattle.std.proofs.Common.{◌≡◌, inl, inr, ℕ, ◌+◌, List, [], ◌∷◌, ◌++◌, sum_by, Contains, refl, sym, ap, subst, ◌∙◌, arith}
+use Rattle.std.proofs.Common.{◌≡◌, inl, inr, ℕ, List, [], ◌∷◌, ◌++◌, sym, subst, ◌∙◌, arith}
 use Rattle.std.specs.Prelude.{Ok, Err}
 use Rattle.desk_rules.specs.declared.history.entry.Entry.{Entry}
-use Rattle.desk_rules.specs.declared.history.pair.Settled.{Settled}
 use Rattle.desk_rules.specs.declared.answers.reply.Sent.{Sent}
 use Rattle.desk_rules.specs.Books.{Books}
 use Rattle.desk_rules.specs.BothLegs.{ComeInTwos, StandTogether}
@@ -21,7 +20,7 @@ use Rattle.desk_engine.specs.Applied.{HasApplied, Keeps}
 use Rattle.desk_engine.specs.declared.accepting.Failure.{Failure}
 use Rattle.desk_engine.specs.declared.accepting.Failure.TheVariants.{Undone, Lost}
 use Rattle.desk_engine.specs.declared.applied.Accepted.{Accepted}
-use Rattle.desk_engine.specs.Sound.{AreConfirmed, HasBothLegs, IsSound, LeavesSound}
+use Rattle.desk_engine.specs.Sound.{IsSound, LeavesSound}
 use Rattle.desk_engine.proofs.HeldLemmas.{held_adds_up, held_cash_adds_up}
 
 pub kept_is_sound : (limit : ℕ) (books : Books) (content : Content) → Keeps limit books content → AreWellFormed books.history → IsSound books content

@@ -14,7 +14,6 @@ use Rattle.desk_rules.specs.declared.history.standing.State.{State}
 use Rattle.desk_rules.specs.declared.history.standing.State.TheVariants as states
 use Rattle.desk_rules.specs.declared.history.standing.State.TheVariants.{NoInstruction, Unmatched, Matched, Cancelled}
 use Rattle.desk_rules.specs.declared.history.standing.Standing.{Standing}
-use Rattle.desk_engine.specs.declared.settlement_run.Taken.{Taken}
 use Rattle.desk_rules.specs.History.{instruction_at, run_rule}
 use Rattle.desk_rules.specs.Settlement.{settled_count, pass_begins, is_in_passes, allows_more}
 use Rattle.desk_rules.specs.Underway.{is_above}
@@ -33,7 +32,7 @@ use Rattle.desk_register.specs.declared.outcome.Outcome.TheVariants.{Lacks}
 use Rattle.desk_register.specs.Changes.{TriesPair, appended}
 use Rattle.desk_rules.specs.Sent.{date_in, sent_of}
 use Rattle.desk_register.specs.Looked.{IsDuePairAfter}
-use Rattle.desk_engine.specs.Pass.{CanTry, HasToldSoFar, IsTaken, RanTo, books_after, told_of_try, settled_of, PassesAt, PassesSo, IsUnderway, IsOver, PassEnds, is_below}
+use Rattle.desk_engine.specs.Pass.{CanTry, HasToldSoFar, IsTaken, RanTo, Tried, due_left, books_after, told_of_try, settled_of, PassesAt, PassesSo, IsUnderway, IsOver, PassEnds, is_below}
 use Rattle.desk_rules.proofs.Decided.{In, In-from_Contains, Contains-from_In, In-right, In-cases, Ordered, filter-In}
 use Rattle.desk_rules.proofs.HistoryLemmas.{entry_at-end, instruction_at-front, instruction_at-known}
 use Rattle.desk_rules.proofs.PairingLemmas.{lower, decided_pairing}
@@ -94,7 +93,8 @@ pairs_fewer books are some =
 abbrev pub left_above : Books → List ℕ → List ℕ → RunRule → Option Place → ℕ
 left_above books reference day rule place = length (filter (is_above (books.history ++ Run reference day rule ∷ []) place) books.pairs)
 
--- so many pairs were tried in a pass, so many settled, and so many are left
+-- So many pairs were tried in a pass, so many settled, and so many are left. As many more waited when the pass began as
+-- settled since.
 pub record Underway (books : Books) (reference day : List ℕ) (rule : RunRule) (pass : ℕ) (start : List Settled) (place : Option Place) (tried count waiting : ℕ) (content : Content) : Type 0 where
   pub here : List Settled
   pub underway : IsUnderway books (Run reference day rule) pass place (start ++ here) content
@@ -103,6 +103,7 @@ pub record Underway (books : Books) (reference day : List ℕ) (rule : RunRule) 
   pub count_is : length here ≡ count
   pub waits : left_count (books.history ++ Run reference day rule ∷ []) (length books.history + 1) place (start ++ here) books.pairs ≡ waiting
   pub left : tried + left_above books reference day rule place ≤ length books.history
+  pub fewer : due_left books (Run reference day rule) start ≡ count + due_left books (Run reference day rule) (start ++ here)
   pub told : HasToldSoFar books (Run reference day rule) (start ++ here) content
 
 filter_most : {X : Type 0} (p : X → Bool) (xs : List X) → length (filter p xs) ≤ length xs
@@ -130,6 +131,7 @@ starts books reference day rule pass start content are u told =
       count_is = refl;
       waits = none_left g (length books.history + 1) (start ++ []) books.pairs;
       left = (let few = pairs_few books are in let most = filter_most (is_above g None) books.pairs in omega arith);
+      fewer = (let same : due_left books (Run reference day rule) (start ++ []) ≡ due_left books (Run reference day rule) start = ap (due_left books (Run reference day rule)) none in omega arith);
       told = (let T : List Settled → Type 0 = λ z. HasToldSoFar books (Run reference day rule) z content in subst T (sym none) told);
     }
 
@@ -213,7 +215,7 @@ told_underway books run pass place settled m n earlier day (Lacks lack) content 
 
 -- what was told of a try is what the run sends of it
 told_so : (limit : ℕ) (books : Books) (reference day : List ℕ) (rule : RunRule) (pass : ℕ) (place : Option Place) (settled : List Settled) (old new : Content) (are : AreBooks books) (was : WasAccepted limit books.history)
-    (u : IsUnderway books (Run reference day rule) pass place settled old) (taken : Taken) (t : IsTaken old day place (Some taken) new) → HasToldSoFar books (Run reference day rule) settled old
+    (u : IsUnderway books (Run reference day rule) pass place settled old) (taken : Tried) (t : IsTaken old day place (Some taken) new) → HasToldSoFar books (Run reference day rule) settled old
     → (added : List Settled)
     → added ≡ settled_by (length books.history + 1) pass (let n = next_sides limit books reference day rule pass place settled old are was u taken.place t.0.0 in n.found.waiting.pair) taken.outcome
     → HasToldSoFar books (Run reference day rule) (settled ++ added) new
@@ -248,7 +250,7 @@ told_so limit books reference day rule pass place settled old new are was u take
         (n.found.earlier ∙ sym mate) n.found.later at_earlier at_later first second (ap date_in (entry_at-end books.history run (length books.history + 1) refl)) so_far
         ∙ ap (λ z. sent_of (books_after books run z)) (sym (append_assoc books.settled u.further.more (s ∷ [])) ∙ ap (λ z. z ++ s ∷ []) (sym u.further.is_more))
 
-pub goes_on : (limit : ℕ) (books : Books) (reference day : List ℕ) (rule : RunRule) (pass : ℕ) (start : List Settled) (place : Option Place) (tried count waiting new_waiting : ℕ) (old new : Content) (taken : Taken) → AreBooks books → WasAccepted limit books.history
+pub goes_on : (limit : ℕ) (books : Books) (reference day : List ℕ) (rule : RunRule) (pass : ℕ) (start : List Settled) (place : Option Place) (tried count waiting new_waiting : ℕ) (old new : Content) (taken : Tried) → AreBooks books → WasAccepted limit books.history
     → Underway books reference day rule pass start place tried count waiting old → IsTaken old day place (Some taken) new → new_waiting + settled_of taken.outcome ≡ waiting + 1
     → Underway books reference day rule pass start (Some taken.place) (tried + 1) (count + settled_of taken.outcome) new_waiting new
 goes_on limit books reference day rule pass start place tried count waiting new_waiting old new taken are was u t waits =
@@ -271,6 +273,9 @@ goes_on limit books reference day rule pass start place tried count waiting new_
     let waited = u.waits in
     let tried_so = on.left in
     let size = length-append u.here on.added in
+    let fewer_was = u.fewer in
+    let fewer_on = on.fewer in
+    let fewer_same : due_left books run ((start ++ u.here) ++ on.added) ≡ due_left books run (start ++ (u.here ++ on.added)) = ap (due_left books run) joined in
     record {
       here = u.here ++ on.added;
       underway = subst U joined now_underway;
@@ -279,6 +284,7 @@ goes_on limit books reference day rule pass start place tried count waiting new_
       count_is = omega arith;
       waits = omega arith;
       left = omega arith;
+      fewer = omega arith;
       told = subst T joined (told_so limit books reference day rule pass place (start ++ u.here) old new are was u.underway taken t u.told on.added on.added_is);
     }
 
@@ -335,6 +341,16 @@ ends_none books reference day rule pass start place tried count waiting old new 
     let P : Content → Type 0 = λ c. PassEnds books (Run reference day rule) pass start count waiting c in
     subst P (sym t.1) (over books reference day rule pass start place tried count waiting old u
     (none_open books reference day rule pass place (start ++ u.here) old are u.underway t.0))
+
+-- what is due and not settled by then waited when the pass began, as did what it settled
+pub waits_rest : (books : Books) (reference day : List ℕ) (rule : RunRule) (pass : ℕ) (start : List Settled) (place : Option Place) (tried count waiting : ℕ) (content : Content) → AreBooks books
+    → Underway books reference day rule pass start place tried count waiting content → IsDuePairAfter content (number_of day) place None → due_left books (Run reference day rule) start ≡ count + waiting
+waits_rest books reference day rule pass start place tried count waiting content are u none =
+    let g = books.history ++ Run reference day rule ∷ [] in
+    let settled = start ++ u.here in
+    let all = sym (all_left g (length books.history + 1) place settled books.pairs (none_open books reference day rule pass place settled content are u.underway none)) ∙ u.waits in
+    let fewer = u.fewer in
+    omega arith
 
 pub ends_all : (books : Books) (reference day : List ℕ) (rule : RunRule) (pass : ℕ) (start : List Settled) (place : Option Place) (tried count waiting : ℕ) (content : Content) → AreBooks books
     → Underway books reference day rule pass start place tried count waiting content → length books.history ≤ tried → PassEnds books (Run reference day rule) pass start count waiting content

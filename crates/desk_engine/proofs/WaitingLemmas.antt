@@ -195,6 +195,16 @@ unsettled_fewer ps settled t o i none =
     (ap not (in_settled_pair (settled ++ t ∷ []) t (In-right settled (t ∷ []) t (inl refl))))
     (ap not (unsettled_pair settled t.pair none))
 
+-- one pair more settles that a test holds of: it holds of one less that is unsettled
+pub due_fewer : (b : Pair → Bool) (ps : List Pair) (settled : List Settled) (t : Settled) → Ordered lower ps → In ps t.pair → ((s : Settled) → Contains settled s → s.pair ≢ t.pair) → b t.pair ≡ true
+    → count_by (λ p. b p && not (is_settled_pair settled p)) ps ≡ 1 + count_by (λ p. b p && not (is_settled_pair (settled ++ t ∷ []) p)) ps
+due_fewer b ps settled t o i none due =
+    let more = count_one_more (λ p. b p && not (is_settled_pair (settled ++ t ∷ []) p)) (λ p. b p && not (is_settled_pair settled p)) ps t.pair o i
+    (λ p j other. ap (λ z. b p && not z) (settled_pair_on settled t p other))
+    (and_low (b t.pair) (is_settled_pair (settled ++ t ∷ []) t.pair) (in_settled_pair (settled ++ t ∷ []) t (In-right settled (t ∷ []) t (inl refl))))
+    (and_high (b t.pair) (is_settled_pair settled t.pair) (unsettled_pair settled t.pair none) ∙ due) in
+    omega arith
+
 -- no two of these are of one pair
 abbrev AreApart : List Settled → Type 0
 AreApart [] = Unit {0}

@@ -31,6 +31,7 @@ use Rattle.desk_rules.specs.declared.limits.TheConstants.{SENT_A_PAIR}
 use Rattle.desk_rules.specs.Sent.{sent_of}
 use Rattle.desk_register.specs.Changes.{CanSettle, TriesPair}
 use Rattle.desk_register.specs.Looked.{IsDuePairAfter}
+use Rattle.desk_register.specs.Short.{IsToTryAfter}
 use Rattle.desk_register.specs.declared.outcome.Outcome.{Outcome}
 use Rattle.desk_register.specs.declared.outcome.Outcome.TheVariants as outcomes
 use Rattle.desk_register.specs.declared.outcome.Outcome.TheVariants.{Lacks}
@@ -76,10 +77,36 @@ pub record IsTried (old : Content) (n : ℕ) (day : List ℕ) (outcome : Outcome
   pub tried : TriesPair old n outcome between
   pub told : new ≡ told_of_try tried.mate n tried.earlier day outcome between
 
+-- a pair that was tried, and how it fared
+pub record Tried : Type 0 where
+  pub place : Place
+  pub outcome : Outcome
+
 -- the next due pair past a place, tried; or there is none
-abbrev pub IsTaken : Content → List ℕ → Option Place → Option Taken → Content → Type 0
+abbrev pub IsTaken : Content → List ℕ → Option Place → Option Tried → Content → Type 0
 IsTaken old day place None new = IsDuePairAfter old (number_of day) place None × (new ≡ old)
 IsTaken old day place (Some taken) new = IsDuePairAfter old (number_of day) place (Some taken.place) × IsTried old taken.place.number day taken.outcome new
+
+-- a pair settles by a try
+abbrev pub has_settled : Outcome → Bool
+has_settled outcomes.Settled = true
+has_settled (Lacks lack) = false
+
+-- A pair settles, or not, as by a try: whether it was tried, or is known to stay short, makes no difference.
+pub record Fares (old : Content) (n : ℕ) (day : List ℕ) (settles : Bool) (new : Content) : Type 0 where
+  pub outcome : Outcome
+  pub settled : has_settled outcome ≡ settles
+  pub tried : IsTried old n day outcome new
+
+-- the next due pair past a place, taken; or there is none
+abbrev pub Takes : Content → List ℕ → Option Place → Option Taken → Content → Type 0
+Takes old day place None new = IsDuePairAfter old (number_of day) place None × (new ≡ old)
+Takes old day place (Some taken) new = IsDuePairAfter old (number_of day) place (Some taken.place) × Fares old taken.place.number day taken.settles new
+
+-- a due pair past a place, and past those that stay short, taken; or all stay short
+abbrev pub TakesPast : Content → List ℕ → Option Place → Option Taken → Content → Type 0
+TakesPast old day place None new = IsToTryAfter old (number_of day) place None × (new ≡ old)
+TakesPast old day place (Some taken) new = IsToTryAfter old (number_of day) place (Some taken.place) × Fares old taken.place.number day taken.settles new
 
 -- a pair can be tried: it can settle, and both parties be told
 pub record CanTry (limit : ℕ) (content : Content) (n day : ℕ) : Type 0 where
@@ -90,6 +117,11 @@ pub record CanTry (limit : ℕ) (content : Content) (n day : ℕ) : Type 0 where
 abbrev pub settled_of : Outcome → ℕ
 settled_of outcomes.Settled = 1
 settled_of (Lacks lack) = 0
+
+-- one where a pair settles
+abbrev pub one_if : Bool → ℕ
+one_if true = 1
+one_if false = 0
 
 -- Within a pass.
 
@@ -153,6 +185,10 @@ module _ (books : Books) (run : Entry) where
     pub reached : IsSettledAsFar with_run books.pairs run_number pass place settled
     pub begun : pass_begins with_run settled run_number pass ≡ true
     pub further : IsFurther settled
+
+  -- how many pairs are due in the run and not settled
+  abbrev pub due_left : List Settled → ℕ
+  due_left settled = count_by (λ p. is_due with_run run_number p && not (is_settled_pair settled p)) books.pairs
 
   -- A pass is over: it has tried all due pairs, so many settled in it, and so many that are due are not settled.
   pub record IsOver (pass : ℕ) (before settled : List Settled) (settled_so waiting_so : ℕ) (content : Content) : Type 0 where

@@ -1,13 +1,14 @@
 //! A settlement run over the register.
-ghost use Rattle.std.specs.Prelude.{◌≡◌, ◌+◌, ◌<◌, ◌^◌, ◌&&◌, nat_lt, length, IfOk, OnOk, List, Some, ℕ};
+ghost use Rattle.std.specs.Prelude.{◌≡◌, ◌+◌, ◌-◌, ◌<◌, ◌^◌, ◌&&◌, nat_lt, length, IfOk, OnOk, List, Some, ℕ};
 ghost use Rattle.desk_codes.specs.Number.{number_of};
 ghost use Rattle.desk_register.specs.View.{IfTrusted, IsChange};
 ghost use Rattle.desk_rules.specs.Content.{history_of};
 ghost use Rattle.desk_register.specs.Changes.{appended};
-ghost use Rattle.desk_register.specs.Looked.{IsDuePairAfter};
+ghost use Rattle.desk_register.specs.Looked.{IsDuePairAfter, IsMatchedPair};
+ghost use Rattle.desk_register.specs.Short.{IsToTryAfter};
 ghost use Rattle.desk_engine.specs.Tables.{Grown, Tables};
 ghost use Rattle.desk_engine.specs.Steps.{IsStep};
-ghost use Rattle.desk_engine.specs.Pass.{CanPass, CanRun, CanTry, IsAtPass, IsPassed, IsTaken, IsTried, PassEnds, RanTo, settled_of};
+ghost use Rattle.desk_engine.specs.Pass.{CanPass, CanRun, CanTry, IsAtPass, IsPassed, IsTried, Fares, PassEnds, RanTo, Takes, TakesPast, due_left, has_settled, one_if};
 ghost use Rattle.desk_rules.specs.declared.history.pair.Settled.{Settled};
 ghost use Rattle.desk_rules.specs.Settlement.{allows_more};
 ghost use Rattle.desk_rules.specs.Books.{Books};
@@ -18,11 +19,21 @@ use desk_register::{Fault, Outcome, Register, Stage, is_past};
 use desk_rules::{Entry, Place, Reply, RunRule};
 use std::alloc::Global;
 
-/// A due pair that a run tried, and how it fared.
+/// A due pair that a run came to, and whether it settled.
 #[derive(Clone, Copy, Debug, PartialEq, Eq)]
 pub struct Taken {
     pub place: Place,
-    pub outcome: Outcome,
+    pub settles: bool,
+}
+
+/// Whether a pair settled that was tried.
+fn has_settled(outcome: Outcome) -> bool
+    ensures { result ≡ has_settled outcome }
+{
+    match outcome {
+        Outcome::Settled => true,
+        Outcome::Lacks(_) => false,
+    }
 }
 
 /// Tries a pair, by the number of its later instruction; where it settles, both parties are told.
@@ -45,7 +56,27 @@ fn try_pair<R: Register>(
     Ok(outcome)
 }
 
-/// Tries the first due pair above a place; None where there is none. A store that answers one which is not above the place
+/// Whether a due pair settles; one that stays short needs no try.
+fn settles<R: Register>(
+    alloc: Global,
+    register: &mut R,
+    place: Place,
+    day: Day,
+) -> Result<bool, Fault>
+    requires stage { (R.view register.old).stage ≡ Stage.Begun }
+    requires pair { IfTrusted (R.view register.old) (R.view register.old) (IsMatchedPair (R.view register.old).content place) }
+    requires fits { IfTrusted (R.view register.old) (R.view register.old) (CanTry (R.view register.old).room (R.view register.old).content place.number (number_of day)) }
+    ensures fares { IfTrusted (R.view register.old) (R.view register.new) (IfOk result (λ settles. Fares (R.view register.old).content place.number day settles (R.view register.new).content)) }
+    ensures step { IsStep result (R.view register.old) (R.view register.new) }
+{
+    if register.stays_short(alloc, place)? {
+        return Ok(false);
+    }
+    let outcome = try_pair(alloc, register, place.number, day)?;
+    Ok(has_settled(outcome))
+}
+
+/// Takes the first due pair above a place; None where there is none. A store that answers one which is not above the place
 /// does not show what it holds: it is given up as one that failed.
 fn take_next<R: Register>(
     alloc: Global,
@@ -56,7 +87,7 @@ fn take_next<R: Register>(
     requires stage { (R.view register.old).stage ≡ Stage.Begun }
     requires fits { IfTrusted (R.view register.old) (R.view register.old) ((next : Place) → IsDuePairAfter (R.view register.old).content (number_of day) place (Some next)
         → CanTry (R.view register.old).room (R.view register.old).content next.number (number_of day)) }
-    ensures taken { IfTrusted (R.view register.old) (R.view register.new) (IfOk result (λ taken. IsTaken (R.view register.old).content day place taken (R.view register.new).content)) }
+    ensures taken { IfTrusted (R.view register.old) (R.view register.new) (IfOk result (λ taken. Takes (R.view register.old).content day place taken (R.view register.new).content)) }
     ensures step { IsStep result (R.view register.old) (R.view register.new) }
 {
     match register.due_pair_after(alloc, day, place)? {
@@ -65,10 +96,39 @@ fn take_next<R: Register>(
             if !is_past(&place, &next) {
                 return Err(Fault::Storage);
             }
+            let settles = settles(alloc, register, next, day)?;
+            Ok(Some(Taken {
+                place: next,
+                settles,
+            }))
+        }
+    }
+}
+
+/// Tries a due pair above a place, past those that stay short; None where each does. A store that answers one which is not
+/// above the place is given up, as by `take_next`.
+fn take_past_short<R: Register>(
+    alloc: Global,
+    register: &mut R,
+    day: Day,
+    place: Option<Place>,
+) -> Result<Option<Taken>, Fault>
+    requires stage { (R.view register.old).stage ≡ Stage.Begun }
+    requires fits { IfTrusted (R.view register.old) (R.view register.old) ((next : Place) → IsToTryAfter (R.view register.old).content (number_of day) place (Some next)
+        → CanTry (R.view register.old).room (R.view register.old).content next.number (number_of day)) }
+    ensures taken { IfTrusted (R.view register.old) (R.view register.new) (IfOk result (λ taken. TakesPast (R.view register.old).content day place taken (R.view register.new).content)) }
+    ensures step { IsStep result (R.view register.old) (R.view register.new) }
+{
+    match register.pair_to_try_after(alloc, day, place)? {
+        None => Ok(None),
+        Some(next) => {
+            if !is_past(&place, &next) {
+                return Err(Fault::Storage);
+            }
             let outcome = try_pair(alloc, register, next.number, day)?;
             Ok(Some(Taken {
                 place: next,
-                outcome,
+                settles: has_settled(outcome),
             }))
         }
     }
@@ -84,21 +144,33 @@ pub struct Passed {
 }
 
 impl Passed {
-    /// With one pair more.
-    fn counted(self, outcome: Outcome) -> Passed
+    /// With one pair more, which settled or did not.
+    fn counted(self, settles: bool) -> Passed
         requires { self.settled + self.waiting < u64.MAX }
-        ensures settled { result.settled ≡ self.settled + settled_of outcome }
+        ensures settled { result.settled ≡ self.settled + one_if settles }
         ensures all { result.settled + result.waiting ≡ self.settled + self.waiting + 1 }
     {
-        match outcome {
-            Outcome::Settled => Passed {
+        if settles {
+            Passed {
                 settled: self.settled + 1,
                 waiting: self.waiting,
-            },
-            Outcome::Lacks(_) => Passed {
+            }
+        } else {
+            Passed {
                 settled: self.settled,
                 waiting: self.waiting + 1,
-            },
+            }
+        }
+    }
+
+    /// A pass that settled so many of those that waited.
+    fn of_waiting(settled: u64, waiting: u64) -> Passed
+        ensures settled { result.settled ≡ settled }
+        ensures waiting { result.waiting ≡ waiting - settled }
+    {
+        Passed {
+            settled,
+            waiting: waiting.saturating_sub(settled),
         }
     }
 
@@ -138,8 +210,8 @@ pub struct Ran {
     pub passes: u64,
 }
 
-/// Tries each due pair once, in order of settlement day and number, and settles those that are covered. A store that
-/// answers more pairs than it has entries is given up as one that failed.
+/// Makes the first pass of a run: takes each due pair once, in order of settlement day and number, and settles those that
+/// are covered. A store that answers more pairs than it has entries is given up as one that failed.
 fn run_pass<R: Register>(alloc: Global, register: &mut R, day: Day) -> Result<Passed, Fault>
     requires stage { (R.view register.old).stage ≡ Stage.Begun }
     requires fits { IfTrusted (R.view register.old) (R.view register.old) (CanPass (R.view register.old).room day (R.view register.old).content) }
@@ -159,7 +231,7 @@ fn run_pass<R: Register>(alloc: Global, register: &mut R, day: Day) -> Result<Pa
         match take_next(alloc, register, day, place)? {
             None => return Ok(passed),
             Some(taken) => {
-                passed = passed.counted(taken.outcome);
+                passed = passed.counted(taken.settles);
                 place = Some(taken.place);
             }
         }
@@ -167,6 +239,50 @@ fn run_pass<R: Register>(alloc: Global, register: &mut R, day: Day) -> Result<Pa
     // there are fewer pairs than entries
     match register.due_pair_after(alloc, day, place)? {
         None => Ok(passed),
+        Some(_) => Err(Fault::Storage),
+    }
+}
+
+/// With one pair more, which settled or did not.
+fn counted(settled: u64, settles: bool) -> u64
+    requires { settled < u64.MAX }
+    ensures { result ≡ settled + one_if settles }
+{
+    if settles { settled + 1 } else { settled }
+}
+
+/// Makes a further pass of a run, where so many due pairs wait after the last one: tries those that may be covered by now,
+/// in order of settlement day and number. A store that answers more of them than it has entries is given up as one that
+/// failed.
+fn run_further_pass<R: Register>(
+    alloc: Global,
+    register: &mut R,
+    day: Day,
+    waiting: u64,
+) -> Result<Passed, Fault>
+    requires stage { (R.view register.old).stage ≡ Stage.Begun }
+    requires fits { IfTrusted (R.view register.old) (R.view register.old) (CanPass (R.view register.old).room day (R.view register.old).content) }
+    ensures kept { IfTrusted (R.view register.old) (R.view register.new) (OnOk result ((R.view register.new).content.register ≡ (R.view register.old).content.register)) }
+    ensures ran { (books : Books) (reference : List ℕ) (rule : RunRule) (pass : ℕ) (start : List Settled) → IfTrusted (R.view register.old) (R.view register.new)
+        (IsAtPass (R.view register.old).room books (Entry.Run reference day rule) pass start (R.view register.old).content → due_left books (Entry.Run reference day rule) start ≡ waiting
+        → IfOk result (λ passed. PassEnds books (Entry.Run reference day rule) pass start passed.settled passed.waiting (R.view register.new).content)) }
+    ensures step { IsStep result (R.view register.old) (R.view register.new) }
+{
+    let count = register.count(alloc)?;
+    let mut settled = 0;
+    let mut place = None;
+    'pairs: for _tried in 0..count {
+        match take_past_short(alloc, register, day, place)? {
+            None => return Ok(Passed::of_waiting(settled, waiting)),
+            Some(taken) => {
+                settled = counted(settled, taken.settles);
+                place = Some(taken.place);
+            }
+        }
+    }
+    // there are fewer pairs than entries
+    match register.pair_to_try_after(alloc, day, place)? {
+        None => Ok(Passed::of_waiting(settled, waiting)),
         Some(_) => Err(Fault::Storage),
     }
 }
@@ -203,7 +319,7 @@ pub fn run_passes<R: Register>(
         if !makes_another(rule, last) {
             return Ok(passed.in_all(again + 1));
         }
-        let further = run_pass(alloc, register, day)?;
+        let further = run_further_pass(alloc, register, day, passed.waiting)?;
         last = further.settled;
         passed = passed.with(further);
         if count < passed.settled {

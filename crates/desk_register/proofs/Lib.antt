@@ -2,4 +2,5 @@ pub mod AddsUpLemmas
 pub mod CaseLemmas
 pub mod OnceLemmas
 pub mod RegisteredLemmas
+pub mod ShortLemmas
 pub mod ViewLemmas

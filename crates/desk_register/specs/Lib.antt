@@ -4,4 +4,5 @@ pub mod Checked
 pub mod Looked
 pub mod Registered
 pub mod RegisteredOnce
+pub mod Short
 pub mod View

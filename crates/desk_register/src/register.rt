@@ -4,7 +4,8 @@ ghost use Rattle.desk_codes.specs.Number.{number_of};
 ghost use Rattle.desk_register.specs.View.{View, IfRead, IfTrusted, IsLater, Begins, Commits, GoesBack, Falls, Blames, IsRead, IsChange};
 ghost use Rattle.desk_rules.specs.Content.{history_of};
 ghost use Rattle.desk_register.specs.Changes.{appended, cancelled, pair_cancelled, paired, with_sent, CanAppend, CanCancel, CanCancelPair, CanPair, CanSend, CanSettle, TriesPair};
-ghost use Rattle.desk_register.specs.Looked.{confirmation_in, held_cash_of, held_of, reply_at, sent_to, IsFirstOpposite, IsDuePairAfter, IsHoldingAfter, IsPaid, IsSecurityAfter};
+ghost use Rattle.desk_register.specs.Looked.{confirmation_in, held_cash_of, held_of, reply_at, sent_to, IsFirstOpposite, IsDuePairAfter, IsHoldingAfter, IsMatchedPair, IsPaid, IsSecurityAfter};
+ghost use Rattle.desk_register.specs.Short.{IsToTryAfter, StaysShort};
 ghost use Rattle.desk_rules.specs.History.{entry_at, number_of_key};
 ghost use Rattle.desk_rules.specs.Questions.{sent_at};
 ghost use Rattle.desk_rules.specs.Facts.{is_participant, owner_of, kind_of, last_run};
@@ -200,6 +201,29 @@ pub trait Register {
         ensures value { IfRead (view self.old) (view self.new) (IfOk result (λ r. IsDuePairAfter (view self.old).content (number_of day) place r)) }
         ensures read { IsRead result (view self.old) (view self.new) }
         ensures in_memory { in_memory ≡ true → IsOk result };
+
+    /// A matched pair due by a day after a place, so that each one before it stays short: it lacks what it is said to lack, and
+    /// to try it would change nothing. None where each one after the place stays short. A register that knows of no pair
+    /// that it stays short tells the first, as `due_pair_after` does.
+    fn pair_to_try_after(
+        &mut self,
+        alloc: Global,
+        day: Day,
+        place: Option<Place>,
+    ) -> Result<Option<Place>, Fault>
+        ensures value { IfRead (view self.old) (view self.new) (IfOk result (λ r. IsToTryAfter (view self.old).content (number_of day) place r)) }
+        ensures read { IsRead result (view self.old) (view self.new) }
+    {
+        self.due_pair_after(alloc, day, place)
+    }
+
+    /// Whether the register knows of the matched pair of a place that it stays short, as `pair_to_try_after` says it.
+    fn stays_short(&mut self, _alloc: Global, place: Place) -> Result<bool, Fault>
+        ensures value { IfRead (view self.old) (view self.new) (IfOk result (λ r. r ≡ true → IsMatchedPair (view self.old).content place → StaysShort (view self.old).content place.number)) }
+        ensures read { IsRead result (view self.old) (view self.new) }
+    {
+        Ok(false)
+    }
 
     /// The first security, in order of its bytes, after one; with none, the first of all. None where there is none.
     fn security_after(&mut self, alloc: Global, isin: Option<Isin>) -> Result<Option<Isin>, Fault>

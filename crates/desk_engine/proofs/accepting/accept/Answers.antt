@@ -1,5 +1,4 @@
-use Rattle.std.proofs.Common.{◌≡◌, ◌∙◌}
-use Rattle.desk_rules.specs.Content.{Content}
+use Rattle.std.proofs.Common.{◌∙◌}
 use Rattle.desk_engine.proofs.SoundLemmas.{kept_sound, left_sound}
 use Rattle.desk_engine.proofs.accepting.accept.Goals as goal
 

@@ -28,8 +28,8 @@ returns-then-not-makes_another-clause-ran g c = λ books reference honest sure t
     (makes_no_other c.args.rule c.passes.last (sym c.makes_another.ensures ∙ c.if-not-makes_another.true))
     honest sure tables)
 
-pub run_pass-requires-in-passes-clause-fits : goal.run_pass-requires-in-passes-clause-fits
-run_pass-requires-in-passes-clause-fits g c =
+pub run_further_pass-requires-clause-fits : goal.run_further_pass-requires-clause-fits
+run_further_pass-requires-clause-fits g c =
     let v0 = g.R.Register.view c.args.register.now in
     let more = makes_another c.args.rule c.passes.last (sym c.makes_another.ensures ∙ c.if-not-makes_another.false) in
     passing_can_go v0.room c.in_ok-count.count v0 (g.R.Register.view c.passes.register) c.args.day c.args.rule c.passes.again c.passes.passed.settled c.passes.passed.waiting c.passes.last refl c.passes.invariant more.0 more.1 c.requires.tables
@@ -42,7 +42,7 @@ passes-preserved g c =
     let small : c.in_ok-count.count < 2 ^ 64 = search rules in
     rw c.with-passed.ensures.waiting
     (passing_goes_on v0.room c.in_ok-count.count v0 (g.R.Register.view c.passes.register) c.args.day c.args.rule c.passes.again c.passes.passed.settled c.passes.passed.waiting c.passes.last refl c.passes.invariant
-    (g.R.Register.view c.run_pass-in-passes.new.register) c.with-passed.result.settled c.in_ok-further.further.settled c.in_ok-further.further.waiting more.0 more.1
+    (g.R.Register.view c.run_further_pass.new.register) c.with-passed.result.settled c.in_ok-further.further.settled c.in_ok-further.further.waiting more.0 more.1
     p.step.ok p.step.later p.kept (λ books reference rule pass start honest sure. p.ran books reference rule pass start honest sure) c.with-passed.ensures.settled small)
 
 pub returns-clause-ran : goal.returns-clause-ran
@@ -56,7 +56,7 @@ returns-clause-ran g c = λ books reference honest sure tables.
 pub returns-then-count-passed-clause-step : goal.returns-then-count-passed-clause-step
 returns-then-count-passed-clause-step g c =
     let v0 = g.R.Register.view c.args.register.now in
-    let w = g.R.Register.view c.run_pass-in-passes.new.register in
+    let w = g.R.Register.view c.run_further_pass.new.register in
     let more = makes_another c.args.rule c.passes.last (sym c.makes_another.ensures ∙ c.if-not-makes_another.false) in
     let p = c.in_ok-further.ensures in
     let small : c.in_ok-count.count < 2 ^ 64 = search rules in
