@@ -9,7 +9,7 @@ use Rattle.std.specs.declared.ops.Bound.TheVariants.{Excluded, Unbounded}
 use Rattle.std.specs.List.Sorted.{IsStrictlySortedBy}
 use Rattle.std.specs.BTreeMap.{is_at}
 use Rattle.std.specs.BTreeMap.Range.{range_contains}
-use Rattle.std.specs.BTreeSet.{BTreeSet, keys_between}
+use Rattle.std.specs.BTreeSet.{BTreeSet, contains, keys_between}
 use Rattle.std.proofs.lemmas.Map.Lookups.{CmpEqualImpliesEq, exact_pairs, exact_unsigned}
 use Rattle.std.proofs.lemmas.Map.Keys.{sorted_head, sorted_tail}
 use Rattle.desk_rules.specs.declared.history.pair.Place.{Place}
@@ -17,7 +17,10 @@ use Rattle.desk_rules.specs.Content.{Content}
 use Rattle.desk_rules.specs.Settlement.{is_before, is_past}
 use Rattle.desk_rules.proofs.PlaceLemmas.{before_never, before_true}
 use Rattle.desk_register.specs.Looked.{IsDue, IsDuePairAfter}
-use Rattle.desk_index.specs.DuePlaces.{HasDue, IsDueAt, beginning, place_cmp}
+use Rattle.desk_register.specs.Short.{IsToTryAfter, StaysShort}
+use Rattle.desk_index.specs.DuePlaces.{HasDue, IsDueAt, IsDueOf, IsFirstDueOf, beginning, place_cmp}
+use Rattle.desk_index.specs.Shortages.{KnowsShort}
+use Rattle.desk_index.specs.declared.short.shortages.Shortages.{Shortages}
 use Rattle.desk_register.proofs.CaseLemmas.{by_bool}
 
 -- whether places have this one
@@ -32,7 +35,7 @@ equal_if Less e = cc
 equal_if Equal e = refl
 equal_if Greater e = cc
 
-same_place : (q k : ℕ × ℕ) → is_at (place_cmp q) k ≡ true → q ≡ k
+pub same_place : (q k : ℕ × ℕ) → is_at (place_cmp q) k ≡ true → q ≡ k
 same_place q k e = exact_place q k (equal_if (place_cmp q k) e)
 
 any_filter : {K : Type 0} (t p : K → Bool) (ks : List K) → ((k : K) → t k ≡ true → p k ≡ true) → list_any t ks ≡ true → list_any t (filter p ks) ≡ true
@@ -64,15 +67,15 @@ in_range : (a k : ℕ × ℕ) → place_cmp a k ≡ Less → range_contains plac
 in_range a k e = rw e refl
 
 -- all due pairs stand behind the beginning
-pub all_behind_beginning : (places : BTreeSet (ℕ × ℕ)) (content : Content) (day : ℕ) (above : Option Place) (s : List (ℕ × ℕ)) → HasDue places content
-    → s ≡ keys_between place_cmp (Excluded (beginning above)) Unbounded places → (p : Place) → IsDue content day above p → has (p.day, p.number) s ≡ true
-all_behind_beginning places content day above s due is p d =
+pub all_behind_beginning : (places : BTreeSet (ℕ × ℕ)) (content : Content) (day : ℕ) (above : Option Place) (s : List (ℕ × ℕ))
+    → s ≡ keys_between place_cmp (Excluded (beginning above)) Unbounded places → (p : Place) → IsDueOf places content day above p → has (p.day, p.number) s ≡ true
+all_behind_beginning places content day above s is p d =
     let q : ℕ × ℕ = (p.day, p.number) in
-    let pair = d.pair in
+    let pair = d.due.pair in
     let less = pair.is_earlier in
     rw is (any_filter (is_at (place_cmp q)) (range_contains place_cmp (Excluded (beginning above)) Unbounded) places.keys
-    (λ k e. in_range (beginning above) k (subst (λ z. place_cmp (beginning above) z ≡ Less) (same_place q k e) (behind_beginning above p (omega arith) d.above)))
-    (due.each p pair))
+    (λ k e. in_range (beginning above) k (subst (λ z. place_cmp (beginning above) z ≡ Less) (same_place q k e) (behind_beginning above p (omega arith) d.due.above)))
+    d.there)
 
 -- a place is the first of some, or stands behind it
 pub first_or_behind : {G : Type 0} (q x : ℕ × ℕ) (s t : List (ℕ × ℕ)) → s ≡ x ∷ t → has q s ≡ true → (q ≡ x → G) → (has q t ≡ true → G) → G
@@ -92,16 +95,16 @@ behind_first x q s t is sorted there = less_than x q t (sorted_head place_cmp x 
 pub sorted_behind : (x : ℕ × ℕ) (s t : List (ℕ × ℕ)) → s ≡ x ∷ t → IsStrictlySortedBy place_cmp s → IsStrictlySortedBy place_cmp t
 sorted_behind x s t is sorted = sorted_tail place_cmp x t (subst (IsStrictlySortedBy place_cmp) is sorted)
 
-module _ (content : Content) (day : ℕ) (above : Option Place) (x : ℕ × ℕ) (s t : List (ℕ × ℕ)) (is : s ≡ x ∷ t)
-    (left : (p : Place) → IsDue content day above p → has (p.day, p.number) s ≡ true) (sorted : IsStrictlySortedBy place_cmp s) where
+module _ (places : BTreeSet (ℕ × ℕ)) (content : Content) (day : ℕ) (above : Option Place) (x : ℕ × ℕ) (s t : List (ℕ × ℕ)) (is : s ≡ x ∷ t)
+    (left : (p : Place) → IsDueOf places content day above p → has (p.day, p.number) s ≡ true) (sorted : IsStrictlySortedBy place_cmp s) where
   -- past the day there is none
-  pub none_past_day : day < x.0 → (p : Place) → IsDue content day above p → ⊥
+  pub none_past_day : day < x.0 → (p : Place) → IsDueOf places content day above p → ⊥
   none_past_day past p due = first_or_behind (p.day, p.number) x s t is (left p due)
-      (λ first. let same : p.day ≡ x.0 = ap (λ z. z.0) first in let by = due.by in omega arith)
-      (λ there. let order = not_less_days x.0 p.day x.1 p.number (behind_first x (p.day, p.number) s t is sorted there) in let by = due.by in omega arith)
+      (λ first. let same : p.day ≡ x.0 = ap (λ z. z.0) first in let by = due.due.by in omega arith)
+      (λ there. let order = not_less_days x.0 p.day x.1 p.number (behind_first x (p.day, p.number) s t is sorted there) in let by = due.due.by in omega arith)
 
   -- the first that is due is the first of all
-  pub first_is_due : (d : Place) → IsDueAt content day above x (Some d) → IsDuePairAfter content day above (Some d)
+  pub first_is_due : (d : Place) → IsDueAt content day above x (Some d) → IsFirstDueOf places content day above (Some d)
   first_is_due d found = (
     found.0,
     λ q due. first_or_behind (q.day, q.number) x s t is (left q due)
@@ -110,9 +113,26 @@ module _ (content : Content) (day : ℕ) (above : Option Place) (x : ℕ × ℕ)
   )
 
   -- where the first is not due, all stand behind it
-  pub all_behind : IsDueAt content day above x None → (p : Place) → IsDue content day above p → has (p.day, p.number) t ≡ true
+  pub all_behind : IsDueAt content day above x None → (p : Place) → IsDueOf places content day above p → has (p.day, p.number) t ≡ true
   all_behind none p due = first_or_behind (p.day, p.number) x s t is (left p due)
       (λ first. let days : p.day ≡ x.0 = ap (λ z. z.0) first in let numbers : p.number ≡ x.1 = ap (λ z. z.1) first in
       let same : p ≡ record { day = x.0; number = x.1 } = (λ k. record { day = days k; number = numbers k }) in
-      absurd (none (subst (IsDue content day above) same due)))
+      absurd (none (subst (IsDue content day above) same due.due)))
       (λ there. there)
+
+-- Where all due pairs are among the places, the first of these is the first of all.
+pub first_of_all : (places : BTreeSet (ℕ × ℕ)) (content : Content) (day : ℕ) (above : Option Place) (found : Option Place) → HasDue places content
+    → IsFirstDueOf places content day above found → IsDuePairAfter content day above found
+first_of_all places content day above None all first = λ p due. first p (record { due = due; there = all.each p due.pair })
+first_of_all places content day above (Some d) all first = (first.0, λ q due. first.1 q (record { due = due; there = all.each q due.pair }))
+
+-- Where all others stay short, the first of those to be tried has none but these before it.
+module _ (shortages : Shortages) (content : Content) (day : ℕ) (above : Option Place) (known : shortages.is_known ≡ true) (knows : KnowsShort shortages content) where
+  short_unless : (q : Place) → IsDue content day above q → (IsDueOf shortages.to_try content day above q → ⊥) → StaysShort content q.number
+  short_unless q due none =
+      let out : contains place_cmp shortages.to_try (q.day, q.number) ≡ false = false_from_ne_true (contains place_cmp shortages.to_try (q.day, q.number)) (λ there. none (record { due = due; there = there })) in
+      (knows.each known q due.pair out).short
+
+  pub first_of_tried : (found : Option Place) → IsFirstDueOf shortages.to_try content day above found → IsToTryAfter content day above found
+  first_of_tried None first = λ q due. short_unless q due (first q)
+  first_of_tried (Some d) first = (first.0, λ q due before. short_unless q due (λ due_of. let after = first.1 q due_of in let bad = sym before ∙ after in cc))

@@ -162,7 +162,7 @@ at_end_of : (h : List Entry) (e : Entry) → slice_get (h ++ e ∷ []) (length h
 at_end_of [] e = refl
 at_end_of (x ∷ h) e = at_end_of h e
 
-instruction_end : (h : List Entry) (e : Entry) (n : ℕ) → n ≡ length h + 1 → instruction_at (h ++ e ∷ []) n ≡ instructed e
+pub instruction_end : (h : List Entry) (e : Entry) (n : ℕ) → n ≡ length h + 1 → instruction_at (h ++ e ∷ []) n ≡ instructed e
 instruction_end h e n is = let same : n ≡ suc (length h) = omega arith in rw same (ap (option_and_then instructed) (at_end_of h e))
 
 slice_more : (h : List Entry) (e : Entry) (k : ℕ) → k ≢ length h → slice_get (h ++ e ∷ []) k ≡ slice_get h k
@@ -171,11 +171,11 @@ slice_more [] e (suc k) apart = refl
 slice_more (x ∷ h) e zero apart = refl
 slice_more (x ∷ h) e (suc k) apart = slice_more h e k (λ same. apart (ap suc same))
 
-instruction_more : (h : List Entry) (e : Entry) (n k : ℕ) → n ≡ length h + 1 → k ≢ n → instruction_at (h ++ e ∷ []) k ≡ instruction_at h k
+pub instruction_more : (h : List Entry) (e : Entry) (n k : ℕ) → n ≡ length h + 1 → k ≢ n → instruction_at (h ++ e ∷ []) k ≡ instruction_at h k
 instruction_more h e n zero is apart = refl
 instruction_more h e n (suc k) is apart = ap (option_and_then instructed) (slice_more h e k (λ same. apart (let step : suc k ≡ length h + 1 = omega arith in step ∙ sym is)))
 
-no_mate : (e : Entry) → (first_standing e).mate ≡ None
+pub no_mate : (e : Entry) → (first_standing e).mate ≡ None
 no_mate (Participant reference bic) = refl
 no_mate (Account reference bic account) = refl
 no_mate (Security reference isin kind) = refl
@@ -187,18 +187,18 @@ no_mate (Instruct sender instruction) = refl
 no_mate (Cancel sender order) = refl
 no_mate (Run reference day rule) = refl
 
-history_more : (entry : Entry) (reply : Reply) (content : Content) → history_of (appended entry reply content) ≡ history_of content ++ entry ∷ []
+pub history_more : (entry : Entry) (reply : Reply) (content : Content) → history_of (appended entry reply content) ≡ history_of content ++ entry ∷ []
 history_more entry reply content = map-append (λ k. k.entry) content.register (record { entry = entry; reply = reply } ∷ [])
 
-standing_here : (st : ℕ → Standing) (n : ℕ) (s : Standing) → standing_at st n s n ≡ s
+pub standing_here : (st : ℕ → Standing) (n : ℕ) (s : Standing) → standing_at st n s n ≡ s
 standing_here st n s = let same : (n == n) ≡ true = search rules in rw same refl
 
-standing_other : (st : ℕ → Standing) (n k : ℕ) (s : Standing) → k ≢ n → standing_at st n s k ≡ st k
+pub standing_other : (st : ℕ → Standing) (n k : ℕ) (s : Standing) → k ≢ n → standing_at st n s k ≡ st k
 standing_other st n k s apart = let other : (k == n) ≡ false = grind (arith, apart) in rw other refl
 
 -- What an entry requests changes neither a mate nor how far an instruction has come.
 
-record AreAlike (a b : Standing) : Type 0 where
+pub record AreAlike (a b : Standing) : Type 0 where
   pub mate : a.mate ≡ b.mate
   pub state : a.state ≡ b.state
 
@@ -213,20 +213,20 @@ request_alike (Some j) st k = elim (cases_eq k j) [
       record { mate = ap (λ s. s.mate) same; state = ap (λ s. s.state) same }
 ]
 
-noted_alike : (entry : Entry) (h : List Entry) (st : ℕ → Standing) (k : ℕ) → AreAlike (requests_noted h entry st k) (st k)
+pub noted_alike : (entry : Entry) (h : List Entry) (st : ℕ → Standing) (k : ℕ) → AreAlike (requests_noted h entry st k) (st k)
 noted_alike entry h st k = request_alike (requested_by h entry) st k
 
 pub size_of : (content : Content) → length (history_of content) ≡ length content.register
 size_of content = length-map content.register (λ kept. kept.entry)
 
 module _ (entry : Entry) (reply : Reply) (content : Content) (n : ℕ) (is : n ≡ length content.register + 1) where
-  n_is : n ≡ length (history_of content) + 1
+  pub n_is : n ≡ length (history_of content) + 1
   n_is = is ∙ ap (λ z. z + 1) (sym (size_of content))
 
-  abbrev noted : ℕ → Standing
+  abbrev pub noted : ℕ → Standing
   noted = requests_noted (history_of content) entry content.standing
 
-  stands_otherwise : (k : ℕ) → k ≢ n → noted k ≡ (appended entry reply content).standing k
+  pub stands_otherwise : (k : ℕ) → k ≢ n → noted k ≡ (appended entry reply content).standing k
   stands_otherwise k apart = sym (subst (λ z. standing_at noted z (first_standing entry) k ≡ noted k) is (standing_other noted n k (first_standing entry) apart))
 
   open_appended : (numbers : BTreeSet (MatchKey × ℕ)) → HasOpen numbers content → OpensAt numbers (instructed entry) n → HasOpen numbers (appended entry reply content)
@@ -268,22 +268,22 @@ module _ (entry : Entry) (reply : Reply) (content : Content) (n : ℕ) (is : n �
 -- Two instructions that stand otherwise.
 
 module _ (old new : Content) (m n : ℕ) (s : State) (two : m < n) (apart : s ≢ Unmatched) (same : new.register ≡ old.register) (stand : new.standing ≡ standing_both old.standing m n s) where
-  history_same : history_of new ≡ history_of old
+  pub history_same : history_of new ≡ history_of old
   history_same = ap (λ r. map (λ k. k.entry) r) same
 
-  abbrev later_side : Standing
+  abbrev pub later_side : Standing
   later_side = record (old.standing n) { mate = Some m; state = s }
 
-  abbrev earlier_side : Standing
+  abbrev pub earlier_side : Standing
   earlier_side = record (old.standing m) { mate = Some n; state = s }
 
-  at_later : new.standing n ≡ later_side
+  pub at_later : new.standing n ≡ later_side
   at_later = ap (λ f. f n) stand ∙ standing_here (standing_at old.standing m earlier_side) n later_side
 
-  at_earlier : new.standing m ≡ earlier_side
+  pub at_earlier : new.standing m ≡ earlier_side
   at_earlier = ap (λ f. f m) stand ∙ standing_other (standing_at old.standing m earlier_side) n m later_side (λ e. omega arith) ∙ standing_here old.standing m earlier_side
 
-  at_other : (k : ℕ) → k ≢ n → k ≢ m → new.standing k ≡ old.standing k
+  pub at_other : (k : ℕ) → k ≢ n → k ≢ m → new.standing k ≡ old.standing k
   at_other k not_n not_m = ap (λ f. f k) stand ∙ standing_other (standing_at old.standing m earlier_side) n k later_side not_n ∙ standing_other old.standing m k earlier_side not_m
 
   pub open_restood : (numbers : BTreeSet (MatchKey × ℕ)) → HasOpen numbers old → HasOpen numbers new

@@ -2,6 +2,7 @@ mod AddressedLemmas
 mod ConfirmationLemmas
 mod DueLemmas
 mod FirstLemmas
+mod HeldShortLemmas
 mod IndexedLemmas
 mod KeyIndexLemmas
 mod LookUpLemmas
@@ -9,5 +10,8 @@ mod NthLemmas
 mod NumbersLemmas
 mod OpenLemmas
 mod RegisteredLemmas
+mod ShortageLemmas
 mod TidyLemmas
 mod ToldLemmas
+mod WaitLemmas
+mod WakeLemmas

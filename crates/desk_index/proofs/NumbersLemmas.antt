@@ -19,7 +19,7 @@ not_gt_from_le : (i j : ℕ) → i ≤ j → is_gt (nat_cmp i j) ≡ false
 not_gt_from_le i j le = grind arith
 
 module _ {K : Type 0} {R : K → K → Ordering} (total : IsTotalOrder R) where
-  equal_itself : (a : K) → R a a ≡ Equal
+  pub equal_itself : (a : K) → R a a ≡ Equal
   equal_itself a = equal_itself_at (R a a) (total.antisymm a a)
 
   pub above_start : (key : K) (from m : ℕ) → from ≤ m → IsLeBy (numbered_cmp R) (key, from) (key, m)

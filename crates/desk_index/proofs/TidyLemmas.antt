@@ -16,14 +16,14 @@ use Rattle.desk_index.specs.NumbersByKey.{numbered_cmp}
 use Rattle.desk_index.specs.Open.{HasOpen, key_of, match_cmp}
 use Rattle.desk_index.specs.declared.pairs.match_key.MatchKey.{MatchKey}
 
-no_second : (a b : Bool) → b ≡ false → (a && b) ≡ false
+pub no_second : (a b : Bool) → b ≡ false → (a && b) ≡ false
 no_second true b e = e
 no_second false b e = refl
 
 other_number : (i j : ℕ) → i ≢ j → is_eq (nat_cmp i j) ≡ false
 other_number i j apart = grind (arith, apart)
 
-other_numbered : {K : Type 0} (R : K → K → Ordering) (a b : K) (i j : ℕ) → i ≢ j → is_eq (numbered_cmp R (a, i) (b, j)) ≡ false
+pub other_numbered : {K : Type 0} (R : K → K → Ordering) (a b : K) (i j : ℕ) → i ≢ j → is_eq (numbered_cmp R (a, i) (b, j)) ≡ false
 other_numbered R a b i j apart = sym (tied_then (R a b) (nat_cmp i j)) ∙ no_second (is_eq (R a b)) (is_eq (nat_cmp i j)) (other_number i j apart)
 
 pub open_without : (old new : BTreeSet (MatchKey × ℕ)) (content : Content) (key : MatchKey) (n : ℕ) → ((content.standing n).state ≡ Unmatched → ⊥)

@@ -1,5 +1,5 @@
 -- Where matched pairs are found: by their settlement day and number. Only private contracts and proofs speak of it.
-use Rattle.std.specs.Prelude.{◌≡◌, ℕ, true, Option, Some, None}
+use Rattle.std.specs.Prelude.{◌≡◌, ℕ, true, false, Option, Some, None}
 use Rattle.std.specs.BTreeSet.{BTreeSet, contains}
 use Rattle.std.specs.Ordering.{nat_cmp}
 use Rattle.std.specs.declared.cmp.Ordering.{Ordering}
@@ -7,6 +7,7 @@ use Rattle.desk_codes.specs.Number.{number_of}
 use Rattle.desk_rules.specs.declared.history.entry.Instructed.{Instructed}
 use Rattle.desk_rules.specs.declared.history.pair.Place.{Place}
 use Rattle.desk_rules.specs.Content.{Content}
+use Rattle.desk_rules.specs.Settlement.{is_before}
 use Rattle.desk_register.specs.Looked.{IsDue, IsMatchedPair}
 use Rattle.desk_index.specs.NumbersByKey.{numbered_cmp}
 
@@ -35,3 +36,13 @@ HoldsDue old new = (q : ℕ × ℕ) → contains place_cmp old q ≡ true → co
 abbrev pub PlacedAt : BTreeSet (ℕ × ℕ) → Option Instructed → ℕ → Type 0
 PlacedAt places None n = Unit {0}
 PlacedAt places (Some i) n = contains place_cmp places (number_of i.instruction.day, n) ≡ true
+
+-- a pair that is due and found among some places
+pub record IsDueOf (places : BTreeSet (ℕ × ℕ)) (content : Content) (day : ℕ) (above : Option Place) (p : Place) : Type 0 where
+  pub due : IsDue content day above p
+  pub there : contains place_cmp places (p.day, p.number) ≡ true
+
+-- the first such pair, or there is none
+abbrev pub IsFirstDueOf : BTreeSet (ℕ × ℕ) → Content → ℕ → Option Place → Option Place → Type 0
+IsFirstDueOf places content day above None = (p : Place) → IsDueOf places content day above p → ⊥
+IsFirstDueOf places content day above (Some p) = IsDue content day above p × ((q : Place) → IsDueOf places content day above q → is_before q p ≡ false)

@@ -10,7 +10,11 @@ pub mod Known
 pub mod Messages
 pub mod NumbersAt
 pub mod NumbersByKey
+pub mod OneShortage
 pub mod Open
+pub mod PlacesByKey
 pub mod Registered
+pub mod Shortages
 pub mod TailNumber
 pub mod Touched
+pub mod Wants

@@ -7,10 +7,11 @@ ghost use Rattle.desk_index.specs.IndexView.{view_of_index};
 use crate::entries::known::Known;
 use crate::indexed_register::IndexedRegister;
 use crate::noting::{note_entry, note_message, note_pair, touch_both, touch_settled};
-use crate::pairs::due_places::first_due;
+use crate::pairs::due_places::{first_due, first_to_try};
 use crate::pairs::opposites::first_open_opposite;
 use crate::sent::heading::heading_of;
 use crate::sent::messages::Messages;
+use crate::short::shortages::Shortages;
 use crate::tidying::{forget_all, forget_messages, tidy_all, tidy_new};
 use desk_codes::{AccountId, Bic, Ccy, Day, Isin, Reference};
 use desk_lists::ListRegister;
@@ -37,6 +38,7 @@ impl IndexedRegister {
             touched: Vec::new(alloc),
             messages: Messages::new(alloc),
             told: Vec::new(alloc),
+            shortages: Shortages::new(alloc),
         }
     }
 
@@ -80,6 +82,7 @@ impl Register for IndexedRegister {
         let sent = self.held.message_count();
         forget_messages(&mut self.messages, &mut self.told, sent);
         self.touched.truncate(0);
+        self.shortages.forget();
         Ok(())
     }
 
@@ -175,6 +178,30 @@ impl Register for IndexedRegister {
         Ok(first_due(&self.held, &self.matched, day.yyyymmdd(), &place))
     }
 
+    fn pair_to_try_after(
+        &mut self,
+        _alloc: Global,
+        day: Day,
+        place: Option<Place>,
+    ) -> Result<Option<Place>, Fault> {
+        if let Stage::Failed = self.held.stage() {
+            return Ok(None);
+        }
+        self.shortages.learn(&self.matched);
+        if !self.shortages.is_known {
+            return Ok(first_due(&self.held, &self.matched, day.yyyymmdd(), &place));
+        }
+        Ok(first_to_try(&self.held, &self.shortages, day.yyyymmdd(), &place))
+    }
+
+    fn stays_short(&mut self, _alloc: Global, place: Place) -> Result<bool, Fault> {
+        if let Stage::Failed = self.held.stage() {
+            return Ok(false);
+        }
+        self.shortages.learn(&self.matched);
+        Ok(self.shortages.is_short(&place))
+    }
+
     fn security_after(
         &mut self,
         _alloc: Global,
@@ -214,6 +241,7 @@ impl Register for IndexedRegister {
         {
             return Err(self.held.fail());
         }
+        self.shortages.note_added(&entry);
         self.held.append_named(entry, reply, named)
     }
 
@@ -229,6 +257,7 @@ impl Register for IndexedRegister {
         {
             return Err(self.held.fail());
         }
+        self.shortages.note_made(&self.held, later);
         match self.held.pair(alloc, earlier, later) {
             Ok(()) => {
                 let noted = noted_count(&self.noted);
@@ -263,6 +292,7 @@ impl Register for IndexedRegister {
                     number,
                 );
                 touch_settled(&mut self.touched, mate, number, outcome);
+                self.shortages.note_tried(&self.held, mate, number, outcome);
                 Ok(outcome)
             }
             Err(fault) => Err(fault),
@@ -280,6 +310,7 @@ impl Register for IndexedRegister {
         if touch_both(&mut self.touched, earlier, later).is_err() {
             return Err(self.held.fail());
         }
+        self.shortages.note_cancelled(&self.held, earlier, later);
         self.held.cancel_pair(alloc, earlier, later)
     }
 

@@ -2,18 +2,21 @@
 ghost use Rattle.desk_lists.specs.ListView.{view_of_lists};
 ghost use Rattle.desk_index.specs.Indexed.{IsIndexed};
 ghost use Rattle.desk_index.specs.Messages.{IsTold};
+ghost use Rattle.desk_index.specs.OneShortage.{holds_short_prop};
+ghost use Rattle.desk_index.specs.Shortages.{HoldsShort};
 
 use crate::entries::known::Known;
 use crate::pairs::match_key::MatchKey;
 use crate::sent::heading::Heading;
 use crate::sent::messages::Messages;
+use crate::short::shortages::Shortages;
 use desk_lists::ListRegister;
 use desk_rules::Entry;
 use std::collections::BTreeSet;
 
 /// A register in lists, with look-ups beside them: what it holds is what the lists hold. Contracts see it by
 /// `view_of_index`. What is known by keys is exact, and so are the messages. The two sets may have too much, never too little: what they find is looked at
-/// in the lists.
+/// in the lists. A pair that is known to stay short does; of others nothing is said.
 #[derive(Drop)]
 pub struct IndexedRegister {
     pub(crate) held: ListRegister,
@@ -29,6 +32,9 @@ pub struct IndexedRegister {
     pub(crate) messages: Messages,
     /// What was sent since `begin`
     pub(crate) told: Vec<Heading>,
+    /// The matched pairs that are known to stay short
+    pub(crate) shortages: Shortages,
     ghost indexed: { IsIndexed (view_of_lists held) known unmatched matched noted.items },
     ghost sent_indexed: { IsTold (view_of_lists held) messages told.items },
+    ghost shortages_known: { HoldsShort (view_of_lists held) shortages } by { holds_short_prop (view_of_lists held) shortages },
 }

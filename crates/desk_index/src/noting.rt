@@ -126,7 +126,7 @@ fn push_both(touched: &mut Vec<u64>, earlier: u64, later: u64)
 }
 
 /// Notes a pair by its place, where its number is an instruction's.
-fn place_instruction(
+pub fn place_instruction(
     held: &ListRegister,
     places: &mut BTreeSet<(u64, u64)>,
     number: u64,

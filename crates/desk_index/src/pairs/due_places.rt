@@ -1,9 +1,12 @@
 //! The matched pairs by their settlement days and numbers.
-ghost use Rattle.std.specs.Prelude.{◌≡◌};
+ghost use Rattle.std.specs.Prelude.{◌≡◌, true};
 ghost use Rattle.desk_register.specs.Looked.{IsDuePairAfter};
+ghost use Rattle.desk_register.specs.Short.{IsToTryAfter};
 ghost use Rattle.desk_lists.specs.ListView.{view_of_lists};
-ghost use Rattle.desk_index.specs.DuePlaces.{HasDue, IsDueAt, beginning};
+ghost use Rattle.desk_index.specs.DuePlaces.{HasDue, IsDueAt, IsFirstDueOf, beginning};
+ghost use Rattle.desk_index.specs.Shortages.{KnowsShort};
 
+use crate::short::shortages::Shortages;
 use desk_lists::ListRegister;
 use desk_rules::Place;
 use std::collections::BTreeSet;
@@ -30,15 +33,14 @@ fn beginning(above: &Option<Place>) -> (u64, u64)
     }
 }
 
-/// The first place of a matched pair that is due by a day, above a place.
-pub fn first_due(
+/// The first place of a matched pair among some that is due by a day, above a place.
+fn first_due_of(
     held: &ListRegister,
     places: &BTreeSet<(u64, u64)>,
     day: u64,
     above: &Option<Place>,
 ) -> Option<Place>
-    requires { HasDue places.now (view_of_lists held.now).content }
-    ensures { IsDuePairAfter (view_of_lists held.now).content day above.now result }
+    ensures { IsFirstDueOf places.now (view_of_lists held.now).content day above.now result }
 {
     for place in places.range((Bound::Excluded(beginning(above)), Bound::Unbounded)) {
         if place.0 > day {
@@ -49,4 +51,32 @@ pub fn first_due(
         }
     }
     None
+}
+
+/// The first place of a matched pair that is due by a day, above a place.
+pub fn first_due(
+    held: &ListRegister,
+    places: &BTreeSet<(u64, u64)>,
+    day: u64,
+    above: &Option<Place>,
+) -> Option<Place>
+    requires { HasDue places.now (view_of_lists held.now).content }
+    ensures { IsDuePairAfter (view_of_lists held.now).content day above.now result }
+{
+    first_due_of(held, places, day, above)
+}
+
+/// The first place of a matched pair that is to be tried and due by a day, above a place: before it stands none but those
+/// that stay short.
+pub fn first_to_try(
+    held: &ListRegister,
+    shortages: &Shortages,
+    day: u64,
+    above: &Option<Place>,
+) -> Option<Place>
+    requires known { shortages.now.is_known ≡ true }
+    requires short { KnowsShort shortages.now (view_of_lists held.now).content }
+    ensures { IsToTryAfter (view_of_lists held.now).content day above.now result }
+{
+    first_due_of(held, &shortages.to_try, day, above)
 }

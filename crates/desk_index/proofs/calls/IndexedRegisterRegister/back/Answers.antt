@@ -7,6 +7,7 @@ use Rattle.desk_index.specs.Headings.{heading_of, headings_of}
 use Rattle.desk_index.specs.Messages.{AreMessagesOf}
 use Rattle.desk_lists.specs.ListView.{view_of_lists}
 use Rattle.desk_index.specs.Open.{HasOpen}
+use Rattle.desk_index.proofs.HeldShortLemmas.{short_forgotten}
 use Rattle.desk_index.proofs.IndexedLemmas.{idle_indexed, idle_mark, size_of}
 use Rattle.desk_index.proofs.ToldLemmas.{told_idle}
 use Rattle.desk_index.proofs.calls.IndexedRegisterRegister.back.Goals as goal
@@ -24,4 +25,5 @@ invariant_of-self-2 c =
           (subst (HasDue r.matched) (sym same) r.indexed.due_marked);
       sent_indexed = told_idle c.forget_messages.new.messages c.forget_messages.new.told.items new (idle_mark c.back.new.self goes.stage) c.forget_messages.ensures.none
           (c.forget_messages.ensures.forgot (headings_of new.content) (subst (λ m. AreMessagesOf r.messages (headings_of m ++ r.told.items)) (sym same) r.sent_indexed.marked) (c.message_count-sent.ensures ∙ sym (length-map new.content.sent heading_of)));
+      shortages_known = short_forgotten c.forget.new.self new c.forget.ensures;
     }

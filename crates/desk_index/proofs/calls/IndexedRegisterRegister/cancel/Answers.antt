@@ -2,7 +2,9 @@ use Rattle.std.proofs.Common.{refl}
 use Rattle.desk_register.specs.Changes.{cancelled}
 use Rattle.desk_lists.specs.ListView.{view_of_lists}
 use Rattle.desk_register.proofs.ViewLemmas.{blames_memory}
+use Rattle.desk_index.proofs.HeldShortLemmas.{known_begun, short_changed, short_failed}
 use Rattle.desk_index.proofs.IndexedLemmas.{after_cancel, after_failure}
+use Rattle.desk_index.proofs.ShortageLemmas.{after_cancelled}
 use Rattle.desk_index.proofs.ToldLemmas.{told_apart, told_fails}
 use Rattle.desk_index.proofs.calls.IndexedRegisterRegister.cancel.Goals as goal
 
@@ -13,6 +15,7 @@ invariant_of-self c =
       indexed = after_failure r.known r.known r.unmatched r.unmatched r.matched r.matched r.noted.items r.noted.items (view_of_lists r.held) (view_of_lists c.fail.new.self) r.indexed
           c.fail.ensures.stage c.fail.ensures.mark (λ q there. there) (λ q there. there) refl (λ known. known);
       sent_indexed = told_fails r.messages r.told.items r.held c.fail.new.self r.sent_indexed c.fail.ensures.stage c.fail.ensures.mark;
+      shortages_known = short_failed r.shortages (view_of_lists c.fail.new.self) c.fail.ensures.stage;
     }
 
 pub returns-then-is_err-clause-change : goal.returns-then-is_err-clause-change
@@ -25,4 +28,6 @@ invariant_of-self-2 c =
     record {
       indexed = after_cancel r.known r.unmatched r.matched r.noted.items r.held c.cancel.new.self c.requires.stage r.indexed c.cancel.result c.args.number (c.cancel.ensures.cancelled tt tt) change.ok change.err;
       sent_indexed = told_apart r.messages r.told.items r.held c.cancel.new.self r.sent_indexed c.cancel.result (cancelled c.args.number) (λ content. refl) (c.cancel.ensures.cancelled tt tt) change.ok change.err;
+      shortages_known = short_changed c.cancel.result r.shortages (view_of_lists r.held) (view_of_lists c.cancel.new.self) (cancelled c.args.number (view_of_lists r.held).content) c.requires.stage (c.cancel.ensures.cancelled tt tt) change.err
+          (after_cancelled r.shortages c.args.number (view_of_lists r.held).content (c.requires.fits tt tt).unmatched (known_begun r.shortages (view_of_lists r.held) c.requires.stage r.shortages_known));
     }

@@ -2,6 +2,7 @@ use Rattle.std.proofs.Common.{refl}
 use Rattle.desk_register.specs.Changes.{pair_cancelled}
 use Rattle.desk_lists.specs.ListView.{view_of_lists}
 use Rattle.desk_register.proofs.ViewLemmas.{blames_memory}
+use Rattle.desk_index.proofs.HeldShortLemmas.{known_begun, knows_pair_cancelled, short_changed, short_failed}
 use Rattle.desk_index.proofs.IndexedLemmas.{after_cancel_pair, after_failure}
 use Rattle.desk_index.proofs.ToldLemmas.{told_apart, told_fails}
 use Rattle.desk_index.proofs.calls.IndexedRegisterRegister.cancel_pair.Goals as goal
@@ -13,6 +14,7 @@ invariant_of-self c =
       indexed = after_failure r.known r.known r.unmatched r.unmatched r.matched r.matched r.noted.items r.noted.items (view_of_lists r.held) (view_of_lists c.fail.new.self) r.indexed
           c.fail.ensures.stage c.fail.ensures.mark (λ q there. there) (λ q there. there) refl (λ known. known);
       sent_indexed = told_fails r.messages r.told.items r.held c.fail.new.self r.sent_indexed c.fail.ensures.stage c.fail.ensures.mark;
+      shortages_known = short_failed r.shortages (view_of_lists c.fail.new.self) c.fail.ensures.stage;
     }
 
 pub returns-then-is_err-clause-change : goal.returns-then-is_err-clause-change
@@ -25,4 +27,6 @@ invariant_of-self-2 c =
     record {
       indexed = after_cancel_pair r.known r.unmatched r.matched r.noted.items r.held c.cancel_pair.new.self c.requires.stage r.indexed c.cancel_pair.result c.args.earlier c.args.later (c.cancel_pair.ensures.cancelled tt tt) change.ok change.err;
       sent_indexed = told_apart r.messages r.told.items r.held c.cancel_pair.new.self r.sent_indexed c.cancel_pair.result (pair_cancelled c.args.earlier c.args.later) (λ content. refl) (c.cancel_pair.ensures.cancelled tt tt) change.ok change.err;
+      shortages_known = short_changed c.cancel_pair.result c.note_cancelled.new.self (view_of_lists r.held) (view_of_lists c.cancel_pair.new.self) (pair_cancelled c.args.earlier c.args.later (view_of_lists r.held).content) c.requires.stage (c.cancel_pair.ensures.cancelled tt tt) change.err
+          (knows_pair_cancelled r.shortages c.note_cancelled.new.self (view_of_lists r.held).content c.args.earlier c.args.later (c.requires.fits tt tt) c.note_cancelled.ensures (known_begun r.shortages (view_of_lists r.held) c.requires.stage r.shortages_known));
     }

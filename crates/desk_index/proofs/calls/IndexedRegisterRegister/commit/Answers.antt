@@ -2,6 +2,7 @@ use Rattle.std.proofs.Common.{sym, subst}
 use Rattle.desk_index.specs.DuePlaces.{HasDue}
 use Rattle.desk_lists.specs.ListView.{view_of_lists}
 use Rattle.desk_index.specs.Open.{HasOpen}
+use Rattle.desk_index.proofs.HeldShortLemmas.{known_begun, short_of}
 use Rattle.desk_index.proofs.IndexedLemmas.{begun_is_not_failed, idle_indexed, idle_mark, kept_keys}
 use Rattle.desk_index.proofs.ToldLemmas.{kept_messages, told_idle}
 use Rattle.desk_index.proofs.calls.IndexedRegisterRegister.commit.Goals as goal
@@ -20,4 +21,5 @@ invariant_of-self-2 c =
           (c.tidy_all.ensures.unmatched (subst (HasOpen r.unmatched) (sym same) (r.indexed.open_now apart)))
           (c.tidy_all.ensures.matched (subst (HasDue r.matched) (sym same) (r.indexed.due_now apart)));
       sent_indexed = told_idle r.messages c.truncate-2.new.self.items new (idle_mark c.commit.new.self commits.stage) c.truncate-2.ensures.items (kept_messages r.messages r.told.items old new r.sent_indexed apart same);
+      shortages_known = short_of r.shortages new old.content same (known_begun r.shortages old c.requires r.shortages_known);
     }

@@ -1,3 +1,4 @@
+use Rattle.desk_index.proofs.HeldShortLemmas.{short_read}
 use Rattle.desk_index.proofs.IndexedLemmas.{read_keeps}
 use Rattle.desk_index.proofs.ToldLemmas.{told_read}
 use Rattle.desk_index.proofs.calls.IndexedRegisterRegister.count.Goals as goal
@@ -8,4 +9,5 @@ invariant_of-self c =
     record {
       indexed = read_keeps c.count.result r.known r.unmatched r.matched r.noted.items r.held c.count.new.self c.count.ensures.read r.indexed;
       sent_indexed = told_read r.messages r.told.items r.held c.count.new.self r.sent_indexed c.count.result c.count.ensures.read;
+      shortages_known = short_read r.shortages r.held c.count.new.self r.shortages_known c.count.result c.count.ensures.read;
     }

@@ -2,6 +2,7 @@ use Rattle.std.proofs.Common.{refl}
 use Rattle.desk_register.specs.Changes.{paired}
 use Rattle.desk_lists.specs.ListView.{view_of_lists}
 use Rattle.desk_register.proofs.ViewLemmas.{blames_memory}
+use Rattle.desk_index.proofs.HeldShortLemmas.{known_begun, knows_paired, short_changed, short_failed}
 use Rattle.desk_index.proofs.IndexedLemmas.{after_failure, after_pair, retidied, still_begun, where_it_went}
 use Rattle.desk_index.proofs.ToldLemmas.{told_apart, told_fails}
 use Rattle.desk_index.proofs.calls.IndexedRegisterRegister.pair.Goals as goal
@@ -14,6 +15,7 @@ invariant_of-self c =
       indexed = after_failure r.known r.known r.unmatched r.unmatched r.matched noting.new.places r.noted.items r.noted.items (view_of_lists r.held) (view_of_lists c.fail.new.self) r.indexed
           c.fail.ensures.stage c.fail.ensures.mark (λ q there. there) noting.ensures.all refl (λ keyed. keyed);
       sent_indexed = told_fails r.messages r.told.items r.held c.fail.new.self r.sent_indexed c.fail.ensures.stage c.fail.ensures.mark;
+      shortages_known = short_failed r.shortages (view_of_lists c.fail.new.self) c.fail.ensures.stage;
     }
 
 pub returns-then-is_err-clause-change : goal.returns-then-is_err-clause-change
@@ -31,6 +33,9 @@ invariant_of-self-in-Ok c =
       indexed = retidied r.known r.unmatched c.tidy_new.new.numbers noting.new.places c.tidy_new.new.places r.noted.items c.noted_count-noted.result held
           (still_begun (view_of_lists r.held) held c.requires.stage c.in-Ok.ensures.change.ok) c.noted_count-noted.ensures c.tidy_new.ensures.unmatched c.tidy_new.ensures.matched indexed;
       sent_indexed = told_apart r.messages r.told.items r.held c.pair.new.self r.sent_indexed c.pair.result (paired c.args.earlier c.args.later) (λ content. refl) (c.pair.ensures.paired tt tt) change.ok change.err;
+      shortages_known = short_changed c.pair.result c.note_made.new.self (view_of_lists r.held) (view_of_lists c.pair.new.self) (paired c.args.earlier c.args.later (view_of_lists r.held).content) c.requires.stage (c.pair.ensures.paired tt tt) change.err
+          (knows_paired c.note_made.new.self (view_of_lists r.held).content c.args.earlier c.args.later (c.requires.fits tt tt) c.note_made.ensures.placed
+          (c.note_made.ensures.kept (view_of_lists r.held).content (known_begun r.shortages (view_of_lists r.held) c.requires.stage r.shortages_known)));
     }
 
 pub invariant_of-self-in-Err-1 : goal.invariant_of-self-in-Err-1
@@ -42,4 +47,7 @@ invariant_of-self-in-Err-1 c =
       indexed = after_pair r.known r.unmatched r.matched noting.new.places r.noted.items (view_of_lists r.held) (view_of_lists c.pair.new.self) tt tt tt c.requires.stage r.indexed noting.ensures.all
           c.pair.result c.args.earlier c.args.later (c.requires.fits tt tt).two (where_it_went noting.result c.if-is_err.ensures.value noting.ensures.opened) c.pair.ensures.paired change.ok change.err;
       sent_indexed = told_apart r.messages r.told.items r.held c.pair.new.self r.sent_indexed c.pair.result (paired c.args.earlier c.args.later) (λ content. refl) (c.pair.ensures.paired tt tt) change.ok change.err;
+      shortages_known = short_changed c.pair.result c.note_made.new.self (view_of_lists r.held) (view_of_lists c.pair.new.self) (paired c.args.earlier c.args.later (view_of_lists r.held).content) c.requires.stage (c.pair.ensures.paired tt tt) change.err
+          (knows_paired c.note_made.new.self (view_of_lists r.held).content c.args.earlier c.args.later (c.requires.fits tt tt) c.note_made.ensures.placed
+          (c.note_made.ensures.kept (view_of_lists r.held).content (known_begun r.shortages (view_of_lists r.held) c.requires.stage r.shortages_known)));
     }

@@ -1,0 +1,52 @@
+//! What pairs that are short wait for.
+ghost use Rattle.std.specs.Prelude.{◌≡◌};
+ghost use Rattle.desk_index.specs.Wants.{cash_want, woken_by};
+
+use desk_codes::{AccountId, Bic, Ccy, Isin};
+use desk_msg::Cash;
+use desk_rules::Entry;
+
+/// What has to change before a pair that is short can fare otherwise.
+#[derive(Clone, Copy, Debug, PartialEq, Eq, PartialOrd, Ord)]
+pub enum Want {
+    /// That an account holds more of a security
+    MoreHeld { account: AccountId, isin: Isin },
+    /// That an account holds less of a security
+    LessHeld { account: AccountId, isin: Isin },
+    /// That a participant has more of a currency
+    MoreCash { bic: Bic, ccy: Ccy },
+}
+
+/// That a participant has more of the currency in which cash is, if there is cash.
+pub fn cash_want(bic: Bic, cash: Option<Cash>) -> Option<Want>
+    ensures { result ≡ cash_want bic cash }
+{
+    match cash {
+        Some(asked) => Some(Want::MoreCash {
+            bic,
+            ccy: asked.ccy,
+        }),
+        None => None,
+    }
+}
+
+/// What an entry brings about, of what a pair can wait for.
+pub fn woken_by(entry: &Entry) -> Option<Want>
+    ensures { result ≡ woken_by entry.now }
+{
+    match entry {
+        Entry::Issue(movement) => Some(Want::MoreHeld {
+            account: movement.account,
+            isin: movement.isin,
+        }),
+        Entry::Redeem(movement) => Some(Want::LessHeld {
+            account: movement.account,
+            isin: movement.isin,
+        }),
+        Entry::PayIn(payment) => Some(Want::MoreCash {
+            bic: payment.bic,
+            ccy: payment.ccy,
+        }),
+        _ => None,
+    }
+}
