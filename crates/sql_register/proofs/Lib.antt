@@ -2,6 +2,8 @@ pub mod SaidLemmas
 pub mod StageLemmas
 pub mod LookLemmas
 pub mod ReadLemmas
+pub mod FactLemmas
+pub mod KnownLemmas
 pub mod ChangeLemmas
 pub mod FrameLemmas
 pub mod ContentLemmas

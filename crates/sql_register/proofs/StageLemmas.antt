@@ -6,7 +6,7 @@ use Rattle.desk_register.specs.declared.register.Stage.TheVariants.{Idle, Begun,
 use Rattle.sql_tables.specs.Control.{Begins}
 use Rattle.sql_register.specs.Holds.{IsDesk}
 use Rattle.sql_register.specs.Kept.{IsOpenDesk}
-use Rattle.sql_register.specs.Undone.{IsNotTakenBack}
+use Rattle.sql_register.specs.Undone.{IsNotTakenBack, IsTakenBack}
 
 pub begun_desk : (old new : State) → IsOpenDesk old Idle → Begins old new → IsOpenDesk new Begun
 begun_desk old new was begins = record {
@@ -30,4 +30,16 @@ failed_desk old new stage was fell = record {
   begun = λ e. absurd (cc);
   unmarked = λ e. absurd (cc);
   outside = fell.outside;
+}
+
+pub back_desk : (old new : State) (stage : Stage) → IsOpenDesk old stage → IsTakenBack old new → IsOpenDesk new Idle
+back_desk old new stage was back = record {
+  committed = subst IsDesk (sym back.committed) was.committed;
+  schema = ap (λ d. d.schema) back.now ∙ was.committed.schema;
+  now = λ goes. subst IsDesk (sym back.now) was.committed;
+  idle = λ e. back.now ∙ sym back.committed;
+  closed = λ e. back.mode;
+  begun = λ e. absurd (cc);
+  unmarked = λ e. absurd (cc);
+  outside = λ out. back.marks;
 }

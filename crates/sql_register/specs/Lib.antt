@@ -3,6 +3,8 @@ pub mod Content
 pub mod Holds
 pub mod Appending
 pub mod Kept
+pub mod Facts
+pub mod Known
 pub mod Undone
 pub mod Told
 pub mod Pairs

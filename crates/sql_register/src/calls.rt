@@ -1,5 +1,6 @@
 //! The calls of a register in SQL.
 
+use crate::counting::{count_entries, count_messages};
 use crate::sql_register::SqlRegister;
 use crate::undoing::take_back;
 use crate::{appending, cancelling, looking, pairing, sending, settling};
@@ -7,11 +8,8 @@ use desk_codes::{AccountId, Bic, Ccy, Day, Isin, Reference};
 use desk_msg::{Instruction, Kind};
 use desk_register::{Fault, Holding, Outcome, Register, Stage};
 use desk_rules::{Entry, Place, Reply, Sender, Sent, Standing};
-use sql_entries::{
-    entry_at, entry_count, is_participant, kind_of, last_run, number_of, owner_of, reply_at,
-    security_after,
-};
-use sql_sent::{confirmation_of, sent_at, sent_count};
+use sql_entries::{last_run, number_of, reply_at, security_after};
+use sql_sent::{confirmation_of, sent_at};
 use sql_standings::standings::standing;
 use sql_tables::control;
 use sqlite::Alter;
@@ -53,7 +51,7 @@ impl<S: Alter> Register for SqlRegister<S> {
         self.course.stage = Stage::Failed;
         match take_back(&mut self.conn) {
             Ok(()) => {
-                self.course.stage = Stage::Idle;
+                self.course.taken_back();
                 Ok(())
             }
             Err(error) => Err(self.course.fault_of(error)),
@@ -65,19 +63,24 @@ impl<S: Alter> Register for SqlRegister<S> {
     }
 
     fn count(&mut self, _alloc: Global) -> Result<u64, Fault> {
-        self.course.told(entry_count(&mut self.conn))
+        let known = self.course.known.entries;
+        self.course
+            .told_entries(count_entries(&mut self.conn, known))
     }
 
     fn participant(&mut self, _alloc: Global, bic: Bic) -> Result<bool, Fault> {
-        self.course.told(is_participant(&mut self.conn, bic))
+        let found = looking::participant(&mut self.conn, &self.course.known.facts, bic);
+        self.course.told_participant(bic, found)
     }
 
     fn owner(&mut self, _alloc: Global, account: AccountId) -> Result<Option<Bic>, Fault> {
-        self.course.told(owner_of(&mut self.conn, account))
+        let found = looking::owner(&mut self.conn, &self.course.known.facts, account);
+        self.course.told_owner(account, found)
     }
 
     fn security(&mut self, _alloc: Global, isin: Isin) -> Result<Option<Kind>, Fault> {
-        self.course.told(kind_of(&mut self.conn, isin))
+        let found = looking::security(&mut self.conn, &self.course.known.facts, isin);
+        self.course.told_kind(isin, found)
     }
 
     fn outstanding(&mut self, _alloc: Global, isin: Isin) -> Result<u64, Fault> {
@@ -103,7 +106,8 @@ impl<S: Alter> Register for SqlRegister<S> {
     }
 
     fn entry(&mut self, alloc: Global, number: u64) -> Result<Option<Entry>, Fault> {
-        self.course.told(entry_at(&mut self.conn, alloc, number))
+        let found = looking::entry(&mut self.conn, &mut self.course.known.facts, alloc, number);
+        self.course.told(found)
     }
 
     fn standing(&mut self, _alloc: Global, number: u64) -> Result<Standing, Fault> {
@@ -169,7 +173,9 @@ impl<S: Alter> Register for SqlRegister<S> {
     }
 
     fn sent_count(&mut self, _alloc: Global) -> Result<u64, Fault> {
-        self.course.told(sent_count(&mut self.conn))
+        let known = self.course.known.messages;
+        self.course
+            .told_messages(count_messages(&mut self.conn, known))
     }
 
     fn sent(&mut self, alloc: Global, bic: Bic, number: u64) -> Result<Option<Sent>, Fault> {
@@ -183,18 +189,21 @@ impl<S: Alter> Register for SqlRegister<S> {
     }
 
     fn append(&mut self, _alloc: Global, entry: Entry, reply: Reply) -> Result<(), Fault> {
-        self.course
-            .told(appending::append(&mut self.conn, &entry, &reply))
+        let known = self.course.known.entries;
+        let added = appending::append(&mut self.conn, known, &entry, &reply);
+        self.course.told_entry(entry, added)
     }
 
     fn pair(&mut self, alloc: Global, earlier: u64, later: u64) -> Result<(), Fault> {
-        self.course
-            .told(pairing::pair(&mut self.conn, alloc, earlier, later))
+        let facts = &mut self.course.known.facts;
+        let paired = pairing::pair(&mut self.conn, facts, alloc, earlier, later);
+        self.course.told(paired)
     }
 
     fn settle_pair(&mut self, alloc: Global, number: u64, day: Day) -> Result<Outcome, Fault> {
-        self.course
-            .told(settling::settle_pair(&mut self.conn, alloc, number, day))
+        let facts = &mut self.course.known.facts;
+        let tried = settling::settle_pair(&mut self.conn, facts, alloc, number, day);
+        self.course.told(tried)
     }
 
     fn cancel(&mut self, _alloc: Global, number: u64) -> Result<(), Fault> {
@@ -202,10 +211,14 @@ impl<S: Alter> Register for SqlRegister<S> {
     }
 
     fn cancel_pair(&mut self, alloc: Global, earlier: u64, later: u64) -> Result<(), Fault> {
-        self.course.told(pairing::cancel_pair(&mut self.conn, alloc, earlier, later))
+        let facts = &mut self.course.known.facts;
+        let cancelled = pairing::cancel_pair(&mut self.conn, facts, alloc, earlier, later);
+        self.course.told(cancelled)
     }
 
     fn send(&mut self, _alloc: Global, message: Sent) -> Result<(), Fault> {
-        self.course.told(sending::send(&mut self.conn, &message))
+        let known = self.course.known.messages;
+        self.course
+            .told_message(sending::send(&mut self.conn, known, &message))
     }
 }

@@ -1,17 +1,27 @@
 //! What becomes of a register whose call has failed.
-ghost use Rattle.std.specs.Prelude.{◌≡◌};
+ghost use Rattle.std.specs.Prelude.{◌≡◌, List, [], ◌∷◌, ◌++◌, length, IfOk, OnErr, OnOk};
 ghost use Rattle.desk_register.specs.View.{fallen};
+ghost use Rattle.desk_rules.specs.declared.answers.reply.Kept.{Kept};
+ghost use Rattle.desk_rules.specs.declared.answers.reply.Sent.{Sent};
+ghost use Rattle.desk_rules.specs.Facts.{is_participant, kind_of, owner_of};
+ghost use Rattle.sql_entries.specs.Entries.{entries_in};
+ghost use Rattle.sql_register.specs.Known.{IsKnownOf, KnowsNothing};
 ghost use Rattle.sql_register.specs.Told.{Counts, IsTold};
 
+use crate::known::{Known, one_more};
+use desk_codes::{AccountId, Bic, Isin};
+use desk_msg::Kind;
 use desk_register::{Fault, Stage};
+use desk_rules::Entry;
 use sqlite::{Error, ErrorCode};
 
-/// How a register fares: the stage of what was begun, and how many answers named the device.
-#[derive(Clone, Copy, Debug, PartialEq, Eq)]
+/// How a register fares: the stage of what was begun, how many answers named the device, and what is known of the tables.
+#[derive(Clone, Copy)]
 pub struct Course {
     pub(crate) stage: Stage,
     /// It stops at the greatest number
     pub(crate) failures: u64,
+    pub(crate) known: Known,
 }
 
 /// The stage after a call that failed.
@@ -29,7 +39,9 @@ impl Course {
     pub(crate) fn fault_of(&mut self, error: Error) -> Fault
         ensures counts { Counts error result self.old.failures self.new.failures }
         ensures stage { self.new.stage ≡ self.old.stage }
+        ensures nothing { KnowsNothing self.new.known }
     {
+        self.known = Known::nothing();
         match error {
             Error::SqliteFailure(ErrorCode::OutOfMemory | ErrorCode::TooBig) => Fault::Memory,
             _ => {
@@ -39,9 +51,21 @@ impl Course {
         }
     }
 
+    /// What was begun is taken back.
+    pub(crate) fn taken_back(&mut self)
+        ensures stage { self.new.stage ≡ Stage.Idle }
+        ensures failures { self.new.failures ≡ self.old.failures }
+        ensures nothing { KnowsNothing self.new.known }
+    {
+        self.stage = Stage::Idle;
+        self.known = Known::nothing();
+    }
+
     /// What a call on the tables gave, as it is told of the register: where the call failed, so does what was begun.
     pub(crate) fn told<T>(&mut self, given: Result<T, Error>) -> Result<T, Fault>
-        ensures { IsTold given result self.old.stage self.new.stage self.old.failures self.new.failures }
+        ensures told { IsTold given result self.old.stage self.new.stage self.old.failures self.new.failures }
+        ensures known { (register : List Kept) (sent : List Sent) → IsKnownOf self.old.known register sent → OnOk given (IsKnownOf self.new.known register sent) }
+        ensures nothing { OnErr given (KnowsNothing self.new.known) }
     {
         match given {
             Ok(value) => Ok(value),
@@ -50,5 +74,112 @@ impl Course {
                 Err(self.fault_of(error))
             }
         }
+    }
+
+    /// The same of a call that counts the entries.
+    pub(crate) fn told_entries(&mut self, given: Result<u64, Error>) -> Result<u64, Fault>
+        ensures told { IsTold given result self.old.stage self.new.stage self.old.failures self.new.failures }
+        ensures known { (register : List Kept) (sent : List Sent) → IsKnownOf self.old.known register sent → IfOk given (λ n. n ≡ length register) → OnOk given (IsKnownOf self.new.known register sent) }
+        ensures nothing { OnErr given (KnowsNothing self.new.known) }
+    {
+        match given {
+            Ok(count) => {
+                self.known.entries = Some(count);
+                Ok(count)
+            }
+            Err(error) => self.told(Err(error)),
+        }
+    }
+
+    /// The same of a call that counts the messages.
+    pub(crate) fn told_messages(&mut self, given: Result<u64, Error>) -> Result<u64, Fault>
+        ensures told { IsTold given result self.old.stage self.new.stage self.old.failures self.new.failures }
+        ensures known { (register : List Kept) (sent : List Sent) → IsKnownOf self.old.known register sent → IfOk given (λ n. n ≡ length sent) → OnOk given (IsKnownOf self.new.known register sent) }
+        ensures nothing { OnErr given (KnowsNothing self.new.known) }
+    {
+        match given {
+            Ok(count) => {
+                self.known.messages = Some(count);
+                Ok(count)
+            }
+            Err(error) => self.told(Err(error)),
+        }
+    }
+
+    /// The same of a call that looks whether a BIC is a participant's.
+    pub(crate) fn told_participant(
+        &mut self,
+        bic: Bic,
+        given: Result<bool, Error>,
+    ) -> Result<bool, Fault>
+        ensures told { IsTold given result self.old.stage self.new.stage self.old.failures self.new.failures }
+        ensures known { (register : List Kept) (sent : List Sent) → IsKnownOf self.old.known register sent → IfOk given (λ is. is ≡ is_participant (entries_in register) bic) → OnOk given (IsKnownOf self.new.known register sent) }
+        ensures nothing { OnErr given (KnowsNothing self.new.known) }
+    {
+        match given {
+            Ok(true) => {
+                self.known.facts.note_participant(bic);
+                Ok(true)
+            }
+            other => self.told(other),
+        }
+    }
+
+    /// The same of a call that looks whose an account is.
+    pub(crate) fn told_owner(
+        &mut self,
+        account: AccountId,
+        given: Result<Option<Bic>, Error>,
+    ) -> Result<Option<Bic>, Fault>
+        ensures told { IsTold given result self.old.stage self.new.stage self.old.failures self.new.failures }
+        ensures known { (register : List Kept) (sent : List Sent) → IsKnownOf self.old.known register sent → IfOk given (λ owner. owner ≡ owner_of (entries_in register) account) → OnOk given (IsKnownOf self.new.known register sent) }
+        ensures nothing { OnErr given (KnowsNothing self.new.known) }
+    {
+        match given {
+            Ok(Some(bic)) => {
+                self.known.facts.note_owner(account, bic);
+                Ok(Some(bic))
+            }
+            other => self.told(other),
+        }
+    }
+
+    /// The same of a call that looks how a security is counted.
+    pub(crate) fn told_kind(
+        &mut self,
+        isin: Isin,
+        given: Result<Option<Kind>, Error>,
+    ) -> Result<Option<Kind>, Fault>
+        ensures told { IsTold given result self.old.stage self.new.stage self.old.failures self.new.failures }
+        ensures known { (register : List Kept) (sent : List Sent) → IsKnownOf self.old.known register sent → IfOk given (λ kind. kind ≡ kind_of (entries_in register) isin) → OnOk given (IsKnownOf self.new.known register sent) }
+        ensures nothing { OnErr given (KnowsNothing self.new.known) }
+    {
+        match given {
+            Ok(Some(kind)) => {
+                self.known.facts.note_kind(isin, kind);
+                Ok(Some(kind))
+            }
+            other => self.told(other),
+        }
+    }
+
+    /// The same of a call that adds an entry.
+    pub(crate) fn told_entry(&mut self, entry: Entry, given: Result<(), Error>) -> Result<(), Fault>
+        ensures told { IsTold given result self.old.stage self.new.stage self.old.failures self.new.failures }
+        ensures known { (register : List Kept) (sent : List Sent) (kept : Kept) → kept.entry ≡ entry → IsKnownOf self.old.known register sent → OnOk given (IsKnownOf self.new.known (register ++ kept ∷ []) sent) }
+        ensures nothing { OnErr given (KnowsNothing self.new.known) }
+    {
+        self.known.add_entry(entry);
+        self.told(given)
+    }
+
+    /// The same of a call that adds a message.
+    pub(crate) fn told_message(&mut self, given: Result<(), Error>) -> Result<(), Fault>
+        ensures told { IsTold given result self.old.stage self.new.stage self.old.failures self.new.failures }
+        ensures known { (register : List Kept) (sent : List Sent) (message : Sent) → IsKnownOf self.old.known register sent → OnOk given (IsKnownOf self.new.known register (sent ++ message ∷ [])) }
+        ensures nothing { OnErr given (KnowsNothing self.new.known) }
+    {
+        self.known.messages = one_more(self.known.messages);
+        self.told(given)
     }
 }

@@ -11,7 +11,10 @@
 mod appending;
 mod calls;
 mod cancelling;
+mod counting;
+mod facts;
 mod fault;
+mod known;
 mod looking;
 mod making;
 mod numbers;

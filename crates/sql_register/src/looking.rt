@@ -1,26 +1,76 @@
 //! What is looked up in the tables, as the register says it.
-ghost use Rattle.std.specs.Prelude.{◌≡◌, ◌+◌, Some, option_and_then, IfOk, IsOk};
+ghost use Rattle.std.specs.Prelude.{◌≡◌, ◌+◌, List, Some, option_and_then, IfOk, IsOk, OnOk};
 ghost use Rattle.desk_rules.specs.Content.{history_of};
 ghost use Rattle.desk_rules.specs.Balances.{issued, redeemed};
+ghost use Rattle.desk_rules.specs.Facts.{is_participant, kind_of, owner_of};
 ghost use Rattle.desk_rules.specs.History.{entry_at, instructed, instruction_at};
+ghost use Rattle.desk_rules.specs.declared.answers.reply.Kept.{Kept};
 ghost use Rattle.desk_rules.specs.declared.history.entry.Instructed.{Instructed};
 ghost use Rattle.desk_codes.specs.Number.{number_of};
 ghost use Rattle.desk_register.specs.Looked.{held_cash_of, held_of, IsDuePairAfter, IsFirstOpposite, IsHoldingAfter, IsPaid};
+ghost use Rattle.sql_entries.specs.Entries.{AreEntries, entries_in};
 ghost use Rattle.sql_register.specs.Content.{content_in};
+ghost use Rattle.sql_register.specs.Facts.{AreFactsOf};
 ghost use Rattle.sql_register.specs.Holds.{IsDesk, holding_found};
 ghost use Rattle.sql_tables.specs.Calls.{Looks, Soundly, tables};
 
+use crate::facts::Facts;
 use desk_codes::{AccountId, Bic, Ccy, Day, Isin};
-use desk_msg::Instruction;
+use desk_msg::{Instruction, Kind};
 use desk_register::Holding;
 use desk_rules::{Entry, Instructed, Place};
 use sql_amounts::{AmountKey, amount, next_holding};
-use sql_entries::entry_at;
+use sql_entries::{entry_at, is_participant, kind_of, owner_of};
 use sql_standings::due::next_due;
 use sql_standings::unmatched::first_unmatched;
 use sql_tables::values::CORRUPT;
 use sqlite::{Alter, Connection, Error};
 use std::alloc::Global;
+
+/// Whether a BIC is a participant's.
+pub fn participant<S: Alter>(
+    conn: &mut Connection<S>,
+    facts: &Facts,
+    bic: Bic,
+) -> Result<bool, Error>
+    ensures value { Soundly S.Store conn.old conn.new ((register : List Kept) → AreEntries (tables S.Store conn.old) register → AreFactsOf facts.now register → IfOk result (λ r. r ≡ is_participant (entries_in register) bic)) }
+    ensures look { Looks S.Store conn.old conn.new result }
+{
+    if facts.has_participant(&bic) {
+        return Ok(true);
+    }
+    is_participant(conn, bic)
+}
+
+/// Whose an account is; None where there is no such account.
+pub fn owner<S: Alter>(
+    conn: &mut Connection<S>,
+    facts: &Facts,
+    account: AccountId,
+) -> Result<Option<Bic>, Error>
+    ensures value { Soundly S.Store conn.old conn.new ((register : List Kept) → AreEntries (tables S.Store conn.old) register → AreFactsOf facts.now register → IfOk result (λ r. r ≡ owner_of (entries_in register) account)) }
+    ensures look { Looks S.Store conn.old conn.new result }
+{
+    match facts.owner(&account) {
+        Some(bic) => Ok(Some(bic)),
+        None => owner_of(conn, account),
+    }
+}
+
+/// How a security is counted; None where there is no such security.
+pub fn security<S: Alter>(
+    conn: &mut Connection<S>,
+    facts: &Facts,
+    isin: Isin,
+) -> Result<Option<Kind>, Error>
+    ensures value { Soundly S.Store conn.old conn.new ((register : List Kept) → AreEntries (tables S.Store conn.old) register → AreFactsOf facts.now register → IfOk result (λ r. r ≡ kind_of (entries_in register) isin)) }
+    ensures look { Looks S.Store conn.old conn.new result }
+{
+    match facts.kind(&isin) {
+        Some(kind) => Ok(Some(kind)),
+        None => kind_of(conn, isin),
+    }
+}
 
 /// What an account holds of a security; 0 where nothing is recorded.
 pub fn position<S: Alter>(
@@ -119,16 +169,37 @@ fn instructed_by(entry: Option<Entry>) -> Result<Instructed, Error>
     }
 }
 
+/// The entry of this number, counted from 1; None where there is none.
+pub fn entry<S: Alter>(
+    conn: &mut Connection<S>,
+    facts: &mut Facts,
+    alloc: Global,
+    number: u64,
+) -> Result<Option<Entry>, Error>
+    ensures value { Soundly S.Store conn.old conn.new ((register : List Kept) → AreEntries (tables S.Store conn.old) register → AreFactsOf facts.old register → IfOk result (λ entry. entry ≡ entry_at (entries_in register) number)) }
+    ensures noted { Soundly S.Store conn.old conn.new ((register : List Kept) → AreEntries (tables S.Store conn.old) register → AreFactsOf facts.old register → OnOk result (AreFactsOf facts.new register)) }
+    ensures look { Looks S.Store conn.old conn.new result }
+{
+    if let Some(known) = facts.entry(number) {
+        return Ok(Some(known));
+    }
+    let found = entry_at(conn, alloc, number)?;
+    facts.note_found(number, &found);
+    Ok(found)
+}
+
 /// The instruction of this number, where the entry of it is one.
 pub fn instruction<S: Alter>(
     conn: &mut Connection<S>,
+    facts: &mut Facts,
     alloc: Global,
     number: u64,
 ) -> Result<Instructed, Error>
-    ensures value { Soundly S.Store conn.old conn.new (IsDesk (tables S.Store conn.old) → IfOk result (λ i. instruction_at (history_of (content_in (tables S.Store conn.old))) number ≡ Some i)) }
+    ensures value { Soundly S.Store conn.old conn.new (IsDesk (tables S.Store conn.old) → AreFactsOf facts.old (content_in (tables S.Store conn.old)).register → IfOk result (λ i. instruction_at (history_of (content_in (tables S.Store conn.old))) number ≡ Some i)) }
+    ensures noted { Soundly S.Store conn.old conn.new (IsDesk (tables S.Store conn.old) → AreFactsOf facts.old (content_in (tables S.Store conn.old)).register → OnOk result (AreFactsOf facts.new (content_in (tables S.Store conn.old)).register)) }
     ensures look { Looks S.Store conn.old conn.new result }
 {
-    let found = entry_at(conn, alloc, number)?;
+    let found = entry(conn, facts, alloc, number)?;
     instructed_by(found)
 }
 

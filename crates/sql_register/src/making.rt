@@ -16,6 +16,7 @@ ghost use Rattle.sql_register.specs.Kept.{shown};
 ghost use Rattle.sql_register.specs.Made.{IsMade};
 
 use crate::fault::Course;
+use crate::known::Known;
 use crate::sql_register::SqlRegister;
 use desk_register::Stage;
 use sql_tables::control::commit;
@@ -86,6 +87,7 @@ impl<S: Alter + Drop> SqlRegister<S> {
             course: Course {
                 stage: Stage::Idle,
                 failures: 0,
+                known: Known::nothing(),
             },
             limit,
         })

@@ -3,10 +3,12 @@ ghost use Rattle.std.specs.Prelude.{◌≢◌, ◌<◌, ◌^◌, OnOk, IfOk};
 ghost use Rattle.desk_register.specs.Changes.{CanCancelPair, CanPair, pair_cancelled, paired};
 ghost use Rattle.sql_standings.specs.Standings.{AreStandings};
 ghost use Rattle.sql_register.specs.Content.{content_in};
+ghost use Rattle.sql_register.specs.Facts.{AreFactsOf};
 ghost use Rattle.sql_register.specs.Holds.{Becomes, IsDesk};
 ghost use Rattle.sql_register.specs.Pairs.{ForgetsBoth, IsItsDay, StandBoth};
 ghost use Rattle.sql_tables.specs.Calls.{Looks, Soundly, Writes, tables};
 
+use crate::facts::Facts;
 use crate::looking::instruction;
 use crate::numbers::in_order;
 use desk_codes::Day;
@@ -50,6 +52,7 @@ fn forget_both<S: Alter>(conn: &mut Connection<S>, earlier: u64, later: u64) -> 
 /// The settlement day of the later of two instructions.
 fn later_day<S: Alter>(
     conn: &mut Connection<S>,
+    facts: &mut Facts,
     alloc: Global,
     earlier: u64,
     later: u64,
@@ -57,25 +60,28 @@ fn later_day<S: Alter>(
     ensures first { IfOk result (λ day. 0 < earlier) }
     ensures order { IfOk result (λ day. earlier < later) }
     ensures small { IfOk result (λ day. later < 1_000_000_000) }
-    ensures value { Soundly S.Store conn.old conn.new (IsDesk (tables S.Store conn.old) → IfOk result (IsItsDay (content_in (tables S.Store conn.old)) later)) }
+    ensures value { Soundly S.Store conn.old conn.new (IsDesk (tables S.Store conn.old) → AreFactsOf facts.old (content_in (tables S.Store conn.old)).register → IfOk result (IsItsDay (content_in (tables S.Store conn.old)) later)) }
+    ensures noted { Soundly S.Store conn.old conn.new (IsDesk (tables S.Store conn.old) → AreFactsOf facts.old (content_in (tables S.Store conn.old)).register → OnOk result (AreFactsOf facts.new (content_in (tables S.Store conn.old)).register)) }
     ensures look { Looks S.Store conn.old conn.new result }
 {
     in_order(earlier, later)?;
-    let instructed = instruction(conn, alloc, later)?;
+    let instructed = instruction(conn, facts, alloc, later)?;
     Ok(instructed.instruction.day)
 }
 
 /// Makes two unmatched opposite instructions each other's mates.
 pub fn pair<S: Alter>(
     conn: &mut Connection<S>,
+    facts: &mut Facts,
     alloc: Global,
     earlier: u64,
     later: u64,
 ) -> Result<(), Error>
-    ensures changed { Soundly S.Store conn.old conn.new (IsDesk (tables S.Store conn.old) → CanPair (content_in (tables S.Store conn.old)) earlier later → OnOk result (Becomes (tables S.Store conn.new) (paired earlier later (content_in (tables S.Store conn.old))))) }
+    ensures changed { Soundly S.Store conn.old conn.new (IsDesk (tables S.Store conn.old) → AreFactsOf facts.old (content_in (tables S.Store conn.old)).register → CanPair (content_in (tables S.Store conn.old)) earlier later → OnOk result (Becomes (tables S.Store conn.new) (paired earlier later (content_in (tables S.Store conn.old))))) }
+    ensures noted { Soundly S.Store conn.old conn.new (IsDesk (tables S.Store conn.old) → AreFactsOf facts.old (content_in (tables S.Store conn.old)).register → OnOk result (AreFactsOf facts.new (content_in (tables S.Store conn.old)).register)) }
     ensures write { Writes S.Store conn.old conn.new result }
 {
-    let day = later_day(conn, alloc, earlier, later)?;
+    let day = later_day(conn, facts, alloc, earlier, later)?;
     stand_both(conn, earlier, later, State::Matched(Reason::Future))?;
     forget_both(conn, earlier, later)?;
     note_due(conn, day, later)
@@ -84,14 +90,16 @@ pub fn pair<S: Alter>(
 /// Lets both instructions of a matched pair stand cancelled. They keep their mates.
 pub fn cancel_pair<S: Alter>(
     conn: &mut Connection<S>,
+    facts: &mut Facts,
     alloc: Global,
     earlier: u64,
     later: u64,
 ) -> Result<(), Error>
-    ensures changed { Soundly S.Store conn.old conn.new (IsDesk (tables S.Store conn.old) → CanCancelPair (content_in (tables S.Store conn.old)) earlier later → OnOk result (Becomes (tables S.Store conn.new) (pair_cancelled earlier later (content_in (tables S.Store conn.old))))) }
+    ensures changed { Soundly S.Store conn.old conn.new (IsDesk (tables S.Store conn.old) → AreFactsOf facts.old (content_in (tables S.Store conn.old)).register → CanCancelPair (content_in (tables S.Store conn.old)) earlier later → OnOk result (Becomes (tables S.Store conn.new) (pair_cancelled earlier later (content_in (tables S.Store conn.old))))) }
+    ensures noted { Soundly S.Store conn.old conn.new (IsDesk (tables S.Store conn.old) → AreFactsOf facts.old (content_in (tables S.Store conn.old)).register → OnOk result (AreFactsOf facts.new (content_in (tables S.Store conn.old)).register)) }
     ensures write { Writes S.Store conn.old conn.new result }
 {
-    let day = later_day(conn, alloc, earlier, later)?;
+    let day = later_day(conn, facts, alloc, earlier, later)?;
     stand_both(conn, earlier, later, State::Cancelled)?;
     forget_due(conn, day, later)
 }

@@ -9,9 +9,11 @@ ghost use Rattle.desk_register.specs.Changes.{CanSettle, FitsCash, IsPairAt, Sid
 ghost use Rattle.sql_standings.specs.Due.{AreDue};
 ghost use Rattle.sql_standings.specs.Standings.{AreStandings};
 ghost use Rattle.sql_register.specs.Content.{content_in};
+ghost use Rattle.sql_register.specs.Facts.{AreFactsOf};
 ghost use Rattle.sql_register.specs.Holds.{IsDesk};
 ghost use Rattle.sql_register.specs.Settling.{state_then, more_held, more_cash, AmountsSo, Closes, Frees, IsMarked, IsTrial, MovesBoth, MovesLegs, TakesCash, TakesHeld};
 
+use crate::facts::Facts;
 use crate::looking::instruction;
 use crate::numbers::in_order;
 use crate::pairing::stand_both;
@@ -225,15 +227,17 @@ fn pair_of(
 /// The pair of the later instruction's number.
 fn pair_at<S: Alter>(
     conn: &mut Connection<S>,
+    facts: &mut Facts,
     alloc: Global,
     number: u64,
 ) -> Result<FoundPair, Error>
-    ensures value { Soundly S.Store conn.old conn.new (IsDesk (tables S.Store conn.old) → IfOk result (λ p. (p.number ≡ number) × IsPairAt (content_in (tables S.Store conn.old)) number p.mate p.earlier p.later)) }
+    ensures value { Soundly S.Store conn.old conn.new (IsDesk (tables S.Store conn.old) → AreFactsOf facts.old (content_in (tables S.Store conn.old)).register → IfOk result (λ p. (p.number ≡ number) × IsPairAt (content_in (tables S.Store conn.old)) number p.mate p.earlier p.later)) }
+    ensures noted { Soundly S.Store conn.old conn.new (IsDesk (tables S.Store conn.old) → AreFactsOf facts.old (content_in (tables S.Store conn.old)).register → OnOk result (AreFactsOf facts.new (content_in (tables S.Store conn.old)).register)) }
     ensures look { Looks S.Store conn.old conn.new result }
 {
-    let later = instruction(conn, alloc, number)?;
+    let later = instruction(conn, facts, alloc, number)?;
     let mate = mate_of(conn, number)?;
-    let earlier = instruction(conn, alloc, mate)?;
+    let earlier = instruction(conn, facts, alloc, mate)?;
     pair_of(mate, number, earlier, later)
 }
 
@@ -256,15 +260,17 @@ fn close<S: Alter>(
 /// is of a transaction that has none.
 pub fn settle_pair<S: Alter>(
     conn: &mut Connection<S>,
+    facts: &mut Facts,
     alloc: Global,
     number: u64,
     day: Day,
 ) -> Result<Outcome, Error>
-    ensures changed { Soundly S.Store conn.old conn.new (IsDesk (tables S.Store conn.old) → CanSettle (content_in (tables S.Store conn.old)) number (number_of day)
+    ensures changed { Soundly S.Store conn.old conn.new (IsDesk (tables S.Store conn.old) → AreFactsOf facts.old (content_in (tables S.Store conn.old)).register → CanSettle (content_in (tables S.Store conn.old)) number (number_of day)
         → (state S.Store conn.old).in_transaction ≡ true → (state S.Store conn.old).marks ≡ [] → IfOk result (λ outcome. IsDesk (tables S.Store conn.new) × TriesPair (content_in (tables S.Store conn.old)) number outcome (content_in (tables S.Store conn.new)))) }
+    ensures noted { Soundly S.Store conn.old conn.new (IsDesk (tables S.Store conn.old) → AreFactsOf facts.old (content_in (tables S.Store conn.old)).register → OnOk result (AreFactsOf facts.new (content_in (tables S.Store conn.old)).register)) }
     ensures trial { IsTrial result (state S.Store conn.old) (state S.Store conn.new) (Stays (state S.Store conn.old) (state S.Store conn.new)) }
 {
-    let pair = pair_at(conn, alloc, number)?;
+    let pair = pair_at(conn, facts, alloc, number)?;
     let outcome = move_both(conn, &pair.earlier, &pair.later)?;
     close(conn, &pair, outcome)?;
     release(conn)?;

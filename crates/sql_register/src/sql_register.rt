@@ -19,6 +19,7 @@ pub struct SqlRegister<S: Alter> {
 impl<S: Alter> Model for SqlRegister<S> {
     ghost use Rattle.std.specs.Prelude.{◌≤◌};
     ghost use Rattle.sql_register.specs.Kept.{Kept, kept_code, IsKept};
+    ghost use Rattle.sql_register.specs.Known.{IsKnown};
     ghost use Rattle.desk_rules.specs.declared.limits.TheConstants.{MOST_ENTRIES};
     ghost use Rattle.sqlite.specs.Held.{state};
 
@@ -28,5 +29,5 @@ impl<S: Alter> Model for SqlRegister<S> {
 
     ghost view = { λ r. record { connection = r.conn; stage = r.course.stage; failures = r.course.failures; room = r.limit } };
 
-    ghost invariant = { λ r. IsKept (state S.Store r.conn) r.course.stage × (r.limit ≤ MOST_ENTRIES) };
+    ghost invariant = { λ r. IsKept (state S.Store r.conn) r.course.stage × (r.limit ≤ MOST_ENTRIES) × IsKnown (state S.Store r.conn) r.course.stage r.course.known };
 }

@@ -62,17 +62,30 @@ pub fn confirmation_of<S: Alter>(
     message_in(alloc, &rows)
 }
 
+/// Adds a message to those that were sent, which are so many. Where a number would pass 2^63 - 1, it is refused as an
+/// overflow.
+pub fn add_sent_after<S: Alter>(
+    conn: &mut Connection<S>,
+    count: u64,
+    message: &Sent,
+) -> Result<(), Error>
+    ensures added { Soundly S.Store conn.old conn.new ((messages : List Message) → AreSent (tables S.Store conn.old) messages → count ≡ length messages → OnOk result (Adds (tables S.Store conn.old) (tables S.Store conn.new) messages message.now)) }
+    ensures write { Writes S.Store conn.old conn.new result }
+{
+    let places = last_place(conn, message.bic)?;
+    let number = next(count)?;
+    let place = next(places)?;
+    insert(conn, number, place, message)?;
+    Ok(())
+}
+
 /// Adds a message to those that were sent. Where a number would pass 2^63 - 1, it is refused as an overflow.
 pub fn add_sent<S: Alter>(conn: &mut Connection<S>, message: &Sent) -> Result<(), Error>
     ensures added { Soundly S.Store conn.old conn.new ((messages : List Message) → AreSent (tables S.Store conn.old) messages → OnOk result (Adds (tables S.Store conn.old) (tables S.Store conn.new) messages message.now)) }
     ensures write { Writes S.Store conn.old conn.new result }
 {
     let count = sent_count(conn)?;
-    let places = last_place(conn, message.bic)?;
-    let number = next(count)?;
-    let place = next(places)?;
-    insert(conn, number, place, message)?;
-    Ok(())
+    add_sent_after(conn, count, message)
 }
 
 fn last_in(rows: &[Row]) -> Result<u64, Error>

@@ -1,4 +1,4 @@
-use Rattle.std.proofs.Common.{Ok, Err, Result, OnOk, Some, true, ◌≡◌, ◌∙◌, ℕ, List, ap, subst, sym, arith}
+use Rattle.std.proofs.Common.{Ok, Err, Result, OnOk, IfSome, Some, length, true, ◌≡◌, ◌∙◌, ℕ, List, ap, subst, sym, arith}
 use Rattle.std.proofs.lemmas.Result.{err_from_is_err_and}
 use Rattle.sqlite.specs.Effect.{Database}
 use Rattle.sqlite.specs.Held.{state}
@@ -28,7 +28,7 @@ becomes old d0 d1 new sender order reply room k (Ok tt) same desk can added is s
 becomes old d0 d1 new sender order reply room k (Err e) same desk can added is stays stood = tt
 
 pub returns-clause-changed : goal.returns-clause-changed
-returns-clause-changed g c clean is_open has desk room can =
+returns-clause-changed g c clean is_open has desk known room can =
     let old = state g.S.Store c.args.conn.now in
     let d0 = state g.S.Store c.number_of.new.conn in
     let d1 = state g.S.Store c.add_row.new.conn in
@@ -41,9 +41,10 @@ returns-clause-changed g c clean is_open has desk room can =
     let same = c.in_ok-number.ensures.look.ok clean0 is_open has in
     let found = c.in_ok-number.ensures.value clean0 is_open has (content_in old.now).register desk.entries in
     let desk0 : IsDesk d0.now = subst IsDesk (sym same.now) desk in
+    let known0 : IfSome c.args.known (λ n. n ≡ length (content_in d0.now).register) = subst (λ db. IfSome c.args.known (λ n. n ≡ length (content_in db).register)) (sym same.now) known in
     let can0 : CanAppend room (Cancel sender order) reply (content_in d0.now) = subst (λ db. CanAppend room (Cancel sender order) reply (content_in db)) (sym same.now) can in
     let stays1 = c.in_ok-add_row.ensures.write.ok clean1 same.is_open desk0.schema in
-    let added = (c.in_ok-add_row.ensures.added clean1 same.is_open desk0.schema (content_in d0.now).register desk0.entries).1 in
+    let added = (c.in_ok-add_row.ensures.added clean1 same.is_open desk0.schema (content_in d0.now).register desk0.entries known0).1 in
     let stood = c.ask.ensures.changed clean stays1.is_open stays1.schema (cancel_standings d0.now d1.now sender order reply room desk0 can0 added) in
     let named : number_of_key (history_of (content_in d0.now)) (FromParticipant sender) order.previous ≡ Some c.in_ok-named.named =
     ap (λ db. number_of_key (history_of (content_in db)) (FromParticipant sender) order.previous) same.now ∙ sym found ∙ c.in-Some.is ∙ ap Some (sym c.in_ok-named.ensures.same) in

@@ -24,7 +24,7 @@ becomes old d1 d2 new i reply room n (Ok tt) desk can added is stood stays noted
 becomes old d1 d2 new i reply room n (Err e) desk can added is stood stays noted = tt
 
 pub returns-clause-changed : goal.returns-clause-changed
-returns-clause-changed g c clean is_open has desk room can =
+returns-clause-changed g c clean is_open has desk known room can =
     let old = state g.S.Store c.args.conn.now in
     let d1 = state g.S.Store c.add_row.new.conn in
     let d2 = state g.S.Store c.add_standing.new.conn in
@@ -33,7 +33,7 @@ returns-clause-changed g c clean is_open has desk room can =
     let clean2 : HasCleanDisk d2 = omega (arith, clean, c.note_unmatched.ensures.write.later.clean) in
     let clean1 : HasCleanDisk d1 = omega (arith, clean2, c.in_ok-add_standing.ensures.write.later.clean) in
     let stays1 = c.in_ok-number.ensures.write.ok clean1 is_open has in
-    let both = c.in_ok-number.ensures.added clean1 is_open has (content_in old.now).register desk.entries in
+    let both = c.in_ok-number.ensures.added clean1 is_open has (content_in old.now).register desk.entries known in
     let stays2 = c.in_ok-add_standing.ensures.write.ok clean2 stays1.is_open stays1.schema in
     let stood = c.in_ok-add_standing.ensures.changed clean2 stays1.is_open stays1.schema (row_standings old.now d1.now i reply room desk can both.1) in
     becomes old d1 d2 (state g.S.Store c.note_unmatched.new.conn) i reply room c.in_ok-number.number c.note_unmatched.result desk can both.1 both.0 stood (c.note_unmatched.ensures.write.ok clean stays2.is_open stays2.schema) (c.note_unmatched.ensures.changed clean stays2.is_open stays2.schema)

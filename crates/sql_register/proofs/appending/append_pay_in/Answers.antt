@@ -23,7 +23,7 @@ becomes old d1 d2 new p reply room (Ok tt) desk can added first stays second = p
 becomes old d1 d2 new p reply room (Err e) desk can added first stays second = tt
 
 pub returns-clause-changed : goal.returns-clause-changed
-returns-clause-changed g c clean is_open has desk room can =
+returns-clause-changed g c clean is_open has desk known room can =
     let old = state g.S.Store c.args.conn.now in
     let d1 = state g.S.Store c.add_row.new.conn in
     let d2 = state g.S.Store c.put.new.conn in
@@ -32,7 +32,7 @@ returns-clause-changed g c clean is_open has desk room can =
     let clean2 : HasCleanDisk d2 = omega (arith, clean, c.put-2.ensures.write.later.clean) in
     let clean1 : HasCleanDisk d1 = omega (arith, clean2, c.in_ok-put.ensures.write.later.clean) in
     let stays1 = c.in_ok-add_row.ensures.write.ok clean1 is_open has in
-    let added = (c.in_ok-add_row.ensures.added clean1 is_open has (content_in old.now).register desk.entries).1 in
+    let added = (c.in_ok-add_row.ensures.added clean1 is_open has (content_in old.now).register desk.entries known).1 in
     let stays2 = c.in_ok-put.ensures.write.ok clean2 stays1.is_open stays1.schema in
     let first = c.in_ok-put.ensures.changed clean2 stays1.is_open stays1.schema (pay_in_amounts old.now d1.now p reply room desk can added) (pay_in_fits old.now d1.now p reply room desk can added) in
     let second = c.put-2.ensures.changed clean stays2.is_open stays2.schema first.kept (pay_in_fits_total old.now d1.now p reply room desk can added d2.now first) in

@@ -4,11 +4,14 @@ use Rattle.sqlite.specs.State.{HasCleanDisk}
 use Rattle.sql_standings.specs.Standings.{AreStandings}
 use Rattle.desk_rules.specs.declared.history.standing.State.TheVariants.{Cancelled}
 use Rattle.sql_tables.specs.Schema.{desk_schema}
+use Rattle.sql_register.specs.Content.{content_in}
+use Rattle.sql_register.specs.Facts.{AreFactsOf}
+use Rattle.sql_register.proofs.FactLemmas.{on_ok}
 use Rattle.sql_register.proofs.PairCalls.{cancel_call, due_rows_kept}
 use Rattle.sql_register.proofs.pairing.cancel_pair.Goals as goal
 
 pub returns-clause-changed : goal.returns-clause-changed
-returns-clause-changed g c clean is_open has desk can =
+returns-clause-changed g c clean is_open has desk facts can =
     let s0 = state g.S.Store c.args.conn.now in
     let s1 = state g.S.Store c.later_day.new.conn in
     let s2 = state g.S.Store c.stand_both.new.conn in
@@ -21,4 +24,10 @@ returns-clause-changed g c clean is_open has desk can =
     let stood = c.in_ok-stand_both.ensures.changed clean2 same.is_open has1 (subst AreStandings (sym same.now) desk.standings) in
     let rows = due_rows_kept s0.now s1.now s2.now c.args.earlier c.args.later Cancelled same.now stood desk.due_rows in
     cancel_call s0.now s1.now s2.now s2 s3 c.args.earlier c.args.later c.in_ok-day.day c.forget_due.result same.now desk can
-    (c.in_ok-day.ensures.value clean1 is_open has desk) stood (c.forget_due.ensures.write.ok clean stays2.is_open stays2.schema) (c.forget_due.ensures.changed clean stays2.is_open stays2.schema rows)
+    (c.in_ok-day.ensures.value clean1 is_open has desk facts) stood (c.forget_due.ensures.write.ok clean stays2.is_open stays2.schema) (c.forget_due.ensures.changed clean stays2.is_open stays2.schema rows)
+
+pub returns-clause-noted : goal.returns-clause-noted
+returns-clause-noted g c clean is_open has desk facts =
+    let clean2 : HasCleanDisk (state g.S.Store c.stand_both.new.conn) = omega (arith, clean, c.forget_due.ensures.write.later.clean) in
+    let clean1 : HasCleanDisk (state g.S.Store c.later_day.new.conn) = omega (arith, clean2, c.stand_both.ensures.write.later.clean) in
+    on_ok (AreFactsOf c.later_day.new.facts (content_in (state g.S.Store c.args.conn.now).now).register) c.forget_due.result (c.in_ok-day.ensures.noted clean1 is_open has desk facts)

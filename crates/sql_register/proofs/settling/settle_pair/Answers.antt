@@ -25,7 +25,7 @@ returns-clause-trial g c =
     trial_as c.in_ok-release.field-0 c.in_ok-outcome.outcome s0 s4 _ (release_trial c.in_ok-close.field-0 (Ok c.in_ok-release.field-0) s0 s3 s4 t3 c.in_ok-release.ensures.ok c.in_ok-release.ensures.err c.in_ok-release.ensures.why c.in_ok-release.ensures.opened c.in_ok-release.ensures.later)
 
 pub returns-clause-changed : goal.returns-clause-changed
-returns-clause-changed g c clean is_open has desk can inside none =
+returns-clause-changed g c clean is_open has desk facts can inside none =
     let s0 = state g.S.Store c.args.conn.now in
     let s1 = state g.S.Store c.pair_at.new.conn in
     let s2 = state g.S.Store c.move_both.new.conn in
@@ -35,7 +35,7 @@ returns-clause-changed g c clean is_open has desk can inside none =
     let clean2 : HasCleanDisk s2 = omega (arith, clean3, c.in_ok-close.ensures.write.later.clean) in
     let clean1 : HasCleanDisk s1 = omega (arith, clean2, c.in_ok-outcome.ensures.trial.later.clean) in
     let same = c.in_ok-pair.ensures.look.ok clean1 is_open has in
-    let found = c.in_ok-pair.ensures.value clean1 is_open has desk in
+    let found = c.in_ok-pair.ensures.value clean1 is_open has desk facts in
     let p = c.in_ok-pair.pair in
     let content = content_in s0.now in
     let pair : IsPairAt content p.number p.mate p.earlier p.later = subst (λ k. IsPairAt content k p.mate p.earlier p.later) (sym found.0) found.1 in
@@ -55,3 +55,10 @@ returns-clause-changed g c clean is_open has desk can inside none =
     let is : IsDesk s4.now × TriesPair content p.number c.in_ok-outcome.outcome (content_in s4.now) =
     subst (λ (d : Database). IsDesk d × TriesPair content p.number c.in_ok-outcome.outcome (content_in d)) (sym releases.now) all in
     subst (λ (k : ℕ). IsDesk s4.now × TriesPair content k c.in_ok-outcome.outcome (content_in s4.now)) found.0 is
+
+pub returns-clause-noted : goal.returns-clause-noted
+returns-clause-noted g c clean is_open has desk facts =
+    let clean3 : HasCleanDisk (state g.S.Store c.close.new.conn) = omega (arith, clean, c.in_ok-release.ensures.later.clean) in
+    let clean2 : HasCleanDisk (state g.S.Store c.move_both.new.conn) = omega (arith, clean3, c.in_ok-close.ensures.write.later.clean) in
+    let clean1 : HasCleanDisk (state g.S.Store c.pair_at.new.conn) = omega (arith, clean2, c.in_ok-outcome.ensures.trial.later.clean) in
+    c.in_ok-pair.ensures.noted clean1 is_open has desk facts

@@ -1,15 +1,29 @@
-use Rattle.std.proofs.Common.{arith, ap, subst, ◌∙◌}
+use Rattle.std.proofs.Common.{rules, ap, subst, ◌∙◌}
 use Rattle.sqlite.specs.Held.{state}
+use Rattle.sql_register.specs.Content.{content_in}
 use Rattle.sql_register.specs.Kept.{IsOpenDesk}
+use Rattle.sql_register.proofs.KnownLemmas.{idle_goes, known_same}
+use Rattle.sql_register.proofs.ReadLemmas.{was_clean}
 use Rattle.sql_register.proofs.StageLemmas.{begun_desk}
 use Rattle.sql_register.proofs.calls.SqlRegisterRegister.begin.Goals as goal
 
 pub invariant_of-self : goal.invariant_of-self
-invariant_of-self g c = (
-  λ clean is_open.
-      let was_open = c.begin.ensures.opened clean is_open in
-      let was = c.self.invariant.0 (omega (arith, clean, c.begin.ensures.later.clean)) was_open in
-      begun_desk (state g.S.Store c.self.inside.conn) (state g.S.Store c.begin.new.conn)
-      (subst (IsOpenDesk (state g.S.Store c.self.inside.conn)) (ap (λ k. k.stage) c.self.view_is ∙ c.requires) was) (c.in-Ok.ensures.ok clean was_open was.schema),
-  c.self.invariant.1,
-)
+invariant_of-self g c =
+    let old = state g.S.Store c.self.inside.conn in
+    let new = state g.S.Store c.begin.new.conn in
+    let idle = ap (λ k. k.stage) c.self.view_is ∙ c.requires in
+    let was = was_clean old new c.begin.ensures.later in (
+      λ clean is_open.
+          let was_open = c.begin.ensures.opened clean is_open in
+          let desk = c.self.invariant.0 (was clean) was_open in
+          begun_desk old new (subst (IsOpenDesk old) idle desk) (c.in-Ok.ensures.ok clean was_open desk.schema),
+      c.self.invariant.1,
+      λ clean is_open goes.
+          let was_open = c.begin.ensures.opened clean is_open in
+          let desk = c.self.invariant.0 (was clean) was_open in
+          known_same c.self.inside.course.known (content_in old.now) (content_in new.now) (ap content_in (c.in-Ok.ensures.ok clean was_open desk.schema).now)
+          (c.self.invariant.2 (was clean) was_open (idle_goes c.self.inside.course.stage idle)),
+    )
+
+pub invariant_of-self-in-Err : goal.invariant_of-self-in-Err
+invariant_of-self-in-Err g c = (search rules, search rules, λ clean is_open goes. c.fault_of.ensures.nothing _ _)

@@ -2,18 +2,17 @@ use Rattle.std.proofs.Common.{subst}
 use Rattle.sqlite.specs.Held.{state}
 use Rattle.desk_register.specs.View.{IsRead}
 use Rattle.sql_register.specs.Kept.{Kept, shown}
-use Rattle.sql_register.proofs.ReadLemmas.{kept_told, read_told}
+use Rattle.sql_register.proofs.KnownLemmas.{holds_told}
+use Rattle.sql_register.proofs.ReadLemmas.{read_told}
 use Rattle.sql_register.proofs.calls.SqlRegisterRegister.security_after.Goals as goal
 
 pub returns-clause-read : goal.returns-clause-read
 returns-clause-read g c =
     subst (λ (k : Kept _). IsRead c.told.result (shown (state g.S.Store k.connection) k.stage k.failures k.room) (shown (state g.S.Store c.security_after.new.conn) c.told.new.self.stage c.told.new.self.failures c.self.inside.limit)) c.self.view_is
     (read_told (state g.S.Store c.self.inside.conn) (state g.S.Store c.security_after.new.conn) c.self.inside.course.stage c.told.new.self.stage c.self.inside.course.failures c.told.new.self.failures c.self.inside.limit
-    c.security_after.result c.told.result c.self.invariant.0 c.security_after.ensures.look c.told.ensures)
+    c.security_after.result c.told.result c.self.invariant.0 c.security_after.ensures.look c.told.ensures.told)
 
 pub invariant_of-self : goal.invariant_of-self
-invariant_of-self g c = (
-  kept_told (state g.S.Store c.self.inside.conn) (state g.S.Store c.security_after.new.conn) c.self.inside.course.stage c.told.new.self.stage c.self.inside.course.failures c.told.new.self.failures c.self.inside.limit
-      c.security_after.result c.told.result c.self.invariant.0 c.security_after.ensures.look c.told.ensures,
-  c.self.invariant.1,
-)
+invariant_of-self g c =
+    holds_told (state g.S.Store c.self.inside.conn) (state g.S.Store c.security_after.new.conn) c.self.inside.course.stage c.told.new.self.stage c.self.inside.course.failures c.told.new.self.failures c.self.inside.limit c.self.inside.course.known c.told.new.self.known
+    c.security_after.result c.told.result c.self.invariant c.security_after.ensures.look c.told.ensures.told c.told.ensures.known c.told.ensures.nothing
