@@ -1,5 +1,5 @@
 //! A register in memory that takes in what the desk accepts, entry by entry, as the desk does.
-ghost use Rattle.std.specs.Prelude.{◌≡◌, ◌≤◌, ◌+◌, false, length, option_map, IfErr, IfOk, IsOk, OnErr};
+ghost use Rattle.std.specs.Prelude.{◌≡◌, ◌≤◌, ◌+◌, true, false, length, option_map, IfErr, IfOk, IsOk, OnErr};
 ghost use Rattle.desk_codes.specs.Number.{number_of};
 ghost use Rattle.desk_rules.specs.Balances.{issued, redeemed};
 ghost use Rattle.desk_rules.specs.Books.{Books};
@@ -7,7 +7,8 @@ ghost use Rattle.desk_rules.specs.Content.{history_of};
 ghost use Rattle.desk_rules.specs.Facts.{is_participant, kind_of, last_run, owner_of};
 ghost use Rattle.desk_rules.specs.History.{entry_at, number_of_key};
 ghost use Rattle.desk_rules.specs.Questions.{sent_at};
-ghost use Rattle.desk_register.specs.Looked.{IsDuePairAfter, IsFirstOpposite, IsHoldingAfter, IsPaid, IsSecurityAfter, confirmation_in, held_cash_of, held_of, reply_at, sent_to};
+ghost use Rattle.desk_register.specs.Looked.{IsDuePairAfter, IsFirstOpposite, IsHoldingAfter, IsMatchedPair, IsPaid, IsSecurityAfter, confirmation_in, held_cash_of, held_of, reply_at, sent_to};
+ghost use Rattle.desk_register.specs.Short.{IsToTryAfter, StaysShort};
 ghost use Rattle.desk_engine.specs.Applied.{CanApply, Keeps, no_books};
 ghost use Rattle.desk_samples.specs.Ledger.{HasTaken, IsEntered, is_taken_in};
 ghost use Rattle.desk_samples.specs.Memory.{IsUnchanged, KeepsBooks};
@@ -280,6 +281,29 @@ impl<R: MemoryRegister> Ledger<R> {
         ensures ok { IsOk result }
     {
         self.register.due_pair_after(alloc, day, place)
+    }
+
+    /// A matched pair due by a day, above a place, before which each such pair is known to stay short.
+    pub fn pair_to_try_after(
+        &mut self,
+        alloc: Global,
+        day: Day,
+        place: Option<Place>,
+    ) -> Result<Option<Place>, Fault>
+        ensures value { IfOk result (λ r. IsToTryAfter (R.view self.old).content (number_of day) place r) }
+        ensures same { IsUnchanged (R.view self.old) (R.view self.new) }
+        ensures memory { IfErr result (λ fault. fault ≡ Fault.Memory) }
+    {
+        self.register.pair_to_try_after(alloc, day, place)
+    }
+
+    /// Whether the matched pair of a place is known to stay short.
+    pub fn stays_short(&mut self, alloc: Global, place: Place) -> Result<bool, Fault>
+        ensures value { IfOk result (λ r. r ≡ true → IsMatchedPair (R.view self.old).content place → StaysShort (R.view self.old).content place.number) }
+        ensures same { IsUnchanged (R.view self.old) (R.view self.new) }
+        ensures memory { IfErr result (λ fault. fault ≡ Fault.Memory) }
+    {
+        self.register.stays_short(alloc, place)
     }
 
     /// How many messages were sent, to all participants together.

@@ -1,11 +1,13 @@
 //! The definitions, tried on a day worked by hand (`worked_day`); and two worked days through the definitions, computed
 //! (`desk_plain`), for what no case of the program asks: the questions, and a run of one pass. Each entry of a day is one
-//! that the desk accepts in its turn. What a register kept of such a day is taken in once more by another (`replayed`).
+//! that the desk accepts in its turn. What a register kept of such a day is taken in once more by another (`replayed`), and it
+//! tells which pairs of it stay short (`short_pairs`).
 //!
 //! A day is a script, and each script a constant: a check reads a constant once, while each call of a straight line adds
 //! to what it knows of the rest.
 mod replayed;
 mod scripts;
+mod short_pairs;
 mod steps;
 mod texts;
 mod worked_day;
