@@ -187,7 +187,7 @@ impl Register for IndexedRegister {
         if let Stage::Failed = self.held.stage() {
             return Ok(None);
         }
-        self.shortages.learn(&self.matched);
+        self.shortages.learn(&self.matched, &self.touched);
         if !self.shortages.is_known {
             return Ok(first_due(&self.held, &self.matched, day.yyyymmdd(), &place));
         }
@@ -198,7 +198,7 @@ impl Register for IndexedRegister {
         if let Stage::Failed = self.held.stage() {
             return Ok(false);
         }
-        self.shortages.learn(&self.matched);
+        self.shortages.learn(&self.matched, &self.touched);
         Ok(self.shortages.is_short(&place))
     }
 

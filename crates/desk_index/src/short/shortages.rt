@@ -36,6 +36,8 @@ pub struct Shortages {
     pub to_try: BTreeSet<(u64, u64)>,
     /// What each of the others waits for, and what some wait for no more
     pub waits: BTreeSet<(Want, (u64, u64))>,
+    /// How many pairs were tried since all was forgotten, where nothing is known
+    pub tries: u64,
 }
 
 impl Shortages {
@@ -47,6 +49,7 @@ impl Shortages {
             is_known: true,
             to_try: BTreeSet::new(alloc),
             waits: BTreeSet::new(alloc),
+            tries: 0,
         }
     }
 
@@ -57,18 +60,23 @@ impl Shortages {
         self.is_known = false;
         self.to_try.clear();
         self.waits.clear();
+        self.tries = 0;
     }
 
-    /// Begins anew where nothing is known: every matched pair is to be tried.
-    pub fn learn(&mut self, matched: &BTreeSet<(u64, u64)>)
+    /// Begins anew where nothing is known: every matched pair is to be tried. That is done where nothing stands otherwise than
+    /// at `begin`, and as many pairs were tried since all was forgotten as there are, so that the tries have paid for it.
+    pub fn learn(&mut self, matched: &BTreeSet<(u64, u64)>, touched: &Vec<u64>)
         ensures { (content : Content) → HasDue matched.now content → KnowsShort self.old content → KnowsShort self.new content }
     {
-        if self.is_known {
+        if self.is_known || !touched.is_empty() || self.tries < matched.len() as u64 {
             return;
         }
-        if let Ok(all) = matched.clone() {
-            self.to_try = all;
-            self.is_known = true;
+        match matched.clone() {
+            Ok(all) => {
+                self.to_try = all;
+                self.is_known = true;
+            }
+            Err(_) => self.tries = 0,
         }
     }
 
@@ -108,6 +116,7 @@ impl Shortages {
             → KnowsShort self.old old → KnowsShort self.new (view_of_lists held.now).content }
     {
         if !self.is_known {
+            self.tries = self.tries.saturating_add(1);
             return;
         }
         let Some(earlier) = held.instruction_at(mate) else {
