@@ -5,7 +5,6 @@ use desk_lists::ListRegister;
 use desk_replay::replay;
 use desk_rules::{Kept, MOST_ENTRIES, Reply, Text};
 use desk_samples::ledger::{Entered, Ledger};
-use desk_samples::memory::MemoryRegister;
 use std::alloc::Global;
 use std::test::Fail;
 
@@ -13,11 +12,7 @@ use std::test::Fail;
 const RUNS: &[Step] = &[Step::RunOnce("R1", LEAP_DAY), Step::Run("R2", LEAP_DAY)];
 
 /// Takes these entries into a register, as they come.
-pub fn enter_all<R: MemoryRegister>(
-    alloc: Global,
-    ledger: &mut Ledger<R>,
-    steps: &[Step],
-) -> Result<(), Fail> {
+fn enter_all(alloc: Global, ledger: &mut Ledger<ListRegister>, steps: &[Step]) -> Result<(), Fail> {
     for step in steps {
         let entry = step.entry(alloc)?;
         let Entered::Accepted(_) = ledger.enter(alloc, entry)? else {

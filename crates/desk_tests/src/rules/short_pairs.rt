@@ -1,5 +1,4 @@
 //! Which pairs a register knows to stay short, by the chain of a worked day.
-use crate::rules::replayed::enter_all;
 use crate::rules::steps::Step;
 use crate::rules::{CHAIN, FOUR, LEAP_DAY};
 use desk_codes::Day;
@@ -7,7 +6,7 @@ use desk_index::IndexedRegister;
 use desk_lists::ListRegister;
 use desk_rules::{MOST_ENTRIES, Place};
 use desk_samples::entries::day;
-use desk_samples::ledger::Ledger;
+use desk_samples::ledger::{Entered, Ledger};
 use desk_samples::memory::MemoryRegister;
 use std::alloc::Global;
 use std::test::Fail;
@@ -26,6 +25,21 @@ const THIRD: Place = Place {
     day: 2024_02_29,
     number: 12,
 };
+
+/// Takes these entries into a register, as they come.
+fn enter_all<R: MemoryRegister>(
+    alloc: Global,
+    ledger: &mut Ledger<R>,
+    steps: &[Step],
+) -> Result<(), Fail> {
+    for step in steps {
+        let entry = step.entry(alloc)?;
+        let Entered::Accepted(_) = ledger.enter(alloc, entry)? else {
+            return Err("an entry is not accepted")?;
+        };
+    }
+    Ok(())
+}
 
 /// What a register tells after the run: the first pair to try, and of the third and the second link whether it stays short.
 fn told_after<R: MemoryRegister>(
