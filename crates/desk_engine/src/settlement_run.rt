@@ -139,7 +139,7 @@ fn take_past_short<R: Register>(
 pub struct Passed {
     /// How many pairs settled
     pub settled: u64,
-    /// How many pairs that are due were found to lack something, in the last pass
+    /// How many pairs that are due were found, or are known, to lack something, in the last pass
     pub waiting: u64,
 }
 

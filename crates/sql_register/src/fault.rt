@@ -1,4 +1,4 @@
-//! What becomes of a register whose call has failed.
+//! How a register fares as its calls end: its stage, its failures, and what it knows of the tables.
 ghost use Rattle.std.specs.Prelude.{◌≡◌, List, [], ◌∷◌, ◌++◌, length, IfOk, OnErr, OnOk};
 ghost use Rattle.desk_register.specs.View.{fallen};
 ghost use Rattle.desk_rules.specs.declared.answers.reply.Kept.{Kept};

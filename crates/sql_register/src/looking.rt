@@ -1,4 +1,4 @@
-//! What is looked up in the tables, as the register says it.
+//! What is looked up, among what is known and else in the tables, as the register says it.
 ghost use Rattle.std.specs.Prelude.{◌≡◌, ◌+◌, List, Some, option_and_then, IfOk, IsOk, OnOk};
 ghost use Rattle.desk_rules.specs.Content.{history_of};
 ghost use Rattle.desk_rules.specs.Balances.{issued, redeemed};

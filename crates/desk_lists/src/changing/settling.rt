@@ -80,7 +80,7 @@ fn waits_for(standing: &Standing, mate: u64, reason: Reason) -> bool
     }
 }
 
-/// Lets a pair wait for a reason. Where it waits for it already, nothing is written: a run tries it in each pass.
+/// Lets a pair wait for a reason. Where it waits for it already, nothing is written: it may be tried in each pass of a run.
 fn wait(
     lists: &mut Lists,
     changes: &mut Vec<Change>,
