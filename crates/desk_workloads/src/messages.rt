@@ -15,6 +15,9 @@ use std::alloc::Global;
 /// Of so many messages one is damaged.
 const DAMAGED: u32 = 5;
 
+/// The first reference of a round is drawn below this number.
+const REFERENCES: u32 = 900_000_000;
+
 /// A long text has so many bytes at least.
 const LONG: usize = 60_000;
 
@@ -84,12 +87,14 @@ fn read_short(
     digest: &mut Digest,
 ) -> Result<(), Failure> {
     let mut text = Vec::new(alloc);
+    let first = draw.below(REFERENCES);
     for number in 0..count {
-        let trade = drawn_trade(draw, 0, 500, number.wrapping_mul(2));
+        let own = first.wrapping_add(number.wrapping_mul(2));
+        let trade = drawn_trade(draw, 0, 500, own);
         let side = drawn_side(draw);
         text.clear();
         if draw.is_one_in(10) {
-            trade.add_cancellation(&mut text, side, number)?;
+            trade.add_cancellation(&mut text, side, own)?;
         } else {
             trade.add_instruction(&mut text, side)?;
         }
