@@ -22,3 +22,4 @@ pub mod HoldingsLemmas
 pub mod TakenRows
 pub mod StatementLaws
 pub mod RowTexts
+pub mod ByTagLemmas
