@@ -1,7 +1,7 @@
 -- The first holding of an account, key by key.
 use Rattle.std.proofs.Common.{◌≡◌, ℕ, ◌<◌, Bool, true, false, List, [], ◌∷◌, Option, Some, None, refl, ap, sym, ◌∙◌, subst, arith}
 use Rattle.std.specs.Prelude.{bytes_eq, is_some, not, unwrap_or}
-use Rattle.std.specs.List.{list_any, filter, All, AllByRecursion}
+use Rattle.std.specs.List.{filter, All, AllByRecursion}
 use Rattle.std.specs.List.Sorted.{IsStrictlySortedBy}
 use Rattle.std.specs.Map.{keys_of, lookup}
 use Rattle.std.specs.Range.Bound.{IsForward}
@@ -19,20 +19,17 @@ use Rattle.std.proofs.lemmas.Map.Keys.{sorted_head, sorted_tail}
 use Rattle.std.proofs.lemmas.Map.Text.{is_eq-slice_cmp}
 use Rattle.desk_rules.specs.Content.{Content}
 use Rattle.desk_register.specs.declared.holding.Holding.{Holding}
-use Rattle.desk_register.specs.Looked.{HoldsAbove, IsHoldingAfter, IsLess}
+use Rattle.desk_register.specs.Looked.{HoldsAbove, IsAboveText, IsHoldingAfter, IsLess}
 use Rattle.desk_register.proofs.CaseLemmas.{by_bool, bytes_refl, same_bytes}
 use Rattle.desk_lists.specs.declared.balance_key.BalanceKey.{BalanceKey}
 use Rattle.desk_lists.specs.declared.balance_key.BalanceKey.TheVariants.{Cash, Outstanding, Paid, Position}
 use Rattle.desk_lists.specs.BalanceKeys.{HasNoneBelow, balance_cmp, first_key, least_isin, text_cmp}
 use Rattle.desk_lists.specs.Lists.{Listed, content_in}
 use Rattle.desk_lists.specs.Search.{IsHeldAbove, start_of}
+use Rattle.desk_lists.specs.Walk.{AreRecorded, Walks, has}
 use Rattle.desk_lists.proofs.BalanceLemmas.{key_true, tied_keys}
 use Rattle.desk_lists.proofs.FloorLemmas.{by_order}
 use Rattle.desk_lists.proofs.ListingLemmas.{less_less, not_less_itself}
-
--- whether some keys have this one
-abbrev pub has : BalanceKey → List BalanceKey → Bool
-has q keys = list_any (is_at (balance_cmp q)) keys
 
 same_key : (q k : BalanceKey) → is_at (balance_cmp q) k ≡ true → q ≡ k
 same_key q k e = key_true q k (sym (tied_keys q k) ∙ e)
@@ -193,10 +190,6 @@ module _ (content : Content) (account : List ℕ) (above : Option (List ℕ)) (x
 
 -- The amounts of some entries.
 
--- each is what is recorded of its key
-pub record AreRecorded (balances : BalanceKey → Option ℕ) (es : List (BalanceKey × ℕ)) : Type 0 where
-  pub each : All (λ e. balances e.0 ≡ Some e.1) es
-
 pub range_recorded : (from to : Bound BalanceKey) (m : BTreeMap BalanceKey ℕ) (es s : List (BalanceKey × ℕ)) → s ≡ es → IsRangeOf balance_cmp from to m es → AreRecorded (get balance_cmp m) s
 range_recorded from to m es s is range = subst (AreRecorded (get balance_cmp m)) (sym is) (record { each = λ k d below. (range.0 k d below).1 })
 
@@ -211,6 +204,54 @@ module _ (balances : BalanceKey → Option ℕ) (key : BalanceKey) (amount : ℕ
 -- what is recorded of a position is held
 pub held_amount : (l : Listed) (account isin : List ℕ) (key : BalanceKey) (amount : ℕ) → key ≡ Position account isin → l.balances key ≡ Some amount → amount ≡ (content_in l).position account isin
 held_amount l account isin key amount at recorded = ap (λ o. unwrap_or o 0) (sym recorded ∙ ap l.balances at)
+
+-- A step of a walk.
+
+-- one that has come to its end comes to no more
+pub comes_to_its_end : (l : Listed) (account : List ℕ) (above : Option (List ℕ)) (es : List (BalanceKey × ℕ)) → es ≡ [] → Walks l account above es → (isin : List ℕ) → HoldsAbove (content_in l) account above isin → ⊥
+comes_to_its_end l account above es is walks isin holds = let bad = subst (λ z. has (Position account isin) (keys_of z) ≡ true) is (walks.left isin holds) in absurd (cc)
+
+above_above : (above : Option (List ℕ)) (j isin : List ℕ) → IsAboveText above j → IsLess j isin → IsAboveText above isin
+above_above None j isin one two = tt
+above_above (Some a) j isin one two = less_less a j isin one two
+
+all_le : (x : BalanceKey) (ts : List BalanceKey) → AllByRecursion (λ y. balance_cmp x y ≡ Less) ts → AllByRecursion (λ y. is_le (balance_cmp x y) ≡ true) ts
+all_le x [] all = tt
+all_le x (y ∷ ts) all = (subst (λ o. is_le o ≡ true) (sym all.0) refl, all_le x ts all.1)
+
+module _ (l : Listed) (account : List ℕ) (above : Option (List ℕ)) (key : BalanceKey) (amount : ℕ) (es ts : List (BalanceKey × ℕ)) (is : es ≡ (key, amount) ∷ ts)
+    (walks : Walks l account above es) where
+  -- one that comes to what is no position of the account comes to no more
+  pub comes_to_no_more : ((j : List ℕ) → key ≡ Position account j → ⊥) → (isin : List ℕ) → HoldsAbove (content_in l) account above isin → ⊥
+  comes_to_no_more = none_past (content_in l) account above key (keys_of es) (keys_of ts) (ap keys_of is) walks.left walks.sorted walks.from
+
+  module _ (j : List ℕ) (at : key ≡ Position account j) where
+    as_held : (found : Option Holding) → IsHeldAbove amount above j found → IsHeldAbove ((content_in l).position account j) above j found
+    as_held found = subst (λ q. IsHeldAbove q above j found) (held_amount l account j key amount at (first_recorded l.balances key amount es ts is walks.amounts))
+
+    pub comes_to : (holding : Holding) → IsHeldAbove amount above j (Some holding) → IsHoldingAfter (content_in l) account above (Some holding)
+    comes_to holding found = first_is_held (content_in l) account above key (keys_of es) (keys_of ts) (ap keys_of is) walks.left walks.sorted walks.from j at holding (as_held (Some holding) found)
+
+    -- it goes past what is not held
+    pub goes_past : IsHeldAbove amount above j None → Walks l account above ts
+    goes_past none = record {
+      left = all_behind (content_in l) account above key (keys_of es) (keys_of ts) (ap keys_of is) walks.left walks.sorted walks.from j at (as_held None none);
+      sorted = sorted_behind (content_in l) account above key (keys_of es) (keys_of ts) (ap keys_of is) walks.left walks.sorted walks.from;
+      from = from_behind (content_in l) account above key (keys_of es) (keys_of ts) (ap keys_of is) walks.left walks.sorted walks.from;
+      amounts = recorded_behind l.balances key amount es ts is walks.amounts;
+    }
+
+    -- it goes on behind what is held
+    pub goes_on : (holding : Holding) → IsHeldAbove amount above j (Some holding) → Walks l account (Some holding.isin) ts
+    goes_on holding found = subst (λ isin. Walks l account (Some isin) ts) (sym found.2) (record {
+      left = λ isin holds. first_or_behind (Position account isin) key (keys_of es) (keys_of ts) (ap keys_of is)
+          (walks.left isin (holds.0, above_above above j isin found.1 holds.1))
+          (λ first. let same : isin ≡ j = let both = first ∙ at in cc in absurd (not_less_itself j isin (sym same) holds.1))
+          (λ there. there);
+      sorted = sorted_behind (content_in l) account above key (keys_of es) (keys_of ts) (ap keys_of is) walks.left walks.sorted walks.from;
+      from = subst (λ k. AllByRecursion (λ y. is_le (balance_cmp k y) ≡ true) (keys_of ts)) at (all_le key (keys_of ts) (sorted_head balance_cmp key (keys_of ts) (subst (IsStrictlySortedBy balance_cmp) (ap keys_of is) walks.sorted)));
+      amounts = recorded_behind l.balances key amount es ts is walks.amounts;
+    })
 
 -- An account's key, and another's.
 

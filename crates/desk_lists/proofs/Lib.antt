@@ -2,11 +2,13 @@ mod AppendLemmas
 mod BalanceLemmas
 mod BalancedLemmas
 mod FloorLemmas
+pub mod FollowLemmas
 mod HoldingLemmas
 mod KeepLemmas
 mod ListingLemmas
 mod ListsLemmas
 mod LookingLemmas
+mod RowLemmas
 mod SearchLemmas
 mod SettleLemmas
 mod SoundLemmas

@@ -1,9 +1,11 @@
 pub mod BalanceKeys
 pub mod Balanced
-pub mod Lists
+pub mod FollowOn
 pub mod ListView
+pub mod Lists
 pub mod Moves
 pub mod Named
 pub mod Search
 pub mod Shifts
 pub mod Transfers
+pub mod Walk

@@ -5,7 +5,7 @@
 //! and `balance_key.rt` what a balance is of;
 //! `changes.rt` makes each, undoes it, and keeps it for good, balances by `recording`. All that changes goes through it: `appending`, `requests`, `standings`,
 //! `balances`, `settling` and `messages`; `trimming` takes off the memory that a kept text does not need. The rest only reads: `by_number` and `history` the entries, `entries` what
-//! one entry says, `holdings` the balances, and `opposites`, `due_pairs`, `securities` and `next_holding` search in
+//! one entry says, `holdings` the balances, and `opposites`, `due_pairs`, `securities`, `next_holding` and `totals` search in
 //! order. `wrapped` is what a register that keeps look-ups beside the lists asks of them. Begin with `calls.rt`.
 #![tactic(auto)]
 

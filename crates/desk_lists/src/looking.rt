@@ -7,3 +7,4 @@ pub mod messages;
 pub mod next_holding;
 pub mod opposites;
 pub mod securities;
+pub mod totals;

@@ -1,24 +1,26 @@
 //! What a register that keeps look-ups beside the lists asks of them. All but `fail` only reads.
-ghost use Rattle.std.specs.Prelude.{◌≡◌, ◌≢◌, ◌↔◌, ◌+◌, IsTrue, IfSome, IfNone, IfOk, length, option_and_then};
+ghost use Rattle.std.specs.Prelude.{◌≡◌, ◌≢◌, ◌↔◌, ◌+◌, ◌-◌, ◌<◌, ◌≤◌, None, IsTrue, IfSome, IfNone, IfOk, length, option_and_then};
+ghost use Rattle.std.proofs.Common.{get_or};
 ghost use Rattle.desk_rules.specs.declared.history.pair.Place.{Place};
 ghost use Rattle.desk_rules.specs.Balances.{paid_in, paid_out};
 ghost use Rattle.desk_rules.specs.Facts.{kind_by, owner_by};
 ghost use Rattle.desk_rules.specs.History.{entry_at, instruction_at};
 ghost use Rattle.desk_rules.specs.Content.{history_of};
 ghost use Rattle.desk_rules.specs.Questions.{sent_at};
-ghost use Rattle.desk_register.specs.Looked.{held_cash_of, held_of, IsDue, IsOppositeAt};
+ghost use Rattle.desk_register.specs.Looked.{held_cash_of, held_of, IsDue, IsHoldingAfter, IsOppositeAt};
 ghost use Rattle.desk_register.specs.View.{Falls, IsLater, IsRead};
 ghost use Rattle.desk_lists.specs.ListView.{view_of_lists};
+ghost use Rattle.desk_lists.specs.Walk.{AreNextHoldings, AreTotals};
 
 use crate::balance_key::BalanceKey;
 use crate::balances::balance_of;
 use crate::calls::fallen;
 use crate::changing::entries;
 use crate::list_register::ListRegister;
-use crate::looking::{by_number, due_pairs, messages, opposites};
+use crate::looking::{by_number, due_pairs, messages, next_holding, opposites, totals};
 use desk_codes::{AccountId, Bic, Ccy, Isin};
 use desk_msg::Kind;
-use desk_register::{Fault, Stage};
+use desk_register::{Fault, Holding, Stage};
 use desk_rules::{Entry, Instructed, Place, Sent, Standing};
 use std::alloc::Global;
 
@@ -87,6 +89,16 @@ impl ListRegister {
         balance_of(&self.lists, &BalanceKey::Outstanding { isin })
     }
 
+    /// Puts into rows what is outstanding of securities, from one on in the order of the ISINs, as far as there are rows and
+    /// balances; all registered accounts together hold as much. Gives how many rows were written. That each is true of its
+    /// security is all that is promised: not which securities these are.
+    pub fn totals_from(&self, isin: &Isin, rows: &mut [Option<Holding>]) -> usize
+        ensures totals { (view_of_lists self.now).stage ≢ Stage.Failed → AreTotals (view_of_lists self.now).content rows.new result }
+        ensures most { result ≤ length rows.new }
+    {
+        totals::totals_from(&self.lists, isin, rows)
+    }
+
     /// What was paid in of a currency less what was paid out, which all participants have together; 0 before any pay in.
     pub fn total_paid(&self, ccy: Ccy) -> u64
         ensures paid { (view_of_lists self.now).stage ≢ Stage.Failed
@@ -94,6 +106,25 @@ impl ListRegister {
         ensures had { (view_of_lists self.now).stage ≢ Stage.Failed → result ≡ held_cash_of (view_of_lists self.now).content ccy }
     {
         balance_of(&self.lists, &BalanceKey::Paid { ccy })
+    }
+
+    /// Puts the first holding of an account above a security, or above none, into the first row, and into each further row the
+    /// first above that of the row before, in the order of the ISINs, as far as there are rows and holdings. Gives how many
+    /// rows were written; the last is None where no more is held.
+    pub fn holdings_after(
+        &self,
+        account: &AccountId,
+        above: &Option<Isin>,
+        rows: &mut [Option<Holding>],
+    ) -> usize
+        requires { 0 < length rows.old }
+        ensures first { IsHoldingAfter (view_of_lists self.now).content account.now above.now (get_or rows.new 0 None) }
+        ensures further { AreNextHoldings (view_of_lists self.now).content account.now rows.new result }
+        ensures some { 0 < result }
+        ensures most { result ≤ length rows.new }
+        ensures full { result < length rows.new → get_or rows.new (result - 1) None ≡ None }
+    {
+        next_holding::holdings_after(&self.lists, account, above, rows)
     }
 
     /// How many messages were sent.

@@ -1,14 +1,17 @@
 //! The holdings of an account, in the order of the ISINs.
-ghost use Rattle.std.specs.Prelude.{◌≡◌, Some, None};
+ghost use Rattle.std.specs.Prelude.{◌≡◌, ◌<◌, ◌≤◌, ◌-◌, None, IfSome, length, option_map};
+ghost use Rattle.std.proofs.Common.{get_or};
 ghost use Rattle.desk_lists.specs.BalanceKeys.{least_isin};
-ghost use Rattle.desk_lists.specs.Lists.{content_in, listed};
+ghost use Rattle.desk_lists.specs.Lists.{Listed, content_in, listed};
 ghost use Rattle.desk_register.specs.Looked.{IsHoldingAfter};
 ghost use Rattle.desk_lists.specs.Search.{start_of, IsHeldAbove};
+ghost use Rattle.desk_lists.specs.Walk.{AreNextHoldings, Walks};
 
 use crate::balance_key::BalanceKey;
 use crate::lists::Lists;
 use desk_codes::{AccountId, Isin};
 use desk_register::{Holding, is_above};
+use std::collections::btree_map::Range;
 use std::ops::Bound;
 
 /// The least of all ISINs.
@@ -50,14 +53,29 @@ fn held_above(quantity: u64, isin: &Isin, above: &Option<Isin>) -> Option<Holdin
     None
 }
 
-/// The first holding of an account above a security, or above none, in the order of the ISINs.
-pub fn holding_after(lists: &Lists, account: &AccountId, above: &Option<Isin>) -> Option<Holding>
-    ensures { IsHoldingAfter (content_in (listed lists.now)) account.now above.now result }
+/// A walk over the balances, from where the holdings of an account above a security, or above none, begin.
+fn walk_from<'a>(
+    lists: &'a Lists,
+    account: &AccountId,
+    above: &Option<Isin>,
+) -> Range<'a, BalanceKey, u64>
+    ensures { Walks (listed lists.now) account.now above.now result }
 {
-    for (key, amount) in lists
+    lists
         .balances
         .range((start_of(account, above), Bound::Unbounded))
-    {
+}
+
+/// The first holding that a walk comes to; the walk then stands behind it.
+fn next_on(
+    walk: &mut Range<'_, BalanceKey, u64>,
+    account: &AccountId,
+    above: &Option<Isin>,
+) -> Option<Holding>
+    ensures first { (l : Listed) → Walks l account.now above.now walk.old → IsHoldingAfter (content_in l) account.now above.now result }
+    ensures behind { (l : Listed) → Walks l account.now above.now walk.old → IfSome result (λ holding. Walks l account.now (Some holding.isin) walk.new) }
+{
+    while let Some((key, amount)) = walk.next() {
         let BalanceKey::Position {
             account: holder,
             isin,
@@ -73,4 +91,52 @@ pub fn holding_after(lists: &Lists, account: &AccountId, above: &Option<Isin>) -
         }
     }
     None
+}
+
+/// The first holding of an account above a security, or above none, in the order of the ISINs.
+pub fn holding_after(lists: &Lists, account: &AccountId, above: &Option<Isin>) -> Option<Holding>
+    ensures { IsHoldingAfter (content_in (listed lists.now)) account.now above.now result }
+{
+    let mut walk = walk_from(lists, account, above);
+    next_on(&mut walk, account, above)
+}
+
+/// The security of a holding, where there is one.
+fn isin_of(found: &Option<Holding>) -> Option<Isin>
+    ensures { result ≡ option_map (λ holding. holding.isin) found.now }
+{
+    match found {
+        Some(holding) => Some(holding.isin),
+        None => None,
+    }
+}
+
+/// Puts the first holding of an account above a security, or above none, into the first row, and into each further row the
+/// first above that of the row before, in the order of the ISINs, as far as there are rows and holdings. Gives how many rows
+/// were written; the last is None where no more is held.
+pub fn holdings_after(
+    lists: &Lists,
+    account: &AccountId,
+    above: &Option<Isin>,
+    rows: &mut [Option<Holding>],
+) -> usize
+    requires { 0 < length rows.old }
+    ensures first { IsHoldingAfter (content_in (listed lists.now)) account.now above.now (get_or rows.new 0 None) }
+    ensures further { AreNextHoldings (content_in (listed lists.now)) account.now rows.new result }
+    ensures some { 0 < result }
+    ensures most { result ≤ length rows.new }
+    ensures full { result < length rows.new → get_or rows.new (result - 1) None ≡ None }
+{
+    let mut walk = walk_from(lists, account, above);
+    let mut found = next_on(&mut walk, account, above);
+    rows[0] = found;
+    for count in 1..rows.len() {
+        let last = isin_of(&found);
+        if last.is_none() {
+            return count;
+        }
+        found = next_on(&mut walk, account, &last);
+        rows[count] = found;
+    }
+    rows.len()
 }

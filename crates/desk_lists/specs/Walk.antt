@@ -1,0 +1,49 @@
+-- Walks over the balances, in the order of their keys, and the rows that come of them.
+use Rattle.std.specs.Prelude.{◌≡◌, ℕ, ◌+◌, ◌<◌, Bool, true, List, Option, Some, None, IfSome, option_map}
+use Rattle.std.proofs.Common.{get_or}
+use Rattle.std.specs.BTreeMap.{is_at}
+use Rattle.std.specs.List.{list_any, All, AllByRecursion}
+use Rattle.std.specs.List.Sorted.{IsStrictlySortedBy}
+use Rattle.std.specs.Map.{keys_of}
+use Rattle.std.specs.Ordering.{is_le}
+use Rattle.desk_rules.specs.Balances.{issued, redeemed}
+use Rattle.desk_rules.specs.Content.{Content, history_of}
+use Rattle.desk_register.specs.declared.holding.Holding.{Holding}
+use Rattle.desk_register.specs.Looked.{HoldsAbove, IsHoldingAfter, held_of}
+use Rattle.desk_lists.specs.declared.balance_key.BalanceKey.{BalanceKey}
+use Rattle.desk_lists.specs.declared.balance_key.BalanceKey.TheVariants.{Outstanding, Position}
+use Rattle.desk_lists.specs.BalanceKeys.{balance_cmp, first_key}
+use Rattle.desk_lists.specs.FollowOn.{FollowOn}
+use Rattle.desk_lists.specs.Lists.{Listed, balance_in, content_in}
+
+-- whether some keys have this one
+abbrev pub has : BalanceKey → List BalanceKey → Bool
+has q keys = list_any (is_at (balance_cmp q)) keys
+
+-- each amount is what is recorded of its key
+pub record AreRecorded (balances : BalanceKey → Option ℕ) (es : List (BalanceKey × ℕ)) : Type 0 where
+  pub each : All (λ e. balances e.0 ≡ Some e.1) es
+
+-- all that an account holds above a security, or above none, is still to come, in the order of the keys
+pub record Walks (l : Listed) (account : List ℕ) (above : Option (List ℕ)) (es : List (BalanceKey × ℕ)) : Type 0 where
+  pub left : (isin : List ℕ) → HoldsAbove (content_in l) account above isin → has (Position account isin) (keys_of es) ≡ true
+  pub sorted : IsStrictlySortedBy balance_cmp (keys_of es)
+  pub from : AllByRecursion (λ k. is_le (balance_cmp (first_key account above) k) ≡ true) (keys_of es)
+  pub amounts : AreRecorded l.balances es
+
+-- of so many rows each but the first has what an account holds next after the row before
+abbrev pub AreNextHoldings : Content → List ℕ → List (Option Holding) → ℕ → Type 0
+AreNextHoldings content account rows count = FollowOn (λ before row. IsHoldingAfter content account (option_map (λ holding. holding.isin) before) row) rows count
+
+-- of so many rows each that has something has what is outstanding of a security
+pub record AreOutstanding (l : Listed) (rows : List (Option Holding)) (count : ℕ) : Type 0 where
+  pub each : (k : ℕ) → k < count → IfSome (get_or rows k None) (λ total. total.quantity ≡ balance_in l (Outstanding total.isin))
+
+-- what all registered accounts hold of a security, which is what was issued less what was redeemed
+pub record IsTotal (content : Content) (total : Holding) : Type 0 where
+  pub held : total.quantity ≡ held_of content total.isin
+  pub outstanding : redeemed (history_of content) total.isin + total.quantity ≡ issued (history_of content) total.isin
+
+-- of so many rows each that has something has such a total
+pub record AreTotals (content : Content) (rows : List (Option Holding)) (count : ℕ) : Type 0 where
+  pub each : (k : ℕ) → k < count → IfSome (get_or rows k None) (IsTotal content)
