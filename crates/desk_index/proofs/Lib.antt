@@ -1,4 +1,5 @@
 mod AddressedLemmas
+mod AheadLemmas
 mod ConfirmationLemmas
 mod DueLemmas
 mod FirstLemmas
@@ -10,7 +11,9 @@ mod NthLemmas
 mod NumbersLemmas
 mod OpenLemmas
 mod RegisteredLemmas
+mod SecurityWalkLemmas
 mod ShortageLemmas
+mod SumsLemmas
 mod TidyLemmas
 mod ToldLemmas
 mod WaitLemmas

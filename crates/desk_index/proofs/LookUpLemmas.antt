@@ -1,5 +1,5 @@
 -- What the look-ups of registered names give.
-use Rattle.std.proofs.Common.{◌≡◌, ℕ, zero, suc, ◌-◌, true, List, [], ◌∷◌, length, map, Option, Some, None, refl, ap, sym, ◌∙◌, arith}
+use Rattle.std.proofs.Common.{◌≡◌, ℕ, zero, suc, ◌+◌, ◌-◌, get_or, true, List, [], ◌∷◌, length, map, Option, Some, None, refl, ap, sym, ◌∙◌, arith}
 use Rattle.std.specs.Prelude.{bytes_eq, filter_map, is_some, option_map, slice_get, IfSome, IfNone}
 use Rattle.std.specs.List.{cons_option}
 use Rattle.std.specs.BTreeMap.{BTreeMap, get}
@@ -14,9 +14,11 @@ use Rattle.desk_rules.specs.Facts.{kind_by, kind_of, last_run, last_said, or_els
 use Rattle.desk_rules.specs.History.{run_day}
 use Rattle.desk_register.specs.Looked.{IsAboveText, IsLess, IsSecurityAfter}
 use Rattle.desk_register.proofs.CaseLemmas.{by_bool}
+use Rattle.desk_lists.specs.FollowOn.{FollowOn}
 use Rattle.desk_index.specs.FirstNumbers.{IsAbove, first_number}
 use Rattle.desk_index.specs.Keys.{text_cmp}
 use Rattle.desk_index.specs.Registered.{adds_account, adds_security}
+use Rattle.desk_index.specs.SecurityRows.{IsNextSecurity}
 use Rattle.desk_index.proofs.FirstLemmas.{first_any, said_any}
 
 -- the last run
@@ -111,3 +113,14 @@ module _ (securities : BTreeMap (List ℕ) ℕ) (history : List Entry) (each : (
     (sym (registered isin) ∙ there, above_as above isin is),
     λ other found less. not_below isin other (least other (above_from above other found.1) (registered other ∙ found.0)) less,
   )
+
+-- of a next security
+pub next_found : (securities : BTreeMap (List ℕ) ℕ) (history : List Entry) (each : (isin : List ℕ) → get text_cmp securities isin ≡ first_number (adds_security isin) history) (above o : Option (List ℕ))
+    → IsNextSecurity securities above o → IsSecurityAfter history above o
+next_found securities history each above None none = security_found securities history each above None tt tt tt (λ q higher there. none q (record { higher = higher; there = there }))
+next_found securities history each above (Some isin) found = security_found securities history each above (Some isin) found.0.higher found.0.there (λ q higher there. found.1 q (record { higher = higher; there = there })) tt
+
+-- of rows
+pub follow_found : (securities : BTreeMap (List ℕ) ℕ) (history : List Entry) (each : (isin : List ℕ) → get text_cmp securities isin ≡ first_number (adds_security isin) history) (rows : List (Option (List ℕ))) (count : ℕ)
+    → FollowOn (IsNextSecurity securities) rows count → FollowOn (IsSecurityAfter history) rows count
+follow_found securities history each rows count follow = record { each = λ k below. next_found securities history each (get_or rows k None) (get_or rows (k + 1) None) (follow.each k below) }

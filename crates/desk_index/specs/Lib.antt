@@ -1,4 +1,5 @@
 pub mod Addressed
+pub mod Ahead
 pub mod Confirmations
 pub mod DuePlaces
 pub mod FirstNumbers
@@ -10,11 +11,14 @@ pub mod Known
 pub mod Messages
 pub mod NumbersAt
 pub mod NumbersByKey
+pub mod OneAhead
 pub mod OneShortage
 pub mod Open
 pub mod PlacesByKey
 pub mod Registered
+pub mod SecurityRows
 pub mod Shortages
+pub mod Sums
 pub mod TailNumber
 pub mod Touched
 pub mod Wants

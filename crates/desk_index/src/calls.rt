@@ -4,6 +4,7 @@ ghost use Rattle.desk_rules.specs.declared.limits.TheConstants.{MOST_ENTRIES};
 ghost use Rattle.desk_register.specs.Changes.{empty_content};
 ghost use Rattle.desk_index.specs.IndexView.{view_of_index};
 
+use crate::ahead::Ahead;
 use crate::entries::known::Known;
 use crate::indexed_register::IndexedRegister;
 use crate::noting::{note_entry, note_message, note_pair, touch_both, touch_settled};
@@ -12,6 +13,7 @@ use crate::pairs::opposites::first_open_opposite;
 use crate::sent::heading::heading_of;
 use crate::sent::messages::Messages;
 use crate::short::shortages::Shortages;
+use crate::sums::Sums;
 use crate::tidying::{forget_all, forget_messages, tidy_all, tidy_new};
 use desk_codes::{AccountId, Bic, Ccy, Day, Isin, Reference};
 use desk_lists::ListRegister;
@@ -39,6 +41,8 @@ impl IndexedRegister {
             messages: Messages::new(alloc),
             told: Vec::new(alloc),
             shortages: Shortages::new(alloc),
+            ahead: Ahead::nothing(),
+            sums: Sums::nothing(),
         }
     }
 
@@ -59,10 +63,14 @@ impl Register for IndexedRegister {
     ghost in_memory = { true };
 
     fn begin(&mut self, alloc: Global) -> Result<(), Fault> {
+        self.ahead.clear();
+        self.sums.clear();
         self.held.begin(alloc)
     }
 
     fn commit(&mut self, alloc: Global) -> Result<(), Fault> {
+        self.ahead.clear();
+        self.sums.clear();
         self.held.commit(alloc)?;
         self.noted.truncate(0);
         self.told.truncate(0);
@@ -76,6 +84,8 @@ impl Register for IndexedRegister {
     }
 
     fn back(&mut self, alloc: Global) -> Result<(), Fault> {
+        self.ahead.clear();
+        self.sums.clear();
         self.held.back(alloc)?;
         let count = self.held.entry_count();
         forget_all(&mut self.known, &mut self.noted, count);
@@ -107,6 +117,9 @@ impl Register for IndexedRegister {
     }
 
     fn outstanding(&mut self, alloc: Global, isin: Isin) -> Result<u64, Fault> {
+        if let Some(total) = self.sums.total(&isin) {
+            return Ok(total);
+        }
         self.held.outstanding(alloc, isin)
     }
 
@@ -207,19 +220,25 @@ impl Register for IndexedRegister {
         _alloc: Global,
         isin: Option<Isin>,
     ) -> Result<Option<Isin>, Fault> {
-        Ok(self.known.registered.security_after(&isin))
+        Ok(
+            self.sums
+                .security_after(&self.held, &self.known.registered, &isin),
+        )
     }
 
     fn holding_after(
         &mut self,
-        alloc: Global,
+        _alloc: Global,
         account: AccountId,
         isin: Option<Isin>,
     ) -> Result<Option<Holding>, Fault> {
-        self.held.holding_after(alloc, account, isin)
+        Ok(self.ahead.holding_after(&self.held, &account, &isin))
     }
 
     fn held(&mut self, _alloc: Global, isin: Isin) -> Result<u64, Fault> {
+        if let Some(total) = self.sums.total(&isin) {
+            return Ok(total);
+        }
         Ok(self.held.total_held(isin))
     }
 
@@ -228,6 +247,8 @@ impl Register for IndexedRegister {
     }
 
     fn append(&mut self, _alloc: Global, entry: Entry, reply: Reply) -> Result<(), Fault> {
+        self.ahead.clear();
+        self.sums.clear();
         let named = self.known.keys.number_named(&entry);
         let number = self.held.entry_count() + 1;
         if note_entry(
@@ -246,6 +267,8 @@ impl Register for IndexedRegister {
     }
 
     fn pair(&mut self, alloc: Global, earlier: u64, later: u64) -> Result<(), Fault> {
+        self.ahead.clear();
+        self.sums.clear();
         if note_pair(
             &self.held,
             &mut self.matched,
@@ -276,6 +299,8 @@ impl Register for IndexedRegister {
     }
 
     fn settle_pair(&mut self, alloc: Global, number: u64, day: Day) -> Result<Outcome, Fault> {
+        self.ahead.clear();
+        self.sums.clear();
         let mate = self.held.standing_at(number).mate.unwrap_or(number);
         if self.touched.reserve(2).is_err() {
             return Err(self.held.fail());
@@ -300,6 +325,8 @@ impl Register for IndexedRegister {
     }
 
     fn cancel(&mut self, alloc: Global, number: u64) -> Result<(), Fault> {
+        self.ahead.clear();
+        self.sums.clear();
         if self.touched.push(number).is_err() {
             return Err(self.held.fail());
         }
@@ -307,6 +334,8 @@ impl Register for IndexedRegister {
     }
 
     fn cancel_pair(&mut self, alloc: Global, earlier: u64, later: u64) -> Result<(), Fault> {
+        self.ahead.clear();
+        self.sums.clear();
         if touch_both(&mut self.touched, earlier, later).is_err() {
             return Err(self.held.fail());
         }
@@ -333,6 +362,8 @@ impl Register for IndexedRegister {
     }
 
     fn send(&mut self, alloc: Global, message: Sent) -> Result<(), Fault> {
+        self.ahead.clear();
+        self.sums.clear();
         let heading = heading_of(&message);
         let number = self.held.message_count() + 1;
         if note_message(&mut self.messages, &mut self.told, &heading, number).is_err() {

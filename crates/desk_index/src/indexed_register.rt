@@ -1,15 +1,20 @@
 //! A register in lists, with look-ups beside them.
 ghost use Rattle.desk_lists.specs.ListView.{view_of_lists};
+ghost use Rattle.desk_index.specs.Ahead.{HoldsAhead};
 ghost use Rattle.desk_index.specs.Indexed.{IsIndexed};
 ghost use Rattle.desk_index.specs.Messages.{IsTold};
+ghost use Rattle.desk_index.specs.OneAhead.{holds_ahead_prop, holds_sums_prop};
 ghost use Rattle.desk_index.specs.OneShortage.{holds_short_prop};
 ghost use Rattle.desk_index.specs.Shortages.{HoldsShort};
+ghost use Rattle.desk_index.specs.Sums.{HoldsSums};
 
+use crate::ahead::Ahead;
 use crate::entries::known::Known;
 use crate::pairs::match_key::MatchKey;
 use crate::sent::heading::Heading;
 use crate::sent::messages::Messages;
 use crate::short::shortages::Shortages;
+use crate::sums::Sums;
 use desk_lists::ListRegister;
 use desk_rules::Entry;
 use std::collections::BTreeSet;
@@ -34,7 +39,13 @@ pub struct IndexedRegister {
     pub(crate) told: Vec<Heading>,
     /// The matched pairs that are known to stay short
     pub(crate) shortages: Shortages,
+    /// Rows of the statement that was asked for last
+    pub(crate) ahead: Ahead,
+    /// Rows of the totals that were asked for last
+    pub(crate) sums: Sums,
     ghost indexed: { IsIndexed (view_of_lists held) known unmatched matched noted.items },
     ghost sent_indexed: { IsTold (view_of_lists held) messages told.items },
     ghost shortages_known: { HoldsShort (view_of_lists held) shortages } by { holds_short_prop (view_of_lists held) shortages },
+    ghost rows_ahead: { HoldsAhead (view_of_lists held) ahead } by { holds_ahead_prop (view_of_lists held) ahead },
+    ghost rows_summed: { HoldsSums (view_of_lists held) sums } by { holds_sums_prop (view_of_lists held) sums },
 }

@@ -7,12 +7,14 @@
 //! (`match_key`), and `due_places` matched pairs by their days. `messages` finds what was sent, by
 //! the headings of the messages (`heading`): `addressed` what was sent to a participant, and `confirmations` what
 //! confirms an instruction. `shortages` knows which matched pairs stay short, so that a run need not try them, and `waiting`
-//! what these wait for (`wants`), by what the two sides of a pair move (`sides`). `noting` puts into the
-//! look-ups what a call adds, `tidying` takes out what a call or `back` ends. `first_numbers`, `numbers_at`,
+//! what these wait for (`wants`), by what the two sides of a pair move (`sides`). `ahead` keeps rows
+//! that a statement asks for next, and `sums` those that the totals do (`next_securities`), until something changes. `noting` puts
+//! into the look-ups what a call adds, `tidying` takes out what a call or `back` ends. `first_numbers`, `numbers_at`,
 //! `numbers_by_key`, `places_by_key` and `ordered` have the maps and sets beneath, and `tail_number` what keys are compared by
 //! first. Begin with specs/Indexed.antt, then specs/Shortages.antt and `calls.rt`.
 #![tactic(auto)]
 
+mod ahead;
 mod calls;
 mod collections;
 mod entries;
@@ -21,6 +23,7 @@ mod noting;
 mod pairs;
 mod sent;
 mod short;
+mod sums;
 mod tidying;
 
 pub use indexed_register::IndexedRegister;

@@ -1,13 +1,11 @@
 //! The number of the first entry that has each key.
-ghost use Rattle.std.specs.Prelude.{◌≡◌, if◌then◌else◌, is_some, true, IfSome, IfNone, OnOk, OnErr};
+ghost use Rattle.std.specs.Prelude.{◌≡◌, if◌then◌else◌, OnOk, OnErr};
 ghost use Rattle.std.specs.BTreeMap.{get};
-ghost use Rattle.std.specs.BTreeMap.Range.{IsLeBy};
 ghost use Rattle.std.specs.Ordering.{is_eq};
-ghost use Rattle.desk_index.specs.FirstNumbers.{IsAbove, number_if, or_number, without};
+ghost use Rattle.desk_index.specs.FirstNumbers.{number_if, or_number, without};
 
 use std::alloc::AllocError;
 use std::collections::BTreeMap;
-use std::ops::Bound;
 
 /// Puts a number at a key that has none.
 pub fn put_first<K: Ord + Copy>(
@@ -29,19 +27,4 @@ pub fn take_number<K: Ord + Copy>(numbers: &mut BTreeMap<K, u64>, key: K, number
     if numbers.get(&key).copied() == Some(number) {
         let _ = numbers.remove(&key);
     }
-}
-
-/// The least key above one, or above none.
-pub fn next_above<K: Ord + Copy>(numbers: &BTreeMap<K, u64>, above: &Option<K>) -> Option<K>
-    ensures above { IfSome result (IsAbove K.cmp above.now) }
-    ensures there { IfSome result (λ k. is_some (get K.cmp numbers.now k) ≡ true) }
-    ensures least { IfSome result (λ k. (q : K) → IsAbove K.cmp above.now q → is_some (get K.cmp numbers.now q) ≡ true → IsLeBy K.cmp k q) }
-    ensures none { IfNone result ((q : K) → IsAbove K.cmp above.now q → is_some (get K.cmp numbers.now q) ≡ true → ⊥) }
-{
-    let start = match above {
-        Some(key) => Bound::Excluded(*key),
-        None => Bound::Unbounded,
-    };
-    let (key, _) = numbers.range((start, Bound::Unbounded)).next()?;
-    Some(*key)
 }

@@ -1,15 +1,18 @@
 //! What the entries register: participants, accounts, securities, currencies that were paid in, and runs.
-ghost use Rattle.std.specs.Prelude.{◌≡◌, ◌+◌, ◌++◌, ◌∷◌, [], ℕ, List, length, map, option_map, OnOk, OnErr};
+ghost use Rattle.std.specs.Prelude.{◌≡◌, ◌<◌, ◌≤◌, ◌+◌, ◌++◌, ◌∷◌, [], ℕ, List, None, length, map, option_map, OnOk, OnErr};
 ghost use Rattle.std.specs.List.{list_any};
 ghost use Rattle.desk_codes.specs.Number.{number_of};
 ghost use Rattle.desk_register.specs.Looked.{IsSecurityAfter, pays_in};
 ghost use Rattle.desk_rules.specs.declared.history.entry.Entry.{Entry as EntryValue};
 ghost use Rattle.desk_rules.specs.Content.{history_of};
 ghost use Rattle.desk_rules.specs.Facts.{is_participant, kind_of, last_run, owner_of};
+ghost use Rattle.std.proofs.Common.{get_or};
+ghost use Rattle.desk_lists.specs.FollowOn.{FollowOn};
 ghost use Rattle.desk_lists.specs.ListView.{view_of_lists};
 ghost use Rattle.desk_index.specs.Registered.{AreRegistered};
 
-use crate::entries::first_numbers::{next_above, put_first, take_number};
+use crate::entries::first_numbers::{put_first, take_number};
+use crate::entries::next_securities::securities_after;
 use desk_codes::{AccountId, Bic, Ccy, Day, Isin};
 use desk_lists::ListRegister;
 use desk_msg::Kind;
@@ -112,11 +115,16 @@ impl Registered {
         self.runs.last().copied()
     }
 
-    /// The first security above one, or above none, in the order of bytes.
-    pub fn security_after(&self, above: &Option<Isin>) -> Option<Isin>
-        ensures { (history : List EntryValue) → AreRegistered self.now history → IsSecurityAfter history above.now result }
+    /// Puts the first security above one, or above none, in the order of bytes, into the first row, and into each further row
+    /// the first above that of the row before, as far as there are rows and securities. Gives how many rows were written.
+    pub fn securities_after(&self, above: &Option<Isin>, rows: &mut [Option<Isin>]) -> usize
+        requires { 0 < length rows.old }
+        ensures first { (history : List EntryValue) → AreRegistered self.now history → IsSecurityAfter history above.now (get_or rows.new 0 None) }
+        ensures further { (history : List EntryValue) → AreRegistered self.now history → FollowOn (IsSecurityAfter history) rows.new result }
+        ensures some { 0 < result }
+        ensures most { result ≤ length rows.new }
     {
-        next_above(&self.securities, above)
+        securities_after(&self.securities, above, rows)
     }
 }
 

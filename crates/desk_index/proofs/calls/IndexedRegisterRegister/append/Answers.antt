@@ -1,3 +1,5 @@
+use Rattle.desk_index.proofs.SumsLemmas.{nothing_summed}
+use Rattle.desk_index.proofs.AheadLemmas.{nothing_ahead}
 use Rattle.std.proofs.Common.{refl, ap, ◌+◌, ◌++◌}
 use Rattle.desk_rules.specs.Content.{history_of}
 use Rattle.desk_register.specs.Changes.{appended}
@@ -22,6 +24,8 @@ invariant_of-self c =
           (next_count r.known r.unmatched r.matched r.noted.items (view_of_lists r.held) c.entry_count-number.result c.requires.stage c.entry_count-number.ensures r.indexed)));
       sent_indexed = told_fails r.messages r.told.items r.held c.fail.new.self r.sent_indexed c.fail.ensures.stage c.fail.ensures.mark;
       shortages_known = short_failed r.shortages (view_of_lists c.fail.new.self) c.fail.ensures.stage;
+      rows_ahead = nothing_ahead (view_of_lists c.fail.new.self) c.clear.new.self c.clear.ensures;
+      rows_summed = nothing_summed (view_of_lists c.fail.new.self) c.clear-2.new.self c.clear-2.ensures.known c.clear-2.ensures.counted;
     }
 
 pub returns-then-is_err-clause-change : goal.returns-then-is_err-clause-change
@@ -43,4 +47,6 @@ invariant_of-self-2 c =
       shortages_known = short_changed c.append_named.result c.note_added.new.self (view_of_lists r.held) (view_of_lists c.append_named.new.self) (appended c.args.entry c.args.reply (view_of_lists r.held).content) c.requires.stage c.append_named.ensures.added change.err
           (after_appended c.note_added.new.self c.args.entry c.args.reply (view_of_lists r.held).content c.note_added.ensures.awake
           (c.note_added.ensures.kept (view_of_lists r.held).content (known_begun r.shortages (view_of_lists r.held) c.requires.stage r.shortages_known)));
+      rows_ahead = nothing_ahead (view_of_lists c.append_named.new.self) c.clear.new.self c.clear.ensures;
+      rows_summed = nothing_summed (view_of_lists c.append_named.new.self) c.clear-2.new.self c.clear-2.ensures.known c.clear-2.ensures.counted;
     }

@@ -1,3 +1,5 @@
+use Rattle.desk_index.proofs.SumsLemmas.{nothing_summed}
+use Rattle.desk_index.proofs.AheadLemmas.{nothing_ahead}
 use Rattle.std.proofs.Common.{sym, subst, ◌++◌, ◌∙◌}
 use Rattle.std.proofs.lemmas.List.{length-map}
 use Rattle.desk_rules.specs.Content.{history_of}
@@ -26,4 +28,6 @@ invariant_of-self-2 c =
       sent_indexed = told_idle c.forget_messages.new.messages c.forget_messages.new.told.items new (idle_mark c.back.new.self goes.stage) c.forget_messages.ensures.none
           (c.forget_messages.ensures.forgot (headings_of new.content) (subst (λ m. AreMessagesOf r.messages (headings_of m ++ r.told.items)) (sym same) r.sent_indexed.marked) (c.message_count-sent.ensures ∙ sym (length-map new.content.sent heading_of)));
       shortages_known = short_forgotten c.forget.new.self new c.forget.ensures;
+      rows_ahead = nothing_ahead (view_of_lists c.back.new.self) c.clear.new.self c.clear.ensures;
+      rows_summed = nothing_summed (view_of_lists c.back.new.self) c.clear-2.new.self c.clear-2.ensures.known c.clear-2.ensures.counted;
     }

@@ -1,3 +1,5 @@
+use Rattle.desk_index.proofs.SumsLemmas.{nothing_summed}
+use Rattle.desk_index.proofs.AheadLemmas.{nothing_ahead}
 use Rattle.std.proofs.Common.{refl}
 use Rattle.desk_register.specs.Changes.{cancelled}
 use Rattle.desk_lists.specs.ListView.{view_of_lists}
@@ -16,6 +18,8 @@ invariant_of-self c =
           c.fail.ensures.stage c.fail.ensures.mark (λ q there. there) (λ q there. there) refl (λ known. known);
       sent_indexed = told_fails r.messages r.told.items r.held c.fail.new.self r.sent_indexed c.fail.ensures.stage c.fail.ensures.mark;
       shortages_known = short_failed r.shortages (view_of_lists c.fail.new.self) c.fail.ensures.stage;
+      rows_ahead = nothing_ahead (view_of_lists c.fail.new.self) c.clear.new.self c.clear.ensures;
+      rows_summed = nothing_summed (view_of_lists c.fail.new.self) c.clear-2.new.self c.clear-2.ensures.known c.clear-2.ensures.counted;
     }
 
 pub returns-then-is_err-clause-change : goal.returns-then-is_err-clause-change
@@ -30,4 +34,6 @@ invariant_of-self-2 c =
       sent_indexed = told_apart r.messages r.told.items r.held c.cancel.new.self r.sent_indexed c.cancel.result (cancelled c.args.number) (λ content. refl) (c.cancel.ensures.cancelled tt tt) change.ok change.err;
       shortages_known = short_changed c.cancel.result r.shortages (view_of_lists r.held) (view_of_lists c.cancel.new.self) (cancelled c.args.number (view_of_lists r.held).content) c.requires.stage (c.cancel.ensures.cancelled tt tt) change.err
           (after_cancelled r.shortages c.args.number (view_of_lists r.held).content (c.requires.fits tt tt).unmatched (known_begun r.shortages (view_of_lists r.held) c.requires.stage r.shortages_known));
+      rows_ahead = nothing_ahead (view_of_lists c.cancel.new.self) c.clear.new.self c.clear.ensures;
+      rows_summed = nothing_summed (view_of_lists c.cancel.new.self) c.clear-2.new.self c.clear-2.ensures.known c.clear-2.ensures.counted;
     }

@@ -1,3 +1,5 @@
+use Rattle.desk_index.proofs.SumsLemmas.{nothing_summed}
+use Rattle.desk_index.proofs.AheadLemmas.{nothing_ahead}
 use Rattle.std.proofs.Common.{refl}
 use Rattle.desk_register.specs.Changes.{pair_cancelled}
 use Rattle.desk_lists.specs.ListView.{view_of_lists}
@@ -15,6 +17,8 @@ invariant_of-self c =
           c.fail.ensures.stage c.fail.ensures.mark (λ q there. there) (λ q there. there) refl (λ known. known);
       sent_indexed = told_fails r.messages r.told.items r.held c.fail.new.self r.sent_indexed c.fail.ensures.stage c.fail.ensures.mark;
       shortages_known = short_failed r.shortages (view_of_lists c.fail.new.self) c.fail.ensures.stage;
+      rows_ahead = nothing_ahead (view_of_lists c.fail.new.self) c.clear.new.self c.clear.ensures;
+      rows_summed = nothing_summed (view_of_lists c.fail.new.self) c.clear-2.new.self c.clear-2.ensures.known c.clear-2.ensures.counted;
     }
 
 pub returns-then-is_err-clause-change : goal.returns-then-is_err-clause-change
@@ -29,4 +33,6 @@ invariant_of-self-2 c =
       sent_indexed = told_apart r.messages r.told.items r.held c.cancel_pair.new.self r.sent_indexed c.cancel_pair.result (pair_cancelled c.args.earlier c.args.later) (λ content. refl) (c.cancel_pair.ensures.cancelled tt tt) change.ok change.err;
       shortages_known = short_changed c.cancel_pair.result c.note_cancelled.new.self (view_of_lists r.held) (view_of_lists c.cancel_pair.new.self) (pair_cancelled c.args.earlier c.args.later (view_of_lists r.held).content) c.requires.stage (c.cancel_pair.ensures.cancelled tt tt) change.err
           (knows_pair_cancelled r.shortages c.note_cancelled.new.self (view_of_lists r.held).content c.args.earlier c.args.later (c.requires.fits tt tt) c.note_cancelled.ensures (known_begun r.shortages (view_of_lists r.held) c.requires.stage r.shortages_known));
+      rows_ahead = nothing_ahead (view_of_lists c.cancel_pair.new.self) c.clear.new.self c.clear.ensures;
+      rows_summed = nothing_summed (view_of_lists c.cancel_pair.new.self) c.clear-2.new.self c.clear-2.ensures.known c.clear-2.ensures.counted;
     }

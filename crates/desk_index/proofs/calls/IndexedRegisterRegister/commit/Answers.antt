@@ -1,3 +1,5 @@
+use Rattle.desk_index.proofs.SumsLemmas.{nothing_summed}
+use Rattle.desk_index.proofs.AheadLemmas.{nothing_ahead}
 use Rattle.std.proofs.Common.{sym, subst}
 use Rattle.desk_index.specs.DuePlaces.{HasDue}
 use Rattle.desk_lists.specs.ListView.{view_of_lists}
@@ -22,4 +24,6 @@ invariant_of-self-2 c =
           (c.tidy_all.ensures.matched (subst (HasDue r.matched) (sym same) (r.indexed.due_now apart)));
       sent_indexed = told_idle r.messages c.truncate-2.new.self.items new (idle_mark c.commit.new.self commits.stage) c.truncate-2.ensures.items (kept_messages r.messages r.told.items old new r.sent_indexed apart same);
       shortages_known = short_of r.shortages new old.content same (known_begun r.shortages old c.requires r.shortages_known);
+      rows_ahead = nothing_ahead (view_of_lists c.commit.new.self) c.clear.new.self c.clear.ensures;
+      rows_summed = nothing_summed (view_of_lists c.commit.new.self) c.clear-2.new.self c.clear-2.ensures.known c.clear-2.ensures.counted;
     }

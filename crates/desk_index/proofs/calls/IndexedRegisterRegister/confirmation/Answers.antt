@@ -1,3 +1,5 @@
+use Rattle.desk_index.proofs.SumsLemmas.{sums_read}
+use Rattle.desk_index.proofs.AheadLemmas.{ahead_read}
 use Rattle.std.proofs.Common.{◌≡◌, IfOk, sym, subst, ◌∙◌}
 use Rattle.desk_lists.specs.ListView.{view_of_lists}
 use Rattle.desk_index.specs.Confirmations.{confirms}
@@ -15,6 +17,8 @@ invariant_of-self c =
       indexed = read_keeps c.message.result r.known r.unmatched r.matched r.noted.items r.held c.message.new.self c.message.ensures.read r.indexed;
       sent_indexed = told_read r.messages r.told.items r.held c.message.new.self r.sent_indexed c.message.result c.message.ensures.read;
       shortages_known = short_read r.shortages r.held c.message.new.self r.shortages_known c.message.result c.message.ensures.read;
+      rows_ahead = ahead_read r.ahead r.held c.message.new.self c.message.result r.rows_ahead c.message.ensures.read;
+      rows_summed = sums_read r.sums r.held c.message.new.self c.message.result r.rows_summed c.message.ensures.read;
     }
 
 pub returns-in-Some-clause-value : goal.returns-in-Some-clause-value

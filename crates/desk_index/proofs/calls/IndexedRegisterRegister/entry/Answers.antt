@@ -1,3 +1,5 @@
+use Rattle.desk_index.proofs.SumsLemmas.{sums_read}
+use Rattle.desk_index.proofs.AheadLemmas.{ahead_read}
 use Rattle.desk_index.proofs.HeldShortLemmas.{short_read}
 use Rattle.desk_index.proofs.IndexedLemmas.{read_keeps}
 use Rattle.desk_index.proofs.ToldLemmas.{told_read}
@@ -10,4 +12,6 @@ invariant_of-self c =
       indexed = read_keeps c.entry.result r.known r.unmatched r.matched r.noted.items r.held c.entry.new.self c.entry.ensures.read r.indexed;
       sent_indexed = told_read r.messages r.told.items r.held c.entry.new.self r.sent_indexed c.entry.result c.entry.ensures.read;
       shortages_known = short_read r.shortages r.held c.entry.new.self r.shortages_known c.entry.result c.entry.ensures.read;
+      rows_ahead = ahead_read r.ahead r.held c.entry.new.self c.entry.result r.rows_ahead c.entry.ensures.read;
+      rows_summed = sums_read r.sums r.held c.entry.new.self c.entry.result r.rows_summed c.entry.ensures.read;
     }

@@ -1,3 +1,5 @@
+use Rattle.desk_index.proofs.SumsLemmas.{nothing_summed}
+use Rattle.desk_index.proofs.AheadLemmas.{nothing_ahead}
 use Rattle.std.proofs.Common.{refl}
 use Rattle.desk_register.specs.Changes.{paired}
 use Rattle.desk_lists.specs.ListView.{view_of_lists}
@@ -16,6 +18,8 @@ invariant_of-self c =
           c.fail.ensures.stage c.fail.ensures.mark (λ q there. there) noting.ensures.all refl (λ keyed. keyed);
       sent_indexed = told_fails r.messages r.told.items r.held c.fail.new.self r.sent_indexed c.fail.ensures.stage c.fail.ensures.mark;
       shortages_known = short_failed r.shortages (view_of_lists c.fail.new.self) c.fail.ensures.stage;
+      rows_ahead = nothing_ahead (view_of_lists c.fail.new.self) c.clear.new.self c.clear.ensures;
+      rows_summed = nothing_summed (view_of_lists c.fail.new.self) c.clear-2.new.self c.clear-2.ensures.known c.clear-2.ensures.counted;
     }
 
 pub returns-then-is_err-clause-change : goal.returns-then-is_err-clause-change
@@ -36,6 +40,8 @@ invariant_of-self-in-Ok c =
       shortages_known = short_changed c.pair.result c.note_made.new.self (view_of_lists r.held) (view_of_lists c.pair.new.self) (paired c.args.earlier c.args.later (view_of_lists r.held).content) c.requires.stage (c.pair.ensures.paired tt tt) change.err
           (knows_paired c.note_made.new.self (view_of_lists r.held).content c.args.earlier c.args.later (c.requires.fits tt tt) c.note_made.ensures.placed
           (c.note_made.ensures.kept (view_of_lists r.held).content (known_begun r.shortages (view_of_lists r.held) c.requires.stage r.shortages_known)));
+      rows_ahead = nothing_ahead (view_of_lists c.pair.new.self) c.clear.new.self c.clear.ensures;
+      rows_summed = nothing_summed (view_of_lists c.pair.new.self) c.clear-2.new.self c.clear-2.ensures.known c.clear-2.ensures.counted;
     }
 
 pub invariant_of-self-in-Err-1 : goal.invariant_of-self-in-Err-1
@@ -50,4 +56,6 @@ invariant_of-self-in-Err-1 c =
       shortages_known = short_changed c.pair.result c.note_made.new.self (view_of_lists r.held) (view_of_lists c.pair.new.self) (paired c.args.earlier c.args.later (view_of_lists r.held).content) c.requires.stage (c.pair.ensures.paired tt tt) change.err
           (knows_paired c.note_made.new.self (view_of_lists r.held).content c.args.earlier c.args.later (c.requires.fits tt tt) c.note_made.ensures.placed
           (c.note_made.ensures.kept (view_of_lists r.held).content (known_begun r.shortages (view_of_lists r.held) c.requires.stage r.shortages_known)));
+      rows_ahead = nothing_ahead (view_of_lists c.pair.new.self) c.clear.new.self c.clear.ensures;
+      rows_summed = nothing_summed (view_of_lists c.pair.new.self) c.clear-2.new.self c.clear-2.ensures.known c.clear-2.ensures.counted;
     }

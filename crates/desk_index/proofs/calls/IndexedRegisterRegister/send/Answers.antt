@@ -1,3 +1,5 @@
+use Rattle.desk_index.proofs.SumsLemmas.{nothing_summed}
+use Rattle.desk_index.proofs.AheadLemmas.{nothing_ahead}
 use Rattle.std.proofs.Common.{[], ◌∷◌, ◌++◌, ◌∙◌, refl, ap, subst}
 use Rattle.desk_register.specs.Changes.{with_sent}
 use Rattle.desk_lists.specs.ListView.{view_of_lists}
@@ -22,6 +24,8 @@ invariant_of-self c =
           (where_it_failed noting.result failed noting.ensures.err)
           (λ are. where_it_failed noting.result failed (noting.ensures.err_noted (headings_of view.mark ++ r.told.items) are next)) r.sent_indexed;
       shortages_known = short_failed r.shortages (view_of_lists c.fail.new.self) c.fail.ensures.stage;
+      rows_ahead = nothing_ahead (view_of_lists c.fail.new.self) c.clear.new.self c.clear.ensures;
+      rows_summed = nothing_summed (view_of_lists c.fail.new.self) c.clear-2.new.self c.clear-2.ensures.known c.clear-2.ensures.counted;
     }
 
 pub invariant_of-self-2 : goal.invariant_of-self-2
@@ -43,4 +47,6 @@ invariant_of-self-2 c =
           sent change.ok change.err;
       shortages_known = short_changed c.send.result r.shortages view (view_of_lists c.send.new.self) (with_sent c.args.message view.content) c.requires.stage sent change.err
           (knows_sent r.shortages view.content c.args.message (known_begun r.shortages view c.requires.stage r.shortages_known));
+      rows_ahead = nothing_ahead (view_of_lists c.send.new.self) c.clear.new.self c.clear.ensures;
+      rows_summed = nothing_summed (view_of_lists c.send.new.self) c.clear-2.new.self c.clear-2.ensures.known c.clear-2.ensures.counted;
     }

@@ -1,3 +1,5 @@
+use Rattle.desk_index.proofs.SumsLemmas.{nothing_summed}
+use Rattle.desk_index.proofs.AheadLemmas.{nothing_ahead}
 use Rattle.std.proofs.Common.{◌∙◌, ap, refl}
 use Rattle.std.specs.Prelude.{unwrap_or}
 use Rattle.desk_codes.specs.Number.{number_of}
@@ -17,6 +19,8 @@ invariant_of-self c =
           c.fail.ensures.stage c.fail.ensures.mark (λ q there. there) (λ q there. there) refl (λ keyed. keyed);
       sent_indexed = told_fails r.messages r.told.items r.held c.fail.new.self r.sent_indexed c.fail.ensures.stage c.fail.ensures.mark;
       shortages_known = short_failed r.shortages (view_of_lists c.fail.new.self) c.fail.ensures.stage;
+      rows_ahead = nothing_ahead (view_of_lists c.fail.new.self) c.clear.new.self c.clear.ensures;
+      rows_summed = nothing_summed (view_of_lists c.fail.new.self) c.clear-2.new.self c.clear-2.ensures.known c.clear-2.ensures.counted;
     }
 
 pub returns-then-is_err-clause-change : goal.returns-then-is_err-clause-change
@@ -37,6 +41,8 @@ invariant_of-self-in-Ok c =
       sent_indexed = told_settled r.messages r.told.items r.held c.settle_pair.new.self r.sent_indexed c.settle_pair.result c.args.number (c.settle_pair.ensures.settled tt tt) change.ok change.err;
       shortages_known = short_of c.note_tried.new.self held held.content refl
           (c.note_tried.ensures (view_of_lists r.held).content tried.0 tried.1 tried.2 (known_begun r.shortages (view_of_lists r.held) c.requires.stage r.shortages_known));
+      rows_ahead = nothing_ahead (view_of_lists c.settle_pair.new.self) c.clear.new.self c.clear.ensures;
+      rows_summed = nothing_summed (view_of_lists c.settle_pair.new.self) c.clear-2.new.self c.clear-2.ensures.known c.clear-2.ensures.counted;
     }
 
 pub invariant_of-self-in-Err-1 : goal.invariant_of-self-in-Err-1
@@ -48,4 +54,6 @@ invariant_of-self-in-Err-1 c =
           c.settle_pair.result c.args.number (c.requires.fits tt tt) c.settle_pair.ensures.settled change.ok change.err;
       sent_indexed = told_settled r.messages r.told.items r.held c.settle_pair.new.self r.sent_indexed c.settle_pair.result c.args.number (c.settle_pair.ensures.settled tt tt) change.ok change.err;
       shortages_known = short_failed r.shortages (view_of_lists c.settle_pair.new.self) (c.in-Err.ensures.change.err.stage ∙ ap fallen c.requires.stage);
+      rows_ahead = nothing_ahead (view_of_lists c.settle_pair.new.self) c.clear.new.self c.clear.ensures;
+      rows_summed = nothing_summed (view_of_lists c.settle_pair.new.self) c.clear-2.new.self c.clear-2.ensures.known c.clear-2.ensures.counted;
     }

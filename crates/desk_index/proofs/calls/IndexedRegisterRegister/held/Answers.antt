@@ -1,0 +1,13 @@
+use Rattle.desk_lists.specs.ListView.{view_of_lists}
+use Rattle.desk_index.proofs.calls.IndexedRegisterRegister.held.Goals as goal
+
+pub invariant_of-self : goal.invariant_of-self
+invariant_of-self c =
+    let r = c.args.self.now in
+    record {
+      indexed = r.indexed;
+      sent_indexed = r.sent_indexed;
+      shortages_known = r.shortages_known;
+      rows_ahead = r.rows_ahead;
+      rows_summed = record { now = λ up. c.total.ensures.sums (view_of_lists r.held).content (r.rows_summed.now up) };
+    }
