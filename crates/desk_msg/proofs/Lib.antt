@@ -22,4 +22,3 @@ pub mod HoldingsLemmas
 pub mod TakenRows
 pub mod StatementLaws
 pub mod RowTexts
-pub mod ByTagLemmas

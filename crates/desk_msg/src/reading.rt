@@ -1,5 +1,4 @@
 //! Reading a message from the fields of a block.
-pub mod by_tag;
 pub mod confirmed;
 pub mod find;
 pub mod function;

@@ -8,7 +8,6 @@ ghost use Rattle.desk_msg.specs.Finding.{found_all, ReadsNew, ReadsSettlement};
 use crate::fault::MsgFault;
 use crate::instruction::{Cash, Kind};
 use crate::mt::Mt;
-use crate::reading::by_tag::ByTag;
 use crate::reading::function::FunctionCode;
 use crate::reading::profile::{ESET, PAID, RELA, SAFE, SECURITY, SETTLED};
 use crate::reading::rows::{read_function, read_payment, read_row};
@@ -55,8 +54,8 @@ fn paid_by(cash: Option<Cash>) -> Option<(Ccy, u64)>
 }
 
 /// The rows behind the function.
-fn read_settlement(mt: Mt, fields: &ByTag) -> Result<Confirmed, MsgFault>
-    ensures { ReadsSettlement mt (found_all fields.now.fields.now) result }
+fn read_settlement(mt: Mt, fields: &[Field]) -> Result<Confirmed, MsgFault>
+    ensures { ReadsSettlement mt (found_all fields.now) result }
 {
     let related = read_row(fields, &RELA)?;
     let day = read_row(fields, &ESET)?;
@@ -80,7 +79,7 @@ fn read_fields(mt: Mt, fields: &[Field]) -> Result<Confirmed, MsgFault>
     ensures { Confirms mt (found_all fields.now) result }
 {
     read_new(fields)?;
-    read_settlement(mt, &ByTag::new(fields))
+    read_settlement(mt, fields)
 }
 
 /// What the fields of a block confirm, for a confirmation's type (MT544 to MT547).

@@ -8,7 +8,6 @@ ghost use Rattle.desk_msg.specs.Reads.{belongs as belongs_to, first_value};
 ghost use Rattle.desk_msg.specs.Finding.{found_among, IsOne};
 
 use crate::fault::MsgFault;
-use crate::reading::by_tag::ByTag;
 use crate::reading::profile::Row;
 use desk_text::Field;
 
@@ -128,8 +127,8 @@ fn next_belonging<'b, 'a>(
     }
 }
 
-/// The one field of some that belongs to a row. Else the row's word is missing or repeated; values are not looked at.
-pub fn one_among<'b, 'a>(fields: &'b [Field<'a>], row: &Row) -> Result<&'b Field<'a>, MsgFault>
+/// The one field that belongs to a row. Else the row's word is missing or repeated; values are not looked at.
+pub fn find_field<'b, 'a>(fields: &'b [Field<'a>], row: &Row) -> Result<&'b Field<'a>, MsgFault>
     ensures { IsOne row.now.word (found_among row.now fields.now) result }
 {
     let Some((field, rest)) = next_belonging(fields, row) else {
@@ -139,11 +138,4 @@ pub fn one_among<'b, 'a>(fields: &'b [Field<'a>], row: &Row) -> Result<&'b Field
         return Err(MsgFault::Repeated(row.word));
     }
     Ok(field)
-}
-
-/// The one field that belongs to a row. Else the row's word is missing or repeated; values are not looked at.
-pub fn find_field<'b, 'a>(fields: &ByTag<'b, 'a>, row: &Row) -> Result<&'b Field<'a>, MsgFault>
-    ensures { IsOne row.now.word (found_among row.now fields.now.fields.now) result }
-{
-    one_among(fields.around(row), row)
 }

@@ -9,7 +9,6 @@ ghost use Rattle.desk_msg.specs.Finding.{found_all, ReadsRow, ReadsInstruction, 
 use crate::fault::MsgFault;
 use crate::instruction::{CancelOrder, Instruction, Message};
 use crate::mt::Mt;
-use crate::reading::by_tag::ByTag;
 use crate::reading::function::FunctionCode;
 use crate::reading::profile::{
     AMOUNT, DATE, DEAG, PREV, PSET, QUANTITY, REAG, SAFE, SECURITY, SEME, SETR,
@@ -19,17 +18,17 @@ use desk_codes::Bic;
 use desk_text::{Block, Field};
 
 /// The other side: of a receipt the one that delivers, of a delivery the one that receives.
-fn read_counterparty(mt: Mt, fields: &ByTag) -> Result<Bic, MsgFault>
-    ensures { ReadsRow (found_all fields.now.fields.now) (counterparty_row mt) text_said result }
+fn read_counterparty(mt: Mt, fields: &[Field]) -> Result<Bic, MsgFault>
+    ensures { ReadsRow (found_all fields.now) (counterparty_row mt) text_said result }
 {
     let row = if mt.is_delivery() { &REAG } else { &DEAG };
     read_row(fields, row)
 }
 
 /// A new instruction.
-fn read_instruction(mt: Mt, fields: &ByTag) -> Result<Instruction, MsgFault>
+fn read_instruction(mt: Mt, fields: &[Field]) -> Result<Instruction, MsgFault>
     requires { is_instruction mt ≡ true }
-    ensures { ReadsInstruction mt (found_all fields.now.fields.now) result }
+    ensures { ReadsInstruction mt (found_all fields.now) result }
 {
     let reference = read_row(fields, &SEME)?;
     let day = read_row(fields, &DATE)?;
@@ -56,9 +55,9 @@ fn read_instruction(mt: Mt, fields: &ByTag) -> Result<Instruction, MsgFault>
 }
 
 /// A cancellation.
-fn read_cancellation(mt: Mt, fields: &ByTag) -> Result<CancelOrder, MsgFault>
+fn read_cancellation(mt: Mt, fields: &[Field]) -> Result<CancelOrder, MsgFault>
     requires { is_instruction mt ≡ true }
-    ensures { ReadsCancellation mt (found_all fields.now.fields.now) result }
+    ensures { ReadsCancellation mt (found_all fields.now) result }
 {
     let reference = read_row(fields, &SEME)?;
     let previous = read_row(fields, &PREV)?;
@@ -69,22 +68,6 @@ fn read_cancellation(mt: Mt, fields: &ByTag) -> Result<CancelOrder, MsgFault>
     })
 }
 
-/// A new instruction, with one look over all fields before the rows behind the function are read.
-fn instruction_in(mt: Mt, fields: &[Field]) -> Result<Instruction, MsgFault>
-    requires { is_instruction mt ≡ true }
-    ensures { ReadsInstruction mt (found_all fields.now) result }
-{
-    read_instruction(mt, &ByTag::new(fields))
-}
-
-/// A cancellation, with one look over all fields before the rows behind the function are read.
-fn cancellation_in(mt: Mt, fields: &[Field]) -> Result<CancelOrder, MsgFault>
-    requires { is_instruction mt ≡ true }
-    ensures { ReadsCancellation mt (found_all fields.now) result }
-{
-    read_cancellation(mt, &ByTag::new(fields))
-}
-
 /// A message.
 fn read_fields(mt: Mt, fields: &[Field]) -> Result<Message, MsgFault>
     requires { is_instruction mt ≡ true }
@@ -92,11 +75,11 @@ fn read_fields(mt: Mt, fields: &[Field]) -> Result<Message, MsgFault>
 {
     match read_function(fields)? {
         FunctionCode::Newm => {
-            let instruction = instruction_in(mt, fields)?;
+            let instruction = read_instruction(mt, fields)?;
             Ok(Message::New(instruction))
         }
         FunctionCode::Canc => {
-            let order = cancellation_in(mt, fields)?;
+            let order = read_cancellation(mt, fields)?;
             Ok(Message::Cancel(order))
         }
     }

@@ -7,16 +7,15 @@ ghost use Rattle.desk_msg.specs.Finding.{found_all, row_seen, ReadsRow, ReadsPay
 use crate::fault::MsgFault;
 use crate::instruction::Cash;
 use crate::mt::Mt;
-use crate::reading::by_tag::ByTag;
-use crate::reading::find::{find_field, one_among};
+use crate::reading::find::find_field;
 use crate::reading::function::FunctionCode;
 use crate::reading::profile::{FUNCTION, Row};
 use crate::reading::value::{Value, function_in};
 use desk_text::Field;
 
 /// What the value of the one field of a row says; else how the row fails.
-pub fn read_row<T: Value>(fields: &ByTag, row: &Row) -> Result<T, MsgFault>
-    ensures { ReadsRow (found_all fields.now.fields.now) (row_seen T.form row.now) T.said result }
+pub fn read_row<T: Value>(fields: &[Field], row: &Row) -> Result<T, MsgFault>
+    ensures { ReadsRow (found_all fields.now) (row_seen T.form row.now) T.said result }
 {
     let field = find_field(fields, row)?;
     T::read(row, field).ok_or(MsgFault::BadValue(row.word))
@@ -26,7 +25,7 @@ pub fn read_row<T: Value>(fields: &ByTag, row: &Row) -> Result<T, MsgFault>
 pub fn read_function(fields: &[Field]) -> Result<FunctionCode, MsgFault>
     ensures { ReadsRow (found_all fields.now) function_row (λ function. text_said (code_of_function function)) result }
 {
-    let field = one_among(fields, &FUNCTION)?;
+    let field = find_field(fields, &FUNCTION)?;
     let Some(function) = function_in(field) else {
         return Err(MsgFault::BadValue(FUNCTION.word));
     };
@@ -40,8 +39,8 @@ pub fn read_function(fields: &[Field]) -> Result<FunctionCode, MsgFault>
 }
 
 /// The amount that a row has, where the type is against payment.
-pub fn read_payment(mt: Mt, fields: &ByTag, row: &Row) -> Result<Option<Cash>, MsgFault>
-    ensures { ReadsPayment mt (found_all fields.now.fields.now) (row_seen amount_form row.now) result }
+pub fn read_payment(mt: Mt, fields: &[Field], row: &Row) -> Result<Option<Cash>, MsgFault>
+    ensures { ReadsPayment mt (found_all fields.now) (row_seen amount_form row.now) result }
 {
     if !mt.is_against_payment() {
         return Ok(None);

@@ -10,9 +10,9 @@ invariant_of-result c =
     let small : c.in_ok-kind.quantity < 2 ^ 64 = omega arith in
     record {
       instructs = c.requires;
-      some = quantity_some (found_all c.args.fields.now.fields.now) c.in_ok-kind.kind c.in_ok-kind.quantity c.in_ok-kind.ensures;
-      short = quantity_short (found_all c.args.fields.now.fields.now) c.in_ok-kind.kind c.in_ok-kind.quantity small c.in_ok-kind.ensures;
-      paid = paid_exactly c.args.mt (found_all c.args.fields.now.fields.now) amount_row c.in_ok-cash.cash c.in_ok-cash.ensures;
+      some = quantity_some (found_all c.args.fields.now) c.in_ok-kind.kind c.in_ok-kind.quantity c.in_ok-kind.ensures;
+      short = quantity_short (found_all c.args.fields.now) c.in_ok-kind.kind c.in_ok-kind.quantity small c.in_ok-kind.ensures;
+      paid = paid_exactly c.args.mt (found_all c.args.fields.now) amount_row c.in_ok-cash.cash c.in_ok-cash.ensures;
     }
 
 -- the first row that fails: those before it give what they say
