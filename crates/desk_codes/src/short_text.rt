@@ -100,7 +100,7 @@ impl<const N: usize> Ord for ShortText<N> {
     ghost matches_eq = { texts_ties };
 
     // The zeros behind the texts are compared with them, and the lengths where these are the same.
-    #[inline]
+    #[inline(always)]
     fn cmp(&self, other: &ShortText<N>) -> Ordering {
         let order = order_words(&self.bytes, &other.bytes);
         if order.is_ne() {
