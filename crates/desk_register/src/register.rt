@@ -213,6 +213,7 @@ pub trait Register {
     ) -> Result<Option<Place>, Fault>
         ensures value { IfRead (view self.old) (view self.new) (IfOk result (λ r. IsToTryAfter (view self.old).content (number_of day) place r)) }
         ensures read { IsRead result (view self.old) (view self.new) }
+        ensures in_memory { in_memory ≡ true → IsOk result }
     {
         self.due_pair_after(alloc, day, place)
     }
@@ -221,6 +222,7 @@ pub trait Register {
     fn stays_short(&mut self, _alloc: Global, place: Place) -> Result<bool, Fault>
         ensures value { IfRead (view self.old) (view self.new) (IfOk result (λ r. r ≡ true → IsMatchedPair (view self.old).content place → StaysShort (view self.old).content place.number)) }
         ensures read { IsRead result (view self.old) (view self.new) }
+        ensures in_memory { in_memory ≡ true → IsOk result }
     {
         Ok(false)
     }

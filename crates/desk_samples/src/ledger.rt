@@ -292,7 +292,7 @@ impl<R: MemoryRegister> Ledger<R> {
     ) -> Result<Option<Place>, Fault>
         ensures value { IfOk result (λ r. IsToTryAfter (R.view self.old).content (number_of day) place r) }
         ensures same { IsUnchanged (R.view self.old) (R.view self.new) }
-        ensures memory { IfErr result (λ fault. fault ≡ Fault.Memory) }
+        ensures ok { IsOk result }
     {
         self.register.pair_to_try_after(alloc, day, place)
     }
@@ -301,7 +301,7 @@ impl<R: MemoryRegister> Ledger<R> {
     pub fn stays_short(&mut self, alloc: Global, place: Place) -> Result<bool, Fault>
         ensures value { IfOk result (λ r. r ≡ true → IsMatchedPair (R.view self.old).content place → StaysShort (R.view self.old).content place.number) }
         ensures same { IsUnchanged (R.view self.old) (R.view self.new) }
-        ensures memory { IfErr result (λ fault. fault ≡ Fault.Memory) }
+        ensures ok { IsOk result }
     {
         self.register.stays_short(alloc, place)
     }
