@@ -358,13 +358,15 @@ module _ (s s' : Shortages) (old new : Content) (m n : ℕ) (earlier later : Ins
         later_waits = ap (λ z. z.state) at_n;
         lacks = lacks_still old new earlier later lack (λ want wanted. not_come want) parts.0;
       } in
-      let known_short : IsKnownShort s'.waits new (number_of later.instruction.day, n) = record { short = short; waiting = noted.1 } in
       record {
         each = λ known p pair out. elim (cases_eq p.number n) [
           | inl here ↦
               let laters : Some pair.later ≡ Some later = sym pair.is_later ∙ ap (instruction_at (history_of new)) here ∙ short.pair.is_later in
               let one : pair.later ≡ later = cc in
               let day : number_of later.instruction.day ≡ p.day = ap (λ i. number_of i.instruction.day) (sym one) ∙ pair.day in
+              let at_n_out : contains place_cmp s'.to_try (p.day, n) ≡ false = subst (λ k. contains place_cmp s'.to_try (p.day, k) ≡ false) here out in
+              let is_out : contains place_cmp s'.to_try (number_of later.instruction.day, n) ≡ false = subst (λ d. contains place_cmp s'.to_try (d, n) ≡ false) (sym day) at_n_out in
+              let known_short : IsKnownShort s'.waits new (number_of later.instruction.day, n) = record { short = short; waiting = noted.1 is_out } in
               subst (λ d. IsKnownShort s'.waits new (d, p.number)) day (subst (λ k. IsKnownShort s'.waits new (number_of later.instruction.day, k)) (sym here) known_short)
           | inr other ↦
               known_kept n s.waits s'.waits new (p.day, p.number) noted.0.waits other

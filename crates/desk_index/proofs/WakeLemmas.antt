@@ -19,6 +19,12 @@ use Rattle.desk_index.proofs.WaitLemmas.{other_due, other_place}
 still_out : (old new : BTreeSet (ℕ × ℕ)) (q : ℕ × ℕ) → HoldsDue old new → contains place_cmp new q ≡ false → contains place_cmp old q ≡ false
 still_out old new q all out = false_from_ne_true (contains place_cmp old q) (λ there. let kept = all q there in let bad = sym kept ∙ out in cc)
 
+-- what is known is known however many tries were saved
+pub saved_otherwise : (old new : Shortages) → new ≡ record old { saved = new.saved } → (content : Content) → KnowsShort old content → KnowsShort new content
+saved_otherwise old new same content knows =
+    let otherwise : KnowsShort (record old { saved = new.saved }) content = record { each = knows.each } in
+    subst (λ z. KnowsShort z content) (sym same) otherwise
+
 -- more is to be tried
 pub tries_more : (old : Shortages) (to_try : BTreeSet (ℕ × ℕ)) → HoldsDue old.to_try to_try → (content : Content) → KnowsShort old content → KnowsShort (record old { to_try = to_try }) content
 tries_more old to_try all content knows = record { each = λ known p pair out. knows.each known p pair (still_out old.to_try to_try (p.day, p.number) all out) }

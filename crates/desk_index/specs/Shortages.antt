@@ -42,10 +42,10 @@ pub record KeepsOthers (n : ℕ) (old new : Shortages) : Type 0 where
   pub to_try : (at : ℕ × ℕ) → at.1 ≢ n → contains place_cmp new.to_try at ≡ contains place_cmp old.to_try at
   pub waits : KeepsOtherWaits n old.waits new.waits
 
--- how a pair fared is noted: what waited for what it settled is to be tried again, or it waits itself and is not to be tried
+-- how a pair fared is noted: what waited for what it settled is to be tried again; or it waits itself, or is to be tried still
 abbrev pub IsNoted : Outcome → Sides → ℕ × ℕ → Shortages → Shortages → Type 0
 IsNoted Settled sides at old new = (woken : Shortages) × Wakes old woken × NoneWaitsForIt woken.waits sides × KeepsOthers at.1 woken new
-IsNoted (Lacks lack) sides at old new = KeepsOthers at.1 old new × AreWaiting new.waits sides lack at × (contains place_cmp new.to_try at ≡ false)
+IsNoted (Lacks lack) sides at old new = KeepsOthers at.1 old new × (contains place_cmp new.to_try at ≡ false → AreWaiting new.waits sides lack at)
 
 -- the pair of two numbers, each the other's mate, was tried
 pub record IsTried (old : Content) (mate n : ℕ) (earlier later : Instructed) (outcome : Outcome) (new : Content) : Type 0 where

@@ -204,6 +204,7 @@ impl Register for IndexedRegister {
         if !self.shortages.is_known {
             return Ok(first_due(&self.held, &self.matched, day.yyyymmdd(), &place));
         }
+        self.shortages.note_pass(&place, self.matched.len());
         Ok(first_to_try(&self.held, &self.shortages, day.yyyymmdd(), &place))
     }
 
@@ -212,7 +213,7 @@ impl Register for IndexedRegister {
             return Ok(false);
         }
         self.shortages.learn(&self.matched, &self.touched);
-        Ok(self.shortages.is_short(&place))
+        Ok(self.shortages.is_short(&place, self.matched.len()))
     }
 
     fn security_after(
@@ -280,7 +281,8 @@ impl Register for IndexedRegister {
         {
             return Err(self.held.fail());
         }
-        self.shortages.note_made(&self.held, later);
+        self.shortages
+            .note_made(&self.held, later, self.matched.len());
         match self.held.pair(alloc, earlier, later) {
             Ok(()) => {
                 let noted = noted_count(&self.noted);

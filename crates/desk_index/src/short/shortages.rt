@@ -3,6 +3,9 @@
 //! A pair that was tried and lacked something is known to stay short. It waits for what may change that: more of the security on
 //! its deliverer's account, or more of the payer's cash; where it lacks money alone also for less of the security, since then it
 //! may lack that instead. What a call brings about wakes the pairs that wait for it: these are to be tried again.
+//!
+//! To note a pair and to wake it costs more than to try it. So that pairs which are woken again and again in vain cost no more
+//! than they would if each were tried, tries that are saved pay for what is noted; what is not paid for stays to be tried.
 ghost use Rattle.std.specs.Prelude.{◌≡◌, ◌<◌, true, false, OnOk, Some, ℕ};
 ghost use Rattle.std.specs.BTreeSet.{btree_set_len, contains};
 ghost use Rattle.desk_rules.specs.declared.history.entry.Instructed.{Instructed as InstructedValue};
@@ -26,6 +29,12 @@ use desk_rules::{Entry, Lack, Place};
 use std::alloc::{AllocError, Global};
 use std::collections::BTreeSet;
 
+/// So many tries cost what it costs to note a pair and to wake it.
+const TRIES_OF_A_NOTE: u64 = 3;
+
+/// So often a pair may be noted for which no try was saved yet.
+const NOTES_OF_A_PAIR: u64 = 2;
+
 /// Which matched pairs are known to stay short: all but those that are to be tried. Where memory is wanting what is known is
 /// forgotten, and nothing fails.
 #[derive(Drop)]
@@ -38,6 +47,8 @@ pub struct Shortages {
     pub waits: BTreeSet<(Want, (u64, u64))>,
     /// How many pairs were tried since all was forgotten, where nothing is known
     pub tries: u64,
+    /// How many tries were saved, less those that what is noted has cost, as far as they are counted
+    pub saved: u64,
 }
 
 impl Shortages {
@@ -50,6 +61,7 @@ impl Shortages {
             to_try: BTreeSet::new(alloc),
             waits: BTreeSet::new(alloc),
             tries: 0,
+            saved: 0,
         }
     }
 
@@ -61,6 +73,7 @@ impl Shortages {
         self.to_try.clear();
         self.waits.clear();
         self.tries = 0;
+        self.saved = 0;
     }
 
     /// Begins anew where nothing is known: every matched pair is to be tried. That is done where nothing stands otherwise than
@@ -75,16 +88,42 @@ impl Shortages {
             Ok(all) => {
                 self.to_try = all;
                 self.is_known = true;
+                self.saved = TRIES_OF_A_NOTE.saturating_mul(matched.len() as u64);
             }
             Err(_) => self.tries = 0,
         }
     }
 
-    /// Whether the pair of a place, if a matched one stands there, is known to stay short.
-    pub fn is_short(&self, place: &Place) -> bool
-        ensures { result ≡ true → (self.now.is_known ≡ true) × (contains place_cmp self.now.to_try (place.now.day, place.now.number) ≡ false) }
+    /// Counts tries that are saved, where so many pairs are matched: no more than all these may cost without.
+    fn save(&mut self, tries: u64, pairs: usize)
+        ensures { self.new ≡ record self.old { saved = self.new.saved } }
     {
-        self.is_known && !self.to_try.contains(&(place.day, place.number))
+        let most = (TRIES_OF_A_NOTE * NOTES_OF_A_PAIR).saturating_mul(pairs as u64);
+        self.saved = self.saved.saturating_add(tries).min(most);
+    }
+
+    /// Whether the pair of a place, if a matched one stands there, is known to stay short. So many pairs are matched.
+    pub fn is_short(&mut self, place: &Place, pairs: usize) -> bool
+        ensures kept { (content : Content) → KnowsShort self.old content → KnowsShort self.new content }
+        ensures short { result ≡ true → (self.new.is_known ≡ true) × (contains place_cmp self.new.to_try (place.now.day, place.now.number) ≡ false) }
+    {
+        if !self.is_known || self.to_try.contains(&(place.day, place.number)) {
+            return false;
+        }
+        self.save(1, pairs);
+        true
+    }
+
+    /// Notes that the pairs above a place are to be tried, of so many that are matched. Where they are all, each that is known to
+    /// stay short saves a try.
+    pub fn note_pass(&mut self, place: &Option<Place>, pairs: usize)
+        ensures kept { (content : Content) → KnowsShort self.old content → KnowsShort self.new content }
+        ensures known { self.new.is_known ≡ self.old.is_known }
+    {
+        if place.is_none() {
+            let to_try = self.to_try.len();
+            self.save(pairs.saturating_sub(to_try) as u64, pairs);
+        }
     }
 
     /// Notes an entry: what waits for what it brings is to be tried again.
@@ -97,14 +136,15 @@ impl Shortages {
         }
     }
 
-    /// Notes a pair that is made: it is to be tried.
-    pub fn note_made(&mut self, held: &ListRegister, number: u64)
+    /// Notes a pair that is made, of so many that are matched: it is to be tried.
+    pub fn note_made(&mut self, held: &ListRegister, number: u64, pairs: usize)
         ensures kept { (content : Content) → KnowsShort self.old content → KnowsShort self.new content }
         ensures placed { self.new.is_known ≡ true → PlacedAt self.new.to_try (instruction_at (history_of (view_of_lists held.now).content) number) number }
     {
         if !self.is_known {
             return;
         }
+        self.save(TRIES_OF_A_NOTE * NOTES_OF_A_PAIR, pairs);
         if place_instruction(held, &mut self.to_try, number).is_err() {
             self.forget();
         }
@@ -163,8 +203,25 @@ impl Shortages {
                 self.take_out(sides, place);
                 Ok(())
             }
-            Outcome::Lacks(lack) => self.note_lack(sides, place, lack),
+            Outcome::Lacks(lack) => self.note_if_paid(sides, place, lack),
         }
+    }
+
+    /// Notes what the pair of a place lacks, where tries were saved that pay for it. Else the pair stays to be tried.
+    fn note_if_paid(
+        &mut self,
+        sides: &Sides,
+        place: (u64, u64),
+        lack: Lack,
+    ) -> Result<(), AllocError>
+        ensures others { OnOk result (KeepsOthers place.1 self.old self.new) }
+        ensures waiting { OnOk result (contains place_cmp self.new.to_try place ≡ false → AreWaiting self.new.waits sides.now lack place) }
+    {
+        if self.saved < TRIES_OF_A_NOTE && self.to_try.contains(&place) {
+            return Ok(());
+        }
+        self.saved = self.saved.saturating_sub(TRIES_OF_A_NOTE);
+        self.note_lack(sides, place, lack)
     }
 
     /// Notes what the pair of a place lacks: it waits for that, and is not to be tried.
