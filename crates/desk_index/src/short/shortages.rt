@@ -29,8 +29,8 @@ use desk_rules::{Entry, Lack, Place};
 use std::alloc::{AllocError, Global};
 use std::collections::BTreeSet;
 
-/// So many tries cost what it costs to note a pair and to wake it.
-const TRIES_OF_A_NOTE: u64 = 3;
+/// So many tries that are saved pay for a note of a pair, and for waking it.
+const TRIES_OF_A_NOTE: u64 = 6;
 
 /// So often a pair may be noted for which no try was saved yet.
 const NOTES_OF_A_PAIR: u64 = 2;
