@@ -19,10 +19,10 @@ use Rattle.desk_index.proofs.WaitLemmas.{other_due, other_place}
 still_out : (old new : BTreeSet (ℕ × ℕ)) (q : ℕ × ℕ) → HoldsDue old new → contains place_cmp new q ≡ false → contains place_cmp old q ≡ false
 still_out old new q all out = false_from_ne_true (contains place_cmp old q) (λ there. let kept = all q there in let bad = sym kept ∙ out in cc)
 
--- what is known is known however many tries were saved
-pub saved_otherwise : (old new : Shortages) → new ≡ record old { saved = new.saved } → (content : Content) → KnowsShort old content → KnowsShort new content
-saved_otherwise old new same content knows =
-    let otherwise : KnowsShort (record old { saved = new.saved }) content = record { each = knows.each } in
+-- what is known is known whatever is left to pay for notes
+pub paid_otherwise : (old new : Shortages) → new ≡ record old { budget = new.budget } → (content : Content) → KnowsShort old content → KnowsShort new content
+paid_otherwise old new same content knows =
+    let otherwise : KnowsShort (record old { budget = new.budget }) content = record { each = knows.each } in
     subst (λ z. KnowsShort z content) (sym same) otherwise
 
 -- more is to be tried

@@ -8,7 +8,7 @@ use crate::ahead::Ahead;
 use crate::entries::known::Known;
 use crate::indexed_register::IndexedRegister;
 use crate::noting::{note_entry, note_message, note_pair, touch_both, touch_settled};
-use crate::pairs::due_places::{first_due, first_to_try};
+use crate::pairs::due_places::{first_due, first_to_try, pairs_left};
 use crate::pairs::opposites::first_open_opposite;
 use crate::sent::heading::heading_of;
 use crate::sent::messages::Messages;
@@ -204,7 +204,8 @@ impl Register for IndexedRegister {
         if !self.shortages.is_known {
             return Ok(first_due(&self.held, &self.matched, day.yyyymmdd(), &place));
         }
-        self.shortages.note_pass(&place, self.matched.len());
+        let pairs = pairs_left(&self.matched, &self.touched);
+        self.shortages.begin_pass(&place, pairs);
         Ok(first_to_try(&self.held, &self.shortages, day.yyyymmdd(), &place))
     }
 
@@ -213,7 +214,8 @@ impl Register for IndexedRegister {
             return Ok(false);
         }
         self.shortages.learn(&self.matched, &self.touched);
-        Ok(self.shortages.is_short(&place, self.matched.len()))
+        let pairs = pairs_left(&self.matched, &self.touched);
+        Ok(self.shortages.saves_try(&place, pairs))
     }
 
     fn security_after(
@@ -281,8 +283,8 @@ impl Register for IndexedRegister {
         {
             return Err(self.held.fail());
         }
-        self.shortages
-            .note_made(&self.held, later, self.matched.len());
+        let pairs = pairs_left(&self.matched, &self.touched);
+        self.shortages.note_made(&self.held, later, pairs);
         match self.held.pair(alloc, earlier, later) {
             Ok(()) => {
                 let noted = noted_count(&self.noted);

@@ -1,5 +1,6 @@
 //! The matched pairs by their settlement days and numbers.
-ghost use Rattle.std.specs.Prelude.{◌≡◌, true};
+ghost use Rattle.std.specs.Prelude.{◌≡◌, ◌-◌, ◌/◌, true, length};
+ghost use Rattle.std.specs.BTreeSet.{btree_set_len};
 ghost use Rattle.desk_register.specs.Looked.{IsDuePairAfter};
 ghost use Rattle.desk_register.specs.Short.{IsToTryAfter};
 ghost use Rattle.desk_lists.specs.ListView.{view_of_lists};
@@ -79,4 +80,11 @@ pub fn first_to_try(
     ensures { IsToTryAfter (view_of_lists held.now).content day above.now result }
 {
     first_due_of(held, &shortages.to_try, day, above)
+}
+
+/// How many pairs are matched. Those that settled since `begin` are found until `commit`, and two numbers are touched of each.
+pub fn pairs_left(matched: &BTreeSet<(u64, u64)>, touched: &Vec<u64>) -> usize
+    ensures { result ≡ btree_set_len matched.now - length touched.now.items / 2 }
+{
+    matched.len().saturating_sub(touched.len() / 2)
 }

@@ -4,7 +4,7 @@
 //! its deliverer's account, or more of the payer's cash; where it lacks money alone also for less of the security, since then it
 //! may lack that instead. What a call brings about wakes the pairs that wait for it: these are to be tried again.
 //!
-//! To note a pair and to wake it costs more than to try it. So that pairs which are woken again and again in vain cost no more
+//! To note a pair and to wake it costs more than to try it. So that pairs which are woken again and again in vain cost hardly more
 //! than they would if each were tried, tries that are saved pay for what is noted; what is not paid for stays to be tried.
 ghost use Rattle.std.specs.Prelude.{◌≡◌, ◌<◌, true, false, OnOk, Some, ℕ};
 ghost use Rattle.std.specs.BTreeSet.{btree_set_len, contains};
@@ -29,11 +29,14 @@ use desk_rules::{Entry, Lack, Place};
 use std::alloc::{AllocError, Global};
 use std::collections::BTreeSet;
 
-/// So many tries that are saved pay for a note of a pair, and for waking it.
-const TRIES_OF_A_NOTE: u64 = 6;
+/// What a try that is saved brings. One that was made in vain, of a pair that is not noted, brings 1.
+const BROUGHT_BY_A_TRY: u64 = 8;
 
-/// So often a pair may be noted for which no try was saved yet.
-const NOTES_OF_A_PAIR: u64 = 2;
+/// What it costs to note a pair and to wake it: what six tries that are saved bring.
+const PRICE_OF_A_NOTE: u64 = 6 * BROUGHT_BY_A_TRY;
+
+/// What a pair that is made brings. As much for each matched pair is kept at most.
+const BROUGHT_BY_A_PAIR: u64 = 2 * PRICE_OF_A_NOTE;
 
 /// Which matched pairs are known to stay short: all but those that are to be tried. Where memory is wanting what is known is
 /// forgotten, and nothing fails.
@@ -47,8 +50,8 @@ pub struct Shortages {
     pub waits: BTreeSet<(Want, (u64, u64))>,
     /// How many pairs were tried since all was forgotten, where nothing is known
     pub tries: u64,
-    /// How many tries were saved, less those that what is noted has cost, as far as they are counted
-    pub saved: u64,
+    /// What is left to pay for notes of pairs
+    pub budget: u64,
 }
 
 impl Shortages {
@@ -61,7 +64,7 @@ impl Shortages {
             to_try: BTreeSet::new(alloc),
             waits: BTreeSet::new(alloc),
             tries: 0,
-            saved: 0,
+            budget: 0,
         }
     }
 
@@ -73,11 +76,12 @@ impl Shortages {
         self.to_try.clear();
         self.waits.clear();
         self.tries = 0;
-        self.saved = 0;
+        self.budget = 0;
     }
 
     /// Begins anew where nothing is known: every matched pair is to be tried. That is done where nothing stands otherwise than
-    /// at `begin`, and as many pairs were tried since all was forgotten as there are, so that the tries have paid for it.
+    /// at `begin`, and as many pairs were tried since all was forgotten as there are, so that the tries have paid for it. What is
+    /// left then pays for one note of each.
     pub fn learn(&mut self, matched: &BTreeSet<(u64, u64)>, touched: &Vec<u64>)
         ensures { (content : Content) → HasDue matched.now content → KnowsShort self.old content → KnowsShort self.new content }
     {
@@ -88,41 +92,41 @@ impl Shortages {
             Ok(all) => {
                 self.to_try = all;
                 self.is_known = true;
-                self.saved = TRIES_OF_A_NOTE.saturating_mul(matched.len() as u64);
+                self.budget = PRICE_OF_A_NOTE.saturating_mul(matched.len() as u64);
             }
             Err(_) => self.tries = 0,
         }
     }
 
-    /// Counts tries that are saved, where so many pairs are matched: no more than all these may cost without.
-    fn save(&mut self, tries: u64, pairs: usize)
-        ensures { self.new ≡ record self.old { saved = self.new.saved } }
+    /// Adds to what is left to pay for notes, as far as that is kept where so many pairs are matched.
+    fn earn(&mut self, amount: u64, pairs: usize)
+        ensures { self.new ≡ record self.old { budget = self.new.budget } }
     {
-        let most = (TRIES_OF_A_NOTE * NOTES_OF_A_PAIR).saturating_mul(pairs as u64);
-        self.saved = self.saved.saturating_add(tries).min(most);
+        let most = BROUGHT_BY_A_PAIR.saturating_mul(pairs as u64);
+        self.budget = self.budget.saturating_add(amount).min(most);
     }
 
-    /// Whether the pair of a place, if a matched one stands there, is known to stay short. So many pairs are matched.
-    pub fn is_short(&mut self, place: &Place, pairs: usize) -> bool
+    /// Whether the pair of a place, if a matched one stands there, is known to stay short, which saves a try. So many pairs are
+    /// matched.
+    pub fn saves_try(&mut self, place: &Place, pairs: usize) -> bool
         ensures kept { (content : Content) → KnowsShort self.old content → KnowsShort self.new content }
         ensures short { result ≡ true → (self.new.is_known ≡ true) × (contains place_cmp self.new.to_try (place.now.day, place.now.number) ≡ false) }
     {
         if !self.is_known || self.to_try.contains(&(place.day, place.number)) {
             return false;
         }
-        self.save(1, pairs);
+        self.earn(BROUGHT_BY_A_TRY, pairs);
         true
     }
 
-    /// Notes that the pairs above a place are to be tried, of so many that are matched. Where they are all, each that is known to
-    /// stay short saves a try.
-    pub fn note_pass(&mut self, place: &Option<Place>, pairs: usize)
+    /// Begins a pass where no place is given: each of so many matched pairs that is not to be tried saves a try.
+    pub fn begin_pass(&mut self, place: &Option<Place>, pairs: usize)
         ensures kept { (content : Content) → KnowsShort self.old content → KnowsShort self.new content }
         ensures known { self.new.is_known ≡ self.old.is_known }
     {
         if place.is_none() {
-            let to_try = self.to_try.len();
-            self.save(pairs.saturating_sub(to_try) as u64, pairs);
+            let saved = pairs.saturating_sub(self.to_try.len()) as u64;
+            self.earn(saved.saturating_mul(BROUGHT_BY_A_TRY), pairs);
         }
     }
 
@@ -144,7 +148,7 @@ impl Shortages {
         if !self.is_known {
             return;
         }
-        self.save(TRIES_OF_A_NOTE * NOTES_OF_A_PAIR, pairs);
+        self.earn(BROUGHT_BY_A_PAIR, pairs);
         if place_instruction(held, &mut self.to_try, number).is_err() {
             self.forget();
         }
@@ -207,7 +211,7 @@ impl Shortages {
         }
     }
 
-    /// Notes what the pair of a place lacks, where tries were saved that pay for it. Else the pair stays to be tried.
+    /// Notes what the pair of a place lacks, where that is paid for or the pair is not to be tried. Else it stays to be tried.
     fn note_if_paid(
         &mut self,
         sides: &Sides,
@@ -217,10 +221,11 @@ impl Shortages {
         ensures others { OnOk result (KeepsOthers place.1 self.old self.new) }
         ensures waiting { OnOk result (contains place_cmp self.new.to_try place ≡ false → AreWaiting self.new.waits sides.now lack place) }
     {
-        if self.saved < TRIES_OF_A_NOTE && self.to_try.contains(&place) {
+        if self.budget < PRICE_OF_A_NOTE && self.to_try.contains(&place) {
+            self.budget += 1;
             return Ok(());
         }
-        self.saved = self.saved.saturating_sub(TRIES_OF_A_NOTE);
+        self.budget = self.budget.saturating_sub(PRICE_OF_A_NOTE);
         self.note_lack(sides, place, lack)
     }
 
