@@ -2,14 +2,14 @@
 use Rattle.std.proofs.Common.{◌≡◌, ℕ, ◌<◌, ◌≤◌, Bool, true, false, List, [], ◌∷◌, Option, Some, None, refl, ap, sym, ◌∙◌, subst, arith, ◌⊎◌, inl, inr}
 use Rattle.std.proofs.lemmas.Bool.{false_from_ne_true}
 use Rattle.std.specs.List.{list_any, filter, AllByRecursion}
-use Rattle.std.specs.Ordering.{is_eq, nat_cmp, ordering_then}
+use Rattle.std.specs.Ordering.{is_eq, is_gt, nat_cmp, ordering_then}
 use Rattle.std.specs.declared.cmp.Ordering.{Ordering}
 use Rattle.std.specs.declared.cmp.Ordering.TheVariants.{Less, Equal, Greater}
 use Rattle.std.specs.declared.ops.Bound.TheVariants.{Excluded, Unbounded}
 use Rattle.std.specs.List.Sorted.{IsStrictlySortedBy}
 use Rattle.std.specs.BTreeMap.{is_at}
 use Rattle.std.specs.BTreeMap.Range.{range_contains}
-use Rattle.std.specs.BTreeSet.{BTreeSet, contains, keys_between}
+use Rattle.std.specs.BTreeSet.{BTreeSet, keys_between}
 use Rattle.std.proofs.lemmas.Map.Lookups.{CmpEqualImpliesEq, exact_pairs, exact_unsigned}
 use Rattle.std.proofs.lemmas.Map.Keys.{sorted_head, sorted_tail}
 use Rattle.desk_rules.specs.declared.history.pair.Place.{Place}
@@ -17,10 +17,7 @@ use Rattle.desk_rules.specs.Content.{Content}
 use Rattle.desk_rules.specs.Settlement.{is_before, is_past}
 use Rattle.desk_rules.proofs.PlaceLemmas.{before_never, before_true}
 use Rattle.desk_register.specs.Looked.{IsDue, IsDuePairAfter}
-use Rattle.desk_register.specs.Short.{IsToTryAfter, StaysShort}
 use Rattle.desk_index.specs.DuePlaces.{HasDue, IsDueAt, IsDueOf, IsFirstDueOf, beginning, place_cmp}
-use Rattle.desk_index.specs.Shortages.{KnowsShort}
-use Rattle.desk_index.specs.declared.short.shortages.Shortages.{Shortages}
 use Rattle.desk_register.proofs.CaseLemmas.{by_bool}
 
 -- whether places have this one
@@ -52,6 +49,13 @@ not_below : (a b i j : ℕ) → ordering_then (nat_cmp a b) (nat_cmp i j) ≡ Le
 not_below a b i j e (inl lt) = grind arith
 not_below a b i j e (inr later) = let same = later.0 in let lt = later.1 in grind arith
 
+pub not_gt_days : (a b i j : ℕ) → is_gt (ordering_then (nat_cmp a b) (nat_cmp i j)) ≡ false → a ≤ b
+not_gt_days a b i j e = grind arith
+
+pub not_above : (a b i j : ℕ) → is_gt (ordering_then (nat_cmp a b) (nat_cmp i j)) ≡ false → (b < a) ⊎ ((b ≡ a) × (j < i)) → ⊥
+not_above a b i j e (inl lt) = grind arith
+not_above a b i j e (inr later) = let same = later.0 in let lt = later.1 in grind arith
+
 below_from_less : (p q : Place) → place_cmp (p.day, p.number) (q.day, q.number) ≡ Less → is_before q p ≡ false
 below_from_less p q e = false_from_ne_true (is_before q p) (λ before. not_below p.day q.day p.number q.number e (before_true q p before))
 
@@ -59,7 +63,7 @@ up_to : (a b i j : ℕ) → (a < b) ⊎ ((a ≡ b) × (i < j)) → ordering_then
 up_to a b i j (inl lt) = grind arith
 up_to a b i j (inr later) = let e = later.0 in let lt = later.1 in grind arith
 
-behind_beginning : (above : Option Place) (p : Place) → 0 < p.number → is_past above p ≡ true → place_cmp (beginning above) (p.day, p.number) ≡ Less
+pub behind_beginning : (above : Option Place) (p : Place) → 0 < p.number → is_past above p ≡ true → place_cmp (beginning above) (p.day, p.number) ≡ Less
 behind_beginning None p some up = grind arith
 behind_beginning (Some a) p some up = up_to a.day p.day a.number p.number (before_true a p up)
 
@@ -125,14 +129,3 @@ pub first_of_all : (places : BTreeSet (ℕ × ℕ)) (content : Content) (day : �
     → IsFirstDueOf places content day above found → IsDuePairAfter content day above found
 first_of_all places content day above None all first = λ p due. first p (record { due = due; there = all.each p due.pair })
 first_of_all places content day above (Some d) all first = (first.0, λ q due. first.1 q (record { due = due; there = all.each q due.pair }))
-
--- Where all others stay short, the first of those to be tried has none but these before it.
-module _ (shortages : Shortages) (content : Content) (day : ℕ) (above : Option Place) (known : shortages.is_known ≡ true) (knows : KnowsShort shortages content) where
-  short_unless : (q : Place) → IsDue content day above q → (IsDueOf shortages.to_try content day above q → ⊥) → StaysShort content q.number
-  short_unless q due none =
-      let out : contains place_cmp shortages.to_try (q.day, q.number) ≡ false = false_from_ne_true (contains place_cmp shortages.to_try (q.day, q.number)) (λ there. none (record { due = due; there = there })) in
-      (knows.each known q due.pair out).short
-
-  pub first_of_tried : (found : Option Place) → IsFirstDueOf shortages.to_try content day above found → IsToTryAfter content day above found
-  first_of_tried None first = λ q due. short_unless q due (first q)
-  first_of_tried (Some d) first = (first.0, λ q due before. short_unless q due (λ due_of. let after = first.1 q due_of in let bad = sym before ∙ after in cc))

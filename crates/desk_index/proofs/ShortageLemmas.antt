@@ -1,8 +1,9 @@
--- Which pairs are known to stay short, through the calls of a register.
-use Rattle.std.proofs.Common.{◌≡◌, ◌≢◌, ℕ, Bool, ◌+◌, ◌-◌, ◌<◌, ◌≤◌, length, true, false, List, map, Option, Some, None, refl, ap, sym, ◌∙◌, subst, arith, inl, inr}
-use Rattle.std.specs.Prelude.{◌&&◌, bytes_eq}
-use Rattle.std.specs.BTreeSet.{BTreeSet, contains}
-use Rattle.std.proofs.lemmas.Bool.{cases_eq}
+-- Which pairs are known to stay short, through what the calls of a register make of its content.
+use Rattle.std.proofs.Common.{◌≡◌, ◌≢◌, ℕ, ◌+◌, ◌-◌, ◌<◌, ◌≤◌, length, true, false, List, map, Option, Some, None, refl, ap, sym, ◌∙◌, subst, arith, inl, inr}
+use Rattle.std.specs.Prelude.{◌&&◌, bytes_eq, is_some}
+use Rattle.std.specs.BTreeSet.{contains}
+use Rattle.std.specs.Ordering.{is_eq}
+use Rattle.std.proofs.lemmas.Bool.{and_parts, cases_eq, false_from_ne_true}
 use Rattle.desk_codes.specs.declared.currency.Ccy.{Ccy}
 use Rattle.desk_codes.specs.Number.{number_of}
 use Rattle.desk_msg.specs.declared.instruction.Cash.{Cash}
@@ -26,18 +27,22 @@ use Rattle.desk_rules.proofs.HistoryLemmas.{instruction_at-known}
 use Rattle.desk_register.specs.declared.outcome.Outcome.{Outcome}
 use Rattle.desk_register.specs.declared.outcome.Outcome.TheVariants as outcomes
 use Rattle.desk_register.specs.declared.outcome.Outcome.TheVariants.{Lacks}
-use Rattle.desk_register.specs.Changes.{LacksCash, TriesSides, appended, cancelled, cash_at, delivered, delivering_side, first_standing, moved_to, paid_over, receiving_side, standing_both}
+use Rattle.desk_register.specs.Changes.{IsPairAt, LacksCash, TriesSides, appended, cancelled, cash_at, delivered, delivering_side, first_standing, moved_to, paid_over, receiving_side, standing_both}
 use Rattle.desk_register.specs.Looked.{IsMatchedPair}
 use Rattle.desk_register.specs.Short.{LacksNow, StaysShort}
 use Rattle.desk_register.proofs.CaseLemmas.{by_bool, same_bytes}
-use Rattle.desk_index.specs.DuePlaces.{place_cmp}
-use Rattle.desk_index.specs.Shortages.{IsKnownShort, IsNoted, IsTried, KeepsOthers, KnowsShort}
-use Rattle.desk_index.specs.Wants.{IsWantOf, KeepsOtherWaits, NoneWaits, NoneWaitsFor, NoneWaitsForIt, cash_want, is_waiting, sides_of, woken_by}
+use Rattle.desk_lists.specs.declared.changing.transfer.Transfer.{Transfer}
+use Rattle.desk_lists.specs.Transfers.{IsTransferAt, transfer_of}
+use Rattle.desk_index.specs.DuePlaces.{place_cmp, place_of}
+use Rattle.desk_index.specs.Shortages.{Agrees, Brings, IsBrought, IsBroughtIfAny, IsNotedLack, IsNotedSettled, IsNotedTried, IsUncovered, KeepsOthers, KnowsAt, KnowsShort, LetsGo, PutsIn, StandsShort, TakesOut, is_to_try}
+use Rattle.desk_index.specs.Wants.{AreWaiting, IsAsked, IsWantOf, cash_want, is_waiting, less_given, more_taken, want_cmp, woken_by}
 use Rattle.desk_index.specs.declared.short.shortages.Shortages.{Shortages}
-use Rattle.desk_index.specs.declared.short.sides.Sides.{Sides}
 use Rattle.desk_index.specs.declared.short.wants.Want.{Want}
 use Rattle.desk_index.specs.declared.short.wants.Want.TheVariants.{MoreHeld, LessHeld, MoreCash}
 use Rattle.desk_index.proofs.IndexedLemmas.{AreAlike, at_earlier, at_later, at_other, history_more, history_same, instruction_more, n_is, no_mate, noted, noted_alike, size_of, standing_here, standing_other, stands_otherwise}
+use Rattle.desk_index.proofs.PlaceCases.{by_place, equal_place}
+
+-- Balances.
 
 -- what is waited for has not come
 abbrev pub HasNotCome : Content → Content → Want → Type 0
@@ -45,46 +50,91 @@ HasNotCome old new (MoreHeld account isin) = new.position account isin ≤ old.p
 HasNotCome old new (LessHeld account isin) = old.position account isin ≤ new.position account isin
 HasNotCome old new (MoreCash bic ccy) = new.cash bic ccy ≤ old.cash bic ccy
 
-cash_lacks : (old new : Content) (bic : List ℕ) (cash : Option Cash) → ((want : Want) → cash_want bic cash ≡ Some want → HasNotCome old new want) → LacksCash old.cash bic cash → LacksCash new.cash bic cash
-cash_lacks old new bic None not_come lacks = lacks
-cash_lacks old new bic (Some asked) not_come lacks = let no_more = not_come (MoreCash bic asked.ccy) refl in omega arith
+uncovered_still : (old new : Content) (want : Want) (amount : ℕ) → HasNotCome old new want → IsUncovered old want amount → IsUncovered new want amount
+uncovered_still old new (MoreHeld account isin) amount not_come less = omega arith
+uncovered_still old new (LessHeld account isin) amount not_come enough = omega arith
+uncovered_still old new (MoreCash bic ccy) amount not_come less = omega arith
 
--- where it has not come, a pair lacks what it lacked
-lacks_still : (old new : Content) (earlier later : Instructed) (lack : Lack) → ((want : Want) → IsWantOf (sides_of earlier later) lack want → HasNotCome old new want)
-    → LacksNow old earlier later lack → LacksNow new earlier later lack
-lacks_still old new earlier later Securities not_come lacks =
-    let no_more = not_come (MoreHeld (delivering_side earlier later).instruction.account later.instruction.isin) refl in
+pub same_not_come : (old new : Content) → new.position ≡ old.position → new.cash ≡ old.cash → (want : Want) → HasNotCome old new want
+same_not_come old new position cash (MoreHeld account isin) = let same : new.position account isin ≡ old.position account isin = ap (λ f. f account isin) position in omega arith
+same_not_come old new position cash (LessHeld account isin) = let same : new.position account isin ≡ old.position account isin = ap (λ f. f account isin) position in omega arith
+same_not_come old new position cash (MoreCash bic ccy) = let same : new.cash bic ccy ≡ old.cash bic ccy = ap (λ f. f bic ccy) cash in omega arith
+
+-- What a pair lacks, by what it waits for.
+
+cash_lacks : (content : Content) (bic : List ℕ) (cash : Option Cash) → is_some cash ≡ true → ((ccy : Ccy) (amount : ℕ) → IsAsked cash ccy amount → content.cash bic ccy < amount) → LacksCash content.cash bic cash
+cash_lacks content bic None some less = cc
+cash_lacks content bic (Some asked) some less = less asked.ccy asked.amount (refl, refl)
+
+lacks_of : (content : Content) (earlier later : Instructed) (lack : Lack) → (lack ≡ Money → is_some later.instruction.cash ≡ true)
+    → ((want : Want) (amount : ℕ) → IsWantOf (transfer_of earlier later) lack want amount → IsUncovered content want amount) → LacksNow content earlier later lack
+lacks_of content earlier later Securities pays uncovered = uncovered (MoreHeld (delivering_side earlier later).instruction.account later.instruction.isin) later.instruction.quantity (refl, refl, refl, refl)
+lacks_of content earlier later Money pays uncovered = (
+  uncovered (LessHeld (delivering_side earlier later).instruction.account later.instruction.isin) later.instruction.quantity (refl, refl, refl, refl),
+  cash_lacks content (receiving_side earlier later).sender later.instruction.cash (pays refl) (λ ccy amount asked. uncovered (MoreCash (receiving_side earlier later).sender ccy) amount (refl, refl, asked)),
+)
+
+pub short_of_noted : (s : Shortages) (content : Content) → KnowsShort s content → ((want : Want) → contains want_cmp s.brought want ≡ false) → s.is_known ≡ true
+    → (p : Place) → IsMatchedPair content p → is_to_try s.to_try (p.day, p.number) ≡ false → StaysShort content p.number
+short_of_noted s content knows none known p pair out =
+    let here = knows.each (p.day, p.number) in
+    let noted = here.noted known pair out in
+    let n = noted.short in
+    record {
+      mate = n.mate;
+      earlier = n.earlier;
+      later = n.later;
+      lack = n.lack;
+      pair = n.pair;
+      two = n.two;
+      back = n.back;
+      earlier_waits = n.earlier_waits;
+      later_waits = n.later_waits;
+      lacks = lacks_of content n.earlier n.later n.lack n.pays (λ want amount is. here.uncovered want amount (noted.waiting.each want amount is) (none want));
+    }
+
+-- what a pair waits for that lacks something has not come
+asked_less : (content : Content) (bic b : List ℕ) (cash : Option Cash) (ccy : Ccy) (amount : ℕ) → b ≡ bic → IsAsked cash ccy amount → LacksCash content.cash bic cash → content.cash b ccy < amount
+asked_less content bic b None ccy amount same asked lacks = absurd lacks
+asked_less content bic b (Some a) ccy amount same asked lacks =
+    let here : content.cash b ccy ≡ content.cash bic a.ccy = ap (λ z. content.cash z ccy) same ∙ ap (content.cash bic) asked.0 in
+    let much = asked.1 in
     omega arith
-lacks_still old new earlier later Money not_come lacks =
-    let no_less = not_come (LessHeld (delivering_side earlier later).instruction.account later.instruction.isin) (inl refl) in
+
+uncovered_of : (content : Content) (earlier later : Instructed) (lack : Lack) → LacksNow content earlier later lack → (want : Want) (amount : ℕ) → IsWantOf (transfer_of earlier later) lack want amount → IsUncovered content want amount
+uncovered_of content earlier later Securities lacks (MoreHeld a i) amount (e, account, isin, much) =
+    let here : content.position a i ≡ content.position (delivering_side earlier later).instruction.account later.instruction.isin = ap (λ z. content.position z i) account ∙ ap (content.position (delivering_side earlier later).instruction.account) isin in
+    omega arith
+uncovered_of content earlier later Securities lacks (LessHeld a i) amount (e, account, isin, much) = absurd (cc)
+uncovered_of content earlier later Securities lacks (MoreCash b c) amount (e, bic, asked) = absurd (cc)
+uncovered_of content earlier later Money lacks (MoreHeld a i) amount (e, account, isin, much) = absurd (cc)
+uncovered_of content earlier later Money lacks (LessHeld a i) amount (e, account, isin, much) =
+    let here : content.position a i ≡ content.position (delivering_side earlier later).instruction.account later.instruction.isin = ap (λ z. content.position z i) account ∙ ap (content.position (delivering_side earlier later).instruction.account) isin in
     let enough = lacks.0 in
-    (omega arith, cash_lacks old new (receiving_side earlier later).sender later.instruction.cash (λ want is. not_come want (inr is)) lacks.1)
+    omega arith
+uncovered_of content earlier later Money lacks (MoreCash b c) amount (e, bic, asked) = asked_less content (receiving_side earlier later).sender b later.instruction.cash c amount bic asked lacks.1
 
--- From one content to another, in which the instructions are as they were and nothing has come that is waited for.
-pub record Continues (waits : BTreeSet (Want × (ℕ × ℕ))) (old new : Content) : Type 0 where
-  pub known : (k : ℕ) (i : Instructed) → instruction_at (history_of old) k ≡ Some i → instruction_at (history_of new) k ≡ Some i
-  pub not_come : (want : Want) (at : ℕ × ℕ) → is_waiting waits want at ≡ true → HasNotCome old new want
+some_of_lack : (cash : CashBalances) (bic : List ℕ) (asked : Option Cash) → LacksCash cash bic asked → is_some asked ≡ true
+some_of_lack cash bic None lacks = absurd lacks
+some_of_lack cash bic (Some asked) lacks = refl
 
-module _ (waits : BTreeSet (Want × (ℕ × ℕ))) (old new : Content) (goes : Continues waits old new) where
-  -- a pair that is known to stay short is so still, where both its instructions stand as before
-  short_still : (at : ℕ × ℕ) (was : IsKnownShort waits old at) → AreAlike (new.standing at.1) (old.standing at.1) → AreAlike (new.standing was.short.mate) (old.standing was.short.mate) → IsKnownShort waits new at
-  short_still at was here there =
-      let s = was.short in
-      record {
-        short = record {
-          mate = s.mate;
-          earlier = s.earlier;
-          later = s.later;
-          lack = s.lack;
-          pair = record { is_later = goes.known at.1 s.later s.pair.is_later; has_mate = here.mate ∙ s.pair.has_mate; is_earlier = goes.known s.mate s.earlier s.pair.is_earlier };
-          two = s.two;
-          back = there.mate ∙ s.back;
-          earlier_waits = there.state ∙ s.earlier_waits;
-          later_waits = here.state ∙ s.later_waits;
-          lacks = lacks_still old new s.earlier s.later s.lack (λ want is. goes.not_come want at (was.waiting.each want is)) s.lacks;
-        };
-        waiting = record { each = was.waiting.each };
-      }
+pays_of : (content : Content) (earlier later : Instructed) (lack : Lack) → LacksNow content earlier later lack → lack ≡ Money → is_some later.instruction.cash ≡ true
+pays_of content earlier later Securities lacks e = absurd (cc)
+pays_of content earlier later Money lacks e = some_of_lack content.cash (receiving_side earlier later).sender later.instruction.cash lacks.1
+
+-- Places.
+
+pub matched_of_stand : (content : Content) (at : ℕ × ℕ) (short : StandsShort content at.1) → number_of short.later.instruction.day ≡ at.0 → IsMatchedPair content (place_of at)
+matched_of_stand content at short day = record {
+  later = short.later;
+  mate = short.mate;
+  reason = reason_of_lack (Some short.lack);
+  is_later = short.pair.is_later;
+  has_mate = short.pair.has_mate;
+  is_earlier = short.two;
+  matched = short.later_waits;
+  day = day;
+}
 
 -- a matched pair was one, where its later instruction stands as before
 matched_before : (old new : Content) (p : Place) → IsMatchedPair new p → instruction_at (history_of new) p.number ≡ instruction_at (history_of old) p.number
@@ -100,63 +150,122 @@ matched_before old new p pair same alike = record {
   day = pair.day;
 }
 
-alike_at : (a b : Standing) → a ≡ b → AreAlike a b
+-- a matched pair is one still, where its later instruction stands as before
+pub matched_after : (old new : Content) (p : Place) → IsMatchedPair old p → instruction_at (history_of new) p.number ≡ instruction_at (history_of old) p.number
+    → AreAlike (new.standing p.number) (old.standing p.number) → IsMatchedPair new p
+matched_after old new p pair same alike = record {
+  later = pair.later;
+  mate = pair.mate;
+  reason = pair.reason;
+  is_later = same ∙ pair.is_later;
+  has_mate = alike.mate ∙ pair.has_mate;
+  is_earlier = pair.is_earlier;
+  matched = alike.state ∙ pair.matched;
+  day = pair.day;
+}
+
+pub alike_at : (a b : Standing) → a ≡ b → AreAlike a b
 alike_at a b same = record { mate = ap (λ s. s.mate) same; state = ap (λ s. s.state) same }
 
-pub same_not_come : (old new : Content) → new.position ≡ old.position → new.cash ≡ old.cash → (want : Want) → HasNotCome old new want
-same_not_come old new position cash (MoreHeld account isin) = let same : new.position account isin ≡ old.position account isin = ap (λ f. f account isin) position in omega arith
-same_not_come old new position cash (LessHeld account isin) = let same : new.position account isin ≡ old.position account isin = ap (λ f. f account isin) position in omega arith
-same_not_come old new position cash (MoreCash bic ccy) = let same : new.cash bic ccy ≡ old.cash bic ccy = ap (λ f. f bic ccy) cash in omega arith
+pub same_known : (old new : Content) → new.register ≡ old.register → (k : ℕ) → instruction_at (history_of new) k ≡ instruction_at (history_of old) k
+same_known old new register k = ap (λ r. instruction_at (map (λ kept. kept.entry) r) k) register
 
-pub same_known : (old new : Content) → new.register ≡ old.register → (k : ℕ) (i : Instructed) → instruction_at (history_of old) k ≡ Some i → instruction_at (history_of new) k ≡ Some i
-same_known old new register k i at = ap (λ r. instruction_at (map (λ kept. kept.entry) r) k) register ∙ at
+-- From one content to another, in which instructions are as they were, and nothing has come that is waited for and not brought.
+module _ (s s' : Shortages) (old new : Content) (known : s'.is_known ≡ true → s.is_known ≡ true)
+    (brought : (want : Want) → contains want_cmp s.brought want ≡ true → contains want_cmp s'.brought want ≡ true)
+    (instructions : (k : ℕ) (i : Instructed) → instruction_at (history_of old) k ≡ Some i → instruction_at (history_of new) k ≡ Some i)
+    (not_come : (want : Want) (amount : ℕ) (at : ℕ × ℕ) → is_waiting s'.waits want amount at ≡ true → contains want_cmp s'.brought want ≡ false → HasNotCome old new want) where
+  abbrev stands_on : (k : ℕ) (short : StandsShort old k) → AreAlike (new.standing k) (old.standing k) → AreAlike (new.standing short.mate) (old.standing short.mate) → StandsShort new k
+  stands_on k short here there = record {
+    mate = short.mate;
+    earlier = short.earlier;
+    later = short.later;
+    lack = short.lack;
+    pair = record { is_later = instructions k short.later short.pair.is_later; has_mate = here.mate ∙ short.pair.has_mate; is_earlier = instructions short.mate short.earlier short.pair.is_earlier };
+    two = short.two;
+    back = there.mate ∙ short.back;
+    earlier_waits = there.state ∙ short.earlier_waits;
+    later_waits = here.state ∙ short.later_waits;
+    pays = short.pays;
+  }
+
+  not_brought : (want : Want) → contains want_cmp s'.brought want ≡ false → contains want_cmp s.brought want ≡ false
+  not_brought want apart = false_from_ne_true (contains want_cmp s.brought want) (λ there. let kept = brought want there in let bad = sym kept ∙ apart in cc)
+
+  -- what is known of a place is known still, where both instructions of its pair stand as before
+  pub carried : (at : ℕ × ℕ) → Agrees s s' at → KnowsAt s old at → instruction_at (history_of new) at.1 ≡ instruction_at (history_of old) at.1 → AreAlike (new.standing at.1) (old.standing at.1)
+      → ((short : StandsShort old at.1) → AreAlike (new.standing short.mate) (old.standing short.mate)) → KnowsAt s' new at
+  carried at agrees knows same alike mates = record {
+    noted = λ is pair out.
+        let was = knows.noted (known is) (matched_before old new (place_of at) pair same alike) (sym agrees.to_try ∙ out) in
+        record { short = stands_on at.1 was.short alike (mates was.short); waiting = record { each = λ want amount wanted. agrees.waits want amount ∙ was.waiting.each want amount wanted } };
+    tried = λ is. matched_after old new (place_of at) (knows.tried (sym agrees.to_try ∙ is)) same alike;
+    waits = λ want amount is.
+        let was = knows.waits want amount (sym (agrees.waits want amount) ∙ is) in
+        record { short = stands_on at.1 was.short alike (mates was.short); day = was.day; wanted = was.wanted; out = agrees.to_try ∙ was.out };
+    uncovered = λ want amount is apart. uncovered_still old new want amount (not_come want amount at is apart) (knows.uncovered want amount (sym (agrees.waits want amount) ∙ is) (not_brought want apart));
+  }
+
+  -- of a place where no pair was matched, and none is, nothing is known
+  pub empty : (at : ℕ × ℕ) → Agrees s s' at → KnowsAt s old at → (IsMatchedPair old (place_of at) → ⊥) → (IsMatchedPair new (place_of at) → ⊥) → KnowsAt s' new at
+  empty at agrees knows was is = record {
+    noted = λ known pair out. absurd (is pair);
+    tried = λ there. absurd (was (knows.tried (sym agrees.to_try ∙ there)));
+    waits = λ want amount there. let w = knows.waits want amount (sym (agrees.waits want amount) ∙ there) in absurd (was (matched_of_stand old at w.short w.day));
+    uncovered = λ want amount there apart. let w = knows.waits want amount (sym (agrees.waits want amount) ∙ there) in absurd (was (matched_of_stand old at w.short w.day));
+  }
+
+agrees_here : (s : Shortages) (at : ℕ × ℕ) → Agrees s s at
+agrees_here s at = record { to_try = refl; waits = λ want amount. refl }
+
+-- Where nothing is known nothing is kept.
+pub forgotten : (s : Shortages) → s.is_known ≡ false → (content : Content) → KnowsShort s content
+forgotten s none content = record {
+  each = λ at.
+      let none_tried : is_to_try s.to_try at ≡ false = rw (s.none_to_try none) refl in
+      let none_waits : (want : Want) (amount : ℕ) → is_waiting s.waits want amount at ≡ false = λ want amount. rw (s.none_waits none) refl in
+      record {
+        noted = λ known pair out. let bad = sym known ∙ none in absurd (cc);
+        tried = λ is. let bad = sym is ∙ none_tried in absurd (cc);
+        waits = λ want amount is. let bad = sym is ∙ none_waits want amount in absurd (cc);
+        uncovered = λ want amount is apart. let bad = sym is ∙ none_waits want amount in absurd (cc);
+      };
+}
+
+-- known or forgotten
+pub known_or_not : (s : Shortages) (content : Content) → (s.is_known ≡ true → KnowsShort s content) → KnowsShort s content
+known_or_not s content knows = by_bool s.is_known knows (λ none. forgotten s none content)
 
 -- Nothing changes that pairs stand by.
 pub after_nothing : (s : Shortages) (old new : Content) → new.register ≡ old.register → new.standing ≡ old.standing → new.position ≡ old.position → new.cash ≡ old.cash → KnowsShort s old → KnowsShort s new
 after_nothing s old new register standing position cash knows =
-    let goes : Continues s.waits old new = record { known = same_known old new register; not_come = λ want at is. same_not_come old new position cash want } in
     let alike = λ (k : ℕ). alike_at (new.standing k) (old.standing k) (ap (λ f. f k) standing) in
     record {
-      each = λ known p pair out.
-          let was = knows.each known p (matched_before old new p pair (ap (λ r. instruction_at (map (λ kept. kept.entry) r) p.number) register) (alike p.number)) out in
-          short_still s.waits old new goes (p.day, p.number) was (alike p.number) (alike was.short.mate);
+      each = λ at. carried s s old new (λ known. known) (λ want there. there) (λ k i is. same_known old new register k ∙ is) (λ want amount q is apart. same_not_come old new position cash want)
+          at (agrees_here s at) (knows.each at) (same_known old new register at.1) (alike at.1) (λ short. alike short.mate);
     }
 
 -- What an entry brings about, and what a settlement does.
 
-two_true : (a b : Bool) → (a && b) ≡ true → (a ≡ true) × (b ≡ true)
-two_true true true e = (refl, refl)
-two_true true false e = absurd (cc)
-two_true false b e = absurd (cc)
-
--- what waits for a security on an account waits for another, where none waits for the one
-other_held : (waits : BTreeSet (Want × (ℕ × ℕ))) (make : List ℕ → List ℕ → Want) (account isin a i : List ℕ) (at : ℕ × ℕ) → NoneWaits waits (make account isin) → is_waiting waits (make a i) at ≡ true
-    → (bytes_eq account a && bytes_eq isin i) ≡ false
-other_held waits make account isin a i at none is = by_bool (bytes_eq account a && bytes_eq isin i)
+other_held : (make : List ℕ → List ℕ → Want) (account isin a i : List ℕ) → (make account isin ≡ make a i → ⊥) → (bytes_eq account a && bytes_eq isin i) ≡ false
+other_held make account isin a i apart = by_bool (bytes_eq account a && bytes_eq isin i)
     (λ same.
-    let both = two_true (bytes_eq account a) (bytes_eq isin i) same in
-    let one : is_waiting waits (make account i) at ≡ true = subst (λ z. is_waiting waits (make z i) at ≡ true) (sym (same_bytes account a both.0)) is in
-    let two : is_waiting waits (make account isin) at ≡ true = subst (λ z. is_waiting waits (make account z) at ≡ true) (sym (same_bytes isin i both.1)) one in
-    let out = none.each at in
-    let bad = sym two ∙ out in absurd (cc))
+    let both = and_parts (bytes_eq account a) (bytes_eq isin i) same in
+    absurd (apart (ap (λ z. make z isin) (same_bytes account a both.0) ∙ ap (make a) (same_bytes isin i both.1))))
     (λ other. other)
 
-other_cash : (waits : BTreeSet (Want × (ℕ × ℕ))) (bic b : List ℕ) (ccy c : Ccy) (at : ℕ × ℕ) → NoneWaits waits (MoreCash bic ccy) → is_waiting waits (MoreCash b c) at ≡ true
-    → (bytes_eq bic b && same_ccy ccy c) ≡ false
-other_cash waits bic b ccy c at none is = by_bool (bytes_eq bic b && same_ccy ccy c)
+other_cash : (bic b : List ℕ) (ccy c : Ccy) → (MoreCash bic ccy ≡ MoreCash b c → ⊥) → (bytes_eq bic b && same_ccy ccy c) ≡ false
+other_cash bic b ccy c apart = by_bool (bytes_eq bic b && same_ccy ccy c)
     (λ same.
-    let both = two_true (bytes_eq bic b) (same_ccy ccy c) same in
-    let one : is_waiting waits (MoreCash bic c) at ≡ true = subst (λ z. is_waiting waits (MoreCash z c) at ≡ true) (sym (same_bytes bic b both.0)) is in
-    let two : is_waiting waits (MoreCash bic ccy) at ≡ true = subst (λ z. is_waiting waits (MoreCash bic z) at ≡ true) (sym (same_ccy-true ccy c both.1)) one in
-    let out = none.each at in
-    let bad = sym two ∙ out in absurd (cc))
+    let both = and_parts (bytes_eq bic b) (same_ccy ccy c) same in
+    absurd (apart (ap (λ z. MoreCash z ccy) (same_bytes bic b both.0) ∙ ap (MoreCash b) (same_ccy-true ccy c both.1))))
     (λ other. other)
 
 -- a position that was moved to, by whether it is the one
 moved_here : (position : Positions) (account isin a i : List ℕ) (quantity : ℕ) → (bytes_eq account a && bytes_eq isin i) ≡ true
     → (moved_to position account isin quantity a i ≡ quantity) × (position account isin ≡ position a i)
 moved_here position account isin a i quantity same =
-    let both = two_true (bytes_eq account a) (bytes_eq isin i) same in
+    let both = and_parts (bytes_eq account a) (bytes_eq isin i) same in
     (rw same refl, ap (λ z. position z isin) (same_bytes account a both.0) ∙ ap (position a) (same_bytes isin i both.1))
 
 moved_elsewhere : (position : Positions) (account isin a i : List ℕ) (quantity : ℕ) → (bytes_eq account a && bytes_eq isin i) ≡ false → moved_to position account isin quantity a i ≡ position a i
@@ -178,7 +287,7 @@ cash_elsewhere cash bic b ccy c amount other = rw other refl
 cash_here : (cash : CashBalances) (bic b : List ℕ) (ccy c : Ccy) (amount : ℕ) → (bytes_eq bic b && same_ccy ccy c) ≡ true
     → (cash_at cash bic ccy amount b c ≡ amount) × (cash bic ccy ≡ cash b c)
 cash_here cash bic b ccy c amount same =
-    let both = two_true (bytes_eq bic b) (same_ccy ccy c) same in
+    let both = and_parts (bytes_eq bic b) (same_ccy ccy c) same in
     (rw same refl, ap (λ z. cash z ccy) (same_bytes bic b both.0) ∙ ap (cash b) (same_ccy-true ccy c both.1))
 
 cash_less : (cash : CashBalances) (bic b : List ℕ) (ccy c : Ccy) (amount : ℕ) → amount ≤ cash bic ccy → cash_at cash bic ccy amount b c ≤ cash b c
@@ -186,35 +295,32 @@ cash_less cash bic b ccy c amount less = by_bool (bytes_eq bic b && same_ccy ccy
     (λ same. let here = cash_here cash bic b ccy c amount same in let moved = here.0 in let at = here.1 in omega arith)
     (λ other. let elsewhere = cash_elsewhere cash bic b ccy c amount other in omega arith)
 
--- after an entry nothing has come that is waited for
-entry_brings : (waits : BTreeSet (Want × (ℕ × ℕ))) (entry : Entry) (reply : Reply) (content : Content) → NoneWaitsFor waits (woken_by entry)
-    → (want : Want) (at : ℕ × ℕ) → is_waiting waits want at ≡ true → HasNotCome content (appended entry reply content) want
-entry_brings waits (Issue m) reply content none (MoreHeld a i) at is =
-    let same = moved_elsewhere content.position m.account m.isin a i (content.position m.account m.isin + m.quantity) (other_held waits MoreHeld m.account m.isin a i at none is) in
+-- after an entry nothing else has come than what it brings about
+entry_brings : (entry : Entry) (reply : Reply) (content : Content) (want : Want) → (woken_by entry ≡ Some want → ⊥) → HasNotCome content (appended entry reply content) want
+entry_brings (Issue m) reply content (MoreHeld a i) apart =
+    let same = moved_elsewhere content.position m.account m.isin a i (content.position m.account m.isin + m.quantity) (other_held MoreHeld m.account m.isin a i (λ e. apart (ap Some e))) in
     omega arith
-entry_brings waits (Issue m) reply content none (LessHeld a i) at is = moved_more content.position m.account m.isin a i (content.position m.account m.isin + m.quantity) (omega arith)
-entry_brings waits (Issue m) reply content none (MoreCash b c) at is = omega arith
-entry_brings waits (Redeem m) reply content none (MoreHeld a i) at is = moved_less content.position m.account m.isin a i (content.position m.account m.isin - m.quantity) (omega arith)
-entry_brings waits (Redeem m) reply content none (LessHeld a i) at is =
-    let same = moved_elsewhere content.position m.account m.isin a i (content.position m.account m.isin - m.quantity) (other_held waits LessHeld m.account m.isin a i at none is) in
+entry_brings (Issue m) reply content (LessHeld a i) apart = moved_more content.position m.account m.isin a i (content.position m.account m.isin + m.quantity) (omega arith)
+entry_brings (Issue m) reply content (MoreCash b c) apart = omega arith
+entry_brings (Redeem m) reply content (MoreHeld a i) apart = moved_less content.position m.account m.isin a i (content.position m.account m.isin - m.quantity) (omega arith)
+entry_brings (Redeem m) reply content (LessHeld a i) apart =
+    let same = moved_elsewhere content.position m.account m.isin a i (content.position m.account m.isin - m.quantity) (other_held LessHeld m.account m.isin a i (λ e. apart (ap Some e))) in
     omega arith
-entry_brings waits (Redeem m) reply content none (MoreCash b c) at is = omega arith
-entry_brings waits (PayIn p) reply content none (MoreHeld a i) at is = omega arith
-entry_brings waits (PayIn p) reply content none (LessHeld a i) at is = omega arith
-entry_brings waits (PayIn p) reply content none (MoreCash b c) at is =
-    let same = cash_elsewhere content.cash p.bic b p.ccy c (content.cash p.bic p.ccy + p.amount) (other_cash waits p.bic b p.ccy c at none is) in
+entry_brings (Redeem m) reply content (MoreCash b c) apart = omega arith
+entry_brings (PayIn p) reply content (MoreHeld a i) apart = omega arith
+entry_brings (PayIn p) reply content (LessHeld a i) apart = omega arith
+entry_brings (PayIn p) reply content (MoreCash b c) apart =
+    let same = cash_elsewhere content.cash p.bic b p.ccy c (content.cash p.bic p.ccy + p.amount) (other_cash p.bic b p.ccy c (λ e. apart (ap Some e))) in
     omega arith
-entry_brings waits (PayOut p) reply content none (MoreHeld a i) at is = omega arith
-entry_brings waits (PayOut p) reply content none (LessHeld a i) at is = omega arith
-entry_brings waits (PayOut p) reply content none (MoreCash b c) at is = cash_less content.cash p.bic b p.ccy c (content.cash p.bic p.ccy - p.amount) (omega arith)
-entry_brings waits (Participant reference bic) reply content none want at is = same_not_come content (appended (Participant reference bic) reply content) refl refl want
-entry_brings waits (Account reference bic account) reply content none want at is = same_not_come content (appended (Account reference bic account) reply content) refl refl want
-entry_brings waits (Security reference isin kind) reply content none want at is = same_not_come content (appended (Security reference isin kind) reply content) refl refl want
-entry_brings waits (Instruct sender instruction) reply content none want at is = same_not_come content (appended (Instruct sender instruction) reply content) refl refl want
-entry_brings waits (Cancel sender order) reply content none want at is = same_not_come content (appended (Cancel sender order) reply content) refl refl want
-entry_brings waits (Run reference day rule) reply content none want at is = same_not_come content (appended (Run reference day rule) reply content) refl refl want
-
--- after a settlement neither
+entry_brings (PayOut p) reply content (MoreHeld a i) apart = omega arith
+entry_brings (PayOut p) reply content (LessHeld a i) apart = omega arith
+entry_brings (PayOut p) reply content (MoreCash b c) apart = cash_less content.cash p.bic b p.ccy c (content.cash p.bic p.ccy - p.amount) (omega arith)
+entry_brings (Participant reference bic) reply content want apart = same_not_come content (appended (Participant reference bic) reply content) refl refl want
+entry_brings (Account reference bic account) reply content want apart = same_not_come content (appended (Account reference bic account) reply content) refl refl want
+entry_brings (Security reference isin kind) reply content want apart = same_not_come content (appended (Security reference isin kind) reply content) refl refl want
+entry_brings (Instruct sender instruction) reply content want apart = same_not_come content (appended (Instruct sender instruction) reply content) refl refl want
+entry_brings (Cancel sender order) reply content want apart = same_not_come content (appended (Cancel sender order) reply content) refl refl want
+entry_brings (Run reference day rule) reply content want apart = same_not_come content (appended (Run reference day rule) reply content) refl refl want
 
 delivered_no_more : (position : Positions) (from to isin a i : List ℕ) (quantity : ℕ) → (bytes_eq to a && bytes_eq isin i) ≡ false → delivered position from to isin quantity a i ≤ position a i
 delivered_no_more position from to isin a i quantity other =
@@ -230,35 +336,39 @@ delivered_no_less position from to isin a i quantity other =
     let same = moved_elsewhere position from isin a i (position from isin - quantity) other in
     subst (λ z. z ≤ moved_to taken to isin (taken to isin + quantity) a i) same more
 
-paid_no_more : (waits : BTreeSet (Want × (ℕ × ℕ))) (cash : CashBalances) (from to b : List ℕ) (c : Ccy) (asked : Option Cash) (at : ℕ × ℕ) → NoneWaitsFor waits (cash_want to asked)
-    → is_waiting waits (MoreCash b c) at ≡ true → paid_over cash from to asked b c ≤ cash b c
-paid_no_more waits cash from to b c None at none is = omega arith
-paid_no_more waits cash from to b c (Some asked) at none is =
+paid_no_more : (cash : CashBalances) (from to b : List ℕ) (c : Ccy) (asked : Option Cash) → (cash_want to asked ≡ Some (MoreCash b c) → ⊥) → paid_over cash from to asked b c ≤ cash b c
+paid_no_more cash from to b c None apart = omega arith
+paid_no_more cash from to b c (Some asked) apart =
     let taken : CashBalances = cash_at cash from asked.ccy (cash from asked.ccy - asked.amount) in
-    let same = cash_elsewhere taken to b asked.ccy c (taken to asked.ccy + asked.amount) (other_cash waits to b asked.ccy c at none is) in
+    let same = cash_elsewhere taken to b asked.ccy c (taken to asked.ccy + asked.amount) (other_cash to b asked.ccy c (λ e. apart (ap Some e))) in
     let less = cash_less cash from b asked.ccy c (cash from asked.ccy - asked.amount) (omega arith) in
     subst (λ z. z ≤ cash b c) (sym same) less
 
-settlement_brings : (waits : BTreeSet (Want × (ℕ × ℕ))) (old new : Content) (sides : Sides) (quantity : ℕ) → NoneWaitsForIt waits sides
-    → new.position ≡ delivered old.position sides.given sides.taken sides.isin quantity → new.cash ≡ paid_over old.cash sides.payer sides.payee sides.cash
-    → (want : Want) (at : ℕ × ℕ) → is_waiting waits want at ≡ true → HasNotCome old new want
-settlement_brings waits old new sides quantity none position cash (MoreHeld a i) at is =
-    subst (λ z. z ≤ old.position a i) (ap (λ f. f a i) (sym position))
-    (delivered_no_more old.position sides.given sides.taken sides.isin a i quantity (other_held waits MoreHeld sides.taken sides.isin a i at none.more_taken is))
-settlement_brings waits old new sides quantity none position cash (LessHeld a i) at is =
-    subst (λ z. old.position a i ≤ z) (ap (λ f. f a i) (sym position))
-    (delivered_no_less old.position sides.given sides.taken sides.isin a i quantity (other_held waits LessHeld sides.given sides.isin a i at none.less_given is))
-settlement_brings waits old new sides quantity none position cash (MoreCash b c) at is =
-    subst (λ z. z ≤ old.cash b c) (ap (λ f. f b c) (sym cash)) (paid_no_more waits old.cash sides.payer sides.payee b c sides.cash at none.more_paid is)
+settlement_brings : (old new : Content) (t : Transfer) → new.position ≡ delivered old.position t.given t.taken t.isin t.quantity → new.cash ≡ paid_over old.cash t.receiver t.deliverer t.cash
+    → (want : Want) → (more_taken t ≡ want → ⊥) → (less_given t ≡ want → ⊥) → (cash_want t.deliverer t.cash ≡ Some want → ⊥) → HasNotCome old new want
+settlement_brings old new t position cash (MoreHeld a i) more less paid =
+    subst (λ z. z ≤ old.position a i) (ap (λ f. f a i) (sym position)) (delivered_no_more old.position t.given t.taken t.isin a i t.quantity (other_held MoreHeld t.taken t.isin a i more))
+settlement_brings old new t position cash (LessHeld a i) more less paid =
+    subst (λ z. old.position a i ≤ z) (ap (λ f. f a i) (sym position)) (delivered_no_less old.position t.given t.taken t.isin a i t.quantity (other_held LessHeld t.given t.isin a i less))
+settlement_brings old new t position cash (MoreCash b c) more less paid =
+    subst (λ z. z ≤ old.cash b c) (ap (λ f. f b c) (sym cash)) (paid_no_more old.cash t.receiver t.deliverer b c t.cash paid)
+
+-- what is brought is nothing that is waited for and not brought
+not_this : (s : Shortages) (this want : Want) (amount : ℕ) (at : ℕ × ℕ) → IsBrought s this → is_waiting s.waits want amount at ≡ true → contains want_cmp s.brought want ≡ false → this ≡ want → ⊥
+not_this s this want amount at brought is apart same =
+    let there = brought.each amount at (subst (λ z. is_waiting s.waits z amount at ≡ true) (sym same) is) in
+    let bad = sym (subst (λ z. contains want_cmp s.brought z ≡ true) same there) ∙ apart in
+    cc
+
+not_any : (s : Shortages) (any : Option Want) (want : Want) (amount : ℕ) (at : ℕ × ℕ) → IsBroughtIfAny s any → is_waiting s.waits want amount at ≡ true → contains want_cmp s.brought want ≡ false → any ≡ Some want → ⊥
+not_any s None want amount at brought is apart same = cc
+not_any s (Some this) want amount at brought is apart same = not_this s this want amount at brought is apart (let one : this ≡ want = cc in one)
 
 -- Two instructions that stand otherwise.
 
-known_kept : (n : ℕ) (waits waits' : BTreeSet (Want × (ℕ × ℕ))) (content : Content) (at : ℕ × ℕ) → KeepsOtherWaits n waits waits' → at.1 ≢ n → IsKnownShort waits content at → IsKnownShort waits' content at
-known_kept n waits waits' content at keeps apart was = record { short = was.short; waiting = record { each = λ want is. keeps.each want at apart ∙ was.waiting.each want is } }
-
 -- no other pair has either of the two
 abbrev pub AreFree : Content → ℕ → ℕ → Type 0
-AreFree old m n = (k : ℕ) (short : StaysShort old k) → k ≢ n → k ≢ m → (short.mate ≢ n) × (short.mate ≢ m)
+AreFree old m n = (k : ℕ) (short : StandsShort old k) → k ≢ n → k ≢ m → (short.mate ≢ n) × (short.mate ≢ m)
 
 pub mated_free : (old : Content) (m n : ℕ) → (old.standing n).mate ≡ Some m → (old.standing m).mate ≡ Some n → AreFree old m n
 mated_free old m n n_has m_has k short not_n not_m = (
@@ -266,144 +376,233 @@ mated_free old m n n_has m_has k short not_n not_m = (
   λ is. let mates : Some k ≡ Some n = sym short.back ∙ ap (λ z. (old.standing z).mate) is ∙ m_has in let same : k ≡ n = cc in not_n same,
 )
 
-unmatched_apart : (old : Content) (m k : ℕ) (short : StaysShort old k) → (old.standing m).state ≡ Unmatched → short.mate ≢ m
+unmatched_apart : (old : Content) (m k : ℕ) (short : StandsShort old k) → (old.standing m).state ≡ Unmatched → short.mate ≢ m
 unmatched_apart old m k short unmatched is = let bad : Matched (reason_of_lack (Some short.lack)) ≡ Unmatched = sym short.earlier_waits ∙ ap (λ z. (old.standing z).state) is ∙ unmatched in cc
 
 pub unmatched_free : (old : Content) (m n : ℕ) → (old.standing m).state ≡ Unmatched → (old.standing n).state ≡ Unmatched → AreFree old m n
 unmatched_free old m n m_is n_is k short not_n not_m = (unmatched_apart old n k short n_is, unmatched_apart old m k short m_is)
 
-module _ (s : Shortages) (old new : Content) (m n : ℕ) (state : State) (two : m < n) (apart : state ≢ Unmatched) (same : new.register ≡ old.register)
-    (stand : new.standing ≡ standing_both old.standing m n state) (goes : Continues s.waits old new) (free : AreFree old m n) (knows : KnowsShort s old) where
-  others_still : s.is_known ≡ true → (p : Place) → p.number ≢ n → IsMatchedPair new p → contains place_cmp s.to_try (p.day, p.number) ≡ false → IsKnownShort s.waits new (p.day, p.number)
-  others_still known p not_n pair out =
-      let not_m : p.number ≢ m = λ here.
-      let mates : Some n ≡ Some pair.mate = sym (ap (λ z. z.mate) (ap new.standing here ∙ at_earlier old new m n state two apart same stand)) ∙ pair.has_mate in
-      let mate : n ≡ pair.mate = cc in
-      let earlier = pair.is_earlier in
-      omega arith
-      in
-      let here = alike_at (new.standing p.number) (old.standing p.number) (at_other old new m n state two apart same stand p.number not_n not_m) in
-      let was = knows.each known p (matched_before old new p pair (ap (λ h. instruction_at h p.number) (history_same old new m n state two apart same stand)) here) out in
-      let mates = free p.number was.short not_n not_m in
-      short_still s.waits old new goes (p.day, p.number) was here (alike_at (new.standing was.short.mate) (old.standing was.short.mate) (at_other old new m n state two apart same stand was.short.mate mates.0 mates.1))
+-- what is unmatched is no matched pair's
+pub unmatched_none : (content : Content) (k : ℕ) (p : Place) → (content.standing k).state ≡ Unmatched → p.number ≡ k → IsMatchedPair content p → ⊥
+unmatched_none content k p unmatched here pair = let bad : Matched pair.reason ≡ Unmatched = sym pair.matched ∙ ap (λ z. (content.standing z).state) here ∙ unmatched in cc
 
-  -- the pair is matched no more, and was taken out
-  pub after_end : (s' : Shortages) → ((reason : Reason) → state ≢ Matched reason) → KeepsOthers n s s' → KnowsShort s' new
-  after_end s' ended keeps = record {
-    each = λ known p pair out. elim (cases_eq p.number n) [
-      | inl here ↦
-          absurd (ended pair.reason (sym (ap (λ z. z.state) (ap new.standing here ∙ at_later old new m n state two apart same stand)) ∙ pair.matched))
-      | inr other ↦
-          known_kept n s.waits s'.waits new (p.day, p.number) keeps.waits other
-          (others_still (keeps.known known) p other pair (sym (keeps.to_try (p.day, p.number) other) ∙ out))
-    ];
-  }
+-- the earlier instruction of a pair is no pair's later one
+pub earlier_none : (content : Content) (m n : ℕ) (p : Place) → m < n → (content.standing m).mate ≡ Some n → p.number ≡ m → IsMatchedPair content p → ⊥
+earlier_none content m n p two has_mate here pair =
+    let mates : Some pair.mate ≡ Some n = sym pair.has_mate ∙ ap (λ z. (content.standing z).mate) here ∙ has_mate in
+    let mate : pair.mate ≡ n = cc in
+    let earlier = pair.is_earlier in
+    omega arith
 
-  -- the pair is to be tried
-  pub after_made : ((day : ℕ) → (later : Instructed) → instruction_at (history_of new) n ≡ Some later → number_of later.instruction.day ≡ day → s.is_known ≡ true → contains place_cmp s.to_try (day, n) ≡ true)
-      → KnowsShort s new
-  after_made placed = record {
-    each = λ known p pair out. elim (cases_eq p.number n) [
-      | inl here ↦
-          let there : contains place_cmp s.to_try (p.day, n) ≡ true = placed p.day pair.later (ap (instruction_at (history_of new)) (sym here) ∙ pair.is_later) pair.day known in
-          let is : contains place_cmp s.to_try (p.day, p.number) ≡ true = subst (λ k. contains place_cmp s.to_try (p.day, k) ≡ true) (sym here) there in
-          let bad = sym is ∙ out in absurd (cc)
-      | inr other ↦ others_still known p other pair out
-    ];
-  }
+-- a matched pair of a number stands at one place
+pub one_place : (content : Content) (n : ℕ) (later : Instructed) (at : ℕ × ℕ) → instruction_at (history_of content) n ≡ Some later → at.1 ≡ n → is_eq (place_cmp (number_of later.instruction.day, n) at) ≡ false → IsMatchedPair content (place_of at) → ⊥
+one_place content n later at is here apart pair =
+    let laters : Some pair.later ≡ Some later = sym pair.is_later ∙ ap (instruction_at (history_of content)) here ∙ is in
+    let same : pair.later ≡ later = cc in
+    let day : number_of later.instruction.day ≡ at.0 = ap (λ i. number_of i.instruction.day) (sym same) ∙ pair.day in
+    let one : (number_of later.instruction.day, n) ≡ at = λ k. (day k, sym here k) in
+    let bad = sym (subst (λ z. is_eq (place_cmp z at) ≡ true) (sym one) (equal_place at)) ∙ apart in
+    cc
+
+module _ (s s' : Shortages) (old new : Content) (m n : ℕ) (state : State) (later : Instructed) (two : m < n) (apart : state ≢ Unmatched) (same : new.register ≡ old.register)
+    (stand : new.standing ≡ standing_both old.standing m n state) (is_later : instruction_at (history_of old) n ≡ Some later) (free : AreFree old m n)
+    (none_earlier : (p : Place) → p.number ≡ m → IsMatchedPair old p → ⊥) (keeps : KeepsOthers (number_of later.instruction.day, n) s s')
+    (not_come : (want : Want) (amount : ℕ) (at : ℕ × ℕ) → is_waiting s'.waits want amount at ≡ true → contains want_cmp s'.brought want ≡ false → HasNotCome old new want) (knows : KnowsShort s old) where
+  instruction_same : (k : ℕ) → instruction_at (history_of new) k ≡ instruction_at (history_of old) k
+  instruction_same k = ap (λ h. instruction_at h k) (history_same old new m n state two apart same stand)
+
+  others_on : (at : ℕ × ℕ) → is_eq (place_cmp (number_of later.instruction.day, n) at) ≡ false → KnowsAt s' new at
+  others_on at other =
+      let instructions : (k : ℕ) (i : Instructed) → instruction_at (history_of old) k ≡ Some i → instruction_at (history_of new) k ≡ Some i = λ k i is. instruction_same k ∙ is in
+      let stands = λ (k : ℕ) (not_n : k ≢ n) (not_m : k ≢ m). alike_at (new.standing k) (old.standing k) (at_other old new m n state two apart same stand k not_n not_m) in
+      elim (cases_eq at.1 n) [
+        | inl here ↦
+            empty s s' old new keeps.known keeps.brought instructions not_come at (keeps.others at other) (knows.each at) (one_place old n later at is_later here other)
+            (one_place new n later at (instruction_same n ∙ is_later) here other)
+        | inr not_n ↦ elim (cases_eq at.1 m) [
+          | inl here ↦
+              empty s s' old new keeps.known keeps.brought instructions not_come at (keeps.others at other) (knows.each at) (none_earlier (place_of at) here)
+              (earlier_none new m n (place_of at) two (ap (λ z. z.mate) (at_earlier old new m n state two apart same stand)) here)
+          | inr not_m ↦
+              carried s s' old new keeps.known keeps.brought instructions not_come at (keeps.others at other) (knows.each at) (instruction_same at.1) (stands at.1 not_n not_m)
+              (λ short. let mates = free at.1 short not_n not_m in stands short.mate mates.0 mates.1)
+        ]
+      ]
+
+  -- what is known of their own place was seen
+  pub two_stand : KnowsAt s' new (number_of later.instruction.day, n) → KnowsShort s' new
+  two_stand here = record { each = λ at. by_place (number_of later.instruction.day, n) at (λ same. subst (KnowsAt s' new) same here) (others_on at) }
+
+  -- the pair is matched no more
+  pub none_there : ((reason : Reason) → state ≢ Matched reason) → IsMatchedPair new (place_of (number_of later.instruction.day, n)) → ⊥
+  none_there ended pair = ended pair.reason (sym (ap (λ z. z.state) (at_later old new m n state two apart same stand)) ∙ pair.matched)
+
+-- One pair moves one thing.
+pub one_transfer : (content : Content) (n mate : ℕ) (t : Transfer) → IsTransferAt content n mate t → (short : StandsShort content n) → t ≡ transfer_of short.earlier short.later
+one_transfer content n mate t moves short =
+    let mates : Some mate ≡ Some short.mate = sym moves.has_mate ∙ short.pair.has_mate in
+    let one : mate ≡ short.mate = cc in
+    moves.moves short.earlier short.later (ap (instruction_at (history_of content)) one ∙ short.pair.is_earlier) short.pair.is_later
+
+-- a pair that was taken out waits for nothing
+let_go : (s s' : Shortages) (content : Content) (n mate : ℕ) (t : Transfer) (day : ℕ) → IsTransferAt content n mate t → LetsGo t (day, n) s s' → KnowsAt s content (day, n)
+    → (want : Want) (amount : ℕ) → is_waiting s'.waits want amount (day, n) ≡ true → ⊥
+let_go s s' content n mate t day moves gone knows want amount is =
+    let was = knows.waits want amount (gone.fewer want amount is) in
+    let wanted : IsWantOf t was.short.lack want amount = subst (λ z. IsWantOf z was.short.lack want amount) (sym (one_transfer content n mate t moves was.short)) was.wanted in
+    let none = gone.none was.out was.short.lack want amount wanted in
+    let bad = sym is ∙ none in
+    cc
+
+-- A pair that ends, and was taken out.
+module _ (s s' : Shortages) (old new : Content) (m n : ℕ) (state : State) (later : Instructed) (t : Transfer) (two : m < n) (apart : state ≢ Unmatched) (ended : (reason : Reason) → state ≢ Matched reason)
+    (same : new.register ≡ old.register) (stand : new.standing ≡ standing_both old.standing m n state) (is_later : instruction_at (history_of old) n ≡ Some later)
+    (n_has : (old.standing n).mate ≡ Some m) (m_has : (old.standing m).mate ≡ Some n) (moves : IsTransferAt old n m t) (out : TakesOut t (number_of later.instruction.day, n) s s')
+    (not_come : (want : Want) (amount : ℕ) (at : ℕ × ℕ) → is_waiting s'.waits want amount at ≡ true → contains want_cmp s'.brought want ≡ false → HasNotCome old new want) (knows : KnowsShort s old) where
+  pub after_end : KnowsShort s' new
+  after_end =
+      let day = number_of later.instruction.day in
+      let none = let_go s s' old n m t day moves out.gone (knows.each (day, n)) in
+      two_stand s s' old new m n state later two apart same stand is_later (mated_free old m n n_has m_has) (λ p here. earlier_none old m n p two m_has here) out.keeps not_come knows
+      (record {
+        noted = λ known pair is. absurd (none_there s s' old new m n state later two apart same stand is_later (mated_free old m n n_has m_has) (λ p here. earlier_none old m n p two m_has here) out.keeps not_come knows ended pair);
+        tried = λ is. let bad = sym is ∙ out.out in absurd (cc);
+        waits = λ want amount is. absurd (none want amount is);
+        uncovered = λ want amount is unbrought. absurd (none want amount is);
+      })
+
+-- A pair that is made is to be tried.
+pub after_made : (s s' : Shortages) (old new : Content) (m n : ℕ) (reason : Reason) (later : Instructed) → m < n → new ≡ record old { standing = standing_both old.standing m n (Matched reason) } → instruction_at (history_of old) n ≡ Some later
+    → (old.standing m).state ≡ Unmatched → (old.standing n).state ≡ Unmatched → PutsIn (number_of later.instruction.day, n) s s' → KnowsShort s old → KnowsShort s' new
+after_made s s' old new m n reason later two is is_later m_is n_is puts knows =
+    let state : State = Matched reason in
+    let register : new.register ≡ old.register = ap (λ c. c.register) is in
+    let stand : new.standing ≡ standing_both old.standing m n state = ap (λ c. c.standing) is in
+    let day = number_of later.instruction.day in
+    let at_n = at_later old new m n state two (λ e. cc) register stand in
+    let none : (want : Want) (amount : ℕ) → is_waiting s'.waits want amount (day, n) ≡ true → ⊥ = λ want amount there.
+    let was = (knows.each (day, n)).waits want amount (sym (puts.waits want amount) ∙ there) in
+    unmatched_none old n (place_of (day, n)) n_is refl (matched_of_stand old (day, n) was.short was.day)
+    in
+    two_stand s s' old new m n state later two (λ e. cc) register stand is_later (unmatched_free old m n m_is n_is) (λ p here. unmatched_none old m p m_is here) puts.keeps
+    (λ want amount at waiting unbrought. same_not_come old new (ap (λ c. c.position) is) (ap (λ c. c.cash) is) want) knows
+    (record {
+      noted = λ known pair out. let bad = sym puts.there ∙ out in absurd (cc);
+      tried = λ there. record {
+        later = later;
+        mate = m;
+        reason = reason;
+        is_later = same_known old new register n ∙ is_later;
+        has_mate = ap (λ z. z.mate) at_n;
+        is_earlier = two;
+        matched = ap (λ z. z.state) at_n;
+        day = refl;
+      };
+      waits = λ want amount there. absurd (none want amount there);
+      uncovered = λ want amount there unbrought. absurd (none want amount there);
+    })
 
 -- A pair that was tried.
 
+-- the pair of two numbers, each the other's mate, was tried
+pub record IsTried (old : Content) (mate n : ℕ) (earlier later : Instructed) (outcome : Outcome) (new : Content) : Type 0 where
+  pub pair : IsPairAt old n mate earlier later
+  pub two : mate < n
+  pub back : (old.standing mate).mate ≡ Some n
+  pub ends : TriesSides old n mate earlier later outcome new
+
 -- what trying a pair that lacks does
-lacked : (old : Content) (n m : ℕ) (earlier later : Instructed) (lack : Lack) (new : Content) → TriesSides old n m earlier later (Lacks lack) new
+pub lacked : (old : Content) (n m : ℕ) (earlier later : Instructed) (lack : Lack) (new : Content) → TriesSides old n m earlier later (Lacks lack) new
     → LacksNow old earlier later lack × (new ≡ record old { standing = standing_both old.standing m n (Matched (reason_of_lack (Some lack))) })
 lacked old n m earlier later Securities new ends = (ends.0, ends.1)
 lacked old n m earlier later Money new ends = ((ends.0, ends.1), ends.2)
 
-module _ (s s' : Shortages) (old new : Content) (m n : ℕ) (earlier later : Instructed) (knows : KnowsShort s old) where
-  after_settled : IsTried old m n earlier later outcomes.Settled new → (day : ℕ) → IsNoted outcomes.Settled (sides_of earlier later) (day, n) s s' → KnowsShort s' new
-  after_settled tried day (woken, wakes, none, keeps) =
-      let is = tried.ends.2 in
-      let register : new.register ≡ old.register = ap (λ c. c.register) is in
-      let goes : Continues woken.waits old new = record {
-        known = same_known old new register;
-        not_come = settlement_brings woken.waits old new (sides_of earlier later) later.instruction.quantity none (ap (λ c. c.position) is) (ap (λ c. c.cash) is);
-      } in
-      after_end woken old new m n Settled tried.two (λ e. cc) register (ap (λ c. c.standing) is) goes (mated_free old m n tried.pair.has_mate tried.back) (wakes.kept old knows) s' (λ reason e. cc) keeps
+lacks_same : (old new : Content) (earlier later : Instructed) (lack : Lack) → new.position ≡ old.position → new.cash ≡ old.cash → LacksNow old earlier later lack → LacksNow new earlier later lack
+lacks_same old new earlier later Securities position cash lacks = subst (λ f. f (delivering_side earlier later).instruction.account later.instruction.isin < later.instruction.quantity) (sym position) lacks
+lacks_same old new earlier later Money position cash lacks = (
+  subst (λ f. later.instruction.quantity ≤ f (delivering_side earlier later).instruction.account later.instruction.isin) (sym position) lacks.0,
+  subst (λ f. LacksCash f (receiving_side earlier later).sender later.instruction.cash) (sym cash) lacks.1,
+)
 
-  after_lack : (lack : Lack) → IsTried old m n earlier later (Lacks lack) new → IsNoted (Lacks lack) (sides_of earlier later) (number_of later.instruction.day, n) s s' → KnowsShort s' new
+module _ (s s' : Shortages) (old new : Content) (m n : ℕ) (earlier later : Instructed) (t : Transfer) (moves : IsTransferAt old n m t) (knows : KnowsShort s old) where
+  own : (outcome : Outcome) → IsTried old m n earlier later outcome new → t ≡ transfer_of earlier later
+  own outcome tried = moves.moves earlier later tried.pair.is_earlier tried.pair.is_later
+
+  after_settled : IsTried old m n earlier later outcomes.Settled new → IsNotedSettled t (number_of later.instruction.day, n) s s' → KnowsShort s' new
+  after_settled tried noted =
+      let is = tried.ends.2 in
+      let same = own outcomes.Settled tried in
+      let moved : new.position ≡ delivered old.position t.given t.taken t.isin t.quantity = ap (λ c. c.position) is ∙ ap (λ z. delivered old.position z.given z.taken z.isin z.quantity) (sym same) in
+      let paid : new.cash ≡ paid_over old.cash t.receiver t.deliverer t.cash = ap (λ c. c.cash) is ∙ ap (λ z. paid_over old.cash z.receiver z.deliverer z.cash) (sym same) in
+      after_end s s' old new m n Settled later t tried.two (λ e. cc) (λ reason e. cc) (ap (λ c. c.register) is) (ap (λ c. c.standing) is) tried.pair.is_later tried.pair.has_mate tried.back moves noted.taken
+      (λ want amount at waiting unbrought.
+      settlement_brings old new t moved paid want (not_this s' (more_taken t) want amount at noted.more_taken waiting unbrought) (not_this s' (less_given t) want amount at noted.less_given waiting unbrought)
+      (not_any s' (cash_want t.deliverer t.cash) want amount at noted.more_paid waiting unbrought))
+      knows
+
+  after_lack : (lack : Lack) → IsTried old m n earlier later (Lacks lack) new → IsNotedLack t lack (number_of later.instruction.day, n) s s' → KnowsShort s' new
   after_lack lack tried noted =
       let parts = lacked old n m earlier later lack new tried.ends in
       let is = parts.1 in
       let state : State = Matched (reason_of_lack (Some lack)) in
       let register : new.register ≡ old.register = ap (λ c. c.register) is in
       let stand : new.standing ≡ standing_both old.standing m n state = ap (λ c. c.standing) is in
-      let not_come = same_not_come old new (ap (λ c. c.position) is) (ap (λ c. c.cash) is) in
-      let goes : Continues s.waits old new = record { known = same_known old new register; not_come = λ want at waiting. not_come want } in
+      let day = number_of later.instruction.day in
+      let same = own (Lacks lack) tried in
       let at_n = at_later old new m n state tried.two (λ e. cc) register stand in
       let at_m = at_earlier old new m n state tried.two (λ e. cc) register stand in
-      let short : StaysShort new n = record {
+      let short : StandsShort new n = record {
         mate = m;
         earlier = earlier;
         later = later;
         lack = lack;
-        pair = record {
-          is_later = same_known old new register n later tried.pair.is_later;
-          has_mate = ap (λ z. z.mate) at_n;
-          is_earlier = same_known old new register m earlier tried.pair.is_earlier;
-        };
+        pair = record { is_later = same_known old new register n ∙ tried.pair.is_later; has_mate = ap (λ z. z.mate) at_n; is_earlier = same_known old new register m ∙ tried.pair.is_earlier };
         two = tried.two;
         back = ap (λ z. z.mate) at_m;
         earlier_waits = ap (λ z. z.state) at_m;
         later_waits = ap (λ z. z.state) at_n;
-        lacks = lacks_still old new earlier later lack (λ want wanted. not_come want) parts.0;
+        pays = pays_of old earlier later lack parts.0;
       } in
-      record {
-        each = λ known p pair out. elim (cases_eq p.number n) [
-          | inl here ↦
-              let laters : Some pair.later ≡ Some later = sym pair.is_later ∙ ap (instruction_at (history_of new)) here ∙ short.pair.is_later in
-              let one : pair.later ≡ later = cc in
-              let day : number_of later.instruction.day ≡ p.day = ap (λ i. number_of i.instruction.day) (sym one) ∙ pair.day in
-              let at_n_out : contains place_cmp s'.to_try (p.day, n) ≡ false = subst (λ k. contains place_cmp s'.to_try (p.day, k) ≡ false) here out in
-              let is_out : contains place_cmp s'.to_try (number_of later.instruction.day, n) ≡ false = subst (λ d. contains place_cmp s'.to_try (d, n) ≡ false) (sym day) at_n_out in
-              let known_short : IsKnownShort s'.waits new (number_of later.instruction.day, n) = record { short = short; waiting = noted.1 is_out } in
-              subst (λ d. IsKnownShort s'.waits new (d, p.number)) day (subst (λ k. IsKnownShort s'.waits new (number_of later.instruction.day, k)) (sym here) known_short)
-          | inr other ↦
-              known_kept n s.waits s'.waits new (p.day, p.number) noted.0.waits other
-              (others_still s old new m n state tried.two (λ e. cc) register stand goes (mated_free old m n tried.pair.has_mate tried.back) knows (noted.0.known known) p other pair (sym (noted.0.to_try (p.day, p.number) other) ∙ out))
-        ];
-      }
+      let here = knows.each (day, n) in
+      -- what it waits for, if it is not to be tried
+      let waits_for : (want : Want) (amount : ℕ) → is_waiting s'.waits want amount (day, n) ≡ true → (is_to_try s'.to_try (day, n) ≡ false) × IsWantOf (transfer_of earlier later) lack want amount = λ want amount waiting.
+      by_bool (is_to_try s'.to_try (day, n)) (λ there. absurd (let_go s s' old n m t day moves (noted.stays there) here want amount waiting)) (λ out. (
+        out,
+        by_bool (is_waiting s.waits want amount (day, n)) (λ before. let was = here.waits want amount before in let bad = sym was.out ∙ noted.was out in absurd (cc))
+            (λ before. subst (λ z. IsWantOf z lack want amount) same (noted.only out want amount waiting before)),
+      ))
+      in
+      two_stand s s' old new m n state later tried.two (λ e. cc) register stand tried.pair.is_later (mated_free old m n tried.pair.has_mate tried.back) (λ p at. earlier_none old m n p tried.two tried.back at) noted.keeps
+      (λ want amount at waiting unbrought. same_not_come old new (ap (λ c. c.position) is) (ap (λ c. c.cash) is) want) knows
+      (record {
+        noted = λ known pair out. record {
+          short = short;
+          waiting = subst (λ z. AreWaiting s'.waits z lack (day, n)) same (noted.waiting out);
+        };
+        tried = λ there. matched_of_stand new (day, n) short refl;
+        waits = λ want amount waiting. let w = waits_for want amount waiting in record { short = short; day = refl; wanted = w.1; out = w.0 };
+        uncovered = λ want amount waiting unbrought.
+            let w = waits_for want amount waiting in
+            uncovered_of new earlier later lack (lacks_same old new earlier later lack (ap (λ c. c.position) is) (ap (λ c. c.cash) is) parts.0) want amount w.1;
+      })
 
-  by_outcome : (outcome : Outcome) → IsTried old m n earlier later outcome new → IsNoted outcome (sides_of earlier later) (number_of later.instruction.day, n) s s' → KnowsShort s' new
-  by_outcome outcomes.Settled tried noted = after_settled tried (number_of later.instruction.day) noted
+  by_outcome : (outcome : Outcome) → IsTried old m n earlier later outcome new → IsNotedTried outcome t (number_of later.instruction.day, n) s s' → KnowsShort s' new
+  by_outcome outcomes.Settled tried noted = after_settled tried noted
   by_outcome (Lacks lack) tried noted = after_lack lack tried noted
 
--- the history is as it was
-tried_register : (old : Content) (n m : ℕ) (earlier later : Instructed) (outcome : Outcome) (new : Content) → TriesSides old n m earlier later outcome new → new.register ≡ old.register
-tried_register old n m earlier later outcomes.Settled new ends = ap (λ c. c.register) ends.2
-tried_register old n m earlier later (Lacks lack) new ends = let parts = lacked old n m earlier later lack new ends in ap (λ c. c.register) parts.1
-
-pub after_tried : (s s' : Shortages) (old new : Content) (m n : ℕ) (earlier later first second : Instructed) (outcome : Outcome) → IsTried old m n earlier later outcome new
-    → instruction_at (history_of new) m ≡ Some first → instruction_at (history_of new) n ≡ Some second → (day : ℕ) → day ≡ number_of second.instruction.day → (sides : Sides) → sides ≡ sides_of first second
-    → IsNoted outcome sides (day, n) s s' → KnowsShort s old → KnowsShort s' new
-after_tried s s' old new m n earlier later first second outcome tried at_m at_n day is_day sides are noted knows =
-    let register = tried_register old n m earlier later outcome new tried.ends in
-    let firsts : Some first ≡ Some earlier = sym at_m ∙ same_known old new register m earlier tried.pair.is_earlier in
-    let seconds : Some second ≡ Some later = sym at_n ∙ same_known old new register n later tried.pair.is_later in
-    let one : first ≡ earlier = cc in
-    let other : second ≡ later = cc in
-    let at_day : day ≡ number_of later.instruction.day = is_day ∙ ap (λ i. number_of i.instruction.day) other in
-    let both : sides ≡ sides_of earlier later = are ∙ ap (λ i. sides_of i second) one ∙ ap (sides_of earlier) other in
-    by_outcome s s' old new m n earlier later knows outcome tried
-    (subst (λ z. IsNoted outcome z (number_of later.instruction.day, n) s s') both (subst (λ d. IsNoted outcome sides (d, n) s s') at_day noted))
+  pub after_tried : (outcome : Outcome) → IsTried old m n earlier later outcome new → IsNotedTried outcome t (number_of t.day, n) s s' → KnowsShort s' new
+  after_tried outcome tried noted = by_outcome outcome tried (subst (λ z. IsNotedTried outcome t (number_of z, n) s s') (ap (λ z. z.day) (own outcome tried)) noted)
 
 -- One entry more.
 
-module _ (s : Shortages) (entry : Entry) (reply : Reply) (content : Content) (none : s.is_known ≡ true → NoneWaitsFor s.waits (woken_by entry)) (knows : KnowsShort s content) where
-  abbrev next : ℕ
+agrees_brought : (s s' : Shortages) → Brings s s' → (at : ℕ × ℕ) → Agrees s s' at
+agrees_brought s s' brings at = record { to_try = ap (λ z. is_to_try z at) brings.to_try; waits = λ want amount. ap (λ z. is_waiting z want amount at) brings.waits }
+
+module _ (entry : Entry) (reply : Reply) (content : Content) where
+  abbrev pub next : ℕ
   next = length content.register + 1
 
-  below_next : (k : ℕ) (i : Instructed) → instruction_at (history_of content) k ≡ Some i → k ≢ next
+  pub below_next : (k : ℕ) (i : Instructed) → instruction_at (history_of content) k ≡ Some i → k ≢ next
   below_next k i at same =
       let known = instruction_at-known (history_of content) k i at in
       let most = known.1 in
@@ -419,40 +618,59 @@ module _ (s : Shortages) (entry : Entry) (reply : Reply) (content : Content) (no
       let same = stands_otherwise entry reply content next refl k apart in
       record { mate = ap (λ z. z.mate) (sym same) ∙ alike.mate; state = ap (λ z. z.state) (sym same) ∙ alike.state }
 
-  none_at_next : (p : Place) → IsMatchedPair (appended entry reply content) p → p.number ≢ next
-  none_at_next p pair here =
+  none_at_next : (p : Place) → p.number ≡ next → IsMatchedPair (appended entry reply content) p → ⊥
+  none_at_next p here pair =
       let stood : (appended entry reply content).standing p.number ≡ first_standing entry = ap (appended entry reply content).standing here ∙ standing_here (noted entry reply content next refl) next (first_standing entry) in
       let mates : None ≡ Some pair.mate = sym (no_mate entry) ∙ ap (λ z. z.mate) (sym stood) ∙ pair.has_mate in
       cc
 
-  pub after_appended : KnowsShort s (appended entry reply content)
-  after_appended = record {
-    each = λ known p pair out.
-        let new = appended entry reply content in
-        let apart = none_at_next p pair in
-        let goes : Continues s.waits content new = record {
-          known = λ k i at. instruction_still k (below_next k i at) ∙ at;
-          not_come = entry_brings s.waits entry reply content (none known);
-        } in
-        let was = knows.each known p (matched_before content new p pair (instruction_still p.number apart) (stands_still p.number apart)) out in
-        short_still s.waits content new goes (p.day, p.number) was (stands_still p.number apart) (stands_still was.short.mate (below_next was.short.mate was.short.earlier was.short.pair.is_earlier));
-  }
+  -- a matched pair is one still
+  pub matched_still : (p : Place) → IsMatchedPair content p → IsMatchedPair (appended entry reply content) p
+  matched_still p pair = let apart = below_next p.number pair.later pair.is_later in matched_after content (appended entry reply content) p pair (instruction_still p.number apart) (stands_still p.number apart)
+
+pub after_appended : (s s' : Shortages) (entry : Entry) (reply : Reply) (content : Content) → Brings s s' → IsBroughtIfAny s' (woken_by entry) → KnowsShort s content → KnowsShort s' (appended entry reply content)
+after_appended s s' entry reply content brings brought knows = record {
+  each = λ at.
+      let new = appended entry reply content in
+      let instructions : (k : ℕ) (i : Instructed) → instruction_at (history_of content) k ≡ Some i → instruction_at (history_of new) k ≡ Some i = λ k i is. instruction_still entry reply content k (below_next entry reply content k i is) ∙ is in
+      let not_come : (want : Want) (amount : ℕ) (q : ℕ × ℕ) → is_waiting s'.waits want amount q ≡ true → contains want_cmp s'.brought want ≡ false → HasNotCome content new want = λ want amount q is unbrought.
+      entry_brings entry reply content want (not_any s' (woken_by entry) want amount q brought is unbrought)
+      in
+      let known : s'.is_known ≡ true → s.is_known ≡ true = λ is. sym brings.known ∙ is in
+      elim (cases_eq at.1 (next entry reply content)) [
+        | inl here ↦ empty s s' content new known brings.more instructions not_come at (agrees_brought s s' brings at) (knows.each at) (λ pair. below_next entry reply content at.1 pair.later pair.is_later here) (none_at_next entry reply content (place_of at) here)
+        | inr apart ↦
+            carried s s' content new known brings.more instructions not_come at (agrees_brought s s' brings at) (knows.each at) (instruction_still entry reply content at.1 apart) (stands_still entry reply content at.1 apart)
+            (λ short. stands_still entry reply content short.mate (below_next entry reply content short.mate short.earlier short.pair.is_earlier))
+      ];
+}
 
 -- One instruction that stands cancelled.
 
-pub after_cancelled : (s : Shortages) (n : ℕ) (content : Content) → (content.standing n).state ≡ Unmatched → KnowsShort s content → KnowsShort s (cancelled n content)
-after_cancelled s n content unmatched knows =
-    let new = cancelled n content in
-    let gone : Standing = record (content.standing n) { state = Cancelled } in
-    let stands : (k : ℕ) → k ≢ n → AreAlike (new.standing k) (content.standing k) = λ k apart. alike_at (new.standing k) (content.standing k) (standing_other content.standing n k gone apart) in
-    let goes : Continues s.waits content new = record { known = λ k i at. at; not_come = λ want at is. same_not_come content new refl refl want } in
-    record {
-      each = λ known p pair out.
-          let apart : p.number ≢ n = λ here.
-          let state : (new.standing p.number).state ≡ Cancelled = ap (λ z. z.state) (ap new.standing here ∙ standing_here content.standing n gone) in
-          let bad : Cancelled ≡ Matched pair.reason = sym state ∙ pair.matched in
-          cc
-          in
-          let was = knows.each known p (matched_before content new p pair refl (stands p.number apart)) out in
-          short_still s.waits content new goes (p.day, p.number) was (stands p.number apart) (stands was.short.mate (unmatched_apart content n p.number was.short unmatched));
-    }
+module _ (n : ℕ) (content : Content) (unmatched : (content.standing n).state ≡ Unmatched) where
+  stands_cancelled : (k : ℕ) → k ≢ n → AreAlike ((cancelled n content).standing k) (content.standing k)
+  stands_cancelled k apart = let gone : Standing = record (content.standing n) { state = Cancelled } in alike_at ((cancelled n content).standing k) (content.standing k) (standing_other content.standing n k gone apart)
+
+  none_cancelled : (p : Place) → p.number ≡ n → IsMatchedPair (cancelled n content) p → ⊥
+  none_cancelled p here pair =
+      let gone : Standing = record (content.standing n) { state = Cancelled } in
+      let state : ((cancelled n content).standing p.number).state ≡ Cancelled = ap (λ z. z.state) (ap (cancelled n content).standing here ∙ standing_here content.standing n gone) in
+      let bad : Cancelled ≡ Matched pair.reason = sym state ∙ pair.matched in
+      cc
+
+  -- a matched pair is one still
+  pub matched_beside : (p : Place) → IsMatchedPair content p → IsMatchedPair (cancelled n content) p
+  matched_beside p pair = matched_after content (cancelled n content) p pair refl (stands_cancelled p.number (λ here. unmatched_none content n p unmatched here pair))
+
+  pub after_cancelled : (s : Shortages) → KnowsShort s content → KnowsShort s (cancelled n content)
+  after_cancelled s knows = record {
+    each = λ at.
+        let new = cancelled n content in
+        let not_come : (want : Want) (amount : ℕ) (q : ℕ × ℕ) → is_waiting s.waits want amount q ≡ true → contains want_cmp s.brought want ≡ false → HasNotCome content new want = λ want amount q is unbrought. same_not_come content new refl refl want in
+        elim (cases_eq at.1 n) [
+          | inl here ↦ empty s s content new (λ known. known) (λ want there. there) (λ k i is. is) not_come at (agrees_here s at) (knows.each at) (unmatched_none content n (place_of at) unmatched here) (none_cancelled (place_of at) here)
+          | inr apart ↦
+              carried s s content new (λ known. known) (λ want there. there) (λ k i is. is) not_come at (agrees_here s at) (knows.each at) refl (stands_cancelled at.1 apart)
+              (λ short. stands_cancelled short.mate (unmatched_apart content n at.1 short unmatched))
+        ];
+  }

@@ -1,82 +1,260 @@
--- What is known of short pairs, after places were put among those to try, or taken out of those that wait.
-use Rattle.std.proofs.Common.{◌≡◌, ℕ, zero, suc, [], true, false, Some, sym, ◌∙◌, subst}
+-- What is known of short pairs, after places were put among those to try, or were taken out, and after what was brought was taken up.
+use Rattle.std.proofs.Common.{◌≡◌, ℕ, zero, suc, ◌<◌, ◌≤◌, [], ◌∷◌, List, length, true, false, Some, refl, ap, sym, ◌∙◌, subst, arith, inl, inr}
+use Rattle.std.specs.Prelude.{option_map, Result, Ok, Err, OnOk}
 use Rattle.std.specs.Ordering.{is_eq}
+use Rattle.std.specs.BTreeMap.{BTreeMap}
 use Rattle.std.specs.BTreeSet.{BTreeSet, contains}
-use Rattle.std.proofs.lemmas.Bool.{false_from_ne_true}
+use Rattle.std.proofs.lemmas.Bool.{cases_lt, false_from_ne_true}
+use Rattle.desk_codes.specs.declared.day.Day.{Day}
+use Rattle.desk_rules.specs.declared.history.entry.Entry.{Entry}
 use Rattle.desk_rules.specs.declared.history.entry.Instructed.{Instructed}
+use Rattle.desk_rules.specs.declared.history.pair.Lack.{Lack}
+use Rattle.desk_rules.specs.declared.history.pair.Lack.TheVariants.{Securities, Money}
+use Rattle.desk_rules.specs.declared.history.standing.State.TheVariants.{Matched}
 use Rattle.desk_rules.specs.Content.{Content}
 use Rattle.desk_rules.specs.History.{instruction_at}
+use Rattle.desk_rules.specs.Standing.{reason_of_lack}
 use Rattle.desk_register.specs.Changes.{empty_content}
-use Rattle.desk_index.specs.DuePlaces.{HoldsDue, place_cmp}
-use Rattle.desk_index.specs.PlacesByKey.{placed_cmp}
-use Rattle.desk_index.specs.Shortages.{KeepsOthers, KnowsShort, Wakes}
-use Rattle.desk_index.specs.Wants.{KeepsOtherWaits, want_cmp}
+use Rattle.desk_lists.specs.declared.changing.transfer.Transfer.{Transfer}
+use Rattle.desk_lists.specs.Transfers.{IsTransferAt, transfer_of}
+use Rattle.desk_index.specs.DuePlaces.{AreMatched, HasDue, place_cmp, place_of}
+use Rattle.desk_index.specs.Shortages.{Brings, IsBrought, IsBroughtIfAny, IsNotedLack, IsNotedSettled, IsUncovered, KnowsAt, KnowsShort, PutsIn, TakesOut, is_to_try}
+use Rattle.desk_index.specs.Wants.{AreWaiting, FewerWait, IsWantOf, KeepsOtherWaits, Waits, cash_want, is_waiting, less_given, more_taken, want_cmp}
 use Rattle.desk_index.specs.declared.short.shortages.Shortages.{Shortages}
 use Rattle.desk_index.specs.declared.short.wants.Want.{Want}
-use Rattle.desk_index.proofs.DueLemmas.{same_place}
-use Rattle.desk_index.proofs.WaitLemmas.{other_due, other_place}
+use Rattle.desk_index.proofs.PlaceCases.{by_place}
+use Rattle.desk_index.proofs.ShortageLemmas.{carried, matched_of_stand, one_transfer, same_not_come}
+use Rattle.desk_index.proofs.WantOrder.{by_want}
 
-still_out : (old new : BTreeSet (ℕ × ℕ)) (q : ℕ × ℕ) → HoldsDue old new → contains place_cmp new q ≡ false → contains place_cmp old q ≡ false
-still_out old new q all out = false_from_ne_true (contains place_cmp old q) (λ there. let kept = all q there in let bad = sym kept ∙ out in cc)
+-- A place that is to be tried again.
+module _ (s s' : Shortages) (content : Content) (here : ℕ × ℕ) (want : Want) (amount : ℕ) (t : Transfer) (mate : ℕ) (lack : Lack) (knows : KnowsShort s content) (waiting : is_waiting s.waits want amount here ≡ true)
+    (moves : IsTransferAt content here.1 mate t) (told : (l : Lack) → (content.standing here.1).state ≡ Matched (reason_of_lack (Some l)) → lack ≡ l) where
+  its_want : (want : Want) (amount : ℕ) → is_waiting s.waits want amount here ≡ true → IsWantOf t lack want amount
+  its_want want amount is =
+      let w = (knows.each here).waits want amount is in
+      subst (λ z. IsWantOf z lack want amount) (sym (one_transfer content here.1 mate t moves w.short)) (subst (λ l. IsWantOf (transfer_of w.short.earlier w.short.later) l want amount) (sym (told w.short.lack w.short.later_waits)) w.wanted)
 
--- what is known is known whatever is left to pay for notes
-pub paid_otherwise : (old new : Shortages) → new ≡ record old { budget = new.budget } → (content : Content) → KnowsShort old content → KnowsShort new content
-paid_otherwise old new same content knows =
-    let otherwise : KnowsShort (record old { budget = new.budget }) content = record { each = knows.each } in
-    subst (λ z. KnowsShort z content) (sym same) otherwise
+  pub this_want : IsWantOf t lack want amount
+  this_want = its_want want amount waiting
 
--- more is to be tried
-pub tries_more : (old : Shortages) (to_try : BTreeSet (ℕ × ℕ)) → HoldsDue old.to_try to_try → (content : Content) → KnowsShort old content → KnowsShort (record old { to_try = to_try }) content
-tries_more old to_try all content knows = record { each = λ known p pair out. knows.each known p pair (still_out old.to_try to_try (p.day, p.number) all out) }
+  pub wakes_place : (s'.is_known ≡ true → s.is_known ≡ true) → s'.brought ≡ s.brought → is_to_try s'.to_try here ≡ true → ((q : ℕ × ℕ) → is_eq (place_cmp here q) ≡ false → is_to_try s'.to_try q ≡ is_to_try s.to_try q)
+      → KeepsOtherWaits here s.waits s'.waits → FewerWait s.waits s'.waits → ((want : Want) (amount : ℕ) → IsWantOf t lack want amount → is_waiting s'.waits want amount here ≡ false) → KnowsShort s' content
+  wakes_place known brought there others other_waits fewer gone =
+      let none : (want : Want) (amount : ℕ) → is_waiting s'.waits want amount here ≡ true → ⊥ = λ want amount is. let bad = sym is ∙ gone want amount (its_want want amount (fewer.each want amount here is)) in cc in
+      let w = (knows.each here).waits want amount waiting in
+      let its_place : KnowsAt s' content here = record {
+        noted = λ is_known pair out. let bad = sym there ∙ out in absurd (cc);
+        tried = λ is. matched_of_stand content here w.short w.day;
+        waits = λ want amount is. absurd (none want amount is);
+        uncovered = λ want amount is unbrought. absurd (none want amount is);
+      } in
+      record {
+        each = λ at. by_place here at (λ same. subst (KnowsAt s' content) same its_place) (λ other.
+            carried s s' content content known (λ want is. subst (λ z. contains want_cmp z want ≡ true) (sym brought) is) (λ k i is. is) (λ want amount q is unbrought. same_not_come content content refl refl want)
+            at (record { to_try = others at other; waits = λ want amount. other_waits.each want amount at other }) (knows.each at) refl (record { mate = refl; state = refl }) (λ short. record { mate = refl; state = refl }));
+      }
 
-pub wakes_more : (old : Shortages) (to_try : BTreeSet (ℕ × ℕ)) → HoldsDue old.to_try to_try → Wakes old (record old { to_try = to_try })
-wakes_more old to_try all = record { kept = tries_more old to_try all; fewer = λ want none. none }
+-- What was brought is taken up, once all that wait for it are uncovered.
+pub taken_up : (s s' : Shortages) (content : Content) (want : Want) → s'.is_known ≡ s.is_known → s'.to_try ≡ s.to_try → s'.waits ≡ s.waits
+    → ((q : Want) → is_eq (want_cmp want q) ≡ false → contains want_cmp s'.brought q ≡ contains want_cmp s.brought q)
+    → ((amount : ℕ) (at : ℕ × ℕ) → is_waiting s.waits want amount at ≡ true → IsUncovered content want amount) → KnowsShort s content → KnowsShort s' content
+taken_up s s' content want known to_try waits others uncovered knows = record {
+  each = λ at.
+      let here = knows.each at in
+      let tried : is_to_try s'.to_try at ≡ is_to_try s.to_try at = ap (λ z. is_to_try z at) to_try in
+      let wait : (want : Want) (amount : ℕ) → is_waiting s'.waits want amount at ≡ is_waiting s.waits want amount at = λ want amount. ap (λ z. is_waiting z want amount at) waits in
+      record {
+        noted = λ is pair out. let was = here.noted (sym known ∙ is) pair (sym tried ∙ out) in record { short = was.short; waiting = record { each = λ want amount wanted. wait want amount ∙ was.waiting.each want amount wanted } };
+        tried = λ is. here.tried (sym tried ∙ is);
+        waits = λ want amount is. let was = here.waits want amount (sym (wait want amount) ∙ is) in record { short = was.short; day = was.day; wanted = was.wanted; out = tried ∙ was.out };
+        uncovered = λ other amount is unbrought. by_want want other
+            (λ same. subst (λ z. IsUncovered content z amount) same (uncovered amount at (subst (λ z. is_waiting s.waits z amount at ≡ true) (sym same) (sym (wait other amount) ∙ is))))
+            (λ apart. here.uncovered other amount (sym (wait other amount) ∙ is) (sym (others other apart) ∙ unbrought));
+      };
+}
 
--- a place that is to be tried is none that is not
-apart_from : (to_try : BTreeSet (ℕ × ℕ)) (at q : ℕ × ℕ) → contains place_cmp to_try at ≡ true → contains place_cmp to_try q ≡ false → is_eq (place_cmp at q) ≡ false
-apart_from to_try at q there out = false_from_ne_true (is_eq (place_cmp at q)) (λ same.
-    let one = same_place at q same in
-    let is : contains place_cmp to_try q ≡ true = subst (λ z. contains place_cmp to_try z ≡ true) one there in
-    let bad = sym is ∙ out in cc)
+-- What is not known of any pair may change.
+pub known_alike : (s s' : Shortages) (content : Content) → s'.is_known ≡ s.is_known → s'.to_try ≡ s.to_try → s'.waits ≡ s.waits → s'.brought ≡ s.brought → KnowsShort s content → KnowsShort s' content
+known_alike s s' content known to_try waits brought knows = record {
+  each = λ at.
+      let here = knows.each at in
+      let tried : is_to_try s'.to_try at ≡ is_to_try s.to_try at = ap (λ z. is_to_try z at) to_try in
+      let wait : (want : Want) (amount : ℕ) → is_waiting s'.waits want amount at ≡ is_waiting s.waits want amount at = λ want amount. ap (λ z. is_waiting z want amount at) waits in
+      record {
+        noted = λ is pair out. let was = here.noted (sym known ∙ is) pair (sym tried ∙ out) in record { short = was.short; waiting = record { each = λ want amount wanted. wait want amount ∙ was.waiting.each want amount wanted } };
+        tried = λ is. here.tried (sym tried ∙ is);
+        waits = λ want amount is. let was = here.waits want amount (sym (wait want amount) ∙ is) in record { short = was.short; day = was.day; wanted = was.wanted; out = tried ∙ was.out };
+        uncovered = λ want amount is unbrought. here.uncovered want amount (sym (wait want amount) ∙ is) (ap (λ z. contains want_cmp z want) (sym brought) ∙ unbrought);
+      };
+}
 
--- a place is to be tried, and waits for something no more
-pub wakes_place : (old : Shortages) (to_try : BTreeSet (ℕ × ℕ)) (waits : BTreeSet (Want × (ℕ × ℕ))) (want : Want) (at : ℕ × ℕ) → HoldsDue old.to_try to_try → contains place_cmp to_try at ≡ true
-    → ((q : Want × (ℕ × ℕ)) → is_eq (placed_cmp want_cmp (want, at) q) ≡ false → contains (placed_cmp want_cmp) waits q ≡ contains (placed_cmp want_cmp) old.waits q)
-    → ((q : Want × (ℕ × ℕ)) → contains (placed_cmp want_cmp) old.waits q ≡ false → contains (placed_cmp want_cmp) waits q ≡ false)
-    → Wakes old (record old { to_try = to_try; waits = waits })
-wakes_place old to_try waits want at all there others fewer = record {
-  kept = λ content knows. record {
-    each = λ known p pair out.
-        let was = knows.each known p pair (still_out old.to_try to_try (p.day, p.number) all out) in
-        let apart = apart_from to_try at (p.day, p.number) there out in
-        record {
-          short = was.short;
-          waiting = record { each = λ other is. others (other, (p.day, p.number)) (other_place want other at (p.day, p.number) apart) ∙ was.waiting.each other is };
-        };
+-- Those that are left wait for more than there is, or for as much as there is less than.
+
+pub more_than : (waits : Waits) (want : Want) (most found : ℕ) → most < found → ((n : ℕ) (at : ℕ × ℕ) → is_waiting waits want n at ≡ true → found ≤ n) → (amount : ℕ) (at : ℕ × ℕ) → is_waiting waits want amount at ≡ true → most < amount
+more_than waits want most found less least amount at is = let more = least amount at is in omega arith
+
+pub none_left : (waits : Waits) (want : Want) (most : ℕ) → ((n : ℕ) (at : ℕ × ℕ) → is_waiting waits want n at ≡ false) → (amount : ℕ) (at : ℕ × ℕ) → is_waiting waits want amount at ≡ true → most < amount
+none_left waits want most none amount at is = let bad = sym is ∙ none amount at in absurd (cc)
+
+pub no_more_than : (waits : Waits) (want : Want) (most : ℕ) → ((n : ℕ) (at : ℕ × ℕ) → most < n → is_waiting waits want n at ≡ false) → (amount : ℕ) (at : ℕ × ℕ) → is_waiting waits want amount at ≡ true → amount ≤ most
+no_more_than waits want most none amount at is = elim (cases_lt most amount) [ inl lt ↦ (let bad = sym is ∙ none amount at lt in absurd (cc)) | inr ge ↦ ge ]
+
+-- All matched pairs are to be tried.
+
+pub nothing_touched : (touched : List ℕ) → length touched ≡ 0 → touched ≡ []
+nothing_touched [] e = refl
+nothing_touched (n ∷ touched) e = absurd (omega arith)
+
+pub learned : (s s' : Shortages) (matched : BTreeSet (ℕ × ℕ)) (touched : List ℕ) (content : Content) → s.is_known ≡ false → s'.waits ≡ s.waits → ((q : ℕ × ℕ) → is_to_try s'.to_try q ≡ contains place_cmp matched q)
+    → touched ≡ [] → HasDue matched content → AreMatched matched content touched → KnowsShort s' content
+learned s s' matched touched content unknown waits all none due only = record {
+  each = λ at.
+      let none_waits : (want : Want) (amount : ℕ) → is_waiting s'.waits want amount at ≡ false = λ want amount. rw (waits, s.none_waits unknown) refl in
+      record {
+        noted = λ known pair out. let bad = sym (all at ∙ due.each (place_of at) pair) ∙ out in absurd (cc);
+        tried = λ is. only.each at (sym (all at) ∙ is) (rw none refl);
+        waits = λ want amount is. let bad = sym is ∙ none_waits want amount in absurd (cc);
+        uncovered = λ want amount is unbrought. let bad = sym is ∙ none_waits want amount in absurd (cc);
+      };
+}
+
+-- A place that is put in, and one that is taken out.
+
+pub puts_in : (s s' : Shortages) (here : ℕ × ℕ) → (s'.is_known ≡ true → s.is_known ≡ true) → s'.waits ≡ s.waits → s'.brought ≡ s.brought → is_to_try s'.to_try here ≡ true
+    → ((q : ℕ × ℕ) → is_eq (place_cmp here q) ≡ false → is_to_try s'.to_try q ≡ is_to_try s.to_try q) → PutsIn here s s'
+puts_in s s' here known waits brought there others = record {
+  keeps = record {
+    known = known;
+    others = λ at apart. record { to_try = others at apart; waits = λ want amount. ap (λ z. is_waiting z want amount at) waits };
+    brought = λ want is. subst (λ z. contains want_cmp z want ≡ true) (sym brought) is;
   };
-  fewer = λ other none. record { each = λ q. fewer (other, q) (none.each q) };
+  there = there;
+  waits = λ want amount. ap (λ z. is_waiting z want amount here) waits;
 }
 
-pub wakes_both : (one two three : Shortages) → Wakes one two → Wakes two three → Wakes one three
-wakes_both one two three first second = record {
-  kept = λ content knows. second.kept content (first.kept content knows);
-  fewer = λ want none. second.fewer want (first.fewer want none);
+pub put_at : (s s' : Shortages) (number d e : ℕ) → d ≡ e → PutsIn (d, number) s s' → PutsIn (e, number) s s'
+put_at s s' number d e same puts = subst (λ z. PutsIn (z, number) s s') same puts
+
+pub day_of_later : (history : List Entry) (n : ℕ) (day : Day) (later : Instructed) → Some day ≡ option_map (λ i. i.instruction.day) (instruction_at history n) → instruction_at history n ≡ Some later → day ≡ later.instruction.day
+day_of_later history n day later is at = let both : Some day ≡ Some later.instruction.day = is ∙ ap (option_map (λ i. i.instruction.day)) at in cc
+
+pub takes_out : (s s' : Shortages) (t : Transfer) (here : ℕ × ℕ) (mid : Waits) → (s'.is_known ≡ true → s.is_known ≡ true) → s'.brought ≡ s.brought → is_to_try s'.to_try here ≡ false
+    → ((q : ℕ × ℕ) → is_eq (place_cmp here q) ≡ false → is_to_try s'.to_try q ≡ is_to_try s.to_try q) → KeepsOtherWaits here s.waits mid → KeepsOtherWaits here mid s'.waits → FewerWait s.waits mid → FewerWait mid s'.waits
+    → ((want : Want) (amount : ℕ) → IsWantOf t Securities want amount → is_waiting mid want amount here ≡ false) → ((want : Want) (amount : ℕ) → IsWantOf t Money want amount → is_waiting s'.waits want amount here ≡ false) → TakesOut t here s s'
+takes_out s s' t here mid known brought out others first second fewer_mid fewer_new securities money = record {
+  keeps = record {
+    known = known;
+    others = λ at apart. record { to_try = others at apart; waits = λ want amount. second.each want amount at apart ∙ first.each want amount at apart };
+    brought = λ want is. subst (λ z. contains want_cmp z want ≡ true) (sym brought) is;
+  };
+  out = out;
+  gone = record { fewer = λ want amount is. fewer_mid.each want amount here (fewer_new.each want amount here is); none = λ was. by_lack };
+}
+  where
+    by_lack : (lack : Lack) (want : Want) (amount : ℕ) → IsWantOf t lack want amount → is_waiting s'.waits want amount here ≡ false
+    by_lack Securities want amount is = false_from_ne_true (is_waiting s'.waits want amount here) (λ there. let bad = sym (fewer_new.each want amount here there) ∙ securities want amount is in cc)
+    by_lack Money want amount is = money want amount is
+
+-- What a pair lacks that was tried: it was known to stay short, or it is tried again, or it waits.
+
+pub lacks_otherwise : (s mid out s' : Shortages) (t : Transfer) (lack : Lack) (here : ℕ × ℕ) → (s'.is_known ≡ true → s.is_known ≡ true) → ((q : ℕ × ℕ) → is_to_try mid.to_try q ≡ is_to_try s.to_try q) → mid.waits ≡ s.waits → mid.brought ≡ s.brought
+    → TakesOut t here mid out → s'.waits ≡ out.waits → s'.brought ≡ out.brought → is_to_try s'.to_try here ≡ true → ((q : ℕ × ℕ) → is_eq (place_cmp here q) ≡ false → is_to_try s'.to_try q ≡ is_to_try out.to_try q) → IsNotedLack t lack here s s'
+lacks_otherwise s mid out s' t lack here known same waits brought taken then_waits then_brought there others = record {
+  keeps = record {
+    known = known;
+    others = λ at apart.
+        let kept = taken.keeps.others at apart in
+        record {
+          to_try = others at apart ∙ kept.to_try ∙ same at;
+          waits = λ want amount. ap (λ z. is_waiting z want amount at) then_waits ∙ kept.waits want amount ∙ ap (λ z. is_waiting z want amount at) waits;
+        };
+    brought = λ want is. subst (λ z. contains want_cmp z want ≡ true) (sym then_brought) (taken.keeps.brought want (subst (λ z. contains want_cmp z want ≡ true) (sym brought) is));
+  };
+  stays = λ is. record {
+    fewer = λ want amount waiting. subst (λ z. is_waiting z want amount here ≡ true) waits (taken.gone.fewer want amount (subst (λ z. is_waiting z want amount here ≡ true) then_waits waiting));
+    none = λ was its want amount wanted. ap (λ z. is_waiting z want amount here) then_waits ∙ taken.gone.none (same here ∙ was) its want amount wanted;
+  };
+  waiting = λ is. let bad = sym there ∙ is in absurd (cc);
+  only = λ is. let bad = sym there ∙ is in absurd (cc);
+  was = λ is. let bad = sym there ∙ is in absurd (cc);
 }
 
--- a place is taken out
-pub takes_out : (old : Shortages) (to_try : BTreeSet (ℕ × ℕ)) (waits : BTreeSet (Want × (ℕ × ℕ))) (at : ℕ × ℕ)
-    → ((q : ℕ × ℕ) → is_eq (place_cmp at q) ≡ false → contains place_cmp to_try q ≡ contains place_cmp old.to_try q) → KeepsOtherWaits at.1 old.waits waits
-    → KeepsOthers at.1 old (record old { to_try = to_try; waits = waits })
-takes_out old to_try waits at others kept = record {
-  known = λ known. known;
-  to_try = λ q apart. others q (other_due at q apart);
-  waits = kept;
+pub lacks_still : (s s' : Shortages) (t : Transfer) (lack : Lack) (here : ℕ × ℕ) → (s'.is_known ≡ true → s.is_known ≡ true) → ((q : ℕ × ℕ) → is_to_try s'.to_try q ≡ is_to_try s.to_try q) → s'.waits ≡ s.waits → s'.brought ≡ s.brought
+    → is_to_try s.to_try here ≡ true → IsNotedLack t lack here s s'
+lacks_still s s' t lack here known same waits brought there = record {
+  keeps = record {
+    known = known;
+    others = λ at apart. record { to_try = same at; waits = λ want amount. ap (λ z. is_waiting z want amount at) waits };
+    brought = λ want is. subst (λ z. contains want_cmp z want ≡ true) (sym brought) is;
+  };
+  stays = λ is. record {
+    fewer = λ want amount waiting. subst (λ z. is_waiting z want amount here ≡ true) waits waiting;
+    none = λ was. let bad = sym there ∙ was in absurd (cc);
+  };
+  waiting = λ is. let bad = sym (same here ∙ there) ∙ is in absurd (cc);
+  only = λ is. let bad = sym (same here ∙ there) ∙ is in absurd (cc);
+  was = λ is. let bad = sym (same here ∙ there) ∙ is in absurd (cc);
 }
+
+pub lacks_and_waits : (s s' : Shortages) (mid : BTreeMap (ℕ × ℕ) ℕ) (t : Transfer) (lack : Lack) (here : ℕ × ℕ) → (s'.is_known ≡ true → s.is_known ≡ true) → ((q : ℕ × ℕ) → is_to_try mid q ≡ is_to_try s.to_try q) → s'.brought ≡ s.brought
+    → is_to_try s.to_try here ≡ true → is_to_try s'.to_try here ≡ false → ((q : ℕ × ℕ) → is_eq (place_cmp here q) ≡ false → is_to_try s'.to_try q ≡ is_to_try mid q)
+    → KeepsOtherWaits here s.waits s'.waits → AreWaiting s'.waits t lack here → ((want : Want) (amount : ℕ) → is_waiting s'.waits want amount here ≡ true → is_waiting s.waits want amount here ≡ false → IsWantOf t lack want amount) → IsNotedLack t lack here s s'
+lacks_and_waits s s' mid t lack here known same brought was out others other_waits waiting only = record {
+  keeps = record {
+    known = known;
+    others = λ at apart. record { to_try = others at apart ∙ same at; waits = λ want amount. other_waits.each want amount at apart };
+    brought = λ want is. subst (λ z. contains want_cmp z want ≡ true) (sym brought) is;
+  };
+  stays = λ is. let bad = sym is ∙ out in absurd (cc);
+  waiting = λ is. waiting;
+  only = λ is. only;
+  was = λ is. was;
+}
+
+-- A pair that settled, once what it brings was put down.
+pub settles_and_brings : (s out one two s' : Shortages) (t : Transfer) (here : ℕ × ℕ) → TakesOut t here s out → Brings out one → IsBrought one (more_taken t) → Brings one two → IsBrought two (less_given t) → Brings two s'
+    → IsBroughtIfAny s' (cash_want t.deliverer t.cash) → IsNotedSettled t here s s'
+settles_and_brings s out one two s' t here taken first more second less third paid =
+    let to_try : s'.to_try ≡ out.to_try = third.to_try ∙ second.to_try ∙ first.to_try in
+    let waits : s'.waits ≡ out.waits = third.waits ∙ second.waits ∙ first.waits in
+    record {
+      taken = record {
+        keeps = record {
+          known = λ is. taken.keeps.known (sym (third.known ∙ second.known ∙ first.known) ∙ is);
+          others = λ at apart.
+              let kept = taken.keeps.others at apart in
+              record { to_try = ap (λ z. is_to_try z at) to_try ∙ kept.to_try; waits = λ want amount. ap (λ z. is_waiting z want amount at) waits ∙ kept.waits want amount };
+          brought = λ want is. third.more want (second.more want (first.more want (taken.keeps.brought want is)));
+        };
+        out = ap (λ z. is_to_try z here) to_try ∙ taken.out;
+        gone = record {
+          fewer = λ want amount is. taken.gone.fewer want amount (subst (λ z. is_waiting z want amount here ≡ true) waits is);
+          none = λ was lack want amount wanted. ap (λ z. is_waiting z want amount here) waits ∙ taken.gone.none was lack want amount wanted;
+        };
+      };
+      more_taken = record { each = λ amount at is. third.more (more_taken t) (second.more (more_taken t) (more.each amount at (subst (λ z. is_waiting z (more_taken t) amount at ≡ true) (third.waits ∙ second.waits) is))) };
+      less_given = record { each = λ amount at is. third.more (less_given t) (less.each amount at (subst (λ z. is_waiting z (less_given t) amount at ≡ true) third.waits is)) };
+      more_paid = paid;
+    }
+
+pub on_ok : {X E : Type 0} {P Q : Type 0} (r : Result X E) → (P → Q) → OnOk r P → OnOk r Q
+on_ok (Ok x) goes p = goes p
+on_ok (Err e) goes p = tt
 
 -- in a register without entries no pair is matched
 none_before_first : (n : ℕ) {i : Instructed} → instruction_at [] n ≡ Some i → ⊥
 none_before_first zero e = cc
 none_before_first (suc n) e = cc
 
-pub none_in_none : (s : Shortages) → KnowsShort s empty_content
-none_in_none s = record { each = λ known p pair out. absurd (none_before_first p.number pair.is_later) }
+pub none_in_none : (s : Shortages) → s.to_try.entries ≡ [] → s.waits.entries ≡ [] → KnowsShort s empty_content
+none_in_none s none_tried none_waits = record {
+  each = λ at.
+      let tried : is_to_try s.to_try at ≡ false = rw none_tried refl in
+      let waits : (want : Want) (amount : ℕ) → is_waiting s.waits want amount at ≡ false = λ want amount. rw none_waits refl in
+      record {
+        noted = λ known pair out. absurd (none_before_first at.1 pair.is_later);
+        tried = λ is. let bad = sym is ∙ tried in absurd (cc);
+        waits = λ want amount is. let bad = sym is ∙ waits want amount in absurd (cc);
+        uncovered = λ want amount is unbrought. let bad = sym is ∙ waits want amount in absurd (cc);
+      };
+}

@@ -8,13 +8,13 @@ use crate::ahead::Ahead;
 use crate::entries::known::Known;
 use crate::indexed_register::IndexedRegister;
 use crate::noting::{note_entry, note_message, note_pair, touch_both, touch_settled};
-use crate::pairs::due_places::{first_due, first_to_try, pairs_left};
+use crate::pairs::due_places::{first_due, first_to_try};
 use crate::pairs::opposites::first_open_opposite;
 use crate::sent::heading::heading_of;
 use crate::sent::messages::Messages;
 use crate::short::shortages::Shortages;
 use crate::sums::Sums;
-use crate::tidying::{forget_all, forget_messages, tidy_all, tidy_new};
+use crate::tidying::{forget_all, forget_messages, tidy_all, tidy_new, tidy_settled};
 use desk_codes::{AccountId, Bic, Ccy, Day, Isin, Reference};
 use desk_lists::ListRegister;
 use desk_msg::{Instruction, Kind};
@@ -23,9 +23,23 @@ use desk_rules::{Entry, Instructed, Place, Reply, Sender, Sent, Standing};
 use std::alloc::Global;
 use std::collections::BTreeSet;
 
+/// How many tries of a pair in vain cost as much as to note that it is short, and to let it be tried again.
+const TRIES_OF_A_NOTE: u64 = 8;
+
 impl IndexedRegister {
     /// An empty register for at most `limit` entries, which are `MOST_ENTRIES` at most.
     pub fn new(alloc: Global, limit: u64) -> IndexedRegister
+        requires { limit ≤ MOST_ENTRIES }
+        ensures empty { (view_of_index result).content ≡ empty_content }
+        ensures limit { (view_of_index result).room ≡ limit }
+        ensures stage { (view_of_index result).stage ≡ Stage.Idle }
+    {
+        IndexedRegister::noting_after(alloc, limit, TRIES_OF_A_NOTE)
+    }
+
+    /// An empty register as `new` makes it, that notes of a pair that it is short once so many tries of it were in vain. Where
+    /// a try costs more than in memory, as one that tables repeat, that is fewer.
+    pub fn noting_after(alloc: Global, limit: u64, tries_of_a_note: u64) -> IndexedRegister
         requires { limit ≤ MOST_ENTRIES }
         ensures empty { (view_of_index result).content ≡ empty_content }
         ensures limit { (view_of_index result).room ≡ limit }
@@ -40,7 +54,7 @@ impl IndexedRegister {
             touched: Vec::new(alloc),
             messages: Messages::new(alloc),
             told: Vec::new(alloc),
-            shortages: Shortages::new(alloc),
+            shortages: Shortages::new(alloc, tries_of_a_note),
             ahead: Ahead::nothing(),
             sums: Sums::nothing(),
         }
@@ -88,10 +102,15 @@ impl Register for IndexedRegister {
         self.sums.clear();
         self.held.back(alloc)?;
         let count = self.held.entry_count();
-        forget_all(&mut self.known, &mut self.noted, count);
+        forget_all(&mut self.known, &mut self.matched, &mut self.noted, count);
         let sent = self.held.message_count();
         forget_messages(&mut self.messages, &mut self.told, sent);
-        self.touched.truncate(0);
+        tidy_all(
+            &self.held,
+            &mut self.unmatched,
+            &mut self.matched,
+            &mut self.touched,
+        );
         self.shortages.forget();
         Ok(())
     }
@@ -200,22 +219,21 @@ impl Register for IndexedRegister {
         if let Stage::Failed = self.held.stage() {
             return Ok(None);
         }
-        self.shortages.learn(&self.matched, &self.touched);
+        self.shortages
+            .catch_up(&self.held, &self.matched, &self.touched);
         if !self.shortages.is_known {
             return Ok(first_due(&self.held, &self.matched, day.yyyymmdd(), &place));
         }
-        let pairs = pairs_left(&self.matched, &self.touched);
-        self.shortages.begin_pass(&place, pairs);
-        Ok(first_to_try(&self.held, &self.shortages, day.yyyymmdd(), &place))
+        Ok(first_to_try(&self.shortages, day.yyyymmdd(), &place))
     }
 
     fn stays_short(&mut self, _alloc: Global, place: Place) -> Result<bool, Fault> {
         if let Stage::Failed = self.held.stage() {
             return Ok(false);
         }
-        self.shortages.learn(&self.matched, &self.touched);
-        let pairs = pairs_left(&self.matched, &self.touched);
-        Ok(self.shortages.saves_try(&place, pairs))
+        self.shortages
+            .catch_up(&self.held, &self.matched, &self.touched);
+        Ok(self.shortages.passes_over(&place))
     }
 
     fn security_after(
@@ -283,8 +301,7 @@ impl Register for IndexedRegister {
         {
             return Err(self.held.fail());
         }
-        let pairs = pairs_left(&self.matched, &self.touched);
-        self.shortages.note_made(&self.held, later, pairs);
+        self.shortages.note_made(&self.held, later);
         match self.held.pair(alloc, earlier, later) {
             Ok(()) => {
                 let noted = noted_count(&self.noted);
@@ -305,24 +322,23 @@ impl Register for IndexedRegister {
     fn settle_pair(&mut self, alloc: Global, number: u64, day: Day) -> Result<Outcome, Fault> {
         self.ahead.clear();
         self.sums.clear();
-        let mate = self.held.standing_at(number).mate.unwrap_or(number);
         if self.touched.reserve(2).is_err() {
             return Err(self.held.fail());
         }
-        match self.held.settle_pair(alloc, number, day) {
-            Ok(outcome) => {
+        match self.held.try_pair(number, day) {
+            Ok(tried) => {
                 let noted = noted_count(&self.noted);
-                tidy_new(
+                tidy_settled(
                     &self.held,
                     &mut self.unmatched,
                     &mut self.matched,
                     noted,
-                    mate,
                     number,
+                    &tried,
                 );
-                touch_settled(&mut self.touched, mate, number, outcome);
-                self.shortages.note_tried(&self.held, mate, number, outcome);
-                Ok(outcome)
+                touch_settled(&mut self.touched, tried.mate, number, tried.outcome);
+                self.shortages.note_tried(alloc, number, &tried);
+                Ok(tried.outcome)
             }
             Err(fault) => Err(fault),
         }

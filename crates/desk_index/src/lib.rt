@@ -6,11 +6,11 @@
 //! securities, currencies and runs. `opposites` finds unmatched instructions by what opposite ones have in common
 //! (`match_key`), and `due_places` matched pairs by their days. `messages` finds what was sent, by
 //! the headings of the messages (`heading`): `addressed` what was sent to a participant, and `confirmations` what
-//! confirms an instruction. `shortages` knows which matched pairs stay short, so that a run need not try them, and `waiting`
-//! what these wait for (`wants`), by what the two sides of a pair move (`sides`). `ahead` keeps rows
+//! confirms an instruction. `short` knows which matched pairs stay short, so that a run need not try them: `shortages` is what
+//! is kept of them and `knowing` its calls, `waits` has for how much of what pairs wait, and `wants` what that may be. `ahead` keeps rows
 //! that a statement asks for next, and `sums` those that the totals do (`next_securities`), until something changes. `noting` puts
 //! into the look-ups what a call adds, `tidying` takes out what a call or `back` ends. `first_numbers`, `numbers_at`,
-//! `numbers_by_key`, `places_by_key` and `ordered` have the maps and sets beneath, and `tail_number` what keys are compared by
+//! `numbers_by_key`, `counts` and `ordered` have the maps and sets beneath, and `tail_number` what keys are compared by
 //! first. Begin with specs/Indexed.antt, then specs/Shortages.antt and `calls.rt`.
 #![tactic(auto)]
 

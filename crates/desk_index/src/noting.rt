@@ -1,13 +1,13 @@
 //! What an entry, a pair, and a message add to the look-ups.
-ghost use Rattle.std.specs.Prelude.{◌≡◌, ◌+◌, ◌≤◌, ◌++◌, ◌∷◌, [], List, length, true, OnOk, OnErr, Some};
+ghost use Rattle.std.specs.Prelude.{◌≡◌, ◌≢◌, ◌+◌, ◌≤◌, ◌++◌, ◌∷◌, [], ℕ, List, length, true, OnOk, OnErr, Some};
 ghost use Rattle.std.specs.BTreeSet.{contains};
 ghost use Rattle.std.specs.Vec.{vec_capacity, vec_len};
 ghost use Rattle.desk_rules.specs.declared.history.entry.Entry.{Entry as EntryValue};
 ghost use Rattle.desk_rules.specs.History.{instructed, instruction_at};
-ghost use Rattle.desk_rules.specs.Content.{history_of};
+ghost use Rattle.desk_rules.specs.Content.{Content, history_of};
 ghost use Rattle.desk_lists.specs.ListView.{view_of_lists};
 ghost use Rattle.desk_index.specs.declared.sent.heading.Heading.{Heading as HeadingValue};
-ghost use Rattle.desk_index.specs.DuePlaces.{HoldsDue, PlacedAt, place_cmp};
+ghost use Rattle.desk_index.specs.DuePlaces.{AreMatched, ArePlaced, HoldsDue, PlacedAt, place_cmp};
 ghost use Rattle.desk_index.specs.Known.{AreKnown};
 ghost use Rattle.desk_index.specs.Messages.{AreMessagesOf};
 ghost use Rattle.desk_index.specs.Open.{HoldsOpen, OpensAt};
@@ -51,14 +51,6 @@ fn open_instruction(
     put_key(numbers, (key_of(i), number))
 }
 
-/// Opens a place.
-fn open_place(places: &mut BTreeSet<(u64, u64)>, day: u64, number: u64) -> Result<(), AllocError>
-    ensures all { HoldsDue places.old places.new }
-    ensures opened { OnOk result (contains place_cmp places.new (day, number) ≡ true) }
-{
-    put_key(places, (day, number))
-}
-
 /// Notes an entry in all look-ups, and the entry itself.
 pub fn note_entry(
     known: &mut Known,
@@ -81,7 +73,7 @@ pub fn note_entry(
     Ok(())
 }
 
-/// Notes a pair by its place, and the numbers of its two instructions.
+/// Notes a pair by the numbers of its two instructions, and by its place.
 pub fn note_pair(
     held: &ListRegister,
     places: &mut BTreeSet<(u64, u64)>,
@@ -91,15 +83,18 @@ pub fn note_pair(
 ) -> Result<(), AllocError>
     ensures all { HoldsDue places.old places.new }
     ensures opened { OnOk result (PlacedAt places.new (instruction_at (history_of (view_of_lists held.now).content) later) later) }
+    ensures placed { ArePlaced places.old (history_of (view_of_lists held.now).content) → ArePlaced places.new (history_of (view_of_lists held.now).content) }
     ensures touched { OnOk result (touched.new.items ≡ touched.old.items ++ earlier ∷ later ∷ []) }
+    ensures kept { (content : Content) → AreMatched places.old content touched.old.items → AreMatched places.new content touched.new.items }
 {
-    place_instruction(held, places, later)?;
-    touch_both(touched, earlier, later)
+    touch_both(touched, earlier, later)?;
+    place_instruction(held, places, later)
 }
 
 /// Notes that two instructions stand otherwise.
 pub fn touch_both(touched: &mut Vec<u64>, earlier: u64, later: u64) -> Result<(), AllocError>
-    ensures { OnOk result (touched.new.items ≡ touched.old.items ++ earlier ∷ later ∷ []) }
+    ensures ok { OnOk result (touched.new.items ≡ touched.old.items ++ earlier ∷ later ∷ []) }
+    ensures err { OnErr result (touched.new.items ≡ touched.old.items) }
 {
     touched.reserve(2)?;
     push_both(touched, earlier, later);
@@ -126,16 +121,18 @@ fn push_both(touched: &mut Vec<u64>, earlier: u64, later: u64)
 }
 
 /// Notes a pair by its place, where its number is an instruction's.
-pub fn place_instruction(
+fn place_instruction(
     held: &ListRegister,
     places: &mut BTreeSet<(u64, u64)>,
     number: u64,
 ) -> Result<(), AllocError>
     ensures all { HoldsDue places.old places.new }
     ensures opened { OnOk result (PlacedAt places.new (instruction_at (history_of (view_of_lists held.now).content) number) number) }
+    ensures placed { ArePlaced places.old (history_of (view_of_lists held.now).content) → ArePlaced places.new (history_of (view_of_lists held.now).content) }
+    ensures others { (q : ℕ × ℕ) → q.1 ≢ number → contains place_cmp places.new q ≡ contains place_cmp places.old q }
 {
-    match held.instruction_at(number) {
-        Some(i) => open_place(places, i.instruction.day.yyyymmdd(), number),
+    match held.day_of(number) {
+        Some(day) => put_key(places, (day.yyyymmdd(), number)),
         None => Ok(()),
     }
 }

@@ -1,10 +1,12 @@
 //! What is taken out of the look-ups: keys and messages at `back`, and what was matched or settled. No memory is taken.
-ghost use Rattle.std.specs.Prelude.{◌≡◌, ◌+◌, ◌++◌, [], List, length, true, false, ◌<◌, ◌≤◌, ◌^◌};
+ghost use Rattle.std.specs.Prelude.{◌≡◌, ℕ, ◌+◌, ◌++◌, [], ◌∷◌, List, length, true, false, ◌<◌, ◌≤◌, ◌^◌};
+ghost use Rattle.std.specs.BTreeSet.{contains};
 ghost use Rattle.desk_rules.specs.declared.history.entry.Entry.{Entry as EntryValue};
-ghost use Rattle.desk_rules.specs.Content.{Content};
+ghost use Rattle.desk_rules.specs.Content.{Content, history_of};
+ghost use Rattle.desk_register.specs.Looked.{IsMatchedPair};
 ghost use Rattle.desk_lists.specs.ListView.{view_of_lists};
 ghost use Rattle.desk_index.specs.declared.sent.heading.Heading.{Heading as HeadingValue};
-ghost use Rattle.desk_index.specs.DuePlaces.{HasDue};
+ghost use Rattle.desk_index.specs.DuePlaces.{AreMatched, ArePlaced, FewerDue, HasDue, place_cmp, place_of};
 ghost use Rattle.desk_index.specs.Indexed.{HoldsOn};
 ghost use Rattle.desk_index.specs.Known.{AreKnown};
 ghost use Rattle.desk_index.specs.Messages.{AreMessagesOf};
@@ -15,18 +17,40 @@ use crate::entries::known::Known;
 use crate::pairs::match_key::{MatchKey, key_of};
 use crate::sent::heading::Heading;
 use crate::sent::messages::Messages;
-use desk_lists::ListRegister;
+use desk_lists::{ListRegister, Tried};
+use desk_register::Outcome;
 use desk_rules::{Entry, State};
 use std::collections::BTreeSet;
 
-/// Forgets all entries that were noted, behind so many others.
-pub fn forget_all(known: &mut Known, noted: &mut Vec<Entry>, count: u64)
+/// Forgets all entries that were noted, behind so many others, and the places of pairs with their numbers.
+pub fn forget_all(
+    known: &mut Known,
+    places: &mut BTreeSet<(u64, u64)>,
+    noted: &mut Vec<Entry>,
+    count: u64,
+)
     requires { count < 2 ^ 63 }
     ensures forgot { (history : List EntryValue) → AreKnown known.old (history ++ noted.old.items) → count ≡ length history → AreKnown known.new history }
     ensures none { noted.new.items ≡ [] }
+    ensures due { (mark : Content) → count ≡ length mark.register → HasDue places.old mark → HasDue places.new mark }
+    ensures placed { (history : List EntryValue) → count ≡ length history → ArePlaced places.old (history ++ noted.old.items) → ArePlaced places.new history }
+    ensures fewer { FewerDue places.old places.new }
 {
     while let Some(entry) = noted.pop() {
-        known.forget(&entry, count + noted.len() as u64 + 1);
+        let number = count + noted.len() as u64 + 1;
+        known.forget(&entry, number);
+        forget_place(places, &entry, number);
+    }
+}
+
+/// Takes out the place of a pair whose later instruction is an entry of this number.
+fn forget_place(places: &mut BTreeSet<(u64, u64)>, entry: &Entry, number: u64)
+    ensures due { (mark : Content) → length mark.register < number → HasDue places.old mark → HasDue places.new mark }
+    ensures placed { (history : List EntryValue) → number ≡ length history + 1 → ArePlaced places.old (history ++ entry.now ∷ []) → ArePlaced places.new history }
+    ensures fewer { FewerDue places.old places.new }
+{
+    if let Entry::Instruct { instruction, .. } = entry {
+        drop_key(places, (instruction.day.yyyymmdd(), number));
     }
 }
 
@@ -54,16 +78,18 @@ fn tidy_open(held: &ListRegister, numbers: &mut BTreeSet<(MatchKey, u64)>, numbe
     }
 }
 
-/// Takes out a pair that is settled.
+/// Takes out a pair that is matched no more.
 fn tidy_due(held: &ListRegister, places: &mut BTreeSet<(u64, u64)>, number: u64)
     ensures now { HasDue places.old (view_of_lists held.now).content → HasDue places.new (view_of_lists held.now).content }
     ensures others { (mark : Content) → length mark.register < number → HasDue places.old mark → HasDue places.new mark }
+    ensures fewer { FewerDue places.old places.new }
+    ensures only { ArePlaced places.old (history_of (view_of_lists held.now).content) → (q : ℕ × ℕ) → q.1 ≡ number → contains place_cmp places.new q ≡ true → IsMatchedPair (view_of_lists held.now).content (place_of q) }
 {
-    if let State::Matched(_) = held.standing_at(number).state {
+    if held.due_place(number, u64::MAX, &None).is_some() {
         return;
     }
-    if let Some(i) = held.instruction_at(number) {
-        drop_key(places, (i.instruction.day.yyyymmdd(), number));
+    if let Some(day) = held.day_of(number) {
+        drop_key(places, (day.yyyymmdd(), number));
     }
 }
 
@@ -92,7 +118,8 @@ fn tidy_new_open(
 
 /// Takes out a pair that is settled, where it was made since `begin`.
 fn tidy_new_due(held: &ListRegister, places: &mut BTreeSet<(u64, u64)>, noted: usize, number: u64)
-    ensures { HoldsOn (HasDue places.old) (HasDue places.new) (view_of_lists held.now).content noted }
+    ensures due { HoldsOn (HasDue places.old) (HasDue places.new) (view_of_lists held.now).content noted }
+    ensures fewer { FewerDue places.old places.new }
 {
     if is_new(held, noted, number) {
         tidy_due(held, places, number);
@@ -110,13 +137,32 @@ pub fn tidy_new(
 )
     ensures unmatched { HoldsOn (HasOpen numbers.old) (HasOpen numbers.new) (view_of_lists held.now).content noted }
     ensures matched { HoldsOn (HasDue places.old) (HasDue places.new) (view_of_lists held.now).content noted }
+    ensures fewer { FewerDue places.old places.new }
 {
     tidy_new_open(held, numbers, noted, earlier);
     tidy_new_open(held, numbers, noted, later);
     tidy_new_due(held, places, noted, later);
 }
 
-/// Takes out what was matched and settled.
+/// Takes out what is settled of a pair that was tried, where it was made since `begin`.
+pub fn tidy_settled(
+    held: &ListRegister,
+    numbers: &mut BTreeSet<(MatchKey, u64)>,
+    places: &mut BTreeSet<(u64, u64)>,
+    noted: usize,
+    number: u64,
+    tried: &Tried,
+)
+    ensures unmatched { HoldsOn (HasOpen numbers.old) (HasOpen numbers.new) (view_of_lists held.now).content noted }
+    ensures matched { HoldsOn (HasDue places.old) (HasDue places.new) (view_of_lists held.now).content noted }
+    ensures fewer { FewerDue places.old places.new }
+{
+    if let Outcome::Settled = tried.outcome {
+        tidy_new(held, numbers, places, noted, tried.mate, number);
+    }
+}
+
+/// Takes out what is unmatched no more, and matched no more, of what came to stand otherwise.
 pub fn tidy_all(
     held: &ListRegister,
     numbers: &mut BTreeSet<(MatchKey, u64)>,
@@ -126,6 +172,8 @@ pub fn tidy_all(
     ensures unmatched { HasOpen numbers.old (view_of_lists held.now).content → HasOpen numbers.new (view_of_lists held.now).content }
     ensures matched { HasDue places.old (view_of_lists held.now).content → HasDue places.new (view_of_lists held.now).content }
     ensures none { touched.new.items ≡ [] }
+    ensures placed { ArePlaced places.old (history_of (view_of_lists held.now).content) → ArePlaced places.new (history_of (view_of_lists held.now).content) }
+    ensures only { ArePlaced places.old (history_of (view_of_lists held.now).content) → AreMatched places.old (view_of_lists held.now).content touched.old.items → AreMatched places.new (view_of_lists held.now).content [] }
 {
     while let Some(number) = touched.pop() {
         tidy_open(held, numbers, number);

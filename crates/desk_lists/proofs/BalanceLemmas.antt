@@ -55,7 +55,7 @@ by_ccy P chf eur gbp jpy kwd usd Jpy = jpy
 by_ccy P chf eur gbp jpy kwd usd Kwd = kwd
 by_ccy P chf eur gbp jpy kwd usd Usd = usd
 
-tied_ccy : (a b : Ccy) → is_eq (ccy_cmp a b) ≡ same_ccy a b
+pub tied_ccy : (a b : Ccy) → is_eq (ccy_cmp a b) ≡ same_ccy a b
 tied_ccy a b =
     by_ccy (λ x. (y : Ccy) → is_eq (ccy_cmp x y) ≡ same_ccy x y)
     (by_ccy (λ y. is_eq (ccy_cmp Chf y) ≡ same_ccy Chf y) refl refl refl refl refl refl)

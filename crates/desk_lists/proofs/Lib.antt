@@ -1,5 +1,5 @@
 mod AppendLemmas
-mod BalanceLemmas
+pub mod BalanceLemmas
 mod BalancedLemmas
 mod FloorLemmas
 pub mod FollowLemmas

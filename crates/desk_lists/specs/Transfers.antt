@@ -1,11 +1,12 @@
--- What a pair moves between its two sides. Only private contracts and proofs speak of it.
-use Rattle.std.specs.Prelude.{◌≡◌, ℕ, ◌+◌, ◌<◌, ◌≤◌, ◌^◌, List}
+-- What a pair moves between its two sides.
+use Rattle.std.specs.Prelude.{◌≡◌, ℕ, ◌+◌, ◌<◌, ◌≤◌, ◌^◌, List, Some}
 use Rattle.desk_msg.specs.declared.instruction.Instruction.{Instruction}
 use Rattle.desk_msg.specs.declared.writing.status.Reason.TheVariants.{Lack, Money as LackOfMoney}
 use Rattle.desk_rules.specs.declared.history.entry.Instructed.{Instructed}
 use Rattle.desk_rules.specs.declared.history.pair.Lack.TheVariants.{Securities, Money as LacksMoney}
 use Rattle.desk_rules.specs.declared.history.standing.State.TheVariants.{Matched, Settled}
-use Rattle.desk_rules.specs.Content.{Content}
+use Rattle.desk_rules.specs.Content.{Content, history_of}
+use Rattle.desk_rules.specs.History.{instruction_at}
 use Rattle.desk_register.specs.declared.outcome.Outcome.{Outcome}
 use Rattle.desk_register.specs.declared.outcome.Outcome.TheVariants as outcomes
 use Rattle.desk_register.specs.declared.outcome.Outcome.TheVariants.{Lacks}
@@ -26,11 +27,17 @@ transfer_between from to terms = record {
   isin = terms.isin;
   quantity = terms.quantity;
   cash = terms.cash;
+  day = terms.day;
 }
 
 -- what a pair's two instructions move
 abbrev pub transfer_of : Instructed → Instructed → Transfer
 transfer_of earlier later = transfer_between (delivering_side earlier later) (receiving_side earlier later) later.instruction
+
+-- the pair of a number has this mate, and moves this
+pub record IsTransferAt (content : Content) (n mate : ℕ) (t : Transfer) : Type 0 where
+  pub has_mate : (content.standing n).mate ≡ Some mate
+  pub moves : (earlier later : Instructed) → instruction_at (history_of content) mate ≡ Some earlier → instruction_at (history_of content) n ≡ Some later → t ≡ transfer_of earlier later
 
 -- what is held and delivered can be counted on the receiver's account, and what is had and paid on the deliverer's balance
 pub record TransferFits (content : Content) (t : Transfer) : Type 0 where

@@ -1,7 +1,9 @@
 //! The calls of a register in plain lists.
-ghost use Rattle.std.specs.Prelude.{◌≡◌, ◌≤◌, ◌<◌, [], OnOk};
+ghost use Rattle.std.specs.Prelude.{◌≡◌, ◌≤◌, ◌<◌, [], IfOk, OnOk};
+ghost use Rattle.desk_codes.specs.Number.{number_of};
 ghost use Rattle.desk_lists.specs.ListView.{view_of_lists};
-ghost use Rattle.desk_register.specs.Changes.{CanAppend, appended, empty_content};
+ghost use Rattle.desk_lists.specs.Transfers.{IsTransferAt};
+ghost use Rattle.desk_register.specs.Changes.{CanAppend, CanSettle, TriesPair, appended, empty_content};
 ghost use Rattle.desk_register.specs.View.{IsChange, fallen};
 ghost use Rattle.desk_rules.specs.Content.{history_of};
 ghost use Rattle.desk_lists.specs.Named.{number_named};
@@ -13,6 +15,7 @@ use crate::changing::changes::{keep_all, undo_all};
 use crate::changing::requests::number_named;
 use crate::changing::settling::try_settle;
 use crate::changing::standings::{cancel_both, cancel_entry, pair_entries};
+use crate::changing::transfer::Tried;
 use crate::list_register::ListRegister;
 use crate::lists::Lists;
 use crate::looking::due_pairs::due_pair_after;
@@ -72,6 +75,23 @@ impl ListRegister {
     {
         match append_entry(&mut self.lists, &mut self.changes, entry, reply, named) {
             Ok(()) => Ok(()),
+            Err(_) => {
+                self.stage = Stage::Failed;
+                Err(Fault::Memory)
+            }
+        }
+    }
+
+    /// Tries the matched pair of a number, which is due by a day, as `settle_pair` does, and hands on what it moves.
+    pub fn try_pair(&mut self, number: u64, _day: Day) -> Result<Tried, Fault>
+        requires stage { (view_of_lists self.old).stage ≡ Stage.Begun }
+        requires fits { CanSettle (view_of_lists self.old).content number (number_of _day) }
+        ensures settled { IfOk result (λ tried. TriesPair (view_of_lists self.old).content number tried.outcome (view_of_lists self.new).content) }
+        ensures moves { IfOk result (λ tried. IsTransferAt (view_of_lists self.old).content number tried.mate tried.transfer) }
+        ensures change { IsChange result (view_of_lists self.old) (view_of_lists self.new) }
+    {
+        match try_settle(&mut self.lists, &mut self.changes, number) {
+            Ok(tried) => Ok(tried),
             Err(_) => {
                 self.stage = Stage::Failed;
                 Err(Fault::Memory)
@@ -141,11 +161,11 @@ impl Register for ListRegister {
     }
 
     fn position(&mut self, _alloc: Global, account: AccountId, isin: Isin) -> Result<u64, Fault> {
-        Ok(balance_of(&self.lists, &BalanceKey::Position { account, isin }))
+        Ok(self.position_at(account, isin))
     }
 
     fn cash(&mut self, _alloc: Global, bic: Bic, ccy: Ccy) -> Result<u64, Fault> {
-        Ok(balance_of(&self.lists, &BalanceKey::Cash { bic, ccy }))
+        Ok(self.cash_at(bic, ccy))
     }
 
     fn number_of(
@@ -290,14 +310,8 @@ impl Register for ListRegister {
         }
     }
 
-    fn settle_pair(&mut self, _alloc: Global, number: u64, _day: Day) -> Result<Outcome, Fault> {
-        match try_settle(&mut self.lists, &mut self.changes, number) {
-            Ok(outcome) => Ok(outcome),
-            Err(_) => {
-                self.stage = Stage::Failed;
-                Err(Fault::Memory)
-            }
-        }
+    fn settle_pair(&mut self, _alloc: Global, number: u64, day: Day) -> Result<Outcome, Fault> {
+        Ok(self.try_pair(number, day)?.outcome)
     }
 
     fn send(&mut self, _alloc: Global, message: Sent) -> Result<(), Fault> {

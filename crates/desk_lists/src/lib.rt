@@ -18,4 +18,5 @@ mod lists;
 mod looking;
 mod wrapped;
 
+pub use changing::transfer::{Transfer, Tried};
 pub use list_register::ListRegister;

@@ -1,6 +1,7 @@
 //! What a register that keeps look-ups beside the lists asks of them. All but `fail` only reads.
-ghost use Rattle.std.specs.Prelude.{◌≡◌, ◌≢◌, ◌↔◌, ◌+◌, ◌-◌, ◌<◌, ◌≤◌, None, IsTrue, IfSome, IfNone, IfOk, length, option_and_then};
+ghost use Rattle.std.specs.Prelude.{◌≡◌, ◌≢◌, ◌↔◌, ◌+◌, ◌-◌, ◌<◌, ◌≤◌, None, Some, IsTrue, IfSome, IfNone, IfOk, length, option_and_then, option_map};
 ghost use Rattle.std.proofs.Common.{get_or};
+ghost use Rattle.desk_rules.specs.declared.history.entry.Instructed.{Instructed as InstructedValue};
 ghost use Rattle.desk_rules.specs.declared.history.pair.Place.{Place};
 ghost use Rattle.desk_rules.specs.Balances.{paid_in, paid_out};
 ghost use Rattle.desk_rules.specs.Facts.{kind_by, owner_by};
@@ -10,15 +11,17 @@ ghost use Rattle.desk_rules.specs.Questions.{sent_at};
 ghost use Rattle.desk_register.specs.Looked.{held_cash_of, held_of, IsDue, IsHoldingAfter, IsOppositeAt};
 ghost use Rattle.desk_register.specs.View.{Falls, IsLater, IsRead};
 ghost use Rattle.desk_lists.specs.ListView.{view_of_lists};
+ghost use Rattle.desk_lists.specs.Transfers.{transfer_of};
 ghost use Rattle.desk_lists.specs.Walk.{AreNextHoldings, AreTotals};
 
 use crate::balance_key::BalanceKey;
 use crate::balances::balance_of;
 use crate::calls::fallen;
 use crate::changing::entries;
+use crate::changing::transfer::{Transfer, transfer_of};
 use crate::list_register::ListRegister;
 use crate::looking::{by_number, due_pairs, messages, next_holding, opposites, totals};
-use desk_codes::{AccountId, Bic, Ccy, Isin};
+use desk_codes::{AccountId, Bic, Ccy, Day, Isin};
 use desk_msg::Kind;
 use desk_register::{Fault, Holding, Stage};
 use desk_rules::{Entry, Instructed, Place, Sent, Standing};
@@ -44,6 +47,37 @@ impl ListRegister {
         ensures { result ≡ instruction_at (history_of (view_of_lists self.now).content) number }
     {
         by_number::instruction(&self.lists, number)
+    }
+
+    /// The settlement day of the instruction of a number; None where there is none.
+    pub fn day_of(&self, number: u64) -> Option<Day>
+        ensures { result ≡ option_map (λ i. i.instruction.day) (instruction_at (history_of (view_of_lists self.now).content) number) }
+    {
+        let (_, instruction) = by_number::kept_instruction(&self.lists, number)?;
+        Some(instruction.day)
+    }
+
+    /// What an account holds of a security.
+    pub fn position_at(&self, account: AccountId, isin: Isin) -> u64
+        ensures { result ≡ (view_of_lists self.now).content.position account isin }
+    {
+        balance_of(&self.lists, &BalanceKey::Position { account, isin })
+    }
+
+    /// What a participant has of a currency, in minor units.
+    pub fn cash_at(&self, bic: Bic, ccy: Ccy) -> u64
+        ensures { result ≡ (view_of_lists self.now).content.cash bic ccy }
+    {
+        balance_of(&self.lists, &BalanceKey::Cash { bic, ccy })
+    }
+
+    /// What the pair of two numbers moves. Both are those of instructions.
+    pub fn transfer_of(&self, earlier: u64, later: u64) -> Transfer
+        requires { (first second : InstructedValue) × (instruction_at (history_of (view_of_lists self.now).content) earlier ≡ Some first) × (instruction_at (history_of (view_of_lists self.now).content) later ≡ Some second) }
+        ensures { (first second : InstructedValue) → instruction_at (history_of (view_of_lists self.now).content) earlier ≡ Some first → instruction_at (history_of (view_of_lists self.now).content) later ≡ Some second
+            → result ≡ transfer_of first second }
+    {
+        transfer_of(&self.lists, earlier, later)
     }
 
     /// Where the entry of a number stands.

@@ -1,16 +1,21 @@
 //! The matched pairs by their settlement days and numbers.
-ghost use Rattle.std.specs.Prelude.{◌≡◌, ◌-◌, ◌/◌, true, length};
-ghost use Rattle.std.specs.BTreeSet.{btree_set_len};
+ghost use Rattle.std.specs.Prelude.{◌≡◌, ℕ, [], true, false, OnOk};
+ghost use Rattle.std.specs.BTreeSet.{contains};
+ghost use Rattle.desk_rules.specs.Content.{Content};
 ghost use Rattle.desk_register.specs.Looked.{IsDuePairAfter};
 ghost use Rattle.desk_register.specs.Short.{IsToTryAfter};
 ghost use Rattle.desk_lists.specs.ListView.{view_of_lists};
-ghost use Rattle.desk_index.specs.DuePlaces.{HasDue, IsDueAt, IsFirstDueOf, beginning};
-ghost use Rattle.desk_index.specs.Shortages.{KnowsShort};
+ghost use Rattle.desk_index.specs.DuePlaces.{HasDue, IsDueAt, IsFirstDueOf, beginning, place_cmp};
+ghost use Rattle.desk_index.specs.Shortages.{KnowsShort, is_to_try};
+ghost use Rattle.desk_index.specs.Wants.{want_cmp};
+ghost use Rattle.desk_index.specs.declared.short.wants.Want.{Want as WantValue};
 
+use crate::collections::counts::{begin_count, first_behind};
 use crate::short::shortages::Shortages;
 use desk_lists::ListRegister;
 use desk_rules::Place;
-use std::collections::BTreeSet;
+use std::alloc::AllocError;
+use std::collections::{BTreeMap, BTreeSet};
 use std::ops::Bound;
 
 /// The pair that stands at a place, where it is due by a day and above a place.
@@ -68,23 +73,33 @@ pub fn first_due(
 }
 
 /// The first place of a matched pair that is to be tried and due by a day, above a place: before it stands none but those
-/// that stay short.
-pub fn first_to_try(
-    held: &ListRegister,
-    shortages: &Shortages,
-    day: u64,
-    above: &Option<Place>,
-) -> Option<Place>
+/// that stay short. What was brought is taken up.
+pub fn first_to_try(shortages: &Shortages, day: u64, above: &Option<Place>) -> Option<Place>
     requires known { shortages.now.is_known ≡ true }
-    requires short { KnowsShort shortages.now (view_of_lists held.now).content }
-    ensures { IsToTryAfter (view_of_lists held.now).content day above.now result }
+    requires none { (want : WantValue) → contains want_cmp shortages.now.brought want ≡ false }
+    ensures { (content : Content) → KnowsShort shortages.now content → IsToTryAfter content day above.now result }
 {
-    first_due_of(held, &shortages.to_try, day, above)
+    let (day_of_pair, number) = first_behind(&shortages.to_try, beginning(above))?;
+    if day_of_pair > day {
+        return None;
+    }
+    Some(Place {
+        day: day_of_pair,
+        number,
+    })
 }
 
-/// How many pairs are matched. Those that settled since `begin` are found until `commit`, and two numbers are touched of each.
-pub fn pairs_left(matched: &BTreeSet<(u64, u64)>, touched: &Vec<u64>) -> usize
-    ensures { result ≡ btree_set_len matched.now - length touched.now.items / 2 }
+/// Begins to count down tries of each of some pairs, where none are counted.
+pub fn begin_each(
+    counts: &mut BTreeMap<(u64, u64), u64>,
+    places: &BTreeSet<(u64, u64)>,
+    tries: u64,
+) -> Result<(), AllocError>
+    requires { counts.old.entries ≡ [] }
+    ensures { OnOk result ((q : ℕ × ℕ) → is_to_try counts.new q ≡ contains place_cmp places.now q) }
 {
-    matched.len().saturating_sub(touched.len() / 2)
+    for place in places {
+        begin_count(counts, *place, tries)?;
+    }
+    Ok(())
 }

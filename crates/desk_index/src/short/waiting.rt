@@ -1,76 +1,77 @@
-//! The places of pairs by what they wait for.
-ghost use Rattle.std.specs.Prelude.{◌≡◌, true, OnOk};
-ghost use Rattle.desk_index.specs.Wants.{AreWaiting, HoldsWaits, IsWaitingFor, KeepsOtherWaits, is_waiting};
+//! The places of pairs by what they wait for, and how much of it.
+ghost use Rattle.std.specs.Prelude.{◌≡◌, ◌<◌, false, true, ℕ, OnOk};
+ghost use Rattle.desk_index.specs.declared.short.wants.Want.{Want as WantValue};
+ghost use Rattle.desk_index.specs.Wants.{AreWaiting, FewerWait, KeepsOtherWaits, IsWantOf, NoneWaits, how_many, is_waiting};
 
-use crate::collections::ordered::{drop_key, put_key};
-use crate::short::sides::Sides;
-use crate::short::wants::{Want, cash_want};
+use crate::short::waits::{Waits, drop_wait, first_wait, put_wait};
+use crate::short::wants::{Want, less_given, more_given};
+use desk_lists::Transfer;
 use desk_rules::Lack;
-use std::alloc::AllocError;
-use std::collections::BTreeSet;
-
-/// Lets a place wait for something.
-fn put_want(
-    waits: &mut BTreeSet<(Want, (u64, u64))>,
-    want: Want,
-    place: (u64, u64),
-) -> Result<(), AllocError>
-    ensures others { KeepsOtherWaits place.1 waits.old waits.new }
-    ensures all { HoldsWaits waits.old waits.new }
-    ensures there { OnOk result (is_waiting waits.new want place ≡ true) }
-{
-    put_key(waits, (want, place))
-}
-
-/// Lets a place wait for something, if there is anything.
-fn put_if_any(
-    waits: &mut BTreeSet<(Want, (u64, u64))>,
-    want: Option<Want>,
-    place: (u64, u64),
-) -> Result<(), AllocError>
-    ensures others { KeepsOtherWaits place.1 waits.old waits.new }
-    ensures all { HoldsWaits waits.old waits.new }
-    ensures there { OnOk result (IsWaitingFor waits.new want place) }
-{
-    match want {
-        Some(want) => put_want(waits, want, place),
-        None => Ok(()),
-    }
-}
+use std::alloc::{AllocError, Global};
 
 /// Lets the place of a pair wait for what would end a lack.
 pub fn put_wants(
-    waits: &mut BTreeSet<(Want, (u64, u64))>,
-    sides: &Sides,
+    waits: &mut Waits,
+    alloc: Global,
+    transfer: &Transfer,
     lack: Lack,
     place: (u64, u64),
 ) -> Result<(), AllocError>
-    ensures others { KeepsOtherWaits place.1 waits.old waits.new }
-    ensures waiting { OnOk result (AreWaiting waits.new sides.now lack place) }
+    ensures others { KeepsOtherWaits place waits.old waits.new }
+    ensures waiting { OnOk result (AreWaiting waits.new transfer.now lack place) }
+    ensures only { (want : WantValue) (amount : ℕ) → is_waiting waits.new want amount place ≡ true → is_waiting waits.old want amount place ≡ false → IsWantOf transfer.now lack want amount }
 {
     match lack {
-        Lack::Securities => put_want(waits, sides.more_given(), place),
+        Lack::Securities => {
+            let more = more_given(transfer);
+            put_wait(waits, alloc, &more, transfer.quantity, place)
+        }
         Lack::Money => {
-            put_want(waits, sides.less_given(), place)?;
-            put_if_any(waits, cash_want(sides.payer, sides.cash), place)
+            let less = less_given(transfer);
+            put_wait(waits, alloc, &less, transfer.quantity, place)?;
+            match transfer.cash {
+                Some(asked) => {
+                    let more = Want::MoreCash {
+                        bic: transfer.receiver,
+                        ccy: asked.ccy,
+                    };
+                    put_wait(waits, alloc, &more, asked.amount, place)
+                }
+                None => Ok(()),
+            }
         }
     }
 }
 
-/// Takes out all that the place of a pair may wait for.
-pub fn drop_wants(waits: &mut BTreeSet<(Want, (u64, u64))>, sides: &Sides, place: (u64, u64))
-    ensures { KeepsOtherWaits place.1 waits.old waits.new }
+/// Takes out all that the place of a pair waits for by a lack. No memory is taken.
+pub fn drop_wants(waits: &mut Waits, transfer: &Transfer, lack: Lack, place: (u64, u64))
+    ensures others { KeepsOtherWaits place waits.old waits.new }
+    ensures gone { (want : WantValue) (amount : ℕ) → IsWantOf transfer.now lack want amount → is_waiting waits.new want amount place ≡ false }
+    ensures fewer { FewerWait waits.old waits.new }
+    ensures less { (want : WantValue) (amount : ℕ) → IsWantOf transfer.now lack want amount → is_waiting waits.old want amount place ≡ true → how_many waits.new want < how_many waits.old want }
 {
-    drop_want(waits, sides.more_given(), place);
-    drop_want(waits, sides.less_given(), place);
-    if let Some(want) = cash_want(sides.payer, sides.cash) {
-        drop_want(waits, want, place);
+    match lack {
+        Lack::Securities => {
+            let more = more_given(transfer);
+            drop_wait(waits, &more, transfer.quantity, place);
+        }
+        Lack::Money => {
+            let less = less_given(transfer);
+            drop_wait(waits, &less, transfer.quantity, place);
+            if let Some(asked) = transfer.cash {
+                let more = Want::MoreCash {
+                    bic: transfer.receiver,
+                    ccy: asked.ccy,
+                };
+                drop_wait(waits, &more, asked.amount, place);
+            }
+        }
     }
 }
 
-/// Lets a place wait for something no more.
-fn drop_want(waits: &mut BTreeSet<(Want, (u64, u64))>, want: Want, place: (u64, u64))
-    ensures { KeepsOtherWaits place.1 waits.old waits.new }
+/// Whether a place waits for something.
+pub fn is_waited_for(waits: &Waits, want: &Want) -> bool
+    ensures { result ≡ false → NoneWaits waits.now want.now }
 {
-    drop_key(waits, (want, place));
+    first_wait(waits, want).is_some()
 }

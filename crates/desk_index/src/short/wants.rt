@@ -1,8 +1,9 @@
 //! What pairs that are short wait for.
 ghost use Rattle.std.specs.Prelude.{◌≡◌};
-ghost use Rattle.desk_index.specs.Wants.{cash_want, woken_by};
+ghost use Rattle.desk_index.specs.Wants.{cash_want, less_given, more_given, more_taken, woken_by};
 
 use desk_codes::{AccountId, Bic, Ccy, Isin};
+use desk_lists::Transfer;
 use desk_msg::Cash;
 use desk_rules::Entry;
 
@@ -15,6 +16,36 @@ pub enum Want {
     LessHeld { account: AccountId, isin: Isin },
     /// That a participant has more of a currency
     MoreCash { bic: Bic, ccy: Ccy },
+}
+
+/// More on the deliverer's account.
+pub fn more_given(transfer: &Transfer) -> Want
+    ensures { result ≡ more_given transfer.now }
+{
+    Want::MoreHeld {
+        account: transfer.given,
+        isin: transfer.isin,
+    }
+}
+
+/// Less on the deliverer's account.
+pub fn less_given(transfer: &Transfer) -> Want
+    ensures { result ≡ less_given transfer.now }
+{
+    Want::LessHeld {
+        account: transfer.given,
+        isin: transfer.isin,
+    }
+}
+
+/// More on the receiver's account.
+pub fn more_taken(transfer: &Transfer) -> Want
+    ensures { result ≡ more_taken transfer.now }
+{
+    Want::MoreHeld {
+        account: transfer.taken,
+        isin: transfer.isin,
+    }
 }
 
 /// That a participant has more of the currency in which cash is, if there is cash.

@@ -3,13 +3,13 @@ ghost use Rattle.std.specs.Prelude.{◌≡◌, ◌<◌, ◌≤◌, ◌+◌, ◌^
 ghost use Rattle.desk_register.specs.Changes.{CanSettle, FitsCash, HasCash, LacksCash, TriesPair, standing_both};
 ghost use Rattle.desk_lists.specs.Balanced.{IsSound};
 ghost use Rattle.desk_lists.specs.Lists.{balance_in, content_in, listed, standing_in, undone};
-ghost use Rattle.desk_lists.specs.Transfers.{TransferFits, TriesTransfer};
+ghost use Rattle.desk_lists.specs.Transfers.{IsTransferAt, TransferFits, TriesTransfer};
 ghost use Rattle.desk_lists.specs.Moves.{with_less, with_more, SameBooks, SameEntries, SameTotals, moved_between, paid_between};
 
 use crate::balance_key::BalanceKey;
 use crate::balances::{add_to, balance_of, take_from};
 use crate::changing::standings::stand_both;
-use crate::changing::transfer::{Transfer, transfer_of};
+use crate::changing::transfer::{Transfer, Tried, transfer_of};
 use crate::lists::{Change, Lists};
 use crate::looking::by_number::standing;
 use desk_codes::Bic;
@@ -153,14 +153,20 @@ pub fn try_settle(
     lists: &mut Lists,
     changes: &mut Vec<Change>,
     number: u64,
-) -> Result<Outcome, AllocError>
+) -> Result<Tried, AllocError>
     requires fits { (day : ℕ) × CanSettle (content_in (listed lists.old)) number day }
     requires sound { IsSound (listed lists.old) }
-    ensures settled { IfOk result (λ outcome. TriesPair (content_in (listed lists.old)) number outcome (content_in (listed lists.new))) }
+    ensures settled { IfOk result (λ tried. TriesPair (content_in (listed lists.old)) number tried.outcome (content_in (listed lists.new))) }
+    ensures moves { IfOk result (λ tried. IsTransferAt (content_in (listed lists.old)) number tried.mate tried.transfer) }
     ensures sound { OnOk result (IsSound (listed lists.new)) }
     ensures before { undone changes.new.items (listed lists.new) ≡ undone changes.old.items (listed lists.old) }
 {
     let mate = standing(lists, number).mate.unwrap();
     let transfer = transfer_of(lists, mate, number);
-    settle_transfer(lists, changes, number, mate, &transfer)
+    let outcome = settle_transfer(lists, changes, number, mate, &transfer)?;
+    Ok(Tried {
+        mate,
+        transfer,
+        outcome,
+    })
 }

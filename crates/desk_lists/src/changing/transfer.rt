@@ -8,20 +8,33 @@ ghost use Rattle.desk_lists.specs.Transfers.{as_instructed, transfer_between, tr
 
 use crate::lists::Lists;
 use crate::looking::by_number::kept_instruction;
-use desk_codes::{AccountId, Bic, Isin};
+use desk_codes::{AccountId, Bic, Day, Isin};
 use desk_msg::{Cash, Instruction};
+use desk_register::Outcome;
 
 /// What a pair moves: a quantity of a security between two accounts, and cash, if any is asked for, between their
-/// participants.
+/// participants, from its settlement day on.
 #[derive(Clone, Copy)]
 pub struct Transfer {
     pub deliverer: Bic,
+    /// The deliverer's account
     pub given: AccountId,
     pub receiver: Bic,
+    /// The receiver's account
     pub taken: AccountId,
     pub isin: Isin,
     pub quantity: u64,
     pub cash: Option<Cash>,
+    pub day: Day,
+}
+
+/// A pair that was tried, and how it fared.
+#[derive(Clone, Copy)]
+pub struct Tried {
+    /// The number of its earlier instruction
+    pub mate: u64,
+    pub transfer: Transfer,
+    pub outcome: Outcome,
 }
 
 /// What goes from one side to another, on the terms of an instruction.
@@ -40,6 +53,7 @@ fn transfer_between(
         isin: terms.isin,
         quantity: terms.quantity,
         cash: terms.cash,
+        day: terms.day,
     }
 }
 

@@ -6,7 +6,7 @@ ghost use Rattle.desk_register.specs.Looked.{IsDue, IsDuePairAfter};
 ghost use Rattle.desk_lists.specs.Search.{sooner_of};
 
 use crate::lists::Lists;
-use crate::looking::by_number::{instruction, standing};
+use crate::looking::by_number::{kept_instruction, standing};
 use desk_register::{is_before, is_past};
 use desk_rules::{Place, State};
 
@@ -15,14 +15,14 @@ pub fn due_place(lists: &Lists, number: u64, day: u64, above: &Option<Place>) ->
     ensures found { IfSome result (λ p. (p.number ≡ number) × IsDue (content_in (listed lists.now)) day above.now p) }
     ensures none { IfNone result ((p : Place) → p.number ≡ number → IsDue (content_in (listed lists.now)) day above.now p → ⊥) }
 {
-    let later = instruction(lists, number)?;
+    let (_, later) = kept_instruction(lists, number)?;
     let standing = standing(lists, number);
     let mate = standing.mate?;
     let State::Matched(_) = standing.state else {
         return None;
     };
     let place = Place {
-        day: later.instruction.day.yyyymmdd(),
+        day: later.day.yyyymmdd(),
         number,
     };
     if mate >= number || place.day > day {

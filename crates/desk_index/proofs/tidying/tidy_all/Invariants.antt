@@ -1,5 +1,6 @@
 use Rattle.std.proofs.Common.{vec_len}
-use Rattle.desk_index.specs.DuePlaces.{HasDue}
+use Rattle.desk_rules.specs.Content.{history_of}
+use Rattle.desk_index.specs.DuePlaces.{AreMatched, ArePlaced, FewerDue, HasDue}
 use Rattle.desk_lists.specs.ListView.{view_of_lists}
 use Rattle.desk_index.specs.Open.{HasOpen}
 use Rattle.desk_index.proofs.tidying.tidy_all.Given as goal
@@ -8,6 +9,8 @@ abbrev pub invariant-loop-number : goal.invariant-loop-number
 invariant-loop-number l = record {
   open_left : HasOpen l.fn.numbers (view_of_lists l.held).content → HasOpen l.numbers (view_of_lists l.held).content;
   due_left : HasDue l.fn.places (view_of_lists l.held).content → HasDue l.places (view_of_lists l.held).content;
+  fewer : FewerDue l.fn.places l.places;
+  only_left : ArePlaced l.fn.places (history_of (view_of_lists l.held).content) → AreMatched l.fn.places (view_of_lists l.held).content l.fn.touched.items → AreMatched l.places (view_of_lists l.held).content l.touched.items;
 }
 
 abbrev pub decreases-loop-number : goal.decreases-loop-number

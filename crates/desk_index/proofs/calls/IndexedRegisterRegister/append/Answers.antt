@@ -5,9 +5,9 @@ use Rattle.desk_rules.specs.Content.{history_of}
 use Rattle.desk_register.specs.Changes.{appended}
 use Rattle.desk_lists.specs.ListView.{view_of_lists}
 use Rattle.desk_register.proofs.ViewLemmas.{blames_memory}
-use Rattle.desk_index.proofs.HeldShortLemmas.{known_begun, short_changed, short_failed}
+use Rattle.desk_index.proofs.HeldShortLemmas.{known_begun, knows_appended, short_changed, short_failed}
 use Rattle.desk_index.proofs.IndexedLemmas.{after_append, after_failure, next_count, where_it_failed, where_it_went}
-use Rattle.desk_index.proofs.ShortageLemmas.{after_appended}
+use Rattle.desk_index.proofs.OnlyLemmas.{only_appended, only_by, only_failed, only_noted}
 use Rattle.desk_index.proofs.ToldLemmas.{told_apart, told_fails}
 use Rattle.desk_index.proofs.calls.IndexedRegisterRegister.append.Goals as goal
 
@@ -23,6 +23,8 @@ invariant_of-self c =
           (noting.ensures.err_known (history_of (view_of_lists r.held).mark ++ r.noted.items) keyed
           (next_count r.known r.unmatched r.matched r.noted.items (view_of_lists r.held) c.entry_count-number.result c.requires.stage c.entry_count-number.ensures r.indexed)));
       sent_indexed = told_fails r.messages r.told.items r.held c.fail.new.self r.sent_indexed c.fail.ensures.stage c.fail.ensures.mark;
+      matched_only = only_failed r.matched r.matched r.noted.items noting.new.noted.items r.touched.items r.touched.items (view_of_lists r.held) (view_of_lists c.fail.new.self) c.fail.ensures.stage c.fail.ensures.mark
+          (where_it_failed noting.result c.if-is_err.ensures.value noting.ensures.err) (λ placed. placed) (λ content only. only) r.matched_only;
       shortages_known = short_failed r.shortages (view_of_lists c.fail.new.self) c.fail.ensures.stage;
       rows_ahead = nothing_ahead (view_of_lists c.fail.new.self) c.clear.new.self c.clear.ensures;
       rows_summed = nothing_summed (view_of_lists c.fail.new.self) c.clear-2.new.self c.clear-2.ensures.known c.clear-2.ensures.counted;
@@ -44,9 +46,11 @@ invariant_of-self-2 c =
           (λ history keyed is. where_it_went noting.result went (noting.ensures.keyed history keyed is))
           (λ honest sure. c.append_named.ensures.added) change.ok change.err;
       sent_indexed = told_apart r.messages r.told.items r.held c.append_named.new.self r.sent_indexed c.append_named.result (appended c.args.entry c.args.reply) (λ content. refl) c.append_named.ensures.added change.ok change.err;
+      matched_only = only_by r.matched r.matched r.noted.items noting.new.noted.items r.touched.items r.touched.items r.held c.append_named.new.self c.requires.stage
+          (only_noted r.matched r.noted.items noting.new.noted.items (view_of_lists r.held) c.args.entry (where_it_went noting.result went noting.ensures.more) r.matched_only.placed) (λ content only. only) r.matched_only
+          c.append_named.result (appended c.args.entry c.args.reply (view_of_lists r.held).content) (only_appended r.matched r.touched.items (view_of_lists r.held).content c.args.entry c.args.reply) c.append_named.ensures.added change.ok change.err;
       shortages_known = short_changed c.append_named.result c.note_added.new.self (view_of_lists r.held) (view_of_lists c.append_named.new.self) (appended c.args.entry c.args.reply (view_of_lists r.held).content) c.requires.stage c.append_named.ensures.added change.err
-          (after_appended c.note_added.new.self c.args.entry c.args.reply (view_of_lists r.held).content c.note_added.ensures.awake
-          (c.note_added.ensures.kept (view_of_lists r.held).content (known_begun r.shortages (view_of_lists r.held) c.requires.stage r.shortages_known)));
+          (knows_appended r.shortages c.note_added.new.self c.args.entry c.args.reply (view_of_lists r.held).content c.note_added.ensures (known_begun r.shortages (view_of_lists r.held) c.requires.stage r.shortages_known));
       rows_ahead = nothing_ahead (view_of_lists c.append_named.new.self) c.clear.new.self c.clear.ensures;
       rows_summed = nothing_summed (view_of_lists c.append_named.new.self) c.clear-2.new.self c.clear-2.ensures.known c.clear-2.ensures.counted;
     }

@@ -3,7 +3,7 @@ use Rattle.desk_index.proofs.AheadLemmas.{nothing_ahead}
 use Rattle.std.proofs.Common.{sym, subst, ◌++◌, ◌∙◌}
 use Rattle.std.proofs.lemmas.List.{length-map}
 use Rattle.desk_rules.specs.Content.{history_of}
-use Rattle.desk_index.specs.DuePlaces.{HasDue}
+use Rattle.desk_index.specs.DuePlaces.{AreMatched, ArePlaced, HasDue}
 use Rattle.desk_index.specs.Known.{AreKnown}
 use Rattle.desk_index.specs.Headings.{heading_of, headings_of}
 use Rattle.desk_index.specs.Messages.{AreMessagesOf}
@@ -11,6 +11,7 @@ use Rattle.desk_lists.specs.ListView.{view_of_lists}
 use Rattle.desk_index.specs.Open.{HasOpen}
 use Rattle.desk_index.proofs.HeldShortLemmas.{short_forgotten}
 use Rattle.desk_index.proofs.IndexedLemmas.{idle_indexed, idle_mark, size_of}
+use Rattle.desk_index.proofs.OnlyLemmas.{fewer_matched, only_idle}
 use Rattle.desk_index.proofs.ToldLemmas.{told_idle}
 use Rattle.desk_index.proofs.calls.IndexedRegisterRegister.back.Goals as goal
 
@@ -20,14 +21,20 @@ invariant_of-self-2 c =
     let new = view_of_lists c.back.new.self in
     let goes = c.in_ok-back.ensures.ok in
     let same = goes.content tt in
+    let count = c.entry_count-count.ensures in
+    let sized = count ∙ sym (size_of new.content) in
+    let placed = c.forget_all.ensures.placed (history_of new.content) sized (subst (λ m. ArePlaced r.matched (history_of m ++ r.noted.items)) (sym same) r.matched_only.placed) in
     record {
-      indexed = idle_indexed c.forget_all.new.known r.unmatched r.matched c.forget_all.new.noted.items new (idle_mark c.back.new.self goes.stage) c.forget_all.ensures.none
-          (c.forget_all.ensures.forgot (history_of new.content) (subst (λ m. AreKnown r.known (history_of m ++ r.noted.items)) (sym same) r.indexed.keyed) (c.entry_count-count.ensures ∙ sym (size_of new.content)))
-          (subst (HasOpen r.unmatched) (sym same) r.indexed.open_marked)
-          (subst (HasDue r.matched) (sym same) r.indexed.due_marked);
+      indexed = idle_indexed c.forget_all.new.known c.tidy_all.new.numbers c.tidy_all.new.places c.forget_all.new.noted.items new (idle_mark c.back.new.self goes.stage) c.forget_all.ensures.none
+          (c.forget_all.ensures.forgot (history_of new.content) (subst (λ m. AreKnown r.known (history_of m ++ r.noted.items)) (sym same) r.indexed.keyed) sized)
+          (c.tidy_all.ensures.unmatched (subst (HasOpen r.unmatched) (sym same) r.indexed.open_marked))
+          (c.tidy_all.ensures.matched (c.forget_all.ensures.due new.content count (subst (HasDue r.matched) (sym same) r.indexed.due_marked)));
       sent_indexed = told_idle c.forget_messages.new.messages c.forget_messages.new.told.items new (idle_mark c.back.new.self goes.stage) c.forget_messages.ensures.none
           (c.forget_messages.ensures.forgot (headings_of new.content) (subst (λ m. AreMessagesOf r.messages (headings_of m ++ r.told.items)) (sym same) r.sent_indexed.marked) (c.message_count-sent.ensures ∙ sym (length-map new.content.sent heading_of)));
-      shortages_known = short_forgotten c.forget.new.self new c.forget.ensures;
+      matched_only = only_idle c.tidy_all.new.places c.forget_all.new.noted.items c.tidy_all.new.touched.items new (idle_mark c.back.new.self goes.stage) c.forget_all.ensures.none c.tidy_all.ensures.none (c.tidy_all.ensures.placed placed)
+          (c.tidy_all.ensures.only placed
+          (fewer_matched r.matched c.forget_all.new.places new.content r.touched.items c.forget_all.ensures.fewer (subst (λ m. AreMatched r.matched m r.touched.items) (sym same) r.matched_only.marked)));
+      shortages_known = short_forgotten c.forget.new.self new c.forget.ensures.known;
       rows_ahead = nothing_ahead (view_of_lists c.back.new.self) c.clear.new.self c.clear.ensures;
       rows_summed = nothing_summed (view_of_lists c.back.new.self) c.clear-2.new.self c.clear-2.ensures.known c.clear-2.ensures.counted;
     }

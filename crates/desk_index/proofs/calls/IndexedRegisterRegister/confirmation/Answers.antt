@@ -7,6 +7,7 @@ use Rattle.desk_index.specs.Headings.{heading_of, headings_of}
 use Rattle.desk_index.proofs.ConfirmationLemmas.{found_at, not_found}
 use Rattle.desk_index.proofs.HeldShortLemmas.{short_read}
 use Rattle.desk_index.proofs.IndexedLemmas.{read_keeps}
+use Rattle.desk_index.proofs.OnlyLemmas.{only_read}
 use Rattle.desk_index.proofs.ToldLemmas.{now_told, told_read}
 use Rattle.desk_index.proofs.calls.IndexedRegisterRegister.confirmation.Goals as goal
 
@@ -16,6 +17,7 @@ invariant_of-self c =
     record {
       indexed = read_keeps c.message.result r.known r.unmatched r.matched r.noted.items r.held c.message.new.self c.message.ensures.read r.indexed;
       sent_indexed = told_read r.messages r.told.items r.held c.message.new.self r.sent_indexed c.message.result c.message.ensures.read;
+      matched_only = only_read r.matched r.noted.items r.touched.items r.held c.message.new.self r.matched_only c.message.result c.message.ensures.read;
       shortages_known = short_read r.shortages r.held c.message.new.self r.shortages_known c.message.result c.message.ensures.read;
       rows_ahead = ahead_read r.ahead r.held c.message.new.self c.message.result r.rows_ahead c.message.ensures.read;
       rows_summed = sums_read r.sums r.held c.message.new.self c.message.result r.rows_summed c.message.ensures.read;

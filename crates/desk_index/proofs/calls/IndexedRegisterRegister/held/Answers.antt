@@ -7,6 +7,7 @@ invariant_of-self c =
     record {
       indexed = r.indexed;
       sent_indexed = r.sent_indexed;
+      matched_only = r.matched_only;
       shortages_known = r.shortages_known;
       rows_ahead = r.rows_ahead;
       rows_summed = record { now = λ up. c.total.ensures.sums (view_of_lists r.held).content (r.rows_summed.now up) };

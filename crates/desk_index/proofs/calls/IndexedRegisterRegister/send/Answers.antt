@@ -7,6 +7,7 @@ use Rattle.desk_index.specs.Headings.{headings_of}
 use Rattle.desk_index.specs.Messages.{AreMessagesOf}
 use Rattle.desk_index.proofs.HeldShortLemmas.{known_begun, knows_sent, short_changed, short_failed}
 use Rattle.desk_index.proofs.IndexedLemmas.{after_failure, after_send, where_it_failed, where_it_went}
+use Rattle.desk_index.proofs.OnlyLemmas.{only_by, only_failed, only_sent}
 use Rattle.desk_index.proofs.ToldLemmas.{next_message, told_failed, told_more}
 use Rattle.desk_index.proofs.calls.IndexedRegisterRegister.send.Goals as goal
 
@@ -23,6 +24,7 @@ invariant_of-self c =
       sent_indexed = told_failed r.messages noting.new.messages r.told.items noting.new.told.items view (view_of_lists c.fail.new.self) c.fail.ensures.stage c.fail.ensures.mark
           (where_it_failed noting.result failed noting.ensures.err)
           (λ are. where_it_failed noting.result failed (noting.ensures.err_noted (headings_of view.mark ++ r.told.items) are next)) r.sent_indexed;
+      matched_only = only_failed r.matched r.matched r.noted.items r.noted.items r.touched.items r.touched.items view (view_of_lists c.fail.new.self) c.fail.ensures.stage c.fail.ensures.mark refl (λ placed. placed) (λ content only. only) r.matched_only;
       shortages_known = short_failed r.shortages (view_of_lists c.fail.new.self) c.fail.ensures.stage;
       rows_ahead = nothing_ahead (view_of_lists c.fail.new.self) c.clear.new.self c.clear.ensures;
       rows_summed = nothing_summed (view_of_lists c.fail.new.self) c.clear-2.new.self c.clear-2.ensures.known c.clear-2.ensures.counted;
@@ -45,6 +47,8 @@ invariant_of-self-2 c =
           (where_it_went noting.result went noting.ensures.more ∙ ap (λ h. r.told.items ++ h ∷ []) heading)
           (λ are. subst (λ h. AreMessagesOf noting.new.messages (before ++ h ∷ [])) heading (where_it_went noting.result went (noting.ensures.noted before are next)))
           sent change.ok change.err;
+      matched_only = only_by r.matched r.matched r.noted.items r.noted.items r.touched.items r.touched.items r.held c.send.new.self c.requires.stage r.matched_only.placed (λ content only. only) r.matched_only c.send.result (with_sent c.args.message view.content)
+          (only_sent r.matched r.touched.items view.content c.args.message) sent change.ok change.err;
       shortages_known = short_changed c.send.result r.shortages view (view_of_lists c.send.new.self) (with_sent c.args.message view.content) c.requires.stage sent change.err
           (knows_sent r.shortages view.content c.args.message (known_begun r.shortages view c.requires.stage r.shortages_known));
       rows_ahead = nothing_ahead (view_of_lists c.send.new.self) c.clear.new.self c.clear.ensures;

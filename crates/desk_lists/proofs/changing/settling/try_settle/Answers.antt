@@ -1,4 +1,6 @@
 use Rattle.std.proofs.Common.{◌≡◌, Some, rules}
+use Rattle.std.specs.Prelude.{Ok}
+use Rattle.std.specs.declared.alloc.AllocError.{AllocError}
 use Rattle.desk_lists.specs.Lists.{content_in, listed}
 use Rattle.desk_lists.proofs.LookingLemmas.{instruction_within}
 use Rattle.desk_lists.proofs.SettleLemmas.{known_pair, pair_fits, tries_pair}
@@ -24,7 +26,7 @@ pub returns-clause-settled : goal.returns-clause-settled
 returns-clause-settled c =
     let content = content_in (listed c.args.lists.now) in
     let mate : (content.standing c.args.number).mate ≡ Some c.unwrap-mate.result = search rules in
-    tries_pair content c.args.number c.requires.fits.0 c.unwrap-mate.result c.requires.fits.1 mate c.transfer_of-transfer.result c.transfer_of-transfer.ensures c.settle_transfer.result (content_in (listed c.settle_transfer.new.lists)) c.settle_transfer.ensures.settled
+    tries_pair content c.args.number c.requires.fits.0 c.unwrap-mate.result c.requires.fits.1 mate c.transfer_of-transfer.result c.transfer_of-transfer.ensures {E = AllocError} (Ok c.in_ok-outcome.outcome) (content_in (listed c.settle_transfer.new.lists)) c.in_ok-outcome.ensures.settled
 
 pub returns-clause-sound : goal.returns-clause-sound
-returns-clause-sound c = sound_tried c.settle_transfer.result (listed c.args.lists.now) (listed c.settle_transfer.new.lists) c.args.number c.requires.sound (returns-clause-settled c) c.settle_transfer.ensures.rest
+returns-clause-sound c = sound_tried {E = AllocError} (Ok c.in_ok-outcome.outcome) (listed c.args.lists.now) (listed c.settle_transfer.new.lists) c.args.number c.requires.sound (returns-clause-settled c) c.in_ok-outcome.ensures.rest
