@@ -91,7 +91,7 @@ const TAKEN: InstructionTexts<'static> = InstructionTexts {
     ..GIVEN
 };
 
-/// Four participants with an account each, and 100 of a security on the first: ten entries.
+/// Four participants with an account each, and a security: nine entries.
 const FOUR: &[Step] = &[
     Step::Participant("P1", "ALPHDEFF"),
     Step::Participant("P2", "BETADEFF"),
@@ -102,8 +102,10 @@ const FOUR: &[Step] = &[
     Step::Account("C3", "GAMMDEFF", "C-1"),
     Step::Account("C4", "DELTDEFF", "D-1"),
     Step::Share("S1"),
-    Step::Issue("I1", "A-1", 100),
 ];
+
+/// 100 of it, on the account of the first.
+const UNITS: &[Step] = &[Step::Issue("I1", "A-1", 100)];
 
 /// Three deliveries of it, the last one first: the third participant to the fourth (12), the second to the third (14),
 /// the first to the second (16).
@@ -181,6 +183,7 @@ const FIRST_SETTLED: Settled = Settled {
 fn settles_one_link_in_one_pass(rt: HostRuntime) -> Result<(), Fail> {
     const DAY: &[Line] = &[
         Line::Accept(FOUR),
+        Line::Accept(UNITS),
         Line::Accept(CHAIN),
         Line::Accept(&[Step::RunOnce("R1", LEAP_DAY)]),
         Line::Told(1, 2),

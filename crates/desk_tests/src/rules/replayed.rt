@@ -1,6 +1,6 @@
 //! A day of a register, taken in once more by another one.
 use crate::rules::steps::Step;
-use crate::rules::{CHAIN, FOUR, LEAP_DAY};
+use crate::rules::{CHAIN, FOUR, LEAP_DAY, UNITS};
 use desk_lists::ListRegister;
 use desk_replay::replay;
 use desk_rules::{Kept, MOST_ENTRIES, Reply, Text};
@@ -36,7 +36,7 @@ fn kept_at(alloc: Global, ledger: &mut Ledger<ListRegister>, number: u64) -> Res
 fn day(alloc: Global) -> Result<Vec<Kept>, Fail> {
     let mut ledger = Ledger::new(alloc, MOST_ENTRIES);
     let mut kept = Vec::new(alloc);
-    for steps in [FOUR, CHAIN, RUNS] {
+    for steps in [FOUR, UNITS, CHAIN, RUNS] {
         enter_all(alloc, &mut ledger, steps)?;
     }
     for number in 1..=ledger.count(alloc)? {
