@@ -28,9 +28,12 @@ for _ in range(count + FEWER):
             client.sendall(ANSWERED)
         elif b"Content-Length: 70000" in got:
             client.sendall(REFUSED)
-            client.shutdown(socket.SHUT_WR)
-            while READS_ON and client.recv(65536):
-                pass
+            if READS_ON:
+                client.shutdown(socket.SHUT_WR)
+                while client.recv(65536):
+                    pass
+            else:
+                client.setsockopt(socket.SOL_SOCKET, socket.SO_LINGER, b"\\1\\0\\0\\0\\0\\0\\0\\0")
     except OSError:
         pass
     client.close()
