@@ -6,8 +6,8 @@ use Rattle.std.specs.Cmp.Lexicographic.{slice_cmp}
 use Rattle.std.specs.List.{AllByRecursion}
 use Rattle.std.specs.List.Sorted.{IsStrictlySortedBy}
 use Rattle.std.specs.Map.{keys_of}
-use Rattle.std.specs.Ordering.{ordering_reverse}
-use Rattle.serde_json.specs.Data.{Data, null, boolean, number, string, array, object, Members, no_members, member}
+use Rattle.std.specs.Ordering.{ordering_reverse, match_ordering}
+use Rattle.serde_json.specs.Data.{Data, null, boolean, number, string, array, object, Members, no_members, member, put}
 use Rattle.serde_json.specs.Events.{members_len}
 use Rattle.serde_json.specs.Find.{get_member, as_object}
 use Rattle.serde_json.specs.View.{members_view}
@@ -121,3 +121,38 @@ ordered_object (number n) ms is h = tt
 ordered_object (string s) ms is h = tt
 ordered_object (array ds) ms is h = tt
 ordered_object (object ns) ms is h = let same : ms ≡ ns = cc in subst IsOrderedByName same h
+
+-- ---- what is put at a name
+
+above_put_at : (o : Ordering) (j k l : List ℕ) (d e : Data) (ms : Members) → slice_cmp nat_cmp j k ≡ Less → AllAbove j (member l e ms) → AllAbove j (put k d ms)
+    → AllAbove j (match_ordering o (member k d (member l e ms)) (member l d ms) (member l e (put k d ms)))
+above_put_at Less j k l d e ms below above later = (below, above)
+above_put_at Equal j k l d e ms below above later = above
+above_put_at Greater j k l d e ms below above later = (above.0, later)
+
+above_put : (j k : List ℕ) (d : Data) (ms : Members) → slice_cmp nat_cmp j k ≡ Less → AllAbove j ms → AllAbove j (put k d ms)
+above_put j k d no_members below above = (below, tt)
+above_put j k d (member l e ms) below above = above_put_at (slice_cmp nat_cmp k l) j k l d e ms below above (above_put j k d ms below above.1)
+
+ordered_put_at : (o : Ordering) (k l : List ℕ) (d e : Data) (ms : Members) → slice_cmp nat_cmp k l ≡ o → IsOrderedByName (member l e ms) → IsOrderedByName (put k d ms)
+    → IsOrderedByName (match_ordering o (member k d (member l e ms)) (member l d ms) (member l e (put k d ms)))
+ordered_put_at Less k l d e ms is ordered later = ((is, above_lower k l ms is ordered.0), ordered)
+ordered_put_at Equal k l d e ms is ordered later = ordered
+ordered_put_at Greater k l d e ms is ordered later = (above_put l k d ms (flipped_back k l is) ordered.0, later)
+
+-- members stay in order
+pub ordered_put : (k : List ℕ) (d : Data) (ms : Members) → IsOrderedByName ms → IsOrderedByName (put k d ms)
+ordered_put k d no_members ordered = (tt, tt)
+ordered_put k d (member l e ms) ordered = ordered_put_at (slice_cmp nat_cmp k l) k l d e ms refl ordered (ordered_put k d ms ordered.1)
+
+len_put_at : (o : Ordering) (k l : List ℕ) (d e : Data) (ms : Members) → slice_cmp nat_cmp k l ≡ o → get_member k (member l e ms) ≡ None
+    → (get_member k ms ≡ None → members_len (put k d ms) ≡ suc (members_len ms))
+    → members_len (match_ordering o (member k d (member l e ms)) (member l d ms) (member l e (put k d ms))) ≡ suc (suc (members_len ms))
+len_put_at Less k l d e ms is none later = refl
+len_put_at Equal k l d e ms is none later = let some : Some e ≡ None = rw is at none in absurd (cc)
+len_put_at Greater k l d e ms is none later = let more : get_member k ms ≡ None = rw is at none in ap suc (later more)
+
+-- one is more where nothing stood at the name
+pub len_put : (k : List ℕ) (d : Data) (ms : Members) → get_member k ms ≡ None → members_len (put k d ms) ≡ suc (members_len ms)
+len_put k d no_members none = refl
+len_put k d (member l e ms) none = len_put_at (slice_cmp nat_cmp k l) k l d e ms refl none (len_put k d ms)

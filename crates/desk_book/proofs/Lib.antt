@@ -11,8 +11,8 @@ pub mod LineLemmas
 pub mod FormLemmas
 pub mod ScriptLemmas
 pub mod StopLemmas
-pub mod UsualLemmas
 pub mod ExactLemmas
+pub mod FlatLemmas
 pub mod CommandLemmas
 pub mod RowLemmas
 mod RowTextLemmas

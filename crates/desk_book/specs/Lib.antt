@@ -3,6 +3,7 @@ pub mod Answering
 pub mod Asked
 pub mod Command
 pub mod DeskValue
+pub mod Flat
 pub mod Forms
 pub mod Headline
 pub mod Held
@@ -18,7 +19,6 @@ pub mod Statement
 pub mod Sums
 pub mod Task
 pub mod Totals
-pub mod Usual
 pub mod Waiting
 pub mod WrittenAnswers
 pub mod WrittenTo

@@ -14,3 +14,12 @@ pub const MOST_DIGITS: usize = 9;
 
 /// So many digits write a number that fits in 64 bits, whatever they are.
 pub const LONGEST_NUMBER: usize = 17;
+
+/// The most members of a command's object.
+pub const MOST_MEMBERS: usize = 5;
+
+/// The most bytes of a member's name or text in a command: those of an account's name.
+pub const LONGEST_MEMBER: usize = 35;
+
+/// So many bytes of white space in a row are passed over at most where a command is read straight from its bytes.
+pub const LONGEST_SPACE: usize = 64;

@@ -94,7 +94,10 @@ fn at_full_stop(text: &[u8]) -> Option<(&[u8], &[u8], &[u8])>
     ensures shorter { IfSome result (λ parts. length parts.2.now < length text.now) }
     ensures none { IfNone result (All (λ c. c ≢ byte ".") text.now) }
 {
-    let index = memchr(b'.', text)?;
+    let index = match text.first() {
+        Some(b'.') => 0,
+        _ => memchr(b'.', text)?,
+    };
     let (front, behind) = text.split_at(index);
     let Some((line, after)) = first_line(behind) else {
         return None;

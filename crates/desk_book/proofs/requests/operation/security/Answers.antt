@@ -6,10 +6,10 @@ use Rattle.desk_book.proofs.FormLemmas.{even_none}
 use Rattle.desk_book.proofs.requests.operation.security.Goals as goal
 
 pub returns-in_err-isin-clause-refused : goal.returns-in_err-isin-clause-refused
-returns-in_err-isin-clause-refused c = even_none c.from_residual-in_err-isin.result (λ reference isin kind h. c.in_err-isin.ensures.none isin h.1 (ap (text_at (codes "isin")) h.2))
+returns-in_err-isin-clause-refused g c = even_none c.from_residual-in_err-isin.result (λ reference isin kind h. c.in_err-isin.ensures.none isin h.1 (ap (text_at (codes "isin")) h.2))
 
 pub returns-in_err-kind-clause-refused : goal.returns-in_err-kind-clause-refused
-returns-in_err-kind-clause-refused c = even_none c.from_residual-in_err-kind.result (λ reference isin kind h. c.in_err-kind.ensures.none kind (ap (text_at (codes "kind")) h.2))
+returns-in_err-kind-clause-refused g c = even_none c.from_residual-in_err-kind.result (λ reference isin kind h. c.in_err-kind.ensures.none kind (ap (text_at (codes "kind")) h.2))
 
 pub returns-clause-read : goal.returns-clause-read
-returns-clause-read c = (c.in_ok-reference.ensures.read, c.in_ok-isin.ensures.read, security_is _ _ _ _ c.in_ok-member_count.ensures.ordered (rw c.if-branch-ne4.false at (sym c.in_ok-member_count.ensures.count)) c.requires c.in_ok-reference.ensures.some c.in_ok-isin.ensures.some c.in_ok-kind.ensures.some)
+returns-clause-read g c = (c.in_ok-reference.ensures.read, c.in_ok-isin.ensures.read, security_is _ _ _ _ c.in_ok-member_count.ensures.ordered (rw c.if-branch-ne4.false at (sym c.in_ok-member_count.ensures.count)) c.requires c.in_ok-reference.ensures.some c.in_ok-isin.ensures.some c.in_ok-kind.ensures.some)
