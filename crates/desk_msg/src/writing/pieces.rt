@@ -1,11 +1,13 @@
 //! Texts out of pieces.
-ghost use Rattle.std.specs.Prelude.{◌≡◌, ◌++◌, IfOk};
+ghost use Rattle.std.specs.Prelude.{◌≡◌, ◌++◌, ◌^◌, ◌-◌, length, min, IfOk};
 ghost use Rattle.std.specs.List.{flat_map};
 
 use std::alloc::{AllocError, Global};
 
-/// How many bytes pieces have together.
-fn room_of(pieces: &[&[u8]]) -> usize {
+/// How many bytes pieces have together; the largest number where they are more than that.
+fn room_of(pieces: &[&[u8]]) -> usize
+    ensures { result ≡ min (length (flat_map (λ piece. piece.now) pieces.now)) (2 ^ 64 - 1) }
+{
     let mut room = 0usize;
     for piece in pieces {
         room = room.saturating_add(piece.len());
