@@ -4,11 +4,16 @@ from plain.scripts import lines_with_ends
 
 from .messages import random_text
 from .scripts import random_script
+from .spellings import spelled_commands
 from .streams import random_streams, sent_by
 
 
 def script_input(chance):
     return ["play"], random_script(chance)
+
+
+def commands_input(chance):
+    return ["play"], spelled_commands(chance)
 
 
 def block_input(chance):
