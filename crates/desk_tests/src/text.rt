@@ -2,9 +2,7 @@
 mod vectors;
 
 use crate::text::vectors::DELIVER_AGAINST_PAYMENT;
-use desk_text::{
-    Block, BlockPart, BlockWriter, TextFault, is_name, is_tag, is_value, read_block, write_block,
-};
+use desk_text::{Block, BlockWriter, TextFault, is_name, is_tag, is_value, read_block};
 use std::test::Fail;
 
 /// The fault of a text, if it has one.
@@ -110,13 +108,12 @@ fn reads_a_message(rt: HostRuntime) -> Result<(), Fail> {
 
 #[test]
 fn writes_parts(rt: HostRuntime) -> Result<(), Fail> {
-    let parts = [
-        BlockPart::Open(b"GENL"),
-        BlockPart::Field(b"35B", b"ISIN DE0007164600\nBEARER\n"),
-        BlockPart::Close(b"GENL"),
-        BlockPart::Field(b"99", b""),
-    ];
-    let text = write_block(rt.alloc(), &parts)?;
+    let mut writer = BlockWriter::new(rt.alloc());
+    writer.open(b"GENL")?;
+    writer.field(b"35B", b"ISIN DE0007164600\nBEARER\n")?;
+    writer.close()?;
+    writer.field(b"99", b"")?;
+    let text = writer.finish()?;
     let want =
         b"{4:\r\n:16R:GENL\r\n:35B:ISIN DE0007164600\r\nBEARER\r\n\r\n:16S:GENL\r\n:99:\r\n-}";
     assert_eq!(rt; text.as_slice(), want.as_slice());

@@ -9,6 +9,5 @@ pub mod SeenLemmas
 pub mod PartLemmas
 pub mod LawLemmas
 pub mod OpenLemmas
-pub mod PutLemmas
 pub mod FeedLemmas
 pub mod LaneLemmas

@@ -7,6 +7,5 @@ pub mod Signs
 pub mod Reading
 pub mod Seen
 pub mod Steps
-pub mod PartsSeen
 pub mod Writing
 pub mod Scanning

@@ -1,23 +1,37 @@
 //! Writing a block.
 ghost use Rattle.std.specs.Prelude.{◌≡◌, ◌≢◌, ◌≤◌, ◌<◌, ◌+◌, ◌++◌, ◌∷◌, [], List, length, take, drop, vec_len, OnOk, OnErr, IfOk, IsTrue, codes};
 ghost use Rattle.std.specs.List.{flat_map};
-ghost use Rattle.desk_text.specs.Lines.{written};
+ghost use Rattle.desk_text.specs.Lines.{value_lines, written};
 ghost use Rattle.desk_text.specs.BlockGrammar.{is_name, is_tag};
 ghost use Rattle.desk_text.specs.Fields.{IsBlock};
 ghost use Rattle.desk_text.specs.Written.{Part, open_part, field_part, close_part, is_value, AreParts, lines_of_part, fields_written, fresh, after, innermost, finished, first_line};
 ghost use Rattle.desk_text.specs.Writing.{IsStarted};
-ghost use Rattle.desk_text.specs.PartsSeen.{part_seen};
 
-use crate::parts::{BlockPart, append_parts};
+use crate::spelling::split_feed;
 use std::alloc::{AllocError, Global};
 use std::marker::Model;
 use std::mem;
 
 /// The first line of a block, with its end.
-pub const FIRST_LINE: &[u8] = b"{4:\r\n";
+const FIRST_LINE: &[u8] = b"{4:\r\n";
 
 /// The last line of a block, which has no end.
-pub const LAST_LINE: &[u8] = b"-}";
+const LAST_LINE: &[u8] = b"-}";
+
+/// Adds all pieces at the end, or none.
+fn append_all(out: &mut Vec<u8>, pieces: &[&[u8]]) -> Result<(), AllocError>
+    ensures ok { OnOk result (out.new.items ≡ out.old.items ++ flat_map (λ piece. piece.now) pieces.now) }
+    ensures err { OnErr result (out.new.items ≡ out.old.items) }
+{
+    let start = out.len();
+    for piece in pieces {
+        if let Err(error) = out.extend_from_slice(piece) {
+            out.truncate(start);
+            return Err(error);
+        }
+    }
+    Ok(())
+}
 
 /// Sees to it that the first line stands in front.
 fn begin(buffer: &mut Vec<u8>) -> Result<(), AllocError>
@@ -27,20 +41,66 @@ fn begin(buffer: &mut Vec<u8>) -> Result<(), AllocError>
     ensures started { IsStarted buffer.new.items }
 {
     if buffer.is_empty() {
-        return buffer.extend_from_slice(FIRST_LINE);
+        return append_all(buffer, &[FIRST_LINE]);
     }
     Ok(())
 }
 
-/// Adds the lines of a part, behind the first line.
-fn append_part(buffer: &mut Vec<u8>, part: BlockPart<'_>) -> Result<(), AllocError>
+/// Adds the line of an opening or a closing.
+fn append_name_line(out: &mut Vec<u8>, front: &[u8], name: &[u8]) -> Result<(), AllocError>
+    ensures ok { OnOk result (out.new.items ≡ out.old.items ++ written ((front.now ++ name.now) ∷ [])) }
+    ensures err { OnErr result (out.new.items ≡ out.old.items) }
+{
+    append_all(out, &[front, name, b"\r\n"])
+}
+
+/// Adds the line of an opening or a closing, behind the first line.
+fn append_name(buffer: &mut Vec<u8>, front: &[u8], name: &[u8]) -> Result<(), AllocError>
     requires { IsStarted buffer.old.items }
-    ensures ok { OnOk result (drop 5 buffer.new.items ≡ drop 5 buffer.old.items ++ written (lines_of_part (part_seen part.entry))) }
+    ensures ok { OnOk result (drop 5 buffer.new.items ≡ drop 5 buffer.old.items ++ written ((front.now ++ name.now) ∷ [])) }
     ensures err { OnErr result (drop 5 buffer.new.items ≡ drop 5 buffer.old.items) }
     ensures started { IsStarted buffer.new.items }
 {
     begin(buffer)?;
-    append_parts(buffer, &[part])
+    append_name_line(buffer, front, name)
+}
+
+/// Adds the lines of a value, each with CR LF. What stood there stays in front, whatever the answer.
+fn append_value(out: &mut Vec<u8>, value: &[u8]) -> Result<(), AllocError>
+    ensures ok { OnOk result (out.new.items ≡ out.old.items ++ written (value_lines value.now)) }
+    ensures front { take (vec_len out.old) out.new.items ≡ out.old.items }
+{
+    let mut rest = value;
+    while let Some((line, after)) = split_feed(rest) {
+        append_all(out, &[line, b"\r\n"])?;
+        rest = after;
+    }
+    append_all(out, &[rest, b"\r\n"])
+}
+
+/// Adds the lines of a field.
+fn append_lines(out: &mut Vec<u8>, tag: &[u8], value: &[u8]) -> Result<(), AllocError>
+    ensures ok { OnOk result (out.new.items ≡ out.old.items ++ written (lines_of_part (field_part tag.now value.now))) }
+    ensures err { OnErr result (out.new.items ≡ out.old.items) }
+{
+    let before = out.len();
+    append_all(out, &[b":", tag, b":"])?;
+    if let Err(error) = append_value(out, value) {
+        out.truncate(before);
+        return Err(error);
+    }
+    Ok(())
+}
+
+/// Adds the lines of a field, behind the first line.
+fn append_field(buffer: &mut Vec<u8>, tag: &[u8], value: &[u8]) -> Result<(), AllocError>
+    requires { IsStarted buffer.old.items }
+    ensures ok { OnOk result (drop 5 buffer.new.items ≡ drop 5 buffer.old.items ++ written (lines_of_part (field_part tag.now value.now))) }
+    ensures err { OnErr result (drop 5 buffer.new.items ≡ drop 5 buffer.old.items) }
+    ensures started { IsStarted buffer.new.items }
+{
+    begin(buffer)?;
+    append_lines(buffer, tag, value)
 }
 
 /// Adds `-}`.
@@ -51,7 +111,7 @@ fn append_end(buffer: &mut Vec<u8>) -> Result<(), AllocError>
     ensures started { IsStarted buffer.new.items }
 {
     begin(buffer)?;
-    buffer.extend_from_slice(LAST_LINE)
+    append_all(buffer, &[LAST_LINE])
 }
 
 /// A block in the making, part by part (ISO 15022, block 4). It writes CR LF after each line, and nothing after `-}`.
@@ -106,7 +166,7 @@ impl BlockWriter {
     {
         let copy = Vec::from_slice(self.alloc, name)?;
         self.names.reserve(1)?;
-        append_part(&mut self.text, BlockPart::Open(name))?;
+        append_name(&mut self.text, b":16R:", name)?;
         self.names.push(copy).unwrap();
         Ok(())
     }
@@ -118,7 +178,7 @@ impl BlockWriter {
         ensures ok { OnOk result (self.new ≡ after (field_part tag.now value.now) self.old) }
         ensures err { OnErr result (self.new ≡ self.old) }
     {
-        append_part(&mut self.text, BlockPart::Field(tag, value))
+        append_field(&mut self.text, tag, value)
     }
 
     /// Closes the innermost sequence; one must be open.
@@ -128,7 +188,7 @@ impl BlockWriter {
         ensures err { OnErr result (self.new ≡ self.old) }
     {
         let last = self.names.len() - 1;
-        append_part(&mut self.text, BlockPart::Close(&self.names[last]))?;
+        append_name(&mut self.text, b":16S:", &self.names[last])?;
         self.names.truncate(last);
         Ok(())
     }

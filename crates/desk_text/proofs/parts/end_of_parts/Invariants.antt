@@ -1,9 +1,0 @@
-use Rattle.std.proofs.Common.{◌≡◌, ◌+◌, length, map, take}
-use Rattle.std.specs.List.{flat_map}
-use Rattle.desk_text.specs.Lines.{written}
-use Rattle.desk_text.specs.Written.{lines_of_part}
-use Rattle.desk_text.specs.PartsSeen.{part_seen}
-use Rattle.desk_text.proofs.parts.end_of_parts.Given as goal
-
-abbrev pub invariant-loop-part : goal.invariant-loop-part
-invariant-loop-part l = l.end ≡ l.start + length (written (flat_map lines_of_part (map part_seen (take l.part-index l.parts))))
