@@ -1,12 +1,12 @@
--- Line feeds among the lanes of a load, and in a text.
-use Rattle.std.proofs.Common.{◌≡◌, ◌≢◌, ℕ, ◌+◌, ◌%◌, ◌^◌, ◌<◌, ◌≤◌, eqb, cond, Bool, false, not, List, length, map, get_or, replicate, w8, w64, ap, ◌∙◌, arith, inl, inr}
-use Rattle.std.proofs.lemmas.Bool.{eqb-true, cases_lt}
+-- Line feeds among the lanes of a load.
+use Rattle.std.proofs.Common.{◌≡◌, ◌≢◌, ℕ, ◌+◌, ◌%◌, ◌^◌, ◌≤◌, eqb, cond, Bool, false, not, List, length, map, get_or, replicate, w8, w64, ap, ◌∙◌, arith}
+use Rattle.std.proofs.lemmas.Bool.{eqb-true}
 use Rattle.std.proofs.lemmas.Bool.Decides.{nat_tests}
 use Rattle.std.proofs.lemmas.Simd.{length-chunk, bitmask_splat, first_set_mask_l, run_in_chunk_le, run_in_chunk_fails, run_in_chunk_stops}
 use Rattle.std.specs.Int.{trailing_zeros}
 use Rattle.std.specs.List.{prefix_len}
 use lib.Lanes.{chunk, zip2, mask_l, top}
-use Rattle.desk_text.specs.Scanning.{NoFeed, IsFeedRun, IsFirstFeed}
+use Rattle.desk_text.specs.Scanning.{IsFeedRun}
 
 other : (c : ℕ) → eqb c 10 ≡ false → c ≢ 10
 other c e = grind (arith, nat_tests)
@@ -26,15 +26,3 @@ feed_run text at n r room few e =
       none = λ k from to. other (get_or text k 0) (run_in_chunk_fails p text at n r 0 room counted k from to);
       stops = λ short. eqb-true (get_or text (at + r) 0) 10 (run_in_chunk_stops p text at n r 0 room counted short);
     }
-
-pub run_finds : (text : List ℕ) (seen at n run : ℕ) → at + n ≤ length text → at ≤ seen → NoFeed text seen → IsFeedRun text at n run → run < n → IsFirstFeed text (at + run)
-run_finds text seen at n run room overlaps none r short = record {
-  within = omega arith;
-  is = r.stops short;
-  before = record { none = λ k lt. elim (cases_lt k at) [ inl early ↦ none.none k (omega arith) | inr late ↦ r.none k late lt ] };
-}
-
-pub run_passes : (text : List ℕ) (seen at n run : ℕ) → at ≤ seen → NoFeed text seen → IsFeedRun text at n run → n ≤ run → NoFeed text (at + n)
-run_passes text seen at n run overlaps none r whole = record {
-  none = λ k lt. elim (cases_lt k at) [ inl early ↦ none.none k (omega arith) | inr late ↦ r.none k late (omega arith) ];
-}

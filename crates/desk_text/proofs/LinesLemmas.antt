@@ -50,6 +50,43 @@ lines_of-last c [] a = rw (not_feed c (All-head (λ c. c ≢ 10) c [] a)) refl
 lines_of-last c (d ∷ line) a =
     rw (not_feed c (All-head (λ c. c ≢ 10) c (d ∷ line) a), lines_of-last d line (All-tail (λ c. c ≢ 10) c (d ∷ line) a), not_feed d (All-head (λ c. c ≢ 10) d line (All-tail (λ c. c ≢ 10) c (d ∷ line) a))) refl
 
+-- a text that begins with no line end
+
+onto-not_empty : (c : ℕ) (lines rest : List (List ℕ)) → onto_first c lines ≢ [] ∷ rest
+onto-not_empty c [] rest e = let h = e in cc
+onto-not_empty c (line ∷ lines) rest e = let h = e in cc
+
+no_end : (c d : ℕ) → (c ≡ 13 → d ≢ 10) → (eqb d 10 && eqb c 13) ≡ false
+no_end c d ne = grind (arith, nat_tests, ne)
+
+pub first_not_empty : (text : List ℕ) → (0 < length text → get_or text 0 0 ≢ 10) → (1 < length text → get_or text 0 0 ≡ 13 → get_or text 1 0 ≢ 10) → (rest : List (List ℕ)) → lines_of text ≢ [] ∷ rest
+first_not_empty [] one two rest e = let h = e in cc
+first_not_empty (c ∷ []) one two rest e =
+    onto-not_empty c [] rest (sym (ap (λ b. cond b ([] ∷ []) (onto_first c [])) (not_feed c (one (omega arith)))) ∙ e)
+first_not_empty (c ∷ d ∷ text) one two rest e =
+    let lines = lines_of (d ∷ text) in
+    let same : lines_of (c ∷ d ∷ text) ≡ onto_first c lines =
+    ap (λ b. cond b ([] ∷ lines) (cond (eqb d 10 && eqb c 13) lines (onto_first c lines))) (not_feed c (one (omega arith)))
+    ∙ ap (λ b. cond b lines (onto_first c lines)) (no_end c d (two (omega arith))) in
+    onto-not_empty c lines rest (sym same ∙ e)
+
+either_some : (b : Bool) (x y : List (List ℕ)) → x ≢ [] → y ≢ [] → cond b x y ≢ []
+either_some true x y p q = p
+either_some false x y p q = q
+
+onto-not_none : (c : ℕ) (lines : List (List ℕ)) → onto_first c lines ≢ []
+onto-not_none c [] e = let h = e in cc
+onto-not_none c (line ∷ lines) e = let h = e in cc
+
+-- a text that isn't empty has a line
+pub some_line : (c : ℕ) (text : List ℕ) → lines_of (c ∷ text) ≢ []
+some_line c [] = either_some (eqb c 10) ([] ∷ []) (onto_first c []) (λ e. let h = e in cc) (onto-not_none c [])
+some_line c (d ∷ text) =
+    let lines = lines_of (d ∷ text) in
+    let returns = eqb d 10 && eqb c 13 in
+    either_some (eqb c 10) ([] ∷ lines) (cond returns lines (onto_first c lines)) (λ e. let h = e in cc)
+    (either_some returns lines (onto_first c lines) (some_line d text) (onto-not_none c lines))
+
 -- what stands before an LF, the text's first lines
 
 pub lines_of-found : (text line rest : List ℕ) → (text ≡ line ++ 10 ∷ rest) × All (λ c. c ≢ 10) line → lines_of text ≡ strip_return line ∷ lines_of rest

@@ -1,5 +1,5 @@
 -- The reader's steps, over plain lists.
-use Rattle.std.proofs.Common.{◌≡◌, ℕ, ◌+◌, ◌-◌, suc, zero, get_or, set, arith, Bool, true, false, cond, ◌&&◌, eqb, codes, nat_lt, List, [], ◌∷◌, ◌++◌, length, map, reverse, Option, Some, None, Result, Ok, Err, refl, sym, ap, ◌∙◌, append_assoc, append-nil}
+use Rattle.std.proofs.Common.{◌≡◌, ◌≢◌, ℕ, ◌+◌, ◌-◌, suc, zero, get_or, set, arith, Bool, true, false, cond, ◌&&◌, eqb, codes, nat_lt, List, [], ◌∷◌, ◌++◌, length, map, reverse, Option, Some, None, Result, Ok, Err, refl, sym, ap, ◌∙◌, append_assoc, append-nil}
 use Rattle.std.specs.Str.{bytes_eq}
 use Rattle.desk_text.specs.declared.limits.TheConstants.{DEEPEST}
 use Rattle.desk_text.specs.declared.fields.Field.{Field}
@@ -11,6 +11,7 @@ use Rattle.desk_text.specs.Fields.{Found}
 use Rattle.desk_text.specs.Reading.{Rest, nothing, with_field, with_value, read_after, read_from, extend_last, after_found}
 use Rattle.desk_text.specs.Signs.{Sign, opens, closes, starts, further, ends, strange, sign_of, sign_of_tag, sign_of_split, split_tag}
 use Rattle.desk_text.specs.Seen.{found_of}
+use Rattle.desk_text.proofs.LinesLemmas.{some_line}
 
 -- the last field's value
 
@@ -123,12 +124,15 @@ line-bad_after c line =
     either_sign IsBadAfter (bytes_eq (c ∷ line) (codes "-}")) ends (cond (is_further (c ∷ line)) (further (c ∷ line)) strange) (record { at = λ signs k. refl }) plain in
     either_sign IsBadAfter (eqb c 58) (sign_of_split (split_tag line)) (cond (bytes_eq (c ∷ line) (codes "-}")) ends (cond (is_further (c ∷ line)) (further (c ∷ line)) strange)) (split-bad_after (split_tag line)) others
 
-pub some-bad_after : (line : List ℕ) → eqb (length line) 0 ≡ false → IsBadAfter (sign_of line)
-some-bad_after [] e = absurd (let h = e in cc)
-some-bad_after (c ∷ line) e = line-bad_after c line
+-- of lines, the first of which isn't empty
+lines_stop : (lines : List (List ℕ)) (k : ℕ) → lines ≢ [] → ((rest : List (List ℕ)) → lines ≢ [] ∷ rest) → read_after (map sign_of lines) k ≡ Err (BadLine k)
+lines_stop [] k some first = absurd (some refl)
+lines_stop ([] ∷ lines) k some first = absurd (first lines refl)
+lines_stop ((c ∷ line) ∷ lines) k some first = (line-bad_after c line).at (map sign_of lines) k
 
-pub after_stops : (text line after : List ℕ) (k : ℕ) → lines_of text ≡ line ∷ lines_of after → eqb (length line) 0 ≡ false → read_after (map sign_of (lines_of text)) k ≡ Err (BadLine k)
-after_stops text line after k lines some = ap (λ z. read_after (map sign_of z) k) lines ∙ (some-bad_after line some).at (map sign_of (lines_of after)) k
+pub after_stops : (text : List ℕ) (k : ℕ) → eqb (length text) 0 ≡ false → ((rest : List (List ℕ)) → lines_of text ≢ [] ∷ rest) → read_after (map sign_of (lines_of text)) k ≡ Err (BadLine k)
+after_stops [] k some first = absurd (let h = some in cc)
+after_stops (c ∷ text) k some first = lines_stop (lines_of (c ∷ text)) k (some_line c text) first
 
 -- The block ends: what was found is all.
 pub read_ended : (all : Result Rest TextFault) (found found' : List Found) (text line after : List ℕ) (sign : Sign) (within : List (List ℕ)) (goes_on : Bool) (k : ℕ) →

@@ -1,5 +1,5 @@
 //! Lines, and what each is by itself.
-ghost use Rattle.std.specs.Prelude.{◌≡◌, ◌∷◌, ◌<◌, [], length, IfSome, IfNone};
+ghost use Rattle.std.specs.Prelude.{◌≡◌, ◌≢◌, ◌∷◌, ◌<◌, [], List, ℕ, length, IfSome, IfNone};
 ghost use Rattle.std.specs.Option.{option_map};
 ghost use Rattle.desk_text.specs.Lines.{lines_of};
 ghost use Rattle.desk_text.specs.Reading.{strip_return};
@@ -51,6 +51,20 @@ pub fn next_line(text: &[u8]) -> Option<(&[u8], &[u8])>
     match split_feed(text) {
         Some((line, rest)) => Some((without_return(line), rest)),
         None => Some((text, &text[..0])),
+    }
+}
+
+/// What comes after the line end that a text begins with.
+#[inline(always)]
+#[tactic(auto, using(crate::proofs::LinesLemmas::first_not_empty))]
+pub fn after_line_end(text: &[u8]) -> Option<&[u8]>
+    ensures some { IfSome result (λ rest. lines_of text.now ≡ [] ∷ lines_of rest.now) }
+    ensures shorter { IfSome result (λ rest. length rest.now < length text.now) }
+    ensures none { IfNone result ((rest : List (List ℕ)) → lines_of text.now ≢ [] ∷ rest) }
+{
+    match text {
+        [b'\n', rest @ ..] | [b'\r', b'\n', rest @ ..] => Some(rest),
+        _ => None,
     }
 }
 

@@ -9,7 +9,7 @@ ghost use Rattle.desk_text.specs.Steps.{Takes, After, Returns};
 use crate::faults::TextFault;
 use crate::fields::{Block, Field, USUAL_DEPTH};
 use crate::limits::{DEEPEST, LONGEST_TEXT};
-use crate::lines::{Line, next_line, read_line};
+use crate::lines::{Line, after_line_end, next_line, read_line};
 use smallvec::SmallVec;
 use std::alloc::{AllocError, Global};
 
@@ -100,20 +100,22 @@ impl<'a> Reader<'a> {
 }
 
 /// After `-}`, from the line of that number on, only line ends may come.
+// Within its caller's code the loop would be short of registers.
+#[inline(never)]
 fn only_line_ends(text: &[u8], number: usize) -> Result<(), TextFault>
     requires { number + length text.now < 2 ^ 32 }
     ensures { After text.now number result }
 {
     let mut rest = text;
     let mut number = number;
-    while let Some((line, after)) = next_line(rest) {
-        if !line.is_empty() {
-            return Err(TextFault::BadLine(number));
-        }
+    while let Some(after) = after_line_end(rest) {
         rest = after;
         number += 1;
     }
-    Ok(())
+    if rest.is_empty() {
+        return Ok(());
+    }
+    Err(TextFault::BadLine(number))
 }
 
 /// Reads the lines after the first.
