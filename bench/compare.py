@@ -1,7 +1,8 @@
-"""Runs each workload of workloads.txt by turns in two built checkouts: compare.py OLD NEW [SEED]. A workload is a line NAME
-CRATE WORD..: the proved program of the crate is run with the words in the folder bench of its checkout, the word SEED being
-a number, and a last word <FILE its standard input. Prints the median processor seconds of both and their ratio, and stops
-where what they print differs."""
+"""Runs the workloads of workloads.txt by turns in two built checkouts: compare.py OLD NEW [SEED] [NAME..], those of these names
+(none: all). A workload is a line NAME CRATE WORD..: the proved program of the crate is run with the words in the folder bench
+of its checkout, the word SEED being a number, and a last word <FILE its standard input. Prints the median processor seconds of
+both and their ratio, and stops where what they print differs. A workload that OLD has not is not compared, and said to be new:
+it can be from the commit on that brought it."""
 
 import os
 import statistics
@@ -13,8 +14,10 @@ USUAL_SEED = 1
 
 
 def workloads_of(checkout):
+    """The words of each workload, by its name."""
     with open(os.path.join(checkout, "bench", "workloads.txt"), encoding="ascii") as lines:
-        return [line.split() for line in lines if line.strip()]
+        split = [line.split() for line in lines if line.strip()]
+    return {name: words for name, *words in split}
 
 
 def run(checkout, crate, words):
@@ -35,18 +38,25 @@ def run(checkout, crate, words):
 
 
 def main():
-    if len(sys.argv) not in (3, 4):
-        sys.exit("usage: bench/run OLD NEW [SEED]")
+    if len(sys.argv) < 3:
+        sys.exit("usage: bench/run OLD NEW [SEED] [NAME..]")
     checkouts = [os.path.abspath(path) for path in sys.argv[1:3]]
     for checkout in checkouts:
         if not os.path.isdir(os.path.join(checkout, "crates")):
             sys.exit(f"{checkout} is no checkout")
-    seed = sys.argv[3] if len(sys.argv) == 4 else str(USUAL_SEED)
+    names = sys.argv[3:]
+    seed = names.pop(0) if names and names[0].isdigit() else str(USUAL_SEED)
+    known, workloads = (workloads_of(checkout) for checkout in checkouts)
+    if unknown := [name for name in names if name not in workloads]:
+        sys.exit(f"{checkouts[1]} has no workload {unknown[0]}")
     print(f"seed {seed}, {TURNS} turns, processor seconds, medians", flush=True)
     print("| workload | old | new | old over new |")
     print("|---|--:|--:|--:|", flush=True)
-    for name, crate, *words in workloads_of(checkouts[1]):
-        words = [seed if word == "SEED" else word for word in words]
+    for name in names or workloads:
+        if name not in known:
+            print(f"| {name} | new | | |", flush=True)
+            continue
+        crate, *words = [seed if word == "SEED" else word for word in workloads[name]]
         times = [[], []]
         printed = None
         for turn in range(TURNS):

@@ -1,21 +1,15 @@
 """Counts what runs over pairs that lack something cost: short.py PROGRAM [WORD..], PROGRAM being the desk's.
 
 Each script is played by `PROGRAM play`, whole and without what stands from its first run on (of calls that are told alone:
-from that call on); the difference is what the rest costs. Where valgrind is there, it is in instructions, which no other work
-disturbs, else in processor seconds, the least of five. With words, only scripts are counted whose names have one of them. It
-prints a row of a table for each, in millions or in milliseconds; docs/PERF.md has them."""
+from that call on); the difference is what the rest costs. With words, only scripts are counted whose names have one of them. It
+prints a row of a table for each; docs/PERF.md has them."""
 
 import itertools
-import os
-import re
-import resource
-import shutil
-import subprocess
 import sys
-import tempfile
+
+from counting import COST, UNIT
 
 DAY, ISIN = "20240314", "DE0007164600"
-TURNS = 5
 IN_WORDS = {1: "one run", 2: "two runs", 3: "three runs", 50: "fifty runs"}
 
 # How much each pair moves, its amount in euros and in minor units, and what is issued where securities are not to lack.
@@ -205,37 +199,17 @@ def scripts():
         yield f"a redemption of one unit, behind {after} over 16,000 pairs", lambda: alone("money", runs, lambda script: script.moved("redeem", 1))
 
 
-def instructions(program, text, folder):
-    counts = os.path.join(folder, "counts")
-    words = ["valgrind", "--tool=callgrind", f"--callgrind-out-file={counts}", program, "play"]
-    played = subprocess.run(words, input=text, stdout=subprocess.DEVNULL, stderr=subprocess.PIPE, check=True)
-    return int(re.search(rb"Collected : (\d+)", played.stderr).group(1)) / 1e6
-
-
-def milliseconds(program, text, _folder):
-    def once():
-        before = resource.getrusage(resource.RUSAGE_CHILDREN)
-        subprocess.run([program, "play"], input=text, stdout=subprocess.DEVNULL, check=True)
-        after = resource.getrusage(resource.RUSAGE_CHILDREN)
-        return (after.ru_utime + after.ru_stime - before.ru_utime - before.ru_stime) * 1e3
-
-    return min(once() for _ in range(TURNS))
-
-
 def main(program, words):
-    cost, unit = (instructions, "millions of instructions") if shutil.which("valgrind") else (milliseconds, "milliseconds")
-    print(f"| script | {unit} |")
+    print(f"| script | millions of {UNIT} |")
     print("|---|--:|", flush=True)
-    with tempfile.TemporaryDirectory() as folder:
-        for name, make in scripts():
-            if words and not any(word in name for word in words):
-                continue
-            script = make()
-            whole, opening = (
-                cost(program, "".join(requests).encode(), folder)
-                for requests in (script.requests, script.requests[: script.counted_from])
-            )
-            print(f"| {name} | {whole - opening:,.2f} |", flush=True)
+    for name, make in scripts():
+        if words and not any(word in name for word in words):
+            continue
+        script = make()
+        whole, opening = (
+            COST(program, "".join(requests).encode()) for requests in (script.requests, script.requests[: script.counted_from])
+        )
+        print(f"| {name} | {(whole - opening) / 1e6:,.2f} |", flush=True)
 
 
 main(sys.argv[1], sys.argv[2:])

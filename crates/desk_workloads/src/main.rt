@@ -4,11 +4,12 @@
 //! a digest of all results and their length. bench/workloads.txt has the words that bench/run times.
 //!
 //! `day` plays days as scripts over the index, `tables` one over tables in SQL, `runs` lets runs go over much that waits,
-//! `reports` asks for statements and totals of many securities, `messages` reads messages and serves connections, and
-//! `replay` takes a kept history in once more.
+//! `reports` asks for statements and totals of many securities, `messages` reads messages and serves connections,
+//! `replay` takes a kept history in once more, and `commands` plays operator's commands in several spellings.
 #![tactic(auto)]
 
 mod codes;
+mod commands;
 mod connections;
 mod day;
 mod days;
@@ -48,16 +49,18 @@ enum Kind {
     Reports,
     Messages,
     Replay,
+    Commands,
 }
 
 /// All of them.
-const KINDS: [Kind; 6] = [
+const KINDS: [Kind; 7] = [
     Kind::Day,
     Kind::Tables,
     Kind::Runs,
     Kind::Reports,
     Kind::Messages,
     Kind::Replay,
+    Kind::Commands,
 ];
 
 impl Kind {
@@ -70,6 +73,7 @@ impl Kind {
             "reports" => Some(Kind::Reports),
             "messages" => Some(Kind::Messages),
             "replay" => Some(Kind::Replay),
+            "commands" => Some(Kind::Commands),
             _ => None,
         }
     }
@@ -90,6 +94,7 @@ impl Kind {
             Kind::Reports => reports::ask_reports(alloc, seed, round, size, digest),
             Kind::Messages => messages::read_messages(alloc, seed, round, size, digest),
             Kind::Replay => replays::take_in_again(alloc, seed, round, size, digest),
+            Kind::Commands => commands::play_commands(alloc, seed, round, size, digest),
         }
     }
 }

@@ -1,0 +1,82 @@
+"""Counts what commands cost in each spelling that users write: spellings.py PROGRAM, PROGRAM being the desk's.
+
+The same 5,000 commands, as many of each operation, are played by `PROGRAM play` in each spelling; an empty script's cost is
+taken off. It prints a row of a table for each spelling: the cost of one command, and how often that of the first row it is."""
+
+import json
+import sys
+
+from counting import COST, UNIT
+
+EACH = 625
+
+
+def check_digit(body):
+    """The last digit of an ISIN (ISO 6166, annex A)."""
+    digits = "".join(str(int(c, 36)) for c in body)
+    doubled = [int(d) * (2 if at % 2 == 0 else 1) for at, d in enumerate(reversed(digits))]
+    return -sum(n // 10 + n % 10 for n in doubled) % 10
+
+
+def isin(number):
+    body = f"DE{number:09d}"
+    return f"{body}{check_digit(body)}"
+
+
+def bic(number):
+    return "".join(chr(65 + number // 26**place % 26) for place in (3, 2, 1, 0)) + "DEFF"
+
+
+def commands():
+    """The members of each command, the operation and the reference first."""
+    for number in range(EACH):
+        name, account, security = bic(number), f"SAFE-{number:06d}", isin(number)
+        moved = {"account": account, "isin": security}
+        paid = {"bic": name, "ccy": "EUR"}
+        yield from (
+            {"op": "participant", "ref": f"P{number}", "bic": name},
+            {"op": "account", "ref": f"A{number}", "bic": name, "account": account},
+            {"op": "security", "ref": f"S{number}", "isin": security, "kind": "UNIT"},
+            {"op": "issue", "ref": f"I{number}", **moved, "quantity": 1000 + number},
+            {"op": "redeem", "ref": f"R{number}", **moved, "quantity": 1 + number},
+            {"op": "payin", "ref": f"C{number}", **paid, "amount": 100_000 + number},
+            {"op": "payout", "ref": f"O{number}", **paid, "amount": 1 + number},
+            {"op": "run", "ref": f"D{number}", "day": "20240314"},
+        )
+
+
+def compact(members):
+    return json.dumps(members, separators=(",", ":"))
+
+
+def pretty(members):
+    return json.dumps(members, indent=2)
+
+
+SPELLINGS = {
+    "compact": compact,
+    "with spaces": json.dumps,
+    "sorted": lambda members: json.dumps(members, sort_keys=True, separators=(",", ":")),
+    "sorted, with spaces": lambda members: json.dumps(members, sort_keys=True),
+    "pretty-printed": pretty,
+    "with CR LF": lambda members: compact(members) + "\r",
+    "pretty-printed, with CR LF": lambda members: pretty(members).replace("\n", "\r\n") + "\r",
+}
+
+
+def script(spell):
+    return "".join(f"op\n{spell(members)}\n.\n" for members in commands()).encode()
+
+
+def main(program):
+    print(f"| spelling | {UNIT} a command | of compact |")
+    print("|---|--:|--:|", flush=True)
+    nothing = COST(program, b"")
+    first = None
+    for name, spell in SPELLINGS.items():
+        cost = (COST(program, script(spell)) - nothing) / (8 * EACH)
+        first = first or cost
+        print(f"| {name} | {cost:,.0f} | {cost / first:.2f} |", flush=True)
+
+
+main(sys.argv[1])
