@@ -3,6 +3,7 @@ pub mod Content
 pub mod Holds
 pub mod Appending
 pub mod Kept
+pub mod Slots
 pub mod Facts
 pub mod Known
 pub mod Undone

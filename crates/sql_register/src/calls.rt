@@ -68,19 +68,19 @@ impl<S: Alter> Register for SqlRegister<S> {
             .told_entries(count_entries(&mut self.conn, known))
     }
 
-    fn participant(&mut self, _alloc: Global, bic: Bic) -> Result<bool, Fault> {
+    fn participant(&mut self, alloc: Global, bic: Bic) -> Result<bool, Fault> {
         let found = looking::participant(&mut self.conn, &self.course.known.facts, bic);
-        self.course.told_participant(bic, found)
+        self.course.told_participant(alloc, bic, found)
     }
 
-    fn owner(&mut self, _alloc: Global, account: AccountId) -> Result<Option<Bic>, Fault> {
+    fn owner(&mut self, alloc: Global, account: AccountId) -> Result<Option<Bic>, Fault> {
         let found = looking::owner(&mut self.conn, &self.course.known.facts, account);
-        self.course.told_owner(account, found)
+        self.course.told_owner(alloc, account, found)
     }
 
-    fn security(&mut self, _alloc: Global, isin: Isin) -> Result<Option<Kind>, Fault> {
+    fn security(&mut self, alloc: Global, isin: Isin) -> Result<Option<Kind>, Fault> {
         let found = looking::security(&mut self.conn, &self.course.known.facts, isin);
-        self.course.told_kind(isin, found)
+        self.course.told_kind(alloc, isin, found)
     }
 
     fn outstanding(&mut self, _alloc: Global, isin: Isin) -> Result<u64, Fault> {
@@ -188,10 +188,10 @@ impl<S: Alter> Register for SqlRegister<S> {
             .told(confirmation_of(&mut self.conn, alloc, number))
     }
 
-    fn append(&mut self, _alloc: Global, entry: Entry, reply: Reply) -> Result<(), Fault> {
+    fn append(&mut self, alloc: Global, entry: Entry, reply: Reply) -> Result<(), Fault> {
         let known = self.course.known.entries;
         let added = appending::append(&mut self.conn, known, &entry, &reply);
-        self.course.told_entry(entry, added)
+        self.course.told_entry(alloc, entry, added)
     }
 
     fn pair(&mut self, alloc: Global, earlier: u64, later: u64) -> Result<(), Fault> {

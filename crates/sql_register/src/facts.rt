@@ -7,9 +7,11 @@ ghost use Rattle.desk_rules.specs.History.{entry_at};
 ghost use Rattle.sql_entries.specs.Entries.{entries_in};
 ghost use Rattle.sql_register.specs.Facts.{AreFactsOf};
 
+use crate::slots::{Fact, Slots};
 use desk_codes::{AccountId, Bic, Isin};
 use desk_msg::Kind;
 use desk_rules::Entry;
+use std::alloc::Global;
 
 /// Of each there are so many slots. What is found takes the slot of its text, in place of what stood there.
 const SLOTS: usize = 256;
@@ -17,16 +19,35 @@ const SLOTS: usize = 256;
 /// Of entries there are so many, by number.
 const RECENT: usize = 64;
 
-/// What was found, by slots.
-#[derive(Clone, Copy)]
-pub struct Facts {
-    participants: [Option<Bic>; 256],
-    owners: [Option<(AccountId, Bic)>; 256],
-    kinds: [Option<(Isin, Kind)>; 256],
-    entries: [Option<(u64, Entry)>; 64],
+/// It carries each byte of what it multiplies to the highest.
+const MIXER: u32 = 0x045D_9F3B;
+
+impl Fact for Bic {
+    ghost is_so = { λ register bic. is_participant (entries_in register) bic ≡ true };
 }
 
-/// The slot of a text.
+impl Fact for (AccountId, Bic) {
+    ghost is_so = { λ register found. owner_of (entries_in register) found.0 ≡ Some found.1 };
+}
+
+impl Fact for (Isin, Kind) {
+    ghost is_so = { λ register found. kind_of (entries_in register) found.0 ≡ Some found.1 };
+}
+
+impl Fact for (u64, Entry) {
+    ghost is_so = { λ register found. entry_at (entries_in register) found.0 ≡ Some found.1 };
+}
+
+/// What was found, by slots. Their memory is taken as the first of each is noted; where it is refused, none of them is known.
+#[derive(Drop)]
+pub struct Facts {
+    participants: Slots<Bic, SLOTS>,
+    owners: Slots<(AccountId, Bic), SLOTS>,
+    kinds: Slots<(Isin, Kind), SLOTS>,
+    entries: Slots<(u64, Entry), RECENT>,
+}
+
+/// The slot of a text. Texts that count up differ in few bits of the sum, so these are mixed.
 fn slot(text: &[u8]) -> usize
     ensures { result < SLOTS }
 {
@@ -34,7 +55,8 @@ fn slot(text: &[u8]) -> usize
     for byte in text {
         sum = sum.wrapping_mul(31).wrapping_add(u32::from(*byte));
     }
-    sum as usize % SLOTS
+    let mixed = (sum ^ sum >> 16).wrapping_mul(MIXER);
+    (mixed >> 24) as usize % SLOTS
 }
 
 /// The slot of a number.
@@ -49,18 +71,28 @@ impl Facts {
         ensures { (register : List Kept) → AreFactsOf result register }
     {
         Facts {
-            participants: [None; 256],
-            owners: [None; 256],
-            kinds: [None; 256],
-            entries: [None; 64],
+            participants: Slots::none(),
+            owners: Slots::none(),
+            kinds: Slots::none(),
+            entries: Slots::none(),
         }
+    }
+
+    /// Forgets all that was found.
+    pub fn forget(&mut self)
+        ensures { (register : List Kept) → AreFactsOf self.new register }
+    {
+        self.participants.forget();
+        self.owners.forget();
+        self.kinds.forget();
+        self.entries.forget();
     }
 
     /// Whether a BIC is known to be a participant's.
     pub fn has_participant(&self, bic: &Bic) -> bool
         ensures { (register : List Kept) → AreFactsOf self.now register → result ≡ true → is_participant (entries_in register) bic.now ≡ true }
     {
-        match &self.participants[slot(bic.as_bytes())] {
+        match self.participants.at(slot(bic.as_bytes())) {
             Some(known) => known == bic,
             None => false,
         }
@@ -70,7 +102,7 @@ impl Facts {
     pub fn owner(&self, account: &AccountId) -> Option<Bic>
         ensures { (register : List Kept) → AreFactsOf self.now register → IfSome result (λ bic. owner_of (entries_in register) account.now ≡ Some bic) }
     {
-        match &self.owners[slot(account.as_bytes())] {
+        match self.owners.at(slot(account.as_bytes())) {
             Some((known, bic)) if known == account => Some(*bic),
             _ => None,
         }
@@ -80,7 +112,7 @@ impl Facts {
     pub fn kind(&self, isin: &Isin) -> Option<Kind>
         ensures { (register : List Kept) → AreFactsOf self.now register → IfSome result (λ kind. kind_of (entries_in register) isin.now ≡ Some kind) }
     {
-        match &self.kinds[slot(isin.as_bytes())] {
+        match self.kinds.at(slot(isin.as_bytes())) {
             Some((known, kind)) if known == isin => Some(*kind),
             _ => None,
         }
@@ -90,42 +122,44 @@ impl Facts {
     pub fn entry(&self, number: u64) -> Option<Entry>
         ensures { (register : List Kept) → AreFactsOf self.now register → IfSome result (λ entry. entry_at (entries_in register) number ≡ Some entry) }
     {
-        match &self.entries[slot_of_number(number)] {
+        match self.entries.at(slot_of_number(number)) {
             Some((known, entry)) if *known == number => Some(*entry),
             _ => None,
         }
     }
 
-    pub fn note_participant(&mut self, bic: Bic)
+    pub fn note_participant(&mut self, alloc: Global, bic: Bic)
         ensures { (register : List Kept) → AreFactsOf self.old register → is_participant (entries_in register) bic ≡ true → AreFactsOf self.new register }
     {
-        self.participants[slot(bic.as_bytes())] = Some(bic);
+        self.participants.note(alloc, slot(bic.as_bytes()), bic);
     }
 
-    pub fn note_owner(&mut self, account: AccountId, bic: Bic)
+    pub fn note_owner(&mut self, alloc: Global, account: AccountId, bic: Bic)
         ensures { (register : List Kept) → AreFactsOf self.old register → owner_of (entries_in register) account ≡ Some bic → AreFactsOf self.new register }
     {
-        self.owners[slot(account.as_bytes())] = Some((account, bic));
+        self.owners
+            .note(alloc, slot(account.as_bytes()), (account, bic));
     }
 
-    pub fn note_kind(&mut self, isin: Isin, kind: Kind)
+    pub fn note_kind(&mut self, alloc: Global, isin: Isin, kind: Kind)
         ensures { (register : List Kept) → AreFactsOf self.old register → kind_of (entries_in register) isin ≡ Some kind → AreFactsOf self.new register }
     {
-        self.kinds[slot(isin.as_bytes())] = Some((isin, kind));
+        self.kinds.note(alloc, slot(isin.as_bytes()), (isin, kind));
     }
 
-    pub fn note_entry(&mut self, number: u64, entry: Entry)
+    pub fn note_entry(&mut self, alloc: Global, number: u64, entry: Entry)
         ensures { (register : List Kept) → AreFactsOf self.old register → entry_at (entries_in register) number ≡ Some entry → AreFactsOf self.new register }
     {
-        self.entries[slot_of_number(number)] = Some((number, entry));
+        self.entries
+            .note(alloc, slot_of_number(number), (number, entry));
     }
 
     /// What was found at a number, if anything.
-    pub fn note_found(&mut self, number: u64, found: &Option<Entry>)
+    pub fn note_found(&mut self, alloc: Global, number: u64, found: &Option<Entry>)
         ensures { (register : List Kept) → AreFactsOf self.old register → found.now ≡ entry_at (entries_in register) number → AreFactsOf self.new register }
     {
         match found {
-            Some(entry) => self.note_entry(number, *entry),
+            Some(entry) => self.note_entry(alloc, number, *entry),
             None => (),
         }
     }

@@ -14,9 +14,10 @@ use desk_msg::Kind;
 use desk_register::{Fault, Stage};
 use desk_rules::Entry;
 use sqlite::{Error, ErrorCode};
+use std::alloc::Global;
 
 /// How a register fares: the stage of what was begun, how many answers named the device, and what is known of the tables.
-#[derive(Clone, Copy)]
+#[derive(Drop)]
 pub struct Course {
     pub(crate) stage: Stage,
     /// It stops at the greatest number
@@ -41,7 +42,7 @@ impl Course {
         ensures stage { self.new.stage ≡ self.old.stage }
         ensures nothing { KnowsNothing self.new.known }
     {
-        self.known = Known::nothing();
+        self.known.forget();
         match error {
             Error::SqliteFailure(ErrorCode::OutOfMemory | ErrorCode::TooBig) => Fault::Memory,
             _ => {
@@ -58,7 +59,7 @@ impl Course {
         ensures nothing { KnowsNothing self.new.known }
     {
         self.stage = Stage::Idle;
-        self.known = Known::nothing();
+        self.known.forget();
     }
 
     /// What a call on the tables gave, as it is told of the register: where the call failed, so does what was begun.
@@ -109,6 +110,7 @@ impl Course {
     /// The same of a call that looks whether a BIC is a participant's.
     pub(crate) fn told_participant(
         &mut self,
+        alloc: Global,
         bic: Bic,
         given: Result<bool, Error>,
     ) -> Result<bool, Fault>
@@ -118,7 +120,7 @@ impl Course {
     {
         match given {
             Ok(true) => {
-                self.known.facts.note_participant(bic);
+                self.known.facts.note_participant(alloc, bic);
                 Ok(true)
             }
             other => self.told(other),
@@ -128,6 +130,7 @@ impl Course {
     /// The same of a call that looks whose an account is.
     pub(crate) fn told_owner(
         &mut self,
+        alloc: Global,
         account: AccountId,
         given: Result<Option<Bic>, Error>,
     ) -> Result<Option<Bic>, Fault>
@@ -137,7 +140,7 @@ impl Course {
     {
         match given {
             Ok(Some(bic)) => {
-                self.known.facts.note_owner(account, bic);
+                self.known.facts.note_owner(alloc, account, bic);
                 Ok(Some(bic))
             }
             other => self.told(other),
@@ -147,6 +150,7 @@ impl Course {
     /// The same of a call that looks how a security is counted.
     pub(crate) fn told_kind(
         &mut self,
+        alloc: Global,
         isin: Isin,
         given: Result<Option<Kind>, Error>,
     ) -> Result<Option<Kind>, Fault>
@@ -156,7 +160,7 @@ impl Course {
     {
         match given {
             Ok(Some(kind)) => {
-                self.known.facts.note_kind(isin, kind);
+                self.known.facts.note_kind(alloc, isin, kind);
                 Ok(Some(kind))
             }
             other => self.told(other),
@@ -164,12 +168,17 @@ impl Course {
     }
 
     /// The same of a call that adds an entry.
-    pub(crate) fn told_entry(&mut self, entry: Entry, given: Result<(), Error>) -> Result<(), Fault>
+    pub(crate) fn told_entry(
+        &mut self,
+        alloc: Global,
+        entry: Entry,
+        given: Result<(), Error>,
+    ) -> Result<(), Fault>
         ensures told { IsTold given result self.old.stage self.new.stage self.old.failures self.new.failures }
         ensures known { (register : List Kept) (sent : List Sent) (kept : Kept) → kept.entry ≡ entry → IsKnownOf self.old.known register sent → OnOk given (IsKnownOf self.new.known (register ++ kept ∷ []) sent) }
         ensures nothing { OnErr given (KnowsNothing self.new.known) }
     {
-        self.known.add_entry(entry);
+        self.known.add_entry(alloc, entry);
         self.told(given)
     }
 

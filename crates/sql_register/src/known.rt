@@ -6,10 +6,11 @@ ghost use Rattle.sql_register.specs.Known.{IsKnownOf, KnowsNothing};
 
 use crate::facts::Facts;
 use desk_rules::Entry;
+use std::alloc::Global;
 
 /// How many entries and sent messages the tables have, where a call has asked it, and what was found among the entries.
 /// Nothing is known after a call that failed, or once a transaction was taken back.
-#[derive(Clone, Copy)]
+#[derive(Drop)]
 pub struct Known {
     pub(crate) entries: Option<u64>,
     pub(crate) messages: Option<u64>,
@@ -27,13 +28,22 @@ impl Known {
         }
     }
 
+    /// Forgets all that is known.
+    pub(crate) fn forget(&mut self)
+        ensures { KnowsNothing self.new }
+    {
+        self.entries = None;
+        self.messages = None;
+        self.facts.forget();
+    }
+
     /// An entry more.
-    pub(crate) fn add_entry(&mut self, entry: Entry)
+    pub(crate) fn add_entry(&mut self, alloc: Global, entry: Entry)
         ensures { (register : List Kept) (sent : List Sent) (kept : Kept) → kept.entry ≡ entry → IsKnownOf self.old register sent → IsKnownOf self.new (register ++ kept ∷ []) sent }
     {
         self.entries = one_more(self.entries);
         match self.entries {
-            Some(number) => self.facts.note_entry(number, entry),
+            Some(number) => self.facts.note_entry(alloc, number, entry),
             None => (),
         }
     }

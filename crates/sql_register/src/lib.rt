@@ -5,8 +5,8 @@
 //! the law: each is one function over a connection, whose end `fault.rt` tells of the register. `looking` finds, `appending`,
 //! `pairing`, `settling`, `cancelling` and `sending` change, `undoing` takes a transaction back, and `numbers` says which
 //! numbers the tables can hold. `known.rt` is what a register knows of its tables beside them, `facts.rt` what it found among
-//! the entries, and `counting` asks for a number that is not known. Begin with specs/Content.antt, what the tables say, and
-//! specs/Holds.antt, what they keep true.
+//! the entries, in slots of `slots.rt`, and `counting` asks for a number that is not known. Begin with specs/Content.antt, what
+//! the tables say, and specs/Holds.antt, what they keep true.
 #![tactic(auto)]
 
 mod appending;
@@ -22,6 +22,7 @@ mod numbers;
 mod pairing;
 mod sending;
 mod settling;
+mod slots;
 mod sql_register;
 mod undoing;
 

@@ -184,7 +184,7 @@ pub fn entry<S: Alter>(
         return Ok(Some(known));
     }
     let found = entry_at(conn, alloc, number)?;
-    facts.note_found(number, &found);
+    facts.note_found(alloc, number, &found);
     Ok(found)
 }
 
