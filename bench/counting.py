@@ -1,5 +1,5 @@
 """What it costs a program to play a script: in instructions where valgrind is there, which no other work disturbs, else in
-processor seconds, the least of five runs."""
+nanoseconds of the processor, the least of five runs."""
 
 import os
 import re

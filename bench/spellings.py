@@ -1,7 +1,7 @@
 """Counts what commands cost in each spelling that users write: spellings.py PROGRAM, PROGRAM being the desk's.
 
 The same 5,000 commands, as many of each operation, are played by `PROGRAM play` in each spelling; an empty script's cost is
-taken off. It prints a row of a table for each spelling: the cost of one command, and how often that of the first row it is."""
+taken off. It prints a row of a table for each spelling: the cost of one command, and how many times the first row's it is."""
 
 import json
 import sys

@@ -33,7 +33,7 @@ SPELLINGS = compact, with_spaces, sorted_by_name, pretty_printed, with_returns
 
 
 def changed(chance, text):
-    """A text with one byte changed: another one in its place, or one that JSON has a use for."""
+    """A text with one byte replaced, by one that JSON has a use for or by any."""
     at = chance.below(len(text))
     other = chance.pick(b' \t\r\n",:{}[]\\0159eE+-.unlf') if chance.happens(60) else chance.below(256)
     return text[:at] + bytes([other]) + text[at + 1 :]

@@ -37,9 +37,6 @@ use Rattle.desk_book.proofs.ExactLemmas.{ordered_put, len_put}
 
 -- ---- the parts of a text
 
-pub passes_none : (text : List ℕ) → Passes [] text text
-passes_none text = record { lexed = refl; ascii = λ h. h }
-
 pub passes_both : (ls ms : List Lexeme) (a b c : List ℕ) → Passes ls a b → Passes ms b c → Passes (ls ++ ms) a c
 passes_both ls ms a b c p q = record {
   lexed = p.lexed ∙ ap (λ l. ls ++ l) q.lexed ∙ sym (append_assoc ls ms (lex between c));
@@ -54,7 +51,7 @@ ascii_both : (front rest : List ℕ) → IsAscii front → IsAscii rest → IsAs
 ascii_both [] rest first h = h
 ascii_both (c ∷ front) rest first h = ascii_on c (front ++ rest) (first 0) (ascii_both front rest (λ i. first (suc i)) h)
 
-pub ascii_behind : (front rest : List ℕ) → All (λ c. c < 128) front → IsAscii rest → IsAscii (front ++ rest)
+ascii_behind : (front rest : List ℕ) → All (λ c. c < 128) front → IsAscii rest → IsAscii (front ++ rest)
 ascii_behind [] rest all h = h
 ascii_behind (c ∷ front) rest all h = ascii_on c (front ++ rest) (All-head (λ c. c < 128) c front all) (ascii_behind front rest (All-tail (λ c. c < 128) c front all) h)
 
@@ -62,7 +59,7 @@ the_space : (c : ℕ) (text : List ℕ) (x : ℕ) → x < 128 → lex between (x
 the_space c text x small same is = subst (λ y. Passes [] (y ∷ text) text) (sym is) (record { lexed = same; ascii = ascii_on x text small })
 
 -- a byte of white space
-pub space_passed : (c : ℕ) (text : List ℕ) → is_space c ≡ true → Passes [] (c ∷ text) text
+space_passed : (c : ℕ) (text : List ℕ) → is_space c ≡ true → Passes [] (c ∷ text) text
 unfolding lex
 space_passed c text h =
     ⊎_elim (λ g. ⊎_elim (λ f. ⊎_elim (λ e. the_space c text 32 (omega arith) refl (eqb-true c 32 e)) (λ e. the_space c text 9 (omega arith) refl (eqb-true c 9 e)) (or_cases _ _ f))
@@ -93,7 +90,7 @@ plain_text (c ∷ text) all =
     let itself = All-head StandsForItself c text all in
     rw (escape_byte_plain c itself.1 itself.2 itself.0) (ap (λ (l : List ℕ). c ∷ l) (plain_text text (All-tail StandsForItself c text all)))
 
-pub text_passed : (text rest : List ℕ) → All StandsForItself text → Passes (lexer.token (token.string text) ∷ []) (34 ∷ (text ++ 34 ∷ rest)) rest
+text_passed : (text rest : List ℕ) → All StandsForItself text → Passes (lexer.token (token.string text) ∷ []) (34 ∷ (text ++ 34 ∷ rest)) rest
 unfolding lex
 text_passed text rest all =
     let itself = plain_text text all in
@@ -155,20 +152,20 @@ json_members [] = json.no_members
 json_members (m ∷ ms) = json.member m.name.now (scalar_json m.value) (json_members ms)
 
 -- the numbers have at most 64 bits
-abbrev pub AreFit : List Member → Type 0
+abbrev AreFit : List Member → Type 0
 AreFit [] = Unit {0}
 AreFit (m ∷ ms) = Fits m.value × AreFit ms
 
-pub fit_push : (ms : List Member) (m : Member) → AreFit ms → Fits m.value → AreFit (ms ++ m ∷ [])
+fit_push : (ms : List Member) (m : Member) → AreFit ms → Fits m.value → AreFit (ms ++ m ∷ [])
 fit_push [] m all fits = (fits, tt)
 fit_push (n ∷ ms) m all fits = (all.0, fit_push ms m all.1 fits)
 
 -- each member with a comma behind it
-abbrev pub with_commas : List Member → List Lexeme
+abbrev with_commas : List Member → List Lexeme
 with_commas [] = []
 with_commas (m ∷ ms) = member_lexemes m ++ lexer.comma ∷ with_commas ms
 
-pub commas_push : (ms : List Member) (m : Member) → with_commas (ms ++ m ∷ []) ≡ with_commas ms ++ (member_lexemes m ++ lexer.comma ∷ [])
+commas_push : (ms : List Member) (m : Member) → with_commas (ms ++ m ∷ []) ≡ with_commas ms ++ (member_lexemes m ++ lexer.comma ∷ [])
 commas_push [] m = refl
 commas_push (n ∷ ms) m = ap (λ l. member_lexemes n ++ lexer.comma ∷ l) (commas_push ms m)
 
@@ -232,7 +229,7 @@ read_tokens j text low is =
     ∙ ap (λ o. option_and_then of_json (option_and_then (λ p. if_last p.0 p.1) o)) (value-json_tokens j max_depth [] low)
 
 -- the bytes of these members read as the object that has them
-pub flat_read : (bytes : List ℕ) (ms : List Member) (m : Member) → AreFit (ms ++ m ∷ [])
+flat_read : (bytes : List ℕ) (ms : List Member) (m : Member) → AreFit (ms ++ m ∷ [])
     → lex between bytes ≡ lexer.token begin_object ∷ (with_commas ms ++ (member_lexemes m ++ lexer.token end_object ∷ [])) → read bytes ≡ Some (object_of (ms ++ m ∷ []))
 flat_read bytes ms m fit lexed =
     let all = ms ++ m ∷ [] in
@@ -242,7 +239,7 @@ flat_read bytes ms m fit lexed =
 
 -- ---- what stands at a name
 
-pub put_push : (ms : List Member) (m : Member) (found : Members) → put_all (ms ++ m ∷ []) found ≡ put m.name.now (scalar_data m.value) (put_all ms found)
+put_push : (ms : List Member) (m : Member) (found : Members) → put_all (ms ++ m ∷ []) found ≡ put m.name.now (scalar_data m.value) (put_all ms found)
 put_push [] m found = refl
 put_push (n ∷ ms) m found = put_push ms m (put n.name.now (scalar_data n.value) found)
 

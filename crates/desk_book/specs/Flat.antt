@@ -36,7 +36,7 @@ scalar_token (Whole n) = json.number (decimal n)
 abbrev pub member_lexemes : Member → List Lexeme
 member_lexemes m = token (json.string m.name.now) ∷ colon ∷ token (scalar_token m.value) ∷ []
 
--- these lexemes stand at the front of the text, and the rest behind them; nothing before the rest has more than seven bits
+-- these lexemes stand at the front of the text, and the rest behind them; where the rest has seven bits a byte, so has the text
 pub record Passes (lexemes : List Lexeme) (text rest : List ℕ) : Type 0 where
   pub lexed : lex between text ≡ lexemes ++ lex between rest
   pub ascii : IsAscii rest → IsAscii text

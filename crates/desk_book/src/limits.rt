@@ -1,4 +1,4 @@
-//! The limits of scripts, each said once. A message's text, and a command's, has `desk_text::LONGEST_TEXT` bytes at most.
+//! The limits of scripts, and of commands that are read straight from their bytes, each said once. A message's text, and a command's, has `desk_text::LONGEST_TEXT` bytes at most.
 
 /// The most bytes of a script.
 pub const LONGEST_SCRIPT: usize = 16_777_216;
@@ -15,10 +15,10 @@ pub const MOST_DIGITS: usize = 9;
 /// So many digits write a number that fits in 64 bits, whatever they are.
 pub const LONGEST_NUMBER: usize = 17;
 
-/// The most members of a command's object.
+/// The most members of an object that is read straight from its bytes: no operation has more.
 pub const MOST_MEMBERS: usize = 5;
 
-/// The most bytes of a member's name or text in a command: those of an account's name.
+/// The most bytes of a name or a text that is read straight from its bytes: as many as an account has.
 pub const LONGEST_MEMBER: usize = 35;
 
 /// So many bytes of white space in a row are passed over at most where a command is read straight from its bytes.

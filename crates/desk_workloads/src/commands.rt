@@ -77,7 +77,7 @@ impl Spelling {
     }
 }
 
-/// Adds members with this between them, and a space behind each colon.
+/// Adds members with this between them, and a space behind each colon. No name and no value has a comma or a colon.
 fn add_parted(text: &mut Vec<u8>, members: &[u8], between: &[u8]) -> Result<(), Failure> {
     for byte in members {
         match *byte {

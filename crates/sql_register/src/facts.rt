@@ -38,7 +38,7 @@ impl Fact for (u64, Entry) {
     ghost is_so = { λ register found. entry_at (entries_in register) found.0 ≡ Some found.1 };
 }
 
-/// What was found, by slots. Their memory is taken as the first of each is noted; where it is refused, none of them is known.
+/// What was found, by slots. The memory of each kind is taken as the first of that kind is noted.
 #[derive(Drop)]
 pub struct Facts {
     participants: Slots<Bic, SLOTS>,

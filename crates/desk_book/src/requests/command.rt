@@ -1,7 +1,6 @@
 //! An operator's commands, as JSON objects.
-ghost use Rattle.std.specs.Prelude.{◌≡◌, ℕ, ◌<◌, ◌≤◌, List, Some, codes, length, true, IfOk, OnErr, IfSome, IfNone, OnSome, option_map, option_and_then};
+ghost use Rattle.std.specs.Prelude.{◌<◌, ◌≤◌, length, IfOk, OnErr, IfSome, IfNone};
 ghost use Rattle.desk_rules.specs.declared.history.entry.Entry.{Entry as EntryValue};
-ghost use Rattle.desk_rules.specs.declared.history.entry.Entry.TheVariants.{Participant as ParticipantValue};
 ghost use Rattle.desk_book.specs.Command.{SpellsCommand, IsCommand};
 
 use crate::requests::flat::flat_object;

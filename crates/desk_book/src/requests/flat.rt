@@ -1,5 +1,6 @@
-//! Objects in JSON whose members are texts and whole numbers alone, few of them and short, each name once and nothing
-//! escaped: what operators write as commands, in any spelling. They are read straight from the bytes, with no memory taken.
+//! Objects in JSON whose members are texts and whole numbers alone, few of them and short, each name once, in printable
+//! characters of ASCII of which none is escaped: what operators write as commands, in any spelling. They are read straight
+//! from the bytes, with no memory taken.
 ghost use Rattle.std.specs.Prelude.{◌≡◌, ◌++◌, [], ◌∷◌, Some, IsUtf8, IfSome, OnSome, length, option_map};
 ghost use Rattle.serde_json.specs.Data.{no_members};
 ghost use Rattle.serde_json.specs.Events.{members_len};
@@ -59,6 +60,7 @@ impl<'a> Flat<'a> {
         ensures { option_map (λ value. scalar_data value.now) result ≡ get_member name.now (put_all self.now.members.items no_members) }
     {
         let members = self.members.as_slice();
+        // from the last on, which would count where a name stood twice
         for index in (0..members.len()).rev() {
             if members[index].name == name {
                 return Some(&members[index].value);

@@ -1,5 +1,5 @@
 //! The members of a command's object, each read as what it must be.
-ghost use Rattle.std.specs.Prelude.{◌≡◌, ◌↔◌, IsSome, ℕ, ◌<◌, ◌≤◌, List, Some, codes, IfSome, IfNone, OnSome, option_map};
+ghost use Rattle.std.specs.Prelude.{◌≡◌, ◌↔◌, IsSome, ℕ, ◌<◌, ◌≤◌, List, Some, codes, IfSome, IfNone};
 ghost use Rattle.desk_codes.specs.Account.{IsAccount};
 ghost use Rattle.desk_codes.specs.CheckDigit.{IsIsin};
 ghost use Rattle.desk_codes.specs.Currency.{letters_of};
@@ -82,7 +82,7 @@ pub fn day_in<O: Object>(object: &O) -> Option<Day>
 }
 
 /// The day that a text of eight digits names.
-pub fn day_of(text: &[u8]) -> Option<Day>
+fn day_of(text: &[u8]) -> Option<Day>
     ensures found { IsSome result ↔ IsDay text.now }
     ensures value { IfSome result (λ day. day ≡ text.now) }
 {

@@ -1,4 +1,4 @@
-//! The parts of an object in JSON (RFC 8259), each read at the front of a text, which says what stands behind it.
+//! The parts of an object in JSON (RFC 8259), each read at the front of a text, together with what stands behind it.
 ghost use Rattle.std.specs.Prelude.{◌≡◌, ◌<◌, ◌≤◌, ◌^◌, [], ◌∷◌, ◌++◌, All, length, true, decimal, IfSome};
 ghost use Rattle.json.specs.Lex.{token, operator_lexeme};
 ghost use Rattle.json.specs.Token.{string, number};
@@ -21,7 +21,7 @@ pub fn after_space(text: &[u8]) -> &[u8]
     }
 }
 
-/// The same, of a text that may begin with white space.
+/// The same, byte by byte.
 fn behind_spaces(text: &[u8]) -> &[u8]
     ensures { Passes [] text.now result.now }
 {
@@ -73,8 +73,8 @@ fn scalar(text: &[u8]) -> Option<(Scalar<'_>, &[u8])>
     Some((Scalar::Whole(number), rest))
 }
 
-/// The text between quotes at the front, and what stands behind it; None where a character of it is escaped, or has more
-/// than seven bits, or where it is longer than any in a command.
+/// The text between quotes at the front, and what stands behind it; None where a byte of it is a backslash or no printable
+/// character of ASCII, or where it has more than `LONGEST_MEMBER` bytes.
 fn quoted(text: &[u8]) -> Option<(&[u8], &[u8])>
     ensures { IfSome result (λ parts. Passes (token (string parts.0.now) ∷ []) text.now parts.1.now) }
 {
@@ -92,7 +92,8 @@ fn quoted(text: &[u8]) -> Option<(&[u8], &[u8])>
 }
 
 /// The whole number at the front, and what stands behind it; None where it is not written with digits alone, the first of
-/// them no nought beside others, where it is longer than any in a command, or where a word goes on behind it.
+/// them no nought beside others, where it has more than `LONGEST_NUMBER` digits, or where what stands behind it may go on with
+/// the word.
 fn whole(text: &[u8]) -> Option<(u64, &[u8])>
     ensures passed { IfSome result (λ parts. Passes (token (number (decimal parts.0)) ∷ []) text.now parts.1.now) }
     ensures fits { IfSome result (λ parts. parts.0 < 2 ^ 64) }
@@ -105,7 +106,8 @@ fn whole(text: &[u8]) -> Option<(u64, &[u8])>
     Some((number, rest))
 }
 
-/// The digits at the front, and what stands behind them; None where they are more than in any number of a command.
+/// The digits at the front, and what stands behind them; None where they are more than `LONGEST_NUMBER`, or where nothing
+/// stands behind them.
 fn digits_at_front(text: &[u8]) -> Option<(&[u8], &[u8])>
     ensures split { IfSome result (λ parts. text.now ≡ parts.0.now ++ parts.1.now) }
     ensures digits { IfSome result (λ parts. All IsDigit parts.0.now) }
@@ -122,7 +124,7 @@ fn digits_at_front(text: &[u8]) -> Option<(&[u8], &[u8])>
     None
 }
 
-/// Whether no word goes on at the front.
+/// Whether white space, or a mark that may follow a member, is at the front: then no word goes on there.
 fn ends_word(text: &[u8]) -> bool
     ensures { result ≡ true → ends_word text.now ≡ true }
 {
