@@ -8,10 +8,10 @@ use crate::registers::shown::shown;
 use desk_codes::{Day, Reference};
 use desk_index::IndexedRegister;
 use desk_lists::ListRegister;
+use desk_register::MemoryRegister;
 use desk_rules::{Entry, RunRule};
 use desk_samples::entries::day;
 use desk_samples::ledger::{Entered, Ledger};
-use desk_samples::memory::MemoryRegister;
 use std::alloc::Global;
 
 /// Where a register in memory keeps its entries.

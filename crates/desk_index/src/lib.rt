@@ -18,6 +18,7 @@ mod ahead;
 mod calls;
 mod collections;
 mod entries;
+mod in_memory;
 mod indexed_register;
 mod noting;
 mod pairs;

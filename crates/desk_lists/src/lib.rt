@@ -13,6 +13,7 @@ mod balance_key;
 mod balances;
 mod calls;
 mod changing;
+mod in_memory;
 mod list_register;
 mod lists;
 mod looking;

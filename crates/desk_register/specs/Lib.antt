@@ -1,6 +1,7 @@
 pub mod AddsUp
 pub mod Changes
 pub mod Checked
+pub mod Device
 pub mod Looked
 pub mod Registered
 pub mod RegisteredOnce

@@ -15,7 +15,8 @@ use Rattle.desk_engine.specs.declared.applied.Accepted.{Accepted}
 use Rattle.desk_engine.specs.Accepting.{BlamesStep, IsDone, IsLeft}
 use Rattle.desk_engine.specs.Applied.{HasApplied, Keeps}
 use Rattle.desk_engine.proofs.KeptLemmas.{kept_in}
-use Rattle.desk_samples.specs.Memory.{HasNoDevice, IsUnchanged, KeepsBooks}
+use Rattle.desk_register.specs.Device.{HasNoDevice}
+use Rattle.desk_samples.specs.Memory.{IsUnchanged, KeepsBooks}
 
 -- after a reading call it is idle still, and holds what it held
 pub read_idle : {X : Type 0} (result : Result X Fault) (old new : View) → HasNoDevice old → HasNoDevice new → IsRead result old new → old.stage ≡ Idle

@@ -13,11 +13,10 @@ ghost use Rattle.desk_engine.specs.Applied.{CanApply, Keeps, no_books};
 ghost use Rattle.desk_samples.specs.Ledger.{HasTaken, IsEntered, is_taken_in};
 ghost use Rattle.desk_samples.specs.Memory.{IsUnchanged, KeepsBooks};
 
-use crate::memory::MemoryRegister;
 use desk_codes::{AccountId, Bic, Ccy, Day, Isin, Reference};
 use desk_engine::{Applied, Failure, accept, decide};
 use desk_msg::{Instruction, Kind};
-use desk_register::{Fault, Holding};
+use desk_register::{Fault, Holding, MemoryRegister};
 use desk_rules::{Entry, MOST_ENTRIES, Place, Refusal, Reply, Sender, Sent, Standing, Verdict};
 use std::alloc::Global;
 use std::marker::Model;

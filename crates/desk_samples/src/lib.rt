@@ -2,11 +2,9 @@
 //! other crate of the desk stands on it.
 //!
 //! `entries` makes codes, entries and instructions from the texts that name them. `Ledger`, in `ledger`, is a register
-//! in memory that takes in what the desk accepts; `memory` says which registers these are. `streams` has a reader and a
-//! writer that fail at one read or write.
+//! in memory that takes in what the desk accepts. `streams` has a reader and a writer that fail at one read or write.
 #![tactic(auto)]
 
 pub mod entries;
 pub mod ledger;
-pub mod memory;
 pub mod streams;

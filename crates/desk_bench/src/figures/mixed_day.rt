@@ -3,10 +3,10 @@
 use crate::failure::Failure;
 use crate::market::{Lot, Market, OPENING, Side, reference};
 use desk_codes::{Ccy, Day, Reference};
+use desk_register::MemoryRegister;
 use desk_rules::{Entry, MOST_ENTRIES, RunRule};
 use desk_samples::entries::day;
 use desk_samples::ledger::{Entered, Ledger};
-use desk_samples::memory::MemoryRegister;
 use std::alloc::Global;
 
 /// Of so many entries the last is a run.

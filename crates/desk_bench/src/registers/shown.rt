@@ -2,10 +2,10 @@
 
 use crate::failure::Failure;
 use desk_codes::{AccountId, Bic, Ccy, Isin};
+use desk_register::MemoryRegister;
 use desk_rules::Entry;
 use desk_samples::entries::day;
 use desk_samples::ledger::Ledger;
-use desk_samples::memory::MemoryRegister;
 use std::alloc::Global;
 use std::fmt::Write;
 

@@ -4,10 +4,10 @@ use crate::rules::{CHAIN, FOUR, LEAP_DAY, UNITS};
 use desk_codes::Day;
 use desk_index::IndexedRegister;
 use desk_lists::ListRegister;
+use desk_register::MemoryRegister;
 use desk_rules::{MOST_ENTRIES, Place};
 use desk_samples::entries::day;
 use desk_samples::ledger::{Entered, Ledger};
-use desk_samples::memory::MemoryRegister;
 use std::alloc::Global;
 use std::test::Fail;
 
