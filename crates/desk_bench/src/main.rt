@@ -5,9 +5,10 @@
 //! in each way in which the bytes may come and go, for tests/http_cases. The setup is a script that is played on the desk
 //! first. Each way counts; the last line says 'N passed, M failed'.
 //!
-//! `play`, or no word, plays a script from standard input on a new desk whose register stands in SQL tables in memory, and
-//! `play FILE` in a new file of that path. What is printed and the exit status are those of `desk play`; a file that cannot
-//! be made, or has tables already, is `fault 61`.
+//! `play`, or no word, plays a script from standard input on a new desk whose register is in memory and in SQL tables, which
+//! stand in memory too, and `play FILE` in a new file of that path. `tables` and `tables FILE` do it over the tables alone.
+//! What is printed and the exit status are those of `desk play`; a file that cannot be made, or has tables already, is
+//! `fault 61`.
 //!
 //! `damaged CALL ROW [CHANGE]` tells what a call that reads the tables answers of a row, for tests/damaged_rows: ROW is a
 //! statement that puts it into new tables, and CHANGE one that damages it.
@@ -76,7 +77,7 @@ fn done(rt: &HostRuntime, work: Work<'_>) -> Result<bool, Failure> {
             response,
             setup,
         } => connections::try_files(rt, sent, response, setup),
-        Work::Play(path) => tables::play_script(rt, path),
+        Work::Play(registers, path) => tables::play_script(rt, registers, path),
         Work::Damaged { call, row, change } => damaged::tell(rt, call, row, change),
         Work::Day(store) => registers::try_store(rt, store),
         Work::Schema(path) => opening::tell_schema(rt, path),

@@ -4,6 +4,7 @@ use crate::damaged::Call;
 use crate::figures::Kind;
 use crate::registers::Store;
 use crate::reports::Form;
+use crate::tables::Registers;
 
 /// What the words ask for.
 #[derive(Clone, Copy)]
@@ -14,8 +15,8 @@ pub enum Work<'a> {
         response: &'a str,
         setup: Option<&'a str>,
     },
-    /// A script is played over tables, in memory or in a new file of a path.
-    Play(Option<&'a str>),
+    /// A script is played over registers, in memory or in a new file of a path.
+    Play(Registers, Option<&'a str>),
     /// A row is put into tables, damaged where a change is given, and read.
     Damaged {
         call: Call,
@@ -36,8 +37,8 @@ impl<'a> Work<'a> {
     /// What the program's words ask for; None where it is nothing.
     pub fn read(words: &'a [String]) -> Option<Work<'a>> {
         match words {
-            [_] => Some(Work::Play(None)),
-            [_, kind] if kind.as_str() == "play" => Some(Work::Play(None)),
+            [_] => Some(Work::Play(Registers::Both, None)),
+            [_, kind] => Some(Work::Play(Registers::read(kind.as_str())?, None)),
             [_, kind, word] => Work::of_one(kind.as_str(), word.as_str()),
             [_, kind, first, second] => {
                 Work::of_two(kind.as_str(), first.as_str(), second.as_str())
@@ -55,7 +56,7 @@ impl<'a> Work<'a> {
     /// What a kind and one word ask for.
     fn of_one(kind: &'a str, word: &'a str) -> Option<Work<'a>> {
         Some(match kind {
-            "play" => Work::Play(Some(word)),
+            "play" | "tables" => Work::Play(Registers::read(kind)?, Some(word)),
             "day" => Work::Day(Store::read(word)?),
             "schema" => Work::Schema(word),
             "statement" => Work::Report(Form::Statement, number(word)?),

@@ -34,6 +34,7 @@ use Rattle.desk_rules.specs.Books.{Books, AreBooks}
 use Rattle.desk_rules.specs.Verdict.{WasAccepted}
 use Rattle.desk_rules.specs.declared.limits.TheConstants.{MOST_PAID, MOST_QUANTITY}
 use Rattle.desk_rules.specs.Content.{CashBalances, Content, history_of}
+use Rattle.desk_register.proofs.StandingLemmas.{both_stand}
 use Rattle.desk_register.specs.Changes.{standing_both, CanSettle, FitsCash, HasCash, TriesPair, TriesSides, delivering_side as deliverer, receiving_side as receiver}
 use Rattle.desk_register.specs.Looked.{IsDue, IsDuePairAfter}
 use Rattle.desk_engine.specs.Pass.{due_left, settled_of, PassesAt, InstructionPasses, IsUnderway, is_below}
@@ -63,27 +64,6 @@ cash_fits cash from to (Some asked) few few_there has =
     let there : asked.amount ≤ cash from asked.ccy = has in
     let room : MOST_PAID + MOST_PAID < 2 ^ 63 = lit< tt in
     omega arith
-
--- where two numbers stand, and the rest
-pub both_stand : (P : ℕ → Standing → Type 0) (standing : ℕ → Standing) (m n : ℕ) (state : State) → P n (record (standing n) { mate = Some m; state = state }) → P m (record (standing m) { mate = Some n; state = state })
-    → ((k : ℕ) → (k ≡ n → ⊥) → (k ≡ m → ⊥) → P k (standing k)) → (k : ℕ) → P k (standing_both standing m n state k)
-both_stand P standing m n state last first rest k = elim (cases_eq k n) [
-  | inl is ↦
-      let test : k == n ≡ true = grind (arith, nat_tests) in
-      let Q : ℕ → Type 0 = λ z. P z (record (standing n) { mate = Some m; state = state }) in
-      rw test (subst Q (sym is) last)
-  | inr not_last ↦ elim (cases_eq k m) [
-    | inl is ↦
-        let test : k == n ≡ false = ne_eqb k n not_last in
-        let this : k == m ≡ true = grind (arith, nat_tests) in
-        let Q : ℕ → Type 0 = λ z. P z (record (standing m) { mate = Some n; state = state }) in
-        rw (test, this) (subst Q (sym is) first)
-    | inr not_first ↦
-        let test : k == n ≡ false = ne_eqb k n not_last in
-        let other : k == m ≡ false = ne_eqb k m not_first in
-        rw (test, other) (rest k not_last not_first)
-  ]
-]
 
 -- what the try of a pair settles
 abbrev pub settled_by : ℕ → ℕ → Pair → Outcome → List Settled

@@ -21,10 +21,10 @@ use Rattle.desk_register.specs.Changes.{TriesPair, TriesSides, standing_both}
 use Rattle.desk_register.specs.Looked.{IsDue, IsDuePairAfter}
 use Rattle.desk_register.specs.Short.{IsToTryAfter, LacksNow, StaysShort}
 use Rattle.desk_engine.specs.Pass.{Fares, IsTried}
+use Rattle.desk_register.proofs.StandingLemmas.{stand_already}
 use Rattle.desk_rules.proofs.Existence.{fewer_above}
 use Rattle.desk_rules.proofs.PlaceLemmas.{before_day, before_number, before_through}
 use Rattle.desk_engine.proofs.PassLemmas.{due_open, first_due, found_pair}
-use Rattle.desk_engine.proofs.PassWhole.{both_stand}
 use Rattle.desk_engine.proofs.UnderwayLemmas.{Underway, goes_on, left_above}
 
 -- A try of a pair that stays short writes what stands there.
@@ -33,15 +33,8 @@ module _ (content : Content) (n : ℕ) (s : StaysShort content n) where
   abbrev waits_so : State
   waits_so = Matched (reason_of_lack (Some s.lack))
 
-  same_side : (st : Standing) (m : ℕ) → st.mate ≡ Some m → st.state ≡ waits_so → st ≡ record st { mate = Some m; state = waits_so }
-  same_side st m mate state = λ i. record st { mate = mate i; state = state i }
-
-  same_standing : (k : ℕ) → content.standing k ≡ standing_both content.standing s.mate n waits_so k
-  same_standing = both_stand (λ k st. content.standing k ≡ st) content.standing s.mate n waits_so
-      (same_side (content.standing n) s.mate s.pair.has_mate s.later_waits) (same_side (content.standing s.mate) n s.back s.earlier_waits) (λ k a b. refl)
-
   same_content : content ≡ record content { standing = standing_both content.standing s.mate n waits_so }
-  same_content = λ i. record content { standing = λ k. same_standing k i }
+  same_content = stand_already content s.mate n waits_so s.pair.has_mate s.back s.later_waits s.earlier_waits
 
   tries_sides : (lack : Lack) → LacksNow content s.earlier s.later lack → content ≡ record content { standing = standing_both content.standing s.mate n (Matched (reason_of_lack (Some lack))) }
       → TriesSides content n s.mate s.earlier s.later (Lacks lack) content

@@ -3,4 +3,5 @@ pub mod CaseLemmas
 pub mod OnceLemmas
 pub mod RegisteredLemmas
 pub mod ShortLemmas
+pub mod StandingLemmas
 pub mod ViewLemmas

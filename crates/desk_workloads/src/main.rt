@@ -3,7 +3,8 @@
 //! Each makes its input from the seed, another one in each round, and calls what the crates of the desk hand out. It prints
 //! a digest of all results and their length. bench/workloads.txt has the words that bench/run times.
 //!
-//! `day` plays days as scripts over the index, `tables` one over tables in SQL, `runs` lets runs go over much that waits,
+//! `day` plays days as scripts over the index, `tables` one over tables in SQL, `file` the same over a register in memory
+//! beside them, `runs` lets runs go over much that waits,
 //! `reports` asks for statements and totals of many securities, `messages` reads messages and serves connections,
 //! `replay` takes a kept history in once more, and `commands` plays operator's commands in several spellings.
 #![tactic(auto)]
@@ -29,6 +30,7 @@ mod trade;
 use crate::digest::Digest;
 use crate::failure::Failure;
 use crate::size::Size;
+use crate::tables::Registers;
 use std::alloc::Global;
 use std::env;
 use std::process::ExitCode;
@@ -45,6 +47,7 @@ const FAILED: u8 = 3;
 enum Kind {
     Day,
     Tables,
+    File,
     Runs,
     Reports,
     Messages,
@@ -53,9 +56,10 @@ enum Kind {
 }
 
 /// All of them.
-const KINDS: [Kind; 7] = [
+const KINDS: [Kind; 8] = [
     Kind::Day,
     Kind::Tables,
+    Kind::File,
     Kind::Runs,
     Kind::Reports,
     Kind::Messages,
@@ -69,6 +73,7 @@ impl Kind {
         match name {
             "day" => Some(Kind::Day),
             "tables" => Some(Kind::Tables),
+            "file" => Some(Kind::File),
             "runs" => Some(Kind::Runs),
             "reports" => Some(Kind::Reports),
             "messages" => Some(Kind::Messages),
@@ -89,7 +94,12 @@ impl Kind {
     ) -> Result<(), Failure> {
         match self {
             Kind::Day => days::play_days(alloc, seed, round, size, digest),
-            Kind::Tables => tables::play_over_tables(alloc, seed, round, size, digest),
+            Kind::Tables => {
+                tables::play_over_tables(alloc, Registers::Tables, seed, round, size, digest)
+            }
+            Kind::File => {
+                tables::play_over_tables(alloc, Registers::Both, seed, round, size, digest)
+            }
             Kind::Runs => runs::settle_waiting(alloc, seed, round, size, digest),
             Kind::Reports => reports::ask_reports(alloc, seed, round, size, digest),
             Kind::Messages => messages::read_messages(alloc, seed, round, size, digest),

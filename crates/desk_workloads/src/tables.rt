@@ -1,8 +1,11 @@
-//! A day over tables in SQL, in a file that is kept in memory, with its log.
-ghost use Rattle.std.specs.Prelude.{IsTrue, false};
+//! A day over tables in SQL, in a file that is kept in memory, with its log; and over a register in memory beside them.
+ghost use Rattle.std.specs.Prelude.{◌≡◌, IsTrue, false};
 ghost use Rattle.sqlite.specs.Held.{state};
 ghost use Rattle.sqlite.specs.State.{HasCleanDisk};
 ghost use Rattle.desk_book.specs.Held.{IsReady};
+ghost use Rattle.desk_register.specs.Changes.{empty_content};
+ghost use Rattle.desk_register.specs.View.{IfTrusted};
+ghost use Rattle.desk_register.specs.declared.register.Stage.TheVariants.{Idle};
 
 use crate::day::{Day, Depository};
 use crate::days::play_day;
@@ -12,6 +15,8 @@ use crate::failure::Failure;
 use crate::memory_file::MemoryFile;
 use crate::size::Size;
 use desk_book::Desk;
+use desk_index::IndexedRegister;
+use desk_mirror::MirroredRegister;
 use desk_register::Register;
 use desk_rules::MOST_ENTRIES;
 use sql_register::SqlRegister;
@@ -31,9 +36,19 @@ const MIDDLE: Depository = Depository {
 /// Any number will do for the log's salts.
 const SALT: u64 = 7;
 
+/// What a day is played over.
+#[derive(Clone, Copy)]
+pub enum Registers {
+    /// A register in memory, and the tables
+    Both,
+    /// The tables alone
+    Tables,
+}
+
 /// Plays a day on a desk whose tables are made in a new file.
 pub fn play_over_tables(
     alloc: Global,
+    registers: Registers,
     seed: u64,
     round: u64,
     size: Size,
@@ -45,13 +60,14 @@ pub fn play_over_tables(
         db: MemoryFile::new(alloc),
     };
     match Connection::open_files(alloc, files, Options::new(SALT)) {
-        Ok(conn) => play_on(alloc, conn, &mut day, size.of(10_000), digest),
+        Ok(conn) => play_on(alloc, registers, conn, &mut day, size.of(10_000), digest),
         Err(_) => Err(Failure::Tables),
     }
 }
 
 fn play_on<S: Alter + Drop>(
     alloc: Global,
+    registers: Registers,
     conn: Connection<S>,
     day: &mut Day,
     requests: u32,
@@ -60,9 +76,27 @@ fn play_on<S: Alter + Drop>(
     requires { HasCleanDisk (state S.Store conn) → IsTrue (state S.Store conn).is_open }
 {
     match SqlRegister::new(conn, MOST_ENTRIES) {
-        Ok(register) => play_over(alloc, register, day, requests, digest),
+        Ok(tables) => match registers {
+            Registers::Both => play_over_both(alloc, tables, day, requests, digest),
+            Registers::Tables => play_over(alloc, tables, day, requests, digest),
+        },
         Err(_) => Err(Failure::Tables),
     }
+}
+
+/// Plays it over tables that hold nothing, with a register in memory beside them.
+fn play_over_both<T: Register + Drop>(
+    alloc: Global,
+    tables: T,
+    day: &mut Day,
+    requests: u32,
+    digest: &mut Digest,
+) -> Result<(), Failure>
+    requires stage { (T.view tables).stage ≡ Idle }
+    requires empty { IfTrusted (T.view tables) (T.view tables) ((T.view tables).content ≡ empty_content) }
+{
+    let both: MirroredRegister<IndexedRegister, T> = MirroredRegister::beside_empty(alloc, tables);
+    play_over(alloc, both, day, requests, digest)
 }
 
 fn play_over<R: Register + Drop>(

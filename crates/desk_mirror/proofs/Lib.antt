@@ -1,0 +1,4 @@
+pub mod ReadLemmas
+pub mod WaitingLemmas
+pub mod ChangeLemmas
+pub mod TriedLemmas

@@ -1,0 +1,90 @@
+-- A try that tells why both instructions of a pair wait already leaves all as it was.
+use Rattle.std.proofs.Common.{◌≡◌, ◌∙◌, ℕ, Option, Some, None, sym, subst}
+use Rattle.std.specs.Prelude.{Result, Ok, Err, IfOk, IfSome, OnOk}
+use Rattle.desk_msg.specs.declared.writing.status.Reason.{Reason}
+use Rattle.desk_rules.specs.declared.history.pair.Lack.{Lack}
+use Rattle.desk_rules.specs.declared.history.pair.Lack.TheVariants.{Securities, Money}
+use Rattle.desk_rules.specs.declared.history.standing.State.TheVariants.{Matched}
+use Rattle.desk_rules.specs.Content.{Content}
+use Rattle.desk_rules.specs.Standing.{reason_of_lack}
+use Rattle.desk_register.specs.declared.register.Fault.{Fault}
+use Rattle.desk_register.specs.declared.register.Stage.TheVariants as stages
+use Rattle.desk_register.specs.View.{View, IfRead, IfTrusted, IsChange, Stays}
+use Rattle.desk_register.specs.Device.{HasNoDevice}
+use Rattle.desk_register.specs.declared.outcome.Outcome.{Outcome}
+use Rattle.desk_register.specs.declared.outcome.Outcome.TheVariants.{Lacks, Settled}
+use Rattle.desk_register.specs.Changes.{TriesPair, standing_both}
+use Rattle.desk_register.proofs.StandingLemmas.{stand_already}
+use Rattle.desk_mirror.specs.declared.course.Phase.{Phase}
+use Rattle.desk_mirror.specs.Course.{IsAfter}
+use Rattle.desk_mirror.specs.Mirrored.{AreMirrored, stage_of}
+use Rattle.desk_mirror.specs.Waiting.{BothWait, HasRead, IsInVain}
+use Rattle.desk_mirror.proofs.ChangeLemmas.{begun_at, change_keeps, ok_phase}
+use Rattle.desk_mirror.proofs.ReadLemmas.{stays_at}
+use Rattle.desk_mirror.proofs.TriedLemmas.{both_try}
+
+some_is : {X : Type 0} {x y : X} → Some x ≡ Some y → x ≡ y
+some_is e = (cc)
+
+module _ (old new : Content) (n : ℕ) where
+  -- of a try of a pair that lacks, the content but for where both stand
+  lacking : (lack : Lack) (tries : TriesPair old n (Lacks lack) new) → new ≡ record old { standing = standing_both old.standing tries.mate n (Matched (reason_of_lack (Some lack))) }
+  lacking Securities tries = tries.ends.1
+  lacking Money tries = tries.ends.2
+
+  lacks_in_vain : (lack : Lack) → BothWait old n (reason_of_lack (Some lack)) → TriesPair old n (Lacks lack) new → new ≡ old
+  lacks_in_vain lack wait tries =
+      let mates : wait.mate ≡ tries.mate = some_is (sym wait.here.mate_is ∙ tries.pair.has_mate) in
+      let Put : ℕ → Type 0 = λ m. old ≡ record old { standing = standing_both old.standing m n (Matched (reason_of_lack (Some lack))) } in
+      lacking lack tries ∙ sym (subst Put mates (stand_already old wait.mate n (Matched (reason_of_lack (Some lack))) wait.here.mate_is wait.there.mate_is wait.here.waits wait.there.waits))
+
+  pub in_vain : (reason : Option Reason) (outcome : Outcome) → IfSome reason (λ r. BothWait old n r) → TriesPair old n outcome new → IsInVain reason outcome → new ≡ old
+  in_vain None outcome waits tries vain = absurd vain
+  in_vain (Some reason) Settled waits tries vain = absurd vain
+  in_vain (Some reason) (Lacks lack) waits tries vain = lacks_in_vain lack (subst (λ r. BothWait old n r) vain waits) tries
+
+-- One of the two after reading calls, and after a try.
+
+ok_stays : {X : Type 0} (result : Result X Fault) (x : X) (v w : View) → result ≡ Ok x → OnOk result (Stays v w) → Stays v w
+ok_stays (Ok y) x v w is stays = stays
+ok_stays (Err fault) x v w is stays = absurd (cc)
+
+ok_tries : (result : Result Outcome Fault) (outcome : Outcome) (n : ℕ) (old new : Content) → result ≡ Ok outcome → IfOk result (λ o. TriesPair old n o new) → TriesPair old n outcome new
+ok_tries (Ok o) outcome n old new is tries = (let same : o ≡ outcome = cc in subst (λ k. TriesPair old n k new) same tries)
+ok_tries (Err fault) outcome n old new is tries = absurd (cc)
+
+-- memory was read
+read_mirrored : (phase : Phase) (m new t : View) → HasNoDevice m → HasNoDevice new → HasRead m new → AreMirrored phase m t → AreMirrored phase new t
+read_mirrored phase m new t was is read are = record {
+  room = read.later.room ∙ are.room;
+  at = stays_at phase m new t was is (read.same is.honest was.sure) read.stays are.at;
+}
+
+module _ (result : Result Outcome Fault) (outcome : Outcome) (reason : Option Reason) (phase phase' : Phase) (k k' n : ℕ) (m between new t : View) (was : HasNoDevice m) (is_between : HasNoDevice between) (is : HasNoDevice new)
+    (are : AreMirrored phase m t) (started : stage_of phase ≡ stages.Begun) (read : HasRead m between) (is_ok : result ≡ Ok outcome)
+    (tries : IfTrusted between new (IfOk result (λ o. TriesPair between.content n o new.content))) (change : IsChange result between new) (after : IsAfter result phase phase' k k') where
+  tried : TriesPair between.content n outcome new.content
+  tried = ok_tries result outcome n between.content new.content is_ok (tries is.honest is_between.sure)
+
+  are_between : AreMirrored phase between t
+  are_between = read_mirrored phase m between t was is_between read are
+
+  -- a try that was in vain is not made over the tables
+  pub vain_keeps : IfRead m between (IfSome reason (λ r. BothWait m.content n r)) → IsInVain reason outcome → AreMirrored phase' new t
+  vain_keeps waits vain =
+      let begun = begun_at phase m t are started in
+      let same : between.content ≡ m.content = read.same is_between.honest was.sure in
+      let wait : IfSome reason (λ r. BothWait between.content n r) = subst (λ c. IfSome reason (λ r. BothWait c n r)) (sym same) (waits is_between.honest was.sure (λ failed. let at = begun.memory in absurd (cc))) in
+      let last : HasRead between new = record {
+        same = λ honest sure. in_vain between.content new.content n reason outcome wait tried vain;
+        stays = ok_stays result outcome between new is_ok change.ok;
+        later = change.later;
+      } in
+      subst (λ p. AreMirrored p new t) (sym (ok_phase result outcome phase phase' k k' is_ok after)) (read_mirrored phase between new t is_between is last are_between)
+
+  -- any other is
+  pub try_keeps : (told : Result Outcome Fault) (also : Outcome) (last : Phase) (j j' : ℕ) (t' : View) → told ≡ Ok also → IfTrusted t t' (IfOk told (λ o. TriesPair t.content n o t'.content)) → IsChange told t t' → IsAfter told phase' last j j' → AreMirrored last new t'
+  try_keeps told also last j j' t' told_is told_tries told_change told_after =
+      subst (λ p. AreMirrored p new t') (sym (ok_phase told also phase' last j j' told_is told_after))
+      (change_keeps result phase phase' k k' between new t t' is_between is are_between started told_change.later (ok_stays told also t t' told_is told_change.ok) change
+      (both_try n result told also between new t t' is_between is tries told_is told_tries) after)

@@ -1,0 +1,7 @@
+use Rattle.desk_mirror.proofs.ReadLemmas.{read_keeps}
+use Rattle.desk_mirror.proofs.calls.MirroredRegisterRegister.sent_count.Goals as goal
+
+pub invariant_of-self : goal.invariant_of-self
+invariant_of-self g c =
+    let law = g.met.M.MemoryRegister.has_no_device in
+    read_keeps c.sent_count.result _ _ _ _ _ _ _ (law _) (law _) c.sent_count.ensures.read c.after.ensures.after c.self.invariant

@@ -1,0 +1,4 @@
+pub mod Both
+pub mod Course
+pub mod Mirrored
+pub mod Waiting

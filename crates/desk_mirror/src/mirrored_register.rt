@@ -1,0 +1,89 @@
+//! A register that is two.
+ghost use Rattle.std.specs.Prelude.{◌≡◌, ◌≢◌};
+ghost use Rattle.desk_register.specs.Changes.{empty_content};
+ghost use Rattle.desk_register.specs.View.{IfTrusted};
+ghost use Rattle.desk_register.specs.declared.register.Stage.TheVariants.{Begun, Failed, Idle};
+ghost use Rattle.desk_mirror.specs.Both.{HasSame, shown};
+ghost use Rattle.desk_mirror.specs.Mirrored.{HasSameMark};
+
+use crate::course::{Course, Phase};
+use desk_register::{MemoryRegister, Register};
+use std::alloc::Global;
+use std::marker::Model;
+
+/// A register that is two: memory answers what is asked, and what is changed is changed in the tables, then in memory.
+/// Contracts see it as `shown` of specs/Both.antt.
+#[derive(Drop)]
+pub struct MirroredRegister<M: MemoryRegister, S: Register + Drop> {
+    pub(crate) memory: M,
+    pub(crate) tables: S,
+    pub(crate) course: Course,
+}
+
+impl<M: MemoryRegister, S: Register + Drop> Model for MirroredRegister<M, S> {
+    ghost use Rattle.desk_mirror.specs.Both.{Both, both_code};
+    ghost use Rattle.desk_mirror.specs.Mirrored.{AreMirrored, stage_of};
+
+    ghost Value = { Both M S };
+
+    ghost coded = { both_code M.code S.code };
+
+    ghost view = { λ r. record { memory = r.memory; tables = r.tables; stage = stage_of r.course.phase; failures = r.course.failures } };
+
+    ghost invariant = { λ r. AreMirrored r.course.phase (M.view r.memory) (S.view r.tables) };
+}
+
+impl<M: MemoryRegister, S: Register + Drop> MirroredRegister<M, S> {
+    /// Tables that hold nothing, and memory beside them.
+    pub fn beside_empty(alloc: Global, tables: S) -> MirroredRegister<M, S>
+        requires stage { (S.view tables).stage ≡ Idle }
+        requires empty { IfTrusted (S.view tables) (S.view tables) ((S.view tables).content ≡ empty_content) }
+        ensures tables { result.tables ≡ tables }
+        ensures empty { (M.view result.memory).content ≡ empty_content }
+        ensures stage { result.stage ≡ Idle }
+    {
+        let memory = M::empty(alloc, tables.limit());
+        MirroredRegister::new(memory, tables)
+    }
+
+    /// Two registers with no `begin` open that hold the same.
+    pub fn new(memory: M, tables: S) -> MirroredRegister<M, S>
+        requires memory { (M.view memory).stage ≡ Idle }
+        requires tables { (S.view tables).stage ≡ Idle }
+        requires room { (M.view memory).room ≡ (S.view tables).room }
+        requires same { HasSame (M.view memory) (S.view tables) }
+        ensures memory { result.memory ≡ memory }
+        ensures tables { result.tables ≡ tables }
+        ensures stage { result.stage ≡ Idle }
+    {
+        MirroredRegister {
+            memory,
+            tables,
+            course: Course {
+                phase: Phase::Idle,
+                failures: 0,
+            },
+        }
+    }
+
+    /// The tables. Where they are to be trusted, and no call has failed since `begin`, they hold what the register shows;
+    /// with no `begin` open they have none open either, so that this is what they have committed.
+    pub fn tables(&self) -> &S
+        ensures tables { result.now ≡ self.now.tables }
+        ensures same { self.now.stage ≢ Failed → HasSame (shown (M.view self.now.memory) self.now.stage self.now.failures) (S.view result.now) }
+        ensures idle { self.now.stage ≡ Idle → (S.view result.now).stage ≡ Idle }
+        ensures begun { self.now.stage ≡ Begun → HasSameMark (shown (M.view self.now.memory) self.now.stage self.now.failures) (S.view result.now) }
+    {
+        &self.tables
+    }
+
+    /// Both are handed back, memory first, as `tables` says of them.
+    pub fn into_parts(self) -> (M, S)
+        ensures memory { result.0 ≡ self.memory }
+        ensures tables { result.1 ≡ self.tables }
+        ensures same { self.stage ≢ Failed → HasSame (shown (M.view result.0) self.stage self.failures) (S.view result.1) }
+        ensures idle { self.stage ≡ Idle → (S.view result.1).stage ≡ Idle }
+    {
+        (self.memory, self.tables)
+    }
+}
