@@ -1,5 +1,13 @@
-"""The requests of a script and the answers that are printed to it: what tests/refuse_memory, tests/refuse_disk and
-bench/measure.py share."""
+"""The requests of a script, the words that play it and the answers that are printed to it: what tests/refuse_memory,
+tests/refuse_disk, tests/same_tables, tests/generate and bench/measure.py share."""
+
+import os
+
+
+def playing(program):
+    """The words that play a script on a program: `PROGRAM play`, or `PROGRAM WORD` where it is given as PROGRAM:WORD."""
+    path, colon, word = program.rpartition(":")
+    return [os.path.abspath(path), word] if colon else [os.path.abspath(program), "play"]
 
 
 def requests_in(script):

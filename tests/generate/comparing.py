@@ -7,6 +7,7 @@ import tempfile
 import time
 
 from plain.program import answer
+from scripts import playing
 
 from .chance import Chance
 
@@ -17,9 +18,12 @@ MOST_SHRINKING = 30
 
 
 def ended(program, words, given):
-    """The exit status and what was printed; a program that does not end in time has no status."""
+    """The exit status and what was printed; a program that does not end in time has no status. Of PROGRAM:WORD it is WORD that
+    plays a script."""
+    path, play = playing(program)
+    own = [play if word == "play" else word for word in words]
     try:
-        ran = subprocess.run([program, *words], input=given, capture_output=True, timeout=MOST_SECONDS)
+        ran = subprocess.run([path, *own], input=given, capture_output=True, timeout=MOST_SECONDS)
     except subprocess.TimeoutExpired:
         return None, b""
     return ran.returncode, ran.stdout
@@ -71,7 +75,6 @@ def try_all(program, what, make, count, seed):
     """Tries so many inputs of a seed, each made as words and parts of the standard input. Gives the exit status."""
     if count < 1:
         sys.exit(f"{what}: with a count of {count} nothing is tried")
-    program = os.path.abspath(program)
     started = time.monotonic()
     print(f"{what}: {count} of seed {seed}")
     folder, failed = None, 0
