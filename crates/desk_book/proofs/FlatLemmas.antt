@@ -1,10 +1,14 @@
 -- What a flat object reads as: its members, put in one after another.
-use Rattle.std.proofs.Common.{◌≡◌, ◌≢◌, ℕ, zero, suc, ◌^◌, ◌<◌, ◌≤◌, ◌+◌, ◌-◌, ◌++◌, List, [], ◌∷◌, All, Bool, true, false, not, nat_eq, ◌==◌, ap₂, decimal, length, take, drop, max, Option, Some, None, is_some, Bor, ⊎_elim, option_map, option_and_then, get_or, refl, sym, ap, ◌∙◌, subst, append_assoc, append-nil, arith, IsUtf8}
-use Rattle.std.proofs.lemmas.List.Elements.{All-head, All-tail, All-weaker, All-from_get_or}
+use Rattle.std.proofs.Common.{◌≡◌, ◌≢◌, ℕ, zero, suc, ◌^◌, ◌<◌, ◌≤◌, ◌+◌, ◌-◌, ◌*◌, fold, ◌++◌, List, [], ◌∷◌, All, Bool, true, false, not, nat_eq, ◌==◌, ap₂, decimal, length, take, drop, max, Option, Some, None, is_some, Bor, ⊎_elim, option_map, option_and_then, get_or, refl, sym, ap, ◌∙◌, subst, append_assoc, append-nil, arith, IsUtf8}
+use Rattle.std.proofs.lemmas.List.Elements.{All-head, All-tail, All-nil, All-cons, All-weaker, All-from_get_or}
 use Rattle.std.proofs.lemmas.Bool.{cases_eq, eqb-true, ne_eqb, false≢true, or_cases}
 use Rattle.std.proofs.lemmas.List.{take_more, drop_more, length-take, get_or-take, take_all, length-drop, length_push}
 use Rattle.std.proofs.lemmas.List.{take-append-drop}
+use Rattle.std.proofs.lemmas.Bool.Decides.{nat_tests}
+use Rattle.std.proofs.lemmas.Fmt.{decimal-digits_value}
 use Rattle.std.proofs.lemmas.Str.{IsUtf8-from_ascii}
+use Rattle.std.proofs.lemmas.Str.Parse.{IsDigitsTest, numerals_by_fold}
+use Rattle.std.proofs.Math.Nat.{pow-le-pow_right}
 use Rattle.std.specs.Cmp.Lexicographic.{pointwise}
 use Rattle.std.specs.Str.{IsAscii}
 use Rattle.json.specs.Json as json
@@ -31,7 +35,11 @@ use Rattle.desk_book.specs.declared.requests.flat.Member.{Member}
 use Rattle.desk_book.specs.declared.requests.flat.Scalar.{Scalar}
 use Rattle.desk_book.specs.declared.requests.flat.Scalar.TheVariants.{Text, Whole}
 use Rattle.desk_book.specs.Flat.{Fits, Passes, scalar_data, put_all, object_of, scalar_token, member_lexemes}
+use Rattle.desk_book.specs.Runs.{IsPlainTo, is_special}
+use Rattle.desk_codes.specs.Characters.{IsDigit}
+use Rattle.desk_codes.specs.Number.{number_of}
 use Rattle.desk_codes.proofs.BicLemmas.{same_bytes}
+use Rattle.desk_codes.proofs.NumberLemmas.{number_below}
 use Rattle.desk_book.specs.Members.{IsOrderedByName}
 use Rattle.desk_book.proofs.ExactLemmas.{ordered_put, len_put}
 
@@ -100,34 +108,37 @@ text_passed text rest all =
       ascii = λ h. ascii_on 34 (text ++ 34 ∷ rest) (omega arith) (ascii_behind text (34 ∷ rest) small (ascii_on 34 rest (omega arith) h));
     }
 
--- a byte near the front is one of the whole
-near_byte : (rest : List ℕ) (m i : ℕ) → i < length (take m rest) → get_or (take m rest) i 0 ≡ get_or rest i 0
-near_byte rest m i lt = get_or-take m rest i 0 (omega (arith, length-take m rest))
+-- a byte that is not special stands for itself
+pub itself : (c : ℕ) → is_special c ≡ false → StandsForItself c
+itself c h = grind (arith, nat_tests, h)
 
-pub one_more_byte : (rest : List ℕ) (m i : ℕ) → i < length (take m rest) → StandsForItself (get_or (take m rest) i 0) → ((k : ℕ) → k < i → StandsForItself (get_or rest k 0))
-    → (k : ℕ) → k < i + 1 → StandsForItself (get_or rest k 0)
-one_more_byte rest m i lt this before k below =
-    ⊎_elim (λ same. subst (λ j. StandsForItself (get_or rest j 0)) (sym same) (subst StandsForItself (near_byte rest m i lt) this)) (λ other. before k (omega arith)) (cases_eq k i)
+-- the front of a text, up to a quote
+pub quoted_to : (rest behind : List ℕ) (n : ℕ) → IsPlainTo rest n → n ≤ length rest → take (length rest - n) (drop n rest) ≡ 34 ∷ behind → Passes (lexer.token (token.string (take n rest)) ∷ []) (34 ∷ rest) behind
+quoted_to rest behind n before within is =
+    let all : All StandsForItself (take n rest) = All-from_get_or StandsForItself (take n rest) 0 (λ k h. subst StandsForItself (sym (get_or-take n rest k 0 (omega (arith, length-take n rest)))) (itself (get_or rest k 0) (before.plain k (omega (arith, length-take n rest))))) in
+    let whole : take (length rest - n) (drop n rest) ≡ drop n rest = take_all (length rest - n) (drop n rest) (omega (arith, length-drop n rest)) in
+    let split : rest ≡ take n rest ++ 34 ∷ behind = sym (take-append-drop n rest) ∙ ap (λ l. take n rest ++ l) (sym whole ∙ is) in
+    subst (λ l. Passes (lexer.token (token.string (take n rest)) ∷ []) (34 ∷ l) behind) (sym split) (text_passed (take n rest) behind all)
 
-pub quoted_near : (rest : List ℕ) (m i : ℕ) → i < length (take m rest) → get_or (take m rest) i 0 ≡ 34 → (i < length rest) × (get_or rest i 0 ≡ 34)
-quoted_near rest m i lt mark = (omega (arith, length-take m rest), sym (near_byte rest m i lt) ∙ mark)
+-- eighteen digits fit
+pub number_fits : (digits : List ℕ) → All IsDigit digits → length digits ≤ 18 → number_of digits < 2 ^ 64
+number_fits digits all short =
+    let below = number_below digits all in
+    let most : 10 ^ length digits ≤ 10 ^ 18 = pow-le-pow_right (omega arith) short in
+    omega (arith, below, most)
 
-pub quoted_at : (rest : List ℕ) (i : ℕ) → i < length rest → get_or rest i 0 ≡ 34 → ((k : ℕ) → k < i → StandsForItself (get_or rest k 0))
-    → Passes (lexer.token (token.string (take i rest)) ∷ []) (34 ∷ rest) (take (length rest - (i + 1)) (drop (i + 1) rest))
-quoted_at rest i lt mark all =
-    let plain : All StandsForItself (take i rest) = All-from_get_or StandsForItself (take i rest) 0 (λ k h. subst StandsForItself (sym (get_or-take i rest k 0 (omega (arith, length-take i rest)))) (all k (omega (arith, length-take i rest)))) in
-    let is : rest ≡ take i rest ++ 34 ∷ drop (i + 1) rest =
-    sym (take-append-drop i rest) ∙ ap (λ l. take i rest ++ l) (drop_more rest i 0 lt) ∙ ap (λ c. take i rest ++ c ∷ drop (i + 1) rest) mark in
-    let behind : drop (i + 1) rest ≡ take (length rest - (i + 1)) (drop (i + 1) rest) = sym (take_all (length rest - (i + 1)) (drop (i + 1) rest) (omega (arith, length-drop (i + 1) rest))) in
-    subst (λ l. Passes (lexer.token (token.string (take i rest)) ∷ []) (34 ∷ rest) l) behind
-    (subst (λ l. Passes (lexer.token (token.string (take i rest)) ∷ []) (34 ∷ l) (drop (i + 1) rest)) (sym is) (text_passed (take i rest) (drop (i + 1) rest) plain))
+-- digits are what writes their number, where the first is no nought beside others
+are_digits : IsDigitsTest (All IsDigit)
+are_digits = record {
+  empty = All-nil IsDigit;
+  parts = λ c cs all. (All-head IsDigit c cs all, All-tail IsDigit c cs all);
+  more = λ c cs is all. All-cons IsDigit c cs is all;
+}
 
-same_word : (b : Bool) → false ≡ not b → b ≡ true
-same_word true h = refl
-same_word false h = absurd (false≢true h)
-
-pub same_text : (xs ys : List ℕ) → false ≡ not (pointwise nat_eq xs ys) → xs ≡ ys
-same_text xs ys h = same_bytes xs ys (same_word (pointwise nat_eq xs ys) h)
+pub written_so : (digits : List ℕ) → All IsDigit digits → length digits ≤ 18 → 0 < length digits → (get_or digits 0 0 ≡ 48 → length digits ≡ 1) → decimal (number_of digits) ≡ digits
+written_so digits all short some first =
+    decimal-digits_value (numerals_by_fold (All IsDigit) are_digits (λ n ds. fold (λ m c. 10 * m + (c - 48)) n ds) (record { empty = λ n. refl; more = λ n c cs is. ap (λ m. fold (λ k d. 10 * k + (d - 48)) m cs) (omega arith) }))
+    digits all some first (number_fits digits all short)
 
 -- a number is written with digits, and no word goes on behind it
 pub number_passed : (n : ℕ) (text digits rest : List ℕ) → n < 2 ^ 64 → ends_word rest ≡ true → IsAscii (decimal n) → text ≡ digits ++ rest → decimal n ≡ digits

@@ -6,6 +6,7 @@ pub mod FormedLemmas
 mod AnsweringLemmas
 mod StatementLemmas
 mod TellingLemmas
+pub mod RunLanes
 pub mod LeftLemmas
 pub mod LineLemmas
 pub mod FormLemmas

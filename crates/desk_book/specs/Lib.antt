@@ -14,6 +14,7 @@ pub mod Lines
 pub mod Members
 pub mod Played
 pub mod RowByRow
+pub mod Runs
 pub mod Script
 pub mod Statement
 pub mod Sums

@@ -13,7 +13,7 @@ pub const LONGEST_LINE: usize = 1024;
 pub const MOST_DIGITS: usize = 9;
 
 /// So many digits write a number that fits in 64 bits, whatever they are.
-pub const LONGEST_NUMBER: usize = 17;
+pub const LONGEST_NUMBER: usize = 18;
 
 /// The most members of an object that is read straight from its bytes: no operation has more.
 pub const MOST_MEMBERS: usize = 5;

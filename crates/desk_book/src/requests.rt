@@ -2,6 +2,7 @@
 pub mod command;
 pub mod flat;
 pub mod form;
+pub mod lanes;
 pub mod line;
 pub mod member;
 pub mod object;

@@ -3,6 +3,8 @@ ghost use Rattle.std.specs.Prelude.{◌≡◌, ◌<◌, ◌≤◌, ◌==◌, ◌
 ghost use Rattle.std.specs.List.{position_or_len};
 ghost use Rattle.desk_book.specs.Lines.{script_lines, said_by as said_of, is_skipped as skips, has_body as posts, is_stop as stops, first_word as word_of};
 
+use crate::requests::lanes::{LANES, before_byte};
+
 /// The first word of a line that a participant's message follows.
 pub const MESSAGE: &[u8] = b"in";
 
@@ -34,8 +36,16 @@ fn index_of(text: &[u8], byte: u8) -> usize
     ensures place { result ≡ position_or_len (λ c. c == byte) text.now }
     ensures within { result ≤ length text.now }
 {
-    for (index, c) in text.iter().enumerate() {
-        if *c == byte {
+    let mut at = 0;
+    while LANES <= text.len() - at {
+        let run = before_byte(text, at, byte);
+        if run < LANES {
+            return at + run;
+        }
+        at += LANES;
+    }
+    for index in at..text.len() {
+        if text[index] == byte {
             return index;
         }
     }

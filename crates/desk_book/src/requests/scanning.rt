@@ -1,15 +1,17 @@
 //! The parts of an object in JSON (RFC 8259), each read at the front of a text, together with what stands behind it.
-ghost use Rattle.std.specs.Prelude.{◌≡◌, ◌<◌, ◌≤◌, ◌^◌, [], ◌∷◌, ◌++◌, All, length, true, decimal, IfSome};
+ghost use Rattle.std.specs.Prelude.{◌≡◌, ◌<◌, ◌≤◌, ◌^◌, [], ◌∷◌, ◌++◌, All, length, slice_index, true, decimal, IfSome};
+ghost use Rattle.std.specs.Str.{byte};
 ghost use Rattle.json.specs.Lex.{token, operator_lexeme};
 ghost use Rattle.json.specs.Token.{string, number};
 ghost use Rattle.json.specs.Word.{is_operator, is_space, ends_word};
 ghost use Rattle.desk_codes.specs.Characters.{IsDigit};
 ghost use Rattle.desk_book.specs.Flat.{Fits, Passes, member_lexemes, scalar_token};
+ghost use Rattle.desk_book.specs.Runs.{IsPlainTo, is_special};
 
 use crate::limits::{LONGEST_MEMBER, LONGEST_NUMBER, LONGEST_SPACE};
 use crate::requests::flat::{Member, Scalar};
 use crate::requests::form::number_of;
-use itoa::Buffer;
+use crate::requests::lanes::{LANES, before_special};
 
 /// What stands behind white space (section 2), of which no more than `LONGEST_SPACE` bytes are passed over.
 pub fn after_space(text: &[u8]) -> &[u8]
@@ -79,16 +81,42 @@ fn quoted(text: &[u8]) -> Option<(&[u8], &[u8])>
     ensures { IfSome result (λ parts. Passes (token (string parts.0.now) ∷ []) text.now parts.1.now) }
 {
     let rest = text.strip_prefix(b"\"")?;
-    let near = &rest[..rest.len().min(LONGEST_MEMBER + 1)];
-    for (index, c) in near.iter().enumerate() {
-        if *c == b'"' {
-            return Some((&rest[..index], &rest[index + 1..]));
+    let length = plain_length(rest);
+    if LONGEST_MEMBER < length {
+        return None;
+    }
+    let behind = rest[length..].strip_prefix(b"\"")?;
+    Some((&rest[..length], behind))
+}
+
+/// How many bytes at the front stand for themselves between quotes: all up to one that does not, or to the end, or some more
+/// than `LONGEST_MEMBER`.
+#[inline(always)]
+fn plain_length(text: &[u8]) -> usize
+    ensures within { result ≤ length text.now }
+    ensures plain { IsPlainTo text.now result }
+{
+    let mut at = 0;
+    while LANES <= text.len() - at {
+        let run = before_special(text, at);
+        if run < LANES || LONGEST_MEMBER < at + run {
+            return at + run;
         }
-        if *c < b' ' || *c > b'~' || *c == b'\\' {
-            return None;
+        at += LANES;
+    }
+    for index in at..text.len() {
+        if is_special(text[index]) {
+            return index;
         }
     }
-    None
+    text.len()
+}
+
+/// Whether a byte does not stand for itself between quotes.
+fn is_special(c: u8) -> bool
+    ensures { result ≡ is_special c }
+{
+    c == b'"' || c == b'\\' || c < b' ' || b'~' < c
 }
 
 /// The whole number at the front, and what stands behind it; None where it is not written with digits alone, the first of
@@ -100,10 +128,22 @@ fn whole(text: &[u8]) -> Option<(u64, &[u8])>
 {
     let (digits, rest) = digits_at_front(text)?;
     let number = number_of(digits);
-    if !ends_word(rest) || Buffer::new().format(number).as_bytes() != digits {
+    if !ends_word(rest) || !is_shortest(digits) {
         return None;
     }
     Some((number, rest))
+}
+
+/// Whether there are digits, the first of them no nought beside others.
+fn is_shortest(digits: &[u8]) -> bool
+    ensures some { result ≡ true → 0 < length digits.now }
+    ensures first { result ≡ true → slice_index digits.now 0 ≡ byte "0" → length digits.now ≡ 1 }
+{
+    match digits.first() {
+        Some(b'0') => digits.len() == 1,
+        Some(_) => true,
+        None => false,
+    }
 }
 
 /// The digits at the front, and what stands behind them; None where they are more than `LONGEST_NUMBER`, or where nothing
