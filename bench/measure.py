@@ -328,10 +328,10 @@ def free_script(requests):
     return "".join([*OPENING, issued, *rounds, *rest * [SUMS]]).encode(), pairs
 
 
-def played(program, script, pairs, *words):
-    """The processor seconds that a program takes to play a script in which so many pairs settle."""
+def played(words, script, pairs):
+    """The processor seconds that these words take to play a script in which so many pairs settle."""
     started = processor_time()
-    done = subprocess.run([program, "play", *words], input=script, capture_output=True, check=True)
+    done = subprocess.run(words, input=script, capture_output=True, check=True)
     taken = processor_time() - started
     settled = sum(map(int, re.findall(rb"^accepted [0-9]+ settled ([0-9]+) waiting [01]$", done.stdout, re.MULTILINE)))
     if settled != pairs:
@@ -367,12 +367,12 @@ def measure_growing(work, one, many, timed_at, who="desk"):
 
 
 def played_by_desk(script, pairs):
-    return played(DESK, script, pairs)
+    return played([DESK, "play"], script, pairs)
 
 
 def played_in_tables(script, pairs):
-    """As `played`, over tables in SQL in memory."""
-    return played(BENCH, script, pairs)
+    """As `played`, over tables alone, in memory."""
+    return played([BENCH, "tables"], script, pairs)
 
 
 @contextlib.contextmanager
@@ -383,9 +383,15 @@ def new_path():
 
 
 def played_in_file(script, pairs):
-    """As `played`, over tables in SQL in a new file."""
+    """As `played`, over tables in a new file, with a register in memory beside them."""
     with new_path() as path:
-        return played(BENCH, script, pairs, path)
+        return played([BENCH, "play", path], script, pairs)
+
+
+def played_in_tables_of_file(script, pairs):
+    """As `played`, over the tables of a new file alone."""
+    with new_path() as path:
+        return played([BENCH, "tables", path], script, pairs)
 
 
 @functools.lru_cache(maxsize=1)
@@ -425,7 +431,7 @@ def compare_tables():
     """The tables after a day, of the desk and of the bare one, whose statements are timed beside it."""
     script, pairs = mixed_script(SIZES[0])
     with new_path() as path:
-        played(BENCH, script, pairs, path)
+        played([BENCH, "tables", path], script, pairs)
         with contextlib.closing(sqlite3.connect(path)) as connection:
             if rows_in(connection) != rows_in(bare_desk(script).connection):
                 sys.exit("store: the tables of the bare desk are others than the desk's")
@@ -447,14 +453,15 @@ def measure_play():
 
 
 def measure_store():
-    """Scripts of growing length, of a mixed day, over the program's store and over tables in SQL, and their statements asked
-    of Python's SQLite."""
+    """Scripts of growing length, of a mixed day, over the program's store, over a file with memory beside it, and over tables
+    alone, whose statements are asked of Python's SQLite too."""
     compare_tables()
     work = [
         ("play over the index", played_by_desk, "desk"),
-        ("play over SQL in a file", played_in_file, "desk"),
+        ("play over a file, with memory beside it", played_in_file, "desk"),
+        ("play over the tables of a file alone", played_in_tables_of_file, "desk"),
         ("its statements on a file", asked_of_sqlite, "Python's SQLite"),
-        ("play over SQL in memory", played_in_tables, "desk"),
+        ("play over tables in memory alone", played_in_tables, "desk"),
     ]
     for name, play, who in work:
         timed_at = functools.partial(script_timed, mixed_script, play)
@@ -543,7 +550,7 @@ def measure_http():
     with subprocess.Popen(words, stdout=subprocess.PIPE) as desk:
         desk.stdout.readline()
         by_desk = len(requests) / seconds_over_loopback(port, requests)
-    by_play = len(requests) / played(DESK, script, pairs)
+    by_play = len(requests) / played([DESK, "play"], script, pairs)
     with http.server.HTTPServer((HOST, 0), Constant) as server:
         peer = multiprocessing.Process(target=server.serve_forever)
         peer.start()
