@@ -1,7 +1,7 @@
 -- What a flat object reads as: its members, put in one after another.
-use Rattle.std.proofs.Common.{◌≡◌, ◌≢◌, ℕ, zero, suc, ◌^◌, ◌<◌, ◌≤◌, ◌+◌, ◌-◌, ◌*◌, fold, ◌++◌, List, [], ◌∷◌, All, Bool, true, false, not, nat_eq, ◌==◌, ap₂, decimal, length, take, drop, max, Option, Some, None, is_some, Bor, ⊎_elim, option_map, option_and_then, get_or, refl, sym, ap, ◌∙◌, subst, append_assoc, append-nil, arith, IsUtf8}
+use Rattle.std.proofs.Common.{◌≡◌, ◌≢◌, ℕ, zero, suc, ◌^◌, ◌<◌, ◌≤◌, ◌+◌, ◌-◌, ◌*◌, fold, ◌++◌, List, [], ◌∷◌, All, true, false, ◌==◌, ap₂, decimal, length, take, drop, max, Option, Some, None, is_some, Bor, ⊎_elim, option_map, option_and_then, get_or, refl, sym, ap, ◌∙◌, subst, append_assoc, append-nil, arith, IsUtf8}
 use Rattle.std.proofs.lemmas.List.Elements.{All-head, All-tail, All-nil, All-cons, All-weaker, All-from_get_or}
-use Rattle.std.proofs.lemmas.Bool.{cases_eq, eqb-true, ne_eqb, false≢true, or_cases}
+use Rattle.std.proofs.lemmas.Bool.{eqb-true, ne_eqb, false≢true, or_cases}
 use Rattle.std.proofs.lemmas.List.{take_more, drop_more, length-take, get_or-take, take_all, length-drop, length_push}
 use Rattle.std.proofs.lemmas.List.{take-append-drop}
 use Rattle.std.proofs.lemmas.Bool.Decides.{nat_tests}
@@ -9,7 +9,6 @@ use Rattle.std.proofs.lemmas.Fmt.{decimal-digits_value}
 use Rattle.std.proofs.lemmas.Str.{IsUtf8-from_ascii}
 use Rattle.std.proofs.lemmas.Str.Parse.{IsDigitsTest, numerals_by_fold}
 use Rattle.std.proofs.Math.Nat.{pow-le-pow_right}
-use Rattle.std.specs.Cmp.Lexicographic.{pointwise}
 use Rattle.std.specs.Str.{IsAscii}
 use Rattle.json.specs.Json as json
 use Rattle.json.specs.Json.{if_last}
@@ -38,7 +37,6 @@ use Rattle.desk_book.specs.Flat.{Fits, Passes, scalar_data, put_all, object_of, 
 use Rattle.desk_book.specs.Runs.{IsPlainTo, is_special}
 use Rattle.desk_codes.specs.Characters.{IsDigit}
 use Rattle.desk_codes.specs.Number.{number_of}
-use Rattle.desk_codes.proofs.BicLemmas.{same_bytes}
 use Rattle.desk_codes.proofs.NumberLemmas.{number_below}
 use Rattle.desk_book.specs.Members.{IsOrderedByName}
 use Rattle.desk_book.proofs.ExactLemmas.{ordered_put, len_put}

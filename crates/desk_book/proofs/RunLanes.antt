@@ -4,7 +4,6 @@ use Rattle.std.proofs.lemmas.Bool.{agree_below, agree_below_at, cases_lt}
 use Rattle.std.proofs.lemmas.Simd.{map-map, mask_l-mod, length-chunk, bitmask_splat, first_set_mask_l, run_in_chunk_le, run_in_chunk_fails, run_in_chunk_stops, zip2_of_maps}
 use Rattle.std.proofs.lemmas.List.{length-map}
 use Rattle.std.specs.Int.{trailing_zeros}
-use Rattle.std.specs.List.{prefix_len}
 use lib.Lanes.{chunk, zip2, mask_l, top}
 use Rattle.desk_book.specs.Runs.{IsRun}
 

@@ -1,5 +1,5 @@
 -- The digits of a number.
-use Rattle.std.proofs.Common.{◌<◌, ◌^◌, sym, ap, ◌∙◌, subst, decimal, arith}
+use Rattle.std.proofs.Common.{◌<◌, ◌^◌, sym, ap, ◌∙◌, subst, decimal}
 use Rattle.std.proofs.lemmas.Fmt.{IsAscii-decimal}
 use Rattle.desk_book.proofs.FlatLemmas.{number_passed, number_fits, written_so}
 use Rattle.desk_book.proofs.requests.scanning.whole.Goals as goal
