@@ -90,9 +90,12 @@ fn first_word(said: &[u8]) -> &[u8]
     &said[..index_of(said, b' ')]
 }
 
-/// Whether the line ends a body, or an answer.
+/// Whether the line ends a body, or an answer. Of most lines their second byte tells.
 pub fn is_stop(line: &[u8]) -> bool
     ensures { result ≡ stops line.now }
 {
-    said_by(line) == STOP
+    match line.get(1) {
+        Some(c) if *c != b'\n' && *c != b'\r' => false,
+        _ => said_by(line) == STOP,
+    }
 }
