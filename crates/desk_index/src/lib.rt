@@ -6,7 +6,7 @@
 //! securities, currencies and runs. `opposites` finds unmatched instructions by what opposite ones have in common
 //! (`match_key`), and `due_places` matched pairs by their days. `messages` finds what was sent, by
 //! the headings of the messages (`heading`): `addressed` what was sent to a participant, and `confirmations` what
-//! confirms an instruction. `short` knows which matched pairs stay short, so that a run need not try them: `shortages` is what
+//! confirms an instruction; `numbered` tells a message by its number among all. `short` knows which matched pairs stay short, so that a run need not try them: `shortages` is what
 //! is kept of them and `knowing` its calls, `waits` has for how much of what pairs wait, and `wants` what that may be. `ahead` keeps rows
 //! that a statement asks for next, and `sums` those that the totals do (`next_securities`), until something changes. `noting` puts
 //! into the look-ups what a call adds, `tidying` takes out what a call or `back` ends. `first_numbers`, `numbers_at`,
@@ -21,6 +21,7 @@ mod entries;
 mod in_memory;
 mod indexed_register;
 mod noting;
+mod numbered;
 mod pairs;
 mod sent;
 mod short;
@@ -28,3 +29,4 @@ mod sums;
 mod tidying;
 
 pub use indexed_register::IndexedRegister;
+pub use numbered::Messages;
