@@ -1,4 +1,4 @@
--- The values of the columns, as they are bound. Only private contracts and proofs speak of them.
+-- The values of the columns, as they are bound.
 use Rattle.std.specs.Prelude.{[], ◌∷◌}
 use Rattle.sqlite.specs.Order.{Row}
 use Rattle.sqlite.specs.Values.{bound}

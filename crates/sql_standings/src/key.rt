@@ -49,7 +49,7 @@ pub(crate) fn opposite_of(sender: Bic, instruction: &Instruction) -> Instructed
 
 /// What an instruction says in the columns from `isin` to `amount`.
 #[derive(Clone, Copy)]
-pub(crate) struct Columns<'a> {
+pub struct Columns<'a> {
     pub isin: ValueRef<'a>,
     pub day: ValueRef<'a>,
     pub quantity: ValueRef<'a>,
@@ -61,7 +61,8 @@ pub(crate) struct Columns<'a> {
     pub amount: ValueRef<'a>,
 }
 
-pub(crate) fn columns_of(i: &Instructed) -> Columns<'_>
+/// The values of an instruction, for each of these columns.
+pub fn columns_of(i: &Instructed) -> Columns<'_>
     ensures { values_in result ≡ key_of i.now }
 {
     let instruction = &i.instruction;

@@ -11,7 +11,7 @@ use sql_tables::rows::only_number;
 use sqlite::{Error, Row};
 
 /// How many numbers a day has.
-const NUMBERS: u64 = 1_000_000_000;
+pub const NUMBERS: u64 = 1_000_000_000;
 
 /// No day has so great a number.
 const END_OF_DAYS: u64 = 100_000_000;
