@@ -3,4 +3,3 @@ pub mod Entries
 pub mod Filled
 pub mod Shown
 pub mod Reading
-pub mod Spelt

@@ -1,5 +1,5 @@
 -- What a shown row says, column by column.
-use Rattle.std.specs.Prelude.{◌≡◌, ℕ, pos, [], Option, Some, None}
+use Rattle.std.specs.Prelude.{◌≡◌, ℕ, ◌+◌, pos, [], Option, Some, None}
 use Rattle.sqlite.specs.declared.types.Value.TheVariants.{Int, Text as Words}
 use Rattle.sqlite.specs.Order.{Row, column}
 use Rattle.desk_codes.specs.Currency.{letters_of}
@@ -7,12 +7,14 @@ use Rattle.desk_msg.specs.declared.instruction.Cash.{Cash}
 use Rattle.desk_msg.specs.declared.instruction.Instruction.{Instruction}
 use Rattle.desk_msg.specs.MessageType.{number_of_type}
 use Rattle.desk_msg.specs.Profile.{code_of_kind}
+use Rattle.desk_rules.specs.declared.answers.reply.Reply.{Reply}
 use Rattle.desk_rules.specs.declared.history.entry.Movement.{Movement}
 use Rattle.desk_rules.specs.declared.history.entry.Payment.{Payment}
 use Rattle.desk_rules.specs.declared.history.entry.Entry.{Entry}
 use Rattle.desk_rules.specs.declared.history.entry.Entry.TheVariants.{Participant, Account, Security, Issue, Redeem, PayIn, PayOut, Instruct, Cancel, Run}
 use Rattle.sql_entries.specs.declared.places.TheConstants.{SENDER, REFERENCE, BIC, ACCOUNT, ISIN, UNIT, QUANTITY, CURRENCY, AMOUNT, DAY, RULE, MT, SETTLEMENT, PLACE, PREVIOUS}
 use Rattle.sql_entries.specs.Columns.{kind_number, number_of_rule}
+use Rattle.sql_entries.specs.Entries.{type_value}
 
 pub record SaysMovement (row : Row) (movement : Movement) : Type 0 where
   pub reference : column row REFERENCE ≡ Words movement.reference
@@ -66,3 +68,9 @@ Says row (Run reference day rule) = (column row REFERENCE ≡ Words reference) �
 pub record SaysOf (kind : ℕ) (row : Row) (entry : Entry) : Type 0 where
   pub kind_is : kind_number entry ≡ kind
   pub says : Says row entry
+
+-- three columns, from a place on, say a reply
+pub record SaysReply (row : Row) (at : ℕ) (reply : Reply) : Type 0 where
+  pub status : column row at ≡ Int (pos reply.status)
+  pub mt : column row (at + 1) ≡ type_value reply.mt
+  pub text : column row (at + 2) ≡ Words reply.text

@@ -4,7 +4,7 @@ ghost use Rattle.desk_rules.specs.declared.answers.reply.Kept.{Kept};
 ghost use Rattle.sql_entries.specs.Entries.{AreEntries, EntryAdded};
 ghost use Rattle.sql_tables.specs.Calls.{Soundly, Writes, tables};
 
-use crate::values::values;
+use crate::values::row_values;
 use desk_rules::{Entry, Reply};
 use sql_tables::statement::execute;
 use sqlite::{Alter, Connection, Error};
@@ -21,7 +21,7 @@ pub fn add_entry<S: Alter>(
     ensures added { Soundly S.Store conn.old conn.new ((register : List Kept) → AreEntries (tables S.Store conn.old) register → number ≡ length register + 1 → OnOk result (EntryAdded (tables S.Store conn.old) (tables S.Store conn.new) register entry.now reply.now)) }
     ensures write { Writes S.Store conn.old conn.new result }
 {
-    let row = values(number, entry, reply);
+    let row = row_values(number, entry, reply);
     execute(
         conn,
         "INSERT INTO register (number, sender, reference, kind, about, bic, account, isin, unit, quantity, currency, amount, day, rule, mt, settlement, place, previous, status, reply_mt, reply) VALUES (?1, ?2, ?3, ?4, ?5, ?6, ?7, ?8, ?9, ?10, ?11, ?12, ?13, ?14, ?15, ?16, ?17, ?18, ?19, ?20, ?21)",

@@ -14,7 +14,7 @@ ghost use Rattle.desk_rules.specs.declared.history.entry.Payment.{Payment as Pai
 ghost use Rattle.desk_rules.specs.declared.history.entry.RunRule.{RunRule as Rule};
 ghost use Rattle.sql_entries.specs.Columns.{kind_number, number_of_rule};
 ghost use Rattle.sql_entries.specs.Reading.{Says, SaysMovement, SaysOf, SaysPayment};
-ghost use Rattle.sql_entries.specs.Spelt.{IsMovementSpelt, IsPaymentSpelt, IsSpelt};
+ghost use Rattle.desk_readable.specs.Spelt.{IsMovementSpelt, IsPaymentSpelt, IsSpelt};
 
 use crate::instruction::{instruction_in, type_in};
 use crate::kind;
@@ -151,8 +151,8 @@ fn command_in(row: &Row, kind: u64) -> Result<Entry, Error>
     }
 }
 
-/// The entry.
-pub(crate) fn entry_in(alloc: Global, row: &Row) -> Result<Entry, Error>
+/// The entry that a shown row says, in its first sixteen columns. What says none is told as a damaged database.
+pub fn entry_in(alloc: Global, row: &Row) -> Result<Entry, Error>
     ensures kind { IfOk result (λ entry. column row.now KIND ≡ Int (pos (kind_number entry))) }
     ensures says { IfOk result (λ entry. Says row.now entry) }
     ensures all { (entry : AnyEntry) → 15 < length row.now → column row.now KIND ≡ Int (pos (kind_number entry)) → Says row.now entry → IsSpelt entry → IfErr result (λ e. e ≡ Error.SqliteFailure OutOfMemory) }

@@ -2,7 +2,8 @@
 //!
 //! `add_entry` puts one entry more behind the others; `entry_count`, `entry_at` and `reply_at` say how many there are,
 //! and what the one of a number is and was answered; `finding.rt` looks entries up by something else than a number, by the
-//! statements of `texts.rt`. Begin with specs/Columns.antt, what each column says of an entry, and specs/Entries.antt, when
+//! statements of `texts.rt`. What a row says, and the values that are put in, are public too, for whoever compares rows that are
+//! shown. Begin with specs/Columns.antt, what each column says of an entry, and specs/Entries.antt, when
 //! the table holds a list of entries.
 #![tactic(auto)]
 
@@ -19,9 +20,11 @@ mod texts;
 mod values;
 
 pub use adding::add_entry;
+pub use entry::entry_in;
 pub use finding::{is_participant, kind_of, last_run, number_of, owner_of, security_after};
 pub use kind::{
     ACCOUNT, CANCELLATION, INSTRUCTION, ISSUE, PARTICIPANT, PAY_IN, PAY_OUT, REDEMPTION, RUN,
     SECURITY,
 };
-pub use looking::{entry_at, entry_count, reply_at};
+pub use looking::{entry_at, entry_count, reply_at, reply_in};
+pub use values::row_values;

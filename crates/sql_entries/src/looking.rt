@@ -1,11 +1,12 @@
 //! How many entries there are, and what the one of a number is and was answered.
-ghost use Rattle.std.specs.Prelude.{◌≡◌, ◌<◌, ◌^◌, ℕ, List, Option, Ok, IfErr, IfOk, IfSome, IsOk, length, option_map};
+ghost use Rattle.std.specs.Prelude.{◌≡◌, ◌<◌, ◌^◌, ◌+◌, ℕ, List, Option, Ok, IfErr, IfOk, IfSome, IsOk, length, option_map};
 ghost use Rattle.sqlite.specs.declared.error.ErrorCode.TheVariants.{OutOfMemory};
 ghost use Rattle.desk_rules.specs.declared.answers.reply.Kept.{Kept};
 ghost use Rattle.desk_rules.specs.History.{entry_at};
 ghost use Rattle.desk_register.specs.Looked.{kept_at};
 ghost use Rattle.desk_rules.specs.declared.answers.reply.Reply.{Reply};
 ghost use Rattle.sqlite_value.specs.Order.{column};
+ghost use Rattle.sql_entries.specs.Reading.{SaysReply};
 ghost use Rattle.sql_entries.specs.Entries.{AreEntries, entries_in, type_value};
 ghost use Rattle.sql_entries.specs.Shown.{count_rows, row_if, shown_entry, shown_reply};
 ghost use Rattle.sql_tables.specs.Calls.{Looks, Soundly, tables};
@@ -78,24 +79,25 @@ fn first_entry(alloc: Global, rows: &[Row]) -> Result<Option<Entry>, Error>
 }
 
 /// A message type, or none.
-fn message_type_in(row: &Row) -> Result<Option<u16>, Error>
-    ensures value { (mt : Option ℕ) → column row.now 1 ≡ type_value mt → IfOk result (λ r. r ≡ mt) }
-    ensures all { (mt : Option ℕ) → 1 < length row.now → column row.now 1 ≡ type_value mt → IfSome mt (λ n. n < 2 ^ 16) → IsOk result }
+fn message_type_in(row: &Row, at: usize) -> Result<Option<u16>, Error>
+    ensures value { (mt : Option ℕ) → column row.now at ≡ type_value mt → IfOk result (λ r. r ≡ mt) }
+    ensures all { (mt : Option ℕ) → at < length row.now → column row.now at ≡ type_value mt → IfSome mt (λ n. n < 2 ^ 16) → IsOk result }
 {
-    match row.get_ref(1)? {
+    match row.get_ref(at)? {
         ValueRef::Null => Ok(None),
-        _ => Ok(Some(short_at(row, 1)?)),
+        _ => Ok(Some(short_at(row, at)?)),
     }
 }
 
-/// The reply that a shown row says.
-fn reply_in(alloc: Global, row: &Row) -> Result<Reply, Error>
-    ensures value { (reply : Reply) → row.now ≡ shown_reply reply → IfOk result (λ r. r ≡ reply) }
-    ensures all { (reply : Reply) → row.now ≡ shown_reply reply → reply.status < 2 ^ 16 → IfSome reply.mt (λ n. n < 2 ^ 16) → IfErr result (λ e. e ≡ Error.SqliteFailure OutOfMemory) }
+/// The reply that a shown row says, in three columns from a place on.
+pub fn reply_in(alloc: Global, row: &Row, at: usize) -> Result<Reply, Error>
+    requires { at < 2 ^ 16 }
+    ensures value { (reply : Reply) → SaysReply row.now at reply → IfOk result (λ r. r ≡ reply) }
+    ensures all { (reply : Reply) → at + 2 < length row.now → SaysReply row.now at reply → reply.status < 2 ^ 16 → IfSome reply.mt (λ n. n < 2 ^ 16) → IfErr result (λ e. e ≡ Error.SqliteFailure OutOfMemory) }
 {
-    let status = short_at(row, 0)?;
-    let mt = message_type_in(row)?;
-    match Vec::from_slice(alloc, text_at(row, 2)?) {
+    let status = short_at(row, at)?;
+    let mt = message_type_in(row, at + 1)?;
+    match Vec::from_slice(alloc, text_at(row, at + 2)?) {
         Ok(bytes) => Ok(Reply {
             status,
             mt,
@@ -110,7 +112,7 @@ fn first_reply(alloc: Global, rows: &[Row]) -> Result<Option<Reply>, Error>
     ensures { (kept : Option Kept) → rows.now ≡ row_if (λ kept. shown_reply kept.reply) kept → IfOk result (λ reply. reply ≡ option_map (λ kept. kept.reply) kept) }
 {
     match rows.first() {
-        Some(row) => Ok(Some(reply_in(alloc, row)?)),
+        Some(row) => Ok(Some(reply_in(alloc, row, 0)?)),
         None => Ok(None),
     }
 }
