@@ -1,0 +1,4 @@
+pub mod Audits
+pub mod ByNumber
+pub mod Numbered
+pub mod Whole
