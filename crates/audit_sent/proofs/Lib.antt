@@ -1,0 +1,3 @@
+mod PlaceLemmas
+mod RowLemmas
+mod TableLemmas

@@ -1,0 +1,115 @@
+//! The rows of `sent` by their numbers.
+ghost use Rattle.std.specs.Prelude.{◌≡◌, ◌<◌, ◌^◌, ◌∷◌, [], pos, map, filter, IsTrue, IfOk};
+ghost use Rattle.std.specs.List.{AllByRecursion};
+ghost use Rattle.std.specs.List.Sorted.{IsPermutation};
+ghost use Rattle.sqlite.specs.Values.{bound};
+ghost use Rattle.sqlite.specs.declared.types.Value.TheVariants.{Int};
+ghost use Rattle.sql_tables.specs.Calls.{Looks, Soundly, tables};
+ghost use Rattle.sql_tables.specs.Schema.{sent_table};
+ghost use Rattle.sql_opening.specs.Forms.{HasForm};
+ghost use Rattle.audit_rows.specs.ByNumber.{has_number, is_above, is_below, HasNoOther, HasOne};
+ghost use Rattle.audit_rows.specs.Whole.{shown_by};
+ghost use Rattle.audit_sent.specs.Told.{values_of};
+
+use audit_rows::same_row;
+use desk_rules::Sent;
+use sql_tables::statement::query;
+use sql_tables::values::{integer, signed};
+use sqlite::types::ValueRef;
+use sqlite::{Alter, Connection, Error, Row};
+
+/// The rows of a number.
+fn rows_at<S: Alter>(conn: &mut Connection<S>, number: u64) -> Result<Vec<Row>, Error>
+    requires { number < 2 ^ 63 }
+    ensures shown { Soundly S.Store conn.old conn.new (IfOk result (λ rows. IsPermutation (map (shown_by 5) (filter (has_number number) ((tables S.Store conn.old).trees 11))) rows.items)) }
+    ensures look { Looks S.Store conn.old conn.new result }
+{
+    query(
+        conn,
+        "SELECT number, bic, place, mt, about, text FROM sent WHERE number = ?1",
+        &[integer(number)],
+    )
+}
+
+/// The numbers above one.
+fn rows_above<S: Alter>(conn: &mut Connection<S>, number: u64) -> Result<Vec<Row>, Error>
+    requires { number < 2 ^ 63 }
+    ensures shown { Soundly S.Store conn.old conn.new (IfOk result (λ rows. rows.items ≡ [] → filter (is_above number) ((tables S.Store conn.old).trees 11) ≡ [])) }
+    ensures look { Looks S.Store conn.old conn.new result }
+{
+    query(
+        conn,
+        "SELECT number FROM sent WHERE number > ?1",
+        &[integer(number)],
+    )
+}
+
+/// The numbers below one.
+fn rows_below<S: Alter>(conn: &mut Connection<S>, number: u64) -> Result<Vec<Row>, Error>
+    requires { number < 2 ^ 63 }
+    ensures shown { Soundly S.Store conn.old conn.new (IfOk result (λ rows. rows.items ≡ [] → filter (is_below number) ((tables S.Store conn.old).trees 11) ≡ [])) }
+    ensures look { Looks S.Store conn.old conn.new result }
+{
+    query(
+        conn,
+        "SELECT number FROM sent WHERE number < ?1",
+        &[integer(number)],
+    )
+}
+
+/// The values of a message's row.
+fn values(number: u64, place: u64, message: &Sent) -> [ValueRef<'_>; 6]
+    requires number { number < 2 ^ 63 }
+    requires place { place < 2 ^ 63 }
+    ensures { bound result ≡ Int (pos number) ∷ values_of (place, message.now) }
+{
+    [
+        integer(number),
+        ValueRef::Text(message.bic.as_bytes()),
+        integer(place),
+        integer(u64::from(message.mt)),
+        signed(message.about.cast_signed()),
+        ValueRef::Text(message.text.as_bytes()),
+    ]
+}
+
+/// Whether shown rows are the one of a message.
+fn is_row_of(rows: &[Row], number: u64, place: u64, message: &Sent) -> bool
+    requires number { number < 2 ^ 63 }
+    requires place { place < 2 ^ 63 }
+    ensures { IsTrue result → rows.now ≡ (Int (pos number) ∷ values_of (place, message.now)) ∷ [] }
+{
+    match rows {
+        [row] => same_row(row, &values(number, place, message)),
+        _ => false,
+    }
+}
+
+/// Whether the row of a number is that of a message.
+pub fn has_row<S: Alter>(
+    conn: &mut Connection<S>,
+    number: u64,
+    place: u64,
+    message: &Sent,
+) -> Result<bool, Error>
+    requires number { number < 2 ^ 63 }
+    requires place { place < 2 ^ 63 }
+    ensures row { Soundly S.Store conn.old conn.new (AllByRecursion (HasForm sent_table) ((tables S.Store conn.old).trees 11)
+        → IfOk result (λ ok. IsTrue ok → HasOne ((tables S.Store conn.old).trees 11) number (values_of (place, message.now)))) }
+    ensures look { Looks S.Store conn.old conn.new result }
+{
+    let rows = rows_at(conn, number)?;
+    Ok(is_row_of(&rows, number, place, message))
+}
+
+/// Whether there is no row below 1, nor above the last.
+pub fn has_no_other<S: Alter>(conn: &mut Connection<S>, count: u64) -> Result<bool, Error>
+    requires { count < 2 ^ 63 }
+    ensures none { Soundly S.Store conn.old conn.new (IfOk result (λ ok. IsTrue ok → HasNoOther ((tables S.Store conn.old).trees 11) count)) }
+    ensures look { Looks S.Store conn.old conn.new result }
+{
+    if !rows_above(conn, count)?.is_empty() {
+        return Ok(false);
+    }
+    Ok(rows_below(conn, 1)?.is_empty())
+}
