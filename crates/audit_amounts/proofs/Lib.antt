@@ -1,0 +1,5 @@
+mod FormLemmas
+mod TextLemmas
+mod RowLemmas
+mod EntryLemmas
+mod WalkLemmas

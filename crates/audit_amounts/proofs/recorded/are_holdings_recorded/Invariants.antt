@@ -1,0 +1,16 @@
+use Rattle.sqlite.specs.Held.{state}
+use Rattle.desk_register.specs.View.{IfTrusted}
+use Rattle.sql_amounts.specs.Amounts.{AreAmounts}
+use Rattle.sql_tables.specs.Calls.{Soundly, tables}
+use Rattle.audit_rows.specs.Audits.{HasLooked, HasRead}
+use Rattle.audit_amounts.specs.Recorded.{AreRecordedTo}
+use Rattle.audit_amounts.proofs.recorded.are_holdings_recorded.Given as goal
+
+-- what the account holds is recorded up to the last security
+abbrev pub invariant-loop-told : goal.invariant-loop-told
+invariant-loop-told g l = record {
+  look : HasLooked (state g.S.Store l.fn.conn) (state g.S.Store l.conn);
+  read : HasRead (g.R.Register.view l.fn.register) (g.R.Register.view l.register);
+  said : Soundly g.S.Store l.fn.conn l.conn (IfTrusted (g.R.Register.view l.fn.register) (g.R.Register.view l.register)
+      (AreAmounts (tables g.S.Store l.fn.conn) → AreRecordedTo (tables g.S.Store l.fn.conn) (g.R.Register.view l.fn.register).content l.account l.last));
+}

@@ -1,0 +1,3 @@
+pub mod Said
+pub mod Shown
+pub mod Recorded

@@ -1,0 +1,39 @@
+//! The tables of amounts, beside what a register has.
+ghost use Rattle.std.specs.Prelude.{◌≡◌, IsTrue, IfOk};
+ghost use Rattle.desk_register.specs.View.{IfTrusted};
+ghost use Rattle.sql_tables.specs.Calls.{Soundly, tables};
+ghost use Rattle.sql_tables.specs.Schema.{desk_schema};
+ghost use Rattle.sql_opening.specs.Forms.{AreAllFormed};
+ghost use Rattle.sql_opening.specs.Order.{AreInOrder};
+ghost use Rattle.audit_rows.specs.Audits.{Audits, Consults};
+ghost use Rattle.audit_amounts.specs.Said.{HasAmounts, HasNoStranger};
+
+use crate::recorded::{are_entries_recorded, is_paid_recorded};
+use crate::table::are_true_tables;
+use audit_rows::AuditFault;
+use desk_register::{Register, Stage};
+use sqlite::{Alter, Connection};
+use std::alloc::Global;
+
+/// Whether the tables of amounts say what a register has, and nothing else. A row of 0 may be there or not; but of a currency
+/// of which something was ever paid in there is a row.
+pub fn has_amounts<S: Alter, R: Register>(
+    alloc: Global,
+    conn: &mut Connection<S>,
+    register: &mut R,
+) -> Result<bool, AuditFault>
+    requires stage { (R.view register.old).stage ≡ Stage.Idle }
+    ensures says { Soundly S.Store conn.old conn.new (IfTrusted (R.view register.old) (R.view register.new)
+        (AreInOrder desk_schema (tables S.Store conn.old).trees → AreAllFormed (tables S.Store conn.old).trees → HasNoStranger (R.view register.old).content
+        → IfOk result (λ so. IsTrue so → HasAmounts (tables S.Store conn.old) (R.view register.old).content))) }
+    ensures look { Audits S.Store conn.old conn.new result }
+    ensures read { Consults result (R.view register.old) (R.view register.new) }
+{
+    if !are_true_tables(alloc, conn, register)? {
+        return Ok(false);
+    }
+    if !are_entries_recorded(alloc, conn, register)? {
+        return Ok(false);
+    }
+    is_paid_recorded(alloc, conn, register)
+}
