@@ -5,7 +5,8 @@ ghost use Rattle.desk_register.specs.View.{IfTrusted, IsRead};
 ghost use Rattle.audit_sent.specs.Placed.{ArePlaces, IsPlaced, IsPlacedNext};
 
 use desk_codes::Bic;
-use desk_register::{Fault, Messages, Stage};
+use desk_index::Messages;
+use desk_register::{Fault, Stage};
 use desk_rules::Sent;
 use std::alloc::{AllocError, Global};
 use std::collections::BTreeMap;
