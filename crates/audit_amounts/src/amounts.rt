@@ -15,8 +15,8 @@ use desk_register::{Register, Stage};
 use sqlite::{Alter, Connection};
 use std::alloc::Global;
 
-/// Whether the tables of amounts say what a register has, and nothing else. A row of 0 may be there or not; but of a currency
-/// of which something was ever paid in there is a row.
+/// Whether the tables of amounts say what a register has, and nothing else. What is 0 may have a row or none; but a currency
+/// has a row exactly where some of it was ever paid in.
 pub fn has_amounts<S: Alter, R: Register>(
     alloc: Global,
     conn: &mut Connection<S>,
