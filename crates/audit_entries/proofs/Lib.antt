@@ -1,0 +1,4 @@
+pub mod ReadingLemmas
+pub mod RowLemmas
+pub mod TakingLemmas
+pub mod VersionLemmas

@@ -1,0 +1,10 @@
+use Rattle.sqlite.specs.Held.{state}
+use Rattle.audit_entries.proofs.RowLemmas.{at_shown, reads_at}
+use Rattle.audit_entries.proofs.rows.rows_at.Goals as goal
+
+pub query-requires : goal.query-requires
+query-requires g c = record { query = reads_at }
+
+pub returns-clause-shown : goal.returns-clause-shown
+returns-clause-shown g c clean is_open has =
+    at_shown (state g.S.Store c.args.conn.now) (state g.S.Store c.query.new.conn) c.args.number has c.query.result (rw c.integer.ensures at (c.query.ensures.shown clean))

@@ -1,0 +1,7 @@
+use Rattle.sqlite.specs.Held.{state}
+use Rattle.audit_entries.proofs.VersionLemmas.{says_version}
+use Rattle.audit_entries.proofs.version.has_version.Goals as goal
+
+pub returns-clause-says : goal.returns-clause-says
+returns-clause-says g c clean is_open has formed =
+    says_version (state g.S.Store c.args.conn.now).now 3 c.deref.result.now c.in_ok-rows.rows.items c.is_version.result (c.in_ok-rows.ensures.shown clean is_open has) c.deref.ensures.value c.is_version.ensures formed.1.1.1.1.1.1.1.1.0.each

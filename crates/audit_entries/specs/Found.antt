@@ -1,0 +1,22 @@
+-- What was found under a number. Only private contracts and proofs speak of it.
+use Rattle.std.specs.Prelude.{◌≡◌, ⊤, ℕ, List, [], ◌∷◌}
+use Rattle.sqlite.specs.Order.{Row}
+use Rattle.desk_rules.specs.declared.answers.reply.Kept.{Kept}
+use Rattle.desk_rules.specs.WellFormed.{IsWellFormed}
+use Rattle.audit_entries.specs.declared.rows.Found.{Found}
+use Rattle.audit_entries.specs.declared.rows.Found.TheVariants.{Entry}
+use Rattle.audit_entries.specs.Reading.{IsRowOf}
+use Rattle.audit_entries.specs.Rows.{shown_kept}
+
+-- shown rows are the one of a well-formed entry with its reply
+pub record IsShownRow (shown : List Row) (number : ℕ) (kept : Kept) : Type 0 where
+  pub is : shown ≡ shown_kept number kept ∷ []
+  pub formed : IsWellFormed kept.entry
+
+abbrev pub IsShownAs : List Row → ℕ → Found → Type 0
+IsShownAs shown number (Entry kept) = IsShownRow shown number kept
+IsShownAs shown number _ = ⊤
+
+abbrev pub IsFound : List Row → ℕ → Found → Type 0
+IsFound rows number (Entry kept) = IsRowOf rows number kept
+IsFound rows number _ = ⊤

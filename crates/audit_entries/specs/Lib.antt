@@ -1,0 +1,4 @@
+pub mod Found
+pub mod Reading
+pub mod Rows
+pub mod Taking
