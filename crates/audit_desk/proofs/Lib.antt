@@ -1,0 +1,5 @@
+pub mod ContentFacts
+pub mod GoneLemmas
+pub mod HistoryFacts
+pub mod PartLemmas
+pub mod RestLemmas

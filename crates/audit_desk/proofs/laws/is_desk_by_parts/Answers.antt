@@ -1,0 +1,5 @@
+use Rattle.audit_desk.proofs.PartLemmas.{becomes}
+use Rattle.audit_desk.proofs.laws.is_desk_by_parts.Goals as goal
+
+pub returns : goal.returns
+returns c = becomes
