@@ -13,7 +13,8 @@ use audit_amounts::has_amounts;
 use audit_rows::AuditFault;
 use audit_sent::has_sent;
 use audit_standings::{has_due, has_standings, has_unmatched};
-use desk_register::{Messages, Stage};
+use desk_index::Messages;
+use desk_register::Stage;
 use sqlite::{Alter, Connection};
 use std::alloc::Global;
 
