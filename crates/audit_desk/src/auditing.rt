@@ -6,10 +6,12 @@ ghost use Rattle.desk_engine.specs.Accepting.{IsDone};
 ghost use Rattle.desk_register.specs.View.{IfTrusted, IsLater};
 ghost use Rattle.desk_replay.specs.KeptHistory.{HoldsKept};
 ghost use Rattle.sql_tables.specs.Calls.{Soundly, tables};
+ghost use Rattle.sql_tables.specs.Making.{KeepsCommitted};
 ghost use Rattle.sql_tables.specs.Schema.{desk_schema};
 ghost use Rattle.sql_opening.specs.Forms.{AreAllFormed};
 ghost use Rattle.sql_opening.specs.Order.{AreInOrder};
 ghost use Rattle.audit_rows.specs.Audits.{of_register, Audits};
+ghost use Rattle.audit_entries.specs.Reading.{HoldsFormed};
 ghost use Rattle.audit_entries.specs.Taking.{BlamesTaking};
 ghost use Rattle.audit_desk.specs.Audited.{IsAudited, IsFilled};
 
@@ -50,6 +52,7 @@ fn fill<S: Alter, R: Messages>(
     ensures filled { Soundly S.Store conn.old conn.new (IfTrusted (R.Register.view register.old) (R.Register.view register.new)
         (AreInOrder desk_schema (tables S.Store conn.old).trees → AreAllFormed (tables S.Store conn.old).trees
         → IfOk result (λ audited. audited ≡ Audited.Whole → IsFilled (tables S.Store conn.old) (R.Register.view register.old).room (R.Register.view register.new).content))) }
+    ensures holds { IfTrusted (R.Register.view register.old) (R.Register.view register.new) (IfOk result (λ audited. audited ≡ Audited.Whole → HoldsFormed (R.Register.view register.old).room (R.Register.view register.new).content)) }
     ensures not_other { IfOk result (λ audited. audited ≢ Audited.OtherTables) }
     ensures look { Audits S.Store conn.old conn.new result }
     ensures done { OnOk result (IsDone (R.Register.view register.old) (R.Register.view register.new)) }
@@ -67,7 +70,8 @@ fn fill<S: Alter, R: Messages>(
 }
 
 /// Audits a database whose rows stand in order, and fills a register that holds nothing from it. Where it is whole, it is that
-/// of an accepted history, and the register holds its content. Else, and after a fault, the register should be given up.
+/// of an accepted history, and the register holds its content; that it holds some accepted history rests on no answer of the
+/// tables. Else, and after a fault, the register should be given up.
 pub fn audit<S: Alter, R: Messages>(
     alloc: Global,
     conn: &mut Connection<S>,
@@ -78,6 +82,8 @@ pub fn audit<S: Alter, R: Messages>(
     ensures whole { HasCleanDisk (state S.Store conn.new) → IsTrue (state S.Store conn.old).is_open → IfTrusted (R.Register.view register.old) (R.Register.view register.new)
         (AreInOrder (tables S.Store conn.old).schema (tables S.Store conn.old).trees
         → IfOk result (λ audited. audited ≡ Audited.Whole → IsAudited (tables S.Store conn.old) (R.Register.view register.old).room (R.Register.view register.new).content)) }
+    ensures holds { IfTrusted (R.Register.view register.old) (R.Register.view register.new) (IfOk result (λ audited. audited ≡ Audited.Whole → HoldsFormed (R.Register.view register.old).room (R.Register.view register.new).content)) }
+    ensures kept { HasCleanDisk (state S.Store conn.new) → IsTrue (state S.Store conn.old).is_open → KeepsCommitted (state S.Store conn.old) (state S.Store conn.new) }
     ensures other_tables { IfOk result (λ audited. audited ≡ Audited.OtherTables → (tables S.Store conn.old).schema ≢ desk_schema) }
     ensures look { Audits S.Store conn.old conn.new result }
     ensures done { OnOk result (IsDone (R.Register.view register.old) (R.Register.view register.new)) }

@@ -6,7 +6,7 @@ use Rattle.sqlite.specs.Effect.{Database}
 use Rattle.sqlite.specs.Order.{Row}
 use Rattle.desk_rules.specs.declared.answers.reply.Kept.{Kept}
 use Rattle.desk_rules.specs.Content.{Content, history_of}
-use Rattle.desk_rules.specs.WellFormed.{AreWellFormed}
+use Rattle.desk_rules.specs.WellFormed.{AreWellFormed, IsWellFormed}
 use Rattle.desk_rules.proofs.HistoryLemmas.{slice_get-end, slice_get-front}
 use Rattle.desk_rules.proofs.WellFormedLemmas.{formed_none, formed_push}
 use Rattle.desk_replay.specs.KeptHistory.{HoldsKept}
@@ -19,7 +19,7 @@ use Rattle.audit_rows.specs.Numbered.{and_row, numbered_from}
 use Rattle.audit_rows.proofs.ByNumberLemmas.{same_list}
 use Rattle.audit_entries.specs.declared.register.Reading.{Reading}
 use Rattle.audit_entries.specs.declared.register.Reading.TheVariants.{Whole}
-use Rattle.audit_entries.specs.Reading.{HoldsRows, IsRead, TakesRow}
+use Rattle.audit_entries.specs.Reading.{HoldsFormed, HoldsRows, IsRead, TakesRow}
 use Rattle.audit_entries.specs.Rows.{wanted}
 
 abbrev its_values : Kept → Row
@@ -61,24 +61,40 @@ rows_are xs = numbered_is (wanted xs) 0 xs (λ m kept at. let same : suc m ≡ s
 
 -- ---- one entry more
 
-pub none_held : (rows : List Row) (limit : ℕ) (content : Content) → HoldsKept limit [] content → HoldsRows rows 0 limit content
-none_held rows limit content held =
+pub none_formed : (limit : ℕ) (content : Content) → HoldsKept limit [] content → HoldsFormed limit content
+none_formed limit content held =
     let is = held.register in record {
       held = subst (λ xs. HoldsKept limit xs content) (sym is) held;
-      each = record { each = λ number some high. absurd (omega (arith, some, high)) };
-      size = ap length is;
       formed = subst (λ (xs : List Kept). AreWellFormed (map (λ kept. kept.entry) xs)) (sym is) formed_none;
+    }
+
+pub more_formed : (limit : ℕ) (old new : Content) (kept : Kept) → HoldsFormed limit old → HoldsKept limit (old.register ++ kept ∷ []) new → IsWellFormed kept.entry → HoldsFormed limit new
+more_formed limit old new kept holds held formed =
+    let is : new.register ≡ old.register ++ kept ∷ [] = held.register in
+    let history : history_of new ≡ history_of old ++ kept.entry ∷ [] = ap (map (λ (k : Kept). k.entry)) is ∙ map-append (λ (k : Kept). k.entry) old.register (kept ∷ []) in
+    record {
+      held = subst (λ xs. HoldsKept limit xs new) (sym is) held;
+      formed = subst AreWellFormed (sym history) (formed_push (history_of old) kept.entry holds.formed formed);
+    }
+
+pub none_held : (rows : List Row) (limit : ℕ) (content : Content) → HoldsKept limit [] content → HoldsRows rows 0 limit content
+none_held rows limit content held =
+    let holds = none_formed limit content held in record {
+      held = holds.held;
+      each = record { each = λ number some high. absurd (omega (arith, some, high)) };
+      size = ap length held.register;
+      formed = holds.formed;
     }
 
 pub more_held : (rows : List Row) (count limit room : ℕ) (old new : Content) → HoldsRows rows count limit old → TakesRow rows (count + 1) room old new → room ≡ limit → HoldsRows rows (count + 1) limit new
 more_held rows count limit room old new holds takes same =
     let is : new.register ≡ old.register ++ takes.kept ∷ [] = takes.held.register in
-    let history : history_of new ≡ history_of old ++ takes.kept.entry ∷ [] = ap (map (λ (kept : Kept). kept.entry)) is ∙ map-append (λ (kept : Kept). kept.entry) old.register (takes.kept ∷ []) in
+    let more = more_formed limit old new takes.kept (record { held = holds.held; formed = holds.formed }) (subst (λ r. HoldsKept r (old.register ++ takes.kept ∷ []) new) same takes.held) takes.is.formed in
     record {
-      held = subst (λ xs. HoldsKept limit xs new) (sym is) (subst (λ r. HoldsKept r (old.register ++ takes.kept ∷ []) new) same takes.held);
+      held = more.held;
       each = subst (λ xs. HasEach (wanted xs) rows (count + 1)) (sym is) (each_more rows old.register takes.kept count holds.size holds.each takes.is.row);
       size = ap length is ∙ length-append old.register (takes.kept ∷ []) ∙ ap (λ n. n + 1) holds.size;
-      formed = subst AreWellFormed (sym history) (formed_push (history_of old) takes.kept.entry holds.formed takes.is.formed);
+      formed = more.formed;
     }
 
 -- ---- the table
@@ -97,6 +113,9 @@ is_read db count limit content reading none order formed holds few whole =
       held = holds.held;
       formed = holds.formed;
     }
+
+pub formed_again : (limit room : ℕ) (content : Content) → limit ≡ room → HoldsFormed limit content → HoldsFormed room content
+formed_again limit room content same holds = subst (λ r. HoldsFormed r content) same holds
 
 pub again : (limit room : ℕ) (content : Content) → limit ≡ room → HoldsKept limit content.register content → HoldsKept room content.register content
 again limit room content same held = subst (λ r. HoldsKept r content.register content) same held

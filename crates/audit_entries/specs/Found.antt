@@ -17,6 +17,11 @@ abbrev pub IsShownAs : List Row → ℕ → Found → Type 0
 IsShownAs shown number (Entry kept) = IsShownRow shown number kept
 IsShownAs shown number _ = ⊤
 
+-- what is found is a well-formed entry, or none
+abbrev pub IsFormed : Found → Type 0
+IsFormed (Entry kept) = IsWellFormed kept.entry
+IsFormed _ = ⊤
+
 abbrev pub IsFound : List Row → ℕ → Found → Type 0
 IsFound rows number (Entry kept) = IsRowOf rows number kept
 IsFound rows number _ = ⊤

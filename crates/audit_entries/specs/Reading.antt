@@ -10,6 +10,11 @@ use Rattle.sql_entries.specs.Entries.{values_of, AreEntries}
 use Rattle.audit_rows.specs.ByNumber.{HasEach, HasOne}
 use Rattle.audit_entries.specs.Rows.{wanted}
 
+-- what a register holds is an accepted history of well-formed entries
+pub record HoldsFormed (limit : ℕ) (content : Content) : Type 0 where
+  pub held : HoldsKept limit content.register content
+  pub formed : AreWellFormed (history_of content)
+
 -- the table is the list that a register holds, an accepted history of well-formed entries
 pub record IsRead (db : Database) (limit : ℕ) (content : Content) : Type 0 where
   pub entries : AreEntries db content.register

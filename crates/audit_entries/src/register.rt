@@ -3,14 +3,14 @@ ghost use Rattle.std.specs.Prelude.{◌≡◌, ◌<◌, ◌^◌, [], true, IfOk,
 ghost use Rattle.std.specs.List.{AllByRecursion};
 ghost use Rattle.desk_engine.specs.Accepting.{IsDone};
 ghost use Rattle.desk_register.specs.View.{IfTrusted, IsLater};
-ghost use Rattle.desk_replay.specs.KeptHistory.{HoldsKept, KeepsSome};
+ghost use Rattle.desk_replay.specs.KeptHistory.{HoldsKept};
 ghost use Rattle.sql_tables.specs.Calls.{Looks, Soundly, tables};
 ghost use Rattle.sql_tables.specs.Schema.{desk_schema, register_table};
 ghost use Rattle.sql_opening.specs.Forms.{AreAllFormed, HasForm};
 ghost use Rattle.sql_opening.specs.Order.{AreInOrder};
 ghost use Rattle.audit_rows.specs.Audits.{of_register, Audits};
 ghost use Rattle.audit_rows.specs.ByNumber.{HasNoOther};
-ghost use Rattle.audit_entries.specs.Reading.{IsRead, TakesRow};
+ghost use Rattle.audit_entries.specs.Reading.{HoldsFormed, IsRead, TakesRow};
 ghost use Rattle.audit_entries.specs.Taking.{BlamesTaking};
 
 use crate::rows::{Found, found_at, has_no_other};
@@ -50,11 +50,11 @@ fn read_entry<S: Alter, R: Register>(
 ) -> Result<Step, AuditFault>
     requires number { number < 2 ^ 63 }
     requires stage { (R.view register.old).stage ≡ Stage.Idle }
-    requires keeps { IfTrusted (R.view register.old) (R.view register.old) (KeepsSome (R.view register.old).room (R.view register.old).content) }
+    requires holds { IfTrusted (R.view register.old) (R.view register.old) (HoldsFormed (R.view register.old).room (R.view register.old).content) }
     ensures takes { Soundly S.Store conn.old conn.new (IfTrusted (R.view register.old) (R.view register.new) (AllByRecursion (HasForm register_table) ((tables S.Store conn.old).trees 6)
         → HoldsKept (R.view register.old).room (R.view register.old).content.register (R.view register.old).content
         → IfOk result (λ step. step ≡ Step.Taken → TakesRow ((tables S.Store conn.old).trees 6) number (R.view register.old).room (R.view register.old).content (R.view register.new).content))) }
-    ensures keeps { IfTrusted (R.view register.old) (R.view register.new) (IfOk result (λ step. step ≡ Step.Taken → KeepsSome (R.view register.old).room (R.view register.new).content)) }
+    ensures holds { IfTrusted (R.view register.old) (R.view register.new) (IfOk result (λ step. step ≡ Step.Taken → HoldsFormed (R.view register.old).room (R.view register.new).content)) }
     ensures same { IfTrusted (R.view register.old) (R.view register.new) (IfOk result (λ step. step ≡ Step.Nothing → (R.view register.new).content ≡ (R.view register.old).content)) }
     ensures look { Audits S.Store conn.old conn.new result }
     ensures done { OnOk result (IsDone (R.view register.old) (R.view register.new)) }
@@ -99,6 +99,7 @@ pub fn read_register<S: Alter, R: Register>(
     requires empty { IfTrusted (R.view register.old) (R.view register.old) (HoldsKept (R.view register.old).room [] (R.view register.old).content) }
     ensures entries { Soundly S.Store conn.old conn.new (IfTrusted (R.view register.old) (R.view register.new) (AreInOrder desk_schema (tables S.Store conn.old).trees → AreAllFormed (tables S.Store conn.old).trees
         → IfOk result (λ reading. reading ≡ Reading.Whole → IsRead (tables S.Store conn.old) (R.view register.old).room (R.view register.new).content))) }
+    ensures holds { IfTrusted (R.view register.old) (R.view register.new) (IfOk result (λ reading. reading ≡ Reading.Whole → HoldsFormed (R.view register.old).room (R.view register.new).content)) }
     ensures look { Audits S.Store conn.old conn.new result }
     ensures done { OnOk result (IsDone (R.view register.old) (R.view register.new)) }
     ensures later { IsLater (R.view register.old) (R.view register.new) }

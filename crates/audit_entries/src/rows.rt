@@ -7,7 +7,7 @@ ghost use Rattle.sql_tables.specs.Calls.{Looks, Soundly, tables};
 ghost use Rattle.sql_tables.specs.Schema.{register_table};
 ghost use Rattle.sql_opening.specs.Forms.{HasForm};
 ghost use Rattle.audit_rows.specs.ByNumber.{has_number, is_above, is_below, HasNoOther};
-ghost use Rattle.audit_entries.specs.Found.{IsFound, IsShownAs};
+ghost use Rattle.audit_entries.specs.Found.{IsFormed, IsFound, IsShownAs};
 ghost use Rattle.audit_entries.specs.Rows.{shown, shown_kept};
 
 use audit_rows::same_row;
@@ -150,7 +150,8 @@ pub enum Found {
 /// What shown rows of a number are.
 fn found_in(alloc: Global, rows: &[Row], number: u64) -> Result<Found, Error>
     requires { number < 2 ^ 63 }
-    ensures { IfOk result (λ found. IsShownAs rows.now number found) }
+    ensures shown { IfOk result (λ found. IsShownAs rows.now number found) }
+    ensures formed { IfOk result IsFormed }
 {
     let Some(row) = rows.first() else {
         return Ok(Found::Nothing);
@@ -173,6 +174,7 @@ pub fn found_at<S: Alter>(
 ) -> Result<Found, Error>
     requires { number < 2 ^ 63 }
     ensures found { Soundly S.Store conn.old conn.new (AllByRecursion (HasForm register_table) ((tables S.Store conn.old).trees 6) → IfOk result (λ found. IsFound ((tables S.Store conn.old).trees 6) number found)) }
+    ensures formed { IfOk result IsFormed }
     ensures look { Looks S.Store conn.old conn.new result }
 {
     let rows = rows_at(conn, number)?;

@@ -4,6 +4,7 @@ use Rattle.std.specs.declared.alloc.Global.{Global}
 use Rattle.std.specs.List.{AllByRecursion, find}
 use Rattle.sqlite.specs.Tree.{has_rowid}
 use Rattle.std.specs.List.Sorted.{IsPermutation}
+use Rattle.std.proofs.lemmas.Bool.{both_ways}
 use Rattle.std.proofs.lemmas.List.{length-map}
 use Rattle.std.proofs.lemmas.Option.{slice_get_past}
 use Rattle.sqlite.specs.declared.error.Error.{Error}
@@ -26,6 +27,7 @@ use Rattle.desk_rules.specs.declared.answers.reply.Kept.{Kept}
 use Rattle.desk_rules.specs.Content.{Content, history_of}
 use Rattle.desk_rules.specs.History.{instructed, instruction_at}
 use Rattle.sql_tables.specs.Schema.{desk_schema, unmatched_table}
+use Rattle.sql_tables.specs.Ends.{IsLook}
 use Rattle.sql_tables.specs.Statements.{IsQuery}
 use Rattle.sql_tables.specs.Queries.{plain}
 use Rattle.sql_tables.proofs.QueryLemmas.{plain_rows, all_kept}
@@ -63,6 +65,16 @@ all_shown old new has (Ok rows) h =
     let answers = reads_as all_text [] old new desk_schema has _ all_is reads_all.plain reads_all.unlisted rows.items h in
     subst (λ (xs : List Row). IsPermutation (map (shown_by 9) xs) rows.items) (all_kept (old.now.trees 9)) (plain_rows 9 [] columns (overlay old.now.trees []) [] rows.items (answers.answer Null))
 all_shown old new has (Err e) h = tt
+
+-- a look that went well, after which memory was wanting
+pub look_failed : {X Y : Type 0} (x : X) (e : Error) (a b : State) → IsLook (Ok x) a b → IsLook {X = Y} (Err e) a b
+look_failed x e a b p = record {
+  ok = λ clean is_open has. tt;
+  err = λ clean is_open has. inl (p.ok clean is_open has);
+  why = λ clean is_open has inside out. absurd (both_ways _ (sym (p.ok clean is_open has).mode ∙ out) inside);
+  opened = p.opened;
+  later = p.later;
+}
 
 -- ---- the rows that a content makes
 

@@ -22,11 +22,11 @@ use sql_standings::columns_of;
 use sql_tables::statement::query;
 use sql_tables::values::integer;
 use sqlite::types::ValueRef;
-use sqlite::{Alter, Connection, Error, Row};
+use sqlite::{Alter, Connection, Error, ErrorCode, Row};
 use std::alloc::Global;
 
-/// All rows, with their numbers.
-fn rows_of<S: Alter>(conn: &mut Connection<S>) -> Result<Vec<Row>, Error>
+/// All rows, with their numbers. A query may show them by the index, and not as they are numbered.
+fn rows_shown<S: Alter>(conn: &mut Connection<S>) -> Result<Vec<Row>, Error>
     ensures shown { Soundly S.Store conn.old conn.new (IfOk result (λ rows. IsPermutation (map (shown_by 9) ((tables S.Store conn.old).trees 9)) rows.items)) }
     ensures look { Looks S.Store conn.old conn.new result }
 {
@@ -35,6 +35,26 @@ fn rows_of<S: Alter>(conn: &mut Connection<S>) -> Result<Vec<Row>, Error>
         "SELECT number, isin, day, quantity, sender, counterparty, mt, unit, currency, amount FROM unmatched",
         &[],
     )
+}
+
+/// The number that a shown row says.
+fn number_in(row: &Row) -> i64 {
+    match row.get_ref(0) {
+        Ok(ValueRef::Int(number)) => number,
+        _ => 0,
+    }
+}
+
+/// All rows, in the order of their numbers.
+fn rows_of<S: Alter>(conn: &mut Connection<S>) -> Result<Vec<Row>, Error>
+    ensures shown { Soundly S.Store conn.old conn.new (IfOk result (λ rows. IsPermutation (map (shown_by 9) ((tables S.Store conn.old).trees 9)) rows.items)) }
+    ensures look { Looks S.Store conn.old conn.new result }
+{
+    let mut rows = rows_shown(conn)?;
+    match rows.sort_by_key(|row| number_in(row)) {
+        Ok(()) => Ok(rows),
+        Err(_) => Err(Error::SqliteFailure(ErrorCode::OutOfMemory)),
+    }
 }
 
 /// The number, and what the columns from `isin` to `amount` say.

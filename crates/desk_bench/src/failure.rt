@@ -1,6 +1,7 @@
 //! Why a work came to no end.
 
 use desk_book::{Fault as DeskFault, PlayFault, ToFault};
+use desk_opening::OpenFault;
 use desk_register::Fault;
 use desk_samples::entries::EntryFault;
 use sqlite::{Error, ErrorCode};
@@ -14,8 +15,10 @@ pub enum Failure {
     Form,
     /// A growth of memory was refused.
     Memory,
-    /// The device under a register failed, or its tables could not be made.
+    /// The device under a register failed.
     Storage,
+    /// A database was not opened.
+    Unopened(OpenFault),
     /// Two sums that must agree do not.
     Sums,
     /// An entry was refused, or was there already.
@@ -46,6 +49,12 @@ impl From<Fault> for Failure {
             Fault::Memory => Failure::Memory,
             Fault::Storage => Failure::Storage,
         }
+    }
+}
+
+impl From<OpenFault> for Failure {
+    fn from(fault: OpenFault) -> Failure {
+        Failure::Unopened(fault)
     }
 }
 

@@ -6,9 +6,13 @@
 //! first. Each way counts; the last line says 'N passed, M failed'.
 //!
 //! `play`, or no word, plays a script from standard input on a new desk whose register is in memory and in SQL tables, which
-//! stand in memory too, and `play FILE` in a new file of that path. `tables` and `tables FILE` do it over the tables alone.
-//! What is printed and the exit status are those of `desk play`; a file that cannot be made, or has tables already, is
-//! `fault 61`.
+//! stand in memory too, and `play FILE` on the desk of that file, which is made where there is none. `tables` and
+//! `tables FILE` do it over the tables alone. What is printed and the exit status are those of `desk play`; a file that is
+//! not opened is `fault N`, N being the number of an `OpenFault`, with status 3. The file is left as a killed process would
+//! leave it, with its log.
+//!
+//! `open FILE [LIMIT]` opens the desk of a file, which may have so many entries, prints its sums and how many it has, and closes
+//! it.
 //!
 //! `damaged CALL ROW [CHANGE]` tells what a call that reads the tables answers of a row, for tests/damaged_rows: ROW is a
 //! statement that puts it into new tables, and CHANGE one that damages it.
@@ -79,6 +83,7 @@ fn done(rt: &HostRuntime, work: Work<'_>) -> Result<bool, Failure> {
         } => connections::try_files(rt, sent, response, setup),
         Work::Play(registers, path) => tables::play_script(rt, registers, path),
         Work::Damaged { call, row, change } => damaged::tell(rt, call, row, change),
+        Work::Open(path, limit) => tables::tell(rt, path, limit),
         Work::Day(store) => registers::try_store(rt, store),
         Work::Schema(path) => opening::tell_schema(rt, path),
         Work::Report(form, count) => reports::print(rt, form, count),
@@ -91,6 +96,7 @@ fn tell(rt: &impl Print, failure: Failure) -> u8 {
     let _ = match failure {
         Failure::Memory => println!(rt; "fault 60"),
         Failure::Storage => println!(rt; "fault 61"),
+        Failure::Unopened(fault) => println!(rt; "fault {}", fault.number()),
         Failure::Input => println!(rt; "fault io"),
         Failure::Stream => Ok(()),
         _ => println!(rt; "{failure:?}"),

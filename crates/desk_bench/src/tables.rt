@@ -1,10 +1,20 @@
-//! A script, played over a register in memory beside tables in SQL, or over the tables alone.
+//! A script, played over a register in memory beside tables in SQL, or over the tables alone; and what a file holds.
 
-mod play;
+ghost use Rattle.std.specs.Prelude.{false};
+ghost use Rattle.sqlite.specs.Held.{state};
+ghost use Rattle.desk_book.specs.Held.{IsReady};
+ghost use Rattle.desk_opening.specs.Opened.{view_of_both};
+ghost use Rattle.sql_register.specs.Kept.{shown};
 
 use crate::failure::Failure;
-use crate::tables::play::play;
-use sqlite::Connection;
+use desk_book::Desk;
+use desk_index::IndexedRegister;
+use desk_mirror::MirroredRegister;
+use desk_opening::{adopt, adopt_tables, open_file, open_tables};
+use desk_register::Register;
+use desk_rules::MOST_ENTRIES;
+use sql_register::SqlRegister;
+use sqlite::{Alter, Connection, Unknown};
 use std::io;
 
 /// What a script is played over.
@@ -27,38 +37,110 @@ impl Registers {
     }
 }
 
-/// Plays the script of standard input over tables in memory, or over a new file of a path; one that has tables already is
-/// refused.
+/// Plays the script of standard input on a desk over a register, and prints the answers.
+fn play<D: Register + Drop>(rt: &HostRuntime, register: D) -> Result<(), Failure>
+    requires { IsReady false (D.view register) }
+{
+    let mut desk = Desk::new(register);
+    desk.play(rt.alloc(), &mut rt.stdin(), &mut io::writer(rt))?;
+    Ok(())
+}
+
+/// The same over tables with a register in memory beside them.
+fn play_over_both<S: Alter + Drop>(
+    rt: &HostRuntime,
+    both: MirroredRegister<IndexedRegister, SqlRegister<S>>,
+) -> Result<(), Failure>
+    requires { IsReady false (view_of_both both) }
+{
+    play(rt, both)
+}
+
+/// The same over the tables alone.
+fn play_over_tables<S: Alter + Drop>(
+    rt: &HostRuntime,
+    tables: SqlRegister<S>,
+) -> Result<(), Failure>
+    requires { IsReady false (shown (state S.Store tables.connection) tables.stage tables.failures tables.room) }
+{
+    play(rt, tables)
+}
+
+/// Plays the script of standard input over tables in memory, or over those of a file.
 pub fn play_script(
     rt: &HostRuntime,
     registers: Registers,
     path: Option<&str>,
 ) -> Result<bool, Failure> {
-    match path {
-        Some(path) => play_on_file(rt, registers, path)?,
-        None => play_in_memory(rt, registers)?,
+    match (path, registers) {
+        (Some(path), Registers::Both) => play_on_file(rt, path)?,
+        (Some(path), Registers::Tables) => play_on_tables(rt, path)?,
+        (None, Registers::Both) => play_in_memory(rt)?,
+        (None, Registers::Tables) => play_on_tables_in_memory(rt)?,
     }
     Ok(true)
 }
 
-fn play_in_memory(rt: &HostRuntime, registers: Registers) -> Result<(), Failure> {
+fn play_in_memory(rt: &HostRuntime) -> Result<(), Failure> {
     let conn = Connection::open_in_memory(rt.alloc())?;
-    play(
-        rt.alloc(),
-        registers,
-        conn,
-        &mut rt.stdin(),
-        &mut io::writer(rt),
-    )
+    match adopt(rt.alloc(), conn, MOST_ENTRIES) {
+        Ok(both) => play_over_both(rt, both),
+        Err((fault, _)) => Err(Failure::from(fault)),
+    }
 }
 
-fn play_on_file(rt: &HostRuntime, registers: Registers, path: &str) -> Result<(), Failure> {
-    let conn = Connection::open(rt, path)?;
-    play(
-        rt.alloc(),
-        registers,
-        conn,
-        &mut rt.stdin(),
-        &mut io::writer(rt),
-    )
+fn play_on_tables_in_memory(rt: &HostRuntime) -> Result<(), Failure> {
+    let conn = Connection::open_in_memory(rt.alloc())?;
+    match adopt_tables(rt.alloc(), conn, MOST_ENTRIES) {
+        Ok(tables) => play_over_tables(rt, tables),
+        Err((fault, _)) => Err(Failure::from(fault)),
+    }
+}
+
+fn play_on_file(rt: &HostRuntime, path: &str) -> Result<(), Failure> {
+    match open_file(rt, path, Unknown, MOST_ENTRIES) {
+        Ok(both) => play_over_both(rt, both),
+        Err(fault) => Err(Failure::from(fault)),
+    }
+}
+
+fn play_on_tables(rt: &HostRuntime, path: &str) -> Result<(), Failure> {
+    match open_tables(rt, path, Unknown, MOST_ENTRIES) {
+        Ok(tables) => play_over_tables(rt, tables),
+        Err(fault) => Err(Failure::from(fault)),
+    }
+}
+
+/// Prints the sums of a register, and how many entries it has, and gives it back.
+fn told<D: Register + Drop>(rt: &HostRuntime, register: D) -> Result<D, Failure>
+    requires { IsReady false (D.view register) }
+{
+    let mut desk = Desk::new(register);
+    desk.sums_to(rt.alloc(), &mut io::writer(rt))?;
+    let mut register = desk.into_register();
+    let count = register.count(rt.alloc())?;
+    println!(rt; "entries {count}")?;
+    Ok(register)
+}
+
+/// The same of a register that is two, of which the connection is given back.
+fn told_of_both<S: Alter + Drop>(
+    rt: &HostRuntime,
+    both: MirroredRegister<IndexedRegister, SqlRegister<S>>,
+) -> Result<Connection<S>, Failure>
+    requires { IsReady false (view_of_both both) }
+{
+    let (_, tables) = told(rt, both)?.into_parts();
+    Ok(tables.into_connection())
+}
+
+/// Opens the desk of a file for so many entries, prints its sums and how many it has, and closes the file.
+pub fn tell(rt: &HostRuntime, path: &str, limit: u64) -> Result<bool, Failure> {
+    match open_file(rt, path, Unknown, limit.min(MOST_ENTRIES)) {
+        Ok(both) => {
+            told_of_both(rt, both)?.close()?;
+            Ok(true)
+        }
+        Err(fault) => Err(Failure::from(fault)),
+    }
 }

@@ -5,6 +5,7 @@ use crate::figures::Kind;
 use crate::registers::Store;
 use crate::reports::Form;
 use crate::tables::Registers;
+use desk_rules::MOST_ENTRIES;
 
 /// What the words ask for.
 #[derive(Clone, Copy)]
@@ -15,8 +16,10 @@ pub enum Work<'a> {
         response: &'a str,
         setup: Option<&'a str>,
     },
-    /// A script is played over registers, in memory or in a new file of a path.
+    /// A script is played over registers, in memory or in the file of a path.
     Play(Registers, Option<&'a str>),
+    /// The desk of a file is opened for so many entries, told of and closed.
+    Open(&'a str, u64),
     /// A row is put into tables, damaged where a change is given, and read.
     Damaged {
         call: Call,
@@ -57,6 +60,7 @@ impl<'a> Work<'a> {
     fn of_one(kind: &'a str, word: &'a str) -> Option<Work<'a>> {
         Some(match kind {
             "play" | "tables" => Work::Play(Registers::read(kind)?, Some(word)),
+            "open" => Work::Open(word, MOST_ENTRIES),
             "day" => Work::Day(Store::read(word)?),
             "schema" => Work::Schema(word),
             "statement" => Work::Report(Form::Statement, number(word)?),
@@ -73,6 +77,7 @@ impl<'a> Work<'a> {
                 response: second,
                 setup: None,
             },
+            "open" => Work::Open(first, u64::from(number(second)?)),
             "damaged" => Work::Damaged {
                 call: Call::read(first)?,
                 row: second,

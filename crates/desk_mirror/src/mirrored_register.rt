@@ -41,6 +41,7 @@ impl<M: MemoryRegister, S: Register + Drop> MirroredRegister<M, S> {
         ensures tables { result.tables ≡ tables }
         ensures empty { (M.view result.memory).content ≡ empty_content }
         ensures stage { result.stage ≡ Idle }
+        ensures no_failure { result.failures ≡ 0 }
     {
         let memory = M::empty(alloc, tables.limit());
         MirroredRegister::new(memory, tables)
@@ -55,6 +56,7 @@ impl<M: MemoryRegister, S: Register + Drop> MirroredRegister<M, S> {
         ensures memory { result.memory ≡ memory }
         ensures tables { result.tables ≡ tables }
         ensures stage { result.stage ≡ Idle }
+        ensures no_failure { result.failures ≡ 0 }
     {
         MirroredRegister {
             memory,

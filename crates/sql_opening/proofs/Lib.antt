@@ -1,3 +1,3 @@
 mod CheckLemmas
 mod FormLemmas
-mod OrderLemmas
+pub mod OrderLemmas

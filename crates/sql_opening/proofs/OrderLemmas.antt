@@ -21,7 +21,7 @@ use Rattle.sqlite_store.proofs.ListingLemmas.{all_ordered}
 use Rattle.sql_opening.specs.Order.{AreInOrder}
 
 -- trees in the shapes that they are listed by
-in_shape : (shapes : ℕ → Shape) (reals : ℕ → ℕ) (schema : Schema) (trees : Trees) → IsListed (trees catalog_tree) shapes reals → IsOrdered shapes trees → Lists (trees catalog_tree) schema → AreInOrder schema trees
+pub in_shape : (shapes : ℕ → Shape) (reals : ℕ → ℕ) (schema : Schema) (trees : Trees) → IsListed (trees catalog_tree) shapes reals → IsOrdered shapes trees → Lists (trees catalog_tree) schema → AreInOrder schema trees
 in_shape shapes reals schema trees listed ordered lists table has =
     let rise = (subst (λ s. IsShaped s (trees catalog_tree)) listed.itself.0 (ordered catalog_tree)).0 in
     subst (λ s. IsShaped s (trees table.tree)) (table_shape listed rise lists.listed table has).0 (ordered table.tree)

@@ -1,6 +1,7 @@
 pub mod SaidLemmas
 pub mod StageLemmas
 pub mod LookLemmas
+pub mod MadeLemmas
 pub mod ReadLemmas
 pub mod FactLemmas
 pub mod KnownLemmas

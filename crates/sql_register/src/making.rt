@@ -1,7 +1,7 @@
-//! A register is made in a database that has no table.
+//! A register is made in a database that has no table, or over tables that are a desk's.
 ghost use Rattle.sql_tables.specs.declared.version.TheConstants.{VERSION};
 ghost use Rattle.sql_tables.specs.Version.{HasVersion};
-ghost use Rattle.std.specs.Prelude.{Some, ◌≡◌, ◌≤◌, [], false, IsTrue, IfOk, OnOk};
+ghost use Rattle.std.specs.Prelude.{Some, ◌≡◌, ◌≤◌, [], false, IsTrue, IfErr, IfOk, OnErr, OnOk};
 ghost use Rattle.sqlite.specs.State.{HasCleanDisk};
 ghost use Rattle.sqlite.specs.Held.{state};
 ghost use Rattle.sqlite.specs.Steps.{over_memory};
@@ -11,8 +11,10 @@ ghost use Rattle.desk_rules.specs.declared.limits.TheConstants.{MOST_ENTRIES};
 ghost use Rattle.sql_tables.specs.Control.{Begins};
 ghost use Rattle.sql_tables.specs.Calls.{tables};
 ghost use Rattle.sql_tables.specs.Ends.{IsLater};
+ghost use Rattle.sql_tables.specs.Making.{KeepsCommitted};
 ghost use Rattle.sql_tables.specs.Schema.{no_schema};
-ghost use Rattle.sql_register.specs.Kept.{shown};
+ghost use Rattle.sql_register.specs.Holds.{Becomes};
+ghost use Rattle.sql_register.specs.Kept.{shown, IsKept};
 ghost use Rattle.sql_register.specs.Made.{IsMade};
 
 use crate::fault::Course;
@@ -29,13 +31,14 @@ use std::alloc::Global;
 fn begin_making<S: Alter>(conn: &mut Connection<S>) -> Result<usize, Error>
     ensures ok { HasCleanDisk (state S.Store conn.new) → IsTrue (state S.Store conn.old).is_open → (tables S.Store conn.old).schema ≡ no_schema → OnOk result (Begins (state S.Store conn.old) (state S.Store conn.new)) }
     ensures outside { HasCleanDisk (state S.Store conn.new) → (tables S.Store conn.old).schema ≡ no_schema → OnOk result ((state S.Store conn.old).in_transaction ≡ false) }
+    ensures kept { HasCleanDisk (state S.Store conn.new) → OnErr result (KeepsCommitted (state S.Store conn.old) (state S.Store conn.new)) }
     ensures later { IsLater (state S.Store conn.old) (state S.Store conn.new) }
 {
     conn.execute("BEGIN", &[])
 }
 
 /// Whether a database has no table, no index and no view.
-fn has_no_table<S: Alter>(conn: &Connection<S>) -> bool
+pub fn has_no_table<S: Alter>(conn: &Connection<S>) -> bool
     ensures some { IsTrue result → (tables S.Store conn.now).schema ≡ no_schema }
     ensures all { (tables S.Store conn.now).schema ≡ no_schema → IsTrue result }
 {
@@ -49,6 +52,7 @@ fn has_no_table<S: Alter>(conn: &Connection<S>) -> bool
 fn make<S: Alter>(conn: &mut Connection<S>) -> Result<(), Error>
     ensures made { HasCleanDisk (state S.Store conn.new) → IsTrue (state S.Store conn.old).is_open → (tables S.Store conn.old).schema ≡ no_schema → OnOk result (IsMade (state S.Store conn.new)) }
     ensures outside { HasCleanDisk (state S.Store conn.new) → (tables S.Store conn.old).schema ≡ no_schema → OnOk result ((state S.Store conn.old).in_transaction ≡ false) }
+    ensures kept { HasCleanDisk (state S.Store conn.new) → IsTrue (state S.Store conn.old).is_open → (tables S.Store conn.old).schema ≡ no_schema → OnErr result (KeepsCommitted (state S.Store conn.old) (state S.Store conn.new)) }
     ensures later { IsLater (state S.Store conn.old) (state S.Store conn.new) }
 {
     begin_making(conn)?;
@@ -65,11 +69,15 @@ impl<S: Alter + Drop> SqlRegister<S> {
 
     /// A register for at most `limit` entries, which are `MOST_ENTRIES` at most, in a database that has no table, index or
     /// view; any other, one in which a transaction is open too, is refused. Where the tables cannot be made, the connection
-    /// is given up, and the database is as it was.
-    pub fn new(mut conn: Connection<S>, limit: u64) -> Result<SqlRegister<S>, Error>
+    /// is handed back, and what is committed is as it was: a transaction that is still open should be given up.
+    pub fn new(
+        mut conn: Connection<S>,
+        limit: u64,
+    ) -> Result<SqlRegister<S>, (Error, Connection<S>)>
         requires limit { limit ≤ MOST_ENTRIES }
         requires open { HasCleanDisk (state S.Store conn) → IsTrue (state S.Store conn).is_open }
         ensures empty { IfOk result (λ r. HasCleanDisk (state S.Store r.connection) → (shown (state S.Store r.connection) r.stage r.failures r.room).content ≡ empty_content) }
+        ensures desk { IfOk result (λ r. HasCleanDisk (state S.Store r.connection) → Becomes (tables S.Store r.connection) empty_content) }
         ensures version { IfOk result (λ r. HasCleanDisk (state S.Store r.connection) → HasVersion (tables S.Store r.connection) (Some VERSION)) }
         ensures sure { IfOk result (λ r. HasCleanDisk (state S.Store r.connection) → (shown (state S.Store r.connection) r.stage r.failures r.room).is_sure) }
         ensures limit { IfOk result (λ r. r.room ≡ limit) }
@@ -77,12 +85,32 @@ impl<S: Alter + Drop> SqlRegister<S> {
         ensures unmade { IfOk result (λ r. (tables S.Store conn).schema ≡ no_schema) }
         ensures outside { IfOk result (λ r. HasCleanDisk (state S.Store r.connection) → (state S.Store conn).in_transaction ≡ false) }
         ensures no_failure { IfOk result (λ r. r.failures ≡ 0) }
+        ensures settled { IfOk result (λ r. HasCleanDisk (state S.Store r.connection) → (state S.Store r.connection).now ≡ (state S.Store r.connection).committed) }
+        ensures later { IfOk result (λ r. IsLater (state S.Store conn) (state S.Store r.connection)) }
+        ensures closed { IfOk result (λ r. HasCleanDisk (state S.Store r.connection) → (state S.Store r.connection).in_transaction ≡ false) }
+        ensures handed { IfErr result (λ e. IsLater (state S.Store conn) (state S.Store e.1)) }
+        ensures kept { IfErr result (λ e. HasCleanDisk (state S.Store e.1) → KeepsCommitted (state S.Store conn) (state S.Store e.1)) }
     {
         if !has_no_table(&conn) {
-            return Err(Error::SqliteFailure(ErrorCode::CannotOpen));
+            return Err((Error::SqliteFailure(ErrorCode::CannotOpen), conn));
         }
-        make(&mut conn)?;
-        Ok(SqlRegister {
+        match make(&mut conn) {
+            Ok(()) => Ok(SqlRegister::over(conn, limit)),
+            Err(error) => Err((error, conn)),
+        }
+    }
+
+    /// A register for at most `limit` entries, which are `MOST_ENTRIES` at most, over tables that are a desk's, where no
+    /// transaction is open.
+    pub fn over(conn: Connection<S>, limit: u64) -> SqlRegister<S>
+        requires limit { limit ≤ MOST_ENTRIES }
+        requires desk { IsKept (state S.Store conn) Idle }
+        ensures connection { result.connection ≡ conn }
+        ensures limit { result.room ≡ limit }
+        ensures stage { result.stage ≡ Stage.Idle }
+        ensures no_failure { result.failures ≡ 0 }
+    {
+        SqlRegister {
             conn,
             course: Course {
                 stage: Stage::Idle,
@@ -90,7 +118,7 @@ impl<S: Alter + Drop> SqlRegister<S> {
                 known: Known::nothing(),
             },
             limit,
-        })
+        }
     }
 
     /// The connection, handed back.
@@ -117,6 +145,9 @@ impl SqlRegister<MemStore> {
         ensures no_failure { IfOk result (λ r. r.failures ≡ 0) }
     {
         let conn = Connection::open_in_memory(alloc)?;
-        SqlRegister::new(conn, limit)
+        match SqlRegister::new(conn, limit) {
+            Ok(register) => Ok(register),
+            Err((error, _)) => Err(error),
+        }
     }
 }

@@ -1,5 +1,5 @@
 -- What a statement does that makes a table or an index.
-use Rattle.std.proofs.Common.{◌≡◌, inl, inr, ℕ, List, [], ◌∷◌, ◌++◌, false, None, Some, Ok, Err, Result, OnOk, slice_get, sym, ap, subst, ◌∙◌}
+use Rattle.std.proofs.Common.{◌≡◌, inl, inr, ℕ, List, [], ◌∷◌, ◌++◌, false, if◌then◌else◌, None, Some, Ok, Err, Result, OnErr, OnOk, slice_get, sym, ap, subst, ◌∙◌}
 use Rattle.std.specs.List.{AllByRecursion}
 use Rattle.sqlite.specs.Table.{Table}
 use Rattle.sqlite.specs.Schema.{Schema}
@@ -13,7 +13,8 @@ use Rattle.sqlite.specs.Change.{created, indexed, next_tree, KeepsRows}
 use Rattle.sqlite.specs.Listing.{understood}
 use Rattle.sqlite.specs.State.{State, mode_of, Writes, Executes}
 use Rattle.sqlite.proofs.Callers.{statement_of, runs_as}
-use Rattle.sql_tables.specs.Making.{Makes, MakesTable, MakesIndex, IsEmpty, HasMade}
+use Rattle.sql_tables.specs.Making.{Makes, MakesTable, MakesIndex, IsEmpty, HasMade, KeepsCommitted}
+use Rattle.sql_tables.proofs.EndLemmas.{execute_fell}
 use Rattle.sql_tables.proofs.StatementLemmas.{went, same_value, same_command}
 
 -- tables whose rows are kept stay empty
@@ -26,7 +27,7 @@ one_more P [] last all it = (it, tt)
 one_more P (t ∷ ts) last all it = (all.0, one_more P ts last all.1 it)
 
 from_writes : (old new : State) (command : Command) (text : List ℕ) (count : ℕ) (after : Schema) → Writes old new None command text [] count → IsEmpty after new.now → HasMade after old new
-from_writes old new command text count after w empty = record { is_open = w.shown.is_open; empty = empty; mode = w.shown.mode; marks = w.marks }
+from_writes old new command text count after w empty = record { is_open = w.shown.is_open; empty = empty; mode = w.shown.mode; marks = w.marks; committed = λ inside. w.shown.committed_is ∙ ap (λ b. if b then old.committed else new.now) inside }
 
 module _ (old new : State) (text : List ℕ) (before after : Schema) (makes : Makes text before after) (was : IsEmpty before old.now) (count : ℕ) (h : Executes text [] old new (Ok count)) where
   whole : statement_of text (understood before text) ≡ text
@@ -74,3 +75,12 @@ has_made old new text before after makes was (Ok count) h = elim makes.made [
   | inr index ↦ index_made old new text before after makes was count h index
 ]
 has_made old new text before after makes was (Err e) h = tt
+
+pub keeps_committed : (old new : State) (text : List ℕ) (r : Result ℕ Error) → Executes text [] old new r → OnErr r (KeepsCommitted old new)
+keeps_committed old new text (Ok count) h = tt
+keeps_committed old new text (Err e) h = λ now. elim (execute_fell old new text [] (Err e) h) [ inl same ↦ same.committed | inr undone ↦ undone.committed now ]
+
+-- nothing was committed before a failure either
+pub kept_then : {X E : Type 0} (r : Result X E) (a b c : State) → b.committed ≡ a.committed → KeepsCommitted b c → OnErr r (KeepsCommitted a c)
+kept_then (Ok x) a b c before after = tt
+kept_then (Err e) a b c before after = λ now. after now ∙ before

@@ -57,3 +57,8 @@ pub record HasMade (schema : Schema) (old new : State) : Type 0 where
   pub empty : IsEmpty schema new.now
   pub mode : new.in_transaction ≡ old.in_transaction
   pub marks : new.marks ≡ old.marks
+  pub committed : IsTrue old.in_transaction → new.committed ≡ old.committed
+
+-- nothing was committed, as far as an open connection shows
+abbrev pub KeepsCommitted : State → State → Type 0
+KeepsCommitted old new = IsTrue new.is_open → new.committed ≡ old.committed

@@ -1,19 +1,20 @@
 //! The tables are made, in a database that has none.
 
-ghost use Rattle.std.specs.Prelude.{IsTrue, OnOk};
+ghost use Rattle.std.specs.Prelude.{IsTrue, OnErr, OnOk};
 ghost use Rattle.sqlite.specs.State.{HasCleanDisk};
 ghost use Rattle.sqlite.specs.Held.{state};
 ghost use Rattle.sqlite.specs.Schema.{Schema};
 ghost use Rattle.sql_tables.specs.Schema.{desk_schema, no_schema};
 ghost use Rattle.sql_tables.specs.Calls.{tables};
 ghost use Rattle.sql_tables.specs.Ends.{IsLater};
-ghost use Rattle.sql_tables.specs.Making.{first_of, Makes, IsEmpty, HasMade};
+ghost use Rattle.sql_tables.specs.Making.{first_of, Makes, IsEmpty, HasMade, KeepsCommitted};
 
 use sqlite::{Alter, Connection, Error};
 
 /// Makes a table or an index.
 fn make<S: Alter>(conn: &mut Connection<S>, text: &str) -> Result<usize, Error>
     ensures made { HasCleanDisk (state S.Store conn.new) → IsTrue (state S.Store conn.old).is_open → (before after : Schema) → Makes text.now before after → IsEmpty before (tables S.Store conn.old) → OnOk result (HasMade after (state S.Store conn.old) (state S.Store conn.new)) }
+    ensures kept { HasCleanDisk (state S.Store conn.new) → OnErr result (KeepsCommitted (state S.Store conn.old) (state S.Store conn.new)) }
     ensures later { IsLater (state S.Store conn.old) (state S.Store conn.new) }
 {
     conn.execute(text, &[])
@@ -22,6 +23,7 @@ fn make<S: Alter>(conn: &mut Connection<S>, text: &str) -> Result<usize, Error>
 /// The tables of amounts.
 fn make_amounts<S: Alter>(conn: &mut Connection<S>) -> Result<(), Error>
     ensures made { HasCleanDisk (state S.Store conn.new) → IsTrue (state S.Store conn.old).is_open → IsEmpty no_schema (tables S.Store conn.old) → OnOk result (HasMade (first_of 3 3) (state S.Store conn.old) (state S.Store conn.new)) }
+    ensures kept { HasCleanDisk (state S.Store conn.new) → IsTrue (state S.Store conn.old).is_open → IsTrue (state S.Store conn.old).in_transaction → IsEmpty no_schema (tables S.Store conn.old) → OnErr result (KeepsCommitted (state S.Store conn.old) (state S.Store conn.new)) }
     ensures later { IsLater (state S.Store conn.old) (state S.Store conn.new) }
 {
     make(
@@ -42,6 +44,7 @@ fn make_amounts<S: Alter>(conn: &mut Connection<S>) -> Result<(), Error>
 /// The tables of entries and of where instructions stand.
 fn make_register<S: Alter>(conn: &mut Connection<S>) -> Result<(), Error>
     ensures made { HasCleanDisk (state S.Store conn.new) → IsTrue (state S.Store conn.old).is_open → IsEmpty (first_of 3 3) (tables S.Store conn.old) → OnOk result (HasMade (first_of 5 4) (state S.Store conn.old) (state S.Store conn.new)) }
+    ensures kept { HasCleanDisk (state S.Store conn.new) → IsTrue (state S.Store conn.old).is_open → IsTrue (state S.Store conn.old).in_transaction → IsEmpty (first_of 3 3) (tables S.Store conn.old) → OnErr result (KeepsCommitted (state S.Store conn.old) (state S.Store conn.new)) }
     ensures later { IsLater (state S.Store conn.old) (state S.Store conn.new) }
 {
     make(
@@ -58,6 +61,7 @@ fn make_register<S: Alter>(conn: &mut Connection<S>) -> Result<(), Error>
 /// The tables of what is unmatched and what is due.
 fn make_waiting<S: Alter>(conn: &mut Connection<S>) -> Result<(), Error>
     ensures made { HasCleanDisk (state S.Store conn.new) → IsTrue (state S.Store conn.old).is_open → IsEmpty (first_of 5 4) (tables S.Store conn.old) → OnOk result (HasMade (first_of 7 4) (state S.Store conn.old) (state S.Store conn.new)) }
+    ensures kept { HasCleanDisk (state S.Store conn.new) → IsTrue (state S.Store conn.old).is_open → IsTrue (state S.Store conn.old).in_transaction → IsEmpty (first_of 5 4) (tables S.Store conn.old) → OnErr result (KeepsCommitted (state S.Store conn.old) (state S.Store conn.new)) }
     ensures later { IsLater (state S.Store conn.old) (state S.Store conn.new) }
 {
     make(
@@ -71,6 +75,7 @@ fn make_waiting<S: Alter>(conn: &mut Connection<S>) -> Result<(), Error>
 /// The tables of what was sent, and of the version.
 fn make_messages<S: Alter>(conn: &mut Connection<S>) -> Result<(), Error>
     ensures made { HasCleanDisk (state S.Store conn.new) → IsTrue (state S.Store conn.old).is_open → IsEmpty (first_of 7 4) (tables S.Store conn.old) → OnOk result (HasMade (first_of 9 5) (state S.Store conn.old) (state S.Store conn.new)) }
+    ensures kept { HasCleanDisk (state S.Store conn.new) → IsTrue (state S.Store conn.old).is_open → IsTrue (state S.Store conn.old).in_transaction → IsEmpty (first_of 7 4) (tables S.Store conn.old) → OnErr result (KeepsCommitted (state S.Store conn.old) (state S.Store conn.new)) }
     ensures later { IsLater (state S.Store conn.old) (state S.Store conn.new) }
 {
     make(
@@ -87,6 +92,7 @@ fn make_messages<S: Alter>(conn: &mut Connection<S>) -> Result<(), Error>
 /// The indexes beside those of the keys.
 fn make_indexes<S: Alter>(conn: &mut Connection<S>) -> Result<(), Error>
     ensures made { HasCleanDisk (state S.Store conn.new) → IsTrue (state S.Store conn.old).is_open → IsEmpty (first_of 9 5) (tables S.Store conn.old) → OnOk result (HasMade desk_schema (state S.Store conn.old) (state S.Store conn.new)) }
+    ensures kept { HasCleanDisk (state S.Store conn.new) → IsTrue (state S.Store conn.old).is_open → IsTrue (state S.Store conn.old).in_transaction → IsEmpty (first_of 9 5) (tables S.Store conn.old) → OnErr result (KeepsCommitted (state S.Store conn.old) (state S.Store conn.new)) }
     ensures later { IsLater (state S.Store conn.old) (state S.Store conn.new) }
 {
     make(
@@ -104,6 +110,7 @@ fn make_indexes<S: Alter>(conn: &mut Connection<S>) -> Result<(), Error>
 /// Makes the tables and then the indexes, in a database that has none. Where it fails, the transaction that it is made in should be given up.
 pub fn make_tables<S: Alter>(conn: &mut Connection<S>) -> Result<(), Error>
     ensures made { HasCleanDisk (state S.Store conn.new) → IsTrue (state S.Store conn.old).is_open → IsEmpty no_schema (tables S.Store conn.old) → OnOk result (HasMade desk_schema (state S.Store conn.old) (state S.Store conn.new)) }
+    ensures kept { HasCleanDisk (state S.Store conn.new) → IsTrue (state S.Store conn.old).is_open → IsTrue (state S.Store conn.old).in_transaction → IsEmpty no_schema (tables S.Store conn.old) → OnErr result (KeepsCommitted (state S.Store conn.old) (state S.Store conn.new)) }
     ensures later { IsLater (state S.Store conn.old) (state S.Store conn.new) }
 {
     make_amounts(conn)?;

@@ -1,12 +1,12 @@
-use Rattle.std.proofs.Common.{refl}
-use Rattle.desk_replay.specs.KeptHistory.{HoldsKept}
+use Rattle.std.proofs.Common.{subst}
+use Rattle.audit_entries.specs.Found.{IsFormed}
+use Rattle.audit_entries.proofs.ReadingLemmas.{more_formed}
 use Rattle.audit_entries.proofs.register.read_entry.Goals as goal
 
-pub returns-then-branch-clause-keeps : goal.returns-then-branch-clause-keeps
-returns-then-branch-clause-keeps g c = λ honest sure taken.
+pub returns-then-branch-clause-holds : goal.returns-then-branch-clause-holds
+returns-then-branch-clause-holds g c = λ honest sure taken.
     let v0 = g.R.Register.view c.args.register.now in
+    let v1 = g.R.Register.view c.take.new.register in
     let e = c.in_ok-take-in-Entry.ensures in
-    let some = c.requires.keeps (e.later.honest honest) sure in
-    let held : HoldsKept v0.room v0.content.register v0.content = record { books = some.books; keeps = some.keeps; register = refl } in
-    let all = (e.next v0.content.register honest sure held).held c.if-branch.true in
-    record { books = all.books; keeps = all.keeps }
+    let old = c.requires.holds (e.later.honest honest) sure in
+    more_formed v0.room v0.content v1.content c.in-Entry.kept old ((e.next v0.content.register honest sure old.held).held c.if-branch.true) (subst IsFormed c.in-Entry.is c.in_ok-found_at.ensures.formed)

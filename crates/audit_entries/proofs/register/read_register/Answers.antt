@@ -3,7 +3,6 @@ use Rattle.std.specs.List.{AllByRecursion}
 use Rattle.sqlite.specs.Effect.{Database}
 use Rattle.sqlite.specs.Held.{state}
 use Rattle.sqlite.specs.State.{HasCleanDisk}
-use Rattle.desk_replay.specs.KeptHistory.{KeepsSome}
 use Rattle.sql_tables.specs.Ends.{IsSame}
 use Rattle.sql_tables.specs.Schema.{desk_schema, register_table}
 use Rattle.sql_opening.specs.Forms.{HasForm}
@@ -11,8 +10,8 @@ use Rattle.audit_rows.proofs.LookLemmas.{look_more}
 use Rattle.audit_rows.specs.declared.rows.TheConstants.{MOST}
 use Rattle.audit_rows.specs.ByNumber.{HasNoOther}
 use Rattle.audit_entries.specs.declared.register.Reading.TheVariants.{Whole}
-use Rattle.audit_entries.specs.Reading.{HoldsRows, TakesRow}
-use Rattle.audit_entries.proofs.ReadingLemmas.{again, is_read, more_held}
+use Rattle.audit_entries.specs.Reading.{HoldsFormed, HoldsRows, TakesRow}
+use Rattle.audit_entries.proofs.ReadingLemmas.{again, formed_again, is_read, more_held}
 use Rattle.audit_entries.proofs.TakingLemmas.{done_then}
 use Rattle.audit_entries.proofs.register.read_register.Goals as goal
 
@@ -35,7 +34,7 @@ loop-before-preserved g c =
         failures = (let a = i.later.failures in let b = e.later.failures in omega arith);
         room = e.later.room ∙ i.later.room;
       };
-      held = λ honest sure. subst (λ r. KeepsSome r v2.content) i.later.room (e.keeps honest (i.done.sure (e.later.honest honest) sure) c.in-Taken.is);
+      holds = λ honest sure. formed_again v1.room v0.room v2.content i.later.room (e.holds honest (i.done.sure (e.later.honest honest) sure) c.in-Taken.is);
       rows = λ clean is_open has honest sure formed.
           let clean1 : HasCleanDisk s1 = (let less = e.look.later.clean in omega arith) in
           let same : IsSame s0 s1 = i.look.ok clean1 is_open has in
@@ -89,3 +88,14 @@ returns-clause-entries g c = λ clean is_open has honest sure order formed whole
     let all : MOST ≡ count = omega arith in
     let none = subst (λ (d : Database). end ≡ Whole → HasNoOther (d.trees 6) count) one.now (subst (λ m. end ≡ Whole → HasNoOther (s1.now.trees 6) m) all (n.none clean one.is_open has1)) in
     is_read s0.now count v0.room v1.content end none order formed (i.rows clean1 is_open has honest sure formed.1.1.1.0.each) (omega arith) whole
+
+pub returns-in-Nothing-clause-holds : goal.returns-in-Nothing-clause-holds
+returns-in-Nothing-clause-holds g c = λ honest sure whole.
+    let v0 = g.R.Register.view c.args.register.now in
+    let v1 = g.R.Register.view c.loop-before.register in
+    let v2 = g.R.Register.view c.read_entry.new.register in
+    let i = c.loop-before.invariant in
+    let e = c.in_ok-read_entry.ensures in
+    let honest1 = e.later.honest honest in
+    let same : v2.content ≡ v1.content = e.same honest (i.done.sure honest1 sure) c.in-Nothing.is in
+    subst (HoldsFormed v0.room) (sym same) (i.holds honest1 sure)

@@ -1,9 +1,10 @@
+use Rattle.std.proofs.lemmas.List.Sorted.{IsPermutation-trans}
 use Rattle.sqlite.specs.Held.{state}
-use Rattle.audit_standings.proofs.UnmatchedTable.{all_shown, reads_all}
+use Rattle.audit_standings.proofs.UnmatchedTable.{look_failed}
 use Rattle.audit_standings.proofs.unmatched.rows_of.Goals as goal
 
-pub query-requires : goal.query-requires
-query-requires g c = record { query = reads_all }
+pub returns-in-Ok-clause-shown : goal.returns-in-Ok-clause-shown
+returns-in-Ok-clause-shown g c = λ clean is_open has. IsPermutation-trans _ _ _ (c.in_ok-rows.ensures.shown clean is_open has) c.sort_by_key.ensures.permutation
 
-pub returns-clause-shown : goal.returns-clause-shown
-returns-clause-shown g c clean is_open has = all_shown (state g.S.Store c.args.conn.now) (state g.S.Store c.query.new.conn) has c.query.result (c.query.ensures.shown clean)
+pub returns-in-Err-clause-look : goal.returns-in-Err-clause-look
+returns-in-Err-clause-look g c = look_failed c.in_ok-rows.rows _ (state g.S.Store c.args.conn.now) (state g.S.Store c.rows_shown.new.conn) c.in_ok-rows.ensures.look

@@ -1,4 +1,5 @@
 use Rattle.sqlite.specs.Held.{state}
+use Rattle.sql_tables.proofs.MakingLemmas.{keeps_committed}
 use Rattle.sql_register.proofs.EmptyContent.{begun_making, begun_outside}
 use Rattle.sql_register.proofs.making.begin_making.Goals as goal
 
@@ -7,3 +8,6 @@ returns-clause-ok g c clean is_open has = begun_making (state g.S.Store c.args.c
 
 pub returns-clause-outside : goal.returns-clause-outside
 returns-clause-outside g c clean has = begun_outside (state g.S.Store c.args.conn.now) (state g.S.Store c.execute.new.self) has c.execute.result (c.execute.ensures.runs clean)
+
+pub returns-clause-kept : goal.returns-clause-kept
+returns-clause-kept g c clean = keeps_committed (state g.S.Store c.args.conn.now) (state g.S.Store c.execute.new.self) _ c.execute.result (c.execute.ensures.runs clean)

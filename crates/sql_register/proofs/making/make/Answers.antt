@@ -4,8 +4,10 @@ use Rattle.sqlite.specs.State.{HasCleanDisk}
 use Rattle.desk_register.specs.Changes.{empty_content}
 use Rattle.sql_tables.specs.declared.version.TheConstants.{VERSION}
 use Rattle.sql_tables.specs.Version.{HasVersion}
+use Rattle.sql_tables.proofs.MakingLemmas.{kept_then}
 use Rattle.sql_tables.proofs.VersionLemmas.{no_version}
 use Rattle.sql_register.specs.Holds.{Becomes}
+use Rattle.sql_register.proofs.MadeLemmas.{fallen_kept, written_kept}
 use Rattle.sql_register.proofs.EmptyContent.{blank_empty, empty_becomes, version_empty}
 use Rattle.sql_register.proofs.making.make.Goals as goal
 
@@ -41,3 +43,41 @@ returns-clause-outside g c clean blank =
     let clean2 : HasCleanDisk s2 = omega (arith, clean3, c.set_version.ensures.write.later.clean) in
     let clean1 : HasCleanDisk s1 = omega (arith, clean2, c.make_tables.ensures.later.clean) in
     c.in_ok-begin_making.ensures.outside clean1 blank
+
+pub returns-in_err-make_tables-clause-kept : goal.returns-in_err-make_tables-clause-kept
+returns-in_err-make_tables-clause-kept g c clean is_open blank =
+    let s0 = state g.S.Store c.args.conn.now in
+    let s1 = state g.S.Store c.begin_making.new.conn in
+    let s2 = state g.S.Store c.make_tables.new.conn in
+    let clean1 : HasCleanDisk s1 = omega (arith, clean, c.make_tables.ensures.later.clean) in
+    let begun = c.in_ok-begin_making.ensures.ok clean1 is_open blank in
+    kept_then c.from_residual-in_err-make_tables.result s0 s1 s2 begun.committed (c.in_err-make_tables.ensures.kept clean begun.is_open begun.mode (blank_empty s1.now (ap (λ d. d.schema) begun.now ∙ blank)))
+
+pub returns-in_err-set_version-clause-kept : goal.returns-in_err-set_version-clause-kept
+returns-in_err-set_version-clause-kept g c clean is_open blank =
+    let s0 = state g.S.Store c.args.conn.now in
+    let s1 = state g.S.Store c.begin_making.new.conn in
+    let s2 = state g.S.Store c.make_tables.new.conn in
+    let s3 = state g.S.Store c.set_version.new.conn in
+    let clean2 : HasCleanDisk s2 = omega (arith, clean, c.set_version.ensures.write.later.clean) in
+    let clean1 : HasCleanDisk s1 = omega (arith, clean2, c.make_tables.ensures.later.clean) in
+    let begun = c.in_ok-begin_making.ensures.ok clean1 is_open blank in
+    let made = c.in_ok-make_tables.ensures.made clean2 begun.is_open (blank_empty s1.now (ap (λ d. d.schema) begun.now ∙ blank)) in
+    kept_then c.from_residual-in_err-set_version.result s0 s2 s3 (made.committed begun.mode ∙ begun.committed)
+    (written_kept s2 s3 (made.mode ∙ begun.mode) (c.in_err-set_version.ensures.write.err clean made.is_open made.empty.schema_is))
+
+pub returns-in_err-commit-clause-kept : goal.returns-in_err-commit-clause-kept
+returns-in_err-commit-clause-kept g c clean is_open blank =
+    let s0 = state g.S.Store c.args.conn.now in
+    let s1 = state g.S.Store c.begin_making.new.conn in
+    let s2 = state g.S.Store c.make_tables.new.conn in
+    let s3 = state g.S.Store c.set_version.new.conn in
+    let s4 = state g.S.Store c.commit.new.conn in
+    let clean3 : HasCleanDisk s3 = omega (arith, clean, c.commit.ensures.later.clean) in
+    let clean2 : HasCleanDisk s2 = omega (arith, clean3, c.set_version.ensures.write.later.clean) in
+    let clean1 : HasCleanDisk s1 = omega (arith, clean2, c.make_tables.ensures.later.clean) in
+    let begun = c.in_ok-begin_making.ensures.ok clean1 is_open blank in
+    let made = c.in_ok-make_tables.ensures.made clean2 begun.is_open (blank_empty s1.now (ap (λ d. d.schema) begun.now ∙ blank)) in
+    let stays = c.in_ok-set_version.ensures.write.ok clean3 made.is_open made.empty.schema_is in
+    kept_then c.from_residual-in_err-commit.result s0 s3 s4 (stays.committed (made.mode ∙ begun.mode) ∙ made.committed begun.mode ∙ begun.committed)
+    (fallen_kept s3 s4 (c.in_err-commit.ensures.err clean stays.is_open stays.schema))

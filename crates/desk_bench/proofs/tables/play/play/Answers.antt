@@ -1,6 +1,0 @@
-use Rattle.desk_engine.specs.Applied.{no_books}
-use Rattle.desk_book.proofs.FormedLemmas.{empty_formed}
-use Rattle.desk_bench.proofs.tables.play.play.Goals as goal
-
-pub play_on-requires : goal.play_on-requires
-play_on-requires g c = record { stage = λ is. c.in-Ok.ensures.stage; sure = λ is honest. c.in-Ok.ensures.sure honest; books = λ is honest. (no_books, empty_formed _ _ (c.in-Ok.ensures.empty honest)) }

@@ -1,0 +1,6 @@
+pub mod AloneLemmas
+pub mod FoundLemmas
+pub mod OpenedLemmas
+pub mod ReadyLemmas
+pub mod ReopenLemmas
+pub mod VersionLemmas

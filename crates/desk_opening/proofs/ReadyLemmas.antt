@@ -1,0 +1,36 @@
+-- A register that a desk can be made over.
+use Rattle.std.proofs.Common.{◌≡◌, ℕ, sym, subst}
+use Rattle.desk_engine.specs.Applied.{Keeps}
+use Rattle.desk_index.specs.IndexView.{view_of_index}
+use Rattle.desk_index.specs.declared.indexed_register.IndexedRegister.{IndexedRegister}
+use Rattle.desk_mirror.specs.Both.{Both}
+use Rattle.desk_register.specs.View.{View}
+use Rattle.desk_register.specs.declared.register.Stage.TheVariants.{Idle}
+use Rattle.desk_rules.specs.WellFormed.{AreWellFormed}
+use Rattle.audit_entries.specs.Reading.{HoldsFormed}
+use Rattle.sql_register.specs.Kept.{Kept}
+use Rattle.desk_opening.specs.Opened.{view_of_both, IsReadyFor}
+
+pub ready : (limit : ℕ) (view : View) → view.stage ≡ Idle → (view.is_honest → view.is_sure) → view.failures ≡ 0 → view.room ≡ limit
+    → (view.is_honest → HoldsFormed limit view.content) → IsReadyFor limit view
+ready limit view stage sure failures room holds = record {
+  desk = record {
+    stage = λ is. stage;
+    sure = λ is. sure;
+    books = λ is honest. let h = holds honest in (
+      h.held.books,
+      record {
+        tables = subst (λ r. Keeps r h.held.books view.content) (sym room) h.held.keeps;
+        formed = subst AreWellFormed h.held.keeps.tables.history h.formed;
+      },
+    );
+  };
+  failures = failures;
+  room = room;
+  holds = holds;
+}
+
+-- memory has no device
+pub both_ready : {S : Type 0} (limit : ℕ) (both : Both IndexedRegister (Kept S)) → both.stage ≡ Idle → both.failures ≡ 0 → (view_of_index both.memory).room ≡ limit
+    → HoldsFormed limit (view_of_index both.memory).content → IsReadyFor limit (view_of_both both)
+both_ready limit both stage failures room holds = ready limit (view_of_both both) stage (λ honest. tt) failures room (λ honest. holds)

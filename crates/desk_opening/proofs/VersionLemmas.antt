@@ -1,0 +1,87 @@
+-- What is read of tables that nobody knows, within a transaction.
+use Rattle.std.proofs.Common.{◌≡◌, inl, inr, refl, ap, arith, ◌∙◌, ℕ, List, [], None, Some, Option, IsTrue, Result, Ok, Err, IfOk, IfErr, OnOk, if◌then◌else◌}
+use Rattle.sqlite.specs.Clock.{timed}
+use Rattle.sqlite.specs.Command.TheVariants.{Begin}
+use Rattle.sqlite.specs.Listing.{understood}
+use Rattle.sqlite.specs.Order.{Row}
+use Rattle.sqlite.specs.Schema.{Schema}
+use Rattle.sqlite.specs.Tree.{Trees}
+use Rattle.sqlite.specs.State.{State, Executes, FailsToQuery, HasCleanDisk, Shown, ShowsRows, Survives}
+use Rattle.sqlite.specs.declared.error.Error.{Error}
+use Rattle.sqlite.proofs.Callers.{IsPlain, command_of, runs_as}
+use Rattle.sqlite_schema.specs.declared.command.Returning.{Returning}
+use Rattle.sqlite_tied.specs.Compute.{everything}
+use Rattle.sql_tables.specs.Control.{Begins, begin_text}
+use Rattle.sql_tables.specs.Making.{KeepsCommitted}
+use Rattle.sql_tables.proofs.CallLemmas.{later_then}
+use Rattle.sql_tables.proofs.EndLemmas.{execute_fell, execute_opened, later_from, query_fell, query_opened, show_opened}
+use Rattle.desk_opening.specs.Spared.{Spares}
+
+-- the text means the same over any tables
+begin_is : (schema : Schema) → command_of (understood schema begin_text) ≡ Begin
+unfolding understood everything
+begin_is schema = refl
+
+begin_plain : (schema : Schema) → IsPlain (understood schema begin_text)
+unfolding understood everything
+begin_plain schema = (refl, refl)
+
+begun : (old new : State) (r : Result ℕ Error) → Executes begin_text [] old new r → OnOk r (Begins old new)
+begun old new (Ok count) h =
+    let schema = old.now.schema in
+    let r = runs_as begin_text [] old new schema refl Begin (begin_is schema) (begin_plain schema) count h in
+    record { is_open = r.1.is_open; now = r.1.now_is; committed = r.1.committed_is; mode = r.1.mode; marks = r.4 }
+begun old new (Err e) h = tt
+
+begin_kept : (old new : State) (r : Result ℕ Error) → Executes begin_text [] old new r → KeepsCommitted old new
+begin_kept old new (Ok count) h = λ now. (begun old new (Ok count) h).committed
+begin_kept old new (Err e) h = λ now. elim (execute_fell old new begin_text [] (Err e) h) [ inl same ↦ same.committed | inr undone ↦ undone.committed now ]
+
+pub begin_inside : (old new : State) (r : Result ℕ Error) → Executes begin_text [] old new r → OnOk r (IsTrue new.in_transaction)
+begin_inside old new (Ok count) h = (begun old new (Ok count) h).mode
+begin_inside old new (Err e) h = tt
+
+pub begin_spares : (old new : State) (r : Result ℕ Error) (P : Trees → Type 0) → Survives old new P → (HasCleanDisk new → Executes begin_text [] old new r) → Spares old new
+begin_spares old new r P survives runs = record {
+  later = later_from old new P survives;
+  opened = λ clean. execute_opened old new begin_text [] r (runs clean);
+  kept = λ clean. begin_kept old new r (runs clean);
+}
+
+-- within a transaction nothing is committed, whatever is shown
+shown_kept : (old new : State) (sql : List ℕ) (params : Row) (rows : List Row) → IsTrue old.in_transaction → Shown sql params old new rows → KeepsCommitted old new
+unfolding Shown
+shown_kept old new sql params rows inside h = go h.0.returning h.2
+  where
+    go : (what : Option Returning) → ShowsRows old new sql h.0 (timed params h.0.formats h.1.now) rows what → KeepsCommitted old new
+    go None it = λ now. it.3.0.committed_is
+    go (Some what) it = λ now. it.1.shown.committed_is ∙ ap (λ b. if b then old.committed else new.now) inside
+
+module _ {X : Type 0} (items : X → List Row) (old new : State) (sql : List ℕ) (params : Row) where
+  query_kept : (r : Result X Error) → IsTrue old.in_transaction → IfOk r (λ rows. Shown sql params old new (items rows)) → IfErr r (FailsToQuery sql params old new) → KeepsCommitted old new
+  query_kept (Ok rows) inside shown fails = shown_kept old new sql params (items rows) inside shown
+  query_kept (Err e) inside shown fails = λ now. elim (query_fell old new sql params e fails) [ inl same ↦ same.committed | inr undone ↦ undone.committed now ]
+
+  query_was_open : (r : Result X Error) → IfOk r (λ rows. Shown sql params old new (items rows)) → IfErr r (FailsToQuery sql params old new) → IsTrue new.is_open → IsTrue old.is_open
+  query_was_open (Ok rows) shown fails now = show_opened old new sql params (items rows) shown
+  query_was_open (Err e) shown fails now = query_opened old new sql params e fails now
+
+  pub query_spares : (r : Result X Error) (P : Trees → Type 0) → Survives old new P → (HasCleanDisk old → IsTrue old.in_transaction)
+      → (HasCleanDisk new → IfOk r (λ rows. Shown sql params old new (items rows))) → (HasCleanDisk new → IfErr r (FailsToQuery sql params old new)) → Spares old new
+  query_spares r P survives inside shown fails = record {
+    later = later_from old new P survives;
+    opened = λ clean. query_was_open r (shown clean) (fails clean);
+    kept = λ clean. query_kept r (inside (omega (arith, clean, survives.clean))) (shown clean) (fails clean);
+  }
+
+-- ---- one call after another
+
+pub spares_none : (a : State) → Spares a a
+spares_none a = record { later = record { clean = omega arith; faults = omega arith }; opened = λ clean now. now; kept = λ clean now. refl }
+
+pub spares_then : (a b c : State) → Spares a b → Spares b c → Spares a c
+spares_then a b c p q = record {
+  later = later_then a b c p.later q.later;
+  opened = λ clean now. p.opened (omega (arith, clean, q.later.clean)) (q.opened clean now);
+  kept = λ clean now. q.kept clean now ∙ p.kept (omega (arith, clean, q.later.clean)) (q.opened clean now);
+}

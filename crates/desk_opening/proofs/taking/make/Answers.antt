@@ -1,0 +1,39 @@
+use Rattle.std.proofs.Common.{◌∙◌, ap, arith, inl, sym}
+use Rattle.sqlite.specs.Effect.{Database}
+use Rattle.sqlite.specs.Held.{state}
+use Rattle.sqlite.specs.State.{HasCleanDisk}
+use Rattle.desk_index.specs.IndexView.{view_of_index}
+use Rattle.desk_opening.proofs.OpenedLemmas.{found_as, nothing_audited, nothing_held, opened_as}
+use Rattle.desk_opening.proofs.taking.make.Goals as goal
+
+pub new-requires-in-Ok-2-clause-same : goal.new-requires-in-Ok-2-clause-same
+new-requires-in-Ok-2-clause-same g c = λ honest sure. c.new-in-Ok.ensures.empty ∙ sym (c.in-Ok.ensures.empty honest)
+
+pub returns-in-Ok-clause-opened : goal.returns-in-Ok-clause-opened
+returns-in-Ok-clause-opened g c =
+    let memory = c.new-in-Ok.result in
+    let tables = c.in-Ok.tables in
+    let both = c.new-in-Ok-2 in
+    let t = c.in-Ok.ensures in
+    let content = (view_of_index memory).content in
+    opened_as g.S.Store c.args.limit both.result memory tables both.ensures.memory both.ensures.tables both.ensures.stage both.ensures.no_failure c.new-in-Ok.ensures.limit
+    (nothing_held c.args.limit content c.new-in-Ok.ensures.empty)
+    (record { stage = t.stage; failures = t.no_failure; room = t.limit })
+    (λ clean. record {
+      is_open = t.sure clean;
+      settled = t.settled clean;
+      closed = t.closed clean;
+      audited = nothing_audited (state g.S.Store tables.connection).now c.args.limit content c.new-in-Ok.ensures.empty (t.desk clean) (t.version clean);
+    })
+
+pub returns-in-Ok-clause-which : goal.returns-in-Ok-clause-which
+returns-in-Ok-clause-which g c =
+    let memory = c.new-in-Ok.result in
+    let tables = c.in-Ok.tables in
+    let both = c.new-in-Ok-2 in
+    let t = c.in-Ok.ensures in
+    let s0 = state g.S.Store c.args.conn in
+    found_as g.S.Store c.args.limit both.result memory tables both.ensures.memory both.ensures.tables s0.committed
+    (λ clean.
+    let clean0 : HasCleanDisk s0 = omega (arith, clean, t.later.clean) in
+    inl (sym (ap (λ (d : Database). d.schema) (c.requires.open clean0).opens.clean) ∙ t.unmade, c.new-in-Ok.ensures.empty))

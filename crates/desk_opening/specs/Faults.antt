@@ -1,0 +1,42 @@
+-- Why a database is not opened, by what failed.
+use Rattle.std.specs.Prelude.{ℕ, Bool, true, false}
+use Rattle.sqlite.specs.declared.error.Error.{Error}
+use Rattle.sqlite.specs.declared.error.Error.TheVariants.{SqliteFailure}
+use Rattle.sqlite.specs.declared.error.ErrorCode.TheVariants.{DatabaseCorrupt, NotADatabase, OutOfMemory, TooBig}
+use Rattle.desk_register.specs.declared.register.Fault.{Fault}
+use Rattle.desk_register.specs.declared.register.Fault.TheVariants as register
+use Rattle.audit_rows.specs.declared.fault.AuditFault.{AuditFault}
+use Rattle.audit_rows.specs.declared.fault.AuditFault.TheVariants.{Register, Tables}
+use Rattle.desk_opening.specs.declared.fault.OpenFault.{OpenFault}
+use Rattle.desk_opening.specs.declared.fault.OpenFault.TheVariants.{NotOurFile, OtherVersion, Memory, Storage}
+
+abbrev pub number_of_fault : OpenFault → ℕ
+number_of_fault NotOurFile = 50
+number_of_fault OtherVersion = 51
+number_of_fault Memory = 60
+number_of_fault Storage = 61
+
+-- want of memory, and a value too large, are told as that; what is no database is not ours; the device is blamed for the rest
+abbrev pub fault_for : Error → OpenFault
+fault_for (SqliteFailure OutOfMemory) = Memory
+fault_for (SqliteFailure TooBig) = Memory
+fault_for (SqliteFailure NotADatabase) = NotOurFile
+fault_for error = Storage
+
+-- files that are refused though the device gave back what it took are not ours either
+abbrev pub unharmed_fault_for : Error → OpenFault
+unharmed_fault_for (SqliteFailure DatabaseCorrupt) = NotOurFile
+unharmed_fault_for error = fault_for error
+
+-- which it is depends on whether the device was caught giving other bytes than it took
+abbrev pub files_fault_for : Bool → Error → OpenFault
+files_fault_for true error = fault_for error
+files_fault_for false error = unharmed_fault_for error
+
+abbrev pub register_fault_for : Fault → OpenFault
+register_fault_for register.Memory = Memory
+register_fault_for register.Storage = Storage
+
+abbrev pub audit_fault_for : AuditFault → OpenFault
+audit_fault_for (Register fault) = register_fault_for fault
+audit_fault_for (Tables error) = fault_for error

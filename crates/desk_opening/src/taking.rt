@@ -1,0 +1,97 @@
+//! A database that was opened is made the desk's, or found to be.
+ghost use Rattle.std.specs.Prelude.{◌≡◌, ◌≤◌, IfErr, IfOk, IsTrue};
+ghost use Rattle.sqlite.specs.Held.{state};
+ghost use Rattle.sqlite.specs.State.{HasCleanDisk};
+ghost use Rattle.desk_index.specs.IndexView.{view_of_index};
+ghost use Rattle.desk_rules.specs.declared.limits.TheConstants.{MOST_ENTRIES};
+ghost use Rattle.sql_tables.specs.Ends.{IsLater};
+ghost use Rattle.sql_tables.specs.Making.{KeepsCommitted};
+ghost use Rattle.desk_opening.specs.Opened.{Finds, IsOpened, StandsOpen};
+ghost use Rattle.desk_opening.specs.Spared.{Spares};
+
+use crate::fault::{OpenFault, fault_of, fault_of_audit};
+use crate::version::says_other_version;
+use audit_desk::{Audited, audit};
+use desk_index::IndexedRegister;
+use desk_mirror::MirroredRegister;
+use sql_register::{SqlRegister, has_no_table};
+use sqlite::{Alter, Connection};
+use std::alloc::Global;
+
+/// Why a database that is not the desk's, in this version, is refused.
+fn refusal<S: Alter>(conn: &mut Connection<S>) -> OpenFault
+    ensures { Spares (state S.Store conn.old) (state S.Store conn.new) }
+{
+    match says_other_version(conn) {
+        Ok(true) => OpenFault::OtherVersion,
+        Ok(false) => OpenFault::NotOurFile,
+        Err(error) => fault_of(&error),
+    }
+}
+
+/// Makes the tables in a database that has none, with a register in memory beside them.
+fn make<S: Alter + Drop>(
+    alloc: Global,
+    conn: Connection<S>,
+    limit: u64,
+) -> Result<MirroredRegister<IndexedRegister, SqlRegister<S>>, (OpenFault, Connection<S>)>
+    requires limit { limit ≤ MOST_ENTRIES }
+    requires open { HasCleanDisk (state S.Store conn) → StandsOpen (state S.Store conn) }
+    ensures opened { IfOk result (IsOpened S.Store limit) }
+    ensures which { IfOk result (λ both. HasCleanDisk (state S.Store both.tables.connection) → Finds (state S.Store conn).committed (state S.Store both.tables.connection).committed (view_of_index both.memory).content) }
+    ensures later { IfOk result (λ both. IsLater (state S.Store conn) (state S.Store both.tables.connection)) }
+    ensures handed { IfErr result (λ e. IsLater (state S.Store conn) (state S.Store e.1)) }
+    ensures kept { IfErr result (λ e. HasCleanDisk (state S.Store e.1) → KeepsCommitted (state S.Store conn) (state S.Store e.1)) }
+{
+    match SqlRegister::new(conn, limit) {
+        Ok(tables) => Ok(MirroredRegister::new(IndexedRegister::new(alloc, limit), tables)),
+        Err((error, conn)) => Err((fault_of(&error), conn)),
+    }
+}
+
+/// Fills a register in memory from a database that has tables, and sees whether these are the ones of what it holds then.
+fn find<S: Alter + Drop>(
+    alloc: Global,
+    mut conn: Connection<S>,
+    limit: u64,
+) -> Result<MirroredRegister<IndexedRegister, SqlRegister<S>>, (OpenFault, Connection<S>)>
+    requires limit { limit ≤ MOST_ENTRIES }
+    requires open { HasCleanDisk (state S.Store conn) → StandsOpen (state S.Store conn) }
+    ensures opened { IfOk result (IsOpened S.Store limit) }
+    ensures which { IfOk result (λ both. HasCleanDisk (state S.Store both.tables.connection) → Finds (state S.Store conn).committed (state S.Store both.tables.connection).committed (view_of_index both.memory).content) }
+    ensures later { IfOk result (λ both. IsLater (state S.Store conn) (state S.Store both.tables.connection)) }
+    ensures handed { IfErr result (λ e. IsLater (state S.Store conn) (state S.Store e.1)) }
+    ensures kept { IfErr result (λ e. HasCleanDisk (state S.Store e.1) → KeepsCommitted (state S.Store conn) (state S.Store e.1)) }
+{
+    let mut memory = IndexedRegister::new(alloc, limit);
+    match audit(alloc, &mut conn, &mut memory) {
+        Ok(Audited::Whole) => Ok(MirroredRegister::new(memory, SqlRegister::over(conn, limit))),
+        Ok(Audited::OtherTables | Audited::OtherVersion) => {
+            let fault = refusal(&mut conn);
+            Err((fault, conn))
+        }
+        Ok(Audited::OtherEntry(_) | Audited::Differs(_)) => Err((OpenFault::NotOurFile, conn)),
+        Err(fault) => Err((fault_of_audit(&fault), conn)),
+    }
+}
+
+/// Takes a database over that was just opened. One with no table gets the desk's.
+pub fn take_over<S: Alter + Drop>(
+    alloc: Global,
+    conn: Connection<S>,
+    limit: u64,
+) -> Result<MirroredRegister<IndexedRegister, SqlRegister<S>>, (OpenFault, Connection<S>)>
+    requires limit { limit ≤ MOST_ENTRIES }
+    requires open { HasCleanDisk (state S.Store conn) → StandsOpen (state S.Store conn) }
+    ensures opened { IfOk result (IsOpened S.Store limit) }
+    ensures which { IfOk result (λ both. HasCleanDisk (state S.Store both.tables.connection) → Finds (state S.Store conn).committed (state S.Store both.tables.connection).committed (view_of_index both.memory).content) }
+    ensures later { IfOk result (λ both. IsLater (state S.Store conn) (state S.Store both.tables.connection)) }
+    ensures handed { IfErr result (λ e. IsLater (state S.Store conn) (state S.Store e.1)) }
+    ensures kept { IfErr result (λ e. HasCleanDisk (state S.Store e.1) → KeepsCommitted (state S.Store conn) (state S.Store e.1)) }
+{
+    if has_no_table(&conn) {
+        make(alloc, conn, limit)
+    } else {
+        find(alloc, conn, limit)
+    }
+}
