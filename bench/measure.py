@@ -468,6 +468,59 @@ def measure_store():
         measure_growing(f"{name} of a mixed day of", "request", "requests", timed_at, who)
 
 
+# Files of so many entries are opened; one is filled by scripts of so many hundreds of requests at most.
+OPENED = 1_000, 10_000, 100_000
+HUNDREDS = 400
+
+
+def entries_in(path):
+    with contextlib.closing(sqlite3.connect(path)) as connection:
+        [(count,)] = connection.execute("SELECT COUNT(*) FROM register")
+    return count
+
+
+def fill(path, entries):
+    """Plays a mixed day into a file until it has so many entries, or some more, and closes it."""
+    played_in_file_at(path, "".join(OPENING))
+    first, count = 0, 0
+    while count < entries:
+        # a hundred requests are some thirty entries and more
+        hundreds = max(1, min(HUNDREDS, (entries - count) // 33))
+        played_in_file_at(path, "".join(it for at in range(first, first + hundreds) for it in hundred_of(at)[0]))
+        first, count = first + hundreds, entries_in(path)
+    return count
+
+
+def played_in_file_at(path, script):
+    subprocess.run([BENCH, "play", path], input=script.encode(), stdout=subprocess.DEVNULL, check=True)
+    subprocess.run([BENCH, "open", path], stdout=subprocess.DEVNULL, check=True)
+
+
+def opened(word, path):
+    """The processor seconds that it takes to open a file, and the most memory that is in use, in kilobytes."""
+    child = subprocess.Popen([BENCH, word, path], stdout=subprocess.DEVNULL)
+    _, status, used = os.wait4(child.pid, 0)
+    child.returncode = os.waitstatus_to_exitcode(status)
+    if child.returncode != 0:
+        sys.exit(f"{word} {path} ended with status {child.returncode}")
+    return used.ru_utime + used.ru_stime, used.ru_maxrss
+
+
+def measure_open():
+    """Files of more and more entries, opened by the library alone, and compared with their entries besides."""
+    for entries in OPENED:
+        with new_path() as path:
+            count = fill(path, entries)
+            runs = {word: [opened(word, path) for _ in range(TURNS)] for word in ("schema", "open")}
+        (library, its_peak), (both, peak) = (map(min, zip(*runs[word])) for word in ("schema", "open"))
+        print(
+            f"open of {count:,} entries: the library alone {library / count * 1e6:.1f} us an entry, "
+            f"the audit beside it {(both - library) / count * 1e6:.1f}; "
+            f"at most {its_peak / 1024:.0f} MB in use, and {peak / 1024:.0f}",
+            flush=True,
+        )
+
+
 def least_timed(call):
     """The figure, and the least processor seconds of several turns, of fewer where they take long."""
     figure, least = timed(call)
@@ -564,7 +617,7 @@ def measure_http():
 
 
 def main(kinds):
-    for kind in kinds or [*KINDS, "block", "register", "play", "store", "http"]:
+    for kind in kinds or [*KINDS, "block", "register", "play", "store", "open", "http"]:
         if kind == "block":
             measure_blocks(BENCH)
         elif kind == "register":
@@ -573,6 +626,8 @@ def main(kinds):
             measure_play()
         elif kind == "store":
             measure_store()
+        elif kind == "open":
+            measure_open()
         elif kind == "http":
             measure_http()
         else:

@@ -132,6 +132,8 @@ def trials(room):
         yield told(f"refuse_disk: a program that takes back call {undoes} of two", ran, f"\n{ended}\n")
     yield fails("refuse_disk: no answer", tried("refuse_disk", silent, "script"), "1 requests are answered: status 0, b''")
     yield fails("refuse_disk: no script", tried("refuse_disk", silent), "there is no script to play\n")
+    yield fails("opened_days: a program that does nothing", tried("opened_days", silent, "1"), "the file of a day is not opened: (0, b'')")
+    yield fails("refuse_opening: a program that does nothing", tried("refuse_opening", silent, "script"), "a file is not opened: (0, b'')")
     yield fails("refuse_words: no growth", tried("refuse_words", silent, "case"), "no refusal led to this")
     yield fails("refuse_words: no case", tried("refuse_words", silent), "there is no case to run\n")
     yield fails("refuse_words: an unknown case", tried("refuse_words", silent, "none"), "there is no none.stdout\n")
