@@ -16,7 +16,7 @@ ghost use Rattle.audit_entries.specs.Taking.{BlamesTaking};
 ghost use Rattle.audit_desk.specs.Audited.{IsAudited, IsFilled};
 
 use crate::rest::{Table, first_other};
-use audit_entries::{Reading, has_version, read_register};
+use audit_entries::{Progress, Reading, has_version, read_register};
 use audit_rows::AuditFault;
 use desk_index::Messages;
 use desk_register::Stage;
@@ -42,10 +42,11 @@ pub enum Audited {
 
 /// Fills a register that holds nothing from the table `register`, and compares the tables beside it with what the register says
 /// then.
-fn fill<S: Alter, R: Messages>(
+fn fill<S: Alter, R: Messages, P: Progress>(
     alloc: Global,
     conn: &mut Connection<S>,
     register: &mut R,
+    progress: &mut P,
 ) -> Result<Audited, AuditFault>
     requires stage { (R.Register.view register.old).stage ≡ Stage.Idle }
     requires empty { IfTrusted (R.Register.view register.old) (R.Register.view register.old) (HoldsKept (R.Register.view register.old).room [] (R.Register.view register.old).content) }
@@ -59,7 +60,7 @@ fn fill<S: Alter, R: Messages>(
     ensures later { IsLater (R.Register.view register.old) (R.Register.view register.new) }
     ensures blame { R.Register.in_memory ≡ true → BlamesTaking (of_register result) (R.Register.view register.old) (R.Register.view register.new) }
 {
-    match read_register(alloc, conn, register)? {
+    match read_register(alloc, conn, register, progress)? {
         Reading::Whole => {}
         Reading::Stops(number) => return Ok(Audited::OtherEntry(number)),
     }
@@ -71,11 +72,12 @@ fn fill<S: Alter, R: Messages>(
 
 /// Audits a database whose rows stand in order, and fills a register that holds nothing from it. Where it is whole, it is that
 /// of an accepted history, and the register holds its content; that it holds some accepted history rests on no answer of the
-/// tables. Else, and after a fault, the register should be given up.
-pub fn audit<S: Alter, R: Messages>(
+/// tables. Else, and after a fault, the register should be given up. `progress` is told how many entries are taken in.
+pub fn audit<S: Alter, R: Messages, P: Progress>(
     alloc: Global,
     conn: &mut Connection<S>,
     register: &mut R,
+    progress: &mut P,
 ) -> Result<Audited, AuditFault>
     requires stage { (R.Register.view register.old).stage ≡ Stage.Idle }
     requires empty { IfTrusted (R.Register.view register.old) (R.Register.view register.old) (HoldsKept (R.Register.view register.old).room [] (R.Register.view register.old).content) }
@@ -96,5 +98,5 @@ pub fn audit<S: Alter, R: Messages>(
     if !has_version(conn)? {
         return Ok(Audited::OtherVersion);
     }
-    fill(alloc, conn, register)
+    fill(alloc, conn, register, progress)
 }

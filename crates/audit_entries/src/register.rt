@@ -13,6 +13,7 @@ ghost use Rattle.audit_rows.specs.ByNumber.{HasNoOther};
 ghost use Rattle.audit_entries.specs.Reading.{HoldsFormed, IsRead, TakesRow};
 ghost use Rattle.audit_entries.specs.Taking.{BlamesTaking};
 
+use crate::progress::Progress;
 use crate::rows::{Found, found_at, has_no_other};
 use crate::taking::take;
 use audit_rows::{AuditFault, MOST};
@@ -90,10 +91,11 @@ fn read_end<S: Alter>(conn: &mut Connection<S>, count: u64) -> Result<Reading, E
 /// Reads the table `register` from its first entry to its last and takes each into a register that holds nothing. Where it is
 /// whole, it is exactly the list that the register holds then. Else, and after a fault, the register should be given up: it
 /// holds the entries so far, and the last one that was read with the reply that it gets.
-pub fn read_register<S: Alter, R: Register>(
+pub fn read_register<S: Alter, R: Register, P: Progress>(
     alloc: Global,
     conn: &mut Connection<S>,
     register: &mut R,
+    progress: &mut P,
 ) -> Result<Reading, AuditFault>
     requires stage { (R.view register.old).stage ≡ Stage.Idle }
     requires empty { IfTrusted (R.view register.old) (R.view register.old) (HoldsKept (R.view register.old).room [] (R.view register.old).content) }
@@ -107,7 +109,7 @@ pub fn read_register<S: Alter, R: Register>(
 {
     for before in 0..MOST {
         match read_entry(alloc, conn, register, before + 1)? {
-            Step::Taken => {}
+            Step::Taken => progress.taken(before + 1),
             Step::Another => return Ok(Reading::Stops(before + 1)),
             Step::Nothing => {
                 let end = read_end(conn, before)?;

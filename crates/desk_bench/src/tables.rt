@@ -10,7 +10,7 @@ use crate::failure::Failure;
 use desk_book::Desk;
 use desk_index::IndexedRegister;
 use desk_mirror::MirroredRegister;
-use desk_opening::{adopt, adopt_tables, open_file, open_tables};
+use desk_opening::{Silent, adopt, adopt_tables, open_file, open_tables};
 use desk_register::Register;
 use desk_rules::MOST_ENTRIES;
 use sql_register::SqlRegister;
@@ -98,7 +98,7 @@ fn play_on_tables_in_memory(rt: &HostRuntime) -> Result<(), Failure> {
 }
 
 fn play_on_file(rt: &HostRuntime, path: &str) -> Result<(), Failure> {
-    match open_file(rt, path, Unknown, MOST_ENTRIES) {
+    match open_file(rt, path, Unknown, MOST_ENTRIES, &mut Silent) {
         Ok(both) => play_over_both(rt, both),
         Err(fault) => Err(Failure::from(fault)),
     }
@@ -136,7 +136,7 @@ fn told_of_both<S: Alter + Drop>(
 
 /// Opens the desk of a file for so many entries, prints its sums and how many it has, and closes the file.
 pub fn tell(rt: &HostRuntime, path: &str, limit: u64) -> Result<bool, Failure> {
-    match open_file(rt, path, Unknown, limit.min(MOST_ENTRIES)) {
+    match open_file(rt, path, Unknown, limit.min(MOST_ENTRIES), &mut Silent) {
         Ok(both) => {
             told_of_both(rt, both)?.close()?;
             Ok(true)

@@ -68,6 +68,13 @@ impl<R: Register> Desk<R> {
         self.register
     }
 
+    /// Whether the desk answers nothing any more.
+    pub fn is_closed(&self) -> bool
+        ensures { result ≡ self.now.is_closed }
+    {
+        self.is_closed
+    }
+
     /// Answers a request. After `Memory` and `Storage` all is as before; after `Closed` the desk answers nothing
     /// any more.
     pub fn ask(&mut self, alloc: Global, request: &Request<'_>) -> Result<Reply, Fault>

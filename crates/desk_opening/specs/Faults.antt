@@ -7,11 +7,12 @@ use Rattle.desk_register.specs.declared.register.Fault.{Fault}
 use Rattle.desk_register.specs.declared.register.Fault.TheVariants as register
 use Rattle.audit_rows.specs.declared.fault.AuditFault.{AuditFault}
 use Rattle.audit_rows.specs.declared.fault.AuditFault.TheVariants.{Register, Tables}
+use Rattle.desk_opening.specs.declared.fault.Difference.TheVariants.{NoDatabase}
 use Rattle.desk_opening.specs.declared.fault.OpenFault.{OpenFault}
 use Rattle.desk_opening.specs.declared.fault.OpenFault.TheVariants.{NotOurFile, OtherVersion, Memory, Storage}
 
 abbrev pub number_of_fault : OpenFault → ℕ
-number_of_fault NotOurFile = 50
+number_of_fault (NotOurFile difference) = 50
 number_of_fault OtherVersion = 51
 number_of_fault Memory = 60
 number_of_fault Storage = 61
@@ -20,12 +21,12 @@ number_of_fault Storage = 61
 abbrev pub fault_for : Error → OpenFault
 fault_for (SqliteFailure OutOfMemory) = Memory
 fault_for (SqliteFailure TooBig) = Memory
-fault_for (SqliteFailure NotADatabase) = NotOurFile
+fault_for (SqliteFailure NotADatabase) = NotOurFile NoDatabase
 fault_for error = Storage
 
 -- files that are refused though the device gave back what it took are not ours either
 abbrev pub unharmed_fault_for : Error → OpenFault
-unharmed_fault_for (SqliteFailure DatabaseCorrupt) = NotOurFile
+unharmed_fault_for (SqliteFailure DatabaseCorrupt) = NotOurFile NoDatabase
 unharmed_fault_for error = fault_for error
 
 -- which it is depends on whether the device was caught giving other bytes than it took

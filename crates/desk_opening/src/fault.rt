@@ -2,16 +2,30 @@
 ghost use Rattle.std.specs.Prelude.{◌≡◌};
 ghost use Rattle.desk_opening.specs.Faults.{audit_fault_for, fault_for, files_fault_for, number_of_fault};
 
+use audit_desk::Table;
 use audit_rows::AuditFault;
 use desk_register::Fault;
 use sqlite::{Error, ErrorCode};
 
+/// In what a database differs from those of the desk. Of several differences one is told.
+#[derive(Clone, Copy, Debug, PartialEq, Eq)]
+pub enum Difference {
+    /// It is no database, or a damaged one.
+    NoDatabase,
+    /// It has other tables, or others beside.
+    OtherTables,
+    /// The row of this number in `register` is not that of an entry which is accepted behind those before it, with its reply, or
+    /// is one more than the limit; or it lacks, and there are rows of other numbers.
+    Entry(u64),
+    /// This table says something else than the entries come to.
+    Table(Table),
+}
+
 /// Why a database is not opened.
 #[derive(Clone, Copy, Debug, PartialEq, Eq)]
 pub enum OpenFault {
-    /// It is none of the desk's: no database, or one with other tables or others beside, or tables that are not those of an
-    /// accepted history, or of one that has more entries than the limit (50).
-    NotOurFile,
+    /// It is none of the desk's, since it differs so (50).
+    NotOurFile(Difference),
     /// Its tables are of another version (51).
     OtherVersion,
     /// Memory is wanting (60).
@@ -26,7 +40,7 @@ impl OpenFault {
         ensures { result ≡ number_of_fault self }
     {
         match self {
-            OpenFault::NotOurFile => 50,
+            OpenFault::NotOurFile(_) => 50,
             OpenFault::OtherVersion => 51,
             OpenFault::Memory => 60,
             OpenFault::Storage => 61,
@@ -41,7 +55,9 @@ pub fn fault_of(error: &Error) -> OpenFault
     match error {
         Error::SqliteFailure(ErrorCode::OutOfMemory) => OpenFault::Memory,
         Error::SqliteFailure(ErrorCode::TooBig) => OpenFault::Memory,
-        Error::SqliteFailure(ErrorCode::NotADatabase) => OpenFault::NotOurFile,
+        Error::SqliteFailure(ErrorCode::NotADatabase) => {
+            OpenFault::NotOurFile(Difference::NoDatabase)
+        }
         _ => OpenFault::Storage,
     }
 }
@@ -55,7 +71,9 @@ pub fn fault_of_files(error: &Error, is_caught: bool) -> OpenFault
         return fault_of(error);
     }
     match error {
-        Error::SqliteFailure(ErrorCode::DatabaseCorrupt) => OpenFault::NotOurFile,
+        Error::SqliteFailure(ErrorCode::DatabaseCorrupt) => {
+            OpenFault::NotOurFile(Difference::NoDatabase)
+        }
         _ => fault_of(error),
     }
 }

@@ -14,6 +14,8 @@ mod tables;
 mod taking;
 mod version;
 
-pub use fault::OpenFault;
+pub use audit_desk::Table;
+pub use audit_entries::{Progress, Silent};
+pub use fault::{Difference, OpenFault};
 pub use opening::{adopt, open_file};
 pub use tables::{adopt_tables, open_tables};

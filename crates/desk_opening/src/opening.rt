@@ -12,6 +12,7 @@ ghost use Rattle.desk_opening.specs.Opened.{Finds, FindsIn, IsHandedBack, IsOpen
 use crate::fault::{OpenFault, fault_of, fault_of_files};
 use crate::reopening::{give_up, reopen};
 use crate::taking::take_over;
+use audit_entries::{Progress, Silent};
 use desk_index::IndexedRegister;
 use desk_mirror::MirroredRegister;
 use sql_opening::open_in_order;
@@ -40,7 +41,7 @@ pub fn adopt<S: Alter + Drop>(
         Ok(conn) => conn,
         Err((error, store)) => return Err((fault_of(&error), store)),
     };
-    match take_over(alloc, conn, limit) {
+    match take_over(alloc, conn, limit, &mut Silent) {
         Ok(both) => Ok(both),
         Err((fault, conn)) => Err((fault, give_up(conn))),
     }
@@ -56,15 +57,16 @@ fn is_caught<S: Start>(left: Option<Leftover<FileFrom<S>>>) -> bool {
 
 /// Opens the file of a path for at most `limit` entries, which are `MOST_ENTRIES` at most; where there is none, it is made. What
 /// it does with a database is what `adopt` does, without reading it twice. What the files hold after a fault no clause says: the
-/// tests show that it is what they held.
+/// tests show that it is what they held. `progress` is told how many entries are taken in.
 ///
 /// `start` stands for what the files hold, by which `which` tells what was opened; of `Unknown` nothing is known beforehand, so that
 /// it tells nothing. No clause ties them to the path.
-pub fn open_file<S: Start>(
+pub fn open_file<S: Start, P: Progress>(
     rt: &HostRuntime,
     path: &str,
     start: S,
     limit: u64,
+    progress: &mut P,
 ) -> Result<MirroredRegister<IndexedRegister, SqlRegister<FileStore<FileFrom<S>>>>, OpenFault>
     requires { limit ≤ MOST_ENTRIES }
     ensures opened { IfOk result (IsOpened over_files limit) }
@@ -74,7 +76,7 @@ pub fn open_file<S: Start>(
         Ok(conn) => conn,
         Err((error, left)) => return Err(fault_of_files(&error, is_caught(left))),
     };
-    match take_over(rt.alloc(), conn, limit) {
+    match take_over(rt.alloc(), conn, limit, progress) {
         Ok(both) => Ok(both),
         Err((fault, _)) => Err(fault),
     }

@@ -12,6 +12,7 @@ ghost use Rattle.desk_opening.specs.Opened.{Finds, FindsIn, IsHandedBack, IsRead
 
 use crate::fault::OpenFault;
 use crate::opening::{adopt, open_file};
+use audit_entries::Silent;
 use desk_index::IndexedRegister;
 use desk_mirror::MirroredRegister;
 use sql_register::SqlRegister;
@@ -58,7 +59,7 @@ pub fn open_tables<S: Start>(
     ensures keep { IfOk result (λ r. HasCleanDisk (file_state r.connection) → KeepAudited (file_state r.connection) limit (content_in (file_state r.connection).now)) }
     ensures which { IfOk result (λ r. HasCleanDisk (file_state r.connection) → FindsIn (image_at S.Start) (file_state r.connection).committed (content_in (file_state r.connection).now)) }
 {
-    match open_file(rt, path, start, limit) {
+    match open_file(rt, path, start, limit, &mut Silent) {
         Ok(both) => Ok(tables_of(both)),
         Err(fault) => Err(fault),
     }

@@ -9,9 +9,10 @@ ghost use Rattle.sql_tables.specs.Making.{KeepsCommitted};
 ghost use Rattle.desk_opening.specs.Opened.{Finds, IsOpened, StandsOpen};
 ghost use Rattle.desk_opening.specs.Spared.{Spares};
 
-use crate::fault::{OpenFault, fault_of, fault_of_audit};
+use crate::fault::{Difference, OpenFault, fault_of, fault_of_audit};
 use crate::version::says_other_version;
 use audit_desk::{Audited, audit};
+use audit_entries::Progress;
 use desk_index::IndexedRegister;
 use desk_mirror::MirroredRegister;
 use sql_register::{SqlRegister, has_no_table};
@@ -24,7 +25,7 @@ fn refusal<S: Alter>(conn: &mut Connection<S>) -> OpenFault
 {
     match says_other_version(conn) {
         Ok(true) => OpenFault::OtherVersion,
-        Ok(false) => OpenFault::NotOurFile,
+        Ok(false) => OpenFault::NotOurFile(Difference::OtherTables),
         Err(error) => fault_of(&error),
     }
 }
@@ -50,10 +51,11 @@ fn make<S: Alter + Drop>(
 }
 
 /// Fills a register in memory from a database that has tables, and sees whether these are the ones of what it holds then.
-fn find<S: Alter + Drop>(
+fn find<S: Alter + Drop, P: Progress>(
     alloc: Global,
     mut conn: Connection<S>,
     limit: u64,
+    progress: &mut P,
 ) -> Result<MirroredRegister<IndexedRegister, SqlRegister<S>>, (OpenFault, Connection<S>)>
     requires limit { limit ≤ MOST_ENTRIES }
     requires open { HasCleanDisk (state S.Store conn) → StandsOpen (state S.Store conn) }
@@ -64,22 +66,28 @@ fn find<S: Alter + Drop>(
     ensures kept { IfErr result (λ e. HasCleanDisk (state S.Store e.1) → KeepsCommitted (state S.Store conn) (state S.Store e.1)) }
 {
     let mut memory = IndexedRegister::new(alloc, limit);
-    match audit(alloc, &mut conn, &mut memory) {
+    match audit(alloc, &mut conn, &mut memory, progress) {
         Ok(Audited::Whole) => Ok(MirroredRegister::new(memory, SqlRegister::over(conn, limit))),
         Ok(Audited::OtherTables | Audited::OtherVersion) => {
             let fault = refusal(&mut conn);
             Err((fault, conn))
         }
-        Ok(Audited::OtherEntry(_) | Audited::Differs(_)) => Err((OpenFault::NotOurFile, conn)),
+        Ok(Audited::OtherEntry(number)) => {
+            Err((OpenFault::NotOurFile(Difference::Entry(number)), conn))
+        }
+        Ok(Audited::Differs(table)) => {
+            Err((OpenFault::NotOurFile(Difference::Table(table)), conn))
+        }
         Err(fault) => Err((fault_of_audit(&fault), conn)),
     }
 }
 
 /// Takes a database over that was just opened. One with no table gets the desk's.
-pub fn take_over<S: Alter + Drop>(
+pub fn take_over<S: Alter + Drop, P: Progress>(
     alloc: Global,
     conn: Connection<S>,
     limit: u64,
+    progress: &mut P,
 ) -> Result<MirroredRegister<IndexedRegister, SqlRegister<S>>, (OpenFault, Connection<S>)>
     requires limit { limit ≤ MOST_ENTRIES }
     requires open { HasCleanDisk (state S.Store conn) → StandsOpen (state S.Store conn) }
@@ -92,6 +100,6 @@ pub fn take_over<S: Alter + Drop>(
     if has_no_table(&conn) {
         make(alloc, conn, limit)
     } else {
-        find(alloc, conn, limit)
+        find(alloc, conn, limit, progress)
     }
 }
