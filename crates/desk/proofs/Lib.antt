@@ -1,6 +1,7 @@
 pub mod ReadLemmas
 mod PlayLemmas
 mod WordsLemmas
+mod ReportLemmas
 mod RunLemmas
 mod FindingLemmas
 mod CheckLemmas

@@ -1,12 +1,14 @@
 -- A script on a new desk in memory.
-use Rattle.std.proofs.Common.{◌≡◌, ◌<◌, ◌≤◌, ℕ, Bool, false, List, [], ◌∷◌, length, All, Option, IfSome, cond, count_by, refl, sym, ◌∙◌, subst, arith}
+use Rattle.std.proofs.Common.{inl, inr, ◌≡◌, ◌<◌, ◌≤◌, ℕ, Bool, false, List, [], ◌∷◌, length, All, Option, IfSome, cond, count_by, refl, sym, ◌∙◌, subst, arith}
 use Rattle.std.proofs.lemmas.List.Elements.{All-cons, All-head, All-nil, All-tail}
 use Rattle.std.proofs.lemmas.List.Sums.{sum_by-cons}
-use Rattle.std.specs.Prelude.{Result, Ok, Err, IfOk}
+use Rattle.std.proofs.KnownBytes.{Appends-trans}
+use Rattle.std.specs.Prelude.{◌++◌, Result, Ok, Err, IfOk, IsOkAnd, OnOk, codes, true}
 use Rattle.std.specs.Io.KnownBytes.{Appends}
 use Rattle.desk_book.specs.declared.limits.TheConstants.{LONGEST_SCRIPT}
 use Rattle.desk_rules.specs.declared.answers.reply.Reply.{Reply}
 use Rattle.desk_rules.specs.Books.{Books}
+use Rattle.desk_rules.specs.Content.{Content}
 use Rattle.desk_index.specs.declared.indexed_register.IndexedRegister.{IndexedRegister}
 use Rattle.desk_engine.specs.Applied.{no_books}
 use Rattle.desk_index.specs.IndexView.{view_of_index}
@@ -17,15 +19,22 @@ use Rattle.desk_register.specs.View.{View}
 use Rattle.desk_book.proofs.FormedLemmas.{empty_formed}
 use Rattle.desk_book.proofs.RunLemmas.{open_all_along}
 use Rattle.desk_book.specs.declared.fault.Fault.{Fault}
-use Rattle.desk_book.specs.declared.fault.Fault.TheVariants.{Memory, Storage, Closed}
+use Rattle.desk_book.specs.declared.fault.Fault.TheVariants as faults
 use Rattle.desk_book.specs.Answered.{AnsweredInTurn, says_closed, says_storage}
 use Rattle.desk_book.specs.Headline.{Headline}
 use Rattle.desk_book.specs.Held.{Holds, KeepsFormed}
 use Rattle.desk_book.specs.Played.{PlaysScript, answers_text, asked_in}
 use Rattle.desk_book.specs.declared.fault.InputFault.{InputFault}
+use Rattle.desk_book.specs.declared.fault.InputFault.TheVariants.{Memory, ReadFailed, TooLong}
+use Rattle.desk_book.specs.declared.fault.PlayFault.{PlayFault}
+use Rattle.desk_book.specs.declared.fault.PlayFault.TheVariants as plays
 use Rattle.desk.specs.Input.{MayGiveNone, failure_of}
-use Rattle.desk.specs.PlayAnswer.{IsReplyOrMemory, IsPlayAnswer, IsPlayed, told_answers, told_no_script}
-use Rattle.desk.specs.Status.{IsFailureTold}
+use Rattle.desk.specs.PlayAnswer.{IsReplyOrMemory, IsPlayAnswer, IsPlayAnswerFrom, IsPlayed, IsPlayedFrom, IsPlayTold, AreKept, IsFilePlayAnswer, told_answers, told_answers_from, told_from, told_no_script_from, told_unclosed, told_unopened}
+use Rattle.desk_opening.specs.Opened.{IsReadyFor}
+use Rattle.desk.specs.Status.{EndsAs, IsFailureTold, IsOpeningFailure, failure_line}
+use Rattle.desk.specs.declared.status.Failure.{Failure}
+use Rattle.desk.specs.declared.status.Failure.TheVariants as failure
+use Rattle.desk.specs.declared.status.Failure.TheVariants.{Storage}
 use Rattle.desk.specs.declared.status.Status.{Status}
 use Rattle.desk.specs.declared.status.Status.TheVariants as exit
 
@@ -34,9 +43,9 @@ counted answer = cond (says_storage answer) 1 0
 
 is_in_memory : (answer : Result Reply Fault) → says_closed answer ≡ false → counted answer ≡ 0 → IsReplyOrMemory answer
 is_in_memory (Ok reply) not_closed sound = tt
-is_in_memory (Err Memory) not_closed sound = refl
-is_in_memory (Err Storage) not_closed sound = absurd (omega (arith, sound))
-is_in_memory (Err Closed) not_closed sound = cc
+is_in_memory (Err faults.Memory) not_closed sound = refl
+is_in_memory (Err faults.Storage) not_closed sound = absurd (omega (arith, sound))
+is_in_memory (Err faults.Closed) not_closed sound = cc
 
 -- no fault of a device, and not closed: so want of memory
 only_memory : (answers : List (Result Reply Fault)) → All (λ answer. says_closed answer ≡ false) answers → count_by says_storage answers ≡ 0 → All IsReplyOrMemory answers
@@ -76,11 +85,58 @@ told r U reads before after was is v0 v1 most room not_closed stays sound few ho
     } in
     told_answers p.0 (answers_text s.items s.answers) p.1 is_played refl s.written
 
--- why none was played, told alone
-pub told_why : {E : Type 0} (r : Result Status E) (given : Option (List ℕ)) (U : Type 0) (reads : Bool) (P : List ℕ → Type 0) (fault : InputFault) → MayGiveNone LONGEST_SCRIPT given U reads fault
-    → IfOk r (λ status. IsFailureTold (failure_of fault) status P) → IfOk r (λ status. IsPlayAnswer given U reads status P)
-told_why (Ok status) given U reads P fault may told = told_no_script fault may told
-told_why (Err e) given U reads P fault may told = told
+-- What is told of a script that was played, or was not, by a writer that held this before, once it was played, and at the end.
+module _ {X : Type 0} (contents : X → Option (List ℕ)) (w0 w1 w2 : X) (given : Option (List ℕ)) (U : Type 0) (reads : Bool) (A : Status → Type 0) where
+  -- why it was not is told in this answer
+  abbrev pub MayTellWhy : Type 0
+  MayTellWhy = (status : Status) (fault : InputFault) → MayGiveNone LONGEST_SCRIPT given U reads fault → IsFailureTold (failure_of fault) status (Appends (contents w0) (contents w2)) → A status
+
+  untold : (status : Status) (failure : Failure) → w1 ≡ w0 → IsFailureTold failure status (Appends (contents w1) (contents w2)) → IsFailureTold failure status (Appends (contents w0) (contents w2))
+  untold status failure unwritten told = subst (λ w. IsFailureTold failure status (Appends (contents w) (contents w2))) unwritten told
+
+  told_status : (played : Result (Unit {0}) PlayFault) (status : Status) → MayTellWhy → OnOk played (w2 ≡ w1 → A exit.Done)
+      → (played ≡ Err plays.ReadFailed → (w1 ≡ w0) × (reads ≡ true)) → (played ≡ Err plays.TooLong → (w1 ≡ w0) × IfSome given (λ input. LONGEST_SCRIPT < length input))
+      → (played ≡ Err plays.Memory → (w1 ≡ w0) × U) → IsPlayTold played status (w2 ≡ w1) (Appends (contents w1) (contents w2)) → A status
+  told_status (Ok done) status why ok unread long memory told = subst A (sym told.0) (ok told.1)
+  told_status (Err plays.Memory) status why ok unread long memory told = let m = memory refl in why status Memory m.1 (untold status failure.Memory m.0 told)
+  told_status (Err plays.ReadFailed) status why ok unread long memory told = let m = unread refl in why status ReadFailed m.1 (untold status failure.Input m.0 told)
+  told_status (Err plays.TooLong) status why ok unread long memory told = let m = long refl in why status TooLong m.1 (untold status failure.Input m.0 told)
+  told_status (Err plays.WriteFailed) status why ok unread long memory told = absurd told
+
+  pub told_played : {E : Type 0} (result : Result Status E) (played : Result (Unit {0}) PlayFault) → MayTellWhy → OnOk played (w2 ≡ w1 → A exit.Done)
+      → (played ≡ Err plays.ReadFailed → (w1 ≡ w0) × (reads ≡ true)) → (played ≡ Err plays.TooLong → (w1 ≡ w0) × IfSome given (λ input. LONGEST_SCRIPT < length input))
+      → (played ≡ Err plays.Memory → (w1 ≡ w0) × U) → IfOk result (λ status. IsPlayTold played status (w2 ≡ w1) (Appends (contents w1) (contents w2))) → IfOk result A
+  told_played (Ok status) played why ok unread long memory told = told_status played status why ok unread long memory told
+  told_played (Err e) played why ok unread long memory told = tt
+
+-- once more where something follows only for a script that was played
+pub where_played : {X : Type 0} (contents : X → Option (List ℕ)) (before w1 w2 : X) (P : Option (List ℕ) → Type 0) → w2 ≡ w1 → P (contents w1) → P (contents w2)
+where_played contents before w1 w2 P same = subst (λ w. P (contents w)) (sym same)
+
+pub ok_then : {A B : Type 0} (played : Result (Unit {0}) PlayFault) → OnOk played A → (A → B) → OnOk played B
+ok_then (Ok done) a then = then a
+ok_then (Err fault) a then = tt
+
+-- from these books
+pub told_from_books : (limit : ℕ) (books : Books) (given : Option (List ℕ)) (U : Type 0) (reads : Bool) (before after : Option (List ℕ)) (was is : Bool) (v0 v1 : View) → v0.room ≡ limit → v1.room ≡ v0.room → was ≡ false
+    → (script : List ℕ) × IfSome given (λ input. input ≡ script) × (length script ≤ LONGEST_SCRIPT) × PlaysScript was books script before after is v0 v1 → IsPlayAnswerFrom limit books given U reads exit.Done (Appends before after)
+told_from_books limit books given U reads before after was is v0 v1 most room not_closed p =
+    let s = p.3 in
+    let P : ℕ → Type 0 = λ k. AnsweredInTurn k was books (asked_in s.items) s.answers is s.played.last in
+    let Q : Bool → Type 0 = λ b. AnsweredInTurn limit b books (asked_in s.items) s.answers is s.played.last in
+    let H : ℕ → Type 0 = λ k. Headline k s.played.last v1.content in
+    let is_played : IsPlayedFrom limit books p.0 (answers_text s.items s.answers) = record {
+      items = s.items;
+      answers = s.answers;
+      is_closed = is;
+      last = s.played.last;
+      short = p.2;
+      spells = s.spells;
+      in_turn = subst Q not_closed (subst P most s.played.in_turn);
+      promise = λ stays. (v1.content, subst H (room ∙ most) (s.played.promise stays));
+      written = refl;
+    } in
+    told_answers_from p.0 (answers_text s.items s.answers) p.1 is_played refl s.written
 
 -- a new register keeps the tables of no history, and so does what is equal to it
 pub new_keeps : (made held : IndexedRegister) → held ≡ made → (view_of_index made).content ≡ empty_content → KeepsFormed (view_of_index held).room no_books (view_of_index held).content
@@ -90,3 +146,36 @@ new_keeps made held same empty =
 
 pub limit_is : (made held : IndexedRegister) → held ≡ made → (view_of_index made).room ≡ MOST_ENTRIES → (view_of_index held).room ≡ MOST_ENTRIES
 limit_is made held same limit = let P : IndexedRegister → Type 0 = λ r. (view_of_index r).room ≡ MOST_ENTRIES in subst P (sym same) limit
+
+-- of a register with room for as many entries as a desk may have
+pub from_most : {E : Type 0} (r : Result Status E) (room : ℕ) (books : Books) (content : Content) (given : Option (List ℕ)) (U : Type 0) (reads : Bool) (P : List ℕ → Type 0) → room ≡ MOST_ENTRIES → KeepsFormed MOST_ENTRIES books content
+    → ((false ≡ false → KeepsFormed room books content) → IfOk r (λ status. IsPlayAnswerFrom room books given U reads status P)) → IfOk r (λ status. IsPlayAnswerFrom MOST_ENTRIES books given U reads status P)
+from_most r room books content given U reads P most keeps told =
+    let Q : ℕ → Type 0 = λ k. IfOk r (λ status. IsPlayAnswerFrom k books given U reads status P) in
+    subst Q most (told (λ is. subst (λ k. KeepsFormed k books content) (sym most) keeps))
+
+-- how a run over a file ended, from books that the file held
+pub ended_played : {E : Type 0} (told result : Result Status E) (books : Books) (given : Option (List ℕ)) (U : Type 0) (reads : Bool) {X : Type 0} (contents : X → Option (List ℕ)) (w0 w1 w2 : X) → AreKept books
+    → IfOk told (λ status. IsPlayAnswerFrom MOST_ENTRIES books given U reads status (Appends (contents w0) (contents w1)))
+    → IfOk result (λ status. IsOkAnd told (λ said. EndsAs said status (w2 ≡ w1) (Appends (contents w1) (contents w2))))
+    → IfOk result (λ status. IsFilePlayAnswer given U reads status (Appends (contents w0) (contents w2)))
+ended_played told (Err e) books given U reads contents w0 w1 w2 kept is ends = tt
+ended_played (Err e) (Ok status) books given U reads contents w0 w1 w2 kept is ends = absurd ends
+ended_played (Ok said) (Ok status) books given U reads contents w0 w1 w2 kept is (inl same) =
+    let P : Status → Type 0 = λ s. IsFilePlayAnswer given U reads s (Appends (contents w0) (contents w2)) in
+    subst P (sym same.0) (told_from books kept (subst (λ w. IsPlayAnswerFrom MOST_ENTRIES books given U reads said (Appends (contents w0) (contents w))) (sym same.1) is))
+ended_played (Ok said) (Ok status) books given U reads contents w0 w1 w2 kept (told_answers_from script text came played done written) (inr unclosed) =
+    told_unclosed books kept script text came played unclosed.1.0 (Appends-trans (contents w0) (contents w1) (contents w2) text (failure_line Storage ++ codes "\n") written unclosed.1.1)
+ended_played (Ok said) (Ok status) books given U reads contents w0 w1 w2 kept (told_no_script_from fault may failure) (inr unclosed) = absurd (unclosed.0 failure.0)
+
+-- the file was not opened
+pub told_unopened_so : {E : Type 0} (r : Result Status E) (failure : Failure) (given : Option (List ℕ)) (U : Type 0) (reads : Bool) (P : List ℕ → Type 0) → IsOpeningFailure failure → U → IfOk r (λ status. IsFailureTold failure status P)
+    → IfOk r (λ status. IsFilePlayAnswer given U reads status P)
+told_unopened_so (Ok status) failure given U reads P is unread told = told_unopened failure is unread told
+told_unopened_so (Err e) failure given U reads P is unread told = tt
+
+-- the books that a register keeps which is ready
+pub kept_books : (view : View) → IsReadyFor MOST_ENTRIES view → view.is_honest → (books : Books) × KeepsFormed MOST_ENTRIES books view.content
+kept_books view ready honest =
+    let found = ready.desk.books refl honest in
+    (found.0, subst (λ k. KeepsFormed k found.0 view.content) ready.room found.1)

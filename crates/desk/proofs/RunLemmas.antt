@@ -4,17 +4,10 @@ use Rattle.std.specs.Prelude.{IfOk, OnErr}
 use Rattle.std.specs.Result.{result_unwrap_or}
 use Rattle.clap.specs.declared.error.kind.ErrorKind.{ErrorKind}
 use Rattle.clap.specs.declared.error.kind.ErrorKind.TheVariants.{OutOfMemory}
-use Rattle.desk_msg.specs.declared.mt.Mt.{Mt}
 use Rattle.desk.specs.CallAnswer.{IsAnswer, IsCallAnswer, IsMemoryTold, told_call, told_error, told_memory}
-use Rattle.desk.specs.CheckAnswer.{IsCheckAnswer}
-use Rattle.desk.specs.ExplainAnswer.{IsExplainAnswer}
-use Rattle.desk.specs.PlayAnswer.{IsPlayAnswer}
-use Rattle.desk.specs.ReadAnswer.{IsReadAnswer}
 use Rattle.desk.specs.Status.{IsFailureTold, status_of_error}
-use Rattle.desk.specs.Words.{CallValue, explain, IsErrorIn, IsSaidBy, value_of_call}
+use Rattle.desk.specs.Words.{CallValue, IsErrorIn, IsSaidBy, value_of_call}
 use Rattle.desk.specs.declared.words.calls.Call.{Call}
-use Rattle.desk.specs.declared.words.calls.Call.TheVariants as call
-use Rattle.desk.specs.declared.words.calls.Topic.{Topic}
 use Rattle.desk.specs.declared.status.Failure.TheVariants as failure
 use Rattle.desk.specs.declared.status.Status.{Status}
 use Rattle.desk.specs.declared.status.Status.TheVariants as exit
@@ -35,22 +28,16 @@ module _ {E : Type 0} (r : Result Status E) (given : Option (List ℕ)) (U : Typ
   abbrev pub IsTold : Call → Type 0
   IsTold asked = IfOk r (λ status. IsCallAnswer (value_of_call asked) given U reads status P)
 
-  -- each call is answered as its own function says
-  pub read_told : (asked : Call) (mt other : Mt) → asked ≡ call.Read mt → other ≡ mt → IfOk r (λ status. IsReadAnswer other given U reads status P) → IsTold asked
-  read_told asked mt other is same told =
-      let Q : Mt → Type 0 = λ m. IfOk r (λ status. IsReadAnswer m given U reads status P) in
-      subst IsTold (sym is) (subst Q same told)
+  -- a call is answered as it says
+  pub told_by : {D : Type 0} (made : D → Call) (asked : Call) (given_to said : D) → asked ≡ made said → given_to ≡ said → IsTold (made given_to) → IsTold asked
+  told_by made asked given_to said is same told = subst IsTold (sym is) (subst (λ d. IsTold (made d)) same told)
 
-  pub play_told : (asked : Call) → asked ≡ call.Play → IfOk r (λ status. IsPlayAnswer given U reads status P) → IsTold asked
-  play_told asked is told = subst IsTold (sym is) told
+  pub told_of : (asked other : Call) → asked ≡ other → IsTold other → IsTold asked
+  told_of asked other is told = subst IsTold (sym is) told
 
-  pub check_told : (asked : Call) → asked ≡ call.Check → IfOk r (λ status. IsCheckAnswer given U reads status P) → IsTold asked
-  check_told asked is told = subst IsTold (sym is) told
-
-  pub explain_told : (asked : Call) (topic other : Topic) → asked ≡ call.Explain topic → other ≡ topic → U → IfOk r (λ status. IsExplainAnswer other status P) → IsTold asked
-  explain_told asked topic other is same unread told =
-      let Q : Topic → Type 0 = λ t. IfOk r (λ status. IsExplainAnswer t status P) in
-      subst IsTold (sym is) (so r (λ status. IsExplainAnswer topic status P) (λ status. IsCallAnswer (explain topic) given U reads status P) (subst Q same told) (λ status t. (unread, t)))
+  -- and where nothing was read
+  pub told_unread : (asked : CallValue) (A : Status → Type 0) → U → IfOk r A → ((status : Status) → U → A status → IsCallAnswer asked given U reads status P) → IfOk r (λ status. IsCallAnswer asked given U reads status P)
+  told_unread asked A unread told so_told = so r A (λ status. IsCallAnswer asked given U reads status P) told (λ status t. so_told status unread t)
 
   -- a call, answered
   pub answered : (asked : CallValue) → IfOk r (λ status. IsCallAnswer asked given U reads status P) → IfOk r (λ status. IsMemoryTold U status P ⊎ IsCallAnswer asked given U reads status P)

@@ -1,9 +1,11 @@
 -- What connections leave of a desk.
-use Rattle.std.proofs.Common.{◌≡◌, ◌⊎◌, ℕ, Bool, List, [], ◌∷◌, ◌++◌, Option, None, inl, inr, refl, sym, subst}
-use Rattle.std.specs.Prelude.{Result, Ok, Err, OnOk}
+use Rattle.std.proofs.Common.{◌≡◌, ◌⊎◌, ◌∙◌, ℕ, Bool, List, [], ◌∷◌, ◌++◌, Option, None, inl, inr, refl, sym, subst, arith}
+use Rattle.std.proofs.KnownBytes.{Appends-trans}
+use Rattle.std.specs.Io.KnownBytes.{Appends}
+use Rattle.std.specs.Prelude.{Result, Ok, Err, IfOk, IsOkAnd, OnOk, codes}
 use Rattle.desk_rules.specs.declared.answers.reply.Reply.{Reply}
 use Rattle.desk_rules.specs.Books.{Books}
-use Rattle.desk_register.specs.View.{View}
+use Rattle.desk_register.specs.View.{View, IsLater}
 use Rattle.desk_book.specs.declared.fault.Fault.{Fault}
 use Rattle.desk_book.specs.Answered.{AnsweredInTurn, says_closed}
 use Rattle.desk_book.specs.Asked.{Asked}
@@ -12,7 +14,12 @@ use Rattle.desk_book.proofs.HeadlineLemmas.{promised}
 use Rattle.desk_http.specs.Served.{Responds, Serves, asked_of_desk}
 use Rattle.desk_http.specs.declared.refusal.HttpFault.{HttpFault}
 use Rattle.desk_http.specs.declared.refusal.HttpFault.TheVariants.{Memory, ReadFailed, WriteFailed}
-use Rattle.desk.specs.ServeAnswer.{HoldsOn, Leaves}
+use Rattle.desk.specs.ServeAnswer.{HoldsOn, IsFileServeAnswer, IsServeAnswer, Leaves, listening_line, told_served, told_unclosed, told_unopened}
+use Rattle.desk.specs.Status.{EndsAs, IsFailureTold, IsOpeningFailure, failure_line}
+use Rattle.desk.specs.declared.status.Failure.{Failure}
+use Rattle.desk.specs.declared.status.Failure.TheVariants.{Storage}
+use Rattle.desk.specs.declared.status.Status.{Status}
+use Rattle.desk.specs.declared.status.Status.TheVariants as exit
 
 -- requests, and some behind them
 in_turn_on : (limit : ℕ) (was : Bool) (books : Books) (first : List Asked) (answers : List (Result Reply Fault)) (mid : Bool) (next : Books) (more : List Asked) (others : List (Result Reply Fault)) (is : Bool) (last : Books)
@@ -73,3 +80,41 @@ module _ {D : Type 0} (is_closed : D → Bool) (view : D → View) where
       go (Err ReadFailed) responds unread memory stands = inl (unread refl)
       go (Err Memory) responds unread memory stands = inl (memory refl)
       go (Err WriteFailed) responds unread memory stands = inr (any (stands refl books honest holds))
+
+-- no count or doubt is taken back from one connection to the next
+
+pub nothing_later : (view : View) → IsLater view view
+nothing_later view = record { honest = λ h. h; sure = λ h s. s; failures = omega arith; room = refl }
+
+pub later_all_along : (v0 v1 v2 : View) → IsLater v0 v1 → IsLater v1 v2 → IsLater v0 v2
+later_all_along v0 v1 v2 a b = record {
+  honest = λ h. a.honest (b.honest h);
+  sure = λ h s. a.sure (b.honest h) (b.sure h s);
+  failures = (let x = a.failures in let y = b.failures in omega arith);
+  room = b.room ∙ a.room;
+}
+
+-- how it ended over a file
+pub ended_served : {E X : Type 0} (told result : Result Status E) (port : ℕ) (contents : X → Option (List ℕ)) (w0 w1 w2 : X) → IfOk told (λ status. IsServeAnswer port status (Appends (contents w0) (contents w1)))
+    → IfOk result (λ status. IsOkAnd told (λ said. EndsAs said status (w2 ≡ w1) (Appends (contents w1) (contents w2))))
+    → IfOk result (λ status. IsFileServeAnswer port status (Appends (contents w0) (contents w2)))
+ended_served told (Err e) port contents w0 w1 w2 is ends = tt
+ended_served (Err e) (Ok status) port contents w0 w1 w2 is ends = absurd ends
+ended_served (Ok said) (Ok status) port contents w0 w1 w2 is (inl same) =
+    let P : Status → Type 0 = λ s. IsFileServeAnswer port s (Appends (contents w0) (contents w2)) in
+    subst P (sym same.0) (told_served (subst (λ w. IsServeAnswer port said (Appends (contents w0) (contents w))) (sym same.1) is))
+ended_served (Ok exit.Done) (Ok status) port contents w0 w1 w2 is (inr unclosed) =
+    told_unclosed unclosed.1.0 (Appends-trans (contents w0) (contents w1) (contents w2) (listening_line port) (failure_line Storage ++ codes "\n") is unclosed.1.1)
+ended_served (Ok exit.Refused) (Ok status) port contents w0 w1 w2 is (inr unclosed) = absurd is
+ended_served (Ok exit.Usage) (Ok status) port contents w0 w1 w2 is (inr unclosed) = absurd is
+ended_served (Ok exit.Fault) (Ok status) port contents w0 w1 w2 is (inr unclosed) = absurd (unclosed.0 refl)
+
+-- the file was not opened
+pub unserved : {E : Type 0} (r : Result Status E) (failure : Failure) (port : ℕ) (P : List ℕ → Type 0) → IsOpeningFailure failure → IfOk r (λ status. IsFailureTold failure status P) → IfOk r (λ status. IsFileServeAnswer port status P)
+unserved (Ok status) failure port P is told = told_unopened failure is told
+unserved (Err e) failure port P is told = tt
+
+-- nobody is there, and why is told
+pub nobody_there : {E : Type 0} (r : Result Status E) (failure : Failure) (port : ℕ) (P : List ℕ → Type 0) → IfOk r (λ status. IsFailureTold failure status P) → IfOk r (λ status. IsServeAnswer port status P)
+nobody_there (Ok status) failure port P told = subst (λ s. IsServeAnswer port s P) (sym told.0) (failure, told.1)
+nobody_there (Err e) failure port P told = tt

@@ -1,14 +1,15 @@
 -- What is answered to what is asked for, and to words of any kind.
-use Rattle.std.specs.Prelude.{◌≡◌, ℕ, Bool, List, Option}
+use Rattle.std.specs.Prelude.{◌≡◌, ℕ, Bool, List, [], Option, Some, None}
 use Rattle.clap.specs.declared.error.kind.ErrorKind.{ErrorKind}
 use Rattle.desk.specs.CheckAnswer.{IsCheckAnswer}
 use Rattle.desk.specs.ExplainAnswer.{IsExplainAnswer}
 use Rattle.desk.specs.IsinAnswer.{IsIsinAnswer}
-use Rattle.desk.specs.PlayAnswer.{IsPlayAnswer}
+use Rattle.desk.specs.PlayAnswer.{IsFilePlayAnswer, IsPlayAnswer}
 use Rattle.desk.specs.ReadAnswer.{IsReadAnswer}
-use Rattle.desk.specs.ServeAnswer.{IsServeAnswer}
+use Rattle.desk.specs.ReportAnswer.{IsReportAnswer, asked_for}
+use Rattle.desk.specs.ServeAnswer.{IsFileServeAnswer, IsServeAnswer}
 use Rattle.desk.specs.Status.{IsFailureTold, status_of_error}
-use Rattle.desk.specs.Words.{CallValue, isin, read, play, check, explain, serve, IsErrorIn, IsSaidBy}
+use Rattle.desk.specs.Words.{CallValue, isin, read, play, check, explain, serve, holdings, sums, IsErrorIn, IsSaidBy}
 use Rattle.desk.specs.declared.status.Failure.TheVariants.{Memory}
 use Rattle.desk.specs.declared.status.Status.{Status}
 
@@ -16,10 +17,14 @@ use Rattle.desk.specs.declared.status.Status.{Status}
 abbrev pub IsCallAnswer : CallValue → Option (List ℕ) → Type 0 → Bool → Status → (List ℕ → Type 0) → Type 0
 IsCallAnswer (isin code) given IsUnread may_fail status IsPrinted = IsUnread × IsIsinAnswer code status IsPrinted
 IsCallAnswer (read mt) given IsUnread may_fail status IsPrinted = IsReadAnswer mt given IsUnread may_fail status IsPrinted
-IsCallAnswer play given IsUnread may_fail status IsPrinted = IsPlayAnswer given IsUnread may_fail status IsPrinted
+IsCallAnswer (play None) given IsUnread may_fail status IsPrinted = IsPlayAnswer given IsUnread may_fail status IsPrinted
+IsCallAnswer (play (Some db)) given IsUnread may_fail status IsPrinted = IsFilePlayAnswer given IsUnread may_fail status IsPrinted
 IsCallAnswer check given IsUnread may_fail status IsPrinted = IsCheckAnswer given IsUnread may_fail status IsPrinted
 IsCallAnswer (explain topic) given IsUnread may_fail status IsPrinted = IsUnread × IsExplainAnswer topic status IsPrinted
-IsCallAnswer (serve port count) given IsUnread may_fail status IsPrinted = IsUnread × IsServeAnswer port status IsPrinted
+IsCallAnswer (serve None port count) given IsUnread may_fail status IsPrinted = IsUnread × IsServeAnswer port status IsPrinted
+IsCallAnswer (serve (Some db) port count) given IsUnread may_fail status IsPrinted = IsUnread × IsFileServeAnswer port status IsPrinted
+IsCallAnswer (holdings db bic account) given IsUnread may_fail status IsPrinted = IsUnread × IsReportAnswer (asked_for (Some bic) account) status IsPrinted
+IsCallAnswer (sums db) given IsUnread may_fail status IsPrinted = IsUnread × IsReportAnswer (asked_for None []) status IsPrinted
 
 -- want of memory was told alone, as a fault, and nothing was read
 abbrev pub IsMemoryTold : Type 0 → Status → (List ℕ → Type 0) → Type 0

@@ -6,6 +6,7 @@ pub mod Input
 pub mod IsinAnswer
 pub mod PlayAnswer
 pub mod ReadAnswer
+pub mod ReportAnswer
 pub mod ServeAnswer
 pub mod Status
 pub mod Told

@@ -1,5 +1,5 @@
 -- What `desk play` answers.
-use Rattle.std.specs.Prelude.{◌≡◌, ◌≤◌, ℕ, Bool, false, List, length, All, Option, Result, Ok, Err}
+use Rattle.std.specs.Prelude.{◌≡◌, ◌≤◌, ℕ, Bool, false, List, ◌++◌, length, All, Option, Result, Ok, Err, codes}
 use Rattle.desk_book.specs.declared.limits.TheConstants.{LONGEST_SCRIPT}
 use Rattle.desk_rules.specs.declared.answers.reply.Reply.{Reply}
 use Rattle.desk_rules.specs.Books.{Books}
@@ -9,12 +9,17 @@ use Rattle.desk_engine.specs.Applied.{no_books}
 use Rattle.desk_book.specs.declared.fault.Fault.{Fault}
 use Rattle.desk_book.specs.declared.fault.Fault.TheVariants as desk_fault
 use Rattle.desk_book.specs.declared.fault.InputFault.{InputFault}
+use Rattle.desk_book.specs.declared.fault.PlayFault.{PlayFault}
+use Rattle.desk_book.specs.declared.fault.PlayFault.TheVariants as plays
 use Rattle.desk_book.specs.Answered.{AnsweredInTurn}
 use Rattle.desk_book.specs.Headline.{Headline}
+use Rattle.desk_book.specs.Held.{KeepsFormed}
 use Rattle.desk_book.specs.Played.{answers_text, asked_in}
 use Rattle.desk_book.specs.Script.{Item, Script}
 use Rattle.desk.specs.Input.{Came, MayGiveNone, failure_of}
-use Rattle.desk.specs.Status.{IsFailureTold}
+use Rattle.desk.specs.Status.{IsFailureTold, IsOpeningFailure, failure_line}
+use Rattle.desk.specs.declared.status.Failure.{Failure}
+use Rattle.desk.specs.declared.status.Failure.TheVariants.{Memory, Storage, Input}
 use Rattle.desk.specs.declared.status.Status.{Status}
 use Rattle.desk.specs.declared.status.Status.TheVariants as exit
 
@@ -43,3 +48,42 @@ pub data IsPlayAnswer (given : Option (List ℕ)) (IsUnread : Type 0) (may_fail 
   told_answers : (script text : List ℕ) → Came given script → IsPlayed script text → status ≡ exit.Done → IsPrinted text → IsPlayAnswer given IsUnread may_fail status IsPrinted
   told_no_script : (fault : InputFault) → MayGiveNone LONGEST_SCRIPT given IsUnread may_fail fault → IsFailureTold (failure_of fault) status IsPrinted
       → IsPlayAnswer given IsUnread may_fail status IsPrinted
+
+-- What is told once a script was played: nothing more where it was, and else why not, alone. Where the writer failed nothing is.
+abbrev pub IsPlayTold : Result (Unit {0}) PlayFault → Status → Type 0 → (List ℕ → Type 0) → Type 0
+IsPlayTold (Ok done) status IsUnwritten IsPrinted = (status ≡ exit.Done) × IsUnwritten
+IsPlayTold (Err plays.Memory) status IsUnwritten IsPrinted = IsFailureTold Memory status IsPrinted
+IsPlayTold (Err plays.ReadFailed) status IsUnwritten IsPrinted = IsFailureTold Input status IsPrinted
+IsPlayTold (Err plays.TooLong) status IsUnwritten IsPrinted = IsFailureTold Input status IsPrinted
+IsPlayTold (Err plays.WriteFailed) status IsUnwritten IsPrinted = ⊥
+
+-- The whole script was played on a desk that kept these books; this is the text of its answers, and what the desk held then,
+-- unless it was closed, keeps its promise.
+pub record IsPlayedFrom (limit : ℕ) (books : Books) (script text : List ℕ) : Type 0 where
+  pub items : List Item
+  pub answers : List (Result Reply Fault)
+  pub is_closed : Bool
+  pub last : Books
+  pub short : length script ≤ LONGEST_SCRIPT
+  pub spells : Script script items
+  pub in_turn : AnsweredInTurn limit false books (asked_in items) answers is_closed last
+  pub promise : is_closed ≡ false → (held : Content) × Headline limit last held
+  pub written : text ≡ answers_text items answers
+
+-- as `IsPlayAnswer`, from these books
+pub data IsPlayAnswerFrom (limit : ℕ) (books : Books) (given : Option (List ℕ)) (IsUnread : Type 0) (may_fail : Bool) (status : Status) (IsPrinted : List ℕ → Type 0) : Type 0 where
+  told_answers_from : (script text : List ℕ) → Came given script → IsPlayedFrom limit books script text → status ≡ exit.Done → IsPrinted text → IsPlayAnswerFrom limit books given IsUnread may_fail status IsPrinted
+  told_no_script_from : (fault : InputFault) → MayGiveNone LONGEST_SCRIPT given IsUnread may_fail fault → IsFailureTold (failure_of fault) status IsPrinted
+      → IsPlayAnswerFrom limit books given IsUnread may_fail status IsPrinted
+
+-- some desk keeps these books: an accepted history of well-formed entries, with their replies
+abbrev pub AreKept : Books → Type 0
+AreKept books = (content : Content) × KeepsFormed MOST_ENTRIES books content
+
+-- What `desk play --db` answers: the file was not opened, which is told alone, and nothing was read; or the script was played
+-- on the desk of what the file held; or that, and the file could not be closed, which is told behind.
+pub data IsFilePlayAnswer (given : Option (List ℕ)) (IsUnread : Type 0) (may_fail : Bool) (status : Status) (IsPrinted : List ℕ → Type 0) : Type 0 where
+  told_unopened : (failure : Failure) → IsOpeningFailure failure → IsUnread → IsFailureTold failure status IsPrinted → IsFilePlayAnswer given IsUnread may_fail status IsPrinted
+  told_from : (books : Books) → AreKept books → IsPlayAnswerFrom MOST_ENTRIES books given IsUnread may_fail status IsPrinted → IsFilePlayAnswer given IsUnread may_fail status IsPrinted
+  told_unclosed : (books : Books) → AreKept books → (script text : List ℕ) → Came given script → IsPlayedFrom MOST_ENTRIES books script text
+      → status ≡ exit.Fault → IsPrinted (text ++ (failure_line Storage ++ codes "\n")) → IsFilePlayAnswer given IsUnread may_fail status IsPrinted

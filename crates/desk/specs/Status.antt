@@ -1,13 +1,15 @@
 -- How a run ends.
-use Rattle.std.specs.Prelude.{◌≡◌, ℕ, List, ◌++◌, codes}
+use Rattle.std.specs.Prelude.{◌≡◌, ◌≢◌, ◌⊎◌, ℕ, List, ◌++◌, codes}
 use Rattle.std.specs.declared.io.ErrorKind.{ErrorKind as IoKind}
 use Rattle.std.specs.declared.io.ErrorKind.TheVariants as io_kind
 use Rattle.clap.specs.declared.error.kind.ErrorKind.{ErrorKind}
 use Rattle.clap.specs.declared.error.kind.ErrorKind.TheVariants as kind
+use Rattle.desk_opening.specs.declared.fault.OpenFault.{OpenFault}
+use Rattle.desk_opening.specs.declared.fault.OpenFault.TheVariants as opening
 use Rattle.desk.specs.declared.status.Status.{Status}
 use Rattle.desk.specs.declared.status.Status.TheVariants.{Done, Refused, Usage, Fault}
 use Rattle.desk.specs.declared.status.Failure.{Failure}
-use Rattle.desk.specs.declared.status.Failure.TheVariants.{Memory, Input}
+use Rattle.desk.specs.declared.status.Failure.TheVariants.{NotOurFile, OtherVersion, Memory, Storage, Closed, Input}
 use Rattle.desk.specs.declared.words.helps.TheConstants.{NO_TEXT}
 
 -- the number with which the process ends
@@ -19,12 +21,31 @@ status_number Fault = 3
 
 -- the line that tells a failure
 abbrev pub failure_line : Failure → List ℕ
+failure_line NotOurFile = codes "fault 50"
+failure_line OtherVersion = codes "fault 51"
 failure_line Memory = codes "fault 60"
+failure_line Storage = codes "fault 61"
+failure_line Closed = codes "fault 62"
 failure_line Input = codes "fault io"
+
+-- what is told where a file is not opened
+abbrev pub failure_of_opening : OpenFault → Failure
+failure_of_opening (opening.NotOurFile difference) = NotOurFile
+failure_of_opening opening.OtherVersion = OtherVersion
+failure_of_opening opening.Memory = Memory
+failure_of_opening opening.Storage = Storage
+
+abbrev pub IsOpeningFailure : Failure → Type 0
+IsOpeningFailure failure = (fault : OpenFault) × (failure ≡ failure_of_opening fault)
 
 -- a failure was told alone, as a fault
 abbrev pub IsFailureTold : Failure → Status → (List ℕ → Type 0) → Type 0
 IsFailureTold failure status IsPrinted = (status ≡ Fault) × IsPrinted (failure_line failure ++ codes "\n")
+
+-- How a run over a file ended, once this status was told and the file was to be closed: so; or, where it was no fault, the file
+-- could not be closed, which is told behind.
+abbrev pub EndsAs : Status → Status → Type 0 → (List ℕ → Type 0) → Type 0
+EndsAs said status IsUnwritten IsPrinted = ((status ≡ said) × IsUnwritten) ⊎ ((said ≢ Fault) × IsFailureTold Storage status IsPrinted)
 
 -- the exit status of help and of what is wrong with the words
 abbrev pub status_of_error : ErrorKind → Status

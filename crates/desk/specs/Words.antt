@@ -1,73 +1,102 @@
 -- Which words ask for what.
-use Rattle.std.specs.Prelude.{◌≡◌, ◌≢◌, ◌⊎◌, ◌<◌, ◌≤◌, ◌^◌, ℕ, List, [], ◌∷◌, Option, Some, None, pos, true, codes, decimal, slice_index, IsSomeAnd, MatchOption}
+use Rattle.std.specs.Prelude.{◌≡◌, ◌≢◌, ◌⊎◌, ◌<◌, ◌≤◌, ◌^◌, ℕ, List, [], ◌∷◌, Option, Some, None, Ok, pos, true, codes, decimal, slice_index, IsSomeAnd, MatchOption}
 use Rattle.std.specs.Str.{byte}
 use Rattle.std.specs.Str.Parse.{IsNumeral, digits_value, without_leading_plus}
 use Rattle.clap.specs.Words.{App, Row, Rule, first_of, new_app, new_rule, fault_of, one_of, subcommand_of, with_rule, with_subcommand, IsAmong}
 use Rattle.clap.specs.declared.error.kind.ErrorKind.{ErrorKind}
 use Rattle.clap.specs.declared.error.kind.ErrorKind.TheVariants.{InvalidValue}
 use Rattle.clap.specs.declared.builder.value_parser.ValueParser.TheVariants.{Signed}
+use Rattle.desk_codes.specs.Bic.{IsBic, ReadsBic}
 use Rattle.desk_msg.specs.MessageType.{digits_of_type, is_instruction, number_of_type}
 use Rattle.desk_msg.specs.declared.mt.Mt.{Mt}
 use Rattle.desk.specs.declared.words.calls.Call.{Call}
 use Rattle.desk.specs.declared.words.calls.Topic.{Topic}
 use Rattle.desk.specs.declared.words.calls.Topic.TheVariants.{Catalogue, Number}
-use Rattle.desk.specs.declared.words.calls.Call.TheVariants.{Isin, Read, Play, Check, Explain, Serve}
+use Rattle.desk.specs.declared.words.calls.Call.TheVariants.{Isin, Read, Play, PlayOn, Check, Explain, Serve, ServeOn, Holdings, Sums}
 
 -- what is asked for: whether a code is an ISIN, what a message of a type says, a script's answers, what is refused in
--- a script, what a number means or all of them, or to serve so many connections at a port
+-- a script, what a number means or all of them, to serve so many connections at a port, what a participant's account holds,
+-- or the totals; of the desk of a file, or of one in memory where no file is named
 pub data CallValue : Type 0 where
   isin : (code : List ℕ) → CallValue
   read : (mt : Mt) → CallValue
-  play : CallValue
+  play : (db : Option (List ℕ)) → CallValue
   check : CallValue
   explain : (topic : Topic) → CallValue
-  serve : (port count : ℕ) → CallValue
+  serve : (db : Option (List ℕ)) (port count : ℕ) → CallValue
+  holdings : (db bic account : List ℕ) → CallValue
+  sums : (db : List ℕ) → CallValue
 
 abbrev pub value_of_call : Call → CallValue
 value_of_call (Isin code) = isin code.now
 value_of_call (Read mt) = read mt
-value_of_call Play = play
+value_of_call Play = play None
+value_of_call (PlayOn db) = play (Some db.now)
 value_of_call Check = check
 value_of_call (Explain topic) = explain topic
-value_of_call (Serve service) = serve service.port service.count
+value_of_call (Serve port count) = serve None port count
+value_of_call (ServeOn db port count) = serve (Some db.now) port count
+value_of_call (Holdings db owner account) = holdings db.now owner account.now
+value_of_call (Sums db) = sums db.now
 
 -- a message that is read is an instruction
 abbrev pub ReadsOnlyInstructions : Call → Type 0
 ReadsOnlyInstructions (Read mt) = is_instruction mt ≡ true
 ReadsOnlyInstructions call = Unit {0}
 
+-- the words that name a file, if one is named, and others
+abbrev pub words_of_file : Option (List ℕ) → List (List ℕ) → List (List ℕ)
+words_of_file None others = others
+words_of_file (Some db) others = codes "--db" ∷ db ∷ others
+
 -- the words behind the program's name that ask for it
 abbrev pub words_for : CallValue → List (List ℕ)
 words_for (isin code) = codes "isin" ∷ code ∷ []
 words_for (read mt) = codes "read" ∷ digits_of_type mt ∷ []
-words_for play = codes "play" ∷ []
+words_for (play db) = codes "play" ∷ words_of_file db []
 words_for check = codes "check" ∷ []
 words_for (explain Catalogue) = codes "explain" ∷ []
 words_for (explain (Number number)) = codes "explain" ∷ decimal number ∷ []
-words_for (serve port count) = codes "serve" ∷ codes "--port" ∷ decimal port ∷ codes "--count" ∷ decimal count ∷ []
+words_for (serve db port count) = codes "serve" ∷ words_of_file db (codes "--port" ∷ decimal port ∷ codes "--count" ∷ decimal count ∷ [])
+words_for (holdings db bic account) = codes "holdings" ∷ words_of_file (Some db) (bic ∷ account ∷ [])
+words_for (sums db) = codes "sums" ∷ words_of_file (Some db) []
 
--- The code does not begin as an option, by a hyphen, the type is one of an instruction, and the numbers are those that may be
--- asked for.
+-- what does not begin as an option, by a hyphen
+abbrev pub IsNoOption : List ℕ → Type 0
+IsNoOption word = slice_index word 0 ≢ byte "-"
+
+-- of a file that is named
+abbrev pub IsNoOptionIn : Option (List ℕ) → Type 0
+IsNoOptionIn None = Unit {0}
+IsNoOptionIn (Some db) = IsNoOption db
+
+-- The code, the file and the account do not begin as an option, the type is one of an instruction, the participant is one in its
+-- one spelling, and the numbers are those that may be asked for.
 abbrev pub IsAskable : CallValue → Type 0
-IsAskable (isin code) = slice_index code 0 ≢ byte "-"
+IsAskable (isin code) = IsNoOption code
 IsAskable (read mt) = is_instruction mt ≡ true
-IsAskable play = Unit {0}
+IsAskable (play db) = IsNoOptionIn db
 IsAskable check = Unit {0}
 IsAskable (explain Catalogue) = Unit {0}
 IsAskable (explain (Number number)) = (1 ≤ number) × (number ≤ 99)
-IsAskable (serve port count) = ((1 ≤ port) × (port ≤ 65535)) × (1 ≤ count) × (count ≤ 1000000)
+IsAskable (serve db port count) = IsNoOptionIn db × ((1 ≤ port) × (port ≤ 65535)) × (1 ≤ count) × (count ≤ 1000000)
+IsAskable (holdings db bic account) = IsNoOption db × IsBic bic × IsNoOption account
+IsAskable (sums db) = IsNoOption db
 
 -- what a subcommand's name and matches ask for, spelled out as `words_for` spells it
 abbrev pub IsSpelledOut : CallValue → List ℕ → List Row → Type 0
 IsSpelledOut (isin code) name rows = (name ≡ codes "isin") × (first_of (codes "code") rows ≡ Some code)
 IsSpelledOut (read mt) name rows = (name ≡ codes "read") × (one_of (codes "mt") rows ≡ Some (digits_of_type mt)) × (is_instruction mt ≡ true)
-IsSpelledOut play name rows = name ≡ codes "play"
+IsSpelledOut (play db) name rows = (name ≡ codes "play") × (first_of (codes "db") rows ≡ db)
 IsSpelledOut check name rows = name ≡ codes "check"
 IsSpelledOut (explain Catalogue) name rows = (name ≡ codes "explain") × (first_of (codes "number") rows ≡ None)
 IsSpelledOut (explain (Number number)) name rows =
     (name ≡ codes "explain") × (first_of (codes "number") rows ≡ Some (decimal number)) × (one_of (codes "number") rows ≡ Some (decimal number)) × (number < 2 ^ 8)
-IsSpelledOut (serve port count) name rows =
-    (name ≡ codes "serve") × (one_of (codes "port") rows ≡ Some (decimal port)) × (port < 2 ^ 16) × (one_of (codes "count") rows ≡ Some (decimal count)) × (count < 2 ^ 32)
+IsSpelledOut (serve db port count) name rows =
+    (name ≡ codes "serve") × (first_of (codes "db") rows ≡ db) × (one_of (codes "port") rows ≡ Some (decimal port)) × (port < 2 ^ 16) × (one_of (codes "count") rows ≡ Some (decimal count)) × (count < 2 ^ 32)
+IsSpelledOut (holdings db bic account) name rows =
+    (name ≡ codes "holdings") × (first_of (codes "db") rows ≡ Some db) × IsBic bic × (first_of (codes "bic") rows ≡ Some bic) × (first_of (codes "account") rows ≡ Some account)
+IsSpelledOut (sums db) name rows = (name ≡ codes "sums") × (first_of (codes "db") rows ≡ Some db)
 
 -- what the parser of words knows of the program
 abbrev pub code_rule : Rule
@@ -82,8 +111,15 @@ isin_app = with_rule (new_app (codes "isin")) code_rule
 abbrev pub read_app : App
 read_app = with_rule (new_app (codes "read")) type_rule
 
+-- a file may be named, or has to be
+abbrev pub db_rule : Rule
+db_rule = record (new_rule (codes "db")) { long = Some (codes "db"); value_names = 1 }
+
+abbrev pub needed_db_rule : Rule
+needed_db_rule = record (new_rule (codes "db")) { long = Some (codes "db"); value_names = 1; required = true }
+
 abbrev pub play_app : App
-play_app = new_app (codes "play")
+play_app = with_rule (new_app (codes "play")) db_rule
 
 abbrev pub check_app : App
 check_app = new_app (codes "check")
@@ -101,18 +137,36 @@ abbrev pub count_rule : Rule
 count_rule = record (new_rule (codes "count")) { long = Some (codes "count"); value_names = 1; required = true; parser = Some (Signed (pos 1) (pos 1000000)) }
 
 abbrev pub serve_app : App
-serve_app = with_rule (with_rule (new_app (codes "serve")) port_rule) count_rule
+serve_app = with_rule (with_rule (with_rule (new_app (codes "serve")) db_rule) port_rule) count_rule
+
+abbrev pub bic_rule : Rule
+bic_rule = record (new_rule (codes "bic")) { value_names = 1; required = true }
+
+abbrev pub account_rule : Rule
+account_rule = record (new_rule (codes "account")) { value_names = 1; required = true }
+
+abbrev pub holdings_app : App
+holdings_app = with_rule (with_rule (with_rule (new_app (codes "holdings")) needed_db_rule) bic_rule) account_rule
+
+abbrev pub sums_app : App
+sums_app = with_rule (new_app (codes "sums")) needed_db_rule
 
 -- the program, which tells its version
 abbrev pub bare_app : App
 bare_app = record (new_app (codes "desk")) { top = record (new_app (codes "desk")).top { has_version = true } }
 
 abbrev pub desk_app : App
-desk_app = with_subcommand (with_subcommand (with_subcommand (with_subcommand (with_subcommand (with_subcommand bare_app isin_app.top) read_app.top) play_app.top) check_app.top) explain_app.top) serve_app.top
+desk_app =
+    with_subcommand (with_subcommand (with_subcommand (with_subcommand (with_subcommand (with_subcommand (with_subcommand (with_subcommand bare_app isin_app.top) read_app.top) play_app.top) check_app.top) explain_app.top) serve_app.top) holdings_app.top)
+    sums_app.top
 
 -- a numeral of a number; a plus and zeros may stand before it
 abbrev pub IsNumberText : ℕ → List ℕ → Type 0
 IsNumberText number text = IsNumeral 10 (without_leading_plus text) × (digits_value 10 (without_leading_plus text) ≡ number)
+
+-- a text that names a participant
+abbrev pub IsBicText : List ℕ → List ℕ → Type 0
+IsBicText bic text = ReadsBic text (Ok bic)
 
 -- a numeral of a type's number
 abbrev pub IsTypeText : Mt → List ℕ → Type 0
@@ -127,15 +181,18 @@ IsTopic (Number number) first one = IsSomeAnd one (IsNumberText number)
 abbrev pub IsSaid : CallValue → List ℕ → List Row → Type 0
 IsSaid (isin code) name rows = (name ≡ codes "isin") × (first_of (codes "code") rows ≡ Some code)
 IsSaid (read mt) name rows = (name ≡ codes "read") × IsSomeAnd (one_of (codes "mt") rows) (IsTypeText mt)
-IsSaid play name rows = name ≡ codes "play"
+IsSaid (play db) name rows = (name ≡ codes "play") × (first_of (codes "db") rows ≡ db)
 IsSaid check name rows = name ≡ codes "check"
 IsSaid (explain topic) name rows = (name ≡ codes "explain") × IsTopic topic (first_of (codes "number") rows) (one_of (codes "number") rows)
-IsSaid (serve port count) name rows =
-    (name ≡ codes "serve") × IsSomeAnd (one_of (codes "port") rows) (IsNumberText port) × IsSomeAnd (one_of (codes "count") rows) (IsNumberText count)
+IsSaid (serve db port count) name rows =
+    (name ≡ codes "serve") × (first_of (codes "db") rows ≡ db) × IsSomeAnd (one_of (codes "port") rows) (IsNumberText port) × IsSomeAnd (one_of (codes "count") rows) (IsNumberText count)
+IsSaid (holdings db bic account) name rows =
+    (name ≡ codes "holdings") × (first_of (codes "db") rows ≡ Some db) × IsSomeAnd (first_of (codes "bic") rows) (IsBicText bic) × (first_of (codes "account") rows ≡ Some account)
+IsSaid (sums db) name rows = (name ≡ codes "sums") × (first_of (codes "db") rows ≡ Some db)
 
--- what is said where this subcommand was found; with none, to play
+-- what is said where this subcommand was found; with none, to play on a desk in memory
 abbrev pub IsSaidIn : CallValue → Option (List ℕ × List Row) → Type 0
-IsSaidIn asked found = MatchOption found (asked ≡ play) (λ f. IsSaid asked f.0 f.1)
+IsSaidIn asked found = MatchOption found (asked ≡ play None) (λ f. IsSaid asked f.0 f.1)
 
 -- the parser finds no fault in the words, and their subcommand says this
 abbrev pub IsSaidBy : CallValue → List (List ℕ) → Type 0

@@ -4,11 +4,13 @@ mod explain;
 mod isin;
 mod play;
 mod read;
+mod reports;
 mod serve;
 
 pub use check::answer_check;
 pub use explain::answer_explain;
 pub use isin::answer_isin;
-pub use play::answer_play;
+pub use play::{answer_play, answer_play_on};
 pub use read::answer_read;
-pub use serve::answer_serve;
+pub use reports::answer_report;
+pub use serve::{answer_serve, answer_serve_on};

@@ -2,13 +2,15 @@
 //!
 //! It stands at the edge: what is answered comes from the crates below, whose contracts say what it is. `words`
 //! reads the words, `answers` has the answer of each subcommand, `findings` what `desk check` finds in a script,
-//! `status` says how a run ends, and `run` joins them. Begin with `run.rt`.
+//! `store` opens and closes the file of a desk, of which `teller` tells people, `status` says how a run ends, and `run` joins them. Begin with `run.rt`.
 #![tactic(auto)]
 
 mod answers;
 mod findings;
 mod run;
 mod status;
+mod store;
+mod teller;
 mod words;
 
 use std::io::IsTerminal;
@@ -29,7 +31,7 @@ fn main(rt: HostRuntime) -> ExitCode {
             if words.len() <= 1 && reader.is_terminal() {
                 let _ = eprintln!(rt; "{WAITING}");
             }
-            run::run(&rt, alloc, words.as_slice(), &mut reader, &mut writer)
+            run::run(&rt, words.as_slice(), &mut reader, &mut writer)
         }
         Err(error) => run::tell_no_words(&error, &mut writer),
     })

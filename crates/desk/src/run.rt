@@ -1,5 +1,5 @@
 //! What the words ask for, answered.
-ghost use Rattle.std.specs.Prelude.{◌≡◌, ◌⊎◌, ℕ, List, [], ◌∷◌, true, map, IfOk, OnErr};
+ghost use Rattle.std.specs.Prelude.{◌≡◌, ◌⊎◌, ℕ, List, [], ◌∷◌, None, true, map, IfOk, OnErr};
 ghost use Rattle.std.specs.Io.KnownBytes.{Appends};
 ghost use Rattle.std.specs.IoError.{error_kind};
 ghost use Rattle.clap.specs.Words.{kind_of};
@@ -8,21 +8,20 @@ ghost use Rattle.desk.specs.Status.{IsFailureTold, IsNoWordsTold, status_of_erro
 ghost use Rattle.desk.specs.Words.{CallValue, IsAskable, ReadsOnlyInstructions, value_of_call, words_for};
 
 use crate::answers::{
-    answer_check, answer_explain, answer_isin, answer_play, answer_read, answer_serve,
+    answer_check, answer_explain, answer_isin, answer_play, answer_play_on, answer_read,
+    answer_report, answer_serve, answer_serve_on,
 };
 use crate::status::{Failure, Status, tell_failure};
 use crate::words::{Call, NO_TEXT, call_of};
 use clap::error::{Error, ErrorKind};
 use desk_streams::{Sink, Source};
-use std::alloc::Global;
 use std::convert::AsStr;
 use std::io;
-use std::net::{Net, TcpListener, TcpStream};
+use std::rt::HostRuntime;
 
 /// Answers what the words ask for, on the writer. It is a fault where the writer fails.
-pub fn run<N: Net<Listener = TcpListener, Stream = TcpStream>, S: AsStr, R: Source, W: Sink>(
-    net: &N,
-    alloc: Global,
+pub fn run<S: AsStr, R: Source, W: Sink>(
+    rt: &HostRuntime,
     words: &[S],
     reader: &mut R,
     writer: &mut W,
@@ -34,17 +33,16 @@ pub fn run<N: Net<Listener = TcpListener, Stream = TcpStream>, S: AsStr, R: Sour
     ensures nothing { (program : List ℕ) → map S.text words.now ≡ program ∷ []
         → ((result ≡ Status.Fault) × (W.may_fail ≡ true))
         ⊎ (IsMemoryTold (reader.new ≡ reader.old) result (Appends (W.contents writer.old) (W.contents writer.new))
-        ⊎ IsCallAnswer CallValue.play (R.remaining reader.old) (reader.new ≡ reader.old) R.may_fail result (Appends (W.contents writer.old) (W.contents writer.new))) }
+        ⊎ IsCallAnswer (CallValue.play None) (R.remaining reader.old) (reader.new ≡ reader.old) R.may_fail result (Appends (W.contents writer.old) (W.contents writer.new))) }
     ensures told { ((result ≡ Status.Fault) × (W.may_fail ≡ true))
         ⊎ IsAnswer (map S.text words.now) (R.remaining reader.old) (reader.new ≡ reader.old) R.may_fail result (Appends (W.contents writer.old) (W.contents writer.new)) }
 {
-    answer_words(net, alloc, words, reader, writer).unwrap_or(Status::Fault)
+    answer_words(rt, words, reader, writer).unwrap_or(Status::Fault)
 }
 
 /// As `run`, where the writer does not fail.
-fn answer_words<N: Net<Listener = TcpListener, Stream = TcpStream>, S: AsStr, R: Source, W: Sink>(
-    net: &N,
-    alloc: Global,
+fn answer_words<S: AsStr, R: Source, W: Sink>(
+    rt: &HostRuntime,
     words: &[S],
     reader: &mut R,
     writer: &mut W,
@@ -54,21 +52,20 @@ fn answer_words<N: Net<Listener = TcpListener, Stream = TcpStream>, S: AsStr, R:
         ⊎ IsCallAnswer asked (R.remaining reader.old) (reader.new ≡ reader.old) R.may_fail status (Appends (W.contents writer.old) (W.contents writer.new))) }
     ensures nothing { (program : List ℕ) → map S.text words.now ≡ program ∷ []
         → IfOk result (λ status. IsMemoryTold (reader.new ≡ reader.old) status (Appends (W.contents writer.old) (W.contents writer.new))
-        ⊎ IsCallAnswer CallValue.play (R.remaining reader.old) (reader.new ≡ reader.old) R.may_fail status (Appends (W.contents writer.old) (W.contents writer.new))) }
+        ⊎ IsCallAnswer (CallValue.play None) (R.remaining reader.old) (reader.new ≡ reader.old) R.may_fail status (Appends (W.contents writer.old) (W.contents writer.new))) }
     ensures told { IfOk result (λ status. IsAnswer (map S.text words.now) (R.remaining reader.old) (reader.new ≡ reader.old) R.may_fail status (Appends (W.contents writer.old) (W.contents writer.new))) }
     ensures failed { OnErr result (W.may_fail ≡ true) }
 {
-    match call_of(alloc, words) {
-        Ok(call) => answer(net, alloc, call, reader, writer),
+    match call_of(rt.alloc(), words) {
+        Ok(call) => answer(rt, call, reader, writer),
         Err(error) => tell_error(&error, writer),
     }
 }
 
 /// Answers a call on the writer.
-fn answer<N: Net<Listener = TcpListener, Stream = TcpStream>, R: Source, W: Sink>(
-    net: &N,
-    alloc: Global,
-    call: Call,
+fn answer<R: Source, W: Sink>(
+    rt: &HostRuntime,
+    call: Call<'_>,
     reader: &mut R,
     writer: &mut W,
 ) -> io::Result<Status>
@@ -78,11 +75,17 @@ fn answer<N: Net<Listener = TcpListener, Stream = TcpStream>, R: Source, W: Sink
 {
     match call {
         Call::Isin(code) => answer_isin(code.as_bytes(), writer),
-        Call::Read(mt) => answer_read(alloc, mt, reader, writer),
-        Call::Play => answer_play(alloc, reader, writer),
-        Call::Check => answer_check(alloc, reader, writer),
+        Call::Read(mt) => answer_read(rt.alloc(), mt, reader, writer),
+        Call::Play => answer_play(rt.alloc(), reader, writer),
+        Call::PlayOn(db) => answer_play_on(rt, db, reader, writer),
+        Call::Check => answer_check(rt.alloc(), reader, writer),
         Call::Explain(topic) => answer_explain(topic, writer),
-        Call::Serve(service) => answer_serve(net, alloc, service, writer),
+        Call::Serve(port, count) => answer_serve(rt, rt.alloc(), port, count, writer),
+        Call::ServeOn(db, port, count) => answer_serve_on(rt, db, port, count, writer),
+        Call::Holdings(db, owner, account) => {
+            answer_report(rt, db, Some(owner), account.as_bytes(), writer)
+        }
+        Call::Sums(db) => answer_report(rt, db, None, b"", writer),
     }
 }
 

@@ -4,7 +4,8 @@ ghost use Rattle.std.specs.Io.KnownBytes.{Appends};
 ghost use Rattle.std.specs.Process.{exit_status};
 ghost use Rattle.desk.specs.Status.{IsFailureTold, status_number};
 
-use desk_book::InputFault;
+use desk_book::{InputFault, ToFault};
+use desk_opening::OpenFault;
 use desk_streams::Sink;
 use std::io;
 use std::process::ExitCode;
@@ -14,11 +15,11 @@ use std::process::ExitCode;
 pub enum Status {
     /// What was asked for was done
     Done = 0,
-    /// The code or the message was refused
+    /// The code, the message or the question was refused
     Refused = 1,
     /// The words fit no subcommand
     Usage = 2,
-    /// Memory, the reader or the writer failed
+    /// Memory, the reader, the writer or the file of the desk failed, or the file is none of a desk's
     Fault = 3,
 }
 
@@ -33,8 +34,16 @@ impl From<Status> for ExitCode {
 /// What is told in place of an answer.
 #[derive(Clone, Copy)]
 pub enum Failure {
+    /// The file is none of a desk's
+    NotOurFile,
+    /// The file is one of another version
+    OtherVersion,
     /// Memory is wanting
     Memory,
+    /// The file failed, or cannot be opened
+    Storage,
+    /// The desk is closed
+    Closed,
     /// The reader failed, or a script is too long
     Input,
 }
@@ -52,13 +61,32 @@ impl From<InputFault> for Failure {
     }
 }
 
+impl From<OpenFault> for Failure {
+    ghost use Rattle.desk.specs.Status.{failure_of_opening};
+
+    ghost from_gives = { λ fault failure. failure ≡ failure_of_opening fault };
+
+    fn from(fault: OpenFault) -> Failure {
+        match fault {
+            OpenFault::NotOurFile(_) => Failure::NotOurFile,
+            OpenFault::OtherVersion => Failure::OtherVersion,
+            OpenFault::Memory => Failure::Memory,
+            OpenFault::Storage => Failure::Storage,
+        }
+    }
+}
+
 /// Writes a failure's line, and gives the status of a fault.
 pub fn tell_failure<W: Sink>(failure: Failure, writer: &mut W) -> io::Result<Status>
     ensures told { IfOk result (λ status. IsFailureTold failure status (Appends (W.contents writer.old) (W.contents writer.new))) }
     ensures failed { OnErr result (W.may_fail ≡ true) }
 {
     writer.put(match failure {
+        Failure::NotOurFile => b"fault 50\n",
+        Failure::OtherVersion => b"fault 51\n",
         Failure::Memory => b"fault 60\n",
+        Failure::Storage => b"fault 61\n",
+        Failure::Closed => b"fault 62\n",
         Failure::Input => b"fault io\n",
     })?;
     Ok(Status::Fault)

@@ -3,5 +3,5 @@ mod calls;
 mod helps;
 mod parser;
 
-pub use calls::{Call, Service, Topic, call_of};
+pub use calls::{Call, Topic, call_of};
 pub use helps::NO_TEXT;

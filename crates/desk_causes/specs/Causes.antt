@@ -4,7 +4,7 @@ use Rattle.std.specs.List.{flat_map}
 use Rattle.desk_rules.specs.Refusals.{number_of_refusal}
 use Rattle.desk_rules.specs.declared.answers.verdict.Refusal.TheVariants.{SenderUnknown, ReferenceReused, PlaceNotUs, UnknownSecurity, KindDiffers, AccountNotSenders, CounterpartyUnknown, NoSuchInstruction, AlreadyCancelled, AlreadySettled, Full, CancellationWaits, CommandReused, Exists, ParticipantUnknown, AccountUnknown, SecurityUnknown, OverLimit, NotEnough, DayGoesBack}
 use Rattle.desk_causes.specs.declared.cause.Cause.{Cause}
-use Rattle.desk_causes.specs.declared.cause.Cause.TheVariants.{NotBlock, BadLine, BadNesting, TooLong, Missing, Repeated, BadValue, Function, Entry, Command, Line, NoSuchMessage, NoMemory, DeviceFailed, DeskClosed}
+use Rattle.desk_causes.specs.declared.cause.Cause.TheVariants.{NotBlock, BadLine, BadNesting, TooLong, Missing, Repeated, BadValue, Function, Entry, Command, Line, NoSuchMessage, NotOurFile, OtherVersion, NoMemory, DeviceFailed, DeskClosed}
 use Rattle.desk_causes.specs.declared.cause.TheConstants.{CAUSES}
 
 abbrev pub number_of_cause : Cause → ℕ
@@ -19,6 +19,8 @@ number_of_cause Function = 8
 number_of_cause Command = 30
 number_of_cause Line = 41
 number_of_cause NoSuchMessage = 42
+number_of_cause NotOurFile = 50
+number_of_cause OtherVersion = 51
 number_of_cause NoMemory = 60
 number_of_cause DeviceFailed = 61
 number_of_cause DeskClosed = 62
@@ -57,8 +59,10 @@ meaning_of (Entry NotEnough) = codes "the account holds less than is to be redee
 meaning_of (Entry DayGoesBack) = codes "the day of the run is before that of the last run"
 meaning_of Line = codes "the line of the script asks nothing that the desk knows, or its body has no end"
 meaning_of NoSuchMessage = codes "the participant was not sent so many messages"
+meaning_of NotOurFile = codes "the file is none of a desk's: it is no database, or its tables are not those that accepted entries leave"
+meaning_of OtherVersion = codes "the tables of the file are of another version"
 meaning_of NoMemory = codes "memory is wanting; nothing was changed"
-meaning_of DeviceFailed = codes "the device under the tables failed; nothing was changed"
+meaning_of DeviceFailed = codes "the device under the tables failed, or the file cannot be opened or closed; nothing was changed"
 meaning_of DeskClosed = codes "the desk is closed: it could not be shown that its tables are as before"
 
 -- what to do about it, in a line
@@ -94,13 +98,15 @@ remedy_of (Entry NotEnough) = codes "Redeem or pay out less, or wait for what is
 remedy_of (Entry DayGoesBack) = codes "Run for the day of the last run, or for a later one."
 remedy_of Line = codes "Write one of the lines of a script (./desk help play), and end a body by a line that is a full stop."
 remedy_of NoSuchMessage = codes "Count from 1; or ask again later, no more was sent yet."
+remedy_of NotOurFile = codes "Name the desk's own file, or bring back a sound copy of it: what is told on standard error says where it differs. A new name makes a new desk."
+remedy_of OtherVersion = codes "Open it by the program of that version."
 remedy_of NoMemory = codes "Ask again, with more memory."
-remedy_of DeviceFailed = codes "See to the device, and ask again."
-remedy_of DeskClosed = codes "Ask it no more: look at the device, and begin with a desk on sound tables."
+remedy_of DeviceFailed = codes "See to the device, to the name of the file, and that no other program has it open (docs/STORE.md), and ask again."
+remedy_of DeskClosed = codes "Ask it no more: see to the device, and run the desk anew over its file. The last command stands there or not; send it again, and it acts once."
 
--- a number from 60 on is that of a fault, which is no refusal
+-- a number from 50 on is that of a fault, which is no refusal
 abbrev pub word_of : ℕ → List ℕ
-word_of number = if nat_lt number 60 then codes "refused" else codes "fault"
+word_of number = if nat_lt number 50 then codes "refused" else codes "fault"
 
 -- how an answer begins that tells the cause
 abbrev pub heading_of : Cause → List ℕ

@@ -32,16 +32,20 @@ pub enum Cause {
     Line,
     /// There is no such sent message (42).
     NoSuchMessage,
+    /// The file is none of a desk's (50).
+    NotOurFile,
+    /// The file is one of another version (51).
+    OtherVersion,
     /// Memory is wanting (60).
     NoMemory,
-    /// The device failed (61).
+    /// The device failed, or the file cannot be opened or closed (61).
     DeviceFailed,
     /// The desk is closed (62).
     DeskClosed,
 }
 
 /// Each cause, in the order of the numbers.
-pub const CAUSES: [Cause; 34] = [
+pub const CAUSES: [Cause; 36] = [
     Cause::NotBlock,
     Cause::BadLine,
     Cause::BadNesting,
@@ -73,6 +77,8 @@ pub const CAUSES: [Cause; 34] = [
     Cause::Entry(Refusal::DayGoesBack),
     Cause::Line,
     Cause::NoSuchMessage,
+    Cause::NotOurFile,
+    Cause::OtherVersion,
     Cause::NoMemory,
     Cause::DeviceFailed,
     Cause::DeskClosed,
@@ -95,6 +101,8 @@ impl Cause {
             Cause::Command => 30,
             Cause::Line => 41,
             Cause::NoSuchMessage => 42,
+            Cause::NotOurFile => 50,
+            Cause::OtherVersion => 51,
             Cause::NoMemory => 60,
             Cause::DeviceFailed => 61,
             Cause::DeskClosed => 62,
@@ -192,8 +200,14 @@ impl Cause {
                 "the line of the script asks nothing that the desk knows, or its body has no end"
             }
             Cause::NoSuchMessage => { "the participant was not sent so many messages" }
+            Cause::NotOurFile => {
+                "the file is none of a desk's: it is no database, or its tables are not those that accepted entries leave"
+            }
+            Cause::OtherVersion => { "the tables of the file are of another version" }
             Cause::NoMemory => { "memory is wanting; nothing was changed" }
-            Cause::DeviceFailed => { "the device under the tables failed; nothing was changed" }
+            Cause::DeviceFailed => {
+                "the device under the tables failed, or the file cannot be opened or closed; nothing was changed"
+            }
             Cause::DeskClosed => {
                 "the desk is closed: it could not be shown that its tables are as before"
             }
@@ -290,10 +304,16 @@ impl Cause {
                 "Write one of the lines of a script (./desk help play), and end a body by a line that is a full stop."
             }
             Cause::NoSuchMessage => { "Count from 1; or ask again later, no more was sent yet." }
+            Cause::NotOurFile => {
+                "Name the desk's own file, or bring back a sound copy of it: what is told on standard error says where it differs. A new name makes a new desk."
+            }
+            Cause::OtherVersion => { "Open it by the program of that version." }
             Cause::NoMemory => { "Ask again, with more memory." }
-            Cause::DeviceFailed => { "See to the device, and ask again." }
+            Cause::DeviceFailed => {
+                "See to the device, to the name of the file, and that no other program has it open (docs/STORE.md), and ask again."
+            }
             Cause::DeskClosed => {
-                "Ask it no more: look at the device, and begin with a desk on sound tables."
+                "Ask it no more: see to the device, and run the desk anew over its file. The last command stands there or not; send it again, and it acts once."
             }
         }
     }

@@ -14,7 +14,7 @@ pub fn write_cause<W: Sink>(cause: Cause, writer: &mut W) -> io::Result<()>
     ensures failed { OnErr result (W.may_fail ≡ true) }
 {
     let number = cause.number();
-    let word = if number < 60 { "refused" } else { "fault" };
+    let word = if number < 50 { "refused" } else { "fault" };
     let meaning = cause.meaning();
     let remedy = cause.remedy();
     writer.put_text(format_args!("{word} {number}: {meaning}\n    {remedy}\n"))

@@ -2,21 +2,28 @@
 ghost use Rattle.std.specs.Prelude.{◌≡◌, ◌⊎◌, true, false, None, IfOk, OnErr, OnOk};
 ghost use Rattle.std.specs.Io.KnownBytes.{Appends};
 ghost use Rattle.desk_rules.specs.Books.{Books};
-ghost use Rattle.desk_index.specs.IndexView.{view_of_index};
-ghost use Rattle.desk_book.specs.Held.{Holds};
+ghost use Rattle.desk_register.specs.View.{IsLater};
+ghost use Rattle.desk_book.specs.Held.{Holds, IsReady};
 ghost use Rattle.desk_http.specs.Served.{Serves};
-ghost use Rattle.desk.specs.ServeAnswer.{HoldsOn, IsServeAnswer, listening_line};
+ghost use Rattle.desk_opening.specs.Opened.{view_of_both};
+ghost use Rattle.desk.specs.ServeAnswer.{HoldsOn, IsFileServeAnswer, IsServeAnswer, listening_line};
 
 use crate::status::{Failure, Status, tell_failure};
-use crate::words::Service;
+use crate::store::{close, connection_of, ended, open};
+use crate::teller::{Nobody, Teller, Watch};
 use desk_book::{CHUNK, Desk};
 use desk_http::{Routes, serve_one};
 use desk_index::IndexedRegister;
+use desk_mirror::MirroredRegister;
+use desk_register::Register;
 use desk_rules::MOST_ENTRIES;
 use desk_streams::Sink;
+use sql_register::SqlRegister;
+use sqlite::{Alter, Connection};
 use std::alloc::Global;
 use std::io::{self, Read};
 use std::net::{Ipv4Addr, Net, Shutdown, TcpListener, TcpStream};
+use std::rt::HostRuntime;
 use std::time::Duration;
 
 /// So many seconds may a read, or a write, of a connection wait for its client.
@@ -34,39 +41,105 @@ const MOST_LAST_READS: usize = 1024;
 pub fn answer_serve<N: Net<Listener = TcpListener, Stream = TcpStream>, W: Sink>(
     net: &N,
     alloc: Global,
-    service: Service,
+    port: u16,
+    count: u32,
     writer: &mut W,
 ) -> io::Result<Status>
-    ensures told { IfOk result (λ status. IsServeAnswer service.port status (Appends (W.contents writer.old) (W.contents writer.new))) }
+    ensures told { IfOk result (λ status. IsServeAnswer port status (Appends (W.contents writer.old) (W.contents writer.new))) }
+    ensures failed { OnErr result (W.may_fail ≡ true) }
+{
+    let mut desk = Desk::new(IndexedRegister::new(alloc, MOST_ENTRIES));
+    serve_desk(net, alloc, port, count, &mut desk, &mut Nobody, writer)
+}
+
+/// The same on the desk of a file, which is made where there is none. It is opened before it is told where it listens, and closed
+/// at the end; a file that is not opened, or not closed, is its fault. Where the desk is closed, standard error says so.
+pub fn answer_serve_on<W: Sink>(
+    rt: &HostRuntime,
+    path: &str,
+    port: u16,
+    count: u32,
+    writer: &mut W,
+) -> io::Result<Status>
+    ensures told { IfOk result (λ status. IsFileServeAnswer port status (Appends (W.contents writer.old) (W.contents writer.new))) }
+    ensures failed { OnErr result (W.may_fail ≡ true) }
+{
+    match open(rt, path) {
+        Ok(both) => {
+            let mut teller = Teller::new(rt, path);
+            let (told, conn) = serve_on_both(rt, port, count, both, &mut teller, writer);
+            ended(&teller, told, close(rt, path, conn), writer)
+        }
+        Err(failure) => tell_failure(failure, writer),
+    }
+}
+
+/// The same over tables with a register in memory beside them, of which the connection is given back.
+fn serve_on_both<S: Alter + Drop, P: Watch, W: Sink>(
+    rt: &HostRuntime,
+    port: u16,
+    count: u32,
+    both: MirroredRegister<IndexedRegister, SqlRegister<S>>,
+    watch: &mut P,
+    writer: &mut W,
+) -> (io::Result<Status>, Connection<S>)
+    requires { IsReady false (view_of_both both) }
+    ensures told { IfOk result.0 (λ status. IsServeAnswer port status (Appends (W.contents writer.old) (W.contents writer.new))) }
+    ensures failed { OnErr result.0 (W.may_fail ≡ true) }
+{
+    let mut desk = Desk::new(both);
+    let told = serve_desk(rt, rt.alloc(), port, count, &mut desk, watch, writer);
+    (told, connection_of(desk.into_register()))
+}
+
+/// Serves so many connections on a desk, once it has told where it listens.
+fn serve_desk<
+    N: Net<Listener = TcpListener, Stream = TcpStream>,
+    D: Register + Drop,
+    P: Watch,
+    W: Sink,
+>(
+    net: &N,
+    alloc: Global,
+    port: u16,
+    count: u32,
+    desk: &mut Desk<D>,
+    watch: &mut P,
+    writer: &mut W,
+) -> io::Result<Status>
+    ensures told { IfOk result (λ status. IsServeAnswer port status (Appends (W.contents writer.old) (W.contents writer.new))) }
+    ensures keeps { (D.view desk.new.register).is_honest → HoldsOn desk.old.is_closed (D.view desk.old.register) desk.new.is_closed (D.view desk.new.register) }
     ensures failed { OnErr result (W.may_fail ≡ true) }
 {
     let Ok(routes) = Routes::new(alloc) else {
         return tell_failure(Failure::Memory, writer);
     };
-    let Ok(listener) = TcpListener::bind(net, (Ipv4Addr::LOCALHOST, service.port)) else {
+    let Ok(listener) = TcpListener::bind(net, (Ipv4Addr::LOCALHOST, port)) else {
         return tell_failure(Failure::Input, writer);
     };
-    tell_port(service.port, writer)?;
-    let mut desk = Desk::new(IndexedRegister::new(alloc, MOST_ENTRIES));
-    serve_all(alloc, &routes, &listener, service.count, &mut desk);
+    tell_port(port, writer)?;
+    serve_all(alloc, &routes, &listener, count, desk, watch);
     Ok(Status::Done)
 }
 
 /// Serves so many connections, one after another, of which those that could not be accepted are passed over.
-fn serve_all(
+fn serve_all<D: Register + Drop, P: Watch>(
     alloc: Global,
     routes: &Routes,
     listener: &TcpListener,
     count: u32,
-    desk: &mut Desk<IndexedRegister>,
+    desk: &mut Desk<D>,
+    watch: &mut P,
 )
-    ensures keeps { HoldsOn desk.old.is_closed (view_of_index desk.old.register) desk.new.is_closed (view_of_index desk.new.register) }
-    ensures open { desk.old.is_closed ≡ false → desk.new.is_closed ≡ false }
+    ensures keeps { (D.view desk.new.register).is_honest → HoldsOn desk.old.is_closed (D.view desk.old.register) desk.new.is_closed (D.view desk.new.register) }
+    ensures later { IsLater (D.view desk.old.register) (D.view desk.new.register) }
+    ensures open { D.in_memory ≡ true → desk.old.is_closed ≡ false → desk.new.is_closed ≡ false }
 {
     'connections: for _ in 0..count {
         if let Ok((stream, _)) = listener.accept() {
             serve_stream(alloc, routes, &stream, desk);
             see_off(&stream);
+            watch.look(desk.is_closed());
         }
     }
 }
@@ -82,16 +155,16 @@ fn tell_port<W: Sink>(port: u16, writer: &mut W) -> io::Result<()>
 
 /// Serves one connection, whose client may keep a read or a write waiting so long. A fault is passed over: nothing was
 /// asked, or what was asked stands.
-fn serve_stream(
+fn serve_stream<D: Register + Drop>(
     alloc: Global,
     routes: &Routes,
     stream: &TcpStream,
-    desk: &mut Desk<IndexedRegister>,
+    desk: &mut Desk<D>,
 )
-    ensures served { (books : Books) → Holds desk.old.is_closed (view_of_index desk.old.register) books
-        → (desk.new ≡ desk.old) ⊎ Serves desk.old.is_closed books None desk.new.is_closed (view_of_index desk.old.register) (view_of_index desk.new.register) }
-    ensures room { (view_of_index desk.new.register).room ≡ (view_of_index desk.old.register).room }
-    ensures open { desk.old.is_closed ≡ false → desk.new.is_closed ≡ false }
+    ensures served { (D.view desk.new.register).is_honest → (books : Books) → Holds desk.old.is_closed (D.view desk.old.register) books
+        → (desk.new ≡ desk.old) ⊎ Serves desk.old.is_closed books None desk.new.is_closed (D.view desk.old.register) (D.view desk.new.register) }
+    ensures later { IsLater (D.view desk.old.register) (D.view desk.new.register) }
+    ensures open { D.in_memory ≡ true → desk.old.is_closed ≡ false → desk.new.is_closed ≡ false }
 {
     let patience = Some(Duration::from_secs(PATIENCE));
     if stream.set_read_timeout(patience).is_err() || stream.set_write_timeout(patience).is_err() {

@@ -242,6 +242,6 @@ fn tell_heading<W: Sink>(cause: Cause, writer: &mut W) -> io::Result<()>
     ensures failed { OnErr result (W.may_fail ≡ true) }
 {
     let number = cause.number();
-    let word = if number < 60 { "refused" } else { "fault" };
+    let word = if number < 50 { "refused" } else { "fault" };
     writer.put_text(format_args!("{word} {number}"))
 }

@@ -1,13 +1,16 @@
 //! What the words ask for.
-ghost use Rattle.std.specs.Prelude.{◌≡◌, ◌⊎◌, ◌<◌, ◌^◌, decimal, [], ◌∷◌, ℕ, List, true, codes, map, IfErr, IfOk, IfSome, IsSomeAnd, MatchResult};
+ghost use Rattle.std.specs.Prelude.{◌≡◌, ◌⊎◌, ◌<◌, ◌^◌, decimal, [], ◌∷◌, ℕ, List, Some, true, codes, map, IfErr, IfOk, IfSome, IsSomeAnd, MatchResult};
 ghost use Rattle.clap.specs.Words.{first_value, found_of, kind_of, one_text, rows_of, subcommand_rows_of};
+ghost use Rattle.desk_codes.specs.Bic.{IsBic};
 ghost use Rattle.desk_msg.specs.MessageType.{digits_of_type, is_instruction, number_of_type};
 ghost use Rattle.desk_msg.specs.declared.mt.Mt.{Mt};
-ghost use Rattle.desk.specs.Words.{CallValue, IsAskable, IsErrorIn, IsSpelledOut, ReadsOnlyInstructions, IsSaid, IsSaidBy, IsSaidIn, IsNumberText, IsTopic, IsTypeText, value_of_call, words_for};
+ghost use Rattle.desk.specs.Words.{CallValue, IsAskable, IsBicText, IsErrorIn, IsSpelledOut, ReadsOnlyInstructions, IsSaid, IsSaidBy, IsSaidIn, IsNumberText, IsTopic, IsTypeText, value_of_call, words_for};
 
 use super::parser::desk;
 use clap::ArgMatches;
 use clap::error::{Error, ErrorKind};
+use desk_book::party;
+use desk_codes::Bic;
 use desk_msg::Mt;
 use std::alloc::{AllocError, Global};
 use std::convert::AsStr;
@@ -19,14 +22,22 @@ pub enum Call<'a> {
     Isin(&'a str),
     /// What a message of a type says
     Read(Mt),
-    /// A script's answers
+    /// A script's answers, on a desk in memory
     Play,
+    /// A script's answers, on the desk of a file
+    PlayOn(&'a str),
     /// What is refused in a script
     Check,
     /// What is told in place of an answer, explained
     Explain(Topic),
-    /// Requests over HTTP
-    Serve(Service),
+    /// Requests over HTTP at a port of 127.0.0.1, of so many connections, on a desk in memory
+    Serve(u16, u32),
+    /// The same on the desk of a file
+    ServeOn(&'a str, u16, u32),
+    /// What an account holds, by the desk of a file: the participant, and its account
+    Holdings(&'a str, Bic, &'a str),
+    /// The totals of the desk of a file
+    Sums(&'a str),
 }
 
 /// What is explained.
@@ -40,11 +51,11 @@ pub enum Topic {
 
 /// What is served.
 #[derive(Clone, Copy)]
-pub struct Service {
+struct Service {
     /// The port of 127.0.0.1
-    pub port: u16,
+    port: u16,
     /// How many connections
-    pub count: u32,
+    count: u32,
 }
 
 /// Reads the words, the program's own name first. An error is help that was asked for, words that fit no
@@ -55,7 +66,7 @@ pub fn call_of<'a, S: AsStr>(alloc: Global, words: &'a [S]) -> Result<Call<'a>, 
     ensures asked { (program : List ℕ) (asked : CallValue) → IsAskable asked → map S.text words.entry.now ≡ program ∷ words_for asked
         → MatchResult result (λ call. value_of_call call ≡ asked) (λ error. kind_of error ≡ ErrorKind.OutOfMemory) }
     ensures nothing { (program : List ℕ) → map S.text words.entry.now ≡ program ∷ []
-        → MatchResult result (λ call. value_of_call call ≡ CallValue.play) (λ error. kind_of error ≡ ErrorKind.OutOfMemory) }
+        → MatchResult result (λ call. value_of_call call ≡ CallValue.play None) (λ error. kind_of error ≡ ErrorKind.OutOfMemory) }
     ensures wrong { IfErr result (λ error. (kind_of error ≡ ErrorKind.OutOfMemory) ⊎ IsErrorIn (kind_of error) (map S.text words.entry.now)) }
 {
     let matches = desk(alloc)?.try_get_matches_from(words)?;
@@ -79,7 +90,7 @@ fn call_in<'a>(matches: &ArgMatches<'a>) -> Option<Call<'a>>
     ensures said { IfSome result (λ call. IsSaidIn (value_of_call call) (subcommand_rows_of matches.now)) }
     ensures asked { (asked : CallValue) → IsSomeAnd (subcommand_rows_of matches.now) (λ found. IsSpelledOut asked found.0 found.1)
         → IsSomeAnd result (λ call. value_of_call call ≡ asked) }
-    ensures nothing { subcommand_rows_of matches.now ≡ None → IsSomeAnd result (λ call. value_of_call call ≡ CallValue.play) }
+    ensures nothing { subcommand_rows_of matches.now ≡ None → IsSomeAnd result (λ call. value_of_call call ≡ CallValue.play None) }
 {
     match matches.subcommand() {
         Some((name, inner)) => subcommand_call(name, inner),
@@ -97,10 +108,12 @@ fn subcommand_call<'a>(name: &str, inner: &ArgMatches<'a>) -> Option<Call<'a>>
     match name {
         "isin" => Some(Call::Isin(inner.get_str("code")?)),
         "read" => Some(Call::Read(type_in(inner)?)),
-        "play" => Some(Call::Play),
+        "play" => Some(play_call(inner)),
         "check" => Some(Call::Check),
         "explain" => Some(Call::Explain(topic_in(inner)?)),
-        "serve" => Some(Call::Serve(service_in(inner)?)),
+        "serve" => serve_call(inner),
+        "holdings" => holdings_call(inner),
+        "sums" => Some(Call::Sums(inner.get_str("db")?)),
         _ => None,
     }
 }
@@ -128,6 +141,32 @@ fn topic_in(inner: &ArgMatches) -> Option<Topic>
     }
 }
 
+/// A script, on the desk of the file that is named, if one is.
+fn play_call<'a>(inner: &ArgMatches<'a>) -> Call<'a>
+    ensures readable { ReadsOnlyInstructions result }
+    ensures said { IsSaid (value_of_call result) (codes "play") (rows_of (found_of inner.now)) }
+    ensures asked { (asked : CallValue) → IsSpelledOut asked (codes "play") (rows_of (found_of inner.now)) → value_of_call result ≡ asked }
+{
+    match inner.get_str("db") {
+        Some(db) => Call::PlayOn(db),
+        None => Call::Play,
+    }
+}
+
+/// Connections, on the desk of the file that is named, if one is.
+fn serve_call<'a>(inner: &ArgMatches<'a>) -> Option<Call<'a>>
+    ensures readable { IfSome result ReadsOnlyInstructions }
+    ensures said { IfSome result (λ call. IsSaid (value_of_call call) (codes "serve") (rows_of (found_of inner.now))) }
+    ensures asked { (asked : CallValue) → IsSpelledOut asked (codes "serve") (rows_of (found_of inner.now))
+        → IsSomeAnd result (λ call. value_of_call call ≡ asked) }
+{
+    let service = service_in(inner)?;
+    match inner.get_str("db") {
+        Some(db) => Some(Call::ServeOn(db, service.port, service.count)),
+        None => Some(Call::Serve(service.port, service.count)),
+    }
+}
+
 /// What is to be served.
 fn service_in(inner: &ArgMatches) -> Option<Service>
     ensures port { IfSome result (λ service. IsSomeAnd (one_text (found_of inner.now) (codes "port")) (IsNumberText service.port)) }
@@ -139,6 +178,27 @@ fn service_in(inner: &ArgMatches) -> Option<Service>
     let port = inner.get_one::<u16>("port")?;
     let count = inner.get_one::<u32>("count")?;
     Some(Service { port, count })
+}
+
+/// What an account holds, by the desk of a file.
+fn holdings_call<'a>(inner: &ArgMatches<'a>) -> Option<Call<'a>>
+    ensures readable { IfSome result ReadsOnlyInstructions }
+    ensures said { IfSome result (λ call. IsSaid (value_of_call call) (codes "holdings") (rows_of (found_of inner.now))) }
+    ensures asked { (asked : CallValue) → IsSpelledOut asked (codes "holdings") (rows_of (found_of inner.now))
+        → IsSomeAnd result (λ call. value_of_call call ≡ asked) }
+{
+    let db = inner.get_str("db")?;
+    let owner = owner_in(inner)?;
+    let account = inner.get_str("account")?;
+    Some(Call::Holdings(db, owner, account))
+}
+
+/// The participant whose account is asked for.
+fn owner_in(inner: &ArgMatches) -> Option<Bic>
+    ensures said { IfSome result (λ owner. IsSomeAnd (first_value (found_of inner.now) (codes "bic")) (IsBicText owner)) }
+    ensures asked { (bic : List ℕ) → IsBic bic → first_value (found_of inner.now) (codes "bic") ≡ Some bic → IsSomeAnd result (λ owner. owner ≡ bic) }
+{
+    party(inner.get_str("bic")?.as_bytes())
 }
 
 /// The type of an instruction by its number.

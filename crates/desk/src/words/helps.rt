@@ -17,12 +17,14 @@ pub const PROGRAM: &str = "\
 Exit status:
   0  done
   1  refused: the code is no ISIN, the text is no message, a request of the script that
-     was checked is refused, or the number is told of nothing
+     was checked is refused, the account is not the participant's, or the number is told
+     of nothing
   2  usage: the words are wrong
-  3  fault: memory, the input or the output failed
+  3  fault: memory, the input, the output or the file of the desk failed, or the file is
+     none of a desk's
 
 Example:
-  ./desk play < examples/day/day.script";
+  ./desk play --db day.db < examples/day/day.script";
 
 /// Of `desk isin`
 pub const ISIN: &str = "\
@@ -56,12 +58,16 @@ empty ones belong to it. So a message with a line that is a full stop cannot be 
 stands behind that line is taken for lines of the script, which may be commands. Who makes a script of
 messages that others wrote must first refuse such a line, or send them over HTTP (desk serve).
 An answer is its status and, of a message, its type; the text; and a line that is a full stop. The status
-is 200, or 400 for what cannot be read, 422 for what is refused and 503 where memory is wanting; `desk
-explain` tells what the numbers behind `refused` and `fault` mean. A script that cannot be read, or is too
+is 200, or 400 for what cannot be read, 422 for what is refused, 503 where memory is wanting and 500 where
+the file fails; `desk explain` tells what the numbers behind `refused` and `fault` mean. A script that cannot be read, or is too
 long, is `fault io`, and nothing of it is asked. docs/RULES.md tells all of it.
+With --db the desk is the one of that file: it goes on where it ended, and the file holds each command that
+is answered `accepted`, whatever happens then. Where there is no file it is made. A file that is none of a
+desk's is `fault 50`, and its bytes stay; one that cannot be opened, or is in use, is `fault 61`; standard
+error tells more. Without --db the desk is in memory, and is gone at the end.
 
 Example:
-  ./desk play < examples/day/day.script";
+  ./desk play --db day.db < examples/day/day.script";
 
 /// Of `desk check`
 pub const CHECK: &str = "\
@@ -87,6 +93,26 @@ pub const SERVE: &str = "\
 It asks nobody who he is: it takes commands from everybody who reaches the port. Where the port is in use,
 or may not be had, it is `fault io`. An answer with the text `refused NNN`, NNN being its status, is HTTP's
 own; of other numbers `desk explain` tells what they mean. docs/RULES.md has the requests.
+With --db the desk is the one of that file, as in `desk play --db`. It is opened before `listening` is
+printed, and closed once so many connections are served.
 
 Example:
-  ./desk serve --port 8000 --count 100";
+  ./desk serve --db day.db --port 8000 --count 100";
+
+/// Of `desk holdings`
+pub const HOLDINGS: &str = "\
+It prints an MT535, row by row, or `refused 10` where the participant is none, and `refused 15` where the
+account is not its own; `desk explain` tells what the numbers mean. What the desk holds stays. Where there is
+no file none is made, and it is `fault 61`.
+
+Example:
+  ./desk holdings --db day.db ALPHDEFF ALPHA-CLIENT";
+
+/// Of `desk sums`
+pub const SUMS: &str = "\
+It prints a JSON object, row by row: of each currency what the participants hold together and what was paid
+in less what was paid out, and of each security what the accounts hold together and what is outstanding.
+What the desk holds stays. Where there is no file none is made, and it is `fault 61`.
+
+Example:
+  ./desk sums --db day.db";

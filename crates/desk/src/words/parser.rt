@@ -2,9 +2,9 @@
 ghost use Rattle.std.specs.Prelude.{◌≡◌, false, IfOk};
 ghost use Rattle.clap.specs.Words.{app_of, rule_of};
 ghost use Rattle.clap.specs.declared.builder.command.Command.TheViews.{out-Command};
-ghost use Rattle.desk.specs.Words.{bare_app, check_app, count_rule, desk_app, explain_app, isin_app, play_app, port_rule, read_app, serve_app};
+ghost use Rattle.desk.specs.Words.{account_rule, bare_app, bic_rule, check_app, count_rule, db_rule, desk_app, explain_app, holdings_app, isin_app, needed_db_rule, play_app, port_rule, read_app, serve_app, sums_app};
 
-use super::helps::{CHECK, EXPLAIN, ISIN, PLAY, PROGRAM, READ, SERVE, VERSION};
+use super::helps::{CHECK, EXPLAIN, HOLDINGS, ISIN, PLAY, PROGRAM, READ, SERVE, SUMS, VERSION};
 use clap::{Arg, Command, value_parser};
 use std::alloc::{AllocError, Global};
 
@@ -21,7 +21,9 @@ pub fn desk<'a>(alloc: Global) -> Result<Command<'a>, AllocError>
         .subcommand(play(alloc)?)?
         .subcommand(check(alloc)?)?
         .subcommand(explain(alloc)?)?
-        .subcommand(serve(alloc)?)
+        .subcommand(serve(alloc)?)?
+        .subcommand(holdings(alloc)?)?
+        .subcommand(sums(alloc)?)
 }
 
 /// The program, without its subcommands.
@@ -69,13 +71,12 @@ fn play<'a>(alloc: Global) -> Result<Command<'a>, AllocError>
     ensures app { IfOk result (λ command. app_of command ≡ play_app) }
     ensures local { IfOk result (λ command. (out-Command command).has_globals ≡ false) }
 {
-    Ok(
-        Command::new(alloc, "play")
-            .about(
-                "Plays a script of requests from standard input on a desk in memory (the default)",
-            )
-            .after_help(PLAY),
-    )
+    Command::new(alloc, "play")
+        .about(
+            "Plays a script of requests from standard input on the desk of a file, or one in memory (the default)",
+        )
+        .after_help(PLAY)
+        .arg(db(alloc))
 }
 
 fn check<'a>(alloc: Global) -> Result<Command<'a>, AllocError>
@@ -110,11 +111,75 @@ fn serve<'a>(alloc: Global) -> Result<Command<'a>, AllocError>
 {
     Command::new(alloc, "serve")
         .about(
-            "Serves requests over HTTP on 127.0.0.1, one connection after another, on a desk in memory",
+            "Serves requests over HTTP on 127.0.0.1, one connection after another, on the desk of a file, or one in memory",
         )
         .after_help(SERVE)
+        .arg(db(alloc))?
         .arg(port(alloc))?
         .arg(count(alloc))
+}
+
+fn holdings<'a>(alloc: Global) -> Result<Command<'a>, AllocError>
+    ensures app { IfOk result (λ command. app_of command ≡ holdings_app) }
+    ensures local { IfOk result (λ command. (out-Command command).has_globals ≡ false) }
+{
+    Command::new(alloc, "holdings")
+        .about("Prints what a participant's account holds, by the desk of a file")
+        .after_help(HOLDINGS)
+        .arg(needed_db(alloc))?
+        .arg(bic(alloc))?
+        .arg(account(alloc))
+}
+
+fn sums<'a>(alloc: Global) -> Result<Command<'a>, AllocError>
+    ensures app { IfOk result (λ command. app_of command ≡ sums_app) }
+    ensures local { IfOk result (λ command. (out-Command command).has_globals ≡ false) }
+{
+    Command::new(alloc, "sums")
+        .about("Prints the totals of all accounts and participants, by the desk of a file")
+        .after_help(SUMS)
+        .arg(needed_db(alloc))
+}
+
+fn db<'a>(alloc: Global) -> Arg<'a>
+    ensures rule { rule_of result ≡ db_rule }
+    ensures local { result.global ≡ false }
+{
+    Arg::new(alloc, "db")
+        .long("db")
+        .value_name("FILE")
+        .help("The desk's file; where there is none it is made")
+}
+
+fn needed_db<'a>(alloc: Global) -> Arg<'a>
+    ensures rule { rule_of result ≡ needed_db_rule }
+    ensures local { result.global ≡ false }
+{
+    Arg::new(alloc, "db")
+        .long("db")
+        .value_name("FILE")
+        .help("The desk's file, which is there")
+        .required(true)
+}
+
+fn bic<'a>(alloc: Global) -> Arg<'a>
+    ensures rule { rule_of result ≡ bic_rule }
+    ensures local { result.global ≡ false }
+{
+    Arg::new(alloc, "bic")
+        .value_name("BIC")
+        .help("The participant, as ALPHDEFF")
+        .required(true)
+}
+
+fn account<'a>(alloc: Global) -> Arg<'a>
+    ensures rule { rule_of result ≡ account_rule }
+    ensures local { result.global ≡ false }
+{
+    Arg::new(alloc, "account")
+        .value_name("ACCOUNT")
+        .help("Its account, as A-1")
+        .required(true)
 }
 
 fn port<'a>(alloc: Global) -> Arg<'a>

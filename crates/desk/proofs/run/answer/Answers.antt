@@ -1,20 +1,41 @@
-use Rattle.std.proofs.Common.{refl}
+use Rattle.std.proofs.Common.{refl, Some, None, []}
 use Rattle.std.specs.Io.KnownBytes.{Appends}
-use Rattle.desk.proofs.RunLemmas.{check_told, explain_told, play_told, read_told}
+use Rattle.desk.proofs.RunLemmas.{told_of, told_unread}
+use Rattle.desk.specs.ExplainAnswer.{IsExplainAnswer}
+use Rattle.desk.specs.ReportAnswer.{IsReportAnswer, asked_for}
+use Rattle.desk.specs.Words.{explain, holdings, sums}
+use Rattle.desk.specs.declared.words.calls.Call.TheVariants as call
 use Rattle.desk.proofs.run.answer.Goals as goal
 
 pub returns-in-Read-clause-told : goal.returns-in-Read-clause-told
 returns-in-Read-clause-told g c =
-    read_told c.answer_read.result (g.R.Read.remaining c.args.reader.now) _ g.R.Source.may_fail (Appends (g.W.Write.contents c.args.writer.now) (g.W.Write.contents c.answer_read.new.writer)) c.args.call c.in-Read.mt _ c.in-Read.is c.in-Read.mt-is
-    c.answer_read.ensures.told
+    told_of c.answer_read.result (g.R.Read.remaining c.args.reader.now) _ g.R.Source.may_fail (Appends (g.W.Write.contents c.args.writer.now) (g.W.Write.contents c.answer_read.new.writer)) c.args.call (call.Read c.in-Read.mt) c.in-Read.is c.answer_read.ensures.told
 
 pub returns-in-Play-clause-told : goal.returns-in-Play-clause-told
-returns-in-Play-clause-told g c = play_told c.answer_play.result (g.R.Read.remaining c.args.reader.now) _ g.R.Source.may_fail (Appends (g.W.Write.contents c.args.writer.now) (g.W.Write.contents c.answer_play.new.writer)) c.args.call c.in-Play.is c.answer_play.ensures.told
+returns-in-Play-clause-told g c =
+    told_of c.answer_play.result (g.R.Read.remaining c.args.reader.now) _ g.R.Source.may_fail (Appends (g.W.Write.contents c.args.writer.now) (g.W.Write.contents c.answer_play.new.writer)) c.args.call call.Play c.in-Play.is c.answer_play.ensures.told
 
 pub returns-in-Check-clause-told : goal.returns-in-Check-clause-told
-returns-in-Check-clause-told g c = check_told c.answer_check.result (g.R.Read.remaining c.args.reader.now) _ g.R.Source.may_fail (Appends (g.W.Write.contents c.args.writer.now) (g.W.Write.contents c.answer_check.new.writer)) c.args.call c.in-Check.is c.answer_check.ensures.told
+returns-in-Check-clause-told g c =
+    told_of c.answer_check.result (g.R.Read.remaining c.args.reader.now) _ g.R.Source.may_fail (Appends (g.W.Write.contents c.args.writer.now) (g.W.Write.contents c.answer_check.new.writer)) c.args.call call.Check c.in-Check.is c.answer_check.ensures.told
 
 pub returns-in-Explain-clause-told : goal.returns-in-Explain-clause-told
 returns-in-Explain-clause-told g c =
-    explain_told c.answer_explain.result (g.R.Read.remaining c.args.reader.now) _ g.R.Source.may_fail (Appends (g.W.Write.contents c.args.writer.now) (g.W.Write.contents c.answer_explain.new.writer)) c.args.call c.in-Explain.topic _ c.in-Explain.is c.in-Explain.topic-is refl
-    c.answer_explain.ensures.told
+    let P = (Appends (g.W.Write.contents c.args.writer.now) (g.W.Write.contents c.answer_explain.new.writer)) in
+    told_of c.answer_explain.result (g.R.Read.remaining c.args.reader.now) _ g.R.Source.may_fail P c.args.call (call.Explain c.in-Explain.topic) c.in-Explain.is
+    (told_unread c.answer_explain.result (g.R.Read.remaining c.args.reader.now) _ g.R.Source.may_fail P (explain c.in-Explain.topic) (λ status. IsExplainAnswer c.in-Explain.topic status P) refl c.answer_explain.ensures.told (λ status unread t. (unread, t)))
+
+pub returns-in-Holdings-clause-told : goal.returns-in-Holdings-clause-told
+returns-in-Holdings-clause-told g c =
+    let P = (Appends (g.W.Write.contents c.args.writer.now) (g.W.Write.contents c.answer_report.new.writer)) in
+    let owner = c.in-Holdings.owner in
+    let account = c.in-Holdings.account.now in
+    told_of c.answer_report.result (g.R.Read.remaining c.args.reader.now) _ g.R.Source.may_fail P c.args.call (call.Holdings c.in-Holdings.db owner c.in-Holdings.account) c.in-Holdings.is
+    (told_unread c.answer_report.result (g.R.Read.remaining c.args.reader.now) _ g.R.Source.may_fail P (holdings c.in-Holdings.db.now owner account) (λ status. IsReportAnswer (asked_for (Some owner) account) status P) refl
+    (rw c.as_bytes-in-Holdings.ensures.value at c.answer_report.ensures.told) (λ status unread t. (unread, t)))
+
+pub returns-in-Sums-clause-told : goal.returns-in-Sums-clause-told
+returns-in-Sums-clause-told g c =
+    let P = (Appends (g.W.Write.contents c.args.writer.now) (g.W.Write.contents c.answer_report-in-Sums.new.writer)) in
+    told_of c.answer_report-in-Sums.result (g.R.Read.remaining c.args.reader.now) _ g.R.Source.may_fail P c.args.call (call.Sums c.in-Sums.db) c.in-Sums.is
+    (told_unread c.answer_report-in-Sums.result (g.R.Read.remaining c.args.reader.now) _ g.R.Source.may_fail P (sums c.in-Sums.db.now) (λ status. IsReportAnswer (asked_for None []) status P) refl c.answer_report-in-Sums.ensures.told (λ status unread t. (unread, t)))

@@ -1,4 +1,4 @@
-use Rattle.std.proofs.Common.{◌≡◌, refl}
+use Rattle.std.proofs.Common.{◌≡◌, None, refl}
 use Rattle.std.specs.Io.KnownBytes.{Appends}
 use Rattle.clap.specs.Words.{kind_of}
 use Rattle.desk.specs.Words.{value_of_call, play}
@@ -16,12 +16,12 @@ returns-in-Err-clause-asked g c = λ program asked right are.
 
 pub returns-in-Ok-clause-nothing : goal.returns-in-Ok-clause-nothing
 returns-in-Ok-clause-nothing g c = λ program are.
-    let same : value_of_call c.in-Ok.call ≡ play = c.in-Ok.ensures.nothing program are in
+    let same : value_of_call c.in-Ok.call ≡ play None = c.in-Ok.ensures.nothing program are in
     rw same at (answered c.answer.result _ _ _ _ (value_of_call c.in-Ok.call) c.answer.ensures.told)
 
 pub returns-in-Err-clause-nothing : goal.returns-in-Err-clause-nothing
 returns-in-Err-clause-nothing g c = λ program are.
-    memory_told c.tell_error.result (g.R.Read.remaining c.args.reader.now) _ g.R.Source.may_fail (Appends (g.W.Write.contents c.args.writer.now) (g.W.Write.contents c.tell_error.new.writer)) play (kind_of c.in-Err.error) refl (c.in-Err.ensures.nothing program are) c.tell_error.ensures.memory
+    memory_told c.tell_error.result (g.R.Read.remaining c.args.reader.now) _ g.R.Source.may_fail (Appends (g.W.Write.contents c.args.writer.now) (g.W.Write.contents c.tell_error.new.writer)) (play None) (kind_of c.in-Err.error) refl (c.in-Err.ensures.nothing program are) c.tell_error.ensures.memory
 
 pub returns-in-Ok-clause-told : goal.returns-in-Ok-clause-told
 returns-in-Ok-clause-told g c = said c.answer.result _ _ _ _ (value_of_call c.in-Ok.call) _ c.in-Ok.ensures.said c.answer.ensures.told

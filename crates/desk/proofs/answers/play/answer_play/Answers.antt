@@ -1,33 +1,30 @@
-use Rattle.std.proofs.Common.{Err, refl, ap, lit<}
-use Rattle.desk_book.specs.declared.fault.InputFault.TheVariants.{Memory, ReadFailed, TooLong}
+use Rattle.std.proofs.Common.{◌≡◌, refl, lit<}
+use Rattle.std.specs.Io.KnownBytes.{Appends}
 use Rattle.desk_index.specs.IndexView.{view_of_index}
-use Rattle.desk.proofs.PlayLemmas.{limit_is, new_keeps, told, told_why}
 use Rattle.desk_engine.specs.Applied.{no_books}
 use Rattle.desk_book.proofs.FormedLemmas.{empty_formed}
+use Rattle.desk.specs.PlayAnswer.{IsPlayAnswer, told_no_script}
+use Rattle.desk.specs.declared.status.Status.TheVariants as exit
+use Rattle.desk.proofs.PlayLemmas.{limit_is, new_keeps, ok_then, told, told_played, where_played}
 use Rattle.desk.proofs.answers.play.answer_play.Goals as goal
 
 pub new-desk-requires : goal.new-desk-requires
 new-desk-requires g c = record { stage = λ is. c.new.ensures.stage; sure = λ is honest. tt; books = λ is honest. (no_books, empty_formed _ _ c.new.ensures.empty) }
 
-pub returns-in-Ok-clause-told : goal.returns-in-Ok-clause-told
-returns-in-Ok-clause-told g c =
+pub returns-clause-told : goal.returns-clause-told
+returns-clause-told g c =
     let made = c.new.result in
     let held = c.new-desk.result.register in
     let same = c.new-desk.ensures.register in
-    told (g.R.Read.remaining c.args.reader.now) _ _ _ _ c.new-desk.result.is_closed c.play.new.self.is_closed (view_of_index held) (view_of_index c.play.new.self.register) (limit_is made held same c.new.ensures.limit) c.in-Ok.ensures.left.later.room c.new-desk.ensures.open
-    (c.in-Ok.ensures.left.in_memory refl c.new-desk.ensures.open) refl (lit< tt) tt (λ is. new_keeps made held same c.new.ensures.empty) c.in-Ok.ensures.played
-
-pub returns-in-Err-Memory-clause-told : goal.returns-in-Err-Memory-clause-told
-returns-in-Err-Memory-clause-told g c =
-    let why = c.in-Err-Memory.ensures.memory (ap Err c.in-Err-Memory.field-0-is) in
-    told_why c.tell_failure.result (g.R.Read.remaining c.args.reader.now) _ _ _ Memory why.2 (rw why.1 at c.tell_failure.ensures.told)
-
-pub returns-in-Err-ReadFailed-clause-told : goal.returns-in-Err-ReadFailed-clause-told
-returns-in-Err-ReadFailed-clause-told g c =
-    let why = c.in-Err-ReadFailed.ensures.unread (ap Err c.in-Err-ReadFailed.field-0-is) in
-    told_why c.tell_failure-in-Err-ReadFailed.result (g.R.Read.remaining c.args.reader.now) _ _ _ ReadFailed why.2 (rw why.1 at c.tell_failure-in-Err-ReadFailed.ensures.told)
-
-pub returns-in-Err-TooLong-clause-told : goal.returns-in-Err-TooLong-clause-told
-returns-in-Err-TooLong-clause-told g c =
-    let why = c.in-Err-TooLong.ensures.too_long (ap Err c.in-Err-TooLong.field-0-is) in
-    told_why c.tell_failure-in-Err-TooLong.result (g.R.Read.remaining c.args.reader.now) _ _ _ TooLong why.2 (rw why.1 at c.tell_failure-in-Err-TooLong.ensures.told)
+    let p = c.play.ensures in
+    let contents = g.W.Write.contents in
+    let given = g.R.Read.remaining c.args.reader.now in
+    let U : Type 0 = c.play.new.reader ≡ c.args.reader.now in
+    told_played contents c.args.writer.now c.play.new.writer c.tell_played.new.writer given U g.R.Source.may_fail
+    (λ status. IsPlayAnswer given U g.R.Source.may_fail status (Appends (contents c.args.writer.now) (contents c.tell_played.new.writer)))
+    c.tell_played.result c.play.result (λ status fault may said. told_no_script fault may said)
+    (ok_then c.play.result p.played (λ played unwritten.
+    where_played contents c.args.writer.now c.play.new.writer c.tell_played.new.writer (λ after. IsPlayAnswer given U g.R.Source.may_fail exit.Done (Appends (contents c.args.writer.now) after)) unwritten
+    (told given U _ _ _ c.new-desk.result.is_closed c.play.new.self.is_closed (view_of_index held) (view_of_index c.play.new.self.register) (limit_is made held same c.new.ensures.limit) p.left.later.room c.new-desk.ensures.open
+    (p.left.in_memory refl c.new-desk.ensures.open) refl (lit< tt) tt (λ is. new_keeps made held same c.new.ensures.empty) played)))
+    (λ is. let m = p.unread is in (m.1, m.2)) (λ is. let m = p.too_long is in (m.1, m.2)) (λ is. let m = p.memory is in (m.1, m.2)) c.tell_played.ensures.told

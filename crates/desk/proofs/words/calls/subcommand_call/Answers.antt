@@ -1,5 +1,8 @@
-use Rattle.clap.specs.Words.{found_of}
-use Rattle.desk.proofs.WordsLemmas.{no_code, no_service, no_topic, no_type, said_code, said_service, said_topic, said_type, same_code, same_service, same_topic, same_type}
+use Rattle.std.proofs.Common.{sym, subst}
+use Rattle.std.specs.Prelude.{IfSome, IsSomeAnd}
+use Rattle.clap.specs.Words.{found_of, rows_of}
+use Rattle.desk.specs.Words.{IsSaid, IsSpelledOut, value_of_call}
+use Rattle.desk.proofs.WordsLemmas.{no_code, no_sums, no_topic, no_type, said_code, said_sums, said_topic, said_type, same_code, same_sums, same_topic, same_type}
 use Rattle.desk.proofs.words.calls.subcommand_call.Goals as goal
 
 pub returns-in_err-get_str-in-isin-clause-asked : goal.returns-in_err-get_str-in-isin-clause-asked
@@ -30,12 +33,29 @@ returns-in_ok-get_str-in-isin-clause-said c = said_code c.args.name.now (found_o
 pub returns-in_ok-type_in-in-read-clause-said : goal.returns-in_ok-type_in-in-read-clause-said
 returns-in_ok-type_in-in-read-clause-said c = said_type c.args.name.now (found_of c.args.inner.now) _ c.in-read.is c.in_ok-type_in-in-read.ensures.said
 
-pub returns-in_ok-service_in-in-serve-clause-said : goal.returns-in_ok-service_in-in-serve-clause-said
-returns-in_ok-service_in-in-serve-clause-said c = said_service c.args.name.now (found_of c.args.inner.now) _ _ c.in-serve.is c.in_ok-service_in-in-serve.ensures.port c.in_ok-service_in-in-serve.ensures.count
+pub returns-in_ok-get_str-in-sums-clause-said : goal.returns-in_ok-get_str-in-sums-clause-said
+returns-in_ok-get_str-in-sums-clause-said c = said_sums c.args.name.now (found_of c.args.inner.now) _ c.in-sums.is c.in_ok-get_str-in-sums.ensures
 
-pub returns-in_err-service_in-in-serve-clause-asked : goal.returns-in_err-service_in-in-serve-clause-asked
-returns-in_err-service_in-in-serve-clause-asked c = λ asked named. absurd (no_service asked c.args.name.now (found_of c.args.inner.now) c.in-serve.is c.in_err-service_in-in-serve.ensures.asked named)
+pub returns-in_err-get_str-in-sums-clause-asked : goal.returns-in_err-get_str-in-sums-clause-asked
+returns-in_err-get_str-in-sums-clause-asked c = λ asked named. absurd (no_sums asked c.args.name.now (found_of c.args.inner.now) c.in-sums.is c.in_err-get_str-in-sums.ensures named)
 
-pub returns-in_ok-service_in-in-serve-clause-asked : goal.returns-in_ok-service_in-in-serve-clause-asked
-returns-in_ok-service_in-in-serve-clause-asked c = λ asked named.
-    same_service asked c.args.name.now (found_of c.args.inner.now) _ _ c.in-serve.is c.in_ok-service_in-in-serve.ensures.asked named
+pub returns-in_ok-get_str-in-sums-clause-asked : goal.returns-in_ok-get_str-in-sums-clause-asked
+returns-in_ok-get_str-in-sums-clause-asked c = λ asked named. same_sums asked c.args.name.now (found_of c.args.inner.now) _ c.in-sums.is c.in_ok-get_str-in-sums.ensures named
+
+pub returns-in-play-clause-said : goal.returns-in-play-clause-said
+returns-in-play-clause-said c = subst (λ n. IsSaid (value_of_call c.play_call.result) n (rows_of (found_of c.args.inner.now))) (sym c.in-play.is) c.play_call.ensures.said
+
+pub returns-in-play-clause-asked : goal.returns-in-play-clause-asked
+returns-in-play-clause-asked c = λ asked named. c.play_call.ensures.asked asked (subst (λ n. IsSpelledOut asked n (rows_of (found_of c.args.inner.now))) c.in-play.is named)
+
+pub returns-in-serve-clause-said : goal.returns-in-serve-clause-said
+returns-in-serve-clause-said c = subst (λ n. IfSome c.serve_call.result (λ call. IsSaid (value_of_call call) n (rows_of (found_of c.args.inner.now)))) (sym c.in-serve.is) c.serve_call.ensures.said
+
+pub returns-in-serve-clause-asked : goal.returns-in-serve-clause-asked
+returns-in-serve-clause-asked c = λ asked named. c.serve_call.ensures.asked asked (subst (λ n. IsSpelledOut asked n (rows_of (found_of c.args.inner.now))) c.in-serve.is named)
+
+pub returns-in-holdings-clause-said : goal.returns-in-holdings-clause-said
+returns-in-holdings-clause-said c = subst (λ n. IfSome c.holdings_call.result (λ call. IsSaid (value_of_call call) n (rows_of (found_of c.args.inner.now)))) (sym c.in-holdings.is) c.holdings_call.ensures.said
+
+pub returns-in-holdings-clause-asked : goal.returns-in-holdings-clause-asked
+returns-in-holdings-clause-asked c = λ asked named. c.holdings_call.ensures.asked asked (subst (λ n. IsSpelledOut asked n (rows_of (found_of c.args.inner.now))) c.in-holdings.is named)

@@ -1,7 +1,7 @@
 use Rattle.std.proofs.Common.{◌≡◌, ◌∙◌, ap, ap₂}
 use Rattle.std.proofs.lemmas.Result.{IfOk-weaker}
 use Rattle.clap.specs.Words.{App, app_of, with_subcommand}
-use Rattle.desk.specs.Words.{bare_app, check_app, explain_app, isin_app, play_app, read_app}
+use Rattle.desk.specs.Words.{bare_app, check_app, explain_app, holdings_app, isin_app, play_app, read_app, serve_app}
 use Rattle.desk.proofs.words.parser.desk.Goals as goal
 
 pub returns : goal.returns
@@ -17,4 +17,8 @@ returns c =
     c.in_ok-subcommand-4.ensures.shape c.in_ok-check.ensures.local ∙ ap₂ with_subcommand third (ap (λ (a : App). a.top) c.in_ok-check.ensures.app) in
     let fifth : app_of c.in_ok-subcommand-5.field-0 ≡ with_subcommand (with_subcommand (with_subcommand (with_subcommand (with_subcommand bare_app isin_app.top) read_app.top) play_app.top) check_app.top) explain_app.top =
     c.in_ok-subcommand-5.ensures.shape c.in_ok-explain.ensures.local ∙ ap₂ with_subcommand fourth (ap (λ (a : App). a.top) c.in_ok-explain.ensures.app) in
-    IfOk-weaker c.subcommand-6.result _ _ (λ command added. added.shape c.in_ok-serve.ensures.local ∙ ap₂ with_subcommand fifth (ap (λ (a : App). a.top) c.in_ok-serve.ensures.app)) c.subcommand-6.ensures
+    let sixth : app_of c.in_ok-subcommand-6.field-0 ≡ with_subcommand (with_subcommand (with_subcommand (with_subcommand (with_subcommand (with_subcommand bare_app isin_app.top) read_app.top) play_app.top) check_app.top) explain_app.top) serve_app.top =
+    c.in_ok-subcommand-6.ensures.shape c.in_ok-serve.ensures.local ∙ ap₂ with_subcommand fifth (ap (λ (a : App). a.top) c.in_ok-serve.ensures.app) in
+    let seventh : app_of c.in_ok-subcommand-7.field-0 ≡ with_subcommand (with_subcommand (with_subcommand (with_subcommand (with_subcommand (with_subcommand (with_subcommand bare_app isin_app.top) read_app.top) play_app.top) check_app.top) explain_app.top) serve_app.top) holdings_app.top =
+    c.in_ok-subcommand-7.ensures.shape c.in_ok-holdings.ensures.local ∙ ap₂ with_subcommand sixth (ap (λ (a : App). a.top) c.in_ok-holdings.ensures.app) in
+    IfOk-weaker c.subcommand-8.result _ _ (λ command added. added.shape c.in_ok-sums.ensures.local ∙ ap₂ with_subcommand seventh (ap (λ (a : App). a.top) c.in_ok-sums.ensures.app)) c.subcommand-8.ensures

@@ -1,0 +1,16 @@
+use Rattle.std.specs.Io.KnownBytes.{Appends}
+use Rattle.desk.specs.declared.status.Failure.TheVariants.{Input}
+use Rattle.desk.proofs.ServeLemmas.{nobody_there, untouched}
+use Rattle.desk.proofs.answers.serve.serve_desk.Goals as goal
+
+pub returns-in_default-clause-keeps : goal.returns-in_default-clause-keeps
+returns-in_default-clause-keeps g c = λ honest. untouched c.args.desk.now.is_closed (g.D.Register.view c.args.desk.now.register)
+
+pub returns-in_default-bind-clause-told : goal.returns-in_default-bind-clause-told
+returns-in_default-bind-clause-told g c = nobody_there c.tell_failure-in_default-bind.result Input c.args.port _ c.tell_failure-in_default-bind.ensures.told
+
+pub returns-in_default-bind-clause-keeps : goal.returns-in_default-bind-clause-keeps
+returns-in_default-bind-clause-keeps g c = λ honest. untouched c.args.desk.now.is_closed (g.D.Register.view c.args.desk.now.register)
+
+pub returns-in_err-tell_port-clause-keeps : goal.returns-in_err-tell_port-clause-keeps
+returns-in_err-tell_port-clause-keeps g c = λ honest. untouched c.args.desk.now.is_closed (g.D.Register.view c.args.desk.now.register)

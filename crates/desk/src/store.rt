@@ -1,0 +1,110 @@
+//! The desk of a file: opened, and closed again.
+ghost use Rattle.std.specs.Prelude.{◌≡◌, true, IfErr, IfOk, IsOkAnd, OnErr};
+ghost use Rattle.std.specs.Io.KnownBytes.{Appends};
+ghost use Rattle.sqlite.specs.Files.{over_files};
+ghost use Rattle.desk_opening.specs.Opened.{IsOpened};
+ghost use Rattle.desk_rules.specs.declared.limits.TheConstants.{MOST_ENTRIES};
+ghost use Rattle.desk.specs.Status.{EndsAs, IsOpeningFailure};
+
+use crate::status::{Failure, Status, tell_failure};
+use crate::teller::Teller;
+use desk_index::IndexedRegister;
+use desk_mirror::MirroredRegister;
+use desk_opening::open_file;
+use desk_rules::MOST_ENTRIES;
+use desk_streams::Sink;
+use sql_register::SqlRegister;
+use sqlite::{Alter, Connection, Error, FileFrom, FileStore, Unknown};
+use std::rt::HostRuntime;
+use std::{fs, io};
+
+/// A register in memory beside the tables of a file.
+pub type FileRegister = MirroredRegister<
+    IndexedRegister,
+    SqlRegister<FileStore<FileFrom<Unknown>>>,
+>;
+
+/// Opens the desk of a file, which is made where there is none. Why it is not opened is told on standard error too.
+pub fn open(rt: &HostRuntime, path: &str) -> Result<FileRegister, Failure>
+    ensures opened { IfOk result (IsOpened over_files MOST_ENTRIES) }
+    ensures failure { IfErr result IsOpeningFailure }
+{
+    let mut teller = Teller::new(rt, path);
+    match open_file(rt, path, Unknown, MOST_ENTRIES, &mut teller) {
+        Ok(both) => Ok(both),
+        Err(fault) => {
+            teller.unopened(fault);
+            Err(Failure::from(fault))
+        }
+    }
+}
+
+/// Opens the desk of a file that is there.
+pub fn open_there(rt: &HostRuntime, path: &str) -> Result<FileRegister, Failure>
+    ensures opened { IfOk result (IsOpened over_files MOST_ENTRIES) }
+    ensures failure { IfErr result IsOpeningFailure }
+{
+    if fs::exists(rt, path).unwrap_or(false) {
+        open(rt, path)
+    } else {
+        Teller::new(rt, path).missing();
+        Err(Failure::Storage)
+    }
+}
+
+/// Closes the file of a desk: what its log holds goes into it, and the log is removed while nobody else can open the two.
+pub fn close(
+    rt: &HostRuntime,
+    path: &str,
+    conn: Connection<FileStore<FileFrom<Unknown>>>,
+) -> Result<(), Error> {
+    match conn.close_files() {
+        Ok(files) => {
+            // a log that holds nothing and stays is no harm
+            let _ = remove_log(rt, path);
+            drop(files);
+            Ok(())
+        }
+        Err((error, store)) => {
+            drop(store.close());
+            Err(error)
+        }
+    }
+}
+
+/// Removes the log of a file, which stands beside the file itself where the path is a link.
+fn remove_log(rt: &HostRuntime, path: &str) -> io::Result<()> {
+    let file = fs::canonicalize(rt, path)?;
+    let log = format!(in rt.alloc(); "{}-wal", file.display())?;
+    fs::remove_file(rt, log.as_str())
+}
+
+/// The connection to the tables of a register that is two.
+pub fn connection_of<S: Alter + Drop>(
+    both: MirroredRegister<IndexedRegister, SqlRegister<S>>,
+) -> Connection<S>
+    ensures { result ≡ both.tables.connection }
+{
+    both.into_parts().1.into_connection()
+}
+
+/// Tells how a run over a file ended, which was closed then, or could not be. A run that ended in a fault tells no other.
+pub fn ended<W: Sink>(
+    teller: &Teller<'_>,
+    told: io::Result<Status>,
+    closed: Result<(), Error>,
+    writer: &mut W,
+) -> io::Result<Status>
+    requires { OnErr told (W.may_fail ≡ true) }
+    ensures told { IfOk result (λ status. IsOkAnd told (λ said. EndsAs said status (writer.new ≡ writer.old) (Appends (W.contents writer.old) (W.contents writer.new)))) }
+    ensures failed { OnErr result (W.may_fail ≡ true) }
+{
+    let status = told?;
+    match (status, closed) {
+        (Status::Done | Status::Refused, Err(_)) => {
+            teller.unclosed();
+            tell_failure(Failure::Storage, writer)
+        }
+        _ => Ok(status),
+    }
+}
