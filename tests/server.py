@@ -1,4 +1,5 @@
-"""A program's `serve`, and a client of it: what tests/serve, tests/refuse_http and tests/random_streams ask."""
+"""A program's `serve`, and a client of it: what tests/serve, tests/refuse_http, tests/random_streams and
+tests/odd_files ask."""
 
 import http.client
 import socket
@@ -16,12 +17,17 @@ def free_port():
         return probe.getsockname()[1]
 
 
+def over(db):
+    """The words behind a subcommand that name the desk's file; none for a desk in memory."""
+    return [] if db is None else ["--db", db]
+
+
 class Server:
     """A program that serves so many connections; it must then end by itself, with status 0 and nothing more said."""
 
-    def __init__(self, program, count, surroundings=None):
+    def __init__(self, program, count, surroundings=None, db=None):
         self.port = free_port()
-        words = [program, "serve", "--port", str(self.port), "--count", str(count)]
+        words = [program, "serve", *over(db), "--port", str(self.port), "--count", str(count)]
         # what a library that is loaded before the C library tells there is waited for by `end`
         told = None if surroundings is None else subprocess.PIPE
         self.process = subprocess.Popen(
@@ -33,8 +39,7 @@ class Server:
         return self
 
     def __exit__(self, *_):
-        self.process.kill()
-        self.process.wait()
+        self.kill()
         self.process.stdout.close()
 
     def listens(self):
@@ -44,6 +49,11 @@ class Server:
         """Its status, once it has ended, with what it printed behind its first line, and what it told as an error."""
         printed, told = self.process.communicate(timeout=PATIENCE)
         return self.process.returncode, printed, told
+
+    def kill(self):
+        """Kills it at once: nothing more is written, and nothing is closed in order."""
+        self.process.kill()
+        self.process.wait()
 
     def has_ended(self):
         try:

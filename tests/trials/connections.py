@@ -8,14 +8,28 @@ REFUSED = b"HTTP/1.1 413 Payload Too Large\r\nContent-Type: text/plain\r\nConnec
 
 SERVER = """
 import socket, sys
+names, values = sys.argv[2::2], sys.argv[3::2]
+if len(names) != len(values) or len(names) != len(set(names)):
+    sys.exit(2)
+words = dict(zip(names, values))
 try:
-    words = dict(zip(sys.argv[2::2], sys.argv[3::2]))
     port, count = int(words["--port"]), int(words["--count"])
     if not (0 < port < 65536 and 0 < count <= 1000000):
         sys.exit(2)
 except (KeyError, ValueError):
     sys.exit(2)
-listener = socket.create_server(("127.0.0.1", port))
+if "--db" in words:
+    with open(words["--db"], "a+b") as file:
+        file.seek(0)
+        if file.read():
+            print(NOT_OURS)
+            sys.exit(3)
+try:
+    listener = socket.create_server(("127.0.0.1", port))
+except OSError:
+    open(words["--db"] + BESIDE, "ab").close()
+    print("fault io")
+    sys.exit(3)
 print("listening", port + ELSEWHERE, flush=True)
 for _ in range(count + FEWER):
     client, _ = listener.accept()
@@ -50,6 +64,8 @@ SOUND = {
     "ANSWERED": ANSWERED,
     "REFUSED": REFUSED,
     "READS_ON": True,
+    "NOT_OURS": "fault 50",
+    "BESIDE": "",
 }
 
 
@@ -62,15 +78,19 @@ def served(room, **broken):
 
 
 def trials(room):
-    for path in ("tests/serve", "tests/server.py", "tests/over_http.py"):
+    for path in ("tests/serve", "tests/server.py", "tests/over_http.py", "tests/scripts.py"):
         copy(path, room)
     write(f"{room}/cases/sums.stdin", ASKED.decode())
     write(f"{room}/cases/sums.stdout", ANSWERED.decode())
-    yield passes("a program that serves", served(room), "19 passed, 0 failed\n")
+    yield passes("a program that serves", served(room), "25 passed, 0 failed\n")
     yield fails("another answer", served(room, ANSWERED=ANSWERED + b" "), "serve: cases/sums: not as it must be\n")
     yield fails("it listens elsewhere", served(room, ELSEWHERE=1), "serve: cases/sums: not as it must be\n")
     yield fails("it serves too few", served(room, FEWER=-1), "serve: cases/sums: not as it must be\n")
     yield fails("it says more at its end", served(room, LAST="x"), "serve: cases/sums: not as it must be\n")
     yield fails("it ends with another status", served(room, STATUS=1), "serve: cases/sums: not as it must be\n")
+    why = "serve: a file that is no desk's: not as it must be\n"
+    yield fails("another fault of a file", served(room, NOT_OURS="fault 51"), why)
+    why = "serve: a file, and a port that is in use: not as it must be\n"
+    yield fails("a log that is left", served(room, BESIDE="-wal"), why)
     yield fails("a reset", served(room, READS_ON=False), "serve: the rest of a long body: not as it must be\n")
     yield fails("another refusal", served(room, REFUSED=ANSWERED), "serve: a long body by 1000: not as it must be\n")

@@ -28,6 +28,7 @@ RUNS = [LIBRARIES, NAMED, "cat >out/desk <<'PROGRAM'", PROGRAM.format("new"), "P
 # what is told of a build that goes well
 STEPS = """\
 desk: the program is proved and built first, 2 crates; .*
+desk: to try it at once, unproved: cd .* && rt try -- WORDS
 desk: proving desk_text, 1 of 2
 desk: proved desk_text in \\d+ seconds
 desk: proving desk, 2 of 2

@@ -10,7 +10,7 @@ TOOLS = ["rt", "python3", "gcc", "git"]
 OUTSIDE = "wrong_programs"
 WELL = "echo '99999 passed, 0 failed'"
 # the scripts that the gate runs on the program over tables in SQL too
-SHARED = ["random_scripts", "refuse_memory", "run_cases"]
+SHARED = ["random_scripts", "refuse_disk", "refuse_memory", "run_cases"]
 TABLES = "crates/desk_bench/out/desk_bench"
 
 # each way in which a part goes wrong: how its script is changed, and what ./test says of it

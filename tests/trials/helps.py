@@ -17,6 +17,8 @@ def trials(room):
     yield passes("sound helps", helps(), "2 passed, 0 failed\n")
     serving = HELP_OF_ONE.replace("one 2", "serve --port 8000")
     yield passes("an example that waits", helps(help_of_one=serving), "2 passed, 0 failed\n")
+    made = '[ "$2" = 2 ] || echo >made.db; cat made.db && echo printed'
+    yield passes("an example that needs the file of the one before it", helps(one=made), "2 passed, 0 failed\n")
     why = "help one: it ends with no example\n1 passed, 1 failed\n"
     yield fails("a help without an example", helps(help_of_one="The first"), why)
     why = "help : it ends with no example\n1 passed, 1 failed\n"

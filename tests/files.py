@@ -1,0 +1,114 @@
+"""Files of desks, as Python's SQLite sees them, and a program that plays on them: what tests/opened_days, tests/cut_cases,
+tests/cut_scripts and tests/odd_files share."""
+
+import contextlib
+import os
+import shutil
+import sqlite3
+import subprocess
+import tempfile
+
+from plain.books import EMPTY
+from plain.desk import sums
+from plain.scripts import ask_item, bare, items_of, lines_with_ends
+
+# the most seconds that a run may take
+PATIENCE = 60
+
+
+def ran(program, *words, given=b""):
+    """How a program ended: its status, and what it printed and told."""
+    ended = subprocess.run([program, *words], input=given, capture_output=True, timeout=PATIENCE)
+    return ended.returncode, ended.stdout, ended.stderr
+
+
+def sums_after(script):
+    """The sums that the plain program has behind a script, in a line."""
+    books = EMPTY
+    for line, body in items_of(script):
+        books, _ = ask_item(books, line, body)
+    return sums(books).text + b"\n"
+
+
+def cuts_in(script):
+    """The places at which a request of a script begins."""
+    places, at, has_body = [], 0, False
+    for line in lines_with_ends(script):
+        said = bare(line)
+        if has_body:
+            has_body = said != b"."
+        elif said and not said.startswith(b"#"):
+            places.append(at)
+            has_body = said.split(b" ")[0] in (b"in", b"op")
+        at += len(line)
+    return places
+
+
+@contextlib.contextmanager
+def looked_at(path):
+    """A connection to a copy of a file and its log, which stay as they are."""
+    with tempfile.TemporaryDirectory() as folder:
+        copy = os.path.join(folder, "copy")
+        for end in "", "-wal":
+            if os.path.exists(path + end):
+                shutil.copy(path + end, copy + end)
+        with contextlib.closing(sqlite3.connect(copy)) as connection:
+            yield connection
+
+
+def dumped(path):
+    """What a file holds, as statements; of one that is no database, why it is none."""
+    with looked_at(path) as connection:
+        try:
+            return list(connection.iterdump())
+        except sqlite3.Error as error:
+            return [str(error)]
+
+
+def entries_in(path):
+    with looked_at(path) as connection:
+        [(count,)] = connection.execute("SELECT COUNT(*) FROM register")
+    return count
+
+
+def is_sound(path):
+    with looked_at(path) as connection:
+        return list(connection.execute("PRAGMA integrity_check")) == [("ok",)]
+
+
+def changed(path, *statements):
+    """A file, after these statements."""
+    with contextlib.closing(sqlite3.connect(path, isolation_level=None)) as connection:
+        for statement in statements:
+            connection.execute(*statement) if isinstance(statement, tuple) else connection.execute(statement)
+    return path
+
+
+def written(path, content):
+    with open(path, "wb") as file:
+        file.write(content)
+    return path
+
+
+@contextlib.contextmanager
+def new_path():
+    """A path at which there is no file, in a folder that holds nothing and goes with it."""
+    with tempfile.TemporaryDirectory() as folder:
+        yield os.path.join(folder, "desk.db")
+
+
+def differences(program, path, script, told):
+    """In what the file that a run has left, with `told` on standard error, is another than it must be by the script that was
+    played on it."""
+    if told:
+        yield f"standard error has {told[-300:]!r}"
+    if os.listdir(os.path.dirname(path)) != [os.path.basename(path)]:
+        yield f"there are {sorted(os.listdir(os.path.dirname(path)))}"
+    elif not is_sound(path):
+        yield "the file is not sound"
+    wanted = 0, sums_after(script), b""
+    ended = ran(program, "sums", "--db", path)
+    if ended != wanted:
+        yield f"the sums are {ended!r} where {wanted!r} is wanted"
+    if os.listdir(os.path.dirname(path)) != [os.path.basename(path)]:
+        yield f"once the sums were asked for, there are {sorted(os.listdir(os.path.dirname(path)))}"
