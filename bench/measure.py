@@ -1,5 +1,5 @@
 """Times the program of the bench beside Python, the same work and the same figures in one run; scripts played over tables in SQL,
-beside their statements asked of Python's SQLite; a register that takes entries in, and the desk's program playing scripts;
+and by the desk's program over a file, beside their statements asked of Python's SQLite; a register that takes entries in, and the desk's program playing scripts;
 and the same served over HTTP, beside a server of Python's. bench/RESULTS.md has the figures of a run."""
 
 import contextlib
@@ -163,10 +163,11 @@ BENCH = "crates/desk_bench/out/desk_bench"
 SHARED_MEMORY = "/dev/shm"
 
 # In the scripts that are played: the security, the request for the totals, and after how many rounds a run settles
-# their pairs.
+# their pairs; and how many pairs a chain in the wrong order has.
 SECURITY = "DE0007164600"
 SUMS = "sums\n"
 ROUNDS = 100
+CHAIN = 1_000
 REFERENCES = ["".join(it) for it in itertools.product(string.digits + string.ascii_uppercase, repeat=3)]
 
 
@@ -229,7 +230,7 @@ def instruction(side, reference, lot):
     """A side's instruction of a lot."""
     sender, account, types, qualifier = side
     quantity, amount = lot
-    counterparty = (RECEIVER if side is DELIVERER else DELIVERER)[0]
+    counterparty = (RECEIVER if sender == DELIVERER[0] else DELIVERER)[0]
     lines = ["{4:", ":16R:GENL", f":20C::SEME//{reference}", ":23G:NEWM", ":16S:GENL"]
     lines += [":16R:TRADDET", ":98A::SETT//20240229", f":35B:ISIN {SECURITY}", ":16S:TRADDET"]
     lines += [":16R:FIAC", f":36B::SETT//UNIT/{quantity},", f":97A::SAFE//{account}", ":16S:FIAC"]
@@ -328,6 +329,20 @@ def free_script(requests):
     return "".join([*OPENING, issued, *rounds, *rest * [SUMS]]).encode(), pairs
 
 
+def chain_script(pairs):
+    """A script of a chain of so many free pairs, in which each account delivers the one unit that it is about to receive, and how
+    many pairs settle in it. The last link is instructed first, so that each pass of the one run settles a pair."""
+    owners = [DELIVERER[0], RECEIVER[0]]
+    accounts = [(owners[link % 2], f"L{link}") for link in range(pairs + 1)]
+    requests = [*OPENING[:2], OPENING[4]]
+    requests += [command(op="account", ref=f"C{account}", bic=bic, account=account) for bic, account in accounts]
+    requests += [command(op="issue", ref="I1", account=accounts[0][1], isin=SECURITY, quantity=1)]
+    for link in reversed(range(pairs)):
+        giving, taking = (*accounts[link], *DELIVERER[2:]), (*accounts[link + 1], *RECEIVER[2:])
+        requests += [instruction(giving, REFERENCES[link], FREE), instruction(taking, REFERENCES[pairs + link], FREE)]
+    return "".join([*requests, command(op="run", ref="R1", day="20240229")]).encode(), pairs
+
+
 def played(words, script, pairs):
     """The processor seconds that these words take to play a script in which so many pairs settle."""
     started = processor_time()
@@ -383,9 +398,9 @@ def new_path():
 
 
 def played_in_file(script, pairs):
-    """As `played`, over tables in a new file, with a register in memory beside them."""
+    """As `played`, by the desk's program in a new file: over tables, with a register in memory beside them."""
     with new_path() as path:
-        return played([BENCH, "play", path], script, pairs)
+        return played([DESK, "play", "--db", path], script, pairs)
 
 
 def played_in_tables_of_file(script, pairs):
@@ -395,24 +410,25 @@ def played_in_tables_of_file(script, pairs):
 
 
 @functools.lru_cache(maxsize=1)
-def bare_desk(script):
+def bare_desk(script, passes_over=False):
     """A desk of bench/statements.py that has played a script."""
-    desk = Desk()
+    desk = Desk(passes_over)
     for request in requests_in(script):
         desk.play(request.decode())
     return desk
 
 
-def asked_of_sqlite(script, pairs):
+def asked_of_sqlite(script, pairs, passes_over=False):
     """The processor seconds that Python's SQLite takes for the statements of a script, on a new file with a log of its writes,
-    as the desk's library has one."""
-    desk = bare_desk(script)
+    as the desk's library has one, of which each commit waits until the device has it."""
+    desk = bare_desk(script, passes_over)
     if desk.settled != pairs:
         sys.exit(f"store: {desk.settled} pairs settled of {pairs}")
     with new_path() as path:
         started = processor_time()
         with contextlib.closing(sqlite3.connect(path, isolation_level=None)) as connection:
             connection.execute("PRAGMA journal_mode = WAL")
+            connection.execute("PRAGMA synchronous = FULL")
             for text, parameters in desk.asked:
                 connection.execute(text, parameters).fetchall()
         return processor_time() - started
@@ -466,6 +482,19 @@ def measure_store():
     for name, play, who in work:
         timed_at = functools.partial(script_timed, mixed_script, play)
         measure_growing(f"{name} of a mixed day of", "request", "requests", timed_at, who)
+    measure_chain()
+
+
+def measure_chain():
+    """A chain in the wrong order over a file, beside its statements asked of Python's SQLite; a try that would change nothing is
+    asked of neither."""
+    script, pairs = chain_script(CHAIN)
+    statements = functools.partial(asked_of_sqlite, passes_over=True)
+    desk, python = (min(play(script, pairs) for _ in range(TURNS)) for play in (played_in_file, statements))
+    print(
+        f"play over a file, with memory beside it of a chain of {pairs:,} pairs in the wrong order, one run: desk {desk:.3f} s, "
+        f"its statements by Python's SQLite {python:.3f} s, ratio {desk / python:.2f}"
+    )
 
 
 # Files of so many entries are opened; one is filled by scripts of so many hundreds of requests at most.

@@ -16,6 +16,7 @@ STATEMENT = re.compile(r'"((?:CREATE|SELECT|INSERT|UPDATE|DELETE|BEGIN|COMMIT|SA
 CURRENCIES = ["CHF", "EUR", "GBP", "JPY", "KWD", "USD"]
 KINDS = {"participant": 1, "account": 2, "security": 3, "issue": 4, "redeem": 5, "payin": 6, "payout": 7, "run": 10}
 MATCHED, CANCELLED, SETTLED = 2, 3, 4
+LACKS = 2
 PLACES = 1_000_000_000
 
 # how long the texts of messages are: of an instruction that is unmatched, of one that is matched, of a cancellation, and of a
@@ -43,9 +44,11 @@ def text_of(beginning):
 
 class Desk:
     """A desk. `asked` has the statements that it asked, each with its parameters, and `settled` says how many pairs it
-    settled."""
+    settled. Where it passes over pairs that stay short, as a desk does with a register in memory beside its tables, it asks no
+    statement for them, and none for which pairs are due."""
 
-    def __init__(self):
+    def __init__(self, passes_over=False):
+        self.passes_over = passes_over
         self.connection = sqlite3.connect(":memory:", isolation_level=None)
         self.asked, self.settled = [], 0
         self.ask("BEGIN")
@@ -117,18 +120,35 @@ class Desk:
         self.ask("INSERT INTO sent", number + 1, bic, place + 1, mt, about, "-" * length)
 
     def due_after(self, floor, day):
-        found = self.ask("SELECT place FROM due", floor, (int(day) + 1) * PLACES)
+        parameters = floor, (int(day) + 1) * PLACES
+        if self.passes_over:
+            found = self.connection.execute(text_of("SELECT place FROM due"), parameters).fetchone()
+        else:
+            found = self.ask("SELECT place FROM due", *parameters)
         return found and found[0]
+
+    def stays_short(self, place):
+        """Whether a pair waits for securities already, and they are still short. Nothing is noted as asked."""
+        later = place % PLACES
+        ask = self.connection.execute
+        mate, reason = ask("SELECT mate, reason FROM state WHERE number = ?", (later,)).fetchone()
+        if reason != LACKS:
+            return False
+        account, isin, wanted = ask("SELECT account, isin, quantity FROM register WHERE number = ?", (mate,)).fetchone()
+        held = ask("SELECT quantity FROM balance WHERE account = ? AND isin = ?", (account, isin)).fetchone() or (0,)
+        return held[0] < wanted
 
     def settle(self, place):
         """Settles a pair, if it is covered."""
+        if self.passes_over and self.stays_short(place):
+            return
         later = place % PLACES
         _, _, _, bic, account, isin, _, quantity, currency, amount, *_ = self.entry(later)
         mate = self.standing(later)[0]
         deliverer, _, _, receiver, delivered, *_ = self.entry(mate)
         self.ask("SAVEPOINT")
         if not self.take("balance", delivered, isin, quantity):
-            self.leave(later, mate, 2)
+            self.leave(later, mate, LACKS)
             return
         if amount and not self.take("cash", receiver, currency, amount):
             self.ask("ROLLBACK TO")
