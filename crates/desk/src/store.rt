@@ -18,6 +18,9 @@ use sqlite::{Alter, Connection, Error, FileFrom, FileStore, Unknown};
 use std::rt::HostRuntime;
 use std::{fs, io};
 
+/// A log that holds nothing has so many bytes at most: its head of 32, and some that make no commit count.
+const LONGEST_EMPTY_LOG: u64 = 64;
+
 /// A register in memory beside the tables of a file.
 pub type FileRegister = MirroredRegister<
     IndexedRegister,
@@ -76,7 +79,11 @@ pub fn close(
 fn remove_log(rt: &HostRuntime, path: &str) -> io::Result<()> {
     let file = fs::canonicalize(rt, path)?;
     let log = format!(in rt.alloc(); "{}-wal", file.display())?;
-    fs::remove_file(rt, log.as_str())
+    // one that holds something is that of another file, which came to stand at this path meanwhile
+    if fs::metadata(rt, log.as_str())?.len() <= LONGEST_EMPTY_LOG {
+        fs::remove_file(rt, log.as_str())?;
+    }
+    Ok(())
 }
 
 /// The connection to the tables of a register that is two.
