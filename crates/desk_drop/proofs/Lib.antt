@@ -1,0 +1,5 @@
+mod AgainLemmas
+mod FolderLemmas
+mod NameLemmas
+mod OrderLemmas
+mod TakingLemmas
