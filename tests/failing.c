@@ -1,23 +1,32 @@
 /* Loaded before the C library, this fails one call or two on a file or folder below a folder: of the calls that open, read,
    write, cut or settle such a file, the one whose number, counted from 1, the environment variable FAILED_CALL gives, and
-   the one so many calls behind it as FAILED_BEHIND gives. The folder is FAILED_BELOW. FAILED_AS says how it fails:
-   `unmade`, with EIO and nothing done; `half`, with ENOSPC and, of a write, its first half written; `made`, with EIO and
-   all done. It says `failed NAME` on standard error when it does. With no such variable, or 0, it fails nothing; with no
-   FAILED_BEHIND, or 0, one call. */
+   the one so many calls behind it as FAILED_BEHIND gives. The folder is FAILED_BELOW. With FAILED_NAMES, of any text, the
+   calls that list a folder, look at a file, give it a name or remove it count too. FAILED_AS says how a call fails:
+   `unmade`, with EIO and nothing done; `denied`, with EACCES and nothing done; `gone`, with ENOENT and nothing done; `half`,
+   with ENOSPC and, of a write, its first half written; `made`, with EIO and all done; `killed`, the program is, and of a write
+   the first half is written; `short`, none fails, and each read and each write there is of a byte at most. It says
+   `failed NAME` on standard error when it does. With no such variable, or 0, it fails nothing; with no FAILED_BEHIND, or 0,
+   one call. */
 #define _GNU_SOURCE
+#include <dirent.h>
 #include <errno.h>
 #include <fcntl.h>
+#include <signal.h>
 #include <stdarg.h>
 #include <stdio.h>
 #include <stdlib.h>
 #include <string.h>
+#include <sys/stat.h>
 #include <sys/syscall.h>
 #include <unistd.h>
 
-enum how { WELL, UNMADE, HALF, MADE };
+enum how { WELL, UNMADE, DENIED, GONE, HALF, MADE, KILLED, SHORT };
+
+static const char *const names[] = {"", "unmade", "denied", "gone", "half", "made", "killed", "short"};
 
 static const char *below;
 static enum how chosen;
+static int counts_names;
 
 /* the calls to come before the one that fails, and that one; 0 once there is none */
 static unsigned long left;
@@ -35,14 +44,21 @@ __attribute__((constructor)) static void begin(void)
     const char *second = getenv("FAILED_BEHIND");
     left = strtoul(number, NULL, 10);
     behind = second == NULL ? 0 : strtoul(second, NULL, 10);
-    chosen = strcmp(as, "made") == 0 ? MADE : strcmp(as, "half") == 0 ? HALF : UNMADE;
+    counts_names = getenv("FAILED_NAMES") != NULL;
+    for (chosen = SHORT; chosen > UNMADE && strcmp(as, names[chosen]) != 0;)
+        chosen -= 1;
 }
 
 /* How the call of this name on a file of this path ends. */
 static enum how met_at(const char *path, const char *name)
 {
     char told[64];
-    if (left == 0 || strncmp(path, below, strlen(below)) != 0 || --left != 0)
+    if (left == 0 || strncmp(path, below, strlen(below)) != 0)
+        return WELL;
+    if (chosen == SHORT)
+        return SHORT;
+    left -= 1;
+    if (left != 0)
         return WELL;
     left = behind;
     behind = 0;
@@ -69,44 +85,60 @@ static enum how met(int file, const char *name)
 /* A call that failed: what it would have given is dropped. */
 static long ends(enum how how)
 {
-    errno = how == HALF ? ENOSPC : EIO;
+    if (how == KILLED)
+        syscall(SYS_kill, getpid(), SIGKILL);
+    errno = how == HALF ? ENOSPC : how == DENIED ? EACCES : how == GONE ? ENOENT : EIO;
     return -1;
+}
+
+/* Whether a call is done all the same, and so many bytes of a write. */
+static int is_done(enum how how)
+{
+    return how == WELL || how == MADE || how == SHORT;
+}
+
+static size_t part_of(size_t length, enum how how)
+{
+    if (how == SHORT)
+        return length > 1 ? 1 : length;
+    return is_done(how) ? length : how == HALF || how == KILLED ? length / 2 : 0;
+}
+
+static long given(long value, enum how how)
+{
+    return how == WELL || how == SHORT ? value : ends(how);
 }
 
 static ssize_t write_at(int file, const void *from, size_t length, off_t place)
 {
     enum how how = met(file, "pwrite");
-    long wrote = 0;
-    if (how != UNMADE)
-        wrote = syscall(SYS_pwrite64, file, from, how == HALF ? length / 2 : length, place);
-    return how == WELL ? wrote : ends(how);
+    size_t part = part_of(length, how);
+    long wrote = part > 0 || is_done(how) ? syscall(SYS_pwrite64, file, from, part, place) : 0;
+    return given(wrote, how);
 }
 
 static ssize_t read_at(int file, void *to, size_t length, off_t place)
 {
     enum how how = met(file, "pread");
-    return how == WELL ? syscall(SYS_pread64, file, to, length, place) : ends(how);
+    return how == WELL || how == SHORT ? syscall(SYS_pread64, file, to, part_of(length, how), place) : ends(how);
 }
 
 /* A call with a file alone, and one with a length too. */
 static int settle(int file, long length, long call, const char *name)
 {
     enum how how = met(file, name);
-    long ended = 0;
-    if (how == WELL || how == MADE)
-        ended = syscall(call, file, length);
-    return (int)(how == WELL ? ended : ends(how));
+    return (int)given(is_done(how) ? syscall(call, file, length) : 0, how);
 }
 
 static int open_at(int folder, const char *path, int flags, mode_t mode)
 {
     enum how how = met_at(path, "open");
     long opened = -1;
-    if (how == WELL || how == MADE)
+    if (is_done(how))
         opened = syscall(SYS_openat, folder, path, flags, mode);
     if (how == MADE && opened >= 0)
         syscall(SYS_close, opened);
-    return (int)(how == WELL ? opened : ends(how));
+    return (int)given(opened, how);
 }
 
 ssize_t pwrite(int file, const void *from, size_t length, off_t place)
@@ -132,16 +164,15 @@ ssize_t pread64(int file, void *to, size_t length, off64_t place)
 ssize_t write(int file, const void *from, size_t length)
 {
     enum how how = met(file, "write");
-    long wrote = 0;
-    if (how != UNMADE)
-        wrote = syscall(SYS_write, file, from, how == HALF ? length / 2 : length);
-    return how == WELL ? wrote : ends(how);
+    size_t part = part_of(length, how);
+    long wrote = part > 0 || is_done(how) ? syscall(SYS_write, file, from, part) : 0;
+    return given(wrote, how);
 }
 
 ssize_t read(int file, void *to, size_t length)
 {
     enum how how = met(file, "read");
-    return how == WELL ? syscall(SYS_read, file, to, length) : ends(how);
+    return how == WELL || how == SHORT ? syscall(SYS_read, file, to, part_of(length, how)) : ends(how);
 }
 
 int fsync(int file)
@@ -194,4 +225,29 @@ int openat(int folder, const char *path, int flags, ...)
     mode_t mode = mode_of(flags, rest);
     va_end(rest);
     return open_at(folder, path, flags, mode);
+}
+
+ssize_t getdents64(int folder, void *to, size_t length)
+{
+    /* the list of a folder that is gone is at its end, and no failure */
+    enum how how = counts_names && chosen != GONE ? met(folder, "list") : WELL;
+    return given(is_done(how) ? syscall(SYS_getdents64, folder, to, length) : 0, how);
+}
+
+int statx(int folder, const char *path, int flags, unsigned mask, struct statx *to)
+{
+    enum how how = !counts_names ? WELL : path[0] == '\0' ? met(folder, "look") : met_at(path, "look");
+    return (int)given(is_done(how) ? syscall(SYS_statx, folder, path, flags, mask, to) : 0, how);
+}
+
+int rename(const char *from, const char *to)
+{
+    enum how how = counts_names ? met_at(from, "rename") : WELL;
+    return (int)given(is_done(how) ? syscall(SYS_rename, from, to) : 0, how);
+}
+
+int unlink(const char *path)
+{
+    enum how how = counts_names ? met_at(path, "remove") : WELL;
+    return (int)given(is_done(how) ? syscall(SYS_unlink, path) : 0, how);
 }

@@ -1,5 +1,5 @@
 """Files of desks, as Python's SQLite sees them, and a program that plays on them: what tests/opened_days, tests/cut_cases,
-tests/cut_scripts and tests/odd_files share."""
+tests/cut_scripts, tests/odd_files and those that take folders share."""
 
 import contextlib
 import os
@@ -16,9 +16,9 @@ from plain.scripts import ask_item, bare, items_of, lines_with_ends
 PATIENCE = 60
 
 
-def ran(program, *words, given=b""):
+def ran(program, *words, given=b"", surroundings=None):
     """How a program ended: its status, and what it printed and told."""
-    ended = subprocess.run([program, *words], input=given, capture_output=True, timeout=PATIENCE)
+    ended = subprocess.run([program, *words], input=given, capture_output=True, env=surroundings, timeout=PATIENCE)
     return ended.returncode, ended.stdout, ended.stderr
 
 
@@ -102,11 +102,15 @@ def differences(program, path, script, told):
     played on it."""
     if told:
         yield f"standard error has {told[-300:]!r}"
+    yield from left_otherwise(program, path, (0, sums_after(script), b""))
+
+
+def left_otherwise(program, path, wanted):
+    """In what a file that a run has left is another than it must be, where a run that is asked for the sums must end so."""
     if os.listdir(os.path.dirname(path)) != [os.path.basename(path)]:
         yield f"there are {sorted(os.listdir(os.path.dirname(path)))}"
     elif not is_sound(path):
         yield "the file is not sound"
-    wanted = 0, sums_after(script), b""
     ended = ran(program, "sums", "--db", path)
     if ended != wanted:
         yield f"the sums are {ended!r} where {wanted!r} is wanted"

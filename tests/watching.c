@@ -1,6 +1,6 @@
-/* Loaded before the C library, this watches the memory of a program from its first write to standard output on: how many
-   growths there are (calls of malloc, calloc and realloc), and by how many bytes what is in use exceeds, at most, what was in
-   use at that write. It tells both on standard error at the end: `growths N most M`. */
+/* Loaded before the C library, this watches the memory of a program from its first write to standard output on, or, where
+   there is none, from its start on: how many growths there are (calls of malloc, calloc and realloc), and by how many bytes
+   what is in use exceeds, at most, what was in use then. It tells both on standard error at the end: `growths N most M`. */
 #define _GNU_SOURCE
 #include <malloc.h>
 #include <stddef.h>
@@ -19,7 +19,7 @@ static long in_use;
 static long at_first;
 static long at_most;
 static unsigned long growths;
-static int watches;
+static int has_begun;
 
 static void add(long bytes)
 {
@@ -62,8 +62,8 @@ void free(void *old)
 
 ssize_t write(int file, const void *bytes, size_t count)
 {
-    if (file == STDOUT_FILENO && !watches) {
-        watches = 1;
+    if (file == STDOUT_FILENO && !has_begun) {
+        has_begun = 1;
         at_first = at_most = in_use;
         growths = 0;
     }
@@ -73,7 +73,7 @@ ssize_t write(int file, const void *bytes, size_t count)
 __attribute__((destructor)) static void end(void)
 {
     char told[80];
-    int length = snprintf(told, sizeof told, "growths %lu most %ld\n", growths, watches ? at_most - at_first : -1L);
+    int length = snprintf(told, sizeof told, "growths %lu most %ld\n", growths, at_most - at_first);
     if (syscall(SYS_write, STDERR_FILENO, told, (size_t)length) < 0)
         abort();
 }

@@ -1,7 +1,9 @@
-"""Random input of a program: its words, and its standard input in parts, or what connections send to it."""
+"""Random input of a program: its words, and its standard input in parts, what connections send to it, or the files of a
+folder."""
 
 from plain.scripts import lines_with_ends
 
+from .folders import random_folder
 from .messages import random_text
 from .scripts import random_script
 from .spellings import spelled_commands
@@ -23,3 +25,7 @@ def block_input(chance):
 
 def stream_input(chance):
     return ["serve"], [sent_by(stream) for stream in random_streams(chance)]
+
+
+def folder_input(chance):
+    return ["drop"], random_folder(chance)

@@ -1,8 +1,10 @@
 """The plain program: exit status and printed bytes for its words and its standard input."""
 
 from .blocks import Refused, read_block
+from .books import EMPTY
 from .codes import isin_fault
 from .connections import responses
+from .folders import take
 from .messages import fields_text, read_message
 from .scripts import play
 
@@ -21,11 +23,14 @@ def answer_read(mt, text):
 
 
 def answer(words, given):
-    """The answer to words that are no usage. Those that serve are given all that each connection sends."""
+    """The answer to words that are no usage. Those that serve are given all that each connection sends, and those that take a
+    folder its files, each a name and what it holds; they have an answer for each."""
     if words[:1] == ["isin"]:
         return answer_isin(words[1])
     if words[:1] == ["read"]:
         return answer_read(int(words[1]), given)
     if words[:1] == ["serve"]:
         return responses(given)
+    if words[:1] == ["drop"]:
+        return 0, dict(take(EMPTY, given)[1])
     return play(given)

@@ -1,18 +1,23 @@
-"""Trials of the random scripts and streams: whether the plain program, playing some of the one and serving some days of
-the other, gives each kind of answer."""
+"""Trials of the random scripts, streams and folders: whether the plain program, playing some scripts, serving some days and taking
+some folders, gives each kind of answer."""
 
 import re
 
 from generate.chance import Chance
 from generate.comparing import DEFAULT_SEED
 from generate.comparing_streams import is_heard_out
+from generate.folders import random_folder
 from generate.scripts import random_script
 from generate.streams import random_streams, sent_by
+from plain.books import EMPTY
 from plain.connections import responses
+from plain.folders import take
 from plain.scripts import answers_to
 
 SCRIPTS = 250
 DAYS = 60
+# as many as the gate takes
+FOLDERS = 24
 
 
 def op(name, answer):
@@ -149,6 +154,44 @@ def trials_of_streams():
         yield f"{of_days} {name}", seen > 0, (seen, "")
 
 
+# each kind of answer to a file: its name, the answer, and what it is answered the second time, where that is another
+NAMED = {
+    "a command accepted": (rb".*\.json", rb"200\naccepted \d+\n\.\n", None),
+    "a message accepted": (rb".*\.fin", rb"200 548\n.*", None),
+    "a run that settles": (rb".*\.json", rb"200\naccepted \d+ settled [1-9].*", None),
+    "an unreadable command": (rb".*\.json", rb"400\nrefused 30\n.*", None),
+    "an unreadable message": (rb".*\.fin", rb"400\nrefused [1-8] .*", None),
+    "a message that is too long": (rb".*\.fin", rb"400\nrefused 4\n.*", None),
+    "an advice of a refusal": (rb".*\.fin", rb"422 548\n.*", None),
+    "a message of a head office with XXX": (rb"[A-Z]{8}XXX\..*", rb"[24]\d\d 548\n.*", None),
+    "a message of a branch": (rb"[A-Z]{8}ABC\..*", rb"[24]\d\d 548\n.*", None),
+    "a message that is called nothing": (rb"[A-Z]{8,11}\.54[0-3]\.\.fin", rb"[24]\d\d 548\n.*", None),
+    "a command with a message's name within": (rb"[A-Z]{8,11}\.54[0-3]\..*\.json", rb"200\n.*", None),
+    "a command whose name is no ASCII": (rb"[^\x00-\x7f]+.*\.json", rb"200\n.*", None),
+    "a name in small letters": (rb"[a-z]{8}\.54[0-3]\..*\.fin", rb"422\nrefused 40\n.*", None),
+    "a name with an end in capitals": (rb".*\.(FIN|JSON)", rb"422\nrefused 40\n.*", None),
+    "a name of three parts": (rb"[A-Z]{8,11}\.54[0-3]\.fin", rb"422\nrefused 40\n.*", None),
+    "a name of another type": (rb"[A-Z]{8,11}\.(5[0-35-9]\d|54[4-9])\..*\.fin", rb"422\nrefused 40\n.*", None),
+    "a command that is accepted later": (rb".*\.json", rb"422\n.*", rb"200\n.*"),
+    "a message that is accepted later": (rb".*\.fin", rb"422 548\n.*", rb"200 548\n.*"),
+}
+
+
+def trials_of_folders():
+    seen, alike = dict.fromkeys(NAMED, 0), 0
+    for number in range(FOLDERS):
+        files = random_folder(Chance(DEFAULT_SEED, number))
+        books, first = take(EMPTY, files)
+        _, second = take(books, files)
+        alike += len(files) - len({name.lower() for name, _ in files})
+        for (name, answer), (_, later) in zip(first, second):
+            for kind, patterns in NAMED.items():
+                asked = name.removesuffix(b".out"), answer, later
+                seen[kind] += all(it is None or re.fullmatch(it, text, re.DOTALL) for it, text in zip(patterns, asked))
+    for kind, count in {**seen, "two names that differ in case alone": alike}.items():
+        yield f"in {FOLDERS} random folders there is {kind}", count > 0, (count, "")
+
+
 def answered(script):
     """The requests of a script and what the plain program answers, each as one text."""
     return [(line + b"\n" + (body or b""), answer[: -len(b"\n.\n")]) for line, body, answer in answers_to(script)]
@@ -169,3 +212,4 @@ def trials(_):
     for name, seen in counts(SCRIPTS).items():
         yield f"in {SCRIPTS} random scripts there is {name}", seen > 0, (seen, "")
     yield from trials_of_streams()
+    yield from trials_of_folders()

@@ -19,6 +19,9 @@ def trials(room):
     yield passes("an example that waits", helps(help_of_one=serving), "2 passed, 0 failed\n")
     made = '[ "$2" = 2 ] || echo >made.db; cat made.db && echo printed'
     yield passes("an example that needs the file of the one before it", helps(one=made), "2 passed, 0 failed\n")
+    written = HELP_OF_ONE.replace("one 2 < examples/morning.script", "one 3")
+    answered = '[ "$2" != 3 ] && echo printed || >answers/3.json.out'
+    yield passes("an example that answers in a folder", helps(help_of_one=written, one=answered), "2 passed, 0 failed\n")
     why = "help one: it ends with no example\n1 passed, 1 failed\n"
     yield fails("a help without an example", helps(help_of_one="The first"), why)
     why = "help : it ends with no example\n1 passed, 1 failed\n"

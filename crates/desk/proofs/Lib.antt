@@ -6,3 +6,4 @@ mod RunLemmas
 mod FindingLemmas
 mod CheckLemmas
 mod ServeLemmas
+mod DropLemmas

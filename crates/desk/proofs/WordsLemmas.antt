@@ -32,7 +32,7 @@ use Rattle.desk_msg.specs.declared.mt.Mt.TheVariants.{Mt540, Mt541, Mt542, Mt543
 use Rattle.desk_codes.specs.Bic.{IsBic, ReadsBic, party_of}
 use Rattle.desk_readable.proofs.PartLemmas.{bic_itself}
 use Rattle.desk_codes.specs.Characters.{IsCodeChar}
-use Rattle.desk.specs.Words.{CallValue, IsAskable, IsBicText, IsErrorIn, IsNoOption, IsNoOptionIn, IsSpelledOut, IsSaid, IsSaidBy, IsSaidIn, IsTypeText, value_of_call, desk_app, IsNumberText, IsTopic, check, explain, holdings, isin, play, read, serve, sums, serve_app, words_for, words_of_file}
+use Rattle.desk.specs.Words.{CallValue, IsAskable, IsBicText, IsErrorIn, IsNoOption, IsNoOptionIn, IsSpelledOut, IsSaid, IsSaidBy, IsSaidIn, IsTypeText, value_of_call, desk_app, IsNumberText, IsTopic, check, explain, holdings, isin, play, read, serve, sums, serve_app, words_for, words_of_file, drop_app, folder}
 use Rattle.desk.specs.declared.words.calls.Call.{Call}
 use Rattle.desk.specs.declared.words.calls.Topic.{Topic}
 use Rattle.desk.specs.declared.words.calls.Topic.TheVariants.{Catalogue, Number}
@@ -189,6 +189,13 @@ takes_sums : (program db : List ℕ) → IsPlain db → takes desk_app (program 
 unfolding clap_on_literals
 takes_sums program db is = rw (is.dashes, is.long, is.short) refl
 
+-- what the parser knows of `drop`
+drop_shape : Shape
+drop_shape = built_leaf drop_app.top
+
+abbrev words_of_folder : List ℕ → List ℕ → List ℕ → List (List ℕ)
+words_of_folder db from to = codes "--db" ∷ db ∷ codes "--in" ∷ from ∷ codes "--out" ∷ to ∷ []
+
 takes_check : (program : List ℕ) → takes desk_app (program ∷ words_for check) ≡ true
 unfolding clap_on_literals
 takes_check program = refl
@@ -225,6 +232,14 @@ takes_service_on : (program db port count : List ℕ) → IsPlain db → IsTaken
 unfolding clap_on_literals serve_shape
 takes_service_on program db port count f a b = and_true (level_passes serve_shape [] nothing_held (words_on db port count) false) _ (passes_service_on db port count f a b) refl
 
+passes_folder : (db from to : List ℕ) → IsPlain db → IsPlain from → IsPlain to → level_passes drop_shape [] nothing_held (words_of_folder db from to) false ≡ true
+unfolding clap_on_literals drop_shape
+passes_folder db from to f a b = rw (f.dashes, f.long, f.short) (rw (a.dashes, a.long, a.short) (rw (b.dashes, b.long, b.short) refl))
+
+takes_folder : (program db from to : List ℕ) → IsPlain db → IsPlain from → IsPlain to → takes desk_app (program ∷ codes "drop" ∷ words_of_folder db from to) ≡ true
+unfolding clap_on_literals drop_shape
+takes_folder program db from to f a b = and_true (level_passes drop_shape [] nothing_held (words_of_folder db from to) false) _ (passes_folder db from to f a b) refl
+
 pub takes_asked : (program : List ℕ) (asked : CallValue) → IsAskable asked → takes desk_app (program ∷ words_for asked) ≡ true
 takes_asked program (isin code) other = takes_isin program code (no_dashes code other) (no_long code other) (no_short code other)
 takes_asked program (read mt) is = takes_read program mt is
@@ -239,6 +254,7 @@ takes_asked program (serve (Some db) port count) is =
     takes_service_on program db (decimal port) (decimal count) (plain_word db is.0) (number_taken port 65535 is.1.0 is.1.1 (omega arith)) (number_taken count 1000000 is.2 is.3 (omega arith))
 takes_asked program (holdings db bic account) is = takes_holdings program db bic account (plain_word db is.0) (plain_bic bic is.1) (plain_word account is.2)
 takes_asked program (sums db) is = takes_sums program db (plain_word db is)
+takes_asked program (folder db from to) is = takes_folder program db from to (plain_word db is.0) (plain_word from is.1) (plain_word to is.2)
 
 pub takes_nothing : (program : List ℕ) → takes desk_app (program ∷ []) ≡ true
 unfolding clap_on_literals
@@ -333,6 +349,22 @@ enters_service_on : (program db port count : List ℕ) → IsPlain db → IsTake
 unfolding clap_on_literals serve_shape
 enters_service_on program db port count f a b = let rows = rows_on db port count f a b in (refl, rows.0, rows.1, rows.2)
 
+rows_of_folder : (db from to : List ℕ) → IsPlain db → IsPlain from → IsPlain to
+    → (first_of (codes "db") (rows_at drop_shape (words_of_folder db from to)).1 ≡ Some db) × (first_of (codes "in") (rows_at drop_shape (words_of_folder db from to)).1 ≡ Some from)
+    × (first_of (codes "out") (rows_at drop_shape (words_of_folder db from to)).1 ≡ Some to)
+unfolding clap_on_literals drop_shape
+rows_of_folder db from to f a b = (
+  rw (f.dashes, f.long, f.short) (rw (a.dashes, a.long, a.short) (rw (b.dashes, b.long, b.short) refl)),
+  rw (f.dashes, f.long, f.short) (rw (a.dashes, a.long, a.short) (rw (b.dashes, b.long, b.short) refl)),
+  rw (f.dashes, f.long, f.short) (rw (a.dashes, a.long, a.short) (rw (b.dashes, b.long, b.short) refl)),
+)
+
+enters_folder : (program db from to : List ℕ) → IsPlain db → IsPlain from → IsPlain to
+    → IsSomeAnd (subcommand_of desk_app (program ∷ codes "drop" ∷ words_of_folder db from to))
+    (λ p. (p.0 ≡ codes "drop") × (first_of (codes "db") p.1 ≡ Some db) × (first_of (codes "in") p.1 ≡ Some from) × (first_of (codes "out") p.1 ≡ Some to))
+unfolding clap_on_literals drop_shape
+enters_folder program db from to f a b = let rows = rows_of_folder db from to f a b in (refl, rows.0, rows.1, rows.2)
+
 number_entered : (found : Option (List ℕ × List Row)) (n : ℕ) → n < 2 ^ 8
     → IsSomeAnd found (λ p. (p.0 ≡ codes "explain") × (first_of (codes "number") p.1 ≡ Some (decimal n)) × (one_of (codes "number") p.1 ≡ Some (decimal n)))
     → IsSomeAnd found (λ p. IsSpelledOut (explain (Number n)) p.0 p.1)
@@ -368,6 +400,7 @@ enters_asked program (serve (Some db) port count) is =
 enters_asked program (holdings db bic account) is =
     holdings_entered _ db bic account is.1 (enters_holdings program db bic account (plain_word db is.0) (plain_bic bic is.1) (plain_word account is.2))
 enters_asked program (sums db) is = enters_sums program db (plain_word db is)
+enters_asked program (folder db from to) is = enters_folder program db from to (plain_word db is.0) (plain_word from is.1) (plain_word to is.2)
 
 pub enters_nothing : (program : List ℕ) → subcommand_of desk_app (program ∷ []) ≡ None
 unfolding clap_on_literals
@@ -411,6 +444,7 @@ module _ (asked : CallValue) (name : List ℕ) (f : Found) where
       go (serve db port count) h = let bad : 115 ≡ 105 = ap (λ t. slice_index t 0) (sym h.0 ∙ is) in absurd (omega (arith, bad))
       go (holdings db bic account) h = let bad : 104 ≡ 105 = ap (λ t. slice_index t 0) (sym h.0 ∙ is) in absurd (omega (arith, bad))
       go (sums db) h = let bad : 115 ≡ 105 = ap (λ t. slice_index t 0) (sym h.0 ∙ is) in absurd (omega (arith, bad))
+      go (folder db from to) h = let bad : 100 ≡ 105 = ap (λ t. slice_index t 0) (sym h.0 ∙ is) in absurd (omega (arith, bad))
 
   named_read : name ≡ codes "read" → IsSpelledOut asked name (rows_of f) → (mt : Mt) × (asked ≡ read mt) × (one_text f (codes "mt") ≡ Some (digits_of_type mt)) × (is_instruction mt ≡ true)
   named_read is named = go asked named
@@ -425,6 +459,7 @@ module _ (asked : CallValue) (name : List ℕ) (f : Found) where
       go (serve db port count) h = let bad : 115 ≡ 114 = ap (λ t. slice_index t 0) (sym h.0 ∙ is) in absurd (omega (arith, bad))
       go (holdings db bic account) h = let bad : 104 ≡ 114 = ap (λ t. slice_index t 0) (sym h.0 ∙ is) in absurd (omega (arith, bad))
       go (sums db) h = let bad : 115 ≡ 114 = ap (λ t. slice_index t 0) (sym h.0 ∙ is) in absurd (omega (arith, bad))
+      go (folder db from to) h = let bad : 100 ≡ 114 = ap (λ t. slice_index t 0) (sym h.0 ∙ is) in absurd (omega (arith, bad))
 
   named_play : name ≡ codes "play" → IsSpelledOut asked name (rows_of f) → (db : Option (List ℕ)) × (asked ≡ play db) × (first_value f (codes "db") ≡ db)
   named_play is named = go asked named
@@ -439,6 +474,7 @@ module _ (asked : CallValue) (name : List ℕ) (f : Found) where
       go (serve db port count) h = let bad : 115 ≡ 112 = ap (λ t. slice_index t 0) (sym h.0 ∙ is) in absurd (omega (arith, bad))
       go (holdings db bic account) h = let bad : 104 ≡ 112 = ap (λ t. slice_index t 0) (sym h.0 ∙ is) in absurd (omega (arith, bad))
       go (sums db) h = let bad : 115 ≡ 112 = ap (λ t. slice_index t 0) (sym h.0 ∙ is) in absurd (omega (arith, bad))
+      go (folder db from to) h = let bad : 100 ≡ 112 = ap (λ t. slice_index t 0) (sym h.0 ∙ is) in absurd (omega (arith, bad))
 
   -- the words of `explain`: none behind it, or a number
   IsTopicNamed : CallValue → Type 0
@@ -460,6 +496,7 @@ module _ (asked : CallValue) (name : List ℕ) (f : Found) where
       go (serve db port count) h = let bad : 115 ≡ 101 = ap (λ t. slice_index t 0) (sym h.0 ∙ is) in absurd (omega (arith, bad))
       go (holdings db bic account) h = let bad : 104 ≡ 101 = ap (λ t. slice_index t 0) (sym h.0 ∙ is) in absurd (omega (arith, bad))
       go (sums db) h = let bad : 115 ≡ 101 = ap (λ t. slice_index t 0) (sym h.0 ∙ is) in absurd (omega (arith, bad))
+      go (folder db from to) h = let bad : 100 ≡ 101 = ap (λ t. slice_index t 0) (sym h.0 ∙ is) in absurd (omega (arith, bad))
 
   pub no_topic : name ≡ codes "explain" → (first_value f (codes "number") ≡ None → ⊥)
       → ((n : ℕ) → n < 2 ^ 8 → first_value f (codes "number") ≡ Some (decimal n) → one_text f (codes "number") ≡ Some (decimal n) → ⊥)
@@ -487,6 +524,7 @@ module _ (asked : CallValue) (name : List ℕ) (f : Found) where
       go (serve db port count) h = (db, port, count, refl, first_value-rows f (codes "db") ∙ h.1, one_text-rows f (codes "port") ∙ h.2, h.3, one_text-rows f (codes "count") ∙ h.4, h.5)
       go (holdings db bic account) h = let bad : 104 ≡ 115 = ap (λ t. slice_index t 0) (sym h.0 ∙ is) in absurd (omega (arith, bad))
       go (sums db) h = let bad : 117 ≡ 101 = ap (λ t. slice_index t 1) (sym h.0 ∙ is) in absurd (omega (arith, bad))
+      go (folder db from to) h = let bad : 100 ≡ 115 = ap (λ t. slice_index t 0) (sym h.0 ∙ is) in absurd (omega (arith, bad))
 
   pub no_service : name ≡ codes "serve"
       → ((port count : ℕ) → port < 2 ^ 16 → one_text f (codes "port") ≡ Some (decimal port) → count < 2 ^ 32 → one_text f (codes "count") ≡ Some (decimal count) → ⊥)
@@ -515,6 +553,7 @@ module _ (asked : CallValue) (name : List ℕ) (f : Found) where
       go (serve db port count) h = let bad : 115 ≡ 104 = ap (λ t. slice_index t 0) (sym h.0 ∙ is) in absurd (omega (arith, bad))
       go (holdings db bic account) h = (db, bic, account, refl, first_value-rows f (codes "db") ∙ h.1, h.2, first_value-rows f (codes "bic") ∙ h.3, first_value-rows f (codes "account") ∙ h.4)
       go (sums db) h = let bad : 115 ≡ 104 = ap (λ t. slice_index t 0) (sym h.0 ∙ is) in absurd (omega (arith, bad))
+      go (folder db from to) h = let bad : 100 ≡ 104 = ap (λ t. slice_index t 0) (sym h.0 ∙ is) in absurd (omega (arith, bad))
 
   named_sums : name ≡ codes "sums" → IsSpelledOut asked name (rows_of f) → (db : List ℕ) × (asked ≡ sums db) × (first_value f (codes "db") ≡ Some db)
   named_sums is named = go asked named
@@ -529,6 +568,24 @@ module _ (asked : CallValue) (name : List ℕ) (f : Found) where
       go (serve db port count) h = let bad : 101 ≡ 117 = ap (λ t. slice_index t 1) (sym h.0 ∙ is) in absurd (omega (arith, bad))
       go (holdings db bic account) h = let bad : 104 ≡ 115 = ap (λ t. slice_index t 0) (sym h.0 ∙ is) in absurd (omega (arith, bad))
       go (sums db) h = (db, refl, first_value-rows f (codes "db") ∙ h.1)
+      go (folder db from to) h = let bad : 100 ≡ 115 = ap (λ t. slice_index t 0) (sym h.0 ∙ is) in absurd (omega (arith, bad))
+
+  named_folder : name ≡ codes "drop" → IsSpelledOut asked name (rows_of f)
+      → (db : List ℕ) × (from : List ℕ) × (to : List ℕ) × (asked ≡ folder db from to) × (first_value f (codes "db") ≡ Some db) × (first_value f (codes "in") ≡ Some from) × (first_value f (codes "out") ≡ Some to)
+  named_folder is named = go asked named
+    where
+      go : (a : CallValue) → IsSpelledOut a name (rows_of f)
+          → (db : List ℕ) × (from : List ℕ) × (to : List ℕ) × (a ≡ folder db from to) × (first_value f (codes "db") ≡ Some db) × (first_value f (codes "in") ≡ Some from) × (first_value f (codes "out") ≡ Some to)
+      go (isin code) h = let bad : 105 ≡ 100 = ap (λ t. slice_index t 0) (sym h.0 ∙ is) in absurd (omega (arith, bad))
+      go (read mt) h = let bad : 114 ≡ 100 = ap (λ t. slice_index t 0) (sym h.0 ∙ is) in absurd (omega (arith, bad))
+      go (play db) h = let bad : 112 ≡ 100 = ap (λ t. slice_index t 0) (sym h.0 ∙ is) in absurd (omega (arith, bad))
+      go check h = let bad : 99 ≡ 100 = ap (λ t. slice_index t 0) (sym h ∙ is) in absurd (omega (arith, bad))
+      go (explain Catalogue) h = let bad : 101 ≡ 100 = ap (λ t. slice_index t 0) (sym h.0 ∙ is) in absurd (omega (arith, bad))
+      go (explain (Number number)) h = let bad : 101 ≡ 100 = ap (λ t. slice_index t 0) (sym h.0 ∙ is) in absurd (omega (arith, bad))
+      go (serve db port count) h = let bad : 115 ≡ 100 = ap (λ t. slice_index t 0) (sym h.0 ∙ is) in absurd (omega (arith, bad))
+      go (holdings db bic account) h = let bad : 104 ≡ 100 = ap (λ t. slice_index t 0) (sym h.0 ∙ is) in absurd (omega (arith, bad))
+      go (sums db) h = let bad : 115 ≡ 100 = ap (λ t. slice_index t 0) (sym h.0 ∙ is) in absurd (omega (arith, bad))
+      go (folder db from to) h = (db, from, to, refl, first_value-rows f (codes "db") ∙ h.1, first_value-rows f (codes "in") ∙ h.2, first_value-rows f (codes "out") ∙ h.3)
 
   pub no_sums : name ≡ codes "sums" → None ≡ first_value f (codes "db") → IsSpelledOut asked name (rows_of f) → ⊥
   no_sums is none named = let n = named_sums is named in let bad : None ≡ Some n.0 = none ∙ n.2 in cc
@@ -577,6 +634,20 @@ held_as asked f n db owner account file same held =
     let one : db ≡ n.0 = same_text file n.4 in
     let other : account ≡ n.2 = same_text held n.7 in
     rw (one, same, other) (sym n.3)
+
+-- what the words of `drop` name
+pub folder_by : (asked : CallValue) (f : Found) → IsSpelledOut asked (codes "drop") (rows_of f)
+    → (db : List ℕ) × (from : List ℕ) × (to : List ℕ) × (asked ≡ folder db from to) × (first_value f (codes "db") ≡ Some db) × (first_value f (codes "in") ≡ Some from) × (first_value f (codes "out") ≡ Some to)
+folder_by asked f spelled = named_folder asked (codes "drop") f refl spelled
+
+pub folder_as : (asked : CallValue) (f : Found) → IsSpelledOut asked (codes "drop") (rows_of f) → (db from to : List ℕ) → Some db ≡ first_value f (codes "db") → Some from ≡ first_value f (codes "in")
+    → Some to ≡ first_value f (codes "out") → folder db from to ≡ asked
+folder_as asked f spelled db from to file coming going =
+    let n = folder_by asked f spelled in
+    let one : db ≡ n.0 = same_text file n.4 in
+    let two : from ≡ n.1 = same_text coming n.5 in
+    let three : to ≡ n.2 = same_text going n.6 in
+    rw (one, two, three) (sym n.3)
 
 -- a BIC in its one spelling names itself
 pub known_party : (found : Option (List ℕ)) (bic text : List ℕ) → IsBic bic → text ≡ bic → IfNone found ((party : List ℕ) → ¬ ReadsBic text (Ok party)) → IfSome found (λ party. ReadsBic text (Ok party))
@@ -641,6 +712,11 @@ said_held name f db bic account is file party held =
 
 pub said_sums : (name : List ℕ) (f : Found) (db : List ℕ) → name ≡ codes "sums" → Some db ≡ first_value f (codes "db") → IsSaid (sums db) name (rows_of f)
 said_sums name f db is some = (is, sym (first_value-rows f (codes "db")) ∙ sym some)
+
+pub said_folder : (name : List ℕ) (f : Found) (db from to : List ℕ) → name ≡ codes "drop" → Some db ≡ first_value f (codes "db") → Some from ≡ first_value f (codes "in") → Some to ≡ first_value f (codes "out")
+    → IsSaid (folder db from to) name (rows_of f)
+said_folder name f db from to is file coming going =
+    (is, sym (first_value-rows f (codes "db")) ∙ sym file, sym (first_value-rows f (codes "in")) ∙ sym coming, sym (first_value-rows f (codes "out")) ∙ sym going)
 
 said_parts : {S : Type 0} (found : Option S) (name_in : S → List ℕ) (rows_in : S → List Row) (asked : CallValue) (name : List ℕ) (rows : List Row)
     → Some name ≡ option_map name_in found → Some rows ≡ option_map (λ p. p.1) (option_map (pair name_in rows_in) found) → IsSaid asked name rows

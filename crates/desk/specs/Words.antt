@@ -12,11 +12,11 @@ use Rattle.desk_msg.specs.declared.mt.Mt.{Mt}
 use Rattle.desk.specs.declared.words.calls.Call.{Call}
 use Rattle.desk.specs.declared.words.calls.Topic.{Topic}
 use Rattle.desk.specs.declared.words.calls.Topic.TheVariants.{Catalogue, Number}
-use Rattle.desk.specs.declared.words.calls.Call.TheVariants.{Isin, Read, Play, PlayOn, Check, Explain, Serve, ServeOn, Holdings, Sums}
+use Rattle.desk.specs.declared.words.calls.Call.TheVariants.{Isin, Read, Play, PlayOn, Check, Explain, Serve, ServeOn, Holdings, Sums, Folder}
 
 -- what is asked for: whether a code is an ISIN, what a message of a type says, a script's answers, what is refused in
 -- a script, what a number means or all of them, to serve so many connections at a port, what a participant's account holds,
--- or the totals; of the desk of a file, or of one in memory where no file is named
+-- the totals, or the answers to the files of a folder; of the desk of a file, or of one in memory where no file is named
 pub data CallValue : Type 0 where
   isin : (code : List ℕ) → CallValue
   read : (mt : Mt) → CallValue
@@ -26,6 +26,7 @@ pub data CallValue : Type 0 where
   serve : (db : Option (List ℕ)) (port count : ℕ) → CallValue
   holdings : (db bic account : List ℕ) → CallValue
   sums : (db : List ℕ) → CallValue
+  folder : (db from to : List ℕ) → CallValue
 
 abbrev pub value_of_call : Call → CallValue
 value_of_call (Isin code) = isin code.now
@@ -38,6 +39,7 @@ value_of_call (Serve port count) = serve None port count
 value_of_call (ServeOn db port count) = serve (Some db.now) port count
 value_of_call (Holdings db owner account) = holdings db.now owner account.now
 value_of_call (Sums db) = sums db.now
+value_of_call (Folder db from to) = folder db.now from.now to.now
 
 -- a message that is read is an instruction
 abbrev pub ReadsOnlyInstructions : Call → Type 0
@@ -60,6 +62,7 @@ words_for (explain (Number number)) = codes "explain" ∷ decimal number ∷ []
 words_for (serve db port count) = codes "serve" ∷ words_of_file db (codes "--port" ∷ decimal port ∷ codes "--count" ∷ decimal count ∷ [])
 words_for (holdings db bic account) = codes "holdings" ∷ words_of_file (Some db) (bic ∷ account ∷ [])
 words_for (sums db) = codes "sums" ∷ words_of_file (Some db) []
+words_for (folder db from to) = codes "drop" ∷ words_of_file (Some db) (codes "--in" ∷ from ∷ codes "--out" ∷ to ∷ [])
 
 -- what does not begin as an option, by a hyphen
 abbrev pub IsNoOption : List ℕ → Type 0
@@ -70,7 +73,7 @@ abbrev pub IsNoOptionIn : Option (List ℕ) → Type 0
 IsNoOptionIn None = Unit {0}
 IsNoOptionIn (Some db) = IsNoOption db
 
--- The code, the file and the account do not begin as an option, the type is one of an instruction, the participant is one in its
+-- The code, the file, the account and the folders do not begin as an option, the type is one of an instruction, the participant is one in its
 -- one spelling, and the numbers are those that may be asked for.
 abbrev pub IsAskable : CallValue → Type 0
 IsAskable (isin code) = IsNoOption code
@@ -82,6 +85,7 @@ IsAskable (explain (Number number)) = (1 ≤ number) × (number ≤ 99)
 IsAskable (serve db port count) = IsNoOptionIn db × ((1 ≤ port) × (port ≤ 65535)) × (1 ≤ count) × (count ≤ 1000000)
 IsAskable (holdings db bic account) = IsNoOption db × IsBic bic × IsNoOption account
 IsAskable (sums db) = IsNoOption db
+IsAskable (folder db from to) = IsNoOption db × IsNoOption from × IsNoOption to
 
 -- what a subcommand's name and matches ask for, spelled out as `words_for` spells it
 abbrev pub IsSpelledOut : CallValue → List ℕ → List Row → Type 0
@@ -97,6 +101,8 @@ IsSpelledOut (serve db port count) name rows =
 IsSpelledOut (holdings db bic account) name rows =
     (name ≡ codes "holdings") × (first_of (codes "db") rows ≡ Some db) × IsBic bic × (first_of (codes "bic") rows ≡ Some bic) × (first_of (codes "account") rows ≡ Some account)
 IsSpelledOut (sums db) name rows = (name ≡ codes "sums") × (first_of (codes "db") rows ≡ Some db)
+IsSpelledOut (folder db from to) name rows =
+    (name ≡ codes "drop") × (first_of (codes "db") rows ≡ Some db) × (first_of (codes "in") rows ≡ Some from) × (first_of (codes "out") rows ≡ Some to)
 
 -- what the parser of words knows of the program
 abbrev pub code_rule : Rule
@@ -151,14 +157,23 @@ holdings_app = with_rule (with_rule (with_rule (new_app (codes "holdings")) need
 abbrev pub sums_app : App
 sums_app = with_rule (new_app (codes "sums")) needed_db_rule
 
+abbrev pub in_rule : Rule
+in_rule = record (new_rule (codes "in")) { long = Some (codes "in"); value_names = 1; required = true }
+
+abbrev pub out_rule : Rule
+out_rule = record (new_rule (codes "out")) { long = Some (codes "out"); value_names = 1; required = true }
+
+abbrev pub drop_app : App
+drop_app = with_rule (with_rule (with_rule (new_app (codes "drop")) needed_db_rule) in_rule) out_rule
+
 -- the program, which tells its version
 abbrev pub bare_app : App
 bare_app = record (new_app (codes "desk")) { top = record (new_app (codes "desk")).top { has_version = true } }
 
 abbrev pub desk_app : App
 desk_app =
-    with_subcommand (with_subcommand (with_subcommand (with_subcommand (with_subcommand (with_subcommand (with_subcommand (with_subcommand bare_app isin_app.top) read_app.top) play_app.top) check_app.top) explain_app.top) serve_app.top) holdings_app.top)
-    sums_app.top
+    with_subcommand (with_subcommand (with_subcommand (with_subcommand (with_subcommand (with_subcommand (with_subcommand (with_subcommand (with_subcommand bare_app isin_app.top) read_app.top) play_app.top) check_app.top) explain_app.top) serve_app.top) holdings_app.top)
+    sums_app.top) drop_app.top
 
 -- a numeral of a number; a plus and zeros may stand before it
 abbrev pub IsNumberText : ℕ → List ℕ → Type 0
@@ -189,6 +204,7 @@ IsSaid (serve db port count) name rows =
 IsSaid (holdings db bic account) name rows =
     (name ≡ codes "holdings") × (first_of (codes "db") rows ≡ Some db) × IsSomeAnd (first_of (codes "bic") rows) (IsBicText bic) × (first_of (codes "account") rows ≡ Some account)
 IsSaid (sums db) name rows = (name ≡ codes "sums") × (first_of (codes "db") rows ≡ Some db)
+IsSaid (folder db from to) name rows = (name ≡ codes "drop") × (first_of (codes "db") rows ≡ Some db) × (first_of (codes "in") rows ≡ Some from) × (first_of (codes "out") rows ≡ Some to)
 
 -- what is said where this subcommand was found; with none, to play on a desk in memory
 abbrev pub IsSaidIn : CallValue → Option (List ℕ × List Row) → Type 0

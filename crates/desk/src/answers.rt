@@ -1,5 +1,6 @@
 //! The answer of each subcommand.
 mod check;
+mod drop;
 mod explain;
 mod isin;
 mod play;
@@ -8,6 +9,7 @@ mod reports;
 mod serve;
 
 pub use check::answer_check;
+pub use drop::answer_drop;
 pub use explain::answer_explain;
 pub use isin::answer_isin;
 pub use play::{answer_play, answer_play_on};

@@ -7,6 +7,7 @@
 
 mod answers;
 mod findings;
+mod folders;
 mod run;
 mod status;
 mod store;

@@ -44,7 +44,7 @@ pub enum Failure {
     Storage,
     /// The desk is closed
     Closed,
-    /// The reader failed, or a script is too long
+    /// The reader or a folder failed, or a script is too long
     Input,
 }
 
@@ -72,6 +72,19 @@ impl From<OpenFault> for Failure {
             OpenFault::OtherVersion => Failure::OtherVersion,
             OpenFault::Memory => Failure::Memory,
             OpenFault::Storage => Failure::Storage,
+        }
+    }
+}
+
+impl From<io::Error> for Failure {
+    ghost use Rattle.desk.specs.DropAnswer.{IsFolderFailure};
+
+    ghost from_gives = { λ error failure. IsFolderFailure failure };
+
+    fn from(error: io::Error) -> Failure {
+        match error.kind() {
+            io::ErrorKind::OutOfMemory => Failure::Memory,
+            _ => Failure::Input,
         }
     }
 }

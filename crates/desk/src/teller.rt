@@ -1,13 +1,50 @@
 //! What people are told beside the answers, on standard error, of the file of a desk. No clause speaks of it.
 
+use desk_book::Fault;
 use desk_opening::{Difference, OpenFault, Progress, Table};
-use std::io::IsTerminal;
+use desk_rules::Reply;
+use std::io::{self, IsTerminal};
 
 /// So many entries may be read before it is told how far the opening of a file is.
 const UNTOLD: u64 = 20_000;
 
 /// It is told each time so many entries more are read.
 const TOLD_EACH: u64 = 5_000;
+
+/// As many files may be read, or answers written, before it is told how far that is, and it is told each time so many more are.
+const FILES_TOLD_EACH: usize = 2_000;
+
+/// How many files of a folder were taken, and how many of them were accepted, refused, or answered by a fault.
+#[derive(Clone, Copy)]
+pub struct Tally {
+    files: usize,
+    accepted: usize,
+    refused: usize,
+    failed: usize,
+}
+
+impl Tally {
+    /// That of no files.
+    pub fn new() -> Tally {
+        Tally {
+            files: 0,
+            accepted: 0,
+            refused: 0,
+            failed: 0,
+        }
+    }
+
+    /// Counts a file with this answer.
+    pub fn count(&mut self, answer: &Result<Reply, Fault>) {
+        self.files = self.files.saturating_add(1);
+        let same = match answer {
+            Ok(reply) if reply.status == 200 => &mut self.accepted,
+            Ok(_) => &mut self.refused,
+            Err(_) => &mut self.failed,
+        };
+        *same = same.saturating_add(1);
+    }
+}
 
 /// Who is told whether a desk is closed.
 pub trait Watch {
@@ -68,6 +105,43 @@ impl<'a> Teller<'a> {
         self.tell(
             61,
             "it could not be closed: its log stays beside it, and belongs to it",
+        );
+    }
+
+    /// Tells of which folder or file something failed, and why, and hands it on. What is not printable in its name is escaped.
+    pub fn told<T: Drop>(&self, path: &str, done: io::Result<T>) -> io::Result<T> {
+        if let Err(error) = &done {
+            let _ = eprintln!(self.rt; "desk: {}: {path:?}: {error}", self.path);
+        }
+        done
+    }
+
+    /// Tells how many files of a folder are read.
+    pub fn has_read(&self, count: usize) {
+        if self.is_watched && count % FILES_TOLD_EACH == 0 {
+            let _ = eprintln!(self.rt; "desk: {}: {count} files are read", self.path);
+        }
+    }
+
+    /// Tells how many answers are written.
+    pub fn has_written(&self, tally: Tally) {
+        let count = tally.files;
+        if self.is_watched && count % FILES_TOLD_EACH == 0 {
+            let _ = eprintln!(self.rt; "desk: {}: {count} answers are written", self.path);
+        }
+    }
+
+    /// Tells how a folder was taken.
+    pub fn taken_folder(&self, tally: Tally) {
+        let Tally {
+            files,
+            accepted,
+            refused,
+            failed,
+        } = tally;
+        let _ = eprintln!(self.rt;
+            "desk: {}: {files} files are taken: {accepted} accepted, {refused} refused, {failed} not answered for a fault",
+            self.path
         );
     }
 

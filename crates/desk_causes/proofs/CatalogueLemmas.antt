@@ -11,7 +11,7 @@ use Rattle.desk_msg.specs.declared.fault.MsgFault.TheVariants as fields
 use Rattle.desk_rules.specs.declared.answers.verdict.Refusal.TheVariants.{SenderUnknown, ReferenceReused, PlaceNotUs, UnknownSecurity, KindDiffers, AccountNotSenders, CounterpartyUnknown, NoSuchInstruction, AlreadyCancelled, AlreadySettled, Full, CancellationWaits, CommandReused, Exists, ParticipantUnknown, AccountUnknown, SecurityUnknown, OverLimit, NotEnough, DayGoesBack}
 use Rattle.desk_causes.specs.Causes.{heading_of, number_of_cause}
 use Rattle.desk_causes.specs.declared.cause.Cause.{Cause}
-use Rattle.desk_causes.specs.declared.cause.Cause.TheVariants.{NotBlock, BadLine, BadNesting, TooLong, Missing, Repeated, BadValue, Function, Entry, Command, Line, NoSuchMessage, NotOurFile, OtherVersion, NoMemory, DeviceFailed, DeskClosed}
+use Rattle.desk_causes.specs.declared.cause.Cause.TheVariants.{NotBlock, BadLine, BadNesting, TooLong, Missing, Repeated, BadValue, Function, Entry, Command, FileName, Line, NoSuchMessage, NotOurFile, OtherVersion, NoMemory, DeviceFailed, DeskClosed}
 use Rattle.desk_causes.specs.declared.cause.TheConstants.{CAUSES}
 
 pub listed : (cause : Cause) → Contains CAUSES cause
@@ -44,13 +44,14 @@ listed (Entry SecurityUnknown) = (25, lit< tt, refl)
 listed (Entry OverLimit) = (26, lit< tt, refl)
 listed (Entry NotEnough) = (27, lit< tt, refl)
 listed (Entry DayGoesBack) = (28, lit< tt, refl)
-listed Line = (29, lit< tt, refl)
-listed NoSuchMessage = (30, lit< tt, refl)
-listed NotOurFile = (31, lit< tt, refl)
-listed OtherVersion = (32, lit< tt, refl)
-listed NoMemory = (33, lit< tt, refl)
-listed DeviceFailed = (34, lit< tt, refl)
-listed DeskClosed = (35, lit< tt, refl)
+listed FileName = (29, lit< tt, refl)
+listed Line = (30, lit< tt, refl)
+listed NoSuchMessage = (31, lit< tt, refl)
+listed NotOurFile = (32, lit< tt, refl)
+listed OtherVersion = (33, lit< tt, refl)
+listed NoMemory = (34, lit< tt, refl)
+listed DeviceFailed = (35, lit< tt, refl)
+listed DeskClosed = (36, lit< tt, refl)
 
 -- none of these causes has the number, and they are all
 pub none_has : (number : ℕ) → All (λ cause. number_of_cause cause ≢ number) CAUSES → (cause : Cause) → number_of_cause cause ≢ number
@@ -93,6 +94,7 @@ cause_of n =
     else (if n == 36 then Some (Entry OverLimit)
     else (if n == 37 then Some (Entry NotEnough)
     else (if n == 38 then Some (Entry DayGoesBack)
+    else (if n == 40 then Some FileName
     else (if n == 41 then Some Line
     else (if n == 42 then Some NoSuchMessage
     else (if n == 50 then Some NotOurFile
@@ -100,7 +102,7 @@ cause_of n =
     else (if n == 60 then Some NoMemory
     else (if n == 61 then Some DeviceFailed
     else (if n == 62 then Some DeskClosed
-    else None)))))))))))))))))))))))))))))))))))
+    else None))))))))))))))))))))))))))))))))))))
 
 its_cause : (cause : Cause) → cause_of (number_of_cause cause) ≡ Some cause
 unfolding cause_of
@@ -133,6 +135,7 @@ its_cause (Entry SecurityUnknown) = refl
 its_cause (Entry OverLimit) = refl
 its_cause (Entry NotEnough) = refl
 its_cause (Entry DayGoesBack) = refl
+its_cause FileName = refl
 its_cause Line = refl
 its_cause NoSuchMessage = refl
 its_cause NotOurFile = refl

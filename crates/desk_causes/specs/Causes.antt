@@ -4,7 +4,7 @@ use Rattle.std.specs.List.{flat_map}
 use Rattle.desk_rules.specs.Refusals.{number_of_refusal}
 use Rattle.desk_rules.specs.declared.answers.verdict.Refusal.TheVariants.{SenderUnknown, ReferenceReused, PlaceNotUs, UnknownSecurity, KindDiffers, AccountNotSenders, CounterpartyUnknown, NoSuchInstruction, AlreadyCancelled, AlreadySettled, Full, CancellationWaits, CommandReused, Exists, ParticipantUnknown, AccountUnknown, SecurityUnknown, OverLimit, NotEnough, DayGoesBack}
 use Rattle.desk_causes.specs.declared.cause.Cause.{Cause}
-use Rattle.desk_causes.specs.declared.cause.Cause.TheVariants.{NotBlock, BadLine, BadNesting, TooLong, Missing, Repeated, BadValue, Function, Entry, Command, Line, NoSuchMessage, NotOurFile, OtherVersion, NoMemory, DeviceFailed, DeskClosed}
+use Rattle.desk_causes.specs.declared.cause.Cause.TheVariants.{NotBlock, BadLine, BadNesting, TooLong, Missing, Repeated, BadValue, Function, Entry, Command, FileName, Line, NoSuchMessage, NotOurFile, OtherVersion, NoMemory, DeviceFailed, DeskClosed}
 use Rattle.desk_causes.specs.declared.cause.TheConstants.{CAUSES}
 
 abbrev pub number_of_cause : Cause → ℕ
@@ -17,6 +17,7 @@ number_of_cause Repeated = 6
 number_of_cause BadValue = 7
 number_of_cause Function = 8
 number_of_cause Command = 30
+number_of_cause FileName = 40
 number_of_cause Line = 41
 number_of_cause NoSuchMessage = 42
 number_of_cause NotOurFile = 50
@@ -57,6 +58,7 @@ meaning_of (Entry SecurityUnknown) = codes "the security that the command names 
 meaning_of (Entry OverLimit) = codes "more would be outstanding of the security, or paid in of the currency, than the desk counts"
 meaning_of (Entry NotEnough) = codes "the account holds less than is to be redeemed, or the participant has less than is to be paid out"
 meaning_of (Entry DayGoesBack) = codes "the day of the run is before that of the last run"
+meaning_of FileName = codes "the name of the file is neither that of a message, as ALPHDEFF.543.A1.fin, nor that of a command, as 1.json"
 meaning_of Line = codes "the line of the script asks nothing that the desk knows, or its body has no end"
 meaning_of NoSuchMessage = codes "the participant was not sent so many messages"
 meaning_of NotOurFile = codes "the file is none of a desk's: it is no database, or its tables are not those that accepted entries leave"
@@ -96,6 +98,7 @@ remedy_of (Entry SecurityUnknown) = codes "Correct the ISIN, or register the sec
 remedy_of (Entry OverLimit) = codes "Issue or pay in less (docs/RULES.md, Verdict, has the limits)."
 remedy_of (Entry NotEnough) = codes "Redeem or pay out less, or wait for what is to come in."
 remedy_of (Entry DayGoesBack) = codes "Run for the day of the last run, or for a later one."
+remedy_of FileName = codes "Name it so (./desk help drop), and take the folder again: what was accepted is answered as before."
 remedy_of Line = codes "Write one of the lines of a script (./desk help play), and end a body by a line that is a full stop."
 remedy_of NoSuchMessage = codes "Count from 1; or ask again later, no more was sent yet."
 remedy_of NotOurFile = codes "Name the desk's own file, or bring back a sound copy of it: what is told on standard error says where it differs. A new name makes a new desk."

@@ -28,6 +28,8 @@ pub enum Cause {
     Entry(Refusal),
     /// A command cannot be read (30).
     Command,
+    /// The name of a file says nothing (40).
+    FileName,
     /// A line of a script asks nothing (41).
     Line,
     /// There is no such sent message (42).
@@ -45,7 +47,7 @@ pub enum Cause {
 }
 
 /// Each cause, in the order of the numbers.
-pub const CAUSES: [Cause; 36] = [
+pub const CAUSES: [Cause; 37] = [
     Cause::NotBlock,
     Cause::BadLine,
     Cause::BadNesting,
@@ -75,6 +77,7 @@ pub const CAUSES: [Cause; 36] = [
     Cause::Entry(Refusal::OverLimit),
     Cause::Entry(Refusal::NotEnough),
     Cause::Entry(Refusal::DayGoesBack),
+    Cause::FileName,
     Cause::Line,
     Cause::NoSuchMessage,
     Cause::NotOurFile,
@@ -99,6 +102,7 @@ impl Cause {
             Cause::BadValue => 7,
             Cause::Function => 8,
             Cause::Command => 30,
+            Cause::FileName => 40,
             Cause::Line => 41,
             Cause::NoSuchMessage => 42,
             Cause::NotOurFile => 50,
@@ -195,6 +199,9 @@ impl Cause {
             }
             Cause::Entry(Refusal::DayGoesBack) => {
                 "the day of the run is before that of the last run"
+            }
+            Cause::FileName => {
+                "the name of the file is neither that of a message, as ALPHDEFF.543.A1.fin, nor that of a command, as 1.json"
             }
             Cause::Line => {
                 "the line of the script asks nothing that the desk knows, or its body has no end"
@@ -299,6 +306,9 @@ impl Cause {
             }
             Cause::Entry(Refusal::DayGoesBack) => {
                 "Run for the day of the last run, or for a later one."
+            }
+            Cause::FileName => {
+                "Name it so (./desk help drop), and take the folder again: what was accepted is answered as before."
             }
             Cause::Line => {
                 "Write one of the lines of a script (./desk help play), and end a body by a line that is a full stop."

@@ -38,6 +38,8 @@ pub enum Call<'a> {
     Holdings(&'a str, Bic, &'a str),
     /// The totals of the desk of a file
     Sums(&'a str),
+    /// The answers to the files of a folder, on the desk of a file: that file, the folder, and the one of the answers
+    Folder(&'a str, &'a str, &'a str),
 }
 
 /// What is explained.
@@ -114,6 +116,7 @@ fn subcommand_call<'a>(name: &str, inner: &ArgMatches<'a>) -> Option<Call<'a>>
         "serve" => serve_call(inner),
         "holdings" => holdings_call(inner),
         "sums" => Some(Call::Sums(inner.get_str("db")?)),
+        "drop" => folder_call(inner),
         _ => None,
     }
 }
@@ -199,6 +202,19 @@ fn owner_in(inner: &ArgMatches) -> Option<Bic>
     ensures asked { (bic : List ℕ) → IsBic bic → first_value (found_of inner.now) (codes "bic") ≡ Some bic → IsSomeAnd result (λ owner. owner ≡ bic) }
 {
     party(inner.get_str("bic")?.as_bytes())
+}
+
+/// The files of a folder, on the desk of a file, and where their answers go.
+fn folder_call<'a>(inner: &ArgMatches<'a>) -> Option<Call<'a>>
+    ensures readable { IfSome result ReadsOnlyInstructions }
+    ensures said { IfSome result (λ call. IsSaid (value_of_call call) (codes "drop") (rows_of (found_of inner.now))) }
+    ensures asked { (asked : CallValue) → IsSpelledOut asked (codes "drop") (rows_of (found_of inner.now))
+        → IsSomeAnd result (λ call. value_of_call call ≡ asked) }
+{
+    let db = inner.get_str("db")?;
+    let from = inner.get_str("in")?;
+    let to = inner.get_str("out")?;
+    Some(Call::Folder(db, from, to))
 }
 
 /// The type of an instruction by its number.

@@ -116,3 +116,20 @@ What the desk holds stays. Where there is no file none is made, and it is `fault
 
 Example:
   ./desk sums --db day.db";
+
+/// Of `desk drop`
+pub const DROP: &str = "\
+Each file of the folder DIR of --in asks what its name says, in order of the bytes of the names:
+  BIC.MT.ANY.fin   a participant's message, block 4, of this sender; MT is 540 to 543, ANY is yours
+  ANY.json         an operator's command, a JSON object
+A file of any other name is `refused 40`. Folders in it are passed over. All files are read before anything
+is asked; where that fails, or a file is neither a file nor a folder, it is `fault io` and nothing is asked.
+The answer to a file NAME is written to NAME.out in the folder DIR of --out, over an older one, in the form
+of `desk play`. It appears whole or not at all. Where it cannot be written it is `fault io`; the commands
+that were accepted stand. The same folder may be taken again: what was accepted is answered as before, and
+acts once. Where both folders are one, the answers of the last time are among the files, and are
+`refused 40`; two folders are better. How many files were taken, accepted and refused is told on standard
+error. With --db as in `desk play --db`.
+
+Example:
+  ./desk drop --db day.db --in examples/folder --out answers";

@@ -2,9 +2,11 @@
 ghost use Rattle.std.specs.Prelude.{◌≡◌, false, IfOk};
 ghost use Rattle.clap.specs.Words.{app_of, rule_of};
 ghost use Rattle.clap.specs.declared.builder.command.Command.TheViews.{out-Command};
-ghost use Rattle.desk.specs.Words.{account_rule, bare_app, bic_rule, check_app, count_rule, db_rule, desk_app, explain_app, holdings_app, isin_app, needed_db_rule, play_app, port_rule, read_app, serve_app, sums_app};
+ghost use Rattle.desk.specs.Words.{account_rule, bare_app, bic_rule, check_app, count_rule, db_rule, desk_app, drop_app, explain_app, holdings_app, in_rule, isin_app, needed_db_rule, out_rule, play_app, port_rule, read_app, serve_app, sums_app};
 
-use super::helps::{CHECK, EXPLAIN, HOLDINGS, ISIN, PLAY, PROGRAM, READ, SERVE, SUMS, VERSION};
+use super::helps::{
+    CHECK, DROP, EXPLAIN, HOLDINGS, ISIN, PLAY, PROGRAM, READ, SERVE, SUMS, VERSION,
+};
 use clap::{Arg, Command, value_parser};
 use std::alloc::{AllocError, Global};
 
@@ -23,7 +25,8 @@ pub fn desk<'a>(alloc: Global) -> Result<Command<'a>, AllocError>
         .subcommand(explain(alloc)?)?
         .subcommand(serve(alloc)?)?
         .subcommand(holdings(alloc)?)?
-        .subcommand(sums(alloc)?)
+        .subcommand(sums(alloc)?)?
+        .subcommand(folder(alloc)?)
 }
 
 /// The program, without its subcommands.
@@ -141,6 +144,20 @@ fn sums<'a>(alloc: Global) -> Result<Command<'a>, AllocError>
         .arg(needed_db(alloc))
 }
 
+fn folder<'a>(alloc: Global) -> Result<Command<'a>, AllocError>
+    ensures app { IfOk result (λ command. app_of command ≡ drop_app) }
+    ensures local { IfOk result (λ command. (out-Command command).has_globals ≡ false) }
+{
+    Command::new(alloc, "drop")
+        .about(
+            "Takes the files of a folder on the desk of a file, and writes the answers into another folder",
+        )
+        .after_help(DROP)
+        .arg(made_db(alloc))?
+        .arg(coming_in(alloc))?
+        .arg(going_out(alloc))
+}
+
 fn db<'a>(alloc: Global) -> Arg<'a>
     ensures rule { rule_of result ≡ db_rule }
     ensures local { result.global ≡ false }
@@ -159,6 +176,39 @@ fn needed_db<'a>(alloc: Global) -> Arg<'a>
         .long("db")
         .value_name("FILE")
         .help("The desk's file, which is there")
+        .required(true)
+}
+
+fn made_db<'a>(alloc: Global) -> Arg<'a>
+    ensures rule { rule_of result ≡ needed_db_rule }
+    ensures local { result.global ≡ false }
+{
+    Arg::new(alloc, "db")
+        .long("db")
+        .value_name("FILE")
+        .help("The desk's file; where there is none it is made")
+        .required(true)
+}
+
+fn coming_in<'a>(alloc: Global) -> Arg<'a>
+    ensures rule { rule_of result ≡ in_rule }
+    ensures local { result.global ≡ false }
+{
+    Arg::new(alloc, "in")
+        .long("in")
+        .value_name("DIR")
+        .help("The folder of the files")
+        .required(true)
+}
+
+fn going_out<'a>(alloc: Global) -> Arg<'a>
+    ensures rule { rule_of result ≡ out_rule }
+    ensures local { result.global ≡ false }
+{
+    Arg::new(alloc, "out")
+        .long("out")
+        .value_name("DIR")
+        .help("The folder of the answers, which is there")
         .required(true)
 }
 

@@ -1,9 +1,10 @@
 use Rattle.std.proofs.Common.{refl, Some, None, []}
 use Rattle.std.specs.Io.KnownBytes.{Appends}
 use Rattle.desk.proofs.RunLemmas.{told_of, told_unread}
+use Rattle.desk.specs.DropAnswer.{IsDropAnswer}
 use Rattle.desk.specs.ExplainAnswer.{IsExplainAnswer}
 use Rattle.desk.specs.ReportAnswer.{IsReportAnswer, asked_for}
-use Rattle.desk.specs.Words.{explain, holdings, sums}
+use Rattle.desk.specs.Words.{explain, folder, holdings, sums}
 use Rattle.desk.specs.declared.words.calls.Call.TheVariants as call
 use Rattle.desk.proofs.run.answer.Goals as goal
 
@@ -39,3 +40,10 @@ returns-in-Sums-clause-told g c =
     let P = (Appends (g.W.Write.contents c.args.writer.now) (g.W.Write.contents c.answer_report-in-Sums.new.writer)) in
     told_of c.answer_report-in-Sums.result (g.R.Read.remaining c.args.reader.now) _ g.R.Source.may_fail P c.args.call (call.Sums c.in-Sums.db) c.in-Sums.is
     (told_unread c.answer_report-in-Sums.result (g.R.Read.remaining c.args.reader.now) _ g.R.Source.may_fail P (sums c.in-Sums.db.now) (λ status. IsReportAnswer (asked_for None []) status P) refl c.answer_report-in-Sums.ensures.told (λ status unread t. (unread, t)))
+
+pub returns-in-Folder-clause-told : goal.returns-in-Folder-clause-told
+returns-in-Folder-clause-told g c =
+    let P = (Appends (g.W.Write.contents c.args.writer.now) (g.W.Write.contents c.answer_drop.new.writer)) in
+    told_of c.answer_drop.result (g.R.Read.remaining c.args.reader.now) _ g.R.Source.may_fail P c.args.call (call.Folder c.in-Folder.db c.in-Folder.from c.in-Folder.to) c.in-Folder.is
+    (told_unread c.answer_drop.result (g.R.Read.remaining c.args.reader.now) _ g.R.Source.may_fail P (folder c.in-Folder.db.now c.in-Folder.from.now c.in-Folder.to.now) (λ status. IsDropAnswer status P) refl c.answer_drop.ensures.told
+    (λ status unread t. (unread, t)))

@@ -59,3 +59,9 @@ returns-in-holdings-clause-said c = subst (λ n. IfSome c.holdings_call.result (
 
 pub returns-in-holdings-clause-asked : goal.returns-in-holdings-clause-asked
 returns-in-holdings-clause-asked c = λ asked named. c.holdings_call.ensures.asked asked (subst (λ n. IsSpelledOut asked n (rows_of (found_of c.args.inner.now))) c.in-holdings.is named)
+
+pub returns-in-drop-clause-said : goal.returns-in-drop-clause-said
+returns-in-drop-clause-said c = subst (λ n. IfSome c.folder_call.result (λ call. IsSaid (value_of_call call) n (rows_of (found_of c.args.inner.now)))) (sym c.in-drop.is) c.folder_call.ensures.said
+
+pub returns-in-drop-clause-asked : goal.returns-in-drop-clause-asked
+returns-in-drop-clause-asked c = λ asked named. c.folder_call.ensures.asked asked (subst (λ n. IsSpelledOut asked n (rows_of (found_of c.args.inner.now))) c.in-drop.is named)

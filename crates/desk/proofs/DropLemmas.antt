@@ -1,0 +1,84 @@
+-- A folder, taken on the desk of a file.
+use Rattle.std.proofs.Common.{inl, inr, ◌≡◌, ℕ, Bool, false, List, [], map, Option, refl, sym, ◌∙◌, subst}
+use Rattle.std.specs.Prelude.{◌⊎◌, Result, Ok, Err, IfErr, IfOk, IsOkAnd}
+use Rattle.std.specs.Io.KnownBytes.{Appends}
+use Rattle.std.proofs.KnownBytes.{Appends-nil}
+use Rattle.desk_rules.specs.declared.answers.reply.Reply.{Reply}
+use Rattle.desk_rules.specs.Books.{Books}
+use Rattle.desk_register.specs.View.{View}
+use Rattle.desk_book.specs.declared.fault.Fault.{Fault as DeskFault}
+use Rattle.desk_book.specs.Answered.{AnsweredInTurn}
+use Rattle.desk_book.specs.Asked.{Asked}
+use Rattle.desk_book.specs.Headline.{Headline}
+use Rattle.desk_book.specs.Held.{Holds}
+use Rattle.desk_drop.specs.declared.file.DropReply.{DropReply}
+use Rattle.desk_drop.specs.Folder.{File, IsOnlyFolder, Item}
+use Rattle.desk_drop.specs.Taken.{AreAnswered, HasTaken, answers_in, asked_in}
+use Rattle.desk.specs.DropAnswer.{AreTakenFrom, IsDropAnswer, IsFolderFailure, IsFolderTold, told_failed, told_nothing}
+use Rattle.desk.specs.Status.{EndsAs, IsFailureTold, IsOpeningFailure}
+use Rattle.desk.specs.declared.status.Failure.{Failure}
+use Rattle.desk.specs.declared.status.Failure.TheVariants.{Storage}
+use Rattle.desk.specs.declared.status.Status.{Status}
+use Rattle.desk.specs.declared.status.Status.TheVariants.{Done, Fault}
+use Rattle.desk_opening.specs.declared.fault.OpenFault.TheVariants as opening
+
+-- files were taken from these books
+pub taken_from : (limit : ℕ) (books : Books) (files : List File) (replies : List DropReply) (was is : Bool) (v0 v1 : View) → v0.room ≡ limit → v1.room ≡ v0.room → was ≡ false
+    → (t : (items : List Item) × IsOnlyFolder files items × (map (λ (reply : DropReply). reply.index) replies ≡ map (λ (item : Item). item.index) items)
+    × AreAnswered was (map (λ (item : Item). item.request) items) (map (λ (reply : DropReply). reply.answer) replies) is
+    × ((b : Books) → v1.is_honest → Holds was v0 b → HasTaken v0.room was b (map (λ (item : Item). item.request) items) (map (λ (reply : DropReply). reply.answer) replies) is v1))
+    → v1.is_honest → Holds was v0 books → AreTakenFrom limit books files replies
+taken_from limit books files replies was is v0 v1 most room not_closed t honest holds =
+    let taken = t.4 books honest holds in
+    let requests = map (λ (item : Item). item.request) t.0 in
+    let answers = map (λ (reply : DropReply). reply.answer) replies in
+    let P : ℕ → Type 0 = λ k. AnsweredInTurn k was books (asked_in requests) (answers_in requests answers) is taken.last in
+    let Q : Bool → Type 0 = λ b. AnsweredInTurn limit b books (asked_in requests) (answers_in requests answers) is taken.last in
+    let A : Bool → Type 0 = λ b. AreAnswered b requests answers is in
+    let H : ℕ → Type 0 = λ k. Headline k taken.last v1.content in
+    record {
+      items = t.0;
+      only = t.1;
+      told = t.2;
+      is_closed = is;
+      answered = subst A not_closed t.3;
+      last = taken.last;
+      in_turn = subst Q not_closed (subst P most taken.in_turn);
+      promise = λ stays. (v1.content, subst H (room ∙ most) (taken.promise stays));
+    }
+
+module _ {X : Type 0} (contents : X → Option (List ℕ)) (w0 w1 w2 : X) where
+  -- what was told of the folder, and nothing behind it
+  told_alone : (done : Result (Unit {0}) Failure) (said : Status) → IfErr done IsFolderFailure → IsFolderTold done said (w1 ≡ w0) (Appends (contents w0) (contents w1)) → IsDropAnswer said (Appends (contents w0) (contents w1))
+  told_alone (Ok done) said why told = told_nothing told.0 (subst (λ w. Appends (contents w0) (contents w) []) (sym told.1) (Appends-nil (contents w0)))
+  told_alone (Err failure) said why told = told_failed failure (inr why) told
+
+  -- the file could not be closed, which is told alone where each answer is written
+  told_unclosed : (done : Result (Unit {0}) Failure) (said status : Status) → IsFolderTold done said (w1 ≡ w0) (Appends (contents w0) (contents w1)) → (said ≡ Fault → ⊥) → IsFailureTold Storage status (Appends (contents w1) (contents w2))
+      → IsDropAnswer status (Appends (contents w0) (contents w2))
+  told_unclosed (Ok done) said status told still unclosed = told_failed Storage (inl (opening.Storage, refl)) (subst (λ w. IsFailureTold Storage status (Appends (contents w) (contents w2))) told.1 unclosed)
+  told_unclosed (Err failure) said status told still unclosed = absurd (still told.0)
+
+  -- how it ended over a file
+  pub ended_folder : {E : Type 0} (done : Result (Unit {0}) Failure) (told result : Result Status E) → IfErr done IsFolderFailure → IfOk told (λ said. IsFolderTold done said (w1 ≡ w0) (Appends (contents w0) (contents w1)))
+      → IfOk result (λ status. IsOkAnd told (λ said. EndsAs said status (w2 ≡ w1) (Appends (contents w1) (contents w2)))) → IfOk result (λ status. IsDropAnswer status (Appends (contents w0) (contents w2)))
+  ended_folder done told (Err e) why is ends = tt
+  ended_folder done (Err e) (Ok status) why is ends = absurd ends
+  ended_folder done (Ok said) (Ok status) why is (inl same) =
+      let P : Status → Type 0 = λ s. IsDropAnswer s (Appends (contents w0) (contents w2)) in
+      subst P (sym same.0) (subst (λ w. IsDropAnswer said (Appends (contents w0) (contents w))) (sym same.1) (told_alone done said why is))
+  ended_folder done (Ok said) (Ok status) why is (inr unclosed) = told_unclosed done said status is unclosed.0 unclosed.1
+
+-- the file was not opened
+pub untaken : {E : Type 0} (r : Result Status E) (failure : Failure) (P : List ℕ → Type 0) → IsOpeningFailure failure → IfOk r (λ status. IsFailureTold failure status P) → IfOk r (λ status. IsDropAnswer status P)
+untaken (Ok status) failure P is told = told_failed failure (inl is) told
+untaken (Err e) failure P is told = tt
+
+-- as `taken_from`, where there was memory for the lists
+pub ok_taken : {V E : Type 0} (items_of : V → List DropReply) (r : Result V E) (limit : ℕ) (books : Books) (files : List File) (was is : Bool) (v0 v1 : View) → v0.room ≡ limit → v1.room ≡ v0.room → was ≡ false
+    → IfOk r (λ replies. (items : List Item) × IsOnlyFolder files items × (map (λ (reply : DropReply). reply.index) (items_of replies) ≡ map (λ (item : Item). item.index) items)
+    × AreAnswered was (map (λ (item : Item). item.request) items) (map (λ (reply : DropReply). reply.answer) (items_of replies)) is
+    × ((b : Books) → v1.is_honest → Holds was v0 b → HasTaken v0.room was b (map (λ (item : Item). item.request) items) (map (λ (reply : DropReply). reply.answer) (items_of replies)) is v1))
+    → v1.is_honest → Holds was v0 books → IfOk r (λ replies. AreTakenFrom limit books files (items_of replies))
+ok_taken items_of (Ok replies) limit books files was is v0 v1 most room not_closed t honest holds = taken_from limit books files (items_of replies) was is v0 v1 most room not_closed t honest holds
+ok_taken items_of (Err fault) limit books files was is v0 v1 most room not_closed t honest holds = tt
