@@ -3,9 +3,9 @@ pub mod RunLemmas
 pub mod OutboxLemmas
 mod PlayLemmas
 pub mod FormedLemmas
-mod AnsweringLemmas
+pub mod AnsweringLemmas
 mod StatementLemmas
-mod TellingLemmas
+pub mod TellingLemmas
 pub mod RunLanes
 pub mod LeftLemmas
 pub mod LineLemmas

@@ -1,13 +1,13 @@
 -- A script, item by item.
-use Rattle.std.proofs.Common.{◌≡◌, ℕ, ◌+◌, ◌≤◌, Bool, List, [], ◌∷◌, ◌++◌, count_by, refl, ap, sym, ◌∙◌, subst, arith, append-nil, append_assoc}
+use Rattle.std.proofs.Common.{◌≡◌, ℕ, Bool, List, [], ◌∷◌, ◌++◌, refl, ap, sym, ◌∙◌, subst, append-nil, append_assoc}
 use Rattle.std.specs.Prelude.{Option, Result, Ok, Err, OnOk}
 use Rattle.std.specs.Io.KnownBytes.{Appends, append_known}
 use Rattle.std.proofs.KnownBytes.{Appends-nil, Appends-trans}
 use Rattle.desk_rules.specs.declared.answers.reply.Reply.{Reply}
 use Rattle.desk_rules.specs.Books.{Books}
-use Rattle.desk_register.specs.View.{View, IfCounted, IsLater}
+use Rattle.desk_register.specs.View.{View, IsLater}
 use Rattle.desk_book.specs.declared.fault.Fault.{Fault}
-use Rattle.desk_book.specs.Answered.{AnsweredInTurn, says_closed, says_storage}
+use Rattle.desk_book.specs.Answered.{AnsweredInTurn, says_closed}
 use Rattle.desk_book.specs.Asked.{Asked, asked_by}
 use Rattle.desk_book.specs.declared.requests.question.Request.{Request}
 use Rattle.desk_book.specs.DeskValue.{DeskValue}
@@ -23,7 +23,7 @@ use Rattle.desk_book.specs.WrittenAnswers.{written_bad_line}
 use Rattle.desk_book.proofs.HeadlineLemmas.{promised}
 use Rattle.desk_book.proofs.LeftLemmas.{says_so}
 use Rattle.desk_book.proofs.OutboxLemmas.{all_written}
-use Rattle.desk_book.proofs.RunLemmas.{counted_one, counted_then, run_then}
+use Rattle.desk_book.proofs.RunLemmas.{blamed_one, blamed_then, run_then}
 
 -- One item.
 
@@ -35,7 +35,7 @@ one_played view is_in_memory books asked answer old new a s = record {
   in_turn = (says_so view is_in_memory answer old new a, (s.next, s.step, (a.closed, refl)));
   holds = s.holds;
   promise = s.promise;
-  blame = counted_one answer (view old.register) (view new.register) a.left.later a.blame;
+  blame = blamed_one answer (view old.register) (view new.register) a.left.later a.blame;
 }
 
 pub item_written : {E : Type 0} (was : Bool) (books : Books) (item : ScriptItem) (request : Request) (answer : Result Reply Fault) (text : List ℕ) (before after : Option (List ℕ)) (is : Bool) (old new : View) (r : Result (Unit {0}) E)
@@ -47,16 +47,13 @@ item_written was books item request answer text before after is old new (Ok done
     subst P (sym same) (record { answers = answer ∷ []; played = played; written = subst Q (shown ∙ sym (append-nil (answer_text answer))) written })
 item_written was books item request answer text before after is old new (Err fault) same shown played written = tt
 
-none_counted : (view : View) → IfCounted view (count_by says_storage [] + view.failures ≤ view.failures)
-none_counted view honest few = omega arith
-
 pub bad_line_played : (was : Bool) (books : Books) (view : View) → Holds was view books → HasPlayed was books (bad_line ∷ []) [] was view view
 bad_line_played was books view holds = record {
   last = books;
   in_turn = (refl, refl);
   holds = holds;
   promise = promised was view books holds;
-  blame = none_counted view;
+  blame = λ honest few. refl;
 }
 
 pub bad_line_told : {E : Type 0} (was : Bool) (books : Books) (item : ScriptItem) (before after : Option (List ℕ)) (view : View) (r : Result (Unit {0}) E) → item ≡ BadLine → Holds was view books
@@ -96,7 +93,7 @@ play_then was is next books front items answers others v0 v1 v2 soon later first
       in_turn = subst Q (sym (asked_then front items)) run;
       holds = second.holds;
       promise = second.promise;
-      blame = counted_then answers others v0 v1 v2 later first.blame second.blame;
+      blame = blamed_then answers others v0 v1 v2 later first.blame second.blame;
     }
 
 -- The loop over a script.
@@ -114,7 +111,7 @@ none_so_far was books script before view holds = record {
   front = [];
   spells = λ items is. is;
   answers = [];
-  played = record { last = books; in_turn = (refl, refl); holds = holds; promise = promised was view books holds; blame = none_counted view };
+  played = record { last = books; in_turn = (refl, refl); holds = holds; promise = promised was view books holds; blame = λ honest few. refl };
   written = Appends-nil before;
 }
 

@@ -47,7 +47,7 @@ module _ {Row : Type 0} (data_of : Row → Data) where
     begun_whole = sym (append-nil text) ∙ (begun.goes_on [] ∙ ap (λ (l : List Row). rows_text false (map data_of l)) (append-nil rows))
 
 -- the bracket that closes rows
-closed_by : (is_later : Bool) (rows : List Data) → rows_text is_later rows ++ 93 ∷ [] ≡ items_text is_later (items_of rows)
+pub closed_by : (is_later : Bool) (rows : List Data) → rows_text is_later rows ++ 93 ∷ [] ≡ items_text is_later (items_of rows)
 closed_by is_later [] = refl
 closed_by is_later (row ∷ rows) =
     let comma = comma_if is_later in

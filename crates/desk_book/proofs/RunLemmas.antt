@@ -1,9 +1,8 @@
 -- Requests one after another.
-use Rattle.std.proofs.Common.{◌≡◌, ℕ, ◌+◌, ◌<◌, ◌≤◌, Bool, true, false, List, [], ◌∷◌, ◌++◌, length, map, take, get_or, refl, ap, sym, ◌∙◌, subst, arith, All, cond, count_by}
+use Rattle.std.proofs.Common.{◌≡◌, ◌≢◌, ℕ, ◌+◌, ◌<◌, ◌≤◌, Bool, true, false, List, [], ◌∷◌, ◌++◌, length, map, take, get_or, refl, ap, sym, ◌∙◌, subst, arith, All}
 use Rattle.std.proofs.lemmas.Bool.{false_from_ne_true}
 use Rattle.std.proofs.lemmas.List.{map-append, take_all, take_more}
 use Rattle.std.proofs.lemmas.List.Elements.{All-cons, All-nil}
-use Rattle.std.proofs.lemmas.List.Sums.{sum_by-append}
 use Rattle.std.specs.Prelude.{Result, Ok, Err, IfOk}
 use Rattle.desk_rules.specs.declared.answers.reply.Reply.{Reply}
 use Rattle.desk_rules.specs.Books.{Books}
@@ -11,7 +10,7 @@ use Rattle.desk_register.specs.View.{View, IfCounted, IsLater}
 use Rattle.desk_book.specs.declared.fault.Fault.{Fault}
 use Rattle.desk_book.specs.declared.fault.Fault.TheVariants.{Memory, Storage, Closed}
 use Rattle.desk_book.specs.declared.requests.task.Task.{Task}
-use Rattle.desk_book.specs.Answered.{AnsweredInTurn, BlamesRequest, Step, says_closed, says_storage}
+use Rattle.desk_book.specs.Answered.{AnsweredInTurn, AreBlamed, BlamesRequest, Counts, Step, says_closed}
 use Rattle.desk_book.specs.Asked.{Asked, asked_by}
 use Rattle.desk_book.specs.declared.requests.question.Request.{Request}
 use Rattle.desk_book.specs.Headline.{KeepsPromise}
@@ -108,23 +107,53 @@ open_all_along limit was books last (asked ∷ more) (answer ∷ answers) run =
 
 -- Whose fault it was.
 
--- an answer that names the device counts once
-pub counted_one : (answer : Result Reply Fault) (v0 v1 : View) → IsLater v0 v1 → BlamesRequest answer v0 v1 → IfCounted v1 (count_by says_storage (answer ∷ []) + v0.failures ≤ v1.failures)
-counted_one (Ok reply) v0 v1 later blame honest few = (let le = later.failures in omega arith)
-counted_one (Err Memory) v0 v1 later blame honest few = (let le = later.failures in omega arith)
-counted_one (Err Storage) v0 v1 later blame honest few = (let lt = blame.storage refl honest few in omega arith)
-counted_one (Err Closed) v0 v1 later blame honest few = (let le = later.failures in omega arith)
+counts : (answer : Result Reply Fault) (v0 v1 : View) → IsLater v0 v1 → BlamesRequest answer v0 v1 → IfCounted v1 (Counts answer v0.failures v1.failures)
+counts (Ok reply) v0 v1 later blame = blame.otherwise (λ e. cc) refl
+counts (Err Memory) v0 v1 later blame = blame.otherwise (λ e. cc) refl
+counts (Err Storage) v0 v1 later blame = blame.storage refl
+counts (Err Closed) v0 v1 later blame = λ honest few. later.failures
 
-pub counted_then : (answers others : List (Result Reply Fault)) (v0 v1 v2 : View) → IsLater v1 v2 → IfCounted v1 (count_by says_storage answers + v0.failures ≤ v1.failures)
-    → IfCounted v2 (count_by says_storage others + v1.failures ≤ v2.failures) → IfCounted v2 (count_by says_storage (answers ++ others) + v0.failures ≤ v2.failures)
-counted_then answers others v0 v1 v2 later before now honest few =
-    let f : Result Reply Fault → ℕ = λ answer. cond (says_storage answer) 1 0 in
-    let sum = sum_by-append f answers others in
+pub blamed_one : (answer : Result Reply Fault) (v0 v1 : View) → IsLater v0 v1 → BlamesRequest answer v0 v1 → IfCounted v1 (AreBlamed (answer ∷ []) v0.failures v1.failures)
+blamed_one answer v0 v1 later blame honest few = (v1.failures, counts answer v0 v1 later blame honest few, refl)
+
+both_blamed : (answers others : List (Result Reply Fault)) (before between after : ℕ) → AreBlamed answers before between → AreBlamed others between after → AreBlamed (answers ++ others) before after
+both_blamed [] others before between after first second = (let P : ℕ → Type 0 = λ n. AreBlamed others n after in subst P first second)
+both_blamed (answer ∷ answers) others before between after first second = (first.0, first.1, both_blamed answers others first.0 between after first.2 second)
+
+pub blamed_then : (answers others : List (Result Reply Fault)) (v0 v1 v2 : View) → IsLater v1 v2 → IfCounted v1 (AreBlamed answers v0.failures v1.failures) → IfCounted v2 (AreBlamed others v1.failures v2.failures)
+    → IfCounted v2 (AreBlamed (answers ++ others) v0.failures v2.failures)
+blamed_then answers others v0 v1 v2 later before now honest few =
     let le = later.failures in
-    let first = before (later.honest honest) (omega arith) in
-    let second = now honest few in
-    rw sum (omega arith)
+    both_blamed answers others v0.failures v1.failures v2.failures (before (later.honest honest) (omega arith)) (now honest few)
 
-pub blamed : (v0 v1 v2 : View) (answers : List (Result Reply Fault)) (answer : Result Reply Fault) → IsLater v1 v2 → IfCounted v1 (count_by says_storage answers + v0.failures ≤ v1.failures)
-    → BlamesRequest answer v1 v2 → IfCounted v2 (count_by says_storage (answers ++ answer ∷ []) + v0.failures ≤ v2.failures)
-blamed v0 v1 v2 answers answer later before now = counted_then answers (answer ∷ []) v0 v1 v2 later before (counted_one answer v1 v2 later now)
+pub blamed : (v0 v1 v2 : View) (answers : List (Result Reply Fault)) (answer : Result Reply Fault) → IsLater v1 v2 → IfCounted v1 (AreBlamed answers v0.failures v1.failures) → BlamesRequest answer v1 v2
+    → IfCounted v2 (AreBlamed (answers ++ answer ∷ []) v0.failures v2.failures)
+blamed v0 v1 v2 answers answer later before now = blamed_then answers (answer ∷ []) v0 v1 v2 later before (blamed_one answer v1 v2 later now)
+
+-- The count never shrinks, and where it stays no answer tells that the device failed.
+
+counts_up : (answer : Result Reply Fault) (before after : ℕ) → Counts answer before after → before ≤ after
+counts_up (Ok reply) before after counted = omega arith
+counts_up (Err Memory) before after counted = omega arith
+counts_up (Err Storage) before after counted = omega arith
+counts_up (Err Closed) before after counted = counted
+
+all_count_up : (answers : List (Result Reply Fault)) (before after : ℕ) → AreBlamed answers before after → before ≤ after
+all_count_up [] before after blamed = omega arith
+all_count_up (answer ∷ answers) before after blamed =
+    let first = counts_up answer before blamed.0 blamed.1 in
+    let rest = all_count_up answers blamed.0 after blamed.2 in
+    omega arith
+
+no_failure : (answer : Result Reply Fault) (before after : ℕ) → Counts answer before after → after ≤ before → answer ≢ Err Storage
+no_failure (Ok reply) before after counted stays = λ e. cc
+no_failure (Err Memory) before after counted stays = λ e. cc
+no_failure (Err Storage) before after counted stays = λ e. omega arith
+no_failure (Err Closed) before after counted stays = λ e. cc
+
+pub none_failed : (answers : List (Result Reply Fault)) (before after : ℕ) → AreBlamed answers before after → after ≤ before → All (λ answer. answer ≢ Err Storage) answers
+none_failed [] before after blamed stays = All-nil (λ answer. answer ≢ Err Storage)
+none_failed (answer ∷ answers) before after blamed stays =
+    let first = counts_up answer before blamed.0 blamed.1 in
+    let rest = all_count_up answers blamed.0 after blamed.2 in
+    All-cons (λ answer. answer ≢ Err Storage) answer answers (no_failure answer before blamed.0 blamed.1 (omega arith)) (none_failed answers blamed.0 after blamed.2 (omega arith))

@@ -1,5 +1,5 @@
 -- What the desk answers to a request, and how its books grow by it.
-use Rattle.std.specs.Prelude.{◌≡◌, ◌≢◌, ◌<◌, ℕ, Bool, true, false, if◌then◌else◌, List, [], ◌∷◌, Option, option_and_then, Result, Ok, Err}
+use Rattle.std.specs.Prelude.{◌≡◌, ◌≢◌, ◌<◌, ◌≤◌, ℕ, Bool, true, false, if◌then◌else◌, List, [], ◌∷◌, Option, option_and_then, Result, Ok, Err}
 use Rattle.desk_rules.specs.declared.history.entry.Entry.{Entry}
 use Rattle.desk_rules.specs.declared.answers.reply.Reply.{Reply}
 use Rattle.desk_rules.specs.declared.answers.verdict.Verdict.{Verdict}
@@ -77,16 +77,23 @@ abbrev pub says_closed : Result Reply Fault → Bool
 says_closed (Err Closed) = true
 says_closed answer = false
 
--- the desk answered that the device failed
-abbrev pub says_storage : Result Reply Fault → Bool
-says_storage (Err Storage) = true
-says_storage answer = false
-
 -- The device is blamed where it failed in the request, and nowhere else: the count of its failures has grown after 61,
 -- and is as it was after every answer but 61 and 62.
 pub record BlamesRequest (result : Result Reply Fault) (old new : View) : Type 0 where
   pub storage : result ≡ Err Storage → IfCounted new (old.failures < new.failures)
   pub otherwise : result ≢ Err Storage → says_closed result ≡ false → IfCounted new (new.failures ≡ old.failures)
+
+-- how the count of the device's failures goes on in one answer: it grows at 61, does not shrink at 62, and stays at any other
+abbrev pub Counts : Result Reply Fault → ℕ → ℕ → Type 0
+Counts (Err Storage) before after = before < after
+Counts (Err Closed) before after = before ≤ after
+Counts answer before after = after ≡ before
+
+-- The device is blamed where it failed in the requests, and nowhere else: answer by answer, the count of its failures goes
+-- from one number to the other.
+abbrev pub AreBlamed : List (Result Reply Fault) → ℕ → ℕ → Type 0
+AreBlamed [] before after = after ≡ before
+AreBlamed (answer ∷ answers) before after = (next : ℕ) × Counts answer before next × AreBlamed answers next after
 
 -- Requests were answered one after another, from one state and books to another. Once closed, a desk answers nothing else.
 abbrev pub AnsweredInTurn : ℕ → Bool → Books → List Asked → List (Result Reply Fault) → Bool → Books → Type 0

@@ -1,5 +1,5 @@
 -- A script, played.
-use Rattle.std.specs.Prelude.{ℕ, ◌+◌, ◌≤◌, Bool, List, [], ◌∷◌, ◌++◌, count_by, Option, Result, Ok, Err}
+use Rattle.std.specs.Prelude.{ℕ, Bool, List, [], ◌∷◌, ◌++◌, Option, Result, Ok, Err}
 use Rattle.std.specs.Io.KnownBytes.{Appends}
 use Rattle.desk_rules.specs.declared.answers.reply.Reply.{Reply}
 use Rattle.desk_rules.specs.Books.{Books}
@@ -9,7 +9,7 @@ use Rattle.desk_book.specs.declared.fault.InputFault.{InputFault}
 use Rattle.desk_book.specs.declared.fault.InputFault.TheVariants.{Memory, ReadFailed, TooLong}
 use Rattle.desk_book.specs.declared.fault.PlayFault.{PlayFault}
 use Rattle.desk_book.specs.declared.fault.PlayFault.TheVariants as plays
-use Rattle.desk_book.specs.Answered.{AnsweredInTurn, says_storage}
+use Rattle.desk_book.specs.Answered.{AnsweredInTurn, AreBlamed}
 use Rattle.desk_book.specs.Asked.{Asked}
 use Rattle.desk_book.specs.Headline.{KeepsPromise}
 use Rattle.desk_book.specs.Held.{Holds}
@@ -42,13 +42,13 @@ answers_text (ask asked ∷ items) [] = []
 answers_text (ask asked ∷ items) (answer ∷ answers) = answer_text answer ++ answers_text items answers
 
 -- Items were played from these books, and their requests got these answers in turn, to the books that the desk holds
--- then, and with which it keeps its promise. No more answers name the device than it failed, as it is counted.
+-- then, and with which it keeps its promise. The device is blamed where it failed in them, and nowhere else.
 pub record HasPlayed (was : Bool) (books : Books) (items : List Item) (answers : List (Result Reply Fault)) (is : Bool) (old new : View) : Type 0 where
   pub last : Books
   pub in_turn : AnsweredInTurn old.room was books (asked_in items) answers is last
   pub holds : Holds is new last
   pub promise : KeepsPromise is new last
-  pub blame : IfCounted new (count_by says_storage answers + old.failures ≤ new.failures)
+  pub blame : IfCounted new (AreBlamed answers old.failures new.failures)
 
 -- a whole script was played, and its answers written
 pub record PlaysScript (was : Bool) (books : Books) (script : List ℕ) (before after : Option (List ℕ)) (is : Bool) (old new : View) : Type 0 where

@@ -1,8 +1,8 @@
 //! The desk: requests, answered from a register's tables.
-ghost use Rattle.std.specs.Prelude.{◌≡◌, ◌+◌, ◌≤◌, [], true, false, map, All, count_by, IfErr, IfOk, OnErr};
+ghost use Rattle.std.specs.Prelude.{◌≡◌, [], true, false, map, All, IfErr, IfOk, OnErr};
 ghost use Rattle.desk_rules.specs.Books.{Books};
 ghost use Rattle.desk_register.specs.View.{IfCounted};
-ghost use Rattle.desk_book.specs.Answered.{ActsOnce, AnsweredInTurn, says_closed, says_storage};
+ghost use Rattle.desk_book.specs.Answered.{ActsOnce, AnsweredInTurn, AreBlamed, says_closed};
 ghost use Rattle.desk_book.specs.declared.requests.question.Question.TheVariants as questions;
 ghost use Rattle.desk_book.specs.Asked.{asked_by, asked_with};
 ghost use Rattle.desk_book.specs.Headline.{KeepsPromise};
@@ -163,7 +163,7 @@ impl<R: Register> Desk<R> {
         ensures memory { IfErr result (λ fault. fault ≡ Fault.Memory) }
         ensures left { LeavesDesk R.view R.in_memory self.old self.new }
         ensures stays { self.old.is_closed ≡ true → IfOk result (λ answers. All (λ answer. says_closed answer ≡ true) answers.items) }
-        ensures blame { IfOk result (λ answers. IfCounted (R.view self.new.register) (count_by says_storage answers.items + (R.view self.old.register).failures ≤ (R.view self.new.register).failures)) }
+        ensures blame { IfOk result (λ answers. IfCounted (R.view self.new.register) (AreBlamed answers.items (R.view self.old.register).failures (R.view self.new.register).failures)) }
     {
         let Ok(mut answers) = Vec::with_capacity(alloc, requests.len()) else {
             return Err(Fault::Memory);

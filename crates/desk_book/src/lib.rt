@@ -20,6 +20,7 @@ mod requests;
 mod streams;
 
 pub use answers::head::Head;
+pub use answers::summing::write_sums;
 pub use answers::total::{CashTotal, SecurityTotal};
 pub use desk::Desk;
 pub use fault::{Fault, InputFault, PlayFault, ToFault};
@@ -37,3 +38,4 @@ pub use requests::script::{Item, first_item, item_count};
 pub use requests::task::{Task, task_of};
 pub use streams::outbox::Outbox;
 pub use streams::reading::{CHUNK, read_more, read_whole};
+pub use streams::writing::{write_row, write_text};

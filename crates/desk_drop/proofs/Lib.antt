@@ -1,5 +1,6 @@
 mod AgainLemmas
 mod FolderLemmas
+mod ListingLemmas
 mod NameLemmas
 mod OrderLemmas
 mod TakingLemmas

@@ -1,6 +1,6 @@
 -- Files, taken one after another.
-use Rattle.std.proofs.Common.{◌≡◌, ℕ, ◌+◌, ◌<◌, ◌≤◌, Bool, true, false, List, [], ◌∷◌, ◌++◌, length, map, take, get_or, refl, sym, ◌∙◌, ap, subst, arith, All, count_by, Option, Some, None}
-use Rattle.std.specs.Prelude.{Result, Ok, Err, unwrap_or}
+use Rattle.std.proofs.Common.{◌≡◌, ℕ, ◌+◌, ◌<◌, ◌≤◌, Bool, true, List, [], ◌∷◌, ◌++◌, length, map, take, get_or, refl, sym, ◌∙◌, ap, subst, arith, All, Option, Some, None}
+use Rattle.std.specs.Prelude.{Result, unwrap_or}
 use Rattle.std.specs.List.{slice_get}
 use Rattle.std.proofs.Math.ListN.{get_or-map}
 use Rattle.std.proofs.lemmas.List.{length-map, map-append, take_all, take_more}
@@ -10,16 +10,16 @@ use Rattle.desk_rules.specs.declared.answers.reply.Reply.{Reply}
 use Rattle.desk_rules.specs.Books.{Books}
 use Rattle.desk_register.specs.View.{View, IfCounted, IsLater}
 use Rattle.desk_book.specs.declared.fault.Fault.{Fault}
-use Rattle.desk_book.specs.Answered.{AnsweredInTurn, says_closed, says_storage}
+use Rattle.desk_book.specs.Answered.{AnsweredInTurn, AreBlamed, BlamesRequest, says_closed}
 use Rattle.desk_book.specs.Asked.{Asked}
 use Rattle.desk_book.specs.Held.{Holds, Steps}
 use Rattle.desk_book.proofs.HeadlineLemmas.{promised}
-use Rattle.desk_book.proofs.RunLemmas.{counted_then, run_then}
+use Rattle.desk_book.proofs.RunLemmas.{blamed, run_then}
 use Rattle.desk_drop.specs.declared.file.DropFile.{DropFile}
 use Rattle.desk_drop.specs.declared.file.DropReply.{DropReply}
 use Rattle.desk_drop.specs.Folder.{File, IsItemOf, IsRequestOf, Item, file_of, place_in}
 use Rattle.desk_drop.specs.Places.{IsOrder, IsPlaceOf}
-use Rattle.desk_drop.specs.Taken.{AreAnswered, HasTaken, IsNameRefusal, answers_in, asked_in}
+use Rattle.desk_drop.specs.Taken.{AreAnswered, HasTaken, answers_in, asked_in}
 
 -- One file.
 
@@ -29,10 +29,6 @@ asked_one limit was books asked answer is view closed stays s = record { last = 
 
 pub refused_one : (limit : ℕ) (was : Bool) (books : Books) (answer : Result Reply Fault) (view : View) → Holds was view books → HasTaken limit was books (None ∷ []) (answer ∷ []) was view
 refused_one limit was books answer view holds = record { last = books; in_turn = (refl, refl); holds = holds; promise = promised was view books holds }
-
-pub not_counted : (answer : Result Reply Fault) (view : View) → IsNameRefusal answer → IfCounted view (count_by says_storage (answer ∷ []) + view.failures ≤ view.failures)
-not_counted (Ok reply) view is honest few = omega arith
-not_counted (Err fault) view is honest few = (let c : says_storage (Err fault) ≡ false = ap (λ f. says_storage (Err f)) is in rw c (omega arith))
 
 -- One after another.
 
@@ -175,20 +171,19 @@ module _ {X : Type 0} (f : X → List ℕ × ℕ) where
       more_so_far (map file_of files) (map f xs) i (f x) (map (λ (r : DropReply). r.index) replies) (map (λ (r : DropReply). r.index) more) (map (λ (r : DropReply). r.answer) replies) (map (λ (r : DropReply). r.answer) more) reply.answer
       was mid is v0 v1 v2 soon later (omega arith) place indices answers s (subst A file a)
 
-pub step_counted : (replies more : List DropReply) (reply : DropReply) (v0 v1 v2 : View) → IsLater v1 v2 → more ≡ replies ++ reply ∷ []
-    → IfCounted v1 (count_by says_storage (map (λ (r : DropReply). r.answer) replies) + v0.failures ≤ v1.failures) → IfCounted v2 (count_by says_storage (reply.answer ∷ []) + v1.failures ≤ v2.failures)
-    → IfCounted v2 (count_by says_storage (map (λ (r : DropReply). r.answer) more) + v0.failures ≤ v2.failures)
-step_counted replies more reply v0 v1 v2 later grown before now =
+pub step_blamed : (replies more : List DropReply) (reply : DropReply) (v0 v1 v2 : View) → IsLater v1 v2 → more ≡ replies ++ reply ∷ []
+    → IfCounted v1 (AreBlamed (map (λ (r : DropReply). r.answer) replies) v0.failures v1.failures) → BlamesRequest reply.answer v1 v2 → IfCounted v2 (AreBlamed (map (λ (r : DropReply). r.answer) more) v0.failures v2.failures)
+step_blamed replies more reply v0 v1 v2 later grown before now =
     let answers : map (λ (r : DropReply). r.answer) more ≡ map (λ (r : DropReply). r.answer) replies ++ reply.answer ∷ [] =
     ap (map (λ (r : DropReply). r.answer)) grown ∙ map-append (λ (r : DropReply). r.answer) replies (reply ∷ []) in
-    let P : List (Result Reply Fault) → Type 0 = λ xs. IfCounted v2 (count_by says_storage xs + v0.failures ≤ v2.failures) in
-    subst P (sym answers) (counted_then (map (λ (r : DropReply). r.answer) replies) (reply.answer ∷ []) v0 v1 v2 later before now)
+    let P : List (Result Reply Fault) → Type 0 = λ xs. IfCounted v2 (AreBlamed xs v0.failures v2.failures) in
+    subst P (sym answers) (blamed v0 v1 v2 (map (λ (r : DropReply). r.answer) replies) reply.answer later before now)
 
 -- no reply
-pub none_counted : (replies : List DropReply) (view : View) → replies ≡ [] → IfCounted view (count_by says_storage (map (λ (r : DropReply). r.answer) replies) + view.failures ≤ view.failures)
-none_counted replies view none =
-    let P : List DropReply → Type 0 = λ rs. IfCounted view (count_by says_storage (map (λ (r : DropReply). r.answer) rs) + view.failures ≤ view.failures) in
-    subst P (sym none) (λ honest few. omega arith)
+pub none_blamed : (replies : List DropReply) (view : View) → replies ≡ [] → IfCounted view (AreBlamed (map (λ (r : DropReply). r.answer) replies) view.failures view.failures)
+none_blamed replies view none =
+    let P : List DropReply → Type 0 = λ rs. IfCounted view (AreBlamed (map (λ (r : DropReply). r.answer) rs) view.failures view.failures) in
+    subst P (sym none) (λ honest few. refl)
 
 pub none_replied : (files : List File) (places : List (List ℕ × ℕ)) (replies : List DropReply) (was : Bool) (view : View) → replies ≡ []
     → SoFar files places 0 (map (λ (r : DropReply). r.index) replies) (map (λ (r : DropReply). r.answer) replies) was was view view

@@ -1,5 +1,5 @@
 -- A folder as a list of what is asked.
-use Rattle.std.specs.Prelude.{◌≡◌, ℕ, List, All, Contains, Option, Some, None, map}
+use Rattle.std.specs.Prelude.{◌≡◌, ◌≢◌, ℕ, List, All, AllPairs, Contains, Option, Some, None, map}
 use Rattle.std.specs.List.{slice_get}
 use Rattle.std.specs.List.Sorted.{IsStrictlySortedBy}
 use Rattle.std.specs.declared.cmp.Ordering.{Ordering}
@@ -17,6 +17,10 @@ pub record File : Type 0 where
 
 abbrev pub file_of : DropFile → File
 file_of file = record { name = file.name.now; bytes = file.bytes.now }
+
+-- no two of the files have one name
+abbrev pub HaveOwnNames : List File → Type 0
+HaveOwnNames files = AllPairs (λ a b. a.name ≢ b.name) files
 
 -- A file with what it asks: its name, its place among the files, counted from 0, and the request; None where its name
 -- says nothing.
@@ -43,6 +47,10 @@ place_order a b = ordering_then (slice_cmp nat_cmp a.0 b.0) (nat_cmp a.1 b.1)
 
 abbrev pub place_in : Item → List ℕ × ℕ
 place_in item = (item.name, item.index)
+
+-- its name, with what it asks
+abbrev pub asked_by_name : Item → List ℕ × Option Asked
+asked_by_name item = (item.name, item.request)
 
 -- The files of a folder, each once, in this order, with what they ask.
 pub record IsFolder (files : List File) (items : List Item) : Type 0 where

@@ -2,7 +2,8 @@
 //!
 //! Begin with `DropFile` in `file.rt`. `question_of`, in `naming.rt`, reads what a file asks from its name: specs/Names.antt.
 //! Which list of requests a folder is, in which order, says specs/Folder.antt. `take`, in `taking.rt`, asks them of a desk one
-//! after another: specs/Taken.antt. That a folder may be taken again without harm is the law `taken_again`.
+//! after another: specs/Taken.antt. That a folder may be taken again without harm is the law `taken_again`; that it may be listed
+//! in any order, `listed_in_any_order`.
 #![tactic(auto)]
 
 mod file;
@@ -12,6 +13,6 @@ mod order;
 mod taking;
 
 pub use file::{DropFile, DropReply};
-pub use laws::taken_again;
+pub use laws::{listed_in_any_order, one_question, taken_again};
 pub use naming::question_of;
 pub use taking::take;

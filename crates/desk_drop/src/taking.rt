@@ -1,7 +1,7 @@
 //! A folder, taken.
-ghost use Rattle.std.specs.Prelude.{◌≡◌, ◌+◌, ◌<◌, ◌≤◌, List, [], ◌∷◌, All, count_by, length, map, Option, IfErr, IfOk, OnErr};
+ghost use Rattle.std.specs.Prelude.{◌≡◌, ◌<◌, List, [], ◌∷◌, All, length, map, Option, IfErr, IfOk, OnErr};
 ghost use Rattle.desk_register.specs.View.{IfCounted};
-ghost use Rattle.desk_book.specs.Answered.{says_storage};
+ghost use Rattle.desk_book.specs.Answered.{AreBlamed, BlamesRequest};
 ghost use Rattle.desk_book.specs.Asked.{Asked};
 ghost use Rattle.desk_book.specs.Held.{IfHolds};
 ghost use Rattle.desk_book.specs.Left.{LeavesDesk};
@@ -18,7 +18,9 @@ use std::alloc::Global;
 
 /// Asks the files of a folder, in order of the bytes of their names, and where two have one name, as they were handed over.
 /// The answers are listed in this order. A file whose name says nothing is refused, and not asked: status 422 and
-/// `refused 40`. All room for the lists is taken first: the only fault is want of memory, and nothing was asked then.
+/// `refused 40`, or `Memory` where there is none for that. On a closed desk, so behind an answer `Closed` too, each file that
+/// asks something is answered `Closed`, and one whose name says nothing is refused as before. All room for the lists is taken
+/// first: the only fault is want of memory, and nothing was asked then.
 pub fn take<R: Register>(
     alloc: Global,
     desk: &mut Desk<R>,
@@ -31,7 +33,7 @@ pub fn take<R: Register>(
         HasTaken (R.view desk.old.register).room desk.old.is_closed books (map (λ item. item.request) items) (map (λ reply. reply.answer) replies.items) desk.new.is_closed (R.view desk.new.register))) }
     ensures within { IfOk result (λ replies. All (λ reply. reply.index < length files.now) replies.items) }
     ensures blame { IfOk result (λ replies. IfCounted (R.view desk.new.register)
-        (count_by says_storage (map (λ reply. reply.answer) replies.items) + (R.view desk.old.register).failures ≤ (R.view desk.new.register).failures)) }
+        (AreBlamed (map (λ reply. reply.answer) replies.items) (R.view desk.old.register).failures (R.view desk.new.register).failures)) }
     ensures left { LeavesDesk R.view R.in_memory desk.old desk.new }
     ensures err { OnErr result (desk.new ≡ desk.old) }
     ensures memory { IfErr result (λ fault. fault ≡ Fault.Memory) }
@@ -60,7 +62,7 @@ fn answer_file<R: Register>(
         × AreAnswered desk.old.is_closed (request ∷ []) (result ∷ []) desk.new.is_closed
         × IfHolds R.view desk.old desk.new (λ books.
         HasTaken (R.view desk.old.register).room desk.old.is_closed books (request ∷ []) (result ∷ []) desk.new.is_closed (R.view desk.new.register)) }
-    ensures blame { IfCounted (R.view desk.new.register) (count_by says_storage (result ∷ []) + (R.view desk.old.register).failures ≤ (R.view desk.new.register).failures) }
+    ensures blame { BlamesRequest result (R.view desk.old.register) (R.view desk.new.register) }
     ensures left { LeavesDesk R.view R.in_memory desk.old desk.new }
 {
     match question_of(file.name) {

@@ -1,18 +1,17 @@
 -- A connection's request, asked once, and its response.
-use Rattle.std.proofs.Common.{◌≡◌, ℕ, ◌+◌, ◌≤◌, Bool, List, [], ◌∷◌, count_by, Option, IfSome, Result, Ok, Err, OnOk, refl, sym, ap, subst, ◌∙◌, arith}
+use Rattle.std.proofs.Common.{◌≡◌, ℕ, Bool, List, [], ◌∷◌, Option, IfSome, Result, Ok, Err, OnOk, refl, sym, ap, subst, ◌∙◌}
 use Rattle.std.specs.Io.KnownBytes.{Appends}
 use Rattle.desk_rules.specs.declared.answers.reply.Reply.{Reply}
 use Rattle.desk_rules.specs.Books.{Books}
-use Rattle.desk_register.specs.View.{View, IfCounted}
+use Rattle.desk_register.specs.View.{View}
 use Rattle.desk_book.specs.declared.fault.Fault.{Fault}
-use Rattle.desk_book.specs.Answered.{says_storage}
 use Rattle.desk_book.specs.Asked.{Asked}
 use Rattle.desk_book.specs.DeskValue.{DeskValue}
 use Rattle.desk_book.specs.Held.{Holds, Steps}
 use Rattle.desk_book.specs.Left.{AnswersRequest}
 use Rattle.desk_book.proofs.HeadlineLemmas.{promised}
 use Rattle.desk_book.proofs.LeftLemmas.{says_so}
-use Rattle.desk_book.proofs.RunLemmas.{counted_one}
+use Rattle.desk_book.proofs.RunLemmas.{blamed_one}
 use Rattle.desk_http.specs.declared.call.Call.{Call}
 use Rattle.desk_http.specs.declared.refusal.Refusal.{Refusal}
 use Rattle.desk_http.specs.Connection.{Connection}
@@ -33,7 +32,7 @@ module _ {R : Type 0} (view : R → View) (is_in_memory : Bool) where
     in_turn = (says_so view is_in_memory answer old new a, (s.next, s.step, (a.closed, refl)));
     holds = s.holds;
     promise = s.promise;
-    blame = counted_one answer (view old.register) (view new.register) a.left.later a.blame;
+    blame = blamed_one answer (view old.register) (view new.register) a.left.later a.blame;
   }
 
   pub one_responded : {E : Type 0} (r : Result (Unit {0}) E) (text : List ℕ) (before after : Option (List ℕ)) (stream : Option (List ℕ)) (books : Books) (asked : Asked) (answer : Result Reply Fault) (old new : DeskValue R)
@@ -45,9 +44,6 @@ module _ {R : Type 0} (view : R → View) (is_in_memory : Bool) where
       record { served = one_served stream books asked answer old new asks a s; written = subst P shown written }
   one_responded (Err fault) text before after stream books asked answer old new shown written asks a s = tt
 
-none_counted : (view : View) → IfCounted view (count_by says_storage [] + view.failures ≤ view.failures)
-none_counted view honest few = omega arith
-
 pub none_served : (stream : Option (List ℕ)) (was : Bool) (books : Books) (refusal : Refusal) (view : View) → Asks stream (Err refusal) → Holds was view books → Serves was books stream was view view
 none_served stream was books refusal view asks holds = record {
   outcome = Err refusal;
@@ -57,7 +53,7 @@ none_served stream was books refusal view asks holds = record {
   in_turn = (refl, refl);
   holds = holds;
   promise = promised was view books holds;
-  blame = none_counted view;
+  blame = λ honest few. refl;
 }
 
 pub none_responded : {E : Type 0} (r : Result (Unit {0}) E) (before after : Option (List ℕ)) (stream : Option (List ℕ)) (was : Bool) (books : Books) (refusal : Refusal) (view : View)

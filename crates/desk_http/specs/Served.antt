@@ -1,11 +1,11 @@
 -- A connection, served.
-use Rattle.std.specs.Prelude.{ℕ, ◌+◌, ◌≤◌, Bool, List, [], ◌∷◌, count_by, Option, None, IfSome, Result, Ok, Err}
+use Rattle.std.specs.Prelude.{ℕ, Bool, List, [], ◌∷◌, Option, None, IfSome, Result, Ok, Err}
 use Rattle.std.specs.Io.KnownBytes.{Appends}
 use Rattle.desk_rules.specs.declared.answers.reply.Reply.{Reply}
 use Rattle.desk_rules.specs.Books.{Books}
 use Rattle.desk_register.specs.View.{View, IfCounted}
 use Rattle.desk_book.specs.declared.fault.Fault.{Fault}
-use Rattle.desk_book.specs.Answered.{AnsweredInTurn, says_storage}
+use Rattle.desk_book.specs.Answered.{AnsweredInTurn, AreBlamed}
 use Rattle.desk_book.specs.Asked.{Asked}
 use Rattle.desk_book.specs.Headline.{KeepsPromise}
 use Rattle.desk_book.specs.Held.{Holds}
@@ -36,7 +36,7 @@ response_to (Ok asked) [] = []
 response_to (Ok asked) (answer ∷ answers) = answer_response answer
 
 -- What a stream asks was asked of a desk with these books, once, to the books that the desk holds then, and with which it
--- keeps its promise. No more answers name the device than it failed, as it is counted.
+-- keeps its promise. The device is blamed where it failed in it, and nowhere else.
 pub record Serves (was : Bool) (books : Books) (input : Option (List ℕ)) (is : Bool) (old new : View) : Type 0 where
   pub outcome : Result Asked Refusal
   pub asks : IfSome input (λ stream. Connection stream outcome)
@@ -45,7 +45,7 @@ pub record Serves (was : Bool) (books : Books) (input : Option (List ℕ)) (is :
   pub in_turn : AnsweredInTurn old.room was books (asked_of_desk outcome) answers is last
   pub holds : Holds is new last
   pub promise : KeepsPromise is new last
-  pub blame : IfCounted new (count_by says_storage answers + old.failures ≤ new.failures)
+  pub blame : IfCounted new (AreBlamed answers old.failures new.failures)
 
 -- the same, and the response was written
 pub record Responds (was : Bool) (books : Books) (input before after : Option (List ℕ)) (is : Bool) (old new : View) : Type 0 where

@@ -5,7 +5,7 @@ use Rattle.desk_drop.specs.declared.file.DropReply.{DropReply}
 use Rattle.desk_drop.specs.Folder.{file_of}
 use Rattle.desk_drop.specs.Places.{IsOrder}
 use Rattle.desk_drop.proofs.FolderLemmas.{only_folder}
-use Rattle.desk_drop.proofs.TakingLemmas.{all_taken, index_within, none_counted, none_replied, replies_within, step_counted, step_taken}
+use Rattle.desk_drop.proofs.TakingLemmas.{all_taken, index_within, none_blamed, none_replied, replies_within, step_blamed, step_taken}
 use Rattle.desk_drop.proofs.taking.take.Goals as goal
 
 pub places-init : goal.places-init
@@ -19,7 +19,7 @@ places-init g c =
       count = search rules;
       order = subst P (sym c.deref-place-items.ensures.value) c.in-Ok.ensures;
       left = leaves_all view g.R.Register.in_memory desk;
-      blame = none_counted c.in-Ok-with_capacity.replies.items (view desk.register) none;
+      blame = none_blamed c.in-Ok-with_capacity.replies.items (view desk.register) none;
       so_far = none_replied (map file_of c.args.files.now) (map (λ place. (place.0.now, place.1)) c.deref-place-items.result.now) c.in-Ok-with_capacity.replies.items desk.is_closed (view desk.register) none;
     }
 
@@ -47,7 +47,7 @@ places-preserved g c =
       count = search rules;
       order = i.order;
       left = leaves_on view in_memory c.args.desk.now c.places.desk c.answer_file-answer.new.desk i.left a.left;
-      blame = step_counted c.places.replies.items c.push.new.self.items reply v0 v1 v2 a.left.later (search rules) i.blame a.blame;
+      blame = step_blamed c.places.replies.items c.push.new.self.items reply v0 v1 v2 a.left.later (search rules) i.blame a.blame;
       so_far = step_taken (λ place. (place.0.now, place.1)) c.args.files.now c.deref-place-items.result.now c.places.place-index (record { ref_ptr = (0, 0); now = [] }, 0) _ c.places.replies.items c.push.new.self.items reply c.args.desk.now.is_closed c.places.desk.is_closed
           c.answer_file-answer.new.desk.is_closed v0 v1 v2 i.order i.left.later a.left.later c.places-test.true refl (search rules) i.so_far a.answered;
     }

@@ -1,7 +1,7 @@
-use Rattle.std.proofs.Common.{◌≡◌, ◌+◌, ◌≤◌, count_by, length, map}
+use Rattle.std.proofs.Common.{◌≡◌, ◌≤◌, length, map}
 use Rattle.std.specs.Prelude.{vec_len, vec_capacity}
 use Rattle.desk_register.specs.View.{IfCounted}
-use Rattle.desk_book.specs.Answered.{says_storage}
+use Rattle.desk_book.specs.Answered.{AreBlamed}
 use Rattle.desk_book.specs.Left.{LeavesDesk}
 use Rattle.desk_drop.specs.Folder.{file_of}
 use Rattle.desk_drop.specs.Places.{IsOrder}
@@ -14,7 +14,7 @@ invariant-places g l = record {
   count : vec_len l.replies ≡ l.place-index;
   order : IsOrder (map file_of l.files) (map (λ place. (place.0.now, place.1)) l.place-items);
   left : LeavesDesk g.R.Register.view g.R.Register.in_memory l.fn.desk l.desk;
-  blame : IfCounted (g.R.Register.view l.desk.register) (count_by says_storage (map (λ reply. reply.answer) l.replies.items) + (g.R.Register.view l.fn.desk.register).failures ≤ (g.R.Register.view l.desk.register).failures);
+  blame : IfCounted (g.R.Register.view l.desk.register) (AreBlamed (map (λ reply. reply.answer) l.replies.items) (g.R.Register.view l.fn.desk.register).failures (g.R.Register.view l.desk.register).failures);
   so_far : SoFar (map file_of l.files) (map (λ place. (place.0.now, place.1)) l.place-items) l.place-index (map (λ reply. reply.index) l.replies.items) (map (λ reply. reply.answer) l.replies.items) l.fn.desk.is_closed l.desk.is_closed
       (g.R.Register.view l.fn.desk.register) (g.R.Register.view l.desk.register);
 }
