@@ -1,0 +1,4 @@
+mod MemberLemmas
+mod PieceLemmas
+mod PartLemmas
+mod TotalLemmas

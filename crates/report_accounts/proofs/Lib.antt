@@ -1,0 +1,6 @@
+pub mod RowsLemmas
+pub mod LoopLemmas
+mod EndLemmas
+mod CashLemmas
+pub mod AccountLemmas
+mod HoldingLemmas

@@ -1,0 +1,3 @@
+pub mod Accounts
+pub mod Cash
+pub mod Writing

@@ -1,0 +1,2 @@
+pub mod RowData
+pub mod RowWritten

@@ -1,0 +1,10 @@
+//! How a report is written.
+
+/// How a report is written.
+#[derive(Clone, Copy, Debug, PartialEq, Eq)]
+pub enum Format {
+    /// For people: lines of aligned text
+    Text,
+    /// For programs: compact JSON
+    Json,
+}

@@ -1,0 +1,30 @@
+use Rattle.std.proofs.Common.{ap, sym, Some, ◌∙◌}
+use Rattle.std.specs.BTreeMap.{get}
+use Rattle.desk_holdings.proofs.ReadingLemmas.{gives_up, read_one}
+use Rattle.report_unmatched.specs.NearKeys.{near_cmp}
+use Rattle.report_unmatched.proofs.NearestLemmas.{nearest_known, nearest_none, nearest_there}
+use Rattle.report_unmatched.proofs.rows.nearest.Goals as goal
+
+pub returns-in_default-clause-nearest : goal.returns-in_default-clause-nearest
+returns-in_default-clause-nearest g c = λ honest sure.
+    nearest_none (g.R.Register.view c.args.register.now).content c.args.numbers.now c.args.one.now (c.requires.first honest sure)
+    (ap (get near_cmp c.args.numbers.now) (sym c.near_key.ensures) ∙ sym c.number_at.ensures ∙ c.in_default.is)
+
+pub returns-in_default-2-clause-read : goal.returns-in_default-2-clause-read
+returns-in_default-2-clause-read g c =
+    let r = c.in_ok-other.ensures in
+    let v0 = g.R.Register.view c.args.register.now in
+    let v1 = g.R.Register.view c.instruction.new.register in
+    gives_up v0 v1 (read_one c.in_ok-other.field-0 v0 v1 c.requires.stage r.read) (λ honest sure.
+    nearest_there v0.content c.args.numbers.now c.args.one.now (c.requires.first (r.read.later.honest honest) sure) c.in-Some.number
+    (ap (get near_cmp c.args.numbers.now) (sym c.near_key.ensures) ∙ sym c.number_at.ensures ∙ c.in-Some.is)
+    (sym (r.found honest sure) ∙ c.in_default-2.is))
+
+pub returns-clause-nearest : goal.returns-clause-nearest
+returns-clause-nearest g c = λ honest sure.
+    let r = c.in_ok-other.ensures in
+    let v0 = g.R.Register.view c.args.register.now in
+    ap Some c.nearest_told.ensures
+    ∙ nearest_known v0.content c.args.numbers.now c.args.one.now (c.requires.first (r.read.later.honest honest) sure) c.in-Some.number
+    (ap (get near_cmp c.args.numbers.now) (sym c.near_key.ensures) ∙ sym c.number_at.ensures ∙ c.in-Some.is)
+    c.in-Some-2.other (sym (r.found honest sure) ∙ c.in-Some-2.is)

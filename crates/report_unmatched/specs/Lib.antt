@@ -1,0 +1,4 @@
+pub mod FirstNumbers
+pub mod NearKeys
+pub mod Unmatched
+pub mod Writing
