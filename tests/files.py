@@ -10,6 +10,7 @@ import tempfile
 
 from plain.books import EMPTY
 from plain.desk import sums
+from plain.reports import report
 from plain.scripts import ask_item, bare, items_of, lines_with_ends
 
 # the most seconds that a run may take
@@ -22,12 +23,17 @@ def ran(program, *words, given=b"", surroundings=None):
     return ended.returncode, ended.stdout, ended.stderr
 
 
-def sums_after(script):
-    """The sums that the plain program has behind a script, in a line."""
+def books_after(script):
+    """The books that the plain program has behind a script."""
     books = EMPTY
     for line, body in items_of(script):
         books, _ = ask_item(books, line, body)
-    return sums(books).text + b"\n"
+    return books
+
+
+def sums_after(script):
+    """The sums that the plain program has behind a script, in a line."""
+    return sums(books_after(script)).text + b"\n"
 
 
 def cuts_in(script):
@@ -103,6 +109,20 @@ def differences(program, path, script, told):
     if told:
         yield f"standard error has {told[-300:]!r}"
     yield from left_otherwise(program, path, (0, sums_after(script), b""))
+    yield from reported_otherwise(program, path, books_after(script))
+
+
+def reported_otherwise(program, path, books):
+    """In what a report of the desk of a file is another than it must be by these books, or changes the file."""
+    with open(path, "rb") as file:
+        held = file.read()
+    for words in [], ["--json"]:
+        ended, wanted = ran(program, "report", *words, "--db", path), (0, report(books, words), b"")
+        if ended != wanted:
+            yield f"the report {words} is {ended!r} where {wanted!r} is wanted"
+    with open(path, "rb") as file:
+        if file.read() != held:
+            yield "a report has changed the file"
 
 
 def left_otherwise(program, path, wanted):

@@ -5,6 +5,7 @@ from plain.scripts import lines_with_ends
 
 from .folders import random_folder
 from .messages import random_text
+from .reports import random_words, report_script
 from .scripts import random_script
 from .spellings import spelled_commands
 from .streams import random_streams, sent_by
@@ -29,3 +30,7 @@ def stream_input(chance):
 
 def folder_input(chance):
     return ["drop"], random_folder(chance)
+
+
+def report_input(chance):
+    return random_words(chance), report_script(chance)

@@ -41,6 +41,8 @@ class Script:
         self.minor_units = chance.pick((1, 1, 10, 100))
         # of a hundred deals so many are against payment
         self.against_payment = chance.pick((0, 30, 60, 100))
+        # how the references of messages are made of a number, and how often so
+        self.forms = {b"R%d": 92, b"R %d": 2, b"R/%d": 2, b"R%d ": 2, b" R%d": 2}
 
     def end(self):
         return self.chance.pick(self.ends)
@@ -59,7 +61,7 @@ class Script:
 
     def fresh_reference(self, sender):
         """A reference that its sender has most likely not used; others use it too."""
-        form = self.chance.weighted({b"R%d": 92, b"R %d": 2, b"R/%d": 2, b"R%d ": 2, b" R%d": 2})
+        form = self.chance.weighted(self.forms)
         return form % len([it for it in self.messages() if it[0] == sender])
 
     def one_of_the_last(self, things):

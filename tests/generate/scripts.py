@@ -32,12 +32,12 @@ NEXT = {
 }
 
 
-def random_script(chance):
-    """The requests of a script, of which the last one may be cut off."""
+def random_script(chance, closing=asking.closing):
+    """The requests of a script, of which the last one may be cut off; `closing` asks for what comes last."""
     script = Script(chance)
     if chance.happens(95):
         operating.opening(script)
     for _ in range(chance.below(chance.weighted({40: 97, 120: 3}))):
         chance.weighted(NEXT)(script)
-    asking.closing(script)
+    closing(script)
     return script.parts()

@@ -6,7 +6,8 @@ from .codes import isin_fault
 from .connections import responses
 from .folders import take
 from .messages import fields_text, read_message
-from .scripts import play
+from .reports import report
+from .scripts import MOST_SCRIPT, books_after, play
 
 
 def answer_isin(code):
@@ -22,6 +23,13 @@ def answer_read(mt, text):
         return 1, refused.text() + b"\n"
 
 
+def answer_report(words, script):
+    """What `desk report` prints of a new desk behind a script, and its status."""
+    if len(script) > MOST_SCRIPT:
+        return 3, b"fault io\n"
+    return 0, report(books_after(script), words)
+
+
 def answer(words, given):
     """The answer to words that are no usage. Those that serve are given all that each connection sends, and those that take a
     folder its files, each a name and what it holds; they have an answer for each."""
@@ -33,4 +41,6 @@ def answer(words, given):
         return responses(given)
     if words[:1] == ["drop"]:
         return 0, dict(take(EMPTY, given)[1])
+    if words[:1] == ["report"]:
+        return answer_report(words[1:], given)
     return play(given)

@@ -115,6 +115,14 @@ def answers_to(script):
     return answers
 
 
+def books_after(script):
+    """The books of a new desk behind a script."""
+    books = EMPTY
+    for line, body in items_of(script):
+        books, _ = ask_item(books, line, body)
+    return books
+
+
 def play(script):
     """The exit status and the printed answers of a script on a new desk."""
     if len(script) > MOST_SCRIPT:

@@ -1,23 +1,27 @@
-"""Trials of the random scripts, streams and folders: whether the plain program, playing some scripts, serving some days and taking
-some folders, gives each kind of answer."""
+"""Trials of the random scripts, streams, folders and reports: whether the plain program, playing some scripts, serving some days,
+taking some folders and reporting some times, gives each kind of answer and of row, and is asked in each kind of words."""
 
+import json
 import re
 
 from generate.chance import Chance
 from generate.comparing import DEFAULT_SEED
 from generate.comparing_streams import is_heard_out
 from generate.folders import random_folder
+from generate.inputs import report_input
 from generate.scripts import random_script
 from generate.streams import random_streams, sent_by
 from plain.books import EMPTY
 from plain.connections import responses
 from plain.folders import take
-from plain.scripts import answers_to
+from plain.reports import PARTS, report
+from plain.scripts import answers_to, books_after
 
 SCRIPTS = 250
 DAYS = 60
 # as many as the gate takes
 FOLDERS = 24
+REPORTS = 150
 
 
 def op(name, answer):
@@ -192,6 +196,93 @@ def trials_of_folders():
         yield f"in {FOLDERS} random folders there is {kind}", count > 0, (count, "")
 
 
+def number_of(row):
+    """The number of a pending pair."""
+    return max(row[side]["number"] for side in ("deliverer", "receiver"))
+
+
+def values(found, part, member):
+    """What the rows of a part have in a member."""
+    return {row[member] for row in found[part]}
+
+
+def parts_in(words):
+    return [it for it in words if it in PARTS]
+
+
+# each kind of row of the parts of a report, of a report, and of its words
+STANDING = {
+    "pending": {
+        "FUTU": lambda row: row["reason"] == "FUTU",
+        **{f"{it} and lacks": lambda row, it=it: row["reason"] == it and row["lacking"] for it in ("LACK", "MONY")},
+        **{f"{it} and lacks 0": lambda row, it=it: row["reason"] == it and row["lacking"] == 0 for it in ("LACK", "MONY")},
+        "LACK of a pair against payment": lambda row: row["reason"] == "LACK" and row["ccy"],
+        "LACK of a face amount": lambda row: row["reason"] == "LACK" and row["kind"] == "FAMT",
+        **{f"MONY of {it}": lambda row, it=it: row["reason"] == "MONY" and row["ccy"] == it for it in ("EUR", "JPY", "KWD")},
+        "cancellation asked by who delivers": lambda row: row["deliverer"]["cancel"] and not row["receiver"]["cancel"],
+        "cancellation asked by who receives": lambda row: row["receiver"]["cancel"] and not row["deliverer"]["cancel"],
+        "both sides of one participant": lambda row: row["deliverer"]["bic"] == row["receiver"]["bic"],
+        "both sides of one account": lambda row: row["deliverer"]["account"] == row["receiver"]["account"],
+        "an earlier receipt": lambda row: row["receiver"]["number"] < row["deliverer"]["number"],
+        "a reference that JSON escapes": lambda row: set('"\\') & set(row["receiver"]["ref"]),
+    },
+    "unmatched": {
+        **{f"an MT{it}": lambda row, it=it: row["mt"] == it for it in (540, 541, 542, 543)},
+        "none that comes near": lambda row: row["nearest"] is None,
+        **{
+            f"a difference in {it} alone": lambda row, it=it: row["nearest"] and row["nearest"]["differs"] == [it]
+            for it in ("quantity", "day", "payment", "currency", "amount")
+        },
+        "three differences": lambda row: row["nearest"] and len(row["nearest"]["differs"]) == 3,
+        "a nearest one that comes later": lambda row: row["nearest"] and row["nearest"]["number"] > row["number"],
+        "a nearest one of the same participant": lambda row: row["nearest"] and row["bic"] == row["counterparty"],
+    },
+    "accounts": {
+        "nothing": lambda row: row["quantity"] is None,
+        "units": lambda row: row["kind"] == "UNIT",
+        "a face amount": lambda row: row["kind"] == "FAMT",
+    },
+    "cash": {it: lambda row, it=it: row["ccy"] == it for it in ("CHF", "EUR", "GBP", "JPY", "KWD", "USD")},
+}
+REPORTED = {
+    "nothing in each part": lambda found: not any(found[it] for it in STANDING),
+    "pairs in another order than by number": lambda found: found["pending"] != sorted(found["pending"], key=number_of),
+    "a nearest one to which another one is nearer": lambda found: any(
+        row["nearest"] and row["nearest"]["number"] == other["number"] and other["nearest"]["number"] != row["number"]
+        for row in found["unmatched"]
+        for other in found["unmatched"]
+    ),
+    "an account with two securities": lambda found: len(values(found, "accounts", "account")) < len(found["accounts"]),
+    "a participant with two currencies": lambda found: len(values(found, "cash", "bic")) < len(found["cash"]),
+    "an account of one without cash": lambda found: values(found, "accounts", "owner") - values(found, "cash", "bic"),
+}
+ASKED = {
+    "all parts": lambda words: words == ["report"],
+    "all parts as JSON": lambda words: words == ["report", "--json"],
+    **{f"{it} alone": lambda words, it=it: parts_in(words) == [it] for it in PARTS},
+    "one part as JSON": lambda words: len(parts_in(words)) == 1 and "--json" in words,
+    "a part twice": lambda words: len(set(words)) < len(words),
+    "parts in another order": lambda words: parts_in(words) != sorted(parts_in(words), key=list(PARTS).index),
+    "--json before a part": lambda words: "--json" in words[:-1],
+}
+
+
+def trials_of_reports():
+    in_parts = {f"{kind} in {part}": (part, is_one) for part, kinds in STANDING.items() for kind, is_one in kinds.items()}
+    seen = dict.fromkeys([*in_parts, *REPORTED, *ASKED], 0)
+    for number in range(REPORTS):
+        words, script = report_input(Chance(DEFAULT_SEED, number))
+        found = json.loads(report(books_after(b"".join(script)), ["--json"]))
+        for kind, (part, is_one) in in_parts.items():
+            seen[kind] += any(is_one(row) for row in found[part])
+        for kind, is_one in REPORTED.items():
+            seen[kind] += bool(is_one(found))
+        for kind, is_one in ASKED.items():
+            seen[kind] += is_one(words)
+    for kind, count in seen.items():
+        yield f"of {REPORTS} random reports some have {kind}", count > 0, (count, "")
+
+
 def answered(script):
     """The requests of a script and what the plain program answers, each as one text."""
     return [(line + b"\n" + (body or b""), answer[: -len(b"\n.\n")]) for line, body, answer in answers_to(script)]
@@ -213,3 +304,4 @@ def trials(_):
         yield f"in {SCRIPTS} random scripts there is {name}", seen > 0, (seen, "")
     yield from trials_of_streams()
     yield from trials_of_folders()
+    yield from trials_of_reports()

@@ -96,7 +96,7 @@ def trials(room):
     plain, silent = f"{TESTS}/plain/desk", f"{room}/silent"
     write(f"{room}/silent.c", SILENT)
     run(room, "gcc", "-o", silent, f"{room}/silent.c")
-    for script in ("random_scripts", "random_blocks", "random_streams"):
+    for script in ("random_scripts", "random_reports", "random_blocks", "random_streams"):
         yield passes(f"{script}: the plain program", tried(script, plain, "2"), "\n2 passed, 0 failed\n")
         yield fails(f"{script}: a program that does nothing", tried(script, silent, "2"), "\n0 passed, 2 failed\n")
         yield fails(f"{script}: no program", tried(script, f"{room}/none", "2"), "No such file")
@@ -136,6 +136,7 @@ def trials(room):
     yield fails("refuse_opening: a program that does nothing", tried("refuse_opening", silent, "script"), "a file is not opened: (0, b'')")
     yield fails("refuse_words: no growth", tried("refuse_words", silent, "case"), "no refusal led to this")
     yield fails("refuse_words: no case", tried("refuse_words", silent), "there is no case to run\n")
+    yield fails("refuse_reports: no file", tried("refuse_reports", silent, "/dev/null"), "the program has made no file\n")
     yield fails("refuse_words: an unknown case", tried("refuse_words", silent, "none"), "there is no none.stdout\n")
     yield fails("refuse_register: no growth", tried("refuse_register", silent), "\n0 passed, 2 failed\n")
     yield fails("bounded_memory: a program that does nothing", tried("bounded_memory", silent), "\n0 passed, 10 failed\n")

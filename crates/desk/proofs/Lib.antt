@@ -1,5 +1,8 @@
 pub mod ReadLemmas
+mod OverviewLemmas
 mod PlayLemmas
+mod PlainWords
+mod ReportWords
 mod WordsLemmas
 mod ReportLemmas
 mod RunLemmas

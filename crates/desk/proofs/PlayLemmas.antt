@@ -1,7 +1,5 @@
 -- A script on a new desk in memory.
-use Rattle.std.proofs.Common.{inl, inr, ◌≡◌, ◌<◌, ◌≤◌, ℕ, Bool, false, List, [], ◌∷◌, length, All, Option, IfSome, cond, count_by, refl, sym, ◌∙◌, subst, arith}
-use Rattle.std.proofs.lemmas.List.Elements.{All-cons, All-head, All-nil, All-tail}
-use Rattle.std.proofs.lemmas.List.Sums.{sum_by-cons}
+use Rattle.std.proofs.Common.{inl, inr, ◌≡◌, ◌≢◌, ◌<◌, ◌≤◌, ℕ, Bool, false, List, length, get_or, All, Option, IfSome, refl, sym, ◌∙◌, subst, arith}
 use Rattle.std.proofs.KnownBytes.{Appends-trans}
 use Rattle.std.specs.Prelude.{◌++◌, Result, Ok, Err, IfOk, IsOkAnd, OnOk, codes, true}
 use Rattle.std.specs.Io.KnownBytes.{Appends}
@@ -17,10 +15,10 @@ use Rattle.desk_register.specs.Changes.{empty_content}
 use Rattle.desk_register.specs.declared.register.TheConstants.{MOST_FAILURES}
 use Rattle.desk_register.specs.View.{View}
 use Rattle.desk_book.proofs.FormedLemmas.{empty_formed}
-use Rattle.desk_book.proofs.RunLemmas.{open_all_along}
+use Rattle.desk_book.proofs.RunLemmas.{none_failed, open_all_along}
 use Rattle.desk_book.specs.declared.fault.Fault.{Fault}
 use Rattle.desk_book.specs.declared.fault.Fault.TheVariants as faults
-use Rattle.desk_book.specs.Answered.{AnsweredInTurn, says_closed, says_storage}
+use Rattle.desk_book.specs.Answered.{AnsweredInTurn, says_closed}
 use Rattle.desk_book.specs.Headline.{Headline}
 use Rattle.desk_book.specs.Held.{Holds, KeepsFormed}
 use Rattle.desk_book.specs.Played.{PlaysScript, answers_text, asked_in}
@@ -38,24 +36,15 @@ use Rattle.desk.specs.declared.status.Failure.TheVariants.{Storage}
 use Rattle.desk.specs.declared.status.Status.{Status}
 use Rattle.desk.specs.declared.status.Status.TheVariants as exit
 
-abbrev counted : Result Reply Fault → ℕ
-counted answer = cond (says_storage answer) 1 0
-
-is_in_memory : (answer : Result Reply Fault) → says_closed answer ≡ false → counted answer ≡ 0 → IsReplyOrMemory answer
+is_in_memory : (answer : Result Reply Fault) → says_closed answer ≡ false → answer ≢ Err faults.Storage → IsReplyOrMemory answer
 is_in_memory (Ok reply) not_closed sound = tt
 is_in_memory (Err faults.Memory) not_closed sound = refl
-is_in_memory (Err faults.Storage) not_closed sound = absurd (omega (arith, sound))
+is_in_memory (Err faults.Storage) not_closed sound = absurd (sound refl)
 is_in_memory (Err faults.Closed) not_closed sound = cc
 
 -- no fault of a device, and not closed: so want of memory
-only_memory : (answers : List (Result Reply Fault)) → All (λ answer. says_closed answer ≡ false) answers → count_by says_storage answers ≡ 0 → All IsReplyOrMemory answers
-only_memory [] not_closed sound = All-nil IsReplyOrMemory
-only_memory (answer ∷ answers) not_closed sound =
-    let sum = sum_by-cons counted answer answers in
-    let now : counted answer ≡ 0 = omega (arith, sum, sound) in
-    let later : count_by says_storage answers ≡ 0 = omega (arith, sum, sound) in
-    All-cons IsReplyOrMemory answer answers (is_in_memory answer (All-head (λ a. says_closed a ≡ false) answer answers not_closed) now)
-    (only_memory answers (All-tail (λ a. says_closed a ≡ false) answer answers not_closed) later)
+pub only_memory : (answers : List (Result Reply Fault)) → All (λ answer. says_closed answer ≡ false) answers → All (λ answer. answer ≢ Err faults.Storage) answers → All IsReplyOrMemory answers
+only_memory answers not_closed sound = λ k d lt. is_in_memory (get_or answers k d) (not_closed k d lt) (sound k d lt)
 
 pub told : (r : Option (List ℕ)) (U : Type 0) (reads : Bool) (before after : Option (List ℕ)) (was is : Bool) (v0 v1 : View) → v0.room ≡ MOST_ENTRIES → v1.room ≡ v0.room → was ≡ false → is ≡ false → v1.failures ≡ v0.failures → v1.failures < MOST_FAILURES
     → v1.is_honest → Holds was v0 no_books
@@ -69,8 +58,7 @@ told r U reads before after was is v0 v1 most room not_closed stays sound few ho
     let R : Bool → Type 0 = λ b. AnsweredInTurn MOST_ENTRIES false no_books (asked_in s.items) s.answers b s.played.last in
     let run : AnsweredInTurn MOST_ENTRIES false no_books (asked_in s.items) s.answers false s.played.last = subst R stays (subst Q not_closed (subst P most s.played.in_turn)) in
     let H : ℕ → Type 0 = λ k. Headline k s.played.last v1.content in
-    let blame = s.played.blame honest few in
-    let none : count_by says_storage s.answers ≡ 0 = omega (arith, blame, sound) in
+    let none = none_failed s.answers v0.failures v1.failures (s.played.blame honest few) (omega (arith, sound)) in
     let is_played : IsPlayed p.0 (answers_text s.items s.answers) = record {
       items = s.items;
       answers = s.answers;

@@ -32,7 +32,12 @@ use Rattle.desk_msg.specs.declared.mt.Mt.TheVariants.{Mt540, Mt541, Mt542, Mt543
 use Rattle.desk_codes.specs.Bic.{IsBic, ReadsBic, party_of}
 use Rattle.desk_readable.proofs.PartLemmas.{bic_itself}
 use Rattle.desk_codes.specs.Characters.{IsCodeChar}
-use Rattle.desk.specs.Words.{CallValue, IsAskable, IsBicText, IsErrorIn, IsNoOption, IsNoOptionIn, IsSpelledOut, IsSaid, IsSaidBy, IsSaidIn, IsTypeText, value_of_call, desk_app, IsNumberText, IsTopic, check, explain, holdings, isin, play, read, serve, sums, serve_app, words_for, words_of_file, drop_app, folder}
+use Rattle.desk.proofs.PlainWords.{IsPlain, is_other, no_dashes, no_long, no_minus, no_short, plain_word}
+use Rattle.desk.proofs.ReportWords.{enters_report, enters_several, takes_report, takes_several}
+use Rattle.desk.specs.Words.{ArePartWords, ArePartsOf, CallValue, IsAskable, IsBicText, IsErrorIn, IsFormatOf, IsNoOption, IsNoOptionIn, IsSpelledOut, IsSaid, IsSaidBy, IsSaidIn, IsTypeText, value_of_call, desk_app, IsNumberText, IsTopic, check, explain, holdings, isin, part_words_in, parts_by, play, read, report, report_words, serve, sums, serve_app, words_for, drop_app, folder}
+use Rattle.desk_report.specs.declared.part.Parts.{Parts}
+use Rattle.report_rows.specs.declared.format.Format.{Format}
+use Rattle.report_rows.specs.declared.format.Format.TheVariants.{Json, Text as AsText}
 use Rattle.desk.specs.declared.words.calls.Call.{Call}
 use Rattle.desk.specs.declared.words.calls.Topic.{Topic}
 use Rattle.desk.specs.declared.words.calls.Topic.TheVariants.{Catalogue, Number}
@@ -40,31 +45,6 @@ use Rattle.desk.specs.declared.words.calls.Topic.TheVariants.{Catalogue, Number}
 pub simple : is_simple desk_app ≡ true
 unfolding clap_on_literals
 simple = refl
-
--- a word that does not begin by a hyphen is no option
-
-is_other : (c : ℕ) → c ≢ 45 → (c == 45) ≡ false
-is_other c other = go (c == 45) refl
-  where
-    go : (b : Bool) → (c == 45) ≡ b → (c == 45) ≡ false
-    go false e = e
-    go true e = grind (arith, other, e)
-
-no_dashes : (word : List ℕ) → slice_index word 0 ≢ 45 → bytes_eq word (45 ∷ 45 ∷ []) ≡ false
-no_dashes [] other = refl
-no_dashes (c ∷ word) other = let e : (c == 45) ≡ false = is_other c other in rw e refl
-
-no_long : (word : List ℕ) → slice_index word 0 ≢ 45 → long_of word ≡ None
-no_long [] other = refl
-no_long (c ∷ word) other = let e : (c == 45) ≡ false = is_other c other in rw e refl
-
-no_short : (word : List ℕ) → slice_index word 0 ≢ 45 → short_of word ≡ None
-no_short [] other = refl
-no_short (c ∷ word) other = let e : (c == 45) ≡ false = is_other c other in rw e refl
-
-no_minus : (word : List ℕ) → slice_index word 0 ≢ 45 → without_minus word ≡ word
-no_minus [] other = refl
-no_minus (c ∷ word) other = let e : (c == 45) ≡ false = is_other c other in rw e refl
 
 -- a number that is written in digits begins with no sign, and lies between bounds where it does
 
@@ -134,15 +114,6 @@ number_taken n high low most small =
       plain = no_minus (decimal n) other;
       fits = signed_in (decimal n) n high is.0 is.1 low most small;
     }
-
--- what the parser finds of a word that begins with no hyphen
-record IsPlain (text : List ℕ) : Type 0 where
-  dashes : bytes_eq text (45 ∷ 45 ∷ []) ≡ false
-  long : long_of text ≡ None
-  short : short_of text ≡ None
-
-plain_word : (text : List ℕ) → IsNoOption text → IsPlain text
-plain_word text other = record { dashes = no_dashes text other; long = no_long text other; short = no_short text other }
 
 no_code_char : IsCodeChar 45 → ⊥
 no_code_char (inl digit) = omega (arith, digit.0, digit.1)
@@ -254,6 +225,7 @@ takes_asked program (serve (Some db) port count) is =
     takes_service_on program db (decimal port) (decimal count) (plain_word db is.0) (number_taken port 65535 is.1.0 is.1.1 (omega arith)) (number_taken count 1000000 is.2 is.3 (omega arith))
 takes_asked program (holdings db bic account) is = takes_holdings program db bic account (plain_word db is.0) (plain_bic bic is.1) (plain_word account is.2)
 takes_asked program (sums db) is = takes_sums program db (plain_word db is)
+takes_asked program (report db parts format) is = takes_report program db parts format is.0
 takes_asked program (folder db from to) is = takes_folder program db from to (plain_word db is.0) (plain_word from is.1) (plain_word to is.2)
 
 pub takes_nothing : (program : List ℕ) → takes desk_app (program ∷ []) ≡ true
@@ -400,6 +372,7 @@ enters_asked program (serve (Some db) port count) is =
 enters_asked program (holdings db bic account) is =
     holdings_entered _ db bic account is.1 (enters_holdings program db bic account (plain_word db is.0) (plain_bic bic is.1) (plain_word account is.2))
 enters_asked program (sums db) is = enters_sums program db (plain_word db is)
+enters_asked program (report db parts format) is = enters_report program db parts format is.0 is.1
 enters_asked program (folder db from to) is = enters_folder program db from to (plain_word db is.0) (plain_word from is.1) (plain_word to is.2)
 
 pub enters_nothing : (program : List ℕ) → subcommand_of desk_app (program ∷ []) ≡ None
@@ -430,6 +403,12 @@ one_found (Some s) name_in rows_in name e none = cc
 
 -- what the getters give
 
+one_form : (flag : Option (List ℕ)) (a b : Format) → IsFormatOf a flag → IsFormatOf b flag → a ≡ b
+one_form flag Json Json is also = refl
+one_form flag Json AsText is also = absurd (also is)
+one_form flag AsText Json is also = absurd (is also)
+one_form flag AsText AsText is also = refl
+
 module _ (asked : CallValue) (name : List ℕ) (f : Found) where
   named_isin : name ≡ codes "isin" → IsSpelledOut asked name (rows_of f) → (code : List ℕ) × (asked ≡ isin code) × (first_value f (codes "code") ≡ Some code)
   named_isin is named = go asked named
@@ -444,6 +423,7 @@ module _ (asked : CallValue) (name : List ℕ) (f : Found) where
       go (serve db port count) h = let bad : 115 ≡ 105 = ap (λ t. slice_index t 0) (sym h.0 ∙ is) in absurd (omega (arith, bad))
       go (holdings db bic account) h = let bad : 104 ≡ 105 = ap (λ t. slice_index t 0) (sym h.0 ∙ is) in absurd (omega (arith, bad))
       go (sums db) h = let bad : 115 ≡ 105 = ap (λ t. slice_index t 0) (sym h.0 ∙ is) in absurd (omega (arith, bad))
+      go (report db parts format) h = let bad : 114 ≡ 105 = ap (λ t. slice_index t 0) (sym h.0 ∙ is) in absurd (omega (arith, bad))
       go (folder db from to) h = let bad : 100 ≡ 105 = ap (λ t. slice_index t 0) (sym h.0 ∙ is) in absurd (omega (arith, bad))
 
   named_read : name ≡ codes "read" → IsSpelledOut asked name (rows_of f) → (mt : Mt) × (asked ≡ read mt) × (one_text f (codes "mt") ≡ Some (digits_of_type mt)) × (is_instruction mt ≡ true)
@@ -459,6 +439,7 @@ module _ (asked : CallValue) (name : List ℕ) (f : Found) where
       go (serve db port count) h = let bad : 115 ≡ 114 = ap (λ t. slice_index t 0) (sym h.0 ∙ is) in absurd (omega (arith, bad))
       go (holdings db bic account) h = let bad : 104 ≡ 114 = ap (λ t. slice_index t 0) (sym h.0 ∙ is) in absurd (omega (arith, bad))
       go (sums db) h = let bad : 115 ≡ 114 = ap (λ t. slice_index t 0) (sym h.0 ∙ is) in absurd (omega (arith, bad))
+      go (report db parts format) h = let bad : 112 ≡ 97 = ap (λ t. slice_index t 2) (sym h.0 ∙ is) in absurd (omega (arith, bad))
       go (folder db from to) h = let bad : 100 ≡ 114 = ap (λ t. slice_index t 0) (sym h.0 ∙ is) in absurd (omega (arith, bad))
 
   named_play : name ≡ codes "play" → IsSpelledOut asked name (rows_of f) → (db : Option (List ℕ)) × (asked ≡ play db) × (first_value f (codes "db") ≡ db)
@@ -474,6 +455,7 @@ module _ (asked : CallValue) (name : List ℕ) (f : Found) where
       go (serve db port count) h = let bad : 115 ≡ 112 = ap (λ t. slice_index t 0) (sym h.0 ∙ is) in absurd (omega (arith, bad))
       go (holdings db bic account) h = let bad : 104 ≡ 112 = ap (λ t. slice_index t 0) (sym h.0 ∙ is) in absurd (omega (arith, bad))
       go (sums db) h = let bad : 115 ≡ 112 = ap (λ t. slice_index t 0) (sym h.0 ∙ is) in absurd (omega (arith, bad))
+      go (report db parts format) h = let bad : 114 ≡ 112 = ap (λ t. slice_index t 0) (sym h.0 ∙ is) in absurd (omega (arith, bad))
       go (folder db from to) h = let bad : 100 ≡ 112 = ap (λ t. slice_index t 0) (sym h.0 ∙ is) in absurd (omega (arith, bad))
 
   -- the words of `explain`: none behind it, or a number
@@ -496,6 +478,7 @@ module _ (asked : CallValue) (name : List ℕ) (f : Found) where
       go (serve db port count) h = let bad : 115 ≡ 101 = ap (λ t. slice_index t 0) (sym h.0 ∙ is) in absurd (omega (arith, bad))
       go (holdings db bic account) h = let bad : 104 ≡ 101 = ap (λ t. slice_index t 0) (sym h.0 ∙ is) in absurd (omega (arith, bad))
       go (sums db) h = let bad : 115 ≡ 101 = ap (λ t. slice_index t 0) (sym h.0 ∙ is) in absurd (omega (arith, bad))
+      go (report db parts format) h = let bad : 114 ≡ 101 = ap (λ t. slice_index t 0) (sym h.0 ∙ is) in absurd (omega (arith, bad))
       go (folder db from to) h = let bad : 100 ≡ 101 = ap (λ t. slice_index t 0) (sym h.0 ∙ is) in absurd (omega (arith, bad))
 
   pub no_topic : name ≡ codes "explain" → (first_value f (codes "number") ≡ None → ⊥)
@@ -524,6 +507,7 @@ module _ (asked : CallValue) (name : List ℕ) (f : Found) where
       go (serve db port count) h = (db, port, count, refl, first_value-rows f (codes "db") ∙ h.1, one_text-rows f (codes "port") ∙ h.2, h.3, one_text-rows f (codes "count") ∙ h.4, h.5)
       go (holdings db bic account) h = let bad : 104 ≡ 115 = ap (λ t. slice_index t 0) (sym h.0 ∙ is) in absurd (omega (arith, bad))
       go (sums db) h = let bad : 117 ≡ 101 = ap (λ t. slice_index t 1) (sym h.0 ∙ is) in absurd (omega (arith, bad))
+      go (report db parts format) h = let bad : 114 ≡ 115 = ap (λ t. slice_index t 0) (sym h.0 ∙ is) in absurd (omega (arith, bad))
       go (folder db from to) h = let bad : 100 ≡ 115 = ap (λ t. slice_index t 0) (sym h.0 ∙ is) in absurd (omega (arith, bad))
 
   pub no_service : name ≡ codes "serve"
@@ -553,6 +537,7 @@ module _ (asked : CallValue) (name : List ℕ) (f : Found) where
       go (serve db port count) h = let bad : 115 ≡ 104 = ap (λ t. slice_index t 0) (sym h.0 ∙ is) in absurd (omega (arith, bad))
       go (holdings db bic account) h = (db, bic, account, refl, first_value-rows f (codes "db") ∙ h.1, h.2, first_value-rows f (codes "bic") ∙ h.3, first_value-rows f (codes "account") ∙ h.4)
       go (sums db) h = let bad : 115 ≡ 104 = ap (λ t. slice_index t 0) (sym h.0 ∙ is) in absurd (omega (arith, bad))
+      go (report db parts format) h = let bad : 114 ≡ 104 = ap (λ t. slice_index t 0) (sym h.0 ∙ is) in absurd (omega (arith, bad))
       go (folder db from to) h = let bad : 100 ≡ 104 = ap (λ t. slice_index t 0) (sym h.0 ∙ is) in absurd (omega (arith, bad))
 
   named_sums : name ≡ codes "sums" → IsSpelledOut asked name (rows_of f) → (db : List ℕ) × (asked ≡ sums db) × (first_value f (codes "db") ≡ Some db)
@@ -568,6 +553,7 @@ module _ (asked : CallValue) (name : List ℕ) (f : Found) where
       go (serve db port count) h = let bad : 101 ≡ 117 = ap (λ t. slice_index t 1) (sym h.0 ∙ is) in absurd (omega (arith, bad))
       go (holdings db bic account) h = let bad : 104 ≡ 115 = ap (λ t. slice_index t 0) (sym h.0 ∙ is) in absurd (omega (arith, bad))
       go (sums db) h = (db, refl, first_value-rows f (codes "db") ∙ h.1)
+      go (report db parts format) h = let bad : 114 ≡ 115 = ap (λ t. slice_index t 0) (sym h.0 ∙ is) in absurd (omega (arith, bad))
       go (folder db from to) h = let bad : 100 ≡ 115 = ap (λ t. slice_index t 0) (sym h.0 ∙ is) in absurd (omega (arith, bad))
 
   named_folder : name ≡ codes "drop" → IsSpelledOut asked name (rows_of f)
@@ -585,7 +571,46 @@ module _ (asked : CallValue) (name : List ℕ) (f : Found) where
       go (serve db port count) h = let bad : 115 ≡ 100 = ap (λ t. slice_index t 0) (sym h.0 ∙ is) in absurd (omega (arith, bad))
       go (holdings db bic account) h = let bad : 104 ≡ 100 = ap (λ t. slice_index t 0) (sym h.0 ∙ is) in absurd (omega (arith, bad))
       go (sums db) h = let bad : 115 ≡ 100 = ap (λ t. slice_index t 0) (sym h.0 ∙ is) in absurd (omega (arith, bad))
+      go (report db parts format) h = let bad : 114 ≡ 100 = ap (λ t. slice_index t 0) (sym h.0 ∙ is) in absurd (omega (arith, bad))
       go (folder db from to) h = (db, from, to, refl, first_value-rows f (codes "db") ∙ h.1, first_value-rows f (codes "in") ∙ h.2, first_value-rows f (codes "out") ∙ h.3)
+
+  -- the words of `report`: a file or none, the parts and the form
+  IsReportNamed : CallValue → Type 0
+  IsReportNamed a =
+      (db : Option (List ℕ)) × (parts : Parts) × (format : Format) × (a ≡ report db parts format) × (first_value f (codes "db") ≡ db) × ArePartsOf parts (part_words_in (rows_of f)) × IsFormatOf format (one_text f (codes "json"))
+
+  named_report : name ≡ codes "report" → IsSpelledOut asked name (rows_of f) → IsReportNamed asked
+  unfolding IsReportNamed
+  named_report is named = go asked named
+    where
+      go : (a : CallValue) → IsSpelledOut a name (rows_of f) → IsReportNamed a
+      go (isin code) h = let bad : 105 ≡ 114 = ap (λ t. slice_index t 0) (sym h.0 ∙ is) in absurd (omega (arith, bad))
+      go (read mt) h = let bad : 97 ≡ 112 = ap (λ t. slice_index t 2) (sym h.0 ∙ is) in absurd (omega (arith, bad))
+      go (play db) h = let bad : 112 ≡ 114 = ap (λ t. slice_index t 0) (sym h.0 ∙ is) in absurd (omega (arith, bad))
+      go check h = let bad : 99 ≡ 114 = ap (λ t. slice_index t 0) (sym h ∙ is) in absurd (omega (arith, bad))
+      go (explain Catalogue) h = let bad : 101 ≡ 114 = ap (λ t. slice_index t 0) (sym h.0 ∙ is) in absurd (omega (arith, bad))
+      go (explain (Number number)) h = let bad : 101 ≡ 114 = ap (λ t. slice_index t 0) (sym h.0 ∙ is) in absurd (omega (arith, bad))
+      go (serve db port count) h = let bad : 115 ≡ 114 = ap (λ t. slice_index t 0) (sym h.0 ∙ is) in absurd (omega (arith, bad))
+      go (holdings db bic account) h = let bad : 104 ≡ 114 = ap (λ t. slice_index t 0) (sym h.0 ∙ is) in absurd (omega (arith, bad))
+      go (sums db) h = let bad : 115 ≡ 114 = ap (λ t. slice_index t 0) (sym h.0 ∙ is) in absurd (omega (arith, bad))
+      go (report db parts format) h =
+          (db, parts, format, refl, first_value-rows f (codes "db") ∙ h.1, h.2, subst (IsFormatOf format) (sym (one_text-rows f (codes "json"))) h.3)
+      go (folder db from to) h = let bad : 100 ≡ 114 = ap (λ t. slice_index t 0) (sym h.0 ∙ is) in absurd (omega (arith, bad))
+
+  pub no_report : name ≡ codes "report" → ((parts : Parts) → ArePartsOf parts (part_words_in (rows_of f)) → ⊥) → IsSpelledOut asked name (rows_of f) → ⊥
+  unfolding IsReportNamed
+  no_report is none named = let n = named_report is named in none n.1 n.5
+
+  pub same_report : (db : Option (List ℕ)) (parts : Parts) (format : Format) → name ≡ codes "report" → db ≡ first_value f (codes "db")
+      → ((others : Parts) → ArePartsOf others (part_words_in (rows_of f)) → parts ≡ others) → IsFormatOf format (one_text f (codes "json"))
+      → IsSpelledOut asked name (rows_of f) → report db parts format ≡ asked
+  unfolding IsReportNamed
+  same_report db parts format is file one form named =
+      let n = named_report is named in
+      let same_file : db ≡ n.0 = file ∙ n.4 in
+      let same_parts : parts ≡ n.1 = one n.1 n.5 in
+      let same_form : format ≡ n.2 = one_form _ format n.2 form n.6 in
+      rw (same_file, same_parts, same_form) (sym n.3)
 
   pub no_sums : name ≡ codes "sums" → None ≡ first_value f (codes "db") → IsSpelledOut asked name (rows_of f) → ⊥
   no_sums is none named = let n = named_sums is named in let bad : None ≡ Some n.0 = none ∙ n.2 in cc
@@ -669,6 +694,17 @@ entered a words m program asked has is are right =
     let same : subcommand_rows_of m ≡ subcommand_of desk_app (program ∷ words_for asked) = (has (ap is_simple is ∙ simple)).1 ∙ ap₂ subcommand_of is are in
     rw same (enters_asked program asked right)
 
+-- of a report, whichever words name its parts
+
+pub taken_several : (a : App) (words : List Text) (program : List ℕ) (db : Option (List ℕ)) (format : Format) (named : List (List ℕ)) → a ≡ desk_app → words ≡ program ∷ report_words db format named → IsNoOptionIn db → ArePartWords named → takes a words ≡ true
+taken_several a words program db format named is are file parts = ap₂ takes is are ∙ takes_several program db format named file parts
+
+pub entered_several : (a : App) (words : List Text) (m : ArgMatches) (program : List ℕ) (db : Option (List ℕ)) (format : Format) (named : List (List ℕ)) → HasMatchesOf a words m → a ≡ desk_app
+    → words ≡ program ∷ report_words db format named → IsNoOptionIn db → ArePartWords named → IsSomeAnd (subcommand_rows_of m) (λ p. IsSpelledOut (report db (parts_by named) format) p.0 p.1)
+entered_several a words m program db format named has is are file parts =
+    let same : subcommand_rows_of m ≡ subcommand_of desk_app (program ∷ report_words db format named) = (has (ap is_simple is ∙ simple)).1 ∙ ap₂ subcommand_of is are in
+    rw same (enters_several program db format named file parts)
+
 pub named_in : (m : ArgMatches) (asked : CallValue) (name : List ℕ) (rows : List Row) → Some name ≡ subcommand_name_of m → Some rows ≡ option_map (λ p. p.1) (subcommand_rows_of m)
     → IsSomeAnd (subcommand_rows_of m) (λ p. IsSpelledOut asked p.0 p.1) → IsSpelledOut asked name rows
 named_in m = named_parts (out-ArgMatches m).subcommand (λ b. (out-SubCommand (box_value b)).name.now) (λ b. rows_of (found_of (out-SubCommand (box_value b)).matches))
@@ -712,6 +748,10 @@ said_held name f db bic account is file party held =
 
 pub said_sums : (name : List ℕ) (f : Found) (db : List ℕ) → name ≡ codes "sums" → Some db ≡ first_value f (codes "db") → IsSaid (sums db) name (rows_of f)
 said_sums name f db is some = (is, sym (first_value-rows f (codes "db")) ∙ sym some)
+
+pub said_report : (name : List ℕ) (f : Found) (db : Option (List ℕ)) (parts : Parts) (format : Format) → name ≡ codes "report" → db ≡ first_value f (codes "db") → ArePartsOf parts (part_words_in (rows_of f)) → IsFormatOf format (one_text f (codes "json"))
+    → IsSaid (report db parts format) name (rows_of f)
+said_report name f db parts format is file named form = (is, sym (first_value-rows f (codes "db")) ∙ sym file, named, subst (IsFormatOf format) (one_text-rows f (codes "json")) form)
 
 pub said_folder : (name : List ℕ) (f : Found) (db from to : List ℕ) → name ≡ codes "drop" → Some db ≡ first_value f (codes "db") → Some from ≡ first_value f (codes "in") → Some to ≡ first_value f (codes "out")
     → IsSaid (folder db from to) name (rows_of f)

@@ -5,12 +5,13 @@ use Rattle.desk.specs.CheckAnswer.{IsCheckAnswer}
 use Rattle.desk.specs.DropAnswer.{IsDropAnswer}
 use Rattle.desk.specs.ExplainAnswer.{IsExplainAnswer}
 use Rattle.desk.specs.IsinAnswer.{IsIsinAnswer}
+use Rattle.desk.specs.OverviewAnswer.{IsFileOverviewAnswer, IsOverviewAnswer}
 use Rattle.desk.specs.PlayAnswer.{IsFilePlayAnswer, IsPlayAnswer}
 use Rattle.desk.specs.ReadAnswer.{IsReadAnswer}
 use Rattle.desk.specs.ReportAnswer.{IsReportAnswer, asked_for}
 use Rattle.desk.specs.ServeAnswer.{IsFileServeAnswer, IsServeAnswer}
 use Rattle.desk.specs.Status.{IsFailureTold, status_of_error}
-use Rattle.desk.specs.Words.{CallValue, isin, read, play, check, explain, serve, holdings, sums, folder, IsErrorIn, IsSaidBy}
+use Rattle.desk.specs.Words.{CallValue, isin, read, play, check, explain, serve, holdings, sums, folder, report, IsErrorIn, IsSaidBy}
 use Rattle.desk.specs.declared.status.Failure.TheVariants.{Memory}
 use Rattle.desk.specs.declared.status.Status.{Status}
 
@@ -27,6 +28,8 @@ IsCallAnswer (serve (Some db) port count) given IsUnread may_fail status IsPrint
 IsCallAnswer (holdings db bic account) given IsUnread may_fail status IsPrinted = IsUnread × IsReportAnswer (asked_for (Some bic) account) status IsPrinted
 IsCallAnswer (sums db) given IsUnread may_fail status IsPrinted = IsUnread × IsReportAnswer (asked_for None []) status IsPrinted
 IsCallAnswer (folder db from to) given IsUnread may_fail status IsPrinted = IsUnread × IsDropAnswer status IsPrinted
+IsCallAnswer (report None parts format) given IsUnread may_fail status IsPrinted = IsOverviewAnswer parts format given IsUnread may_fail status IsPrinted
+IsCallAnswer (report (Some db) parts format) given IsUnread may_fail status IsPrinted = IsUnread × IsFileOverviewAnswer parts format status IsPrinted
 
 -- want of memory was told alone, as a fault, and nothing was read
 abbrev pub IsMemoryTold : Type 0 → Status → (List ℕ → Type 0) → Type 0

@@ -5,6 +5,7 @@ pub mod ExplainAnswer
 pub mod Finding
 pub mod Input
 pub mod IsinAnswer
+pub mod OverviewAnswer
 pub mod PlayAnswer
 pub mod ReadAnswer
 pub mod ReportAnswer

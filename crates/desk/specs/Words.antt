@@ -1,22 +1,28 @@
 -- Which words ask for what.
-use Rattle.std.specs.Prelude.{◌≡◌, ◌≢◌, ◌⊎◌, ◌<◌, ◌≤◌, ◌^◌, ℕ, List, [], ◌∷◌, Option, Some, None, Ok, pos, true, codes, decimal, slice_index, IsSomeAnd, MatchOption}
-use Rattle.std.specs.Str.{byte}
+use Rattle.std.specs.Prelude.{◌≡◌, ◌≢◌, ◌⊎◌, ◌<◌, ◌≤◌, ◌^◌, ◌&&◌, ◌||◌, ℕ, Bool, List, [], ◌∷◌, Option, Some, None, Ok, pos, true, false, if◌then◌else◌, codes, decimal, slice_index, unwrap_or, All, IsSomeAnd, IsTrue, MatchOption}
+use Rattle.std.specs.List.{list_any}
+use Rattle.std.specs.Str.{byte, bytes_eq}
 use Rattle.std.specs.Str.Parse.{IsNumeral, digits_value, without_leading_plus}
-use Rattle.clap.specs.Words.{App, Row, Rule, first_of, new_app, new_rule, fault_of, one_of, subcommand_of, with_rule, with_subcommand, IsAmong}
+use Rattle.clap.specs.Words.{App, Row, Rule, all_of, first_of, new_app, new_rule, fault_of, one_of, subcommand_of, with_rule, with_subcommand, IsAmong}
 use Rattle.clap.specs.declared.error.kind.ErrorKind.{ErrorKind}
 use Rattle.clap.specs.declared.error.kind.ErrorKind.TheVariants.{InvalidValue}
+use Rattle.clap.specs.declared.builder.action.ArgAction.TheVariants.{Append, SetTrue}
 use Rattle.clap.specs.declared.builder.value_parser.ValueParser.TheVariants.{Signed}
 use Rattle.desk_codes.specs.Bic.{IsBic, ReadsBic}
 use Rattle.desk_msg.specs.MessageType.{digits_of_type, is_instruction, number_of_type}
 use Rattle.desk_msg.specs.declared.mt.Mt.{Mt}
+use Rattle.desk_report.specs.declared.part.Parts.{Parts}
+use Rattle.report_rows.specs.declared.format.Format.{Format}
+use Rattle.report_rows.specs.declared.format.Format.TheVariants.{Json, Text}
 use Rattle.desk.specs.declared.words.calls.Call.{Call}
 use Rattle.desk.specs.declared.words.calls.Topic.{Topic}
 use Rattle.desk.specs.declared.words.calls.Topic.TheVariants.{Catalogue, Number}
-use Rattle.desk.specs.declared.words.calls.Call.TheVariants.{Isin, Read, Play, PlayOn, Check, Explain, Serve, ServeOn, Holdings, Sums, Folder}
+use Rattle.desk.specs.declared.words.calls.Call.TheVariants.{Isin, Read, Play, PlayOn, Check, Explain, Serve, ServeOn, Holdings, Sums, Report, ReportOn, Folder}
 
 -- what is asked for: whether a code is an ISIN, what a message of a type says, a script's answers, what is refused in
 -- a script, what a number means or all of them, to serve so many connections at a port, what a participant's account holds,
--- the totals, or the answers to the files of a folder; of the desk of a file, or of one in memory where no file is named
+-- the totals, what stands at this moment, or the answers to the files of a folder; of the desk of a file, or of one in
+-- memory where no file is named
 pub data CallValue : Type 0 where
   isin : (code : List ℕ) → CallValue
   read : (mt : Mt) → CallValue
@@ -26,6 +32,7 @@ pub data CallValue : Type 0 where
   serve : (db : Option (List ℕ)) (port count : ℕ) → CallValue
   holdings : (db bic account : List ℕ) → CallValue
   sums : (db : List ℕ) → CallValue
+  report : (db : Option (List ℕ)) (parts : Parts) (format : Format) → CallValue
   folder : (db from to : List ℕ) → CallValue
 
 abbrev pub value_of_call : Call → CallValue
@@ -39,6 +46,8 @@ value_of_call (Serve port count) = serve None port count
 value_of_call (ServeOn db port count) = serve (Some db.now) port count
 value_of_call (Holdings db owner account) = holdings db.now owner account.now
 value_of_call (Sums db) = sums db.now
+value_of_call (Report parts format) = report None parts format
+value_of_call (ReportOn db parts format) = report (Some db.now) parts format
 value_of_call (Folder db from to) = folder db.now from.now to.now
 
 -- a message that is read is an instruction
@@ -51,6 +60,67 @@ abbrev pub words_of_file : Option (List ℕ) → List (List ℕ) → List (List 
 words_of_file None others = others
 words_of_file (Some db) others = codes "--db" ∷ db ∷ others
 
+-- the words that name the parts of a report
+abbrev pub part_words : List (List ℕ)
+part_words = codes "pending" ∷ codes "unmatched" ∷ codes "accounts" ∷ codes "cash" ∷ codes "sums" ∷ []
+
+-- the word names a part
+abbrev pub is_part_word : List ℕ → Bool
+is_part_word word = list_any (λ part. bytes_eq part word) part_words
+
+-- a part is told where it is named, and where none is
+abbrev pub is_told : List ℕ → List (List ℕ) → Bool
+is_told part [] = true
+is_told part named = list_any (λ word. bytes_eq word part) named
+
+-- the parts that are told where these are named
+abbrev pub parts_by : List (List ℕ) → Parts
+parts_by named = record {
+  pending = is_told (codes "pending") named;
+  unmatched = is_told (codes "unmatched") named;
+  accounts = is_told (codes "accounts") named;
+  cash = is_told (codes "cash") named;
+  sums = is_told (codes "sums") named;
+}
+
+-- each word names a part
+abbrev pub ArePartWords : List (List ℕ) → Type 0
+ArePartWords named = All (λ word. is_part_word word ≡ true) named
+
+-- each word names a part, and these are the parts that are told
+abbrev pub ArePartsOf : Parts → List (List ℕ) → Type 0
+ArePartsOf parts named = ArePartWords named × (parts ≡ parts_by named)
+
+-- JSON where the flag is given, by the word that the parser of words has for that; text where it is not
+abbrev pub IsFormatOf : Format → Option (List ℕ) → Type 0
+IsFormatOf Json flag = flag ≡ Some (codes "true")
+IsFormatOf Text flag = flag ≢ Some (codes "true")
+
+-- the word of a part that is told, and others
+abbrev pub words_of_part : Bool → List ℕ → List (List ℕ) → List (List ℕ)
+words_of_part true word others = word ∷ others
+words_of_part false word others = others
+
+abbrev pub are_all : Parts → Bool
+are_all parts = parts.pending && parts.unmatched && parts.accounts && parts.cash && parts.sums
+
+-- the words of the parts that are told; none, where all are
+abbrev pub words_of_parts : Parts → List (List ℕ)
+words_of_parts parts =
+    if are_all parts then []
+    else words_of_part parts.pending (codes "pending") (words_of_part parts.unmatched (codes "unmatched")
+    (words_of_part parts.accounts (codes "accounts") (words_of_part parts.cash (codes "cash") (words_of_part parts.sums (codes "sums") []))))
+
+-- the word that asks for JSON, and others
+abbrev pub words_of_format : Format → List (List ℕ) → List (List ℕ)
+words_of_format Json others = codes "--json" ∷ others
+words_of_format Text others = others
+
+-- the words that ask for a report of the parts that these words name, in any order and each as often as one likes; of
+-- options that stand behind them or between them `IsSaid` speaks
+abbrev pub report_words : Option (List ℕ) → Format → List (List ℕ) → List (List ℕ)
+report_words db format named = codes "report" ∷ words_of_file db (words_of_format format named)
+
 -- the words behind the program's name that ask for it
 abbrev pub words_for : CallValue → List (List ℕ)
 words_for (isin code) = codes "isin" ∷ code ∷ []
@@ -62,6 +132,7 @@ words_for (explain (Number number)) = codes "explain" ∷ decimal number ∷ []
 words_for (serve db port count) = codes "serve" ∷ words_of_file db (codes "--port" ∷ decimal port ∷ codes "--count" ∷ decimal count ∷ [])
 words_for (holdings db bic account) = codes "holdings" ∷ words_of_file (Some db) (bic ∷ account ∷ [])
 words_for (sums db) = codes "sums" ∷ words_of_file (Some db) []
+words_for (report db parts format) = report_words db format (words_of_parts parts)
 words_for (folder db from to) = codes "drop" ∷ words_of_file (Some db) (codes "--in" ∷ from ∷ codes "--out" ∷ to ∷ [])
 
 -- what does not begin as an option, by a hyphen
@@ -73,8 +144,12 @@ abbrev pub IsNoOptionIn : Option (List ℕ) → Type 0
 IsNoOptionIn None = Unit {0}
 IsNoOptionIn (Some db) = IsNoOption db
 
+-- some part is told
+abbrev pub TellsSome : Parts → Type 0
+TellsSome parts = IsTrue (parts.pending || parts.unmatched || parts.accounts || parts.cash || parts.sums)
+
 -- The code, the file, the account and the folders do not begin as an option, the type is one of an instruction, the participant is one in its
--- one spelling, and the numbers are those that may be asked for.
+-- one spelling, the numbers are those that may be asked for, and of a report some part is told.
 abbrev pub IsAskable : CallValue → Type 0
 IsAskable (isin code) = IsNoOption code
 IsAskable (read mt) = is_instruction mt ≡ true
@@ -85,7 +160,12 @@ IsAskable (explain (Number number)) = (1 ≤ number) × (number ≤ 99)
 IsAskable (serve db port count) = IsNoOptionIn db × ((1 ≤ port) × (port ≤ 65535)) × (1 ≤ count) × (count ≤ 1000000)
 IsAskable (holdings db bic account) = IsNoOption db × IsBic bic × IsNoOption account
 IsAskable (sums db) = IsNoOption db
+IsAskable (report db parts format) = IsNoOptionIn db × TellsSome parts
 IsAskable (folder db from to) = IsNoOption db × IsNoOption from × IsNoOption to
+
+-- the words that were found for the parts of a report
+abbrev pub part_words_in : List Row → List (List ℕ)
+part_words_in rows = unwrap_or (all_of (codes "part") rows) []
 
 -- what a subcommand's name and matches ask for, spelled out as `words_for` spells it
 abbrev pub IsSpelledOut : CallValue → List ℕ → List Row → Type 0
@@ -101,6 +181,8 @@ IsSpelledOut (serve db port count) name rows =
 IsSpelledOut (holdings db bic account) name rows =
     (name ≡ codes "holdings") × (first_of (codes "db") rows ≡ Some db) × IsBic bic × (first_of (codes "bic") rows ≡ Some bic) × (first_of (codes "account") rows ≡ Some account)
 IsSpelledOut (sums db) name rows = (name ≡ codes "sums") × (first_of (codes "db") rows ≡ Some db)
+IsSpelledOut (report db parts format) name rows =
+    (name ≡ codes "report") × (first_of (codes "db") rows ≡ db) × ArePartsOf parts (part_words_in rows) × IsFormatOf format (one_of (codes "json") rows)
 IsSpelledOut (folder db from to) name rows =
     (name ≡ codes "drop") × (first_of (codes "db") rows ≡ Some db) × (first_of (codes "in") rows ≡ Some from) × (first_of (codes "out") rows ≡ Some to)
 
@@ -157,6 +239,15 @@ holdings_app = with_rule (with_rule (with_rule (new_app (codes "holdings")) need
 abbrev pub sums_app : App
 sums_app = with_rule (new_app (codes "sums")) needed_db_rule
 
+abbrev pub part_rule : Rule
+part_rule = record (new_rule (codes "part")) { value_names = 1; action = Some Append }
+
+abbrev pub json_rule : Rule
+json_rule = record (new_rule (codes "json")) { long = Some (codes "json"); action = Some SetTrue }
+
+abbrev pub report_app : App
+report_app = with_rule (with_rule (with_rule (new_app (codes "report")) part_rule) json_rule) db_rule
+
 abbrev pub in_rule : Rule
 in_rule = record (new_rule (codes "in")) { long = Some (codes "in"); value_names = 1; required = true }
 
@@ -172,8 +263,8 @@ bare_app = record (new_app (codes "desk")) { top = record (new_app (codes "desk"
 
 abbrev pub desk_app : App
 desk_app =
-    with_subcommand (with_subcommand (with_subcommand (with_subcommand (with_subcommand (with_subcommand (with_subcommand (with_subcommand (with_subcommand bare_app isin_app.top) read_app.top) play_app.top) check_app.top) explain_app.top) serve_app.top) holdings_app.top)
-    sums_app.top) drop_app.top
+    with_subcommand (with_subcommand (with_subcommand (with_subcommand (with_subcommand (with_subcommand (with_subcommand (with_subcommand (with_subcommand (with_subcommand bare_app isin_app.top) read_app.top) play_app.top) check_app.top) explain_app.top) serve_app.top) holdings_app.top)
+    sums_app.top) report_app.top) drop_app.top
 
 -- a numeral of a number; a plus and zeros may stand before it
 abbrev pub IsNumberText : ℕ → List ℕ → Type 0
@@ -204,6 +295,8 @@ IsSaid (serve db port count) name rows =
 IsSaid (holdings db bic account) name rows =
     (name ≡ codes "holdings") × (first_of (codes "db") rows ≡ Some db) × IsSomeAnd (first_of (codes "bic") rows) (IsBicText bic) × (first_of (codes "account") rows ≡ Some account)
 IsSaid (sums db) name rows = (name ≡ codes "sums") × (first_of (codes "db") rows ≡ Some db)
+IsSaid (report db parts format) name rows =
+    (name ≡ codes "report") × (first_of (codes "db") rows ≡ db) × ArePartsOf parts (part_words_in rows) × IsFormatOf format (one_of (codes "json") rows)
 IsSaid (folder db from to) name rows = (name ≡ codes "drop") × (first_of (codes "db") rows ≡ Some db) × (first_of (codes "in") rows ≡ Some from) × (first_of (codes "out") rows ≡ Some to)
 
 -- what is said where this subcommand was found; with none, to play on a desk in memory

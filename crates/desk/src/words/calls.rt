@@ -1,19 +1,25 @@
 //! What the words ask for.
-ghost use Rattle.std.specs.Prelude.{◌≡◌, ◌⊎◌, ◌<◌, ◌^◌, decimal, [], ◌∷◌, ℕ, List, Some, true, codes, map, IfErr, IfOk, IfSome, IsSomeAnd, MatchResult};
+ghost use Rattle.std.specs.Prelude.{◌≡◌, ◌⊎◌, ◌↔◌, ◌<◌, ◌^◌, decimal, [], ◌∷◌, ℕ, List, Option, Some, true, codes, map, All, IfErr, IfOk, IfSome, IsSomeAnd, IsTrue, MatchResult};
 ghost use Rattle.clap.specs.Words.{first_value, found_of, kind_of, one_text, rows_of, subcommand_rows_of};
 ghost use Rattle.desk_codes.specs.Bic.{IsBic};
 ghost use Rattle.desk_msg.specs.MessageType.{digits_of_type, is_instruction, number_of_type};
 ghost use Rattle.desk_msg.specs.declared.mt.Mt.{Mt};
-ghost use Rattle.desk.specs.Words.{CallValue, IsAskable, IsBicText, IsErrorIn, IsSpelledOut, ReadsOnlyInstructions, IsSaid, IsSaidBy, IsSaidIn, IsNumberText, IsTopic, IsTypeText, value_of_call, words_for};
+ghost use Rattle.desk.specs.Words.{ArePartWords, ArePartsOf, CallValue, IsAskable, IsBicText, IsErrorIn, IsFormatOf, IsNoOptionIn, IsSpelledOut, ReadsOnlyInstructions, IsSaid, IsSaidBy, IsSaidIn, IsNumberText, IsTopic, IsTypeText, is_part_word, is_told, part_words_in, parts_by, report_words, value_of_call, words_for};
 
+use super::helps::NO_PART;
 use super::parser::desk;
 use clap::ArgMatches;
 use clap::error::{Error, ErrorKind};
 use desk_book::party;
 use desk_codes::Bic;
 use desk_msg::Mt;
+use desk_report::Parts;
+use report_rows::Format;
 use std::alloc::{AllocError, Global};
 use std::convert::AsStr;
+
+/// The words that name the parts of a report.
+const PARTS: [&str; 5] = ["pending", "unmatched", "accounts", "cash", "sums"];
 
 /// What the words ask for.
 #[derive(Clone, Copy)]
@@ -38,6 +44,10 @@ pub enum Call<'a> {
     Holdings(&'a str, Bic, &'a str),
     /// The totals of the desk of a file
     Sums(&'a str),
+    /// What stands at this moment, by a script on a desk in memory: these parts of it, written so
+    Report(Parts, Format),
+    /// The same, by the desk of a file
+    ReportOn(&'a str, Parts, Format),
     /// The answers to the files of a folder, on the desk of a file: that file, the folder, and the one of the answers
     Folder(&'a str, &'a str, &'a str),
 }
@@ -67,6 +77,9 @@ pub fn call_of<'a, S: AsStr>(alloc: Global, words: &'a [S]) -> Result<Call<'a>, 
     ensures said { IfOk result (λ call. IsSaidBy (value_of_call call) (map S.text words.entry.now)) }
     ensures asked { (program : List ℕ) (asked : CallValue) → IsAskable asked → map S.text words.entry.now ≡ program ∷ words_for asked
         → MatchResult result (λ call. value_of_call call ≡ asked) (λ error. kind_of error ≡ ErrorKind.OutOfMemory) }
+    ensures several { (program : List ℕ) (db : Option (List ℕ)) (format : Format) (named : List (List ℕ)) → IsNoOptionIn db → ArePartWords named
+        → map S.text words.entry.now ≡ program ∷ report_words db format named
+        → MatchResult result (λ call. value_of_call call ≡ CallValue.report db (parts_by named) format) (λ error. kind_of error ≡ ErrorKind.OutOfMemory) }
     ensures nothing { (program : List ℕ) → map S.text words.entry.now ≡ program ∷ []
         → MatchResult result (λ call. value_of_call call ≡ CallValue.play None) (λ error. kind_of error ≡ ErrorKind.OutOfMemory) }
     ensures wrong { IfErr result (λ error. (kind_of error ≡ ErrorKind.OutOfMemory) ⊎ IsErrorIn (kind_of error) (map S.text words.entry.now)) }
@@ -74,7 +87,15 @@ pub fn call_of<'a, S: AsStr>(alloc: Global, words: &'a [S]) -> Result<Call<'a>, 
     let matches = desk(alloc)?.try_get_matches_from(words)?;
     match call_in(&matches) {
         Some(call) => Ok(call),
-        None => Err(usage_error(alloc, "the words fit no subcommand")?),
+        None => Err(usage_error(alloc, misfit_of(&matches))?),
+    }
+}
+
+/// Why words that the parser takes ask for nothing.
+fn misfit_of(matches: &ArgMatches) -> &'static str {
+    match matches.subcommand_name() {
+        Some("report") => NO_PART,
+        _ => "the words fit no subcommand",
     }
 }
 
@@ -116,6 +137,7 @@ fn subcommand_call<'a>(name: &str, inner: &ArgMatches<'a>) -> Option<Call<'a>>
         "serve" => serve_call(inner),
         "holdings" => holdings_call(inner),
         "sums" => Some(Call::Sums(inner.get_str("db")?)),
+        "report" => report_call(inner),
         "drop" => folder_call(inner),
         _ => None,
     }
@@ -202,6 +224,78 @@ fn owner_in(inner: &ArgMatches) -> Option<Bic>
     ensures asked { (bic : List ℕ) → IsBic bic → first_value (found_of inner.now) (codes "bic") ≡ Some bic → IsSomeAnd result (λ owner. owner ≡ bic) }
 {
     party(inner.get_str("bic")?.as_bytes())
+}
+
+/// What stands at this moment, by the desk of the file that is named, if one is.
+fn report_call<'a>(inner: &ArgMatches<'a>) -> Option<Call<'a>>
+    ensures readable { IfSome result ReadsOnlyInstructions }
+    ensures said { IfSome result (λ call. IsSaid (value_of_call call) (codes "report") (rows_of (found_of inner.now))) }
+    ensures asked { (asked : CallValue) → IsSpelledOut asked (codes "report") (rows_of (found_of inner.now))
+        → IsSomeAnd result (λ call. value_of_call call ≡ asked) }
+{
+    let parts = parts_in(inner)?;
+    let format = format_in(inner);
+    match inner.get_str("db") {
+        Some(db) => Some(Call::ReportOn(db, parts, format)),
+        None => Some(Call::Report(parts, format)),
+    }
+}
+
+/// The parts that are named, or all where none is; None where a word is no part.
+fn parts_in(inner: &ArgMatches) -> Option<Parts>
+    ensures said { IfSome result (λ parts. ArePartsOf parts (part_words_in (rows_of (found_of inner.now)))) }
+    ensures asked { (parts : Parts) → ArePartsOf parts (part_words_in (rows_of (found_of inner.now))) → IsSomeAnd result (λ found. found ≡ parts) }
+{
+    let named = inner.get_strs("part").unwrap_or(&[]);
+    if are_parts(named) {
+        Some(parts_of(named))
+    } else {
+        None
+    }
+}
+
+/// Whether each word names a part.
+fn are_parts(named: &[&str]) -> bool
+    ensures { IsTrue result ↔ All (λ word. is_part_word word.now ≡ true) named.now }
+{
+    named.iter().all(|word| is_part(word))
+}
+
+/// The parts of these words, or all where there are none.
+fn parts_of(named: &[&str]) -> Parts
+    ensures { result ≡ parts_by (map (λ word. word.now) named.now) }
+{
+    Parts {
+        pending: is_told(named, "pending"),
+        unmatched: is_told(named, "unmatched"),
+        accounts: is_told(named, "accounts"),
+        cash: is_told(named, "cash"),
+        sums: is_told(named, "sums"),
+    }
+}
+
+/// Whether a part is told: it is named, or none is.
+fn is_told(named: &[&str], part: &str) -> bool
+    ensures { result ≡ is_told part.now (map (λ word. word.now) named.now) }
+{
+    named.is_empty() || named.contains(&part)
+}
+
+/// Whether a word names a part.
+fn is_part(word: &str) -> bool
+    ensures { result ≡ is_part_word word.now }
+{
+    PARTS.contains(&word)
+}
+
+/// JSON, where that is asked for.
+fn format_in(inner: &ArgMatches) -> Format
+    ensures { IsFormatOf result (one_text (found_of inner.now) (codes "json")) }
+{
+    match inner.get_one::<bool>("json") {
+        Some(true) => Format::Json,
+        _ => Format::Text,
+    }
 }
 
 /// The files of a folder, on the desk of a file, and where their answers go.

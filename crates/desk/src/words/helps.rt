@@ -117,6 +117,33 @@ What the desk holds stays. Where there is no file none is made, and it is `fault
 Example:
   ./desk sums --db day.db";
 
+/// What is told where a word names no part of a report.
+pub const NO_PART: &str = "a part of a report is pending, unmatched, accounts, cash or sums";
+
+/// Of `desk report`
+pub const REPORT: &str = "\
+The parts, in the order in which they are told, each once however often it is named:
+  pending    the matched pairs that are not settled, in two lines more the side that delivers and the one
+             that receives. FUTU: no run has tried the pair; LACK: the last run that tried it found too little
+             of the security; MONY: too little cash. `lacks` tells how much of that is lacking now
+  unmatched  the instructions that no other matches. `nearest` tells the first unmatched one of the other
+             side, of the same security, where each names the other's sender, and `differs in` why the two
+             do not match: kind (units, or face amount), quantity, day, payment (one is free of it), currency,
+             amount
+  accounts   what each account holds of each security
+  cash       what each participant has of each currency
+  sums       of each currency what the participants hold together and what was paid in less what was paid
+             out, and of each security what the accounts hold together and what is outstanding
+Each part has its name for a heading, which stands alone where there is nothing to tell. With --json it is one
+JSON object on a line, with a member for each part: an array of rows, of the sums an object; an amount is in
+minor units of its currency.
+Nothing is changed. With --db it is the desk of that file; where there is no file none is made, and it is
+`fault 61`. Without --db a script from standard input is played on a desk in memory; its answers are not
+printed, and what stands at its end is told.
+
+Example:
+  ./desk report pending --db day.db";
+
 /// Of `desk drop`
 pub const DROP: &str = "\
 Each file of the folder DIR of --in asks what its name says, in order of the bytes of the names:

@@ -2,12 +2,12 @@
 ghost use Rattle.std.specs.Prelude.{◌≡◌, false, IfOk};
 ghost use Rattle.clap.specs.Words.{app_of, rule_of};
 ghost use Rattle.clap.specs.declared.builder.command.Command.TheViews.{out-Command};
-ghost use Rattle.desk.specs.Words.{account_rule, bare_app, bic_rule, check_app, count_rule, db_rule, desk_app, drop_app, explain_app, holdings_app, in_rule, isin_app, needed_db_rule, out_rule, play_app, port_rule, read_app, serve_app, sums_app};
+ghost use Rattle.desk.specs.Words.{account_rule, bare_app, bic_rule, check_app, count_rule, db_rule, desk_app, drop_app, explain_app, holdings_app, in_rule, isin_app, json_rule, needed_db_rule, out_rule, part_rule, play_app, port_rule, read_app, report_app, serve_app, sums_app};
 
 use super::helps::{
-    CHECK, DROP, EXPLAIN, HOLDINGS, ISIN, PLAY, PROGRAM, READ, SERVE, SUMS, VERSION,
+    CHECK, DROP, EXPLAIN, HOLDINGS, ISIN, PLAY, PROGRAM, READ, REPORT, SERVE, SUMS, VERSION,
 };
-use clap::{Arg, Command, value_parser};
+use clap::{Arg, ArgAction, Command, value_parser};
 use std::alloc::{AllocError, Global};
 
 /// The most connections that are served.
@@ -26,6 +26,7 @@ pub fn desk<'a>(alloc: Global) -> Result<Command<'a>, AllocError>
         .subcommand(serve(alloc)?)?
         .subcommand(holdings(alloc)?)?
         .subcommand(sums(alloc)?)?
+        .subcommand(report(alloc)?)?
         .subcommand(folder(alloc)?)
 }
 
@@ -144,6 +145,20 @@ fn sums<'a>(alloc: Global) -> Result<Command<'a>, AllocError>
         .arg(needed_db(alloc))
 }
 
+fn report<'a>(alloc: Global) -> Result<Command<'a>, AllocError>
+    ensures app { IfOk result (λ command. app_of command ≡ report_app) }
+    ensures local { IfOk result (λ command. (out-Command command).has_globals ≡ false) }
+{
+    Command::new(alloc, "report")
+        .about(
+            "Tells what stands at this moment, by the desk of a file, or by a script from standard input",
+        )
+        .after_help(REPORT)
+        .arg(part(alloc))?
+        .arg(json(alloc))?
+        .arg(shown_db(alloc))
+}
+
 fn folder<'a>(alloc: Global) -> Result<Command<'a>, AllocError>
     ensures app { IfOk result (λ command. app_of command ≡ drop_app) }
     ensures local { IfOk result (λ command. (out-Command command).has_globals ≡ false) }
@@ -166,6 +181,35 @@ fn db<'a>(alloc: Global) -> Arg<'a>
         .long("db")
         .value_name("FILE")
         .help("The desk's file; where there is none it is made")
+}
+
+fn shown_db<'a>(alloc: Global) -> Arg<'a>
+    ensures rule { rule_of result ≡ db_rule }
+    ensures local { result.global ≡ false }
+{
+    Arg::new(alloc, "db").long("db").value_name("FILE").help(
+        "The desk's file, which is there; without it a script is played",
+    )
+}
+
+fn part<'a>(alloc: Global) -> Arg<'a>
+    ensures rule { rule_of result ≡ part_rule }
+    ensures local { result.global ≡ false }
+{
+    Arg::new(alloc, "part")
+        .value_name("PART")
+        .help("What is told: pending, unmatched, accounts, cash or sums; without it all of them")
+        .action(ArgAction::Append)
+}
+
+fn json<'a>(alloc: Global) -> Arg<'a>
+    ensures rule { rule_of result ≡ json_rule }
+    ensures local { result.global ≡ false }
+{
+    Arg::new(alloc, "json")
+        .long("json")
+        .help("As JSON, and not as text")
+        .action(ArgAction::SetTrue)
 }
 
 fn needed_db<'a>(alloc: Global) -> Arg<'a>

@@ -3,8 +3,9 @@ use Rattle.std.specs.Io.KnownBytes.{Appends}
 use Rattle.desk.proofs.RunLemmas.{told_of, told_unread}
 use Rattle.desk.specs.DropAnswer.{IsDropAnswer}
 use Rattle.desk.specs.ExplainAnswer.{IsExplainAnswer}
+use Rattle.desk.specs.OverviewAnswer.{IsFileOverviewAnswer}
 use Rattle.desk.specs.ReportAnswer.{IsReportAnswer, asked_for}
-use Rattle.desk.specs.Words.{explain, folder, holdings, sums}
+use Rattle.desk.specs.Words.{explain, folder, holdings, report, sums}
 use Rattle.desk.specs.declared.words.calls.Call.TheVariants as call
 use Rattle.desk.proofs.run.answer.Goals as goal
 
@@ -46,4 +47,18 @@ returns-in-Folder-clause-told g c =
     let P = (Appends (g.W.Write.contents c.args.writer.now) (g.W.Write.contents c.answer_drop.new.writer)) in
     told_of c.answer_drop.result (g.R.Read.remaining c.args.reader.now) _ g.R.Source.may_fail P c.args.call (call.Folder c.in-Folder.db c.in-Folder.from c.in-Folder.to) c.in-Folder.is
     (told_unread c.answer_drop.result (g.R.Read.remaining c.args.reader.now) _ g.R.Source.may_fail P (folder c.in-Folder.db.now c.in-Folder.from.now c.in-Folder.to.now) (λ status. IsDropAnswer status P) refl c.answer_drop.ensures.told
+    (λ status unread t. (unread, t)))
+
+pub returns-in-Report-clause-told : goal.returns-in-Report-clause-told
+returns-in-Report-clause-told g c =
+    told_of c.answer_overview.result (g.R.Read.remaining c.args.reader.now) _ g.R.Source.may_fail (Appends (g.W.Write.contents c.args.writer.now) (g.W.Write.contents c.answer_overview.new.writer)) c.args.call (call.Report c.in-Report.parts c.in-Report.format) c.in-Report.is
+    c.answer_overview.ensures.told
+
+pub returns-in-ReportOn-clause-told : goal.returns-in-ReportOn-clause-told
+returns-in-ReportOn-clause-told g c =
+    let P = (Appends (g.W.Write.contents c.args.writer.now) (g.W.Write.contents c.answer_overview_on.new.writer)) in
+    let parts = c.in-ReportOn.parts in
+    let format = c.in-ReportOn.format in
+    told_of c.answer_overview_on.result (g.R.Read.remaining c.args.reader.now) _ g.R.Source.may_fail P c.args.call (call.ReportOn c.in-ReportOn.db parts format) c.in-ReportOn.is
+    (told_unread c.answer_overview_on.result (g.R.Read.remaining c.args.reader.now) _ g.R.Source.may_fail P (report (Some c.in-ReportOn.db.now) parts format) (λ status. IsFileOverviewAnswer parts format status P) refl c.answer_overview_on.ensures.told
     (λ status unread t. (unread, t)))

@@ -1,5 +1,6 @@
 use Rattle.std.proofs.lemmas.Result.{err_from_is_err_and}
-use Rattle.desk.proofs.WordsLemmas.{entered, fits_none, found_wrong, said_by, taken, taken_alone}
+use Rattle.desk.proofs.WordsLemmas.{entered, entered_several, fits_none, found_wrong, said_by, taken, taken_alone, taken_several}
+use Rattle.desk.specs.Words.{parts_by, report}
 use Rattle.desk.proofs.words.calls.call_of.Goals as goal
 
 pub returns-in_err-matches-clause-asked : goal.returns-in_err-matches-clause-asked
@@ -19,6 +20,19 @@ returns-in-Some-clause-asked g c = λ program asked right are.
 pub returns-clause-asked : goal.returns-clause-asked
 returns-clause-asked g c = λ program asked right are.
     absurd (c.in-None.ensures.asked asked (entered _ _ c.in_ok-matches.matches program asked c.in_ok-matches.ensures.matches c.in_ok-desk.ensures are right))
+
+pub returns-in_err-matches-clause-several : goal.returns-in_err-matches-clause-several
+returns-in_err-matches-clause-several g c = λ program db format named file parts are.
+    let p = err_from_is_err_and c.from_residual-in_err-matches.result c.from_residual-in_err-matches.ensures.1 in
+    rw (p.1, p.2) (c.in_err-matches.ensures.passes (taken_several _ _ program db format named c.in_ok-desk.ensures are file parts))
+
+pub returns-in-Some-clause-several : goal.returns-in-Some-clause-several
+returns-in-Some-clause-several g c = λ program db format named file parts are.
+    c.in-Some.ensures.asked (report db (parts_by named) format) (entered_several _ _ c.in_ok-matches.matches program db format named c.in_ok-matches.ensures.matches c.in_ok-desk.ensures are file parts)
+
+pub returns-clause-several : goal.returns-clause-several
+returns-clause-several g c = λ program db format named file parts are.
+    absurd (c.in-None.ensures.asked (report db (parts_by named) format) (entered_several _ _ c.in_ok-matches.matches program db format named c.in_ok-matches.ensures.matches c.in_ok-desk.ensures are file parts))
 
 pub returns-in-Some-clause-said : goal.returns-in-Some-clause-said
 returns-in-Some-clause-said g c = said_by _ _ c.in_ok-matches.matches _ c.in_ok-matches.ensures.matches c.in_ok-matches.ensures.kinds c.in_ok-desk.ensures c.in-Some.ensures.said

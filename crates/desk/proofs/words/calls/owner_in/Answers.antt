@@ -1,4 +1,4 @@
-use Rattle.std.proofs.Common.{◌≡◌, ◌∙◌, Some, sym}
+use Rattle.std.proofs.Common.{◌≡◌, ◌∙◌, Some}
 use Rattle.desk.proofs.WordsLemmas.{known_party}
 use Rattle.desk.proofs.words.calls.owner_in.Goals as goal
 

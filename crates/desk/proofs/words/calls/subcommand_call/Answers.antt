@@ -1,5 +1,5 @@
 use Rattle.std.proofs.Common.{sym, subst}
-use Rattle.std.specs.Prelude.{IfSome, IsSomeAnd}
+use Rattle.std.specs.Prelude.{IfSome}
 use Rattle.clap.specs.Words.{found_of, rows_of}
 use Rattle.desk.specs.Words.{IsSaid, IsSpelledOut, value_of_call}
 use Rattle.desk.proofs.WordsLemmas.{no_code, no_sums, no_topic, no_type, said_code, said_sums, said_topic, said_type, same_code, same_sums, same_topic, same_type}
@@ -59,6 +59,12 @@ returns-in-holdings-clause-said c = subst (λ n. IfSome c.holdings_call.result (
 
 pub returns-in-holdings-clause-asked : goal.returns-in-holdings-clause-asked
 returns-in-holdings-clause-asked c = λ asked named. c.holdings_call.ensures.asked asked (subst (λ n. IsSpelledOut asked n (rows_of (found_of c.args.inner.now))) c.in-holdings.is named)
+
+pub returns-in-report-clause-said : goal.returns-in-report-clause-said
+returns-in-report-clause-said c = subst (λ n. IfSome c.report_call.result (λ call. IsSaid (value_of_call call) n (rows_of (found_of c.args.inner.now)))) (sym c.in-report.is) c.report_call.ensures.said
+
+pub returns-in-report-clause-asked : goal.returns-in-report-clause-asked
+returns-in-report-clause-asked c = λ asked named. c.report_call.ensures.asked asked (subst (λ n. IsSpelledOut asked n (rows_of (found_of c.args.inner.now))) c.in-report.is named)
 
 pub returns-in-drop-clause-said : goal.returns-in-drop-clause-said
 returns-in-drop-clause-said c = subst (λ n. IfSome c.folder_call.result (λ call. IsSaid (value_of_call call) n (rows_of (found_of c.args.inner.now)))) (sym c.in-drop.is) c.folder_call.ensures.said

@@ -1,0 +1,176 @@
+//! `desk report`.
+ghost use Rattle.std.specs.Prelude.{◌≡◌, true, false, Err, IfErr, IfOk, OnErr};
+ghost use Rattle.std.specs.Io.KnownBytes.{Appends};
+ghost use Rattle.desk_rules.specs.Books.{Books};
+ghost use Rattle.desk_rules.specs.declared.limits.TheConstants.{MOST_ENTRIES};
+ghost use Rattle.desk_book.specs.Held.{IsReady, KeepsFormed};
+ghost use Rattle.desk_index.specs.IndexView.{view_of_index};
+ghost use Rattle.desk_opening.specs.Opened.{IsReadyFor, view_of_both};
+ghost use Rattle.desk.specs.OverviewAnswer.{IsAfterScript, IsBrokenOffAs, IsFileOverviewAnswer, IsOverviewAnswer, IsOverviewEnd, IsOverviewFrom, MayPlayNone, failure_of_played, line_end};
+
+use crate::status::{Failure, Status, tell_failure};
+use crate::store::{close, connection_of, ended, open_there};
+use crate::teller::Teller;
+use desk_book::{Desk, PlayFault};
+use desk_holdings::WalkFault;
+use desk_index::IndexedRegister;
+use desk_mirror::MirroredRegister;
+use desk_msg::SinkFault;
+use desk_register::Register;
+use desk_report::{Parts, write_report};
+use desk_rules::MOST_ENTRIES;
+use desk_streams::{Sink, Source};
+use report_rows::Format;
+use sql_register::SqlRegister;
+use sqlite::{Alter, Connection};
+use std::alloc::Global;
+use std::io;
+use std::rt::HostRuntime;
+
+/// Plays a script from the reader on a new desk in memory, and prints what stands then: the parts of the report that are asked
+/// for. `fault 60` tells that memory is wanting for the script, or, behind what was printed, for a row; `fault io` that the reader
+/// failed or the script is too long. Where the writer failed nothing more is written.
+pub fn answer_overview<R: Source, W: Sink>(
+    alloc: Global,
+    parts: Parts,
+    format: Format,
+    reader: &mut R,
+    writer: &mut W,
+) -> io::Result<Status>
+    ensures told { IfOk result (λ status. IsOverviewAnswer parts format (R.remaining reader.old) (reader.new ≡ reader.old) R.may_fail status (Appends (W.contents writer.old) (W.contents writer.new))) }
+    ensures failed { OnErr result (W.may_fail ≡ true) }
+{
+    match register_after(alloc, reader) {
+        Ok(mut register) => tell_overview(alloc, &mut register, parts, format, writer),
+        Err(failure) => tell_failure(failure, writer),
+    }
+}
+
+/// The register of a desk in memory on which a script from the reader was played.
+fn register_after<R: Source>(alloc: Global, reader: &mut R) -> Result<IndexedRegister, Failure>
+    ensures after { IfOk result (λ register. IsAfterScript (R.remaining reader.old) (view_of_index register)) }
+    ensures none { IfErr result (MayPlayNone (R.remaining reader.old) (reader.new ≡ reader.old) R.may_fail) }
+{
+    let mut desk = Desk::new(IndexedRegister::new(alloc, MOST_ENTRIES));
+    match desk.play(alloc, reader, &mut io::sink()) {
+        Ok(()) => Ok(register_of(desk)),
+        Err(fault) => Err(failure_of(fault)),
+    }
+}
+
+/// The register of a desk, which is ready for another where the desk is open.
+fn register_of(desk: Desk<IndexedRegister>) -> IndexedRegister
+    ensures register { result ≡ desk.register }
+    ensures ready { IsReady desk.is_closed (view_of_index result) }
+{
+    desk.into_register()
+}
+
+/// What is told where a script was not played whose answers go nowhere: such a writer does not fail.
+fn failure_of(fault: PlayFault) -> Failure
+    ensures { result ≡ failure_of_played fault }
+{
+    match fault {
+        PlayFault::Memory | PlayFault::WriteFailed => Failure::Memory,
+        PlayFault::ReadFailed | PlayFault::TooLong => Failure::Input,
+    }
+}
+
+/// Prints what stands by the desk of a file, which is there, and closes it. What is told is as in `answer_overview`; a file that is
+/// not opened, or not closed, is its fault.
+pub fn answer_overview_on<W: Sink>(
+    rt: &HostRuntime,
+    path: &str,
+    parts: Parts,
+    format: Format,
+    writer: &mut W,
+) -> io::Result<Status>
+    ensures told { IfOk result (λ status. IsFileOverviewAnswer parts format status (Appends (W.contents writer.old) (W.contents writer.new))) }
+    ensures failed { OnErr result (W.may_fail ≡ true) }
+{
+    match open_there(rt, path) {
+        Ok(both) => {
+            let (told, conn) = overview_on_both(rt.alloc(), both, parts, format, writer);
+            ended(&Teller::new(rt, path), told, close(rt, path, conn), writer)
+        }
+        Err(failure) => tell_failure(failure, writer),
+    }
+}
+
+/// The same over tables with a register in memory beside them, of which the connection is given back.
+fn overview_on_both<S: Alter + Drop, W: Sink>(
+    alloc: Global,
+    both: MirroredRegister<IndexedRegister, SqlRegister<S>>,
+    parts: Parts,
+    format: Format,
+    writer: &mut W,
+) -> (io::Result<Status>, Connection<S>)
+    requires { IsReadyFor MOST_ENTRIES (view_of_both both) }
+    ensures told { (books : Books) → KeepsFormed MOST_ENTRIES books (view_of_both both).content
+        → IfOk result.0 (λ status. IsOverviewFrom format parts books status (Appends (W.contents writer.old) (W.contents writer.new))) }
+    ensures failed { OnErr result.0 (W.may_fail ≡ true) }
+{
+    let mut both = both;
+    let told = tell_overview(alloc, &mut both, parts, format, writer);
+    (told, connection_of(both))
+}
+
+/// Prints what stands by a register.
+fn tell_overview<D: Register, W: Sink>(
+    alloc: Global,
+    register: &mut D,
+    parts: Parts,
+    format: Format,
+    writer: &mut W,
+) -> io::Result<Status>
+    requires ready { IsReady false (D.view register.old) }
+    ensures told { (books : Books) → (D.view register.new).is_honest → (D.view register.old).room ≡ MOST_ENTRIES → KeepsFormed MOST_ENTRIES books (D.view register.old).content
+        → IfOk result (λ status. IsOverviewFrom format parts books status (Appends (W.contents writer.old) (W.contents writer.new))) }
+    ensures failed { OnErr result (W.may_fail ≡ true) }
+{
+    let written = write_report(alloc, register, parts, format, writer);
+    tell_end(written, format, writer)
+}
+
+/// Ends a report that was written, or a front of one, behind which it tells why it ends there.
+fn tell_end<W: Sink>(
+    written: Result<(), WalkFault>,
+    format: Format,
+    writer: &mut W,
+) -> io::Result<Status>
+    requires { written ≡ Err (WalkFault.Sink SinkFault.Write) → W.may_fail ≡ true }
+    ensures told { IfOk result (λ status. IsOverviewEnd written format status (Appends (W.contents writer.old) (W.contents writer.new))) }
+    ensures failed { OnErr result (W.may_fail ≡ true) }
+{
+    match written {
+        Ok(()) => {
+            end_line(format, writer)?;
+            Ok(Status::Done)
+        }
+        Err(WalkFault::Sink(SinkFault::Write)) => Err(io::Error::from(io::ErrorKind::WriteZero)),
+        Err(WalkFault::Sink(SinkFault::Memory) | WalkFault::Memory) => {
+            break_off(Failure::Memory, format, writer)
+        }
+        Err(WalkFault::Storage) => break_off(Failure::Storage, format, writer),
+    }
+}
+
+/// Ends a report in its middle, and tells why.
+fn break_off<W: Sink>(failure: Failure, format: Format, writer: &mut W) -> io::Result<Status>
+    ensures told { IfOk result (λ status. IsBrokenOffAs failure format status (Appends (W.contents writer.old) (W.contents writer.new))) }
+    ensures failed { OnErr result (W.may_fail ≡ true) }
+{
+    end_line(format, writer)?;
+    tell_failure(failure, writer)
+}
+
+/// Ends the line of a JSON object; lines of text have their own ends.
+fn end_line<W: Sink>(format: Format, writer: &mut W) -> io::Result<()>
+    ensures ended { IfOk result (λ done. Appends (W.contents writer.old) (W.contents writer.new) (line_end format)) }
+    ensures failed { OnErr result (W.may_fail ≡ true) }
+{
+    match format {
+        Format::Json => writer.put(b"\n"),
+        Format::Text => Ok(()),
+    }
+}
