@@ -1,0 +1,13 @@
+pub mod CauseLemmas
+pub mod CountingLemmas
+pub mod KeyLemmas
+pub mod KnownLemmas
+pub mod NotingLemmas
+pub mod PieceLemmas
+pub mod PlaceLemmas
+pub mod RangeLemmas
+pub mod ReplyLemmas
+pub mod SendingLemmas
+pub mod SettledLemmas
+pub mod ToldLemmas
+pub mod WritingLemmas

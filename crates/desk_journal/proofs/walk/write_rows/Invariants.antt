@@ -1,0 +1,8 @@
+use Rattle.std.specs.Prelude.{◌≡◌}
+use Rattle.report_rows.specs.declared.format.Format.TheVariants.{Json}
+use Rattle.desk_journal.proofs.WritingLemmas.{Writing}
+use Rattle.desk_journal.proofs.walk.write_rows.Given as goal
+
+abbrev pub invariant-numbers : goal.invariant-numbers
+invariant-numbers g l =
+    Writing l.from l.sending (l.format ≡ Json) (g.R.Register.view l.fn.register) l.count (g.R.Register.view l.register) l.before l.is_later (g.W.Write.contents l.fn.writer) (g.W.Write.contents l.writer)

@@ -1,0 +1,3 @@
+pub mod ConfirmationLemmas
+pub mod NumeralLemmas
+pub mod RunLemmas
