@@ -10,7 +10,7 @@ import tempfile
 
 from plain.books import EMPTY
 from plain.desk import sums
-from plain.reports import report
+from plain.program import tell
 from plain.scripts import ask_item, bare, items_of, lines_with_ends
 
 # the most seconds that a run may take
@@ -109,20 +109,22 @@ def differences(program, path, script, told):
     if told:
         yield f"standard error has {told[-300:]!r}"
     yield from left_otherwise(program, path, (0, sums_after(script), b""))
-    yield from reported_otherwise(program, path, books_after(script))
+    yield from told_otherwise(program, path, books_after(script))
 
 
-def reported_otherwise(program, path, books):
-    """In what a report of the desk of a file is another than it must be by these books, or changes the file."""
+def told_otherwise(program, path, books):
+    """In what a report or a journal of the desk of a file is another than it must be by these books, or changes the file."""
     with open(path, "rb") as file:
         held = file.read()
-    for words in [], ["--json"]:
-        ended, wanted = ran(program, "report", *words, "--db", path), (0, report(books, words), b"")
+    # of a journal also the second half
+    second = ["--from", str(len(books.history) // 2 + 1)]
+    for words in ["report"], ["report", "--json"], ["journal"], ["journal", "--json"], ["journal", "--json", *second]:
+        ended, wanted = ran(program, *words, "--db", path), (0, tell(books, words), b"")
         if ended != wanted:
-            yield f"the report {words} is {ended!r} where {wanted!r} is wanted"
+            yield f"{words} prints {ended!r} where {wanted!r} is wanted"
     with open(path, "rb") as file:
         if file.read() != held:
-            yield "a report has changed the file"
+            yield "a report or a journal has changed the file"
 
 
 def left_otherwise(program, path, wanted):

@@ -5,7 +5,7 @@ from plain.scripts import lines_with_ends
 
 from .folders import random_folder
 from .messages import random_text
-from .reports import random_words, report_script
+from .reports import journal_words, random_words, report_script
 from .scripts import random_script
 from .spellings import spelled_commands
 from .streams import random_streams, sent_by
@@ -34,3 +34,12 @@ def folder_input(chance):
 
 def report_input(chance):
     return random_words(chance), report_script(chance)
+
+
+def journal_input(chance):
+    return journal_words(chance), report_script(chance)
+
+
+def told_input(chance):
+    """Input of a report or of a journal."""
+    return (report_input if chance.happens(50) else journal_input)(chance)

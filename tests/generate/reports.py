@@ -1,4 +1,4 @@
-"""Random input of a report: its words, and a script behind which more is left standing than behind others."""
+"""Random input of a report or a journal: its words, and a script behind which more is left standing than behind others."""
 
 from . import dealing, operating
 from .script import DAYS
@@ -16,6 +16,17 @@ def random_words(chance):
     if chance.happens(40):
         words.insert(chance.below(len(words) + 1), "--json")
     return ["report", *words]
+
+
+def journal_words(chance):
+    """The words of a journal of all entries, or of those from a number on, which may be behind the last one."""
+    options = []
+    if chance.happens(40):
+        first = chance.weighted({1: 10, chance.between(2, 20): 50, chance.between(21, 60): 35, 999_999_999: 5})
+        options.append(["--from", str(first)])
+    if chance.happens(40):
+        options.append(["--json"])
+    return ["journal", *(word for option in chance.shuffled(options) for word in option)]
 
 
 def near_misses(script):
@@ -82,12 +93,12 @@ def deals_left(script):
 
 
 def left_standing(script):
-    """What comes last in the script of a report."""
+    """What comes last in the script of a report or a journal."""
     script.forms = FORMS
     for _ in range(script.chance.below(4)):
         script.chance.pick((near_misses, deals_left))(script)
 
 
 def report_script(chance):
-    """The requests of a script, behind which is reported what stands."""
+    """The requests of a script, behind which is told what stands or what was accepted."""
     return random_script(chance, left_standing)

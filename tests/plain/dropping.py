@@ -1,5 +1,6 @@
-"""Takes a folder plainly: what tests/plain/desk does for `drop`, and for `sums` and `report` behind it. What was accepted is kept
-between the runs in a file of SQLite, each entry in a row of its table register; without a file the desk is a new one."""
+"""Takes a folder plainly: what tests/plain/desk does for `drop`, and for `sums`, `report` and `journal` behind it. What was
+accepted is kept between the runs in a file of SQLite, each entry in a row of its table register; without a file the desk is a
+new one."""
 
 import collections
 import contextlib
@@ -12,7 +13,7 @@ from .blocks import MOST_BYTES
 from .books import EMPTY
 from .desk import sums, with_entry
 from .folders import take
-from .reports import report
+from .program import tell
 
 UNFINISHED = b".desk-drop-unfinished"
 REGISTER = "CREATE TABLE IF NOT EXISTS register (number INTEGER PRIMARY KEY, entry BLOB)"
@@ -72,7 +73,7 @@ def print_sums(db):
     return 0
 
 
-def print_report(db, words):
-    """Prints the report of the desk whose entries are kept in a file, for these words. Gives the status."""
-    sys.stdout.buffer.write(report(kept(db), words))
+def print_told(db, words):
+    """Prints the report or the journal of the desk whose entries are kept in a file, for these words. Gives the status."""
+    sys.stdout.buffer.write(tell(kept(db), words))
     return 0

@@ -5,6 +5,7 @@ from .books import EMPTY
 from .codes import isin_fault
 from .connections import responses
 from .folders import take
+from .journal import journal
 from .messages import fields_text, read_message
 from .reports import report
 from .scripts import MOST_SCRIPT, books_after, play
@@ -23,11 +24,16 @@ def answer_read(mt, text):
         return 1, refused.text() + b"\n"
 
 
-def answer_report(words, script):
-    """What `desk report` prints of a new desk behind a script, and its status."""
+def tell(books, words):
+    """What `desk report` or `desk journal` prints of books."""
+    return (journal if words[0] == "journal" else report)(books, words[1:])
+
+
+def answer_told(words, script):
+    """What one of them prints of a new desk behind a script, and its status."""
     if len(script) > MOST_SCRIPT:
         return 3, b"fault io\n"
-    return 0, report(books_after(script), words)
+    return 0, tell(books_after(script), words)
 
 
 def answer(words, given):
@@ -41,6 +47,6 @@ def answer(words, given):
         return responses(given)
     if words[:1] == ["drop"]:
         return 0, dict(take(EMPTY, given)[1])
-    if words[:1] == ["report"]:
-        return answer_report(words[1:], given)
+    if words[:1] in (["report"], ["journal"]):
+        return answer_told(words, given)
     return play(given)

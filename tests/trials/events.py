@@ -1,5 +1,6 @@
-"""Trials of the random scripts, streams, folders and reports: whether the plain program, playing some scripts, serving some days,
-taking some folders and reporting some times, gives each kind of answer and of row, and is asked in each kind of words."""
+"""Trials of the random scripts, streams, folders, reports and journals: whether the plain program, playing some scripts, serving
+some days, taking some folders, and reporting and telling the journal some times, gives each kind of answer and of row, and is asked
+in each kind of words."""
 
 import json
 import re
@@ -8,12 +9,13 @@ from generate.chance import Chance
 from generate.comparing import DEFAULT_SEED
 from generate.comparing_streams import is_heard_out
 from generate.folders import random_folder
-from generate.inputs import report_input
+from generate.inputs import journal_input, report_input
 from generate.scripts import random_script
 from generate.streams import random_streams, sent_by
 from plain.books import EMPTY
 from plain.connections import responses
 from plain.folders import take
+from plain.journal import journal
 from plain.reports import PARTS, report
 from plain.scripts import answers_to, books_after
 
@@ -22,6 +24,7 @@ DAYS = 60
 # as many as the gate takes
 FOLDERS = 24
 REPORTS = 150
+JOURNALS = 150
 
 
 def op(name, answer):
@@ -283,6 +286,90 @@ def trials_of_reports():
         yield f"of {REPORTS} random reports some have {kind}", count > 0, (count, "")
 
 
+def is_op(op, row, **members):
+    """Whether a row of a journal is of an operation, and its command has these members."""
+    return row["command"]["op"] == op and all(row["command"][name] == value for name, value in members.items())
+
+
+def fares(state, row, **members):
+    """The same of how it fares by now."""
+    return row["outcome"]["state"] == state and all(row["outcome"][name] == value for name, value in members.items())
+
+
+def is_settled_again(found, row):
+    """Whether an instruction was settled in a run that was not the first one of its day."""
+    return fares("settled", row) and any(
+        is_op("run", other, day=row["outcome"]["day"]) and other["number"] < row["outcome"]["entry"] for other in found
+    )
+
+
+def first_in(words):
+    return int(words[words.index("--from") + 1]) if "--from" in words else None
+
+
+# each kind of row of a journal, of a journal, and of its words, beside the number of its entries
+ENTERED = {
+    **{
+        f"{op} booked": lambda row, op=op: is_op(op, row) and fares("booked", row)
+        for op in ("participant", "account", "security", "issue", "redeem", "payin", "payout")
+    },
+    **{f"a pay in of {it}": lambda row, it=it: is_op("payin", row, ccy=it) for it in ("CHF", "EUR", "GBP", "JPY", "KWD", "USD")},
+    **{
+        f"an MT{mt} {state}": lambda row, mt=mt, state=state: is_op("instruct", row, mt=mt) and fares(state, row)
+        for mt in (540, 541, 542, 543)
+        for state in ("unmatched", "matched", "settled", "cancelled")
+    },
+    **{f"a pair matched with {it}": lambda row, it=it: fares("matched", row, reason=it) for it in ("FUTU", "LACK", "MONY")},
+    "an instruction of a face amount": lambda row: is_op("instruct", row, kind="FAMT"),
+    "an instruction of one participant with itself": lambda row: is_op("instruct", row, counterparty=row["sender"]),
+    "an instruction of a branch": lambda row: is_op("instruct", row) and len(row["sender"]) == 11,
+    "one cancelled without a mate": lambda row: fares("cancelled", row, mate=None),
+    "one cancelled with a mate": lambda row: fares("cancelled", row) and row["outcome"]["mate"] is not None,
+    **{f"a cancellation {it}": lambda row, it=it: is_op("cancel", row) and fares(it, row) for it in ("done", "waits", "late")},
+    "a run that settles nothing": lambda row: fares("ran", row, settled=0, waiting=0),
+    "a run that settles all": lambda row: fares("ran", row, waiting=0) and row["outcome"]["settled"] > 1,
+    "a run that leaves some": lambda row: fares("ran", row, settled=0) and row["outcome"]["waiting"] > 1,
+    "a run that settles and leaves some": lambda row: fares("ran", row) and min(row["outcome"][it] for it in ("settled", "waiting")),
+    "two confirmations to one participant": lambda row: len({it["bic"] for it in row["messages"]}) < len(row["messages"]) < 3,
+    **{f"an MT{mt} sent": lambda row, mt=mt: mt in [it["mt"] for it in row["messages"]] for mt in (544, 545, 546, 547, 548)},
+    "a tenth message": lambda row: any(it["number"] == 10 for it in row["messages"]),
+    "a reference that JSON escapes": lambda row: set('"\\') & set(row["ref"]),
+}
+JOURNALED = {
+    "nothing": lambda found: not found,
+    "what a second run of a day settled": lambda found: any(is_settled_again(found, row) for row in found),
+    "one reference of two senders": lambda found: len({row["ref"] for row in found}) < len(found),
+    "an advice between two runs": lambda found: any(
+        row["messages"] and row["sender"] and any(is_op("run", it) for it in found[: row["number"]]) for row in found
+    ),
+}
+ASKED_FROM = {
+    "all entries": lambda words, _: words == ["journal"],
+    "all entries as JSON": lambda words, _: words == ["journal", "--json"],
+    "those from 1 on": lambda words, _: first_in(words) == 1,
+    "those from one on": lambda words, count: 1 < (first_in(words) or 0) < count,
+    "none, behind the last": lambda words, count: count < (first_in(words) or 0),
+    "--from alone": lambda words, _: words[1:2] == ["--from"] and len(words) == 3,
+    "--from before --json": lambda words, _: words[1:2] == ["--from"] and "--json" in words,
+    "--json before --from": lambda words, _: words[1:3] == ["--json", "--from"],
+}
+
+
+def trials_of_journals():
+    seen = dict.fromkeys([*ENTERED, *JOURNALED, *ASKED_FROM], 0)
+    for number in range(JOURNALS):
+        words, script = journal_input(Chance(DEFAULT_SEED, number))
+        found = json.loads(journal(books_after(b"".join(script)), ["--json"]))["journal"]
+        for kind, is_one in ENTERED.items():
+            seen[kind] += any(is_one(row) for row in found)
+        for kind, is_one in JOURNALED.items():
+            seen[kind] += bool(is_one(found))
+        for kind, is_one in ASKED_FROM.items():
+            seen[kind] += is_one(words, len(found))
+    for kind, count in seen.items():
+        yield f"of {JOURNALS} random journals some have {kind}", count > 0, (count, "")
+
+
 def answered(script):
     """The requests of a script and what the plain program answers, each as one text."""
     return [(line + b"\n" + (body or b""), answer[: -len(b"\n.\n")]) for line, body, answer in answers_to(script)]
@@ -305,3 +392,4 @@ def trials(_):
     yield from trials_of_streams()
     yield from trials_of_folders()
     yield from trials_of_reports()
+    yield from trials_of_journals()

@@ -1,6 +1,8 @@
 pub mod ReadLemmas
 mod OverviewLemmas
 mod PlayLemmas
+mod JournalWords
+mod NumberWords
 mod PlainWords
 mod ReportWords
 mod WordsLemmas

@@ -23,10 +23,9 @@ use Rattle.desk_book.specs.Played.{PlaysScript, asked_in}
 use Rattle.desk_book.specs.RowByRow.{WritesText}
 use Rattle.report_rows.specs.declared.format.Format.{Format}
 use Rattle.report_rows.specs.declared.format.Format.TheVariants.{Text, Json}
-use Rattle.desk_report.specs.Report.{IsReportText}
-use Rattle.desk_report.specs.declared.part.Parts.{Parts}
-use Rattle.desk.specs.OverviewAnswer.{IsAfterScript, IsFileOverviewAnswer, IsOverviewAnswer, IsOverviewEnd, IsOverviewFrom, MayPlayNone, failure_of_played, told_after, told_from, told_front, told_no_script, told_report, told_unclosed, told_unopened}
+use Rattle.desk.specs.OverviewAnswer.{IsAfterScript, IsFileOverviewAnswer, IsOverviewAnswer, IsOverviewEnd, IsOverviewFrom, IsShownText, MayPlayNone, failure_of_played, told_after, told_from, told_front, told_no_script, told_report, told_unclosed, told_unopened}
 use Rattle.desk.specs.PlayAnswer.{AreKept}
+use Rattle.desk.specs.declared.answers.shown.Shown.{Shown}
 use Rattle.desk.specs.Status.{EndsAs, IsFailureTold, IsOpeningFailure, failure_line}
 use Rattle.desk.specs.declared.status.Failure.{Failure}
 use Rattle.desk.specs.declared.status.Failure.TheVariants.{Memory, Storage}
@@ -35,33 +34,33 @@ use Rattle.desk.specs.declared.status.Status.TheVariants.{Done, Fault}
 use Rattle.desk.proofs.PlayLemmas.{only_memory}
 
 -- what was written as JSON, and what is told behind it
-module _ (before mid after : Option (List ℕ)) (parts : Parts) (books : Books) (content : Content) (keeps : Keeps MOST_ENTRIES books content) where
-  told_object : (written : Result (Unit {0}) WalkFault) (status : Status) → WritesText (IsReportText books content parts) written before mid → IsOverviewEnd written Json status (Appends mid after)
-      → IsOverviewFrom Json parts books status (Appends before after)
+module _ (before mid after : Option (List ℕ)) (shown : Shown) (books : Books) (content : Content) (keeps : Keeps MOST_ENTRIES books content) where
+  told_object : (written : Result (Unit {0}) WalkFault) (status : Status) → WritesText (IsShownText books content shown) written before mid → IsOverviewEnd written Json status (Appends mid after)
+      → IsOverviewFrom Json shown books status (Appends before after)
   told_object (Ok done) status w told =
-      told_report w.text (record { content = content; keeps = keeps; is_report = w.is_text }) told.0 (Appends-trans before mid after w.text (codes "\n") w.written told.1)
+      told_report w.text (record { content = content; keeps = keeps; is_shown = w.is_text }) told.0 (Appends-trans before mid after w.text (codes "\n") w.written told.1)
   told_object (Err (walks.Sink sinks.Write)) status w told = absurd told
   told_object (Err (walks.Sink sinks.Memory)) status w told =
-      told_front w.text w.rest (record { content = content; keeps = keeps; is_report = w.is_text }) Memory told.0 (Appends-trans before mid after w.text (codes "\n" ++ (failure_line Memory ++ codes "\n")) w.written told.1)
+      told_front w.text w.rest (record { content = content; keeps = keeps; is_shown = w.is_text }) Memory told.0 (Appends-trans before mid after w.text (codes "\n" ++ (failure_line Memory ++ codes "\n")) w.written told.1)
   told_object (Err walks.Memory) status w told =
-      told_front w.text w.rest (record { content = content; keeps = keeps; is_report = w.is_text }) Memory told.0 (Appends-trans before mid after w.text (codes "\n" ++ (failure_line Memory ++ codes "\n")) w.written told.1)
+      told_front w.text w.rest (record { content = content; keeps = keeps; is_shown = w.is_text }) Memory told.0 (Appends-trans before mid after w.text (codes "\n" ++ (failure_line Memory ++ codes "\n")) w.written told.1)
   told_object (Err walks.Storage) status w told =
-      told_front w.text w.rest (record { content = content; keeps = keeps; is_report = w.is_text }) Storage told.0 (Appends-trans before mid after w.text (codes "\n" ++ (failure_line Storage ++ codes "\n")) w.written told.1)
+      told_front w.text w.rest (record { content = content; keeps = keeps; is_shown = w.is_text }) Storage told.0 (Appends-trans before mid after w.text (codes "\n" ++ (failure_line Storage ++ codes "\n")) w.written told.1)
 
-  told_lines : (written : Result (Unit {0}) WalkFault) (status : Status) → IsOverviewEnd written Text status (Appends mid after) → IsOverviewFrom Text parts books status (Appends before after)
+  told_lines : (written : Result (Unit {0}) WalkFault) (status : Status) → IsOverviewEnd written Text status (Appends mid after) → IsOverviewFrom Text shown books status (Appends before after)
   told_lines (Ok done) status told = inl told.0
   told_lines (Err (walks.Sink sinks.Write)) status told = absurd told
   told_lines (Err (walks.Sink sinks.Memory)) status told = inr told.0
   told_lines (Err walks.Memory) status told = inr told.0
   told_lines (Err walks.Storage) status told = inr told.0
 
-  told_so : (format : Format) (written : Result (Unit {0}) WalkFault) (status : Status) → (format ≡ Json → WritesText (IsReportText books content parts) written before mid)
-      → IsOverviewEnd written format status (Appends mid after) → IsOverviewFrom format parts books status (Appends before after)
+  told_so : (format : Format) (written : Result (Unit {0}) WalkFault) (status : Status) → (format ≡ Json → WritesText (IsShownText books content shown) written before mid)
+      → IsOverviewEnd written format status (Appends mid after) → IsOverviewFrom format shown books status (Appends before after)
   told_so Json written status w told = told_object written status (w refl) told
   told_so Text written status w told = told_lines written status told
 
-  pub told_overview : {E : Type 0} (r : Result Status E) (format : Format) (written : Result (Unit {0}) WalkFault) → (format ≡ Json → WritesText (IsReportText books content parts) written before mid)
-      → IfOk r (λ status. IsOverviewEnd written format status (Appends mid after)) → IfOk r (λ status. IsOverviewFrom format parts books status (Appends before after))
+  pub told_overview : {E : Type 0} (r : Result Status E) (format : Format) (written : Result (Unit {0}) WalkFault) → (format ≡ Json → WritesText (IsShownText books content shown) written before mid)
+      → IfOk r (λ status. IsOverviewEnd written format status (Appends mid after)) → IfOk r (λ status. IsOverviewFrom format shown books status (Appends before after))
   told_overview (Ok status) format written w told = told_so format written status w told
   told_overview (Err e) format written w told = tt
 
@@ -96,40 +95,40 @@ after_script given before after was is v0 v1 most room not_closed stays sound fe
     }
 
 -- what stands after it
-pub told_of_script : {E : Type 0} (r : Result Status E) (parts : Parts) (format : Format) (given : Option (List ℕ)) (U : Type 0) (may_fail : Bool) (P : List ℕ → Type 0) (view : View) → (a : IsAfterScript given view)
-    → IfOk r (λ status. IsOverviewFrom format parts a.books status P) → IfOk r (λ status. IsOverviewAnswer parts format given U may_fail status P)
-told_of_script (Ok status) parts format given U may_fail P view a told = told_after a.script a.books a.came a.plays told
-told_of_script (Err e) parts format given U may_fail P view a told = tt
+pub told_of_script : {E : Type 0} (r : Result Status E) (shown : Shown) (format : Format) (given : Option (List ℕ)) (U : Type 0) (may_fail : Bool) (P : List ℕ → Type 0) (view : View) → (a : IsAfterScript given view)
+    → IfOk r (λ status. IsOverviewFrom format shown a.books status P) → IfOk r (λ status. IsOverviewAnswer shown format given U may_fail status P)
+told_of_script (Ok status) shown format given U may_fail P view a told = told_after a.script a.books a.came a.plays told
+told_of_script (Err e) shown format given U may_fail P view a told = tt
 
 -- no script was played
-pub told_none : {E : Type 0} (r : Result Status E) (failure : Failure) (parts : Parts) (format : Format) (given : Option (List ℕ)) (U : Type 0) (may_fail : Bool) (P : List ℕ → Type 0) → MayPlayNone given U may_fail failure
-    → IfOk r (λ status. IsFailureTold failure status P) → IfOk r (λ status. IsOverviewAnswer parts format given U may_fail status P)
-told_none (Ok status) failure parts format given U may_fail P may told = told_no_script may.0 may.1 (subst (λ f. IsFailureTold f status P) may.2 told)
-told_none (Err e) failure parts format given U may_fail P may told = tt
+pub told_none : {E : Type 0} (r : Result Status E) (failure : Failure) (shown : Shown) (format : Format) (given : Option (List ℕ)) (U : Type 0) (may_fail : Bool) (P : List ℕ → Type 0) → MayPlayNone given U may_fail failure
+    → IfOk r (λ status. IsFailureTold failure status P) → IfOk r (λ status. IsOverviewAnswer shown format given U may_fail status P)
+told_none (Ok status) failure shown format given U may_fail P may told = told_no_script may.0 may.1 (subst (λ f. IsFailureTold f status P) may.2 told)
+told_none (Err e) failure shown format given U may_fail P may told = tt
 
-module _ {X : Type 0} (parts : Parts) (books : Books) (contents : X → Option (List ℕ)) (w0 w1 w2 : X) (kept : AreKept books) where
+module _ {X : Type 0} (shown : Shown) (books : Books) (contents : X → Option (List ℕ)) (w0 w1 w2 : X) (kept : AreKept books) where
   -- how it ended over a file
-  ended_so : (format : Format) (said status : Status) → IsOverviewFrom format parts books said (Appends (contents w0) (contents w1)) → EndsAs said status (w2 ≡ w1) (Appends (contents w1) (contents w2))
-      → IsFileOverviewAnswer parts format status (Appends (contents w0) (contents w2))
+  ended_so : (format : Format) (said status : Status) → IsOverviewFrom format shown books said (Appends (contents w0) (contents w1)) → EndsAs said status (w2 ≡ w1) (Appends (contents w1) (contents w2))
+      → IsFileOverviewAnswer shown format status (Appends (contents w0) (contents w2))
   ended_so format said status is (inl same) =
-      let P : Status → Type 0 = λ s. IsFileOverviewAnswer parts format s (Appends (contents w0) (contents w2)) in
-      subst P (sym same.0) (told_from books kept (subst (λ w. IsOverviewFrom format parts books said (Appends (contents w0) (contents w))) (sym same.1) is))
+      let P : Status → Type 0 = λ s. IsFileOverviewAnswer shown format s (Appends (contents w0) (contents w2)) in
+      subst P (sym same.0) (told_from books kept (subst (λ w. IsOverviewFrom format shown books said (Appends (contents w0) (contents w))) (sym same.1) is))
   ended_so Text said status is (inr unclosed) = told_unclosed books kept unclosed.1.0 tt
   ended_so Json said status (told_report text stands done written) (inr unclosed) =
       told_unclosed books kept unclosed.1.0 (text, stands, Appends-trans (contents w0) (contents w1) (contents w2) (text ++ codes "\n") (failure_line Storage ++ codes "\n") written unclosed.1.1)
   ended_so Json said status (told_front front rest stands failure fault written) (inr unclosed) = absurd (unclosed.0 fault)
 
-  pub ended_overview : {E : Type 0} (format : Format) (told result : Result Status E) → IfOk told (λ status. IsOverviewFrom format parts books status (Appends (contents w0) (contents w1)))
-      → IfOk result (λ status. IsOkAnd told (λ said. EndsAs said status (w2 ≡ w1) (Appends (contents w1) (contents w2)))) → IfOk result (λ status. IsFileOverviewAnswer parts format status (Appends (contents w0) (contents w2)))
+  pub ended_overview : {E : Type 0} (format : Format) (told result : Result Status E) → IfOk told (λ status. IsOverviewFrom format shown books status (Appends (contents w0) (contents w1)))
+      → IfOk result (λ status. IsOkAnd told (λ said. EndsAs said status (w2 ≡ w1) (Appends (contents w1) (contents w2)))) → IfOk result (λ status. IsFileOverviewAnswer shown format status (Appends (contents w0) (contents w2)))
   ended_overview format told (Err e) is ends = tt
   ended_overview format (Err e) (Ok status) is ends = absurd ends
   ended_overview format (Ok said) (Ok status) is ends = ended_so format said status is ends
 
 -- the file was not opened
-pub unopened : {E : Type 0} (r : Result Status E) (failure : Failure) (parts : Parts) (format : Format) (P : List ℕ → Type 0) → IsOpeningFailure failure → IfOk r (λ status. IsFailureTold failure status P)
-    → IfOk r (λ status. IsFileOverviewAnswer parts format status P)
-unopened (Ok status) failure parts format P is told = told_unopened failure is told
-unopened (Err e) failure parts format P is told = tt
+pub unopened : {E : Type 0} (r : Result Status E) (failure : Failure) (shown : Shown) (format : Format) (P : List ℕ → Type 0) → IsOpeningFailure failure → IfOk r (λ status. IsFailureTold failure status P)
+    → IfOk r (λ status. IsFileOverviewAnswer shown format status P)
+unopened (Ok status) failure shown format P is told = told_unopened failure is told
+unopened (Err e) failure shown format P is told = tt
 
 -- why no script was played by a writer that does not fail
 pub none_played : (given : Option (List ℕ)) (U : Type 0) (may_fail : Bool) (fault : PlayFault) (failure : Failure) → (fault ≡ plays.Memory → U) → (fault ≡ plays.ReadFailed → may_fail ≡ true)

@@ -138,7 +138,7 @@ base_of : Option (List ℕ) → Format → List Row
 base_of db Json = base_of_file db (flag_row ∷ [])
 base_of db Text = base_of_file db []
 
-IsPlainFile : Option (List ℕ) → Type 0
+unfoldable pub IsPlainFile : Option (List ℕ) → Type 0
 IsPlainFile None = Unit {0}
 IsPlainFile (Some db) = IsPlain db
 
@@ -232,7 +232,7 @@ record IsFound (db : Option (List ℕ)) (named : List (List ℕ)) (format : Form
   parts : part_words_in rows ≡ named
   form : IsFormatOf format (one_of (codes "json") rows)
 
-is_no_flag : Some (codes "false") ≢ Some (codes "true")
+pub is_no_flag : Some (codes "false") ≢ Some (codes "true")
 is_no_flag e = let bad : 102 ≡ 116 = ap (λ text. slice_index (unwrap_or text []) 0) e in absurd (omega (arith, bad))
 
 found_with : (db : Option (List ℕ)) (format : Format) (named : List (List ℕ)) → IsFound db named format (fold with_default (base_of db format ++ part_row named ∷ []) report_shape.rules)
@@ -289,19 +289,19 @@ passes db format (first ∷ words) file plain =
 
 -- the program leaves all the words behind the name of a subcommand to that one
 
-stops : (rules : List Rule) (names : Names) (w : Walk) (name : List ℕ) (before words : List (List ℕ))
+pub stops : (rules : List Rule) (names : Names) (w : Walk) (name : List ℕ) (before words : List (List ℕ))
     → fold (walked rules names) (record w { stopped = Some (name, before) }) words ≡ record w { stopped = Some (name, before ++ words) }
 unfolding walked
 stops rules names w name before [] = ap (λ all. record w { stopped = Some (name, all) }) (sym (append-nil before))
 stops rules names w name before (word ∷ words) =
     stops rules names w name (before ++ word ∷ []) words ∙ ap (λ all. record w { stopped = Some (name, all) }) (append_assoc before (word ∷ []) words)
 
-passes_stopped : (s : Shape) (names : Names) (w : Walk) (name : List ℕ) (before words : List (List ℕ)) → walk_passes s names (record w { stopped = Some (name, before) }) words ≡ true
+pub passes_stopped : (s : Shape) (names : Names) (w : Walk) (name : List ℕ) (before words : List (List ℕ)) → walk_passes s names (record w { stopped = Some (name, before) }) words ≡ true
 unfolding walked walk_passes
 passes_stopped s names w name before [] = refl
 passes_stopped s names w name before (word ∷ words) = passes_stopped s names w name (before ++ word ∷ []) words
 
-built_desk : App
+unfoldable pub built_desk : App
 built_desk = built desk_app
 
 enters : (program : List ℕ) (words : List (List ℕ)) → subcommand_of desk_app (program ∷ codes "report" ∷ words) ≡ Some (rows_at report_shape words)
@@ -309,7 +309,7 @@ unfolding clap_on_literals report_shape built_desk
 enters program words = ap (λ w. entered built_desk w.stopped) (stops built_desk.top.rules (names_of built_desk) (walk_from nothing_held) (codes "report") [] words)
 
 -- the program takes the words where its walk passes and ends so
-takes_by : Bool → Walk → Bool
+unfoldable pub takes_by : Bool → Walk → Bool
 takes_by passes w =
     entered_passes built_desk w.stopped
     && (passes && (settle_passes built_desk.top.rules built_desk.top.args_override_self w.held
@@ -336,7 +336,7 @@ unfolding ArePlain
 are_plain [] all = tt
 are_plain (word ∷ named) all = (plain_word word (no_option word (All-head (λ w. is_part_word w ≡ true) word named all)), are_plain named (All-tail (λ w. is_part_word w ≡ true) word named all))
 
-plain_file : (db : Option (List ℕ)) → IsNoOptionIn db → IsPlainFile db
+pub plain_file : (db : Option (List ℕ)) → IsNoOptionIn db → IsPlainFile db
 unfolding IsPlainFile
 plain_file None is = tt
 plain_file (Some db) is = plain_word db is
@@ -420,3 +420,10 @@ pub enters_report : (program : List ℕ) (db : Option (List ℕ)) (parts : Parts
 enters_report program db parts format file some =
     let P : Parts → Type 0 = λ told. IsSomeAnd (subcommand_of desk_app (program ∷ words_for (report db parts format))) (λ p. IsSpelledOut (report db told format) p.0 p.1) in
     subst P (sym (parts_back parts some)) (enters_several program db format (words_of_parts parts) file (are_parts parts))
+
+-- one flag asks for one form
+pub one_form : (flag : Option (List ℕ)) (a b : Format) → IsFormatOf a flag → IsFormatOf b flag → a ≡ b
+one_form flag Json Json is also = refl
+one_form flag Json Text is also = absurd (also is)
+one_form flag Text Json is also = absurd (is also)
+one_form flag Text Text is also = refl

@@ -1,19 +1,11 @@
 -- What the parser of words makes of those that ask for something, and what is taken for a call says it.
-use Rattle.std.proofs.Common.{◌≡◌, ◌≢◌, ◌==◌, ◌&&◌, ◌∙◌, ◌⊎◌, ◌<◌, ◌≤◌, ◌^◌, inl, inr, sym, ap, ap₂, ℕ, Bool, true, false, List, [], ◌∷◌, Option, Some, None, option_map, slice_index, take, codes, refl, arith, subst}
-use Rattle.std.specs.Prelude.{IfNone, IfSome, IsSomeAnd, Ok, pos, decimal, FitsSigned, ◌≤ℤ◌}
-use Rattle.std.specs.Int.{w64}
-use Rattle.std.specs.Char.{digit_value}
-use Rattle.std.specs.Str.Parse.{IsNumeral, digits_value, signed_digits_value, starts_with_minus, without_leading_plus, without_leading_sign}
-use Rattle.std.proofs.lemmas.Bool.{le-leb}
+use Rattle.std.proofs.Common.{◌≡◌, ◌&&◌, ◌∙◌, ◌⊎◌, ◌<◌, ◌^◌, inl, inr, sym, ap, ap₂, ℕ, Bool, true, false, List, [], ◌∷◌, Option, Some, None, option_map, slice_index, take, codes, refl, arith, subst}
+use Rattle.std.specs.Prelude.{IfNone, IfSome, IsSomeAnd, Ok, decimal}
+use Rattle.std.specs.Str.Parse.{IsNumeral, digits_value, without_leading_plus}
 use Rattle.std.proofs.lemmas.List.Elements.{All-head}
 use Rattle.std.proofs.lemmas.Fmt.{decimal_is_IsNumeral}
-use Rattle.clap.specs.ValueTests.{is_signed_in}
-use Rattle.clap.specs.declared.builder.value_parser.ValueParser.TheVariants.{Signed}
-use Rattle.clap.proofs.ValueTestLemmas.{Accepts-accepts}
-use lib.Signed.{le_z_yes}
-use lib.Dec.{T}
 use Rattle.std.specs.Str.{bytes_eq}
-use Rattle.clap.specs.Lexer.{long_of, short_of, without_minus}
+use Rattle.clap.specs.Lexer.{long_of, short_of}
 use Rattle.std.specs.Box.{box_value}
 use Rattle.clap.specs.declared.parser.matches.ArgMatches.{ArgMatches}
 use Rattle.clap.specs.declared.parser.matches.ArgMatches.TheViews.{out-ArgMatches, out-SubCommand}
@@ -32,12 +24,13 @@ use Rattle.desk_msg.specs.declared.mt.Mt.TheVariants.{Mt540, Mt541, Mt542, Mt543
 use Rattle.desk_codes.specs.Bic.{IsBic, ReadsBic, party_of}
 use Rattle.desk_readable.proofs.PartLemmas.{bic_itself}
 use Rattle.desk_codes.specs.Characters.{IsCodeChar}
-use Rattle.desk.proofs.PlainWords.{IsPlain, is_other, no_dashes, no_long, no_minus, no_short, plain_word}
-use Rattle.desk.proofs.ReportWords.{enters_report, enters_several, takes_report, takes_several}
-use Rattle.desk.specs.Words.{ArePartWords, ArePartsOf, CallValue, IsAskable, IsBicText, IsErrorIn, IsFormatOf, IsNoOption, IsNoOptionIn, IsSpelledOut, IsSaid, IsSaidBy, IsSaidIn, IsTypeText, value_of_call, desk_app, IsNumberText, IsTopic, check, explain, holdings, isin, part_words_in, parts_by, play, read, report, report_words, serve, sums, serve_app, words_for, drop_app, folder}
+use Rattle.desk.proofs.JournalWords.{enters_journal, takes_journal}
+use Rattle.desk.proofs.NumberWords.{IsTaken, no_sign, number_taken}
+use Rattle.desk.proofs.PlainWords.{IsPlain, no_dashes, no_long, no_short, plain_word}
+use Rattle.desk.proofs.ReportWords.{enters_report, enters_several, one_form, takes_report, takes_several}
+use Rattle.desk.specs.Words.{ArePartWords, ArePartsOf, CallValue, IsAskable, IsBicText, IsErrorIn, IsFormatOf, IsNoOption, IsNoOptionIn, IsSpelledOut, IsSaid, IsSaidBy, IsSaidIn, IsTypeText, value_of_call, desk_app, IsNumberText, IsTopic, check, explain, holdings, isin, journal, part_words_in, parts_by, play, read, report, report_words, serve, sums, serve_app, words_for, drop_app, folder}
 use Rattle.desk_report.specs.declared.part.Parts.{Parts}
 use Rattle.report_rows.specs.declared.format.Format.{Format}
-use Rattle.report_rows.specs.declared.format.Format.TheVariants.{Json, Text as AsText}
 use Rattle.desk.specs.declared.words.calls.Call.{Call}
 use Rattle.desk.specs.declared.words.calls.Topic.{Topic}
 use Rattle.desk.specs.declared.words.calls.Topic.TheVariants.{Catalogue, Number}
@@ -46,45 +39,7 @@ pub simple : is_simple desk_app ≡ true
 unfolding clap_on_literals
 simple = refl
 
--- a number that is written in digits begins with no sign, and lies between bounds where it does
-
-is_digit : (c : ℕ) → digit_value c < 10 → (c ≢ 45) × (c ≢ 43)
-is_digit c digit = (
-  (λ is. (let bad : digit_value 45 < 10 = subst (λ d. digit_value d < 10) is digit in absurd (omega (arith, bad)))),
-  (λ is. (let bad : digit_value 43 < 10 = subst (λ d. digit_value d < 10) is digit in absurd (omega (arith, bad)))),
-)
-
-is_no_plus : (c : ℕ) → c ≢ 43 → (c == 43) ≡ false
-is_no_plus c other = go (c == 43) refl
-  where
-    go : (b : Bool) → (c == 43) ≡ b → (c == 43) ≡ false
-    go false e = e
-    go true e = grind (arith, other, e)
-
-no_sign : (text : List ℕ) → IsNumeral 10 text → (slice_index text 0 ≢ 45) × (starts_with_minus text ≡ false) × (without_leading_sign text ≡ text) × (without_leading_plus text ≡ text)
-no_sign [] numeral = absurd (omega (arith, numeral.0))
-no_sign (c ∷ text) numeral =
-    let digit = is_digit c numeral.1.0 in
-    let minus : (c == 45) ≡ false = is_other c digit.0 in
-    let plus : (c == 43) ≡ false = is_no_plus c digit.1 in
-    (digit.0, minus, rw (minus, plus) refl, rw plus refl)
-
-in_order : (a b : ℕ) → a ≤ b → pos a ≤ℤ pos b
-in_order a b h = le_z_yes (subst T (sym (le-leb a b h)) tt)
-
-signed_in : (text : List ℕ) (n high : ℕ) → IsNumeral 10 text → digits_value 10 text ≡ n → 1 ≤ n → n ≤ high → high < 2 ^ 63 → is_signed_in (pos 1) (pos high) text ≡ true
-signed_in text n high numeral value low most small =
-    let plain = no_sign text numeral in
-    let z : signed_digits_value 10 text ≡ pos n = rw (plain.2, plain.1) (ap pos value) in
-    let below : n < 2 ^ 63 = omega (arith, most, small) in
-    Accepts-accepts false (Signed (pos 1) (pos high)) text (
-      subst (IsNumeral 10) (sym plain.2) numeral,
-      subst (FitsSigned w64) (sym z) (record { sfits = below }),
-      subst (λ v. pos 1 ≤ℤ v) (sym z) (in_order 1 n low),
-      subst (λ v. v ≤ℤ pos high) (sym z) (in_order n high most),
-    )
-
--- and it is read as that number
+-- a number that is written in digits is read as that number
 module _ (n : ℕ) (small : n < 2 ^ 64) where
   pub reads_back : (k : ℕ) → n < 2 ^ k → IsNumeral 10 (without_leading_plus (decimal n)) × (digits_value 10 (without_leading_plus (decimal n)) < 2 ^ k)
   reads_back k fits =
@@ -93,27 +48,6 @@ module _ (n : ℕ) (small : n < 2 ^ 64) where
 
   pub read_value : digits_value 10 (without_leading_plus (decimal n)) ≡ n
   read_value = let is = decimal_is_IsNumeral n small in rw ((no_sign (decimal n) is.0).3) is.1
-
--- what the parser finds of a number that is written in digits
-record IsTaken (high : ℕ) (text : List ℕ) : Type 0 where
-  dashes : bytes_eq text (45 ∷ 45 ∷ []) ≡ false
-  long : long_of text ≡ None
-  short : short_of text ≡ None
-  plain : without_minus text ≡ text
-  fits : is_signed_in (pos 1) (pos high) text ≡ true
-
-number_taken : (n high : ℕ) → 1 ≤ n → n ≤ high → high < 2 ^ 63 → IsTaken high (decimal n)
-number_taken n high low most small =
-    let below : n < 2 ^ 64 = omega (arith, most, small) in
-    let is = decimal_is_IsNumeral n below in
-    let other = (no_sign (decimal n) is.0).0 in
-    record {
-      dashes = no_dashes (decimal n) other;
-      long = no_long (decimal n) other;
-      short = no_short (decimal n) other;
-      plain = no_minus (decimal n) other;
-      fits = signed_in (decimal n) n high is.0 is.1 low most small;
-    }
 
 no_code_char : IsCodeChar 45 → ⊥
 no_code_char (inl digit) = omega (arith, digit.0, digit.1)
@@ -226,6 +160,7 @@ takes_asked program (serve (Some db) port count) is =
 takes_asked program (holdings db bic account) is = takes_holdings program db bic account (plain_word db is.0) (plain_bic bic is.1) (plain_word account is.2)
 takes_asked program (sums db) is = takes_sums program db (plain_word db is)
 takes_asked program (report db parts format) is = takes_report program db parts format is.0
+takes_asked program (journal db from format) is = takes_journal program db from format is.0 is.1
 takes_asked program (folder db from to) is = takes_folder program db from to (plain_word db is.0) (plain_word from is.1) (plain_word to is.2)
 
 pub takes_nothing : (program : List ℕ) → takes desk_app (program ∷ []) ≡ true
@@ -373,6 +308,7 @@ enters_asked program (holdings db bic account) is =
     holdings_entered _ db bic account is.1 (enters_holdings program db bic account (plain_word db is.0) (plain_bic bic is.1) (plain_word account is.2))
 enters_asked program (sums db) is = enters_sums program db (plain_word db is)
 enters_asked program (report db parts format) is = enters_report program db parts format is.0 is.1
+enters_asked program (journal db from format) is = enters_journal program db from format is.0 is.1
 enters_asked program (folder db from to) is = enters_folder program db from to (plain_word db is.0) (plain_word from is.1) (plain_word to is.2)
 
 pub enters_nothing : (program : List ℕ) → subcommand_of desk_app (program ∷ []) ≡ None
@@ -403,12 +339,6 @@ one_found (Some s) name_in rows_in name e none = cc
 
 -- what the getters give
 
-one_form : (flag : Option (List ℕ)) (a b : Format) → IsFormatOf a flag → IsFormatOf b flag → a ≡ b
-one_form flag Json Json is also = refl
-one_form flag Json AsText is also = absurd (also is)
-one_form flag AsText Json is also = absurd (is also)
-one_form flag AsText AsText is also = refl
-
 module _ (asked : CallValue) (name : List ℕ) (f : Found) where
   named_isin : name ≡ codes "isin" → IsSpelledOut asked name (rows_of f) → (code : List ℕ) × (asked ≡ isin code) × (first_value f (codes "code") ≡ Some code)
   named_isin is named = go asked named
@@ -424,6 +354,7 @@ module _ (asked : CallValue) (name : List ℕ) (f : Found) where
       go (holdings db bic account) h = let bad : 104 ≡ 105 = ap (λ t. slice_index t 0) (sym h.0 ∙ is) in absurd (omega (arith, bad))
       go (sums db) h = let bad : 115 ≡ 105 = ap (λ t. slice_index t 0) (sym h.0 ∙ is) in absurd (omega (arith, bad))
       go (report db parts format) h = let bad : 114 ≡ 105 = ap (λ t. slice_index t 0) (sym h.0 ∙ is) in absurd (omega (arith, bad))
+      go (journal db from format) h = let bad : 106 ≡ 105 = ap (λ t. slice_index t 0) (sym h.0 ∙ is) in absurd (omega (arith, bad))
       go (folder db from to) h = let bad : 100 ≡ 105 = ap (λ t. slice_index t 0) (sym h.0 ∙ is) in absurd (omega (arith, bad))
 
   named_read : name ≡ codes "read" → IsSpelledOut asked name (rows_of f) → (mt : Mt) × (asked ≡ read mt) × (one_text f (codes "mt") ≡ Some (digits_of_type mt)) × (is_instruction mt ≡ true)
@@ -440,6 +371,7 @@ module _ (asked : CallValue) (name : List ℕ) (f : Found) where
       go (holdings db bic account) h = let bad : 104 ≡ 114 = ap (λ t. slice_index t 0) (sym h.0 ∙ is) in absurd (omega (arith, bad))
       go (sums db) h = let bad : 115 ≡ 114 = ap (λ t. slice_index t 0) (sym h.0 ∙ is) in absurd (omega (arith, bad))
       go (report db parts format) h = let bad : 112 ≡ 97 = ap (λ t. slice_index t 2) (sym h.0 ∙ is) in absurd (omega (arith, bad))
+      go (journal db from format) h = let bad : 106 ≡ 114 = ap (λ t. slice_index t 0) (sym h.0 ∙ is) in absurd (omega (arith, bad))
       go (folder db from to) h = let bad : 100 ≡ 114 = ap (λ t. slice_index t 0) (sym h.0 ∙ is) in absurd (omega (arith, bad))
 
   named_play : name ≡ codes "play" → IsSpelledOut asked name (rows_of f) → (db : Option (List ℕ)) × (asked ≡ play db) × (first_value f (codes "db") ≡ db)
@@ -456,6 +388,7 @@ module _ (asked : CallValue) (name : List ℕ) (f : Found) where
       go (holdings db bic account) h = let bad : 104 ≡ 112 = ap (λ t. slice_index t 0) (sym h.0 ∙ is) in absurd (omega (arith, bad))
       go (sums db) h = let bad : 115 ≡ 112 = ap (λ t. slice_index t 0) (sym h.0 ∙ is) in absurd (omega (arith, bad))
       go (report db parts format) h = let bad : 114 ≡ 112 = ap (λ t. slice_index t 0) (sym h.0 ∙ is) in absurd (omega (arith, bad))
+      go (journal db from format) h = let bad : 106 ≡ 112 = ap (λ t. slice_index t 0) (sym h.0 ∙ is) in absurd (omega (arith, bad))
       go (folder db from to) h = let bad : 100 ≡ 112 = ap (λ t. slice_index t 0) (sym h.0 ∙ is) in absurd (omega (arith, bad))
 
   -- the words of `explain`: none behind it, or a number
@@ -479,6 +412,7 @@ module _ (asked : CallValue) (name : List ℕ) (f : Found) where
       go (holdings db bic account) h = let bad : 104 ≡ 101 = ap (λ t. slice_index t 0) (sym h.0 ∙ is) in absurd (omega (arith, bad))
       go (sums db) h = let bad : 115 ≡ 101 = ap (λ t. slice_index t 0) (sym h.0 ∙ is) in absurd (omega (arith, bad))
       go (report db parts format) h = let bad : 114 ≡ 101 = ap (λ t. slice_index t 0) (sym h.0 ∙ is) in absurd (omega (arith, bad))
+      go (journal db from format) h = let bad : 106 ≡ 101 = ap (λ t. slice_index t 0) (sym h.0 ∙ is) in absurd (omega (arith, bad))
       go (folder db from to) h = let bad : 100 ≡ 101 = ap (λ t. slice_index t 0) (sym h.0 ∙ is) in absurd (omega (arith, bad))
 
   pub no_topic : name ≡ codes "explain" → (first_value f (codes "number") ≡ None → ⊥)
@@ -508,6 +442,7 @@ module _ (asked : CallValue) (name : List ℕ) (f : Found) where
       go (holdings db bic account) h = let bad : 104 ≡ 115 = ap (λ t. slice_index t 0) (sym h.0 ∙ is) in absurd (omega (arith, bad))
       go (sums db) h = let bad : 117 ≡ 101 = ap (λ t. slice_index t 1) (sym h.0 ∙ is) in absurd (omega (arith, bad))
       go (report db parts format) h = let bad : 114 ≡ 115 = ap (λ t. slice_index t 0) (sym h.0 ∙ is) in absurd (omega (arith, bad))
+      go (journal db from format) h = let bad : 106 ≡ 115 = ap (λ t. slice_index t 0) (sym h.0 ∙ is) in absurd (omega (arith, bad))
       go (folder db from to) h = let bad : 100 ≡ 115 = ap (λ t. slice_index t 0) (sym h.0 ∙ is) in absurd (omega (arith, bad))
 
   pub no_service : name ≡ codes "serve"
@@ -538,6 +473,7 @@ module _ (asked : CallValue) (name : List ℕ) (f : Found) where
       go (holdings db bic account) h = (db, bic, account, refl, first_value-rows f (codes "db") ∙ h.1, h.2, first_value-rows f (codes "bic") ∙ h.3, first_value-rows f (codes "account") ∙ h.4)
       go (sums db) h = let bad : 115 ≡ 104 = ap (λ t. slice_index t 0) (sym h.0 ∙ is) in absurd (omega (arith, bad))
       go (report db parts format) h = let bad : 114 ≡ 104 = ap (λ t. slice_index t 0) (sym h.0 ∙ is) in absurd (omega (arith, bad))
+      go (journal db from format) h = let bad : 106 ≡ 104 = ap (λ t. slice_index t 0) (sym h.0 ∙ is) in absurd (omega (arith, bad))
       go (folder db from to) h = let bad : 100 ≡ 104 = ap (λ t. slice_index t 0) (sym h.0 ∙ is) in absurd (omega (arith, bad))
 
   named_sums : name ≡ codes "sums" → IsSpelledOut asked name (rows_of f) → (db : List ℕ) × (asked ≡ sums db) × (first_value f (codes "db") ≡ Some db)
@@ -554,6 +490,7 @@ module _ (asked : CallValue) (name : List ℕ) (f : Found) where
       go (holdings db bic account) h = let bad : 104 ≡ 115 = ap (λ t. slice_index t 0) (sym h.0 ∙ is) in absurd (omega (arith, bad))
       go (sums db) h = (db, refl, first_value-rows f (codes "db") ∙ h.1)
       go (report db parts format) h = let bad : 114 ≡ 115 = ap (λ t. slice_index t 0) (sym h.0 ∙ is) in absurd (omega (arith, bad))
+      go (journal db from format) h = let bad : 106 ≡ 115 = ap (λ t. slice_index t 0) (sym h.0 ∙ is) in absurd (omega (arith, bad))
       go (folder db from to) h = let bad : 100 ≡ 115 = ap (λ t. slice_index t 0) (sym h.0 ∙ is) in absurd (omega (arith, bad))
 
   named_folder : name ≡ codes "drop" → IsSpelledOut asked name (rows_of f)
@@ -572,6 +509,7 @@ module _ (asked : CallValue) (name : List ℕ) (f : Found) where
       go (holdings db bic account) h = let bad : 104 ≡ 100 = ap (λ t. slice_index t 0) (sym h.0 ∙ is) in absurd (omega (arith, bad))
       go (sums db) h = let bad : 115 ≡ 100 = ap (λ t. slice_index t 0) (sym h.0 ∙ is) in absurd (omega (arith, bad))
       go (report db parts format) h = let bad : 114 ≡ 100 = ap (λ t. slice_index t 0) (sym h.0 ∙ is) in absurd (omega (arith, bad))
+      go (journal db from format) h = let bad : 106 ≡ 100 = ap (λ t. slice_index t 0) (sym h.0 ∙ is) in absurd (omega (arith, bad))
       go (folder db from to) h = (db, from, to, refl, first_value-rows f (codes "db") ∙ h.1, first_value-rows f (codes "in") ∙ h.2, first_value-rows f (codes "out") ∙ h.3)
 
   -- the words of `report`: a file or none, the parts and the form
@@ -595,6 +533,7 @@ module _ (asked : CallValue) (name : List ℕ) (f : Found) where
       go (sums db) h = let bad : 115 ≡ 114 = ap (λ t. slice_index t 0) (sym h.0 ∙ is) in absurd (omega (arith, bad))
       go (report db parts format) h =
           (db, parts, format, refl, first_value-rows f (codes "db") ∙ h.1, h.2, subst (IsFormatOf format) (sym (one_text-rows f (codes "json"))) h.3)
+      go (journal db from format) h = let bad : 106 ≡ 114 = ap (λ t. slice_index t 0) (sym h.0 ∙ is) in absurd (omega (arith, bad))
       go (folder db from to) h = let bad : 100 ≡ 114 = ap (λ t. slice_index t 0) (sym h.0 ∙ is) in absurd (omega (arith, bad))
 
   pub no_report : name ≡ codes "report" → ((parts : Parts) → ArePartsOf parts (part_words_in (rows_of f)) → ⊥) → IsSpelledOut asked name (rows_of f) → ⊥

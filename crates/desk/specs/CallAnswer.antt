@@ -11,7 +11,8 @@ use Rattle.desk.specs.ReadAnswer.{IsReadAnswer}
 use Rattle.desk.specs.ReportAnswer.{IsReportAnswer, asked_for}
 use Rattle.desk.specs.ServeAnswer.{IsFileServeAnswer, IsServeAnswer}
 use Rattle.desk.specs.Status.{IsFailureTold, status_of_error}
-use Rattle.desk.specs.Words.{CallValue, isin, read, play, check, explain, serve, holdings, sums, folder, report, IsErrorIn, IsSaidBy}
+use Rattle.desk.specs.Words.{CallValue, isin, read, play, check, explain, serve, holdings, sums, folder, report, journal, IsErrorIn, IsSaidBy}
+use Rattle.desk.specs.declared.answers.shown.Shown.TheVariants.{Journal, Report}
 use Rattle.desk.specs.declared.status.Failure.TheVariants.{Memory}
 use Rattle.desk.specs.declared.status.Status.{Status}
 
@@ -28,8 +29,10 @@ IsCallAnswer (serve (Some db) port count) given IsUnread may_fail status IsPrint
 IsCallAnswer (holdings db bic account) given IsUnread may_fail status IsPrinted = IsUnread × IsReportAnswer (asked_for (Some bic) account) status IsPrinted
 IsCallAnswer (sums db) given IsUnread may_fail status IsPrinted = IsUnread × IsReportAnswer (asked_for None []) status IsPrinted
 IsCallAnswer (folder db from to) given IsUnread may_fail status IsPrinted = IsUnread × IsDropAnswer status IsPrinted
-IsCallAnswer (report None parts format) given IsUnread may_fail status IsPrinted = IsOverviewAnswer parts format given IsUnread may_fail status IsPrinted
-IsCallAnswer (report (Some db) parts format) given IsUnread may_fail status IsPrinted = IsUnread × IsFileOverviewAnswer parts format status IsPrinted
+IsCallAnswer (report None parts format) given IsUnread may_fail status IsPrinted = IsOverviewAnswer (Report parts) format given IsUnread may_fail status IsPrinted
+IsCallAnswer (report (Some db) parts format) given IsUnread may_fail status IsPrinted = IsUnread × IsFileOverviewAnswer (Report parts) format status IsPrinted
+IsCallAnswer (journal None from format) given IsUnread may_fail status IsPrinted = IsOverviewAnswer (Journal from) format given IsUnread may_fail status IsPrinted
+IsCallAnswer (journal (Some db) from format) given IsUnread may_fail status IsPrinted = IsUnread × IsFileOverviewAnswer (Journal from) format status IsPrinted
 
 -- want of memory was told alone, as a fault, and nothing was read
 abbrev pub IsMemoryTold : Type 0 → Status → (List ℕ → Type 0) → Type 0

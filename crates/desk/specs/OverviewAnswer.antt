@@ -1,5 +1,5 @@
--- What `desk report` answers: what stands at a moment.
-use Rattle.std.specs.Prelude.{◌≡◌, ◌⊎◌, ◌≤◌, ℕ, Bool, false, List, [], ◌++◌, length, All, Option, Result, Ok, Err, codes}
+-- What `desk report` and `desk journal` answer: what stands at a moment, and what led to it.
+use Rattle.std.specs.Prelude.{◌≡◌, ◌⊎◌, ◌≤◌, ℕ, Bool, false, List, [], ◌++◌, length, All, Option, Result, Ok, Err, codes, unwrap_or}
 use Rattle.desk_rules.specs.declared.answers.reply.Reply.{Reply}
 use Rattle.desk_rules.specs.declared.limits.TheConstants.{MOST_ENTRIES}
 use Rattle.desk_rules.specs.Books.{Books}
@@ -20,43 +20,50 @@ use Rattle.desk_book.specs.Played.{asked_in}
 use Rattle.desk_book.specs.Script.{Item, Script}
 use Rattle.report_rows.specs.declared.format.Format.{Format}
 use Rattle.report_rows.specs.declared.format.Format.TheVariants.{Text, Json}
+use Rattle.desk_journal.specs.Journal.{IsJournalText}
 use Rattle.desk_report.specs.Report.{IsReportText}
-use Rattle.desk_report.specs.declared.part.Parts.{Parts}
 use Rattle.desk.specs.Input.{Came, MayGiveNone, failure_of}
 use Rattle.desk.specs.PlayAnswer.{AreKept, IsReplyOrMemory}
 use Rattle.desk.specs.Status.{IsFailureTold, IsOpeningFailure, failure_line}
+use Rattle.desk.specs.declared.answers.shown.Shown.{Shown}
+use Rattle.desk.specs.declared.answers.shown.Shown.TheVariants.{Journal, Report}
 use Rattle.desk.specs.declared.status.Failure.{Failure}
 use Rattle.desk.specs.declared.status.Failure.TheVariants.{Memory, Storage, Input}
 use Rattle.desk.specs.declared.status.Status.{Status}
 use Rattle.desk.specs.declared.status.Status.TheVariants.{Done, Fault as Failed}
 
--- the report of these parts by the tables of these books, as JSON
-pub record Stands (parts : Parts) (books : Books) (text : List ℕ) : Type 0 where
+-- the text of what is shown, as JSON: the report of these parts, or the journal from a number on, or all of it
+abbrev pub IsShownText : Books → Content → Shown → List ℕ → Type 0
+IsShownText books content (Report parts) text = IsReportText books content parts text
+IsShownText books content (Journal from) text = IsJournalText books (unwrap_or from 1) text
+
+-- what is shown by the tables of these books, as JSON
+pub record Stands (shown : Shown) (books : Books) (text : List ℕ) : Type 0 where
   pub content : Content
   pub keeps : Keeps MOST_ENTRIES books content
-  pub is_report : IsReportText books content parts text
+  pub is_shown : IsShownText books content shown text
 
--- The report was printed in a line; or a front of it, and why it ends there in a line behind it.
-pub data IsObjectFrom (parts : Parts) (books : Books) (status : Status) (IsPrinted : List ℕ → Type 0) : Type 0 where
-  told_report : (text : List ℕ) → Stands parts books text → status ≡ Done → IsPrinted (text ++ codes "\n") → IsObjectFrom parts books status IsPrinted
-  told_front : (front rest : List ℕ) → Stands parts books (front ++ rest) → (failure : Failure) → status ≡ Failed → IsPrinted (front ++ (codes "\n" ++ (failure_line failure ++ codes "\n")))
-      → IsObjectFrom parts books status IsPrinted
+-- It was printed in a line; or a front of it, and why it ends there in a line behind it.
+pub data IsObjectFrom (shown : Shown) (books : Books) (status : Status) (IsPrinted : List ℕ → Type 0) : Type 0 where
+  told_report : (text : List ℕ) → Stands shown books text → status ≡ Done → IsPrinted (text ++ codes "\n") → IsObjectFrom shown books status IsPrinted
+  told_front : (front rest : List ℕ) → Stands shown books (front ++ rest) → (failure : Failure) → status ≡ Failed → IsPrinted (front ++ (codes "\n" ++ (failure_line failure ++ codes "\n")))
+      → IsObjectFrom shown books status IsPrinted
 
 -- What is told of these books. Of lines for people the status alone is said.
-abbrev pub IsOverviewFrom : Format → Parts → Books → Status → (List ℕ → Type 0) → Type 0
-IsOverviewFrom Json parts books status IsPrinted = IsObjectFrom parts books status IsPrinted
-IsOverviewFrom Text parts books status IsPrinted = (status ≡ Done) ⊎ (status ≡ Failed)
+abbrev pub IsOverviewFrom : Format → Shown → Books → Status → (List ℕ → Type 0) → Type 0
+IsOverviewFrom Json shown books status IsPrinted = IsObjectFrom shown books status IsPrinted
+IsOverviewFrom Text shown books status IsPrinted = (status ≡ Done) ⊎ (status ≡ Failed)
 
 -- what ends the last line: a JSON object has no line end of its own
 abbrev pub line_end : Format → List ℕ
 line_end Json = codes "\n"
 line_end Text = []
 
--- the last line ends within a report, and why is told behind it
+-- the last line ends within it, and why is told behind
 abbrev pub IsBrokenOffAs : Failure → Format → Status → (List ℕ → Type 0) → Type 0
 IsBrokenOffAs failure format status IsPrinted = (status ≡ Failed) × IsPrinted (line_end format ++ (failure_line failure ++ codes "\n"))
 
--- what is told behind a report that was written, or behind a front of one; where the writer failed nothing is
+-- what is told behind what was written, or behind a front of it; where the writer failed nothing is
 abbrev pub IsOverviewEnd : Result (Unit {0}) WalkFault → Format → Status → (List ℕ → Type 0) → Type 0
 IsOverviewEnd (Ok done) format status IsPrinted = (status ≡ Done) × IsPrinted (line_end format)
 IsOverviewEnd (Err (walks.Sink sinks.Write)) format status IsPrinted = ⊥
@@ -93,20 +100,20 @@ abbrev pub MayPlayNone : Option (List ℕ) → Type 0 → Bool → Failure → T
 MayPlayNone given IsUnread may_fail failure = (fault : InputFault) × MayGiveNone LONGEST_SCRIPT given IsUnread may_fail fault × (failure ≡ failure_of fault)
 
 -- What stands after the script that came is told; or why none could be played, alone, as a fault.
-pub data IsOverviewAnswer (parts : Parts) (format : Format) (given : Option (List ℕ)) (IsUnread : Type 0) (may_fail : Bool) (status : Status) (IsPrinted : List ℕ → Type 0) : Type 0 where
-  told_after : (script : List ℕ) (books : Books) → Came given script → PlaysTo script books → IsOverviewFrom format parts books status IsPrinted
-      → IsOverviewAnswer parts format given IsUnread may_fail status IsPrinted
+pub data IsOverviewAnswer (shown : Shown) (format : Format) (given : Option (List ℕ)) (IsUnread : Type 0) (may_fail : Bool) (status : Status) (IsPrinted : List ℕ → Type 0) : Type 0 where
+  told_after : (script : List ℕ) (books : Books) → Came given script → PlaysTo script books → IsOverviewFrom format shown books status IsPrinted
+      → IsOverviewAnswer shown format given IsUnread may_fail status IsPrinted
   told_no_script : (fault : InputFault) → MayGiveNone LONGEST_SCRIPT given IsUnread may_fail fault → IsFailureTold (failure_of fault) status IsPrinted
-      → IsOverviewAnswer parts format given IsUnread may_fail status IsPrinted
+      → IsOverviewAnswer shown format given IsUnread may_fail status IsPrinted
 
--- the whole report of these books, as JSON, and behind it that the file could not be closed
-abbrev pub IsUnclosed : Format → Parts → Books → (List ℕ → Type 0) → Type 0
-IsUnclosed Json parts books IsPrinted = (text : List ℕ) × Stands parts books text × IsPrinted ((text ++ codes "\n") ++ (failure_line Storage ++ codes "\n"))
-IsUnclosed Text parts books IsPrinted = Unit {0}
+-- the whole of it, as JSON, and behind it that the file could not be closed
+abbrev pub IsUnclosed : Format → Shown → Books → (List ℕ → Type 0) → Type 0
+IsUnclosed Json shown books IsPrinted = (text : List ℕ) × Stands shown books text × IsPrinted ((text ++ codes "\n") ++ (failure_line Storage ++ codes "\n"))
+IsUnclosed Text shown books IsPrinted = Unit {0}
 
 -- The file was not opened, which is told alone; or what stands is told by what it held; or that, and the file could not be
 -- closed, which is told behind.
-pub data IsFileOverviewAnswer (parts : Parts) (format : Format) (status : Status) (IsPrinted : List ℕ → Type 0) : Type 0 where
-  told_unopened : (failure : Failure) → IsOpeningFailure failure → IsFailureTold failure status IsPrinted → IsFileOverviewAnswer parts format status IsPrinted
-  told_from : (books : Books) → AreKept books → IsOverviewFrom format parts books status IsPrinted → IsFileOverviewAnswer parts format status IsPrinted
-  told_unclosed : (books : Books) → AreKept books → status ≡ Failed → IsUnclosed format parts books IsPrinted → IsFileOverviewAnswer parts format status IsPrinted
+pub data IsFileOverviewAnswer (shown : Shown) (format : Format) (status : Status) (IsPrinted : List ℕ → Type 0) : Type 0 where
+  told_unopened : (failure : Failure) → IsOpeningFailure failure → IsFailureTold failure status IsPrinted → IsFileOverviewAnswer shown format status IsPrinted
+  told_from : (books : Books) → AreKept books → IsOverviewFrom format shown books status IsPrinted → IsFileOverviewAnswer shown format status IsPrinted
+  told_unclosed : (books : Books) → AreKept books → status ≡ Failed → IsUnclosed format shown books IsPrinted → IsFileOverviewAnswer shown format status IsPrinted

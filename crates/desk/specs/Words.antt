@@ -17,12 +17,12 @@ use Rattle.report_rows.specs.declared.format.Format.TheVariants.{Json, Text}
 use Rattle.desk.specs.declared.words.calls.Call.{Call}
 use Rattle.desk.specs.declared.words.calls.Topic.{Topic}
 use Rattle.desk.specs.declared.words.calls.Topic.TheVariants.{Catalogue, Number}
-use Rattle.desk.specs.declared.words.calls.Call.TheVariants.{Isin, Read, Play, PlayOn, Check, Explain, Serve, ServeOn, Holdings, Sums, Report, ReportOn, Folder}
+use Rattle.desk.specs.declared.words.calls.Call.TheVariants.{Isin, Read, Play, PlayOn, Check, Explain, Serve, ServeOn, Holdings, Sums, Report, ReportOn, Journal, JournalOn, Folder}
 
 -- what is asked for: whether a code is an ISIN, what a message of a type says, a script's answers, what is refused in
 -- a script, what a number means or all of them, to serve so many connections at a port, what a participant's account holds,
--- the totals, what stands at this moment, or the answers to the files of a folder; of the desk of a file, or of one in
--- memory where no file is named
+-- the totals, what stands at this moment, the accepted entries from a number on, or all of them, or the answers to the
+-- files of a folder; of the desk of a file, or of one in memory where no file is named
 pub data CallValue : Type 0 where
   isin : (code : List ℕ) → CallValue
   read : (mt : Mt) → CallValue
@@ -33,6 +33,7 @@ pub data CallValue : Type 0 where
   holdings : (db bic account : List ℕ) → CallValue
   sums : (db : List ℕ) → CallValue
   report : (db : Option (List ℕ)) (parts : Parts) (format : Format) → CallValue
+  journal : (db : Option (List ℕ)) (from : Option ℕ) (format : Format) → CallValue
   folder : (db from to : List ℕ) → CallValue
 
 abbrev pub value_of_call : Call → CallValue
@@ -48,6 +49,8 @@ value_of_call (Holdings db owner account) = holdings db.now owner account.now
 value_of_call (Sums db) = sums db.now
 value_of_call (Report parts format) = report None parts format
 value_of_call (ReportOn db parts format) = report (Some db.now) parts format
+value_of_call (Journal from format) = journal None from format
+value_of_call (JournalOn db from format) = journal (Some db.now) from format
 value_of_call (Folder db from to) = folder db.now from.now to.now
 
 -- a message that is read is an instruction
@@ -116,6 +119,11 @@ abbrev pub words_of_format : Format → List (List ℕ) → List (List ℕ)
 words_of_format Json others = codes "--json" ∷ others
 words_of_format Text others = others
 
+-- the words that name the number of an entry, if one is given, and others
+abbrev pub words_of_number : Option ℕ → List (List ℕ) → List (List ℕ)
+words_of_number None others = others
+words_of_number (Some number) others = codes "--from" ∷ decimal number ∷ others
+
 -- the words that ask for a report of the parts that these words name, in any order and each as often as one likes; of
 -- options that stand behind them or between them `IsSaid` speaks
 abbrev pub report_words : Option (List ℕ) → Format → List (List ℕ) → List (List ℕ)
@@ -133,6 +141,7 @@ words_for (serve db port count) = codes "serve" ∷ words_of_file db (codes "--p
 words_for (holdings db bic account) = codes "holdings" ∷ words_of_file (Some db) (bic ∷ account ∷ [])
 words_for (sums db) = codes "sums" ∷ words_of_file (Some db) []
 words_for (report db parts format) = report_words db format (words_of_parts parts)
+words_for (journal db from format) = codes "journal" ∷ words_of_file db (words_of_number from (words_of_format format []))
 words_for (folder db from to) = codes "drop" ∷ words_of_file (Some db) (codes "--in" ∷ from ∷ codes "--out" ∷ to ∷ [])
 
 -- what does not begin as an option, by a hyphen
@@ -148,6 +157,11 @@ IsNoOptionIn (Some db) = IsNoOption db
 abbrev pub TellsSome : Parts → Type 0
 TellsSome parts = IsTrue (parts.pending || parts.unmatched || parts.accounts || parts.cash || parts.sums)
 
+-- of the number of an entry that is given
+abbrev pub IsFromAskable : Option ℕ → Type 0
+IsFromAskable None = Unit {0}
+IsFromAskable (Some number) = (1 ≤ number) × (number ≤ 999999999)
+
 -- The code, the file, the account and the folders do not begin as an option, the type is one of an instruction, the participant is one in its
 -- one spelling, the numbers are those that may be asked for, and of a report some part is told.
 abbrev pub IsAskable : CallValue → Type 0
@@ -161,11 +175,17 @@ IsAskable (serve db port count) = IsNoOptionIn db × ((1 ≤ port) × (port ≤ 
 IsAskable (holdings db bic account) = IsNoOption db × IsBic bic × IsNoOption account
 IsAskable (sums db) = IsNoOption db
 IsAskable (report db parts format) = IsNoOptionIn db × TellsSome parts
+IsAskable (journal db from format) = IsNoOptionIn db × IsFromAskable from
 IsAskable (folder db from to) = IsNoOption db × IsNoOption from × IsNoOption to
 
 -- the words that were found for the parts of a report
 abbrev pub part_words_in : List Row → List (List ℕ)
 part_words_in rows = unwrap_or (all_of (codes "part") rows) []
+
+-- the number of the entry to begin with, by the words that were found for it, spelled out as `words_for` spells it
+abbrev pub IsFromSpelledOut : Option ℕ → Option (List ℕ) → Option (List ℕ) → Type 0
+IsFromSpelledOut None first one = first ≡ None
+IsFromSpelledOut (Some number) first one = (first ≡ Some (decimal number)) × (one ≡ Some (decimal number)) × (number < 2 ^ 32)
 
 -- what a subcommand's name and matches ask for, spelled out as `words_for` spells it
 abbrev pub IsSpelledOut : CallValue → List ℕ → List Row → Type 0
@@ -183,6 +203,8 @@ IsSpelledOut (holdings db bic account) name rows =
 IsSpelledOut (sums db) name rows = (name ≡ codes "sums") × (first_of (codes "db") rows ≡ Some db)
 IsSpelledOut (report db parts format) name rows =
     (name ≡ codes "report") × (first_of (codes "db") rows ≡ db) × ArePartsOf parts (part_words_in rows) × IsFormatOf format (one_of (codes "json") rows)
+IsSpelledOut (journal db from format) name rows =
+    (name ≡ codes "journal") × (first_of (codes "db") rows ≡ db) × IsFromSpelledOut from (first_of (codes "from") rows) (one_of (codes "from") rows) × IsFormatOf format (one_of (codes "json") rows)
 IsSpelledOut (folder db from to) name rows =
     (name ≡ codes "drop") × (first_of (codes "db") rows ≡ Some db) × (first_of (codes "in") rows ≡ Some from) × (first_of (codes "out") rows ≡ Some to)
 
@@ -248,6 +270,12 @@ json_rule = record (new_rule (codes "json")) { long = Some (codes "json"); actio
 abbrev pub report_app : App
 report_app = with_rule (with_rule (with_rule (new_app (codes "report")) part_rule) json_rule) db_rule
 
+abbrev pub from_rule : Rule
+from_rule = record (new_rule (codes "from")) { long = Some (codes "from"); value_names = 1; parser = Some (Signed (pos 1) (pos 999999999)) }
+
+abbrev pub journal_app : App
+journal_app = with_rule (with_rule (with_rule (new_app (codes "journal")) from_rule) json_rule) db_rule
+
 abbrev pub in_rule : Rule
 in_rule = record (new_rule (codes "in")) { long = Some (codes "in"); value_names = 1; required = true }
 
@@ -263,8 +291,8 @@ bare_app = record (new_app (codes "desk")) { top = record (new_app (codes "desk"
 
 abbrev pub desk_app : App
 desk_app =
-    with_subcommand (with_subcommand (with_subcommand (with_subcommand (with_subcommand (with_subcommand (with_subcommand (with_subcommand (with_subcommand (with_subcommand bare_app isin_app.top) read_app.top) play_app.top) check_app.top) explain_app.top) serve_app.top) holdings_app.top)
-    sums_app.top) report_app.top) drop_app.top
+    with_subcommand (with_subcommand (with_subcommand (with_subcommand (with_subcommand (with_subcommand (with_subcommand (with_subcommand (with_subcommand (with_subcommand (with_subcommand bare_app isin_app.top) read_app.top) play_app.top) check_app.top) explain_app.top) serve_app.top) holdings_app.top)
+    sums_app.top) report_app.top) journal_app.top) drop_app.top
 
 -- a numeral of a number; a plus and zeros may stand before it
 abbrev pub IsNumberText : ℕ → List ℕ → Type 0
@@ -283,7 +311,12 @@ abbrev pub IsTopic : Topic → Option (List ℕ) → Option (List ℕ) → Type 
 IsTopic Catalogue first one = first ≡ None
 IsTopic (Number number) first one = IsSomeAnd one (IsNumberText number)
 
--- what a subcommand's name and matches say, however a type is spelled
+-- the number of the entry to begin with, by the words that were found for it
+abbrev pub IsFrom : Option ℕ → Option (List ℕ) → Option (List ℕ) → Type 0
+IsFrom None first one = first ≡ None
+IsFrom (Some number) first one = IsSomeAnd one (IsNumberText number)
+
+-- what a subcommand's name and matches say, however a type or a number is spelled
 abbrev pub IsSaid : CallValue → List ℕ → List Row → Type 0
 IsSaid (isin code) name rows = (name ≡ codes "isin") × (first_of (codes "code") rows ≡ Some code)
 IsSaid (read mt) name rows = (name ≡ codes "read") × IsSomeAnd (one_of (codes "mt") rows) (IsTypeText mt)
@@ -297,6 +330,8 @@ IsSaid (holdings db bic account) name rows =
 IsSaid (sums db) name rows = (name ≡ codes "sums") × (first_of (codes "db") rows ≡ Some db)
 IsSaid (report db parts format) name rows =
     (name ≡ codes "report") × (first_of (codes "db") rows ≡ db) × ArePartsOf parts (part_words_in rows) × IsFormatOf format (one_of (codes "json") rows)
+IsSaid (journal db from format) name rows =
+    (name ≡ codes "journal") × (first_of (codes "db") rows ≡ db) × IsFrom from (first_of (codes "from") rows) (one_of (codes "from") rows) × IsFormatOf format (one_of (codes "json") rows)
 IsSaid (folder db from to) name rows = (name ≡ codes "drop") × (first_of (codes "db") rows ≡ Some db) × (first_of (codes "in") rows ≡ Some from) × (first_of (codes "out") rows ≡ Some to)
 
 -- what is said where this subcommand was found; with none, to play on a desk in memory

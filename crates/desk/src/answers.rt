@@ -8,6 +8,7 @@ mod play;
 mod read;
 mod reports;
 mod serve;
+mod shown;
 
 pub use check::answer_check;
 pub use drop::answer_drop;
@@ -18,3 +19,4 @@ pub use play::{answer_play, answer_play_on};
 pub use read::answer_read;
 pub use reports::answer_report;
 pub use serve::{answer_serve, answer_serve_on};
+pub use shown::Shown;

@@ -8,8 +8,9 @@ ghost use Rattle.desk.specs.Status.{IsFailureTold, IsNoWordsTold, status_of_erro
 ghost use Rattle.desk.specs.Words.{CallValue, IsAskable, ReadsOnlyInstructions, value_of_call, words_for};
 
 use crate::answers::{
-    answer_check, answer_drop, answer_explain, answer_isin, answer_overview, answer_overview_on,
-    answer_play, answer_play_on, answer_read, answer_report, answer_serve, answer_serve_on,
+    Shown, answer_check, answer_drop, answer_explain, answer_isin, answer_overview,
+    answer_overview_on, answer_play, answer_play_on, answer_read, answer_report, answer_serve,
+    answer_serve_on,
 };
 use crate::status::{Failure, Status, tell_failure};
 use crate::words::{Call, NO_TEXT, call_of};
@@ -88,9 +89,17 @@ fn answer<R: Source, W: Sink>(
         Call::Sums(db) => answer_report(rt, db, None, b"", writer),
         Call::Folder(db, from, to) => answer_drop(rt, db, from, to, writer),
         Call::Report(parts, format) => {
-            answer_overview(rt.alloc(), parts, format, reader, writer)
+            answer_overview(rt.alloc(), Shown::Report(parts), format, reader, writer)
         }
-        Call::ReportOn(db, parts, format) => answer_overview_on(rt, db, parts, format, writer),
+        Call::ReportOn(db, parts, format) => {
+            answer_overview_on(rt, db, Shown::Report(parts), format, writer)
+        }
+        Call::Journal(from, format) => {
+            answer_overview(rt.alloc(), Shown::Journal(from), format, reader, writer)
+        }
+        Call::JournalOn(db, from, format) => {
+            answer_overview_on(rt, db, Shown::Journal(from), format, writer)
+        }
     }
 }
 

@@ -1,4 +1,4 @@
-//! `desk report`.
+//! `desk report` and `desk journal`.
 ghost use Rattle.std.specs.Prelude.{◌≡◌, true, false, Err, IfErr, IfOk, OnErr};
 ghost use Rattle.std.specs.Io.KnownBytes.{Appends};
 ghost use Rattle.desk_rules.specs.Books.{Books};
@@ -8,6 +8,7 @@ ghost use Rattle.desk_index.specs.IndexView.{view_of_index};
 ghost use Rattle.desk_opening.specs.Opened.{IsReadyFor, view_of_both};
 ghost use Rattle.desk.specs.OverviewAnswer.{IsAfterScript, IsBrokenOffAs, IsFileOverviewAnswer, IsOverviewAnswer, IsOverviewEnd, IsOverviewFrom, MayPlayNone, failure_of_played, line_end};
 
+use crate::answers::shown::{Shown, write_shown};
 use crate::status::{Failure, Status, tell_failure};
 use crate::store::{close, connection_of, ended, open_there};
 use crate::teller::Teller;
@@ -17,7 +18,6 @@ use desk_index::IndexedRegister;
 use desk_mirror::MirroredRegister;
 use desk_msg::SinkFault;
 use desk_register::Register;
-use desk_report::{Parts, write_report};
 use desk_rules::MOST_ENTRIES;
 use desk_streams::{Sink, Source};
 use report_rows::Format;
@@ -27,21 +27,21 @@ use std::alloc::Global;
 use std::io;
 use std::rt::HostRuntime;
 
-/// Plays a script from the reader on a new desk in memory, and prints what stands then: the parts of the report that are asked
-/// for. `fault 60` tells that memory is wanting for the script, or, behind what was printed, for a row; `fault io` that the reader
-/// failed or the script is too long. Where the writer failed nothing more is written.
+/// Plays a script from the reader on a new desk in memory, and prints what is to be shown of it then. `fault 60` tells that memory
+/// is wanting for the script, or, behind what was printed, for a row; `fault io` that the reader failed or the script is too long.
+/// Where the writer failed nothing more is written.
 pub fn answer_overview<R: Source, W: Sink>(
     alloc: Global,
-    parts: Parts,
+    shown: Shown,
     format: Format,
     reader: &mut R,
     writer: &mut W,
 ) -> io::Result<Status>
-    ensures told { IfOk result (λ status. IsOverviewAnswer parts format (R.remaining reader.old) (reader.new ≡ reader.old) R.may_fail status (Appends (W.contents writer.old) (W.contents writer.new))) }
+    ensures told { IfOk result (λ status. IsOverviewAnswer shown format (R.remaining reader.old) (reader.new ≡ reader.old) R.may_fail status (Appends (W.contents writer.old) (W.contents writer.new))) }
     ensures failed { OnErr result (W.may_fail ≡ true) }
 {
     match register_after(alloc, reader) {
-        Ok(mut register) => tell_overview(alloc, &mut register, parts, format, writer),
+        Ok(mut register) => tell_overview(alloc, &mut register, shown, format, writer),
         Err(failure) => tell_failure(failure, writer),
     }
 }
@@ -76,21 +76,21 @@ fn failure_of(fault: PlayFault) -> Failure
     }
 }
 
-/// Prints what stands by the desk of a file, which is there, and closes it. What is told is as in `answer_overview`; a file that is
+/// Prints what is to be shown of the desk of a file, which is there, and closes it. What is told is as in `answer_overview`; a file that is
 /// not opened, or not closed, is its fault.
 pub fn answer_overview_on<W: Sink>(
     rt: &HostRuntime,
     path: &str,
-    parts: Parts,
+    shown: Shown,
     format: Format,
     writer: &mut W,
 ) -> io::Result<Status>
-    ensures told { IfOk result (λ status. IsFileOverviewAnswer parts format status (Appends (W.contents writer.old) (W.contents writer.new))) }
+    ensures told { IfOk result (λ status. IsFileOverviewAnswer shown format status (Appends (W.contents writer.old) (W.contents writer.new))) }
     ensures failed { OnErr result (W.may_fail ≡ true) }
 {
     match open_there(rt, path) {
         Ok(both) => {
-            let (told, conn) = overview_on_both(rt.alloc(), both, parts, format, writer);
+            let (told, conn) = overview_on_both(rt.alloc(), both, shown, format, writer);
             ended(&Teller::new(rt, path), told, close(rt, path, conn), writer)
         }
         Err(failure) => tell_failure(failure, writer),
@@ -101,38 +101,38 @@ pub fn answer_overview_on<W: Sink>(
 fn overview_on_both<S: Alter + Drop, W: Sink>(
     alloc: Global,
     both: MirroredRegister<IndexedRegister, SqlRegister<S>>,
-    parts: Parts,
+    shown: Shown,
     format: Format,
     writer: &mut W,
 ) -> (io::Result<Status>, Connection<S>)
     requires { IsReadyFor MOST_ENTRIES (view_of_both both) }
     ensures told { (books : Books) → KeepsFormed MOST_ENTRIES books (view_of_both both).content
-        → IfOk result.0 (λ status. IsOverviewFrom format parts books status (Appends (W.contents writer.old) (W.contents writer.new))) }
+        → IfOk result.0 (λ status. IsOverviewFrom format shown books status (Appends (W.contents writer.old) (W.contents writer.new))) }
     ensures failed { OnErr result.0 (W.may_fail ≡ true) }
 {
     let mut both = both;
-    let told = tell_overview(alloc, &mut both, parts, format, writer);
+    let told = tell_overview(alloc, &mut both, shown, format, writer);
     (told, connection_of(both))
 }
 
-/// Prints what stands by a register.
+/// Prints what is to be shown of the desk of a register.
 fn tell_overview<D: Register, W: Sink>(
     alloc: Global,
     register: &mut D,
-    parts: Parts,
+    shown: Shown,
     format: Format,
     writer: &mut W,
 ) -> io::Result<Status>
     requires ready { IsReady false (D.view register.old) }
     ensures told { (books : Books) → (D.view register.new).is_honest → (D.view register.old).room ≡ MOST_ENTRIES → KeepsFormed MOST_ENTRIES books (D.view register.old).content
-        → IfOk result (λ status. IsOverviewFrom format parts books status (Appends (W.contents writer.old) (W.contents writer.new))) }
+        → IfOk result (λ status. IsOverviewFrom format shown books status (Appends (W.contents writer.old) (W.contents writer.new))) }
     ensures failed { OnErr result (W.may_fail ≡ true) }
 {
-    let written = write_report(alloc, register, parts, format, writer);
+    let written = write_shown(alloc, register, shown, format, writer);
     tell_end(written, format, writer)
 }
 
-/// Ends a report that was written, or a front of one, behind which it tells why it ends there.
+/// Ends what was written, or a front of it, behind which it tells why it ends there.
 fn tell_end<W: Sink>(
     written: Result<(), WalkFault>,
     format: Format,
@@ -155,7 +155,7 @@ fn tell_end<W: Sink>(
     }
 }
 
-/// Ends a report in its middle, and tells why.
+/// Ends the line in the middle, and tells why.
 fn break_off<W: Sink>(failure: Failure, format: Format, writer: &mut W) -> io::Result<Status>
     ensures told { IfOk result (λ status. IsBrokenOffAs failure format status (Appends (W.contents writer.old) (W.contents writer.new))) }
     ensures failed { OnErr result (W.may_fail ≡ true) }

@@ -4,7 +4,7 @@ ghost use Rattle.clap.specs.Words.{first_value, found_of, kind_of, one_text, row
 ghost use Rattle.desk_codes.specs.Bic.{IsBic};
 ghost use Rattle.desk_msg.specs.MessageType.{digits_of_type, is_instruction, number_of_type};
 ghost use Rattle.desk_msg.specs.declared.mt.Mt.{Mt};
-ghost use Rattle.desk.specs.Words.{ArePartWords, ArePartsOf, CallValue, IsAskable, IsBicText, IsErrorIn, IsFormatOf, IsNoOptionIn, IsSpelledOut, ReadsOnlyInstructions, IsSaid, IsSaidBy, IsSaidIn, IsNumberText, IsTopic, IsTypeText, is_part_word, is_told, part_words_in, parts_by, report_words, value_of_call, words_for};
+ghost use Rattle.desk.specs.Words.{ArePartWords, ArePartsOf, CallValue, IsAskable, IsBicText, IsErrorIn, IsFormatOf, IsFrom, IsFromSpelledOut, IsNoOptionIn, IsSpelledOut, ReadsOnlyInstructions, IsSaid, IsSaidBy, IsSaidIn, IsNumberText, IsTopic, IsTypeText, is_part_word, is_told, part_words_in, parts_by, report_words, value_of_call, words_for};
 
 use super::helps::NO_PART;
 use super::parser::desk;
@@ -48,6 +48,10 @@ pub enum Call<'a> {
     Report(Parts, Format),
     /// The same, by the desk of a file
     ReportOn(&'a str, Parts, Format),
+    /// The accepted entries from a number on, or all, by a script on a desk in memory, written so
+    Journal(Option<u32>, Format),
+    /// The same, by the desk of a file
+    JournalOn(&'a str, Option<u32>, Format),
     /// The answers to the files of a folder, on the desk of a file: that file, the folder, and the one of the answers
     Folder(&'a str, &'a str, &'a str),
 }
@@ -138,6 +142,7 @@ fn subcommand_call<'a>(name: &str, inner: &ArgMatches<'a>) -> Option<Call<'a>>
         "holdings" => holdings_call(inner),
         "sums" => Some(Call::Sums(inner.get_str("db")?)),
         "report" => report_call(inner),
+        "journal" => journal_call(inner),
         "drop" => folder_call(inner),
         _ => None,
     }
@@ -295,6 +300,33 @@ fn format_in(inner: &ArgMatches) -> Format
     match inner.get_one::<bool>("json") {
         Some(true) => Format::Json,
         _ => Format::Text,
+    }
+}
+
+/// The accepted entries, by the desk of the file that is named, if one is.
+fn journal_call<'a>(inner: &ArgMatches<'a>) -> Option<Call<'a>>
+    ensures readable { IfSome result ReadsOnlyInstructions }
+    ensures said { IfSome result (λ call. IsSaid (value_of_call call) (codes "journal") (rows_of (found_of inner.now))) }
+    ensures asked { (asked : CallValue) → IsSpelledOut asked (codes "journal") (rows_of (found_of inner.now))
+        → IsSomeAnd result (λ call. value_of_call call ≡ asked) }
+{
+    let from = from_in(inner)?;
+    let format = format_in(inner);
+    match inner.get_str("db") {
+        Some(db) => Some(Call::JournalOn(db, from, format)),
+        None => Some(Call::Journal(from, format)),
+    }
+}
+
+/// The number of the entry to begin with, if one is given.
+fn from_in(inner: &ArgMatches) -> Option<Option<u32>>
+    ensures said { IfSome result (λ from. IsFrom from (first_value (found_of inner.now) (codes "from")) (one_text (found_of inner.now) (codes "from"))) }
+    ensures asked { (from : Option ℕ) → IsFromSpelledOut from (first_value (found_of inner.now) (codes "from")) (one_text (found_of inner.now) (codes "from"))
+        → IsSomeAnd result (λ found. found ≡ from) }
+{
+    match inner.get_str("from") {
+        None => Some(None),
+        Some(_) => Some(Some(inner.get_one::<u32>("from")?)),
     }
 }
 

@@ -144,6 +144,28 @@ printed, and what stands at its end is told.
 Example:
   ./desk report pending --db day.db";
 
+/// Of `desk journal`
+pub const JOURNAL: &str = "\
+The accepted entries in order of their numbers, a line each: the number, who sent it (`operator`, or the BIC),
+its reference, what it was, and how it fares by now:
+  booked          what the operator asked for is done
+  unmatched       no other instruction matches it
+  matched with N  the entry N matches it, and the two are not settled. FUTU: no run has tried the pair; LACK: the
+                  last run that tried it found too little of the security; MONY: too little cash
+  settled         on which day, in which run's entry, and with which entry
+  cancelled       it will not be settled
+Of a cancellation it tells whether its instruction is cancelled, waits for the other side, or was settled,
+and of a run how many pairs it settled and how many due ones it left. Behind an entry stands a line for each
+message that was sent because of it: its type, its addressee, and its number there, as `sent BIC K` of a
+script asks for it. With --json it is one JSON object on a line, with an array `journal` of rows; an amount is
+in minor units of its currency.
+Nothing is changed. With --db it is the desk of that file; where there is no file none is made, and it is
+`fault 61`. Without --db a script from standard input is played on a desk in memory; its answers are not
+printed, and the entries at its end are told.
+
+Example:
+  ./desk journal --from 5 --db day.db";
+
 /// Of `desk drop`
 pub const DROP: &str = "\
 Each file of the folder DIR of --in asks what its name says, in order of the bytes of the names:

@@ -2,16 +2,20 @@
 ghost use Rattle.std.specs.Prelude.{◌≡◌, false, IfOk};
 ghost use Rattle.clap.specs.Words.{app_of, rule_of};
 ghost use Rattle.clap.specs.declared.builder.command.Command.TheViews.{out-Command};
-ghost use Rattle.desk.specs.Words.{account_rule, bare_app, bic_rule, check_app, count_rule, db_rule, desk_app, drop_app, explain_app, holdings_app, in_rule, isin_app, json_rule, needed_db_rule, out_rule, part_rule, play_app, port_rule, read_app, report_app, serve_app, sums_app};
+ghost use Rattle.desk.specs.Words.{account_rule, bare_app, bic_rule, check_app, count_rule, db_rule, desk_app, drop_app, explain_app, from_rule, holdings_app, in_rule, isin_app, journal_app, json_rule, needed_db_rule, out_rule, part_rule, play_app, port_rule, read_app, report_app, serve_app, sums_app};
 
 use super::helps::{
-    CHECK, DROP, EXPLAIN, HOLDINGS, ISIN, PLAY, PROGRAM, READ, REPORT, SERVE, SUMS, VERSION,
+    CHECK, DROP, EXPLAIN, HOLDINGS, ISIN, JOURNAL, PLAY, PROGRAM, READ, REPORT, SERVE, SUMS,
+    VERSION,
 };
 use clap::{Arg, ArgAction, Command, value_parser};
 use std::alloc::{AllocError, Global};
 
 /// The most connections that are served.
 const MOST_CONNECTIONS: i64 = 1_000_000;
+
+/// The greatest number that an entry can have.
+const MOST_ENTRIES_TOLD: i64 = 999_999_999;
 
 /// The program with its subcommands.
 pub fn desk<'a>(alloc: Global) -> Result<Command<'a>, AllocError>
@@ -27,6 +31,7 @@ pub fn desk<'a>(alloc: Global) -> Result<Command<'a>, AllocError>
         .subcommand(holdings(alloc)?)?
         .subcommand(sums(alloc)?)?
         .subcommand(report(alloc)?)?
+        .subcommand(journal(alloc)?)?
         .subcommand(folder(alloc)?)
 }
 
@@ -159,6 +164,20 @@ fn report<'a>(alloc: Global) -> Result<Command<'a>, AllocError>
         .arg(shown_db(alloc))
 }
 
+fn journal<'a>(alloc: Global) -> Result<Command<'a>, AllocError>
+    ensures app { IfOk result (λ command. app_of command ≡ journal_app) }
+    ensures local { IfOk result (λ command. (out-Command command).has_globals ≡ false) }
+{
+    Command::new(alloc, "journal")
+        .about(
+            "Tells what was accepted, entry by entry, and how it fares, by the desk of a file, or by a script from standard input",
+        )
+        .after_help(JOURNAL)
+        .arg(from(alloc))?
+        .arg(json(alloc))?
+        .arg(shown_db(alloc))
+}
+
 fn folder<'a>(alloc: Global) -> Result<Command<'a>, AllocError>
     ensures app { IfOk result (λ command. app_of command ≡ drop_app) }
     ensures local { IfOk result (λ command. (out-Command command).has_globals ≡ false) }
@@ -210,6 +229,17 @@ fn json<'a>(alloc: Global) -> Arg<'a>
         .long("json")
         .help("As JSON, and not as text")
         .action(ArgAction::SetTrue)
+}
+
+fn from<'a>(alloc: Global) -> Arg<'a>
+    ensures rule { rule_of result ≡ from_rule }
+    ensures local { result.global ≡ false }
+{
+    Arg::new(alloc, "from")
+        .long("from")
+        .value_name("N")
+        .help("The number of the entry to begin with; without it the first")
+        .value_parser(value_parser!(u32).range(1..=MOST_ENTRIES_TOLD))
 }
 
 fn needed_db<'a>(alloc: Global) -> Arg<'a>

@@ -5,7 +5,8 @@ use Rattle.desk.specs.DropAnswer.{IsDropAnswer}
 use Rattle.desk.specs.ExplainAnswer.{IsExplainAnswer}
 use Rattle.desk.specs.OverviewAnswer.{IsFileOverviewAnswer}
 use Rattle.desk.specs.ReportAnswer.{IsReportAnswer, asked_for}
-use Rattle.desk.specs.Words.{explain, folder, holdings, report, sums}
+use Rattle.desk.specs.Words.{explain, folder, holdings, journal, report, sums}
+use Rattle.desk.specs.declared.answers.shown.Shown.TheVariants as shown
 use Rattle.desk.specs.declared.words.calls.Call.TheVariants as call
 use Rattle.desk.proofs.run.answer.Goals as goal
 
@@ -60,5 +61,19 @@ returns-in-ReportOn-clause-told g c =
     let parts = c.in-ReportOn.parts in
     let format = c.in-ReportOn.format in
     told_of c.answer_overview_on.result (g.R.Read.remaining c.args.reader.now) _ g.R.Source.may_fail P c.args.call (call.ReportOn c.in-ReportOn.db parts format) c.in-ReportOn.is
-    (told_unread c.answer_overview_on.result (g.R.Read.remaining c.args.reader.now) _ g.R.Source.may_fail P (report (Some c.in-ReportOn.db.now) parts format) (λ status. IsFileOverviewAnswer parts format status P) refl c.answer_overview_on.ensures.told
+    (told_unread c.answer_overview_on.result (g.R.Read.remaining c.args.reader.now) _ g.R.Source.may_fail P (report (Some c.in-ReportOn.db.now) parts format) (λ status. IsFileOverviewAnswer (shown.Report parts) format status P) refl c.answer_overview_on.ensures.told
+    (λ status unread t. (unread, t)))
+
+pub returns-in-Journal-clause-told : goal.returns-in-Journal-clause-told
+returns-in-Journal-clause-told g c =
+    told_of c.answer_overview-in-Journal.result (g.R.Read.remaining c.args.reader.now) _ g.R.Source.may_fail (Appends (g.W.Write.contents c.args.writer.now) (g.W.Write.contents c.answer_overview-in-Journal.new.writer)) c.args.call (call.Journal c.in-Journal.from c.in-Journal.format) c.in-Journal.is
+    c.answer_overview-in-Journal.ensures.told
+
+pub returns-in-JournalOn-clause-told : goal.returns-in-JournalOn-clause-told
+returns-in-JournalOn-clause-told g c =
+    let P = (Appends (g.W.Write.contents c.args.writer.now) (g.W.Write.contents c.answer_overview_on-in-JournalOn.new.writer)) in
+    let from = c.in-JournalOn.from in
+    let format = c.in-JournalOn.format in
+    told_of c.answer_overview_on-in-JournalOn.result (g.R.Read.remaining c.args.reader.now) _ g.R.Source.may_fail P c.args.call (call.JournalOn c.in-JournalOn.db from format) c.in-JournalOn.is
+    (told_unread c.answer_overview_on-in-JournalOn.result (g.R.Read.remaining c.args.reader.now) _ g.R.Source.may_fail P (journal (Some c.in-JournalOn.db.now) from format) (λ status. IsFileOverviewAnswer (shown.Journal from) format status P) refl c.answer_overview_on-in-JournalOn.ensures.told
     (λ status unread t. (unread, t)))

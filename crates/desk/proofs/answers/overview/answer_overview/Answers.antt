@@ -6,9 +6,9 @@ use Rattle.desk.proofs.answers.overview.answer_overview.Goals as goal
 pub returns-in-Ok-clause-told : goal.returns-in-Ok-clause-told
 returns-in-Ok-clause-told g c =
     let after = c.in-Ok.ensures.after in
-    told_of_script c.tell_overview.result c.args.parts c.args.format (g.R.Read.remaining c.args.reader.now) _ g.R.Source.may_fail (Appends (g.W.Write.contents c.args.writer.now) (g.W.Write.contents c.tell_overview.new.writer)) (view_of_index c.in-Ok.register) after
+    told_of_script c.tell_overview.result c.args.shown c.args.format (g.R.Read.remaining c.args.reader.now) _ g.R.Source.may_fail (Appends (g.W.Write.contents c.args.writer.now) (g.W.Write.contents c.tell_overview.new.writer)) (view_of_index c.in-Ok.register) after
     (c.tell_overview.ensures.told after.books tt after.room after.keeps)
 
 pub returns-in-Err-clause-told : goal.returns-in-Err-clause-told
 returns-in-Err-clause-told g c =
-    told_none c.tell_failure.result c.in-Err.failure c.args.parts c.args.format (g.R.Read.remaining c.args.reader.now) _ g.R.Source.may_fail (Appends (g.W.Write.contents c.args.writer.now) (g.W.Write.contents c.tell_failure.new.writer)) c.in-Err.ensures.none c.tell_failure.ensures.told
+    told_none c.tell_failure.result c.in-Err.failure c.args.shown c.args.format (g.R.Read.remaining c.args.reader.now) _ g.R.Source.may_fail (Appends (g.W.Write.contents c.args.writer.now) (g.W.Write.contents c.tell_failure.new.writer)) c.in-Err.ensures.none c.tell_failure.ensures.told

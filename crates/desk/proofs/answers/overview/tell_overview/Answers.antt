@@ -7,8 +7,8 @@ pub returns-clause-told : goal.returns-clause-told
 returns-clause-told g c = λ books honest most keeps.
     let contents = g.W.Write.contents in
     let v0 = g.D.Register.view c.args.register.now in
-    let w = c.write_report-written.ensures in
+    let w = c.write_shown-written.ensures in
     let sure = c.requires.ready.sure refl (w.read.later.honest honest) in
     let in_room : Keeps v0.room books v0.content = subst (λ (k : ℕ). Keeps k books v0.content) (sym most) keeps.tables in
-    told_overview (contents c.args.writer.now) (contents c.write_report-written.new.writer) (contents c.tell_end.new.writer) c.args.parts books v0.content keeps.tables c.tell_end.result c.args.format c.write_report-written.result
+    told_overview (contents c.args.writer.now) (contents c.write_shown-written.new.writer) (contents c.tell_end.new.writer) c.args.shown books v0.content keeps.tables c.tell_end.result c.args.format c.write_shown-written.result
     (λ is. w.written is books honest sure in_room) c.tell_end.ensures.told

@@ -66,6 +66,12 @@ returns-in-report-clause-said c = subst (λ n. IfSome c.report_call.result (λ c
 pub returns-in-report-clause-asked : goal.returns-in-report-clause-asked
 returns-in-report-clause-asked c = λ asked named. c.report_call.ensures.asked asked (subst (λ n. IsSpelledOut asked n (rows_of (found_of c.args.inner.now))) c.in-report.is named)
 
+pub returns-in-journal-clause-said : goal.returns-in-journal-clause-said
+returns-in-journal-clause-said c = subst (λ n. IfSome c.journal_call.result (λ call. IsSaid (value_of_call call) n (rows_of (found_of c.args.inner.now)))) (sym c.in-journal.is) c.journal_call.ensures.said
+
+pub returns-in-journal-clause-asked : goal.returns-in-journal-clause-asked
+returns-in-journal-clause-asked c = λ asked named. c.journal_call.ensures.asked asked (subst (λ n. IsSpelledOut asked n (rows_of (found_of c.args.inner.now))) c.in-journal.is named)
+
 pub returns-in-drop-clause-said : goal.returns-in-drop-clause-said
 returns-in-drop-clause-said c = subst (λ n. IfSome c.folder_call.result (λ call. IsSaid (value_of_call call) n (rows_of (found_of c.args.inner.now)))) (sym c.in-drop.is) c.folder_call.ensures.said
 

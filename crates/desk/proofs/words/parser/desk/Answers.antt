@@ -1,7 +1,7 @@
 use Rattle.std.proofs.Common.{◌≡◌, ◌∙◌, ap, ap₂}
 use Rattle.std.proofs.lemmas.Result.{IfOk-weaker}
 use Rattle.clap.specs.Words.{App, app_of, with_subcommand}
-use Rattle.desk.specs.Words.{bare_app, check_app, explain_app, holdings_app, isin_app, play_app, read_app, report_app, serve_app, sums_app}
+use Rattle.desk.specs.Words.{bare_app, check_app, explain_app, holdings_app, isin_app, journal_app, play_app, read_app, report_app, serve_app, sums_app}
 use Rattle.desk.proofs.words.parser.desk.Goals as goal
 
 pub returns : goal.returns
@@ -25,4 +25,6 @@ returns c =
     c.in_ok-subcommand-8.ensures.shape c.in_ok-sums.ensures.local ∙ ap₂ with_subcommand seventh (ap (λ (a : App). a.top) c.in_ok-sums.ensures.app) in
     let ninth : app_of c.in_ok-subcommand-9.field-0 ≡ with_subcommand (with_subcommand (with_subcommand (with_subcommand (with_subcommand (with_subcommand (with_subcommand (with_subcommand (with_subcommand bare_app isin_app.top) read_app.top) play_app.top) check_app.top) explain_app.top) serve_app.top) holdings_app.top) sums_app.top) report_app.top =
     c.in_ok-subcommand-9.ensures.shape c.in_ok-report.ensures.local ∙ ap₂ with_subcommand eighth (ap (λ (a : App). a.top) c.in_ok-report.ensures.app) in
-    IfOk-weaker c.subcommand-10.result _ _ (λ command added. added.shape c.in_ok-folder.ensures.local ∙ ap₂ with_subcommand ninth (ap (λ (a : App). a.top) c.in_ok-folder.ensures.app)) c.subcommand-10.ensures
+    let tenth : app_of c.in_ok-subcommand-10.field-0 ≡ with_subcommand (with_subcommand (with_subcommand (with_subcommand (with_subcommand (with_subcommand (with_subcommand (with_subcommand (with_subcommand (with_subcommand bare_app isin_app.top) read_app.top) play_app.top) check_app.top) explain_app.top) serve_app.top) holdings_app.top) sums_app.top) report_app.top) journal_app.top =
+    c.in_ok-subcommand-10.ensures.shape c.in_ok-journal.ensures.local ∙ ap₂ with_subcommand ninth (ap (λ (a : App). a.top) c.in_ok-journal.ensures.app) in
+    IfOk-weaker c.subcommand-11.result _ _ (λ command added. added.shape c.in_ok-folder.ensures.local ∙ ap₂ with_subcommand tenth (ap (λ (a : App). a.top) c.in_ok-folder.ensures.app)) c.subcommand-11.ensures
