@@ -88,7 +88,7 @@ Same X r s = r ≡ s
 abbrev IsError : (X : Type 0) → Fault → Fault → Type 0
 IsError X a b = Same X (Err a) (Err b)
 
-error_is : (X : Type 0) (a b : Fault) → IsError X a b → a ≡ b
+pub error_is : (X : Type 0) (a b : Fault) → IsError X a b → a ≡ b
 error_is X a b e = (cc)
 
 -- how a changing call of memory ends is how the register's does

@@ -1,4 +1,5 @@
 pub mod ReadLemmas
 pub mod WaitingLemmas
 pub mod ChangeLemmas
+pub mod ToldLemmas
 pub mod TriedLemmas

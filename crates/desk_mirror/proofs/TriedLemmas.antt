@@ -41,10 +41,10 @@ one_trial old n a b x y p q =
     one_side old n q.mate q.earlier q.later a b x y (subst (λ i. TriesSides old n q.mate q.earlier i a x) laters (subst (λ i. TriesSides old n q.mate i p.later a x) earliers (subst (λ k. TriesSides old n k p.earlier p.later a x) mates p.ends))) q.ends
 
 -- both make the same of the same
-pub both_try : (n : ℕ) (result told : Result Outcome Fault) (y : Outcome) (m m' t t' : View) → HasNoDevice m → HasNoDevice m'
-    → IfTrusted m m' (IfOk result (λ outcome. TriesPair m.content n outcome m'.content)) → told ≡ Ok y → IfTrusted t t' (IfOk told (λ outcome. TriesPair t.content n outcome t'.content))
+pub both_follow : (n : ℕ) (result : Result Outcome Fault) (outcome : Outcome) (told : Result (Unit {0}) Fault) (also : Unit {0}) (m m' t t' : View) → HasNoDevice m → HasNoDevice m' → result ≡ Ok outcome
+    → IfTrusted m m' (IfOk result (λ o. TriesPair m.content n o m'.content)) → told ≡ Ok also → IfTrusted t t' ((made : Content) → TriesPair t.content n outcome made → OnOk told (t'.content ≡ made))
     → OnOk result (t'.is_honest → t.is_sure → m.content ≡ t.content → m'.content ≡ t'.content)
-both_try n (Ok x) (Ok y') y m m' t t' was is memory e tables = λ honest sure equal.
-    (one_trial t.content n x y' m'.content t'.content (subst (λ k. TriesPair k n x m'.content) equal (memory is.honest was.sure)) (tables honest sure)).1
-both_try n (Ok x) (Err fault) y m m' t t' was is memory e tables = absurd (cc)
-both_try n (Err fault) told y m m' t t' was is memory e tables = tt
+both_follow n (Ok x) outcome (Ok tt) also m m' t t' was is is_ok memory e follows = λ honest sure equal.
+    (let same : x ≡ outcome = cc in sym (follows honest sure m'.content (subst (λ o. TriesPair t.content n o m'.content) same (subst (λ k. TriesPair k n x m'.content) equal (memory is.honest was.sure)))))
+both_follow n (Ok x) outcome (Err fault) also m m' t t' was is is_ok memory e follows = absurd (cc)
+both_follow n (Err fault) outcome told also m m' t t' was is is_ok memory e follows = tt

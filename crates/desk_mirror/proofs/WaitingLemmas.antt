@@ -21,7 +21,7 @@ use Rattle.desk_mirror.specs.Mirrored.{AreMirrored, stage_of}
 use Rattle.desk_mirror.specs.Waiting.{BothWait, HasRead, IsInVain}
 use Rattle.desk_mirror.proofs.ChangeLemmas.{begun_at, change_keeps, ok_phase}
 use Rattle.desk_mirror.proofs.ReadLemmas.{stays_at}
-use Rattle.desk_mirror.proofs.TriedLemmas.{both_try}
+use Rattle.desk_mirror.proofs.TriedLemmas.{both_follow}
 
 some_is : {X : Type 0} {x y : X} → Some x ≡ Some y → x ≡ y
 some_is e = (cc)
@@ -54,7 +54,7 @@ ok_tries (Ok o) outcome n old new is tries = (let same : o ≡ outcome = cc in s
 ok_tries (Err fault) outcome n old new is tries = absurd (cc)
 
 -- memory was read
-read_mirrored : (phase : Phase) (m new t : View) → HasNoDevice m → HasNoDevice new → HasRead m new → AreMirrored phase m t → AreMirrored phase new t
+pub read_mirrored : (phase : Phase) (m new t : View) → HasNoDevice m → HasNoDevice new → HasRead m new → AreMirrored phase m t → AreMirrored phase new t
 read_mirrored phase m new t was is read are = record {
   room = read.later.room ∙ are.room;
   at = stays_at phase m new t was is (read.same is.honest was.sure) read.stays are.at;
@@ -82,9 +82,10 @@ module _ (result : Result Outcome Fault) (outcome : Outcome) (reason : Option Re
       } in
       subst (λ p. AreMirrored p new t) (sym (ok_phase result outcome phase phase' k k' is_ok after)) (read_mirrored phase between new t is_between is last are_between)
 
-  -- any other is
-  pub try_keeps : (told : Result Outcome Fault) (also : Outcome) (last : Phase) (j j' : ℕ) (t' : View) → told ≡ Ok also → IfTrusted t t' (IfOk told (λ o. TriesPair t.content n o t'.content)) → IsChange told t t' → IsAfter told phase' last j j' → AreMirrored last new t'
-  try_keeps told also last j j' t' told_is told_tries told_change told_after =
+  -- any other is made of them too
+  pub try_keeps : (told : Result (Unit {0}) Fault) (also : Unit {0}) (last : Phase) (j j' : ℕ) (t' : View) → told ≡ Ok also → IfTrusted t t' ((made : Content) → TriesPair t.content n outcome made → OnOk told (t'.content ≡ made)) → IsChange told t t' → IsAfter told phase' last j j'
+      → AreMirrored last new t'
+  try_keeps told also last j j' t' told_is follows told_change told_after =
       subst (λ p. AreMirrored p new t') (sym (ok_phase told also phase' last j j' told_is told_after))
       (change_keeps result phase phase' k k' between new t t' is_between is are_between started told_change.later (ok_stays told also t t' told_is told_change.ok) change
-      (both_try n result told also between new t t' is_between is tries told_is told_tries) after)
+      (both_follow n result outcome told also between new t t' is_between is is_ok tries told_is follows) after)

@@ -1,4 +1,5 @@
 pub mod Both
 pub mod Course
 pub mod Mirrored
+pub mod Told
 pub mod Waiting

@@ -3,6 +3,7 @@
 use crate::copies::copy_of;
 use crate::course::Phase;
 use crate::mirrored_register::MirroredRegister;
+use crate::told::{ToldRegister, follow, known_pair};
 use crate::waiting::{is_in_vain, reason_of_pair};
 use desk_codes::{AccountId, Bic, Ccy, Day, Isin, Reference};
 use desk_msg::{Instruction, Kind};
@@ -10,7 +11,7 @@ use desk_register::{Fault, Holding, MemoryRegister, Outcome, Register};
 use desk_rules::{Entry, Place, Reply, Sender, Sent, Standing};
 use std::alloc::Global;
 
-impl<M: MemoryRegister, S: Register + Drop> Register for MirroredRegister<M, S> {
+impl<M: MemoryRegister, S: ToldRegister + Drop> Register for MirroredRegister<M, S> {
     ghost use Rattle.std.specs.Prelude.{false};
     ghost use Rattle.desk_mirror.specs.Both.{shown};
 
@@ -190,6 +191,7 @@ impl<M: MemoryRegister, S: Register + Drop> Register for MirroredRegister<M, S> 
     }
 
     fn settle_pair(&mut self, alloc: Global, number: u64, day: Day) -> Result<Outcome, Fault> {
+        let known = known_pair(alloc, &mut self.memory, number);
         let reason = reason_of_pair(alloc, &mut self.memory, number);
         let outcome = self
             .course
@@ -197,8 +199,8 @@ impl<M: MemoryRegister, S: Register + Drop> Register for MirroredRegister<M, S> 
         if is_in_vain(reason, outcome) {
             return Ok(outcome);
         }
-        self.course
-            .after(self.tables.settle_pair(alloc, number, day))?;
+        let followed = follow(alloc, &mut self.tables, known, number, day, outcome);
+        self.course.after(followed)?;
         Ok(outcome)
     }
 

@@ -10,6 +10,8 @@ mod calls;
 mod copies;
 mod course;
 mod mirrored_register;
+mod told;
 mod waiting;
 
 pub use mirrored_register::MirroredRegister;
+pub use told::{KnownPair, ToldRegister};

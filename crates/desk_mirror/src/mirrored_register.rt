@@ -7,6 +7,7 @@ ghost use Rattle.desk_mirror.specs.Both.{HasSame, shown};
 ghost use Rattle.desk_mirror.specs.Mirrored.{HasSameMark};
 
 use crate::course::{Course, Phase};
+use crate::told::ToldRegister;
 use desk_register::{MemoryRegister, Register};
 use std::alloc::Global;
 use std::marker::Model;
@@ -14,13 +15,13 @@ use std::marker::Model;
 /// A register that is two: memory answers what is asked, and what is changed is changed in the tables, then in memory.
 /// Contracts see it as `shown` of specs/Both.antt.
 #[derive(Drop)]
-pub struct MirroredRegister<M: MemoryRegister, S: Register + Drop> {
+pub struct MirroredRegister<M: MemoryRegister, S: ToldRegister + Drop> {
     pub(crate) memory: M,
     pub(crate) tables: S,
     pub(crate) course: Course,
 }
 
-impl<M: MemoryRegister, S: Register + Drop> Model for MirroredRegister<M, S> {
+impl<M: MemoryRegister, S: ToldRegister + Drop> Model for MirroredRegister<M, S> {
     ghost use Rattle.desk_mirror.specs.Both.{Both, both_code};
     ghost use Rattle.desk_mirror.specs.Mirrored.{AreMirrored, stage_of};
 
@@ -33,7 +34,7 @@ impl<M: MemoryRegister, S: Register + Drop> Model for MirroredRegister<M, S> {
     ghost invariant = { λ r. AreMirrored r.course.phase (M.view r.memory) (S.view r.tables) };
 }
 
-impl<M: MemoryRegister, S: Register + Drop> MirroredRegister<M, S> {
+impl<M: MemoryRegister, S: ToldRegister + Drop> MirroredRegister<M, S> {
     /// Tables that hold nothing, and memory beside them.
     pub fn beside_empty(alloc: Global, tables: S) -> MirroredRegister<M, S>
         requires stage { (S.view tables).stage ≡ Idle }

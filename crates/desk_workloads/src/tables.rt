@@ -16,7 +16,7 @@ use crate::memory_file::MemoryFile;
 use crate::size::Size;
 use desk_book::Desk;
 use desk_index::IndexedRegister;
-use desk_mirror::MirroredRegister;
+use desk_mirror::{MirroredRegister, ToldRegister};
 use desk_register::Register;
 use desk_rules::MOST_ENTRIES;
 use sql_register::SqlRegister;
@@ -85,7 +85,7 @@ fn play_on<S: Alter + Drop>(
 }
 
 /// Plays it over tables that hold nothing, with a register in memory beside them.
-fn play_over_both<T: Register + Drop>(
+fn play_over_both<T: ToldRegister + Drop>(
     alloc: Global,
     tables: T,
     day: &mut Day,

@@ -191,7 +191,7 @@ module _ (old s2 new : Database) (m n : ℕ) (earlier later : Instructed) (desk 
 
 -- ---- a matched pair is cancelled
 
-cancellable : (before : Content) (m n : ℕ) (can : CanCancelPair before m n) → IsMatchedAt before m n can.earlier can.later
+pub cancellable : (before : Content) (m n : ℕ) (can : CanCancelPair before m n) → IsMatchedAt before m n can.earlier can.later
 cancellable before m n can = record {
   two = can.two;
   pair = can.pair;

@@ -1,13 +1,17 @@
--- The calls that pair two instructions, and cancel a pair, statement by statement.
-use Rattle.std.proofs.Common.{◌≡◌, inr, sym, ap, subst, ◌∙◌, ℕ, List, Some, unwrap_or, true, false, Result, Ok, Err, OnOk, arith}
+-- The calls that pair two instructions, cancel a pair, and let one wait, statement by statement.
+use Rattle.std.proofs.Common.{◌≡◌, inr, refl, sym, ap, subst, ◌∙◌, ℕ, List, Some, unwrap_or, true, false, Result, Ok, Err, OnOk, arith}
 use Rattle.sqlite.specs.Effect.{Database}
 use Rattle.sqlite.specs.State.{State}
 use Rattle.sqlite.specs.declared.error.Error.{Error}
 use Rattle.desk_codes.specs.Number.{number_of}
-use Rattle.desk_msg.specs.declared.writing.status.Reason.TheVariants.{Future}
+use Rattle.desk_mirror.specs.Told.{waiting}
+use Rattle.desk_msg.specs.declared.writing.status.Reason.TheVariants.{Future, Lack as LackOfUnits, Money as LackOfMoney}
 use Rattle.desk_register.specs.Changes.{CanCancelPair, CanPair, pair_cancelled, paired}
+use Rattle.desk_register.specs.declared.outcome.Outcome.TheVariants.{Lacks}
 use Rattle.desk_rules.specs.Content.{Content, history_of}
 use Rattle.desk_rules.specs.declared.history.entry.Instructed.{Instructed}
+use Rattle.desk_rules.specs.declared.history.pair.Lack.{Lack}
+use Rattle.desk_rules.specs.declared.history.pair.Lack.TheVariants.{Money, Securities}
 use Rattle.desk_rules.specs.declared.history.standing.State as stands
 use Rattle.desk_rules.specs.declared.history.standing.State.TheVariants.{Cancelled, Matched}
 use Rattle.desk_rules.specs.History.{instruction_at}
@@ -17,9 +21,10 @@ use Rattle.sql_tables.specs.Ends.{Stays}
 use Rattle.sql_register.specs.Content.{content_in}
 use Rattle.sql_register.specs.Holds.{Becomes, IsDesk}
 use Rattle.sql_register.specs.Pairs.{ForgetsBoth, IsItsDay, StandBoth}
+use Rattle.sql_register.specs.Settling.{state_then}
 use Rattle.sql_register.proofs.FrameLemmas.{due_spared}
 use Rattle.sql_register.proofs.BothContent.{pairs}
-use Rattle.sql_register.proofs.EndedContent.{drops_pair}
+use Rattle.sql_register.proofs.EndedContent.{cancellable, drops_pair, waits_pair}
 
 -- the instruction of a number is one
 its_day : (content : Content) (n : ℕ) (day : List ℕ) (i : Instructed) → instruction_at (history_of content) n ≡ Some i → IsItsDay content n day → day ≡ i.instruction.day
@@ -50,3 +55,11 @@ cancel_call old mid s2 s2' new m n day (Ok tt) same desk can its stood stays not
     drops_pair old s2 new.now m n desk can stays.schema (stood_from old mid s2 m n Cancelled same stood)
     (subst (λ d. DueChanged s2 new.now (due_at (is_due_in s2) (record { day = number_of d; number = n }) false)) (its_day (content_in old) n day can.later can.pair.is_later its) noted)
 cancel_call old mid s2 s2' new m n day (Err e) same desk can its stood stays noted = tt
+
+pub wait_call : (old : Database) (old' new : State) (m n : ℕ) (lack : Lack) (r : Result (Unit {0}) Error) → IsDesk old → CanCancelPair (content_in old) m n → OnOk r (Stays old' new) → OnOk r (StandBoth old new.now m n (state_then (Lacks lack)))
+    → OnOk r (Becomes new.now (waiting m n lack (content_in old)))
+wait_call old old' new m n Securities (Ok tt) desk can stays stood =
+    waits_pair old new.now new.now m n can.earlier can.later desk (cancellable (content_in old) m n can) (state_then (Lacks Securities)) (λ o. refl) stays.schema stood LackOfUnits refl refl
+wait_call old old' new m n Money (Ok tt) desk can stays stood =
+    waits_pair old new.now new.now m n can.earlier can.later desk (cancellable (content_in old) m n can) (state_then (Lacks Money)) (λ o. refl) stays.schema stood LackOfMoney refl refl
+wait_call old old' new m n lack (Err e) desk can stays stood = tt

@@ -95,11 +95,11 @@ release_trial {X = X} {Y = Y} x r a b c p does fell why opened later = record {
     says (Ok y) h m inside = tt
     says (Err e) h m inside = why_later a b c e p.later later (m.mode ∙ sym inside) h
 
-marked_after : (a b c : State) → IsSame a b → IsMarked b c → IsMarked a c
-marked_after a b c same m = record { is_open = m.is_open; schema = m.schema; mode = m.mode; marks = m.marks ∙ ap (λ d. mark_at d ∷ []) same.now; committed = m.committed ∙ same.committed }
+stays_after : (a b c : State) → IsSame a b → Stays b c → Stays a c
+stays_after a b c same s = record { is_open = s.is_open; schema = s.schema; mode = s.mode ∙ same.mode; marks = s.marks ∙ same.marks; committed = λ i. s.committed (same.mode ∙ i) ∙ same.committed }
 
 -- before it something was looked up
-pub look_trial : {X Y : Type 0} (x : X) (r : Result Y Error) (a b c : State) → IsLook (Ok x) a b → IsTrial r b c (IsMarked b c) → IsTrial r a c (IsMarked a c)
+pub look_trial : {X Y : Type 0} (x : X) (r : Result Y Error) (a b c : State) → IsLook (Ok x) a b → IsTrial r b c (Stays b c) → IsTrial r a c (Stays a c)
 look_trial {X = X} {Y = Y} x r a b c p q = record {
   ok = λ clean is_open has inside none. (let m = mid clean is_open has in onward r (q.ok clean m.is_open (schema m has) (m.mode ∙ inside) (m.marks ∙ none)) m);
   err = λ clean is_open has inside none. (let m = mid clean is_open has in back r (q.err clean m.is_open (schema m has) (m.mode ∙ inside) (m.marks ∙ none)) m);
@@ -117,8 +117,8 @@ look_trial {X = X} {Y = Y} x r a b c p q = record {
     schema : IsSame a b → a.now.schema ≡ desk_schema → b.now.schema ≡ desk_schema
     schema m has = ap (λ d. d.schema) m.now ∙ has
 
-    onward : (r : Result Y Error) → OnOk r (IsMarked b c) → IsSame a b → OnOk r (IsMarked a c)
-    onward (Ok y) s m = marked_after a b c m s
+    onward : (r : Result Y Error) → OnOk r (Stays b c) → IsSame a b → OnOk r (Stays a c)
+    onward (Ok y) s m = stays_after a b c m s
     onward (Err e) s m = tt
 
     back : (r : Result Y Error) → OnErr r (IsLeft b c ⊎ IsUndone b c) → IsSame a b → OnErr r (IsLeft a c ⊎ IsUndone a c)

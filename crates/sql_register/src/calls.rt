@@ -5,9 +5,10 @@ use crate::sql_register::SqlRegister;
 use crate::undoing::take_back;
 use crate::{appending, cancelling, looking, pairing, sending, settling};
 use desk_codes::{AccountId, Bic, Ccy, Day, Isin, Reference};
+use desk_mirror::{KnownPair, ToldRegister};
 use desk_msg::{Instruction, Kind};
 use desk_register::{Fault, Holding, Outcome, Register, Stage};
-use desk_rules::{Entry, Place, Reply, Sender, Sent, Standing};
+use desk_rules::{Entry, Lack, Place, Reply, Sender, Sent, Standing};
 use sql_entries::{last_run, number_of, reply_at, security_after};
 use sql_sent::{confirmation_of, sent_at};
 use sql_standings::standings::standing;
@@ -220,5 +221,28 @@ impl<S: Alter> Register for SqlRegister<S> {
         let known = self.course.known.messages;
         self.course
             .told_message(sending::send(&mut self.conn, known, &message))
+    }
+}
+
+impl<S: Alter> ToldRegister for SqlRegister<S> {
+    fn wait_for(
+        &mut self,
+        _alloc: Global,
+        earlier: u64,
+        later: u64,
+        lack: Lack,
+    ) -> Result<(), Fault> {
+        self.course
+            .told(settling::wait_for(&mut self.conn, earlier, later, lack))
+    }
+
+    fn settle_told(
+        &mut self,
+        _alloc: Global,
+        pair: &KnownPair,
+        _day: Day,
+    ) -> Result<Outcome, Fault> {
+        self.course
+            .told(settling::settle_told(&mut self.conn, pair))
     }
 }

@@ -1,16 +1,17 @@
 //! A matched pair is tried: it settles, or it lacks something.
-ghost use Rattle.std.specs.Prelude.{◌≡◌, ◌≢◌, ◌+◌, ◌<◌, ◌^◌, [], true, Some, IfOk, OnOk, IsOk};
+ghost use Rattle.std.specs.Prelude.{◌≡◌, ◌≢◌, ℕ, ◌+◌, ◌<◌, ◌^◌, [], true, Some, IfOk, OnOk, IsOk};
 ghost use Rattle.sqlite.specs.Held.{state};
 ghost use Rattle.desk_codes.specs.Number.{number_of};
 ghost use Rattle.sql_tables.specs.Calls.{Looks, Soundly, Writes, tables};
 ghost use Rattle.sql_tables.specs.Ends.{Stays};
 ghost use Rattle.sql_amounts.specs.Amounts.{AreAmounts};
-ghost use Rattle.desk_register.specs.Changes.{CanSettle, FitsCash, IsPairAt, SidesFit, TriesPair, delivering_side, receiving_side};
+ghost use Rattle.desk_register.specs.Changes.{CanCancelPair, CanSettle, FitsCash, IsPairAt, SidesFit, TriesPair, delivering_side, receiving_side};
+ghost use Rattle.desk_mirror.specs.Told.{IsKnownAt, waiting};
 ghost use Rattle.sql_standings.specs.Due.{AreDue};
 ghost use Rattle.sql_standings.specs.Standings.{AreStandings};
 ghost use Rattle.sql_register.specs.Content.{content_in};
 ghost use Rattle.sql_register.specs.Facts.{AreFactsOf};
-ghost use Rattle.sql_register.specs.Holds.{IsDesk};
+ghost use Rattle.sql_register.specs.Holds.{Becomes, IsDesk};
 ghost use Rattle.sql_register.specs.Settling.{state_then, more_held, more_cash, AmountsSo, Closes, Frees, IsMarked, IsTrial, MovesBoth, MovesLegs, TakesCash, TakesHeld};
 
 use crate::facts::Facts;
@@ -18,6 +19,7 @@ use crate::looking::instruction;
 use crate::numbers::in_order;
 use crate::pairing::stand_both;
 use desk_codes::{AccountId, Bic, Day, Isin};
+use desk_mirror::KnownPair;
 use desk_msg::{Cash, Reason};
 use desk_register::Outcome;
 use desk_rules::{Instructed, Lack, State};
@@ -255,9 +257,22 @@ fn close<S: Alter>(
     free(conn, pair.later.instruction.day, pair.number, outcome)
 }
 
-/// Tries the matched pair of a number, due by a day: settles it, and moves its quantity between the accounts and its cash
-/// between the participants, where it is covered, else changes the reason alone. It works in a savepoint of its own, so it
-/// is of a transaction that has none.
+/// Tries a matched pair that was found: settles it, and moves its quantity between the accounts and its cash between the
+/// participants, where it is covered, else changes the reason alone. It works in a savepoint of its own, so it is of a
+/// transaction that has none.
+fn settle_found<S: Alter>(conn: &mut Connection<S>, pair: &FoundPair) -> Result<Outcome, Error>
+    ensures changed { Soundly S.Store conn.old conn.new (IsDesk (tables S.Store conn.old) → (day : ℕ) → CanSettle (content_in (tables S.Store conn.old)) pair.now.number day
+        → IsPairAt (content_in (tables S.Store conn.old)) pair.now.number pair.now.mate pair.now.earlier pair.now.later
+        → (state S.Store conn.old).in_transaction ≡ true → (state S.Store conn.old).marks ≡ [] → IfOk result (λ outcome. IsDesk (tables S.Store conn.new) × TriesPair (content_in (tables S.Store conn.old)) pair.now.number outcome (content_in (tables S.Store conn.new)))) }
+    ensures trial { IsTrial result (state S.Store conn.old) (state S.Store conn.new) (Stays (state S.Store conn.old) (state S.Store conn.new)) }
+{
+    let outcome = move_both(conn, &pair.earlier, &pair.later)?;
+    close(conn, pair, outcome)?;
+    release(conn)?;
+    Ok(outcome)
+}
+
+/// Tries the matched pair of a number, due by a day, as `settle_found` does.
 pub fn settle_pair<S: Alter>(
     conn: &mut Connection<S>,
     facts: &mut Facts,
@@ -271,8 +286,30 @@ pub fn settle_pair<S: Alter>(
     ensures trial { IsTrial result (state S.Store conn.old) (state S.Store conn.new) (Stays (state S.Store conn.old) (state S.Store conn.new)) }
 {
     let pair = pair_at(conn, facts, alloc, number)?;
-    let outcome = move_both(conn, &pair.earlier, &pair.later)?;
-    close(conn, &pair, outcome)?;
-    release(conn)?;
-    Ok(outcome)
+    settle_found(conn, &pair)
+}
+
+/// Tries a matched pair that is told, as `settle_found` does.
+pub fn settle_told<S: Alter>(conn: &mut Connection<S>, told: &KnownPair) -> Result<Outcome, Error>
+    ensures changed { Soundly S.Store conn.old conn.new (IsDesk (tables S.Store conn.old) → (day : ℕ) → CanSettle (content_in (tables S.Store conn.old)) told.now.number day
+        → IsKnownAt (content_in (tables S.Store conn.old)) told.now.number told.now
+        → (state S.Store conn.old).in_transaction ≡ true → (state S.Store conn.old).marks ≡ [] → IfOk result (λ outcome. IsDesk (tables S.Store conn.new) × TriesPair (content_in (tables S.Store conn.old)) told.now.number outcome (content_in (tables S.Store conn.new)))) }
+    ensures trial { IsTrial result (state S.Store conn.old) (state S.Store conn.new) (Stays (state S.Store conn.old) (state S.Store conn.new)) }
+{
+    let pair = pair_of(told.mate, told.number, told.earlier, told.later)?;
+    settle_found(conn, &pair)
+}
+
+/// Lets both instructions of a matched pair, by their numbers, wait for what it lacks.
+pub fn wait_for<S: Alter>(
+    conn: &mut Connection<S>,
+    earlier: u64,
+    later: u64,
+    lack: Lack,
+) -> Result<(), Error>
+    ensures changed { Soundly S.Store conn.old conn.new (IsDesk (tables S.Store conn.old) → CanCancelPair (content_in (tables S.Store conn.old)) earlier later → OnOk result (Becomes (tables S.Store conn.new) (waiting earlier later lack (content_in (tables S.Store conn.old))))) }
+    ensures write { Writes S.Store conn.old conn.new result }
+{
+    in_order(earlier, later)?;
+    stand_both(conn, earlier, later, state_then(Outcome::Lacks(lack)))
 }

@@ -1,0 +1,42 @@
+use Rattle.std.proofs.Common.{ap, ◌∙◌, subst, sym, IsTrue, Result, Ok, Err, IfOk, OnOk}
+use Rattle.sqlite.specs.Held.{state}
+use Rattle.sqlite.specs.State.{HasCleanDisk}
+use Rattle.sqlite.specs.declared.error.Error.{Error}
+use Rattle.desk_codes.specs.Number.{number_of}
+use Rattle.desk_mirror.specs.Told.{IsKnownAt}
+use Rattle.desk_register.specs.Changes.{CanSettle}
+use Rattle.desk_register.specs.declared.outcome.Outcome.{Outcome}
+use Rattle.sql_register.specs.Content.{content_in}
+use Rattle.sql_register.specs.Holds.{IsDesk}
+use Rattle.sql_register.specs.Kept.{Kept}
+use Rattle.sql_register.proofs.KnownLemmas.{begun_goes, known_told, tries_known}
+use Rattle.sql_register.proofs.ReadLemmas.{was_clean}
+use Rattle.sql_register.proofs.ChangeLemmas.{tried_kept}
+use Rattle.sql_register.proofs.calls.SqlRegisterToldRegister.settle_told.Goals as goal
+
+ok_first : (P : Type 0) (Q : Outcome → Type 0) (r : Result Outcome Error) → IfOk r (λ o. P × Q o) → OnOk r P
+ok_first P Q (Ok o) h = h.0
+ok_first P Q (Err e) h = tt
+
+pub invariant_of-self : goal.invariant_of-self
+invariant_of-self g c =
+    let old = state g.S.Store c.self.inside.conn in
+    let new = state g.S.Store c.settle_told.new.conn in
+    let pair = c.args.pair.now in
+    let begun = ap (λ k. k.stage) c.self.view_is ∙ c.requires.stage in
+    let can = subst (λ (k : Kept _). HasCleanDisk (state g.S.Store k.connection) → IsTrue (state g.S.Store k.connection).is_open → CanSettle (content_in (state g.S.Store k.connection).now) pair.number (number_of c.args._day)) (sym c.self.view_is) c.requires.fits in
+    let is = subst (λ (k : Kept _). HasCleanDisk (state g.S.Store k.connection) → IsTrue (state g.S.Store k.connection).is_open → IsKnownAt (content_in (state g.S.Store k.connection).now) pair.number pair) (sym c.self.view_is) c.requires.known in
+    let was = was_clean old new c.settle_told.ensures.trial.later in
+    let known = λ (clean : HasCleanDisk new) (is_open : IsTrue old.is_open). c.self.invariant.2 (was clean) is_open (begun_goes c.self.inside.course.stage begun) in (
+      tried_kept old new c.self.inside.course.stage c.told.new.self.stage c.self.inside.course.failures c.told.new.self.failures c.self.inside.limit c.settle_told.result c.told.result
+          begun c.self.invariant.0 c.settle_told.ensures.trial c.told.ensures.told
+          (λ clean is_open has desk inside none. ok_first _ _ c.settle_told.result (c.settle_told.ensures.changed clean is_open has desk (number_of c.args._day) (can (was clean) is_open) (is (was clean) is_open) inside none)),
+      c.self.invariant.1,
+      known_told old new c.self.inside.course.stage c.told.new.self.stage c.self.inside.course.failures c.told.new.self.failures c.self.inside.limit c.settle_told.result c.told.result c.told.ensures.told c.told.new.self.known
+          c.settle_told.ensures.trial.opened c.told.ensures.nothing
+          (λ clean is_open goes.
+          let desk = c.self.invariant.0 (was clean) is_open in
+          tries_known c.told.new.self.known (content_in old.now) (content_in new.now) pair.number (IsDesk new.now) c.settle_told.result
+          (c.settle_told.ensures.changed clean is_open desk.schema (desk.now goes) (number_of c.args._day) (can (was clean) is_open) (is (was clean) is_open) (desk.begun begun) (desk.unmarked begun))
+          (c.told.ensures.known _ _ (known clean is_open))),
+    )

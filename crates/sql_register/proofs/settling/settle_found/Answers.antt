@@ -1,0 +1,40 @@
+use Rattle.std.proofs.Common.{◌∙◌, arith, subst, sym, Ok}
+use Rattle.sqlite.specs.Effect.{Database}
+use Rattle.sqlite.specs.Held.{state}
+use Rattle.sqlite.specs.State.{HasCleanDisk}
+use Rattle.desk_register.specs.Changes.{TriesPair}
+use Rattle.sql_register.specs.Content.{content_in}
+use Rattle.sql_register.specs.Holds.{IsDesk}
+use Rattle.sql_register.proofs.TrialLemmas.{moved_desk, sides_fit, triable, tried}
+use Rattle.sql_register.proofs.WithinLemmas.{release_trial, write_marked, trial_as}
+use Rattle.sql_register.proofs.settling.settle_found.Goals as goal
+
+pub returns-clause-trial : goal.returns-clause-trial
+returns-clause-trial g c =
+    let s0 = state g.S.Store c.args.conn.now in
+    let s2 = state g.S.Store c.move_both.new.conn in
+    let s3 = state g.S.Store c.close.new.conn in
+    let s4 = state g.S.Store c.release.new.conn in
+    let t3 = write_marked c.in_ok-outcome.outcome (Ok c.in_ok-close.field-0) s0 s2 s3 c.in_ok-outcome.ensures.trial c.in_ok-close.ensures.write in
+    trial_as c.in_ok-release.field-0 c.in_ok-outcome.outcome s0 s4 _ (release_trial c.in_ok-close.field-0 (Ok c.in_ok-release.field-0) s0 s3 s4 t3 c.in_ok-release.ensures.ok c.in_ok-release.ensures.err c.in_ok-release.ensures.why c.in_ok-release.ensures.opened c.in_ok-release.ensures.later)
+
+pub returns-clause-changed : goal.returns-clause-changed
+returns-clause-changed g c clean is_open has desk day can pair inside none =
+    let s0 = state g.S.Store c.args.conn.now in
+    let s2 = state g.S.Store c.move_both.new.conn in
+    let s3 = state g.S.Store c.close.new.conn in
+    let s4 = state g.S.Store c.release.new.conn in
+    let clean3 : HasCleanDisk s3 = omega (arith, clean, c.in_ok-release.ensures.later.clean) in
+    let clean2 : HasCleanDisk s2 = omega (arith, clean3, c.in_ok-close.ensures.write.later.clean) in
+    let p = c.args.pair.now in
+    let content = content_in s0.now in
+    let matched = triable content p.mate p.number day p.earlier p.later can pair in
+    let fits = sides_fit content p.mate p.number day p.earlier p.later can pair in
+    let moves = c.in_ok-outcome.ensures.changed clean2 is_open has desk.amounts fits inside none in
+    let marked2 = c.in_ok-outcome.ensures.trial.ok clean2 is_open has inside none in
+    let moved = moved_desk s0.now s2.now p.mate p.number p.earlier p.later c.in_ok-outcome.outcome desk matched moves marked2.schema in
+    let closes = c.in_ok-close.ensures.changed clean3 marked2.is_open marked2.schema moved.desk.standings moved.desk.due_rows in
+    let stays3 = c.in_ok-close.ensures.write.ok clean3 marked2.is_open marked2.schema in
+    let releases = c.in_ok-release.ensures.ok clean stays3.is_open stays3.schema s0.now (stays3.marks ∙ marked2.marks) in
+    let all = tried s0.now s2.now p.mate p.number p.earlier p.later c.in_ok-outcome.outcome desk matched moves marked2.schema s3.now stays3.schema closes in
+    subst (λ (d : Database). IsDesk d × TriesPair content p.number c.in_ok-outcome.outcome (content_in d)) (sym releases.now) all
