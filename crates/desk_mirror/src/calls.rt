@@ -179,10 +179,8 @@ impl<M: MemoryRegister, S: ToldRegister + Drop> Register for MirroredRegister<M,
     }
 
     fn append(&mut self, alloc: Global, entry: Entry, reply: Reply) -> Result<(), Fault> {
-        let again = entry;
         let copy = self.course.copied(reply.try_clone(alloc))?;
-        self.course.after(self.tables.append(alloc, entry, copy))?;
-        self.course.after(self.memory.append(alloc, again, reply))
+        self.append_both(alloc, entry, copy, reply)
     }
 
     fn pair(&mut self, alloc: Global, earlier: u64, later: u64) -> Result<(), Fault> {

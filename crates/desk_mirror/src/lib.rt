@@ -2,8 +2,8 @@
 //!
 //! `MirroredRegister`, in `mirrored_register.rt`, has both and meets the law of `desk_register` whatever the device under
 //! the tables does: what it shows is what memory holds. `calls.rt` has its calls; `course.rt` says how far a group of changes
-//! has come, and `waiting.rt` which tries of a pair leave the tables alone. Begin with specs/Mirrored.antt, then
-//! `mirrored_register.rt`.
+//! has come, `waiting.rt` which tries of a pair leave the tables alone, and `told.rt` what the tables are told of the others.
+//! Begin with specs/Mirrored.antt, then `mirrored_register.rt`.
 #![tactic(auto)]
 
 mod calls;

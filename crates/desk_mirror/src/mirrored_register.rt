@@ -1,14 +1,15 @@
 //! A register that is two.
-ghost use Rattle.std.specs.Prelude.{◌≡◌, ◌≢◌};
-ghost use Rattle.desk_register.specs.Changes.{empty_content};
-ghost use Rattle.desk_register.specs.View.{IfTrusted};
+ghost use Rattle.std.specs.Prelude.{◌≡◌, ◌≢◌, OnOk};
+ghost use Rattle.desk_register.specs.Changes.{CanAppend, appended, empty_content};
+ghost use Rattle.desk_register.specs.View.{IfTrusted, IsChange};
 ghost use Rattle.desk_register.specs.declared.register.Stage.TheVariants.{Begun, Failed, Idle};
 ghost use Rattle.desk_mirror.specs.Both.{HasSame, shown};
 ghost use Rattle.desk_mirror.specs.Mirrored.{HasSameMark};
 
 use crate::course::{Course, Phase};
 use crate::told::ToldRegister;
-use desk_register::{MemoryRegister, Register};
+use desk_register::{Fault, MemoryRegister, Register};
+use desk_rules::{Entry, Reply};
 use std::alloc::Global;
 use std::marker::Model;
 
@@ -88,5 +89,24 @@ impl<M: MemoryRegister, S: ToldRegister + Drop> MirroredRegister<M, S> {
         ensures idle { self.stage ≡ Idle → (S.view result.1).stage ≡ Idle }
     {
         (self.memory, self.tables)
+    }
+
+    /// Adds an entry with its reply, of which there are two copies, to the tables and to memory.
+    pub(crate) fn append_both(
+        &mut self,
+        alloc: Global,
+        entry: Entry,
+        copy: Reply,
+        reply: Reply,
+    ) -> Result<(), Fault>
+        requires same { copy ≡ reply }
+        requires stage { self.old.stage ≡ Begun }
+        requires fits { IfTrusted (M.view self.old.memory) (M.view self.old.memory) (CanAppend (M.view self.old.memory).room entry reply (M.view self.old.memory).content) }
+        ensures added { IfTrusted (M.view self.old.memory) (M.view self.new.memory) (OnOk result ((M.view self.new.memory).content ≡ appended entry reply (M.view self.old.memory).content)) }
+        ensures change { IsChange result (shown (M.view self.old.memory) self.old.stage self.old.failures) (shown (M.view self.new.memory) self.new.stage self.new.failures) }
+    {
+        let again = entry;
+        self.course.after(self.tables.append(alloc, entry, copy))?;
+        self.course.after(self.memory.append(alloc, again, reply))
     }
 }
