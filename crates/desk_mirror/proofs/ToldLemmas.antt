@@ -19,10 +19,7 @@ use Rattle.desk_mirror.specs.declared.told.KnownPair.{KnownPair}
 use Rattle.desk_mirror.specs.Mirrored.{AreMirrored, stage_of}
 use Rattle.desk_mirror.specs.Told.{IsDone, IsKnownAt, waiting}
 use Rattle.desk_mirror.proofs.ChangeLemmas.{begun_at, error_is}
-use Rattle.desk_mirror.proofs.TriedLemmas.{one_trial}
-
-some_is : {X : Type 0} {x y : X} → Some x ≡ Some y → x ≡ y
-some_is e = (cc)
+use Rattle.desk_mirror.proofs.TriedLemmas.{one_trial, some_is}
 
 -- what went well says
 pub ok_value : {X : Type 0} (r : Result X Fault) (x : X) (P : X → Type 0) → r ≡ Ok x → IfOk r P → P x

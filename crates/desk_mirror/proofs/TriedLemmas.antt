@@ -13,7 +13,7 @@ use Rattle.desk_register.specs.View.{View, IfTrusted}
 use Rattle.desk_register.specs.Device.{HasNoDevice}
 use Rattle.std.specs.Prelude.{List}
 
-some_is : {X : Type 0} {x y : X} → Some x ≡ Some y → x ≡ y
+pub some_is : {X : Type 0} {x y : X} → Some x ≡ Some y → x ≡ y
 some_is e = (cc)
 
 -- who has the cash that is asked does not lack it

@@ -21,10 +21,7 @@ use Rattle.desk_mirror.specs.Mirrored.{AreMirrored, stage_of}
 use Rattle.desk_mirror.specs.Waiting.{BothWait, HasRead, IsInVain}
 use Rattle.desk_mirror.proofs.ChangeLemmas.{begun_at, change_keeps, ok_phase}
 use Rattle.desk_mirror.proofs.ReadLemmas.{stays_at}
-use Rattle.desk_mirror.proofs.TriedLemmas.{both_follow}
-
-some_is : {X : Type 0} {x y : X} → Some x ≡ Some y → x ≡ y
-some_is e = (cc)
+use Rattle.desk_mirror.proofs.TriedLemmas.{both_follow, some_is}
 
 module _ (old new : Content) (n : ℕ) where
   -- of a try of a pair that lacks, the content but for where both stand

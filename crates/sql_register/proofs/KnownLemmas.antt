@@ -40,6 +40,11 @@ tries_known known old new n desk (Ok outcome) tries of =
     subst (λ (l : List Kept). IsKnownOf known l new.sent) (sym same.0) (subst (λ (l : List Sent). IsKnownOf known old.register l) (sym same.1) of)
 tries_known known old new n desk (Err e) tries of = tt
 
+-- what went well says the first of two things, whatever its outcome
+pub ok_first : (P : Type 0) (Q : Outcome → Type 0) (r : Result Outcome Error) → IfOk r (λ o. P × Q o) → OnOk r P
+ok_first P Q (Ok o) h = h.0
+ok_first P Q (Err e) h = tt
+
 -- ---- calls, as they are told of the register
 
 module _ (old new : State) (stage new_stage : Stage) (failures new_failures room : ℕ) {X : Type 0} (given : Result X Error) (result : Result X Fault) (told : IsTold given result stage new_stage failures new_failures) (new_known : Known) where

@@ -1,24 +1,18 @@
-use Rattle.std.proofs.Common.{ap, ◌∙◌, subst, sym, IsTrue, Result, Ok, Err, IfOk, OnOk}
+use Rattle.std.proofs.Common.{ap, ◌∙◌, subst, sym, IsTrue}
 use Rattle.sqlite.specs.Held.{state}
 use Rattle.sqlite.specs.State.{HasCleanDisk}
-use Rattle.sqlite.specs.declared.error.Error.{Error}
 use Rattle.desk_codes.specs.Number.{number_of}
 use Rattle.desk_register.specs.Changes.{CanSettle}
-use Rattle.desk_register.specs.declared.outcome.Outcome.{Outcome}
 use Rattle.sql_register.specs.Content.{content_in}
 use Rattle.sql_register.specs.Facts.{AreFactsOf}
 use Rattle.sql_register.specs.Holds.{IsDesk}
 use Rattle.sql_register.specs.Kept.{Kept}
 use Rattle.sql_register.specs.Known.{IsKnownOf}
 use Rattle.sql_register.proofs.FactLemmas.{ok_then}
-use Rattle.sql_register.proofs.KnownLemmas.{begun_goes, known_told, tries_known}
+use Rattle.sql_register.proofs.KnownLemmas.{begun_goes, known_told, ok_first, tries_known}
 use Rattle.sql_register.proofs.ReadLemmas.{was_clean}
 use Rattle.sql_register.proofs.ChangeLemmas.{tried_kept}
 use Rattle.sql_register.proofs.calls.SqlRegisterRegister.settle_pair.Goals as goal
-
-ok_first : (P : Type 0) (Q : Outcome → Type 0) (r : Result Outcome Error) → IfOk r (λ o. P × Q o) → OnOk r P
-ok_first P Q (Ok o) h = h.0
-ok_first P Q (Err e) h = tt
 
 pub invariant_of-self : goal.invariant_of-self
 invariant_of-self g c =
