@@ -10,6 +10,8 @@ use Rattle.desk_rules.proofs.SentFronts.{flat-append, range-append}
 use Rattle.desk_rules.proofs.SentNumbers.{all_known, sent_length}
 use Rattle.journal_rows.specs.declared.journal.MessageKey.{MessageKey}
 use Rattle.desk_journal.specs.Messages.{keys_after, keys_of, messages_of, sent_upto}
+use Rattle.desk_journal.specs.Sending.{IsSending}
+use Rattle.desk_journal.specs.declared.sending.Sending.{Sending}
 
 -- a value of a range, by its place
 value_at : {X : Type 0} (f : ℕ → X) (a n k : ℕ) (none : X) → k < n → slice_index_or (map f (range_with_len a n)) k none ≡ f (a + k)
@@ -71,7 +73,7 @@ part_found : {X : Type 0} (xs : List X) (from to : ℕ) (r : Option (Bor (List X
 part_found xs from to None other part begins ends = (let clash : false ≡ true = part.1 (begins, ends) in absurd (cc))
 part_found xs from to (Some x) other part begins ends = part.0.2
 
-pub messages_found : (books : Books) (n : ℕ) (keys : List MessageKey) (from to : ℕ) (r : Option (Bor (List MessageKey))) (other : Bor (List MessageKey)) → AreBooks books → 0 < n → n ≤ length books.history → keys ≡ keys_of books → from ≡ sent_upto books (n - 1)
+messages_found : (books : Books) (n : ℕ) (keys : List MessageKey) (from to : ℕ) (r : Option (Bor (List MessageKey))) (other : Bor (List MessageKey)) → AreBooks books → 0 < n → n ≤ length books.history → keys ≡ keys_of books → from ≡ sent_upto books (n - 1)
     → to ≡ sent_upto books n → PartBy (λ (x : Bor (List MessageKey)). x.now) keys from to r → (unwrap_or r other).now ≡ messages_of books n
 messages_found books n keys from to r other are some within same begin end part =
     let step = upto_entry books n some in
@@ -81,3 +83,15 @@ messages_found books n keys from to r other are some within same begin end part 
     ∙ ap (λ k. slice_range keys k to) begin ∙ ap (λ k. slice_range keys (sent_upto books (n - 1)) k) end
     ∙ ap (λ l. slice_range l (sent_upto books (n - 1)) (sent_upto books n)) same
     ∙ messages_between books n some
+
+-- how many messages were sent up to the end of an entry, as it was looked up
+abbrev TellsEnd : List ℕ → ℕ → ℕ → Type 0
+TellsEnd ends n sent = (books : Books) (count : ℕ) → ends ≡ map (sent_upto books) (range_with_len 1 count) → n ≤ count → sent ≡ sent_upto books n
+
+pub messages_told : (sending : Sending) (n less from to : ℕ) (ends others : List ℕ) (keys : List MessageKey) (r : Option (Bor (List MessageKey))) (other result : Bor (List MessageKey)) → result ≡ unwrap_or r other
+    → PartBy (λ (x : Bor (List MessageKey)). x.now) keys from to r → keys ≡ sending.keys.items → TellsEnd ends less from → less ≡ n - 1 → ends ≡ sending.ends.items → TellsEnd others n to → others ≡ sending.ends.items
+    → (books : Books) → AreBooks books → IsSending books sending → 0 < n → n ≤ length books.history → result.now ≡ messages_of books n
+messages_told sending n less from to ends others keys r other result is part same first before those last these books are sent some within =
+    let begin = first books (length books.history) (those ∙ sent.ends) (omega (arith, before, within)) ∙ ap (sent_upto books) before in
+    let end = last books (length books.history) (these ∙ sent.ends) within in
+    ap (λ x. x.now) is ∙ messages_found books n keys from to r other are some within (same ∙ sent.keys) begin end part

@@ -1,5 +1,5 @@
 //! The walk over the entries, row by row.
-ghost use Rattle.std.specs.Prelude.{◌≡◌, ◌≢◌, ◌<◌, ◌≤◌, ℕ, true, false, map, Ok, Err, IfOk, length};
+ghost use Rattle.std.specs.Prelude.{◌≡◌, ◌≢◌, ◌<◌, ◌≤◌, ℕ, nat_lt, true, false, map, Ok, Err, IfOk, length};
 ghost use Rattle.std.specs.List.{range_with_len};
 ghost use Rattle.desk_rules.specs.Books.{AreBooks, Books};
 ghost use Rattle.desk_rules.specs.Tables.{AreTables};
@@ -162,6 +162,13 @@ fn read_sending<R: Register>(
     })
 }
 
+/// Whether so many entries are more than a store may hold.
+fn are_too_many(count: u64, limit: u64) -> bool
+    ensures { result ≡ nat_lt limit count }
+{
+    count > limit
+}
+
 /// How many entries there are. A store that tells of more than it may hold does not show what it holds: it is given up as one that
 /// failed.
 fn known_count<R: Register>(alloc: Global, register: &mut R) -> Result<u64, WalkFault>
@@ -172,7 +179,7 @@ fn known_count<R: Register>(alloc: Global, register: &mut R) -> Result<u64, Walk
     ensures unwritten { result ≢ Err (WalkFault.Sink SinkFault.Write) }
 {
     let count = register.count(alloc)?;
-    if count > register.limit() {
+    if are_too_many(count, register.limit()) {
         return Err(WalkFault::Storage);
     }
     Ok(count)

@@ -1,5 +1,7 @@
 //! A report, written part by part.
-ghost use Rattle.std.specs.Prelude.{◌≡◌, ◌≢◌, true, false, Err, Ok};
+ghost use Rattle.std.specs.Prelude.{◌≡◌, ◌≢◌, ◌++◌, true, false, Err, IfErr, Ok, OnErr, OnOk};
+ghost use Rattle.std.specs.Io.KnownBytes.{Appends};
+ghost use Rattle.serde_json.specs.Written.{comma_if};
 ghost use Rattle.desk_rules.specs.Books.{Books};
 ghost use Rattle.desk_register.specs.View.{IfTrusted};
 ghost use Rattle.desk_engine.specs.Applied.{Keeps};
@@ -7,7 +9,7 @@ ghost use Rattle.desk_holdings.specs.Ends.{HaveRead, at_register};
 ghost use Rattle.desk_book.specs.Held.{IsReady};
 ghost use Rattle.desk_book.specs.RowByRow.{WritesText};
 ghost use Rattle.desk_report.specs.Report.{IsReportText};
-ghost use Rattle.desk_report.specs.Written.{AreMembersText, AreRowsOf, IsMemberText, IsPartText};
+ghost use Rattle.desk_report.specs.Written.{AreMembersText, AreRowsOf, IsMemberText, IsPartText, label_of};
 
 use crate::part::{Part, Parts};
 use crate::sums::write_sum_lines;
@@ -121,8 +123,17 @@ fn write_member<R: Register, W: Sink>(
     ensures read { HaveRead (at_register result) (R.view register.old) (R.view register.new) }
     ensures unwritten { result ≡ Err (WalkFault.Sink SinkFault.Write) → W.may_fail ≡ true }
 {
-    write_row(writer, is_later, part.label())?;
+    write_label(writer, part, is_later)?;
     write_value(alloc, register, part, writer)
+}
+
+/// Writes the name of a part as that of a member, behind a comma where members stand before it.
+fn write_label<W: Sink>(writer: &mut W, part: Part, is_later: bool) -> Result<(), WalkFault>
+    ensures written { OnOk result (Appends (W.contents writer.old) (W.contents writer.new) (comma_if is_later ++ label_of part)) }
+    ensures fault { IfErr result (λ fault. fault ≡ WalkFault.Sink SinkFault.Write) }
+    ensures unwritten { OnErr result (W.may_fail ≡ true) }
+{
+    write_row(writer, is_later, part.label())
 }
 
 /// Writes what a part tells: the array of its rows, or the object of the sums.

@@ -1,11 +1,12 @@
 use Rattle.std.proofs.Common.{◌≡◌, ◌≢◌, refl, sym, ◌∙◌, arith}
+use Rattle.std.proofs.lemmas.Bool.{ltb-true}
 use Rattle.desk_register.specs.declared.register.Stage.TheVariants.{Failed, Idle}
 use Rattle.desk_holdings.proofs.ReadingLemmas.{gives_up, read_one}
 use Rattle.desk_journal.proofs.KnownLemmas.{within_room}
 use Rattle.desk_journal.proofs.walk.known_count.Goals as goal
 
-pub returns-then-count-limit-clause-read : goal.returns-then-count-limit-clause-read
-returns-then-count-limit-clause-read g c =
+pub returns-then-are_too_many-clause-read : goal.returns-then-are_too_many-clause-read
+returns-then-are_too_many-clause-read g c =
     let v0 = g.R.Register.view c.args.register.now in
     let v1 = g.R.Register.view c.count.new.self in
     let r = c.in_ok-count.ensures in
@@ -16,4 +17,5 @@ returns-then-count-limit-clause-read g c =
     let entries = r.value honest sure begun in
     let room = r.read.later.room in
     let limit = c.limit.ensures.limit in
-    absurd (omega (arith, within, entries, room, limit, c.if-count-limit.true)))
+    let more = ltb-true c.limit.result c.in_ok-count.count (sym c.are_too_many.ensures ∙ c.if-are_too_many.true) in
+    absurd (omega (arith, within, entries, room, limit, more)))

@@ -10,5 +10,5 @@ returns-clause-written g c = λ books honest sure keeps.
     let content = (g.R.Register.view c.args.register.now).content in
     let part = c.args.part in
     let contents = g.W.Write.contents in
-    behind (IsPartText books content part) (IsMemberText books content part c.args.is_later) (comma_if c.args.is_later ++ label_of part) (named books content part c.args.is_later) (contents c.args.writer.now) (contents c.write_row.new.writer)
-    (contents c.write_value.new.writer) (rw c.label.ensures at c.in_ok-write_row.ensures.written) c.write_value.result (c.write_value.ensures.written books honest sure keeps)
+    behind (IsPartText books content part) (IsMemberText books content part c.args.is_later) (comma_if c.args.is_later ++ label_of part) (named books content part c.args.is_later) (contents c.args.writer.now) (contents c.write_label.new.writer)
+    (contents c.write_value.new.writer) c.in_ok-write_label.ensures.written c.write_value.result (c.write_value.ensures.written books honest sure keeps)
