@@ -1,24 +1,26 @@
 -- A pair that memory knows, and what the tables make of it.
-use Rattle.std.proofs.Common.{◌≡◌, ◌∙◌, refl, sym, ap, subst, ℕ, ◌<◌}
+use Rattle.std.proofs.Common.{◌≡◌, ◌∙◌, refl, sym, ap, subst, ℕ, ◌<◌, ◌==◌, true, arith}
 use Rattle.std.specs.Prelude.{Option, Some, None, Result, Ok, Err, IfOk, IfSome, OnOk}
+use Rattle.std.proofs.lemmas.Bool.Decides.{nat_tests}
+use Rattle.desk_msg.specs.declared.writing.status.Reason.TheVariants.{Lack as LackOfSecurities, Money as LackOfMoney}
+use Rattle.desk_rules.specs.declared.history.standing.Standing.{Standing}
+use Rattle.desk_rules.specs.declared.history.standing.State.{State}
+use Rattle.desk_rules.specs.declared.history.standing.State.TheVariants as States
+use Rattle.desk_rules.specs.declared.history.standing.State.TheVariants.{Matched}
 use Rattle.desk_rules.specs.Content.{Content, history_of}
 use Rattle.desk_rules.specs.History.{instruction_at}
 use Rattle.desk_rules.specs.declared.history.entry.Instructed.{Instructed}
 use Rattle.desk_rules.specs.declared.history.pair.Lack.{Lack}
 use Rattle.desk_rules.specs.declared.history.pair.Lack.TheVariants.{Securities, Money}
-use Rattle.desk_register.specs.Changes.{CanCancelPair, CanSettle, IsPairAt, TriesPair}
-use Rattle.desk_register.specs.Device.{HasNoDevice}
+use Rattle.desk_register.specs.Changes.{CanCancelPair, CanSettle, IsPairAt, TriesPair, standing_both}
 use Rattle.desk_register.specs.declared.outcome.Outcome.{Outcome}
-use Rattle.desk_register.specs.declared.outcome.Outcome.TheVariants.{Lacks}
+use Rattle.desk_register.specs.declared.outcome.Outcome.TheVariants.{Lacks, Settled}
 use Rattle.desk_register.specs.declared.register.Fault.{Fault}
 use Rattle.desk_register.specs.declared.register.Fault.TheVariants.{Memory, Storage}
-use Rattle.desk_register.specs.declared.register.Stage.TheVariants as stages
-use Rattle.desk_register.specs.View.{View, IfRead, IfTrusted, IsChange}
-use Rattle.desk_mirror.specs.declared.course.Phase.{Phase}
+use Rattle.desk_register.specs.View.{View, IsChange}
 use Rattle.desk_mirror.specs.declared.told.KnownPair.{KnownPair}
-use Rattle.desk_mirror.specs.Mirrored.{AreMirrored, stage_of}
 use Rattle.desk_mirror.specs.Told.{IsDone, IsKnownAt, waiting}
-use Rattle.desk_mirror.proofs.ChangeLemmas.{begun_at, error_is}
+use Rattle.desk_mirror.proofs.ChangeLemmas.{error_is}
 use Rattle.desk_mirror.proofs.TriedLemmas.{one_trial, some_is}
 
 -- what went well says
@@ -96,7 +98,26 @@ done_change (Err fault) done v w is change = subst (λ r. IsChange r v w) (sym i
   blame = record { storage = λ e. change.blame.storage (ap Err (error_is (Unit {0}) fault Storage e)); memory = λ e. change.blame.memory (ap Err (error_is (Unit {0}) fault Memory e)) };
 })
 
--- what memory knows is so of the tables
-pub known_fits : (P : Content → Type 0) (phase : Phase) (m new t : View) → HasNoDevice m → HasNoDevice new → AreMirrored phase m t → stage_of phase ≡ stages.Begun → IfRead m new (P m.content) → IfTrusted t t (P t.content)
-known_fits P phase m new t was is are started read = λ honest sure.
-    (let begun = begun_at phase m t are started in subst P (begun.same honest sure) (read is.honest was.sure (λ failed. let at = begun.memory in absurd (cc))))
+-- A pair as memory knows it behind a try is the one that was tried.
+
+stood : (standing : ℕ → Standing) (m n : ℕ) (state : State) → (standing_both standing m n state n).mate ≡ Some m
+stood standing m n state = (let test : n == n ≡ true = grind (arith, nat_tests) in rw test refl)
+
+module _ (old new : Content) (n : ℕ) (pair : KnownPair) (known : IsKnownAt new n pair) where
+  stands_so : (m : ℕ) (state : State) → (old.standing n).mate ≡ Some m → history_of new ≡ history_of old → (new.standing n).mate ≡ (standing_both old.standing m n state n).mate → IsKnownAt old n pair
+  stands_so m state had same now =
+      let at = subst (λ k. IsPairAt new k pair.mate pair.earlier pair.later) known.number known.is_pair in
+      let mates : m ≡ pair.mate = some_is (sym (stood old.standing m n state) ∙ sym now ∙ at.has_mate) in
+      record {
+        number = known.number;
+        is_pair = subst (λ k. IsPairAt old k pair.mate pair.earlier pair.later) (sym known.number) (record {
+          is_later = ap (λ h. instruction_at h n) (sym same) ∙ at.is_later;
+          has_mate = had ∙ ap Some mates;
+          is_earlier = ap (λ h. instruction_at h pair.mate) (sym same) ∙ at.is_earlier;
+        });
+      }
+
+  pub known_before : (outcome : Outcome) → TriesPair old n outcome new → IsKnownAt old n pair
+  known_before Settled tries = stands_so tries.mate States.Settled tries.pair.has_mate (ap history_of tries.ends.2) (ap (λ (c : Content). (c.standing n).mate) tries.ends.2)
+  known_before (Lacks Securities) tries = stands_so tries.mate (Matched LackOfSecurities) tries.pair.has_mate (ap history_of tries.ends.1) (ap (λ (c : Content). (c.standing n).mate) tries.ends.1)
+  known_before (Lacks Money) tries = stands_so tries.mate (Matched LackOfMoney) tries.pair.has_mate (ap history_of tries.ends.2) (ap (λ (c : Content). (c.standing n).mate) tries.ends.2)

@@ -15,12 +15,16 @@ use Rattle.desk_register.specs.declared.outcome.Outcome.{Outcome}
 use Rattle.desk_register.specs.declared.outcome.Outcome.TheVariants.{Lacks, Settled}
 use Rattle.desk_register.specs.Changes.{TriesPair, standing_both}
 use Rattle.desk_register.proofs.StandingLemmas.{stand_already}
+use Rattle.desk_register.proofs.ViewLemmas.{change_ok, later_then, stays_then}
 use Rattle.desk_mirror.specs.declared.course.Phase.{Phase}
 use Rattle.desk_mirror.specs.Course.{IsAfter}
 use Rattle.desk_mirror.specs.Mirrored.{AreMirrored, stage_of}
 use Rattle.desk_mirror.specs.Waiting.{BothWait, HasRead, IsInVain}
 use Rattle.desk_mirror.proofs.ChangeLemmas.{begun_at, change_keeps, ok_phase}
 use Rattle.desk_mirror.proofs.ReadLemmas.{stays_at}
+use Rattle.desk_mirror.specs.declared.told.KnownPair.{KnownPair}
+use Rattle.desk_mirror.specs.Told.{IsKnownAt}
+use Rattle.desk_mirror.proofs.ToldLemmas.{known_before}
 use Rattle.desk_mirror.proofs.TriedLemmas.{both_follow, some_is}
 
 module _ (old new : Content) (n : ℕ) where
@@ -49,6 +53,11 @@ ok_stays (Err fault) x v w is stays = absurd (cc)
 ok_tries : (result : Result Outcome Fault) (outcome : Outcome) (n : ℕ) (old new : Content) → result ≡ Ok outcome → IfOk result (λ o. TriesPair old n o new) → TriesPair old n outcome new
 ok_tries (Ok o) outcome n old new is tries = (let same : o ≡ outcome = cc in subst (λ k. TriesPair old n k new) same tries)
 ok_tries (Err fault) outcome n old new is tries = absurd (cc)
+
+-- a call that went well, and reading calls behind it
+change_read : {X : Type 0} (result : Result X Fault) (x : X) (v0 v1 v2 : View) → result ≡ Ok x → IsChange result v0 v1 → HasRead v1 v2 → IsChange result v0 v2
+change_read (Ok y) x v0 v1 v2 is change read = change_ok y v0 v2 (stays_then v0 v1 v2 change.ok change.later read.later read.stays) (later_then v0 v1 v2 change.ok change.later read.later)
+change_read (Err fault) x v0 v1 v2 is change read = absurd (cc)
 
 -- memory was read
 pub read_mirrored : (phase : Phase) (m new t : View) → HasNoDevice m → HasNoDevice new → HasRead m new → AreMirrored phase m t → AreMirrored phase new t
@@ -79,10 +88,20 @@ module _ (result : Result Outcome Fault) (outcome : Outcome) (reason : Option Re
       } in
       subst (λ p. AreMirrored p new t) (sym (ok_phase result outcome phase phase' k k' is_ok after)) (read_mirrored phase between new t is_between is last are_between)
 
-  -- any other is made of them too
-  pub try_keeps : (told : Result (Unit {0}) Fault) (also : Unit {0}) (last : Phase) (j j' : ℕ) (t' : View) → told ≡ Ok also → IfTrusted t t' ((made : Content) → TriesPair t.content n outcome made → OnOk told (t'.content ≡ made)) → IsChange told t t' → IsAfter told phase' last j j'
-      → AreMirrored last new t'
-  try_keeps told also last j j' t' told_is follows told_change told_after =
-      subst (λ p. AreMirrored p new t') (sym (ok_phase told also phase' last j j' told_is told_after))
-      (change_keeps result phase phase' k k' between new t t' is_between is are_between started told_change.later (ok_stays told also t t' told_is told_change.ok) change
-      (both_follow n result outcome told also between new t t' is_between is is_ok tries told_is follows) after)
+  -- the pair that memory knows behind any other is the one that the tables have not tried yet
+  pub tried_fits : (known : Option KnownPair) (read_on : View) → HasNoDevice read_on → IfRead new read_on (IfSome known (λ pair. IsKnownAt new.content n pair)) → IfTrusted t t (IfSome known (λ pair. IsKnownAt t.content n pair))
+  tried_fits None read_on is_on known_is = λ honest sure. tt
+  tried_fits (Some pair) read_on is_on known_is = λ honest sure.
+      let begun = begun_at phase between t are_between started in
+      let stage = (ok_stays result outcome between new is_ok change.ok).stage ∙ begun.memory in
+      subst (λ c. IsKnownAt c n pair) (begun.same honest sure) (known_before between.content new.content n pair (known_is is_on.honest is.sure (λ failed. absurd (cc))) outcome tried)
+
+  -- and it is made of them too
+  pub try_keeps : (read_on : View) → HasNoDevice read_on → HasRead new read_on → (told : Result (Unit {0}) Fault) (also : Unit {0}) (last : Phase) (j j' : ℕ) (t' : View) → told ≡ Ok also
+      → IfTrusted t t' ((made : Content) → TriesPair t.content n outcome made → OnOk told (t'.content ≡ made)) → IsChange told t t' → IsAfter told phase' last j j' → AreMirrored last read_on t'
+  try_keeps read_on is_on reads told also last j j' t' told_is follows told_change told_after =
+      let tries_on : IfTrusted between read_on (IfOk result (λ o. TriesPair between.content n o read_on.content)) =
+      λ honest sure. subst (λ c. IfOk result (λ o. TriesPair between.content n o c)) (sym (reads.same is_on.honest is.sure)) (tries is.honest is_between.sure) in
+      subst (λ p. AreMirrored p read_on t') (sym (ok_phase told also phase' last j j' told_is told_after))
+      (change_keeps result phase phase' k k' between read_on t t' is_between is_on are_between started told_change.later (ok_stays told also t t' told_is told_change.ok) (change_read result outcome between new read_on is_ok change reads)
+      (both_follow n result outcome told also between read_on t t' is_between is_on is_ok tries_on told_is follows) after)

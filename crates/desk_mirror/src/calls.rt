@@ -189,7 +189,6 @@ impl<M: MemoryRegister, S: ToldRegister + Drop> Register for MirroredRegister<M,
     }
 
     fn settle_pair(&mut self, alloc: Global, number: u64, day: Day) -> Result<Outcome, Fault> {
-        let known = known_pair(alloc, &mut self.memory, number);
         let reason = reason_of_pair(alloc, &mut self.memory, number);
         let outcome = self
             .course
@@ -197,6 +196,7 @@ impl<M: MemoryRegister, S: ToldRegister + Drop> Register for MirroredRegister<M,
         if is_in_vain(reason, outcome) {
             return Ok(outcome);
         }
+        let known = known_pair(alloc, &mut self.memory, number);
         let followed = follow(alloc, &mut self.tables, known, number, day, outcome);
         self.course.after(followed)?;
         Ok(outcome)
