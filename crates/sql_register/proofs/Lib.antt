@@ -4,6 +4,7 @@ pub mod LookLemmas
 pub mod MadeLemmas
 pub mod ReadLemmas
 pub mod FactLemmas
+pub mod CountLemmas
 pub mod KnownLemmas
 pub mod ChangeLemmas
 pub mod FrameLemmas

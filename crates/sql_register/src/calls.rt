@@ -217,10 +217,11 @@ impl<S: Alter> Register for SqlRegister<S> {
         self.course.told(cancelled)
     }
 
-    fn send(&mut self, _alloc: Global, message: Sent) -> Result<(), Fault> {
+    fn send(&mut self, alloc: Global, message: Sent) -> Result<(), Fault> {
         let known = self.course.known.messages;
-        self.course
-            .told_message(sending::send(&mut self.conn, known, &message))
+        let mut known_to = self.course.known.messages_to(&message.bic);
+        let sent = sending::send(&mut self.conn, known, &mut known_to, &message);
+        self.course.told_message(alloc, message.bic, known_to, sent)
     }
 }
 

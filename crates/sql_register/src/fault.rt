@@ -1,14 +1,15 @@
 //! How a register fares as its calls end: its stage, its failures, and what it knows of the tables.
-ghost use Rattle.std.specs.Prelude.{◌≡◌, List, [], ◌∷◌, ◌++◌, length, IfOk, OnErr, OnOk};
+ghost use Rattle.std.specs.Prelude.{◌≡◌, ◌+◌, List, [], ◌∷◌, ◌++◌, length, IfOk, IfSome, OnErr, OnOk};
 ghost use Rattle.desk_register.specs.View.{fallen};
 ghost use Rattle.desk_rules.specs.declared.answers.reply.Kept.{Kept};
 ghost use Rattle.desk_rules.specs.declared.answers.reply.Sent.{Sent};
 ghost use Rattle.desk_rules.specs.Facts.{is_participant, kind_of, owner_of};
 ghost use Rattle.sql_entries.specs.Entries.{entries_in};
+ghost use Rattle.sql_sent.specs.Messages.{sent_to};
 ghost use Rattle.sql_register.specs.Known.{IsKnownOf, KnowsNothing};
 ghost use Rattle.sql_register.specs.Told.{Counts, IsTold};
 
-use crate::known::{Known, one_more};
+use crate::known::Known;
 use desk_codes::{AccountId, Bic, Isin};
 use desk_msg::Kind;
 use desk_register::{Fault, Stage};
@@ -182,13 +183,20 @@ impl Course {
         self.told(given)
     }
 
-    /// The same of a call that adds a message.
-    pub(crate) fn told_message(&mut self, given: Result<(), Error>) -> Result<(), Fault>
+    /// The same of a call that adds a message to a participant, to whom so many were sent then, where that is known.
+    pub(crate) fn told_message(
+        &mut self,
+        alloc: Global,
+        bic: Bic,
+        count_to: Option<u64>,
+        given: Result<(), Error>,
+    ) -> Result<(), Fault>
         ensures told { IsTold given result self.old.stage self.new.stage self.old.failures self.new.failures }
-        ensures known { (register : List Kept) (sent : List Sent) (message : Sent) → IsKnownOf self.old.known register sent → OnOk given (IsKnownOf self.new.known register (sent ++ message ∷ [])) }
+        ensures known { (register : List Kept) (sent : List Sent) (message : Sent) → message.bic ≡ bic → IsKnownOf self.old.known register sent → OnOk given (IfSome count_to (λ n. n ≡ length (sent_to sent bic) + 1))
+            → OnOk given (IsKnownOf self.new.known register (sent ++ message ∷ [])) }
         ensures nothing { OnErr given (KnowsNothing self.new.known) }
     {
-        self.known.messages = one_more(self.known.messages);
+        self.known.add_message(alloc, bic, count_to);
         self.told(given)
     }
 }

@@ -1,3 +1,4 @@
+pub mod CountLemmas
 pub mod InsertLemmas
 pub mod MessageLemmas
 pub mod RowLemmas

@@ -1,6 +1,6 @@
 //! The messages that were sent.
 
-ghost use Rattle.std.specs.Prelude.{◌≡◌, ◌+◌, ◌<◌, ◌^◌, ℕ, List, length, Ok, IfOk, OnOk};
+ghost use Rattle.std.specs.Prelude.{◌≡◌, ◌+◌, ◌<◌, ◌^◌, ℕ, List, length, Ok, IfOk, IfSome, OnOk};
 ghost use Rattle.desk_rules.specs.declared.answers.reply.Sent.{Sent as Message};
 ghost use Rattle.desk_rules.specs.Questions.{confirms_it, sent_at};
 ghost use Rattle.std.specs.List.{find};
@@ -62,21 +62,36 @@ pub fn confirmation_of<S: Alter>(
     message_in(alloc, &rows)
 }
 
-/// Adds a message to those that were sent, which are so many. Where a number would pass 2^63 - 1, it is refused as an
-/// overflow.
+/// How many messages were sent to a participant: as it is known, else as the table says.
+fn places<S: Alter>(conn: &mut Connection<S>, known: Option<u64>, bic: Bic) -> Result<u64, Error>
+    ensures value { Soundly S.Store conn.old conn.new ((messages : List Message) → AreSent (tables S.Store conn.old) messages → IfSome known (λ n. n ≡ length (sent_to messages bic)) → IfOk result (λ r. r ≡ length (sent_to messages bic))) }
+    ensures look { Looks S.Store conn.old conn.new result }
+{
+    match known {
+        Some(places) => Ok(places),
+        None => last_place(conn, bic),
+    }
+}
+
+/// Adds a message to those that were sent, which are so many, and gives its place among those to its participant; how many these
+/// are before may be known. Where a number would pass 2^63 - 1, it is refused as an overflow.
 pub fn add_sent_after<S: Alter>(
     conn: &mut Connection<S>,
     count: u64,
+    known: Option<u64>,
     message: &Sent,
-) -> Result<(), Error>
-    ensures added { Soundly S.Store conn.old conn.new ((messages : List Message) → AreSent (tables S.Store conn.old) messages → count ≡ length messages → OnOk result (Adds (tables S.Store conn.old) (tables S.Store conn.new) messages message.now)) }
+) -> Result<u64, Error>
+    ensures added { Soundly S.Store conn.old conn.new ((messages : List Message) → AreSent (tables S.Store conn.old) messages → count ≡ length messages → IfSome known (λ n. n ≡ length (sent_to messages message.now.bic))
+        → OnOk result (Adds (tables S.Store conn.old) (tables S.Store conn.new) messages message.now)) }
+    ensures place { Soundly S.Store conn.old conn.new ((messages : List Message) → AreSent (tables S.Store conn.old) messages → IfSome known (λ n. n ≡ length (sent_to messages message.now.bic))
+        → IfOk result (λ place. place ≡ length (sent_to messages message.now.bic) + 1)) }
     ensures write { Writes S.Store conn.old conn.new result }
 {
-    let places = last_place(conn, message.bic)?;
+    let places = places(conn, known, message.bic)?;
     let number = next(count)?;
     let place = next(places)?;
     insert(conn, number, place, message)?;
-    Ok(())
+    Ok(place)
 }
 
 /// Adds a message to those that were sent. Where a number would pass 2^63 - 1, it is refused as an overflow.
@@ -85,7 +100,8 @@ pub fn add_sent<S: Alter>(conn: &mut Connection<S>, message: &Sent) -> Result<()
     ensures write { Writes S.Store conn.old conn.new result }
 {
     let count = sent_count(conn)?;
-    add_sent_after(conn, count, message)
+    add_sent_after(conn, count, None, message)?;
+    Ok(())
 }
 
 fn last_in(rows: &[Row]) -> Result<u64, Error>

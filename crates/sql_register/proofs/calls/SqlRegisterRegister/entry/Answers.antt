@@ -37,4 +37,4 @@ invariant_of-self g c =
     (λ clean is_open has desk known. ok_both (λ r. r ≡ entry_at (history_of (content_in (state g.S.Store c.self.inside.conn).now)) c.args.number) (AreFactsOf c.entry-found.new.facts (content_in (state g.S.Store c.self.inside.conn).now).register) c.entry-found.result
     (c.entry-found.ensures.value clean is_open has _ desk.entries known.facts) (c.entry-found.ensures.noted clean is_open has _ desk.entries known.facts))
     c.told.new.self.known (λ register sent was both. second_then (λ r. r ≡ entry_at (entries_in register) c.args.number) (AreFactsOf c.entry-found.new.facts register) (IsKnownOf c.told.new.self.known register sent) c.entry-found.result both
-    (λ facts. c.told.ensures.known register sent (record { entries = was.entries; messages = was.messages; facts = facts }))) c.told.ensures.nothing
+    (λ facts. c.told.ensures.known register sent (record { entries = was.entries; messages = was.messages; messages_to = was.messages_to; facts = facts }))) c.told.ensures.nothing

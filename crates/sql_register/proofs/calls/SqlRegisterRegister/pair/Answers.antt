@@ -19,4 +19,4 @@ invariant_of-self g c =
     (subst (λ (k : Kept _). HasCleanDisk (state g.S.Store k.connection) → IsTrue (state g.S.Store k.connection).is_open → CanPair (content_in (state g.S.Store k.connection).now) c.args.earlier c.args.later) (sym c.self.view_is) c.requires.fits
     (was_clean _ _ c.pair-paired.ensures.write.later clean) is_open))
     c.told.ensures.nothing (λ clean is_open has desk known. ok_then (AreFactsOf c.pair-paired.new.facts (content_in (state g.S.Store c.self.inside.conn).now).register) (IsKnownOf c.told.new.self.known (content_in (state g.S.Store c.self.inside.conn).now).register (content_in (state g.S.Store c.self.inside.conn).now).sent) c.pair-paired.result (c.pair-paired.ensures.noted clean is_open has desk known.facts)
-    (λ facts. c.told.ensures.known _ _ (record { entries = known.entries; messages = known.messages; facts = facts })))
+    (λ facts. c.told.ensures.known _ _ (record { entries = known.entries; messages = known.messages; messages_to = known.messages_to; facts = facts })))

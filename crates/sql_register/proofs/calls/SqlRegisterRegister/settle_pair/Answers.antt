@@ -34,5 +34,5 @@ invariant_of-self g c =
           tries_known c.told.new.self.known (content_in old.now) (content_in new.now) c.args.number (IsDesk new.now) c.settle_pair-tried.result
           (c.settle_pair-tried.ensures.changed clean is_open desk.schema (desk.now goes) (facts clean is_open) (can (was clean) is_open) (desk.begun begun) (desk.unmarked begun))
           (ok_then (AreFactsOf c.settle_pair-tried.new.facts (content_in old.now).register) (IsKnownOf c.told.new.self.known (content_in old.now).register (content_in old.now).sent) c.settle_pair-tried.result (c.settle_pair-tried.ensures.noted clean is_open desk.schema (desk.now goes) (facts clean is_open))
-          (λ noted. c.told.ensures.known _ _ (record { entries = (known clean is_open).entries; messages = (known clean is_open).messages; facts = noted })))),
+          (λ noted. c.told.ensures.known _ _ (record { entries = (known clean is_open).entries; messages = (known clean is_open).messages; messages_to = (known clean is_open).messages_to; facts = noted })))),
     )

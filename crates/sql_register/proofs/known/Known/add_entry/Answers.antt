@@ -15,6 +15,7 @@ returns-in-Some c register sent kept is was =
     record {
       entries = counted c.one_more-self.result register kept next;
       messages = was.messages;
+      messages_to = was.messages_to;
       facts = c.note_entry.ensures (register ++ kept ∷ []) (facts_more register kept c.args.self.now.facts was.facts)
           (ap (λ k. entry_at (entries_in (register ++ kept ∷ [])) k) number ∙ last_entry register kept ∙ ap Some is);
     }
@@ -23,5 +24,6 @@ pub returns-in-None : goal.returns-in-None
 returns-in-None c register sent kept is was = record {
   entries = counted c.one_more-self.result register kept (c.one_more-self.ensures (length register) was.entries);
   messages = was.messages;
+  messages_to = was.messages_to;
   facts = facts_more register kept c.args.self.now.facts was.facts;
 }
