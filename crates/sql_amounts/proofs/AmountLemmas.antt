@@ -1,13 +1,13 @@
 -- The tables of amounts beside the others, and by themselves.
-use Rattle.std.proofs.Common.{◌≡◌, inl, inr, ℕ, ◌<◌, List, [], ◌∷◌, Bool, true, false, cond, None, Some, Option, unwrap_or, sym, ap, subst, refl, ◌∙◌, arith}
+use Rattle.std.proofs.Common.{◌≡◌, inl, inr, ℕ, ◌+◌, ◌<◌, List, [], ◌∷◌, Bool, true, false, cond, None, Some, Option, unwrap_or, sym, ap, subst, refl, ◌∙◌, arith}
 use Rattle.std.specs.List.Sorted.{IsPermutation}
 use Rattle.sqlite.specs.Effect.{Database}
 use Rattle.sql_amounts.specs.declared.key.Ledger.{Ledger}
 use Rattle.sql_amounts.specs.declared.key.Ledger.TheVariants.{Balance, Cash, Total}
 use Rattle.sql_amounts.specs.declared.key.AmountKey.{AmountKey}
-use Rattle.sql_amounts.specs.Keys.{is_of, tree_of}
-use Rattle.sql_amounts.specs.Amounts.{AreAmounts, AreAmountRows, amount_in, recorded}
-use Rattle.sql_amounts.specs.Changes.{IsShort, SetsAmount}
+use Rattle.sql_amounts.specs.Keys.{is_of, ledger_of, texts_of, tree_of}
+use Rattle.sql_amounts.specs.Amounts.{AreAmounts, AreAmountRows, amount_at, amount_in, recorded}
+use Rattle.sql_amounts.specs.Changes.{IsShort, SetsAmount, had}
 use Rattle.sql_tables.specs.Ends.{SparesOthers}
 use Rattle.sql_amounts.specs.Holdings.{IsLess}
 use Rattle.sql_amounts.proofs.EffectLemmas.{no_index}
@@ -50,6 +50,24 @@ unchanged_amounts old new spares = record {
   cash = sym (spares 2 (inr (omega arith)) (no_index Cash));
   total = sym (spares 4 (inr (omega arith)) (no_index Total));
 }
+
+-- an amount that is put where nothing was recorded, behind what changed nothing
+module _ (old mid new : Database) (key : AmountKey) (amount : ℕ) (absent : amount_at old key ≡ None) (spares : SparesOthers 0 0 old mid) where
+  pub amounts_still : AreAmounts old → AreAmounts mid
+  amounts_still = same_amounts old mid (unchanged_amounts old mid spares)
+
+  pub absent_still : amount_at mid key ≡ None
+  absent_still = same_recorded old mid (unchanged_amounts old mid spares) (ledger_of key) (texts_of key).0 (texts_of key).1 ∙ absent
+
+  pub first_put : SetsAmount mid new key amount → SetsAmount old new key (had old key + amount)
+  first_put set =
+      let P : Option ℕ → Type 0 = λ o. SetsAmount old new key (unwrap_or o 0 + amount) in
+      let all : amount ≡ 0 + amount = omega arith in
+      subst P (sym absent) (subst (λ n. SetsAmount old new key n) all (record {
+        kept = set.kept;
+        recorded = λ ledger first second. set.recorded ledger first second ∙ ap (λ o. cond (is_of key ledger first second) (Some amount) o) (same_recorded old mid (unchanged_amounts old mid spares) ledger first second);
+        spares = λ tree outside none. set.spares tree outside none ∙ spares tree (inr (omega arith)) none;
+      }))
 
 -- tables with no row are well formed
 pub empty_amounts : (db : Database) → ((ledger : Ledger) → db.trees (tree_of ledger) ≡ []) → AreAmounts db

@@ -1,5 +1,5 @@
 -- The effects in the form of the calls' clauses.
-use Rattle.std.proofs.Common.{◌≡◌, ℕ, ◌+◌, ◌<◌, ◌^◌, pos, List, [], ◌∷◌, None, Some, Option, Ok, Err, Result, IfOk, OnOk, Vec, unwrap_or}
+use Rattle.std.proofs.Common.{◌≡◌, ℕ, ◌<◌, ◌^◌, pos, List, [], ◌∷◌, None, Option, Ok, Err, Result, IfOk, OnOk, Vec, unwrap_or}
 use Rattle.std.specs.declared.alloc.Global.{Global}
 use Rattle.sqlite.specs.Order.{Row}
 use Rattle.sqlite.specs.declared.error.Error.{Error}
@@ -8,12 +8,12 @@ use Rattle.sqlite.specs.State.{State, Executes, Shown}
 use Rattle.sql_tables.specs.Schema.{desk_schema}
 use Rattle.sql_amounts.specs.declared.key.AmountKey.{AmountKey}
 use Rattle.sql_amounts.specs.Keys.{ledger_of, texts_of}
-use Rattle.sql_amounts.specs.Statements.{amount_text, put_text, first_text, next_text}
+use Rattle.sql_amounts.specs.Statements.{amount_text, first_text, next_text}
 use Rattle.sql_amounts.specs.Amounts.{AreAmounts, amount_at}
 use Rattle.sql_tables.specs.Rows.{number_rows}
 use Rattle.sql_amounts.specs.Changes.{SetsAmount}
 use Rattle.sql_amounts.specs.Holdings.{ShowsNext}
-use Rattle.sql_amounts.proofs.EffectLemmas.{of_texts, puts, sets_first, shows_amount}
+use Rattle.sql_amounts.proofs.EffectLemmas.{of_texts, sets_first, shows_amount}
 use Rattle.sql_amounts.proofs.HoldingLemmas.{shows_next}
 
 module _ (old new : State) (has : old.now.schema ≡ desk_schema) (amounts : AreAmounts old.now) where
@@ -28,11 +28,6 @@ module _ (old new : State) (has : old.now.schema ≡ desk_schema) (amounts : Are
   walked account above (Err e) h = tt
 
   module _ (key : AmountKey) (d : ℕ) where
-    pub raised : (q : ℕ) → amount_at old.now key ≡ Some q → q + d < 2 ^ 63 → (r : Result ℕ Error) → Executes (put_text (ledger_of key)) (of_texts (texts_of key) (Int (pos d) ∷ [])) old new r
-        → OnOk r (SetsAmount old.now new.now key (q + d))
-    raised q was small (Ok count) h = puts old new key d count has amounts q was small h
-    raised q was small (Err e) h = tt
-
     pub inserted : amount_at old.now key ≡ None → d < 2 ^ 63 → (r : Result ℕ Error) → Executes (first_text (ledger_of key)) (of_texts (texts_of key) (Int (pos d) ∷ [])) old new r
         → OnOk r (SetsAmount old.now new.now key d)
     inserted absent small (Ok count) h = sets_first old new key d count has amounts absent small h

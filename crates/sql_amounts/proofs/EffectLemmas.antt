@@ -40,7 +40,7 @@ use Rattle.sql_amounts.specs.Keys.{Texts, same_texts, same_ledger, ledger_of, te
 use Rattle.sql_amounts.specs.Statements.{amount_text, take_text, put_text, first_text}
 use Rattle.sql_amounts.specs.Amounts.{AreAmounts, AreAmountRows, IsStored, amount_at, amount_in, amount_on, is_at, recorded, stored}
 use Rattle.sql_tables.specs.Rows.{number_rows}
-use Rattle.sql_amounts.specs.Changes.{IsShort, SetsAmount, Takes, had}
+use Rattle.sql_amounts.specs.Changes.{IsShort, Raises, SetsAmount, Takes, had}
 use Rattle.sql_tables.specs.Ends.{SparesOthers}
 use Rattle.sql_amounts.proofs.Meanings.{less_shown, more_shown, key_terms, take_terms, first_terms, place_of, amount_is, amount_query, take_is, take_edit, put_is, put_edit, first_is, first_edit}
 use Rattle.sql_amounts.proofs.RowLemmas.{once, recorded_none, recorded_one, found_stored, set_rows, set_all, set_recorded, first_all, first_recorded_by}
@@ -349,7 +349,7 @@ module _ (old new : State) (key : AmountKey) (d count : ℕ) (has : old.now.sche
 
   -- ---- putting on
 
-  module _ (q : ℕ) (was : amount_at old.now key ≡ Some q) (small : q + d < 2 ^ 63) (h : Executes (put_text own) params old new (Ok count)) where
+  module _ (small : had old.now key + d < 2 ^ 63) (h : Executes (put_text own) params old new (Ok count)) where
     raised : (found : List Row) × IsAnswer (plain (tree_of own) key_terms more_shown) (overlay old.now.trees []) params found × (count ≡ length found) × IsEdited old.now new.now (update_edit old.now.trees own found)
     raised = updates old new has (put_text own) params count (place_of own) (table_of own) (table_at own) (put_edit own).plain h (plain (tree_of own) key_terms more_shown) (put_is own)
 
@@ -362,23 +362,30 @@ module _ (old new : State) (key : AmountKey) (d count : ℕ) (has : old.now.sche
         subst (λ xs. IsPermutation (map shown_more xs) raised.0) (same_found IsStored (passes_all key_terms params) (is_at texts) held (λ row it. key_test texts (Int (pos d) ∷ []) row it) all.stored)
         (table_rows own key_terms more_shown old.now.trees params raised.0 raised.1)
 
-    puts_on : (r : Row) → filter (is_at texts) held ≡ r ∷ [] → SetsAmount old.now new.now key (q + d)
+    -- nothing is put on
+    puts_none : filter (is_at texts) held ≡ [] → Raises old.now new.now key d (count == 1)
+    puts_none none =
+        let empty = nil_from_length raised.0 (length_permutation [] raised.0 (subst (λ xs. IsPermutation (map shown_more xs) raised.0) none raised_are)) in
+        let left = left_none old.now new.now own raised.0 count raised.2 raised.3 empty in
+        subst (λ n. Raises old.now new.now key d (n == 1)) (sym left.1) (recorded_none texts held none, spares_all old.now new.now own left.0)
+
+    puts_on : (r : Row) → filter (is_at texts) held ≡ r ∷ [] → Raises old.now new.now key d (count == 1)
     unfolding shown_more
     puts_on r one =
         let it = found_stored texts held r all.stored one in
         let worth : amount_on r ≡ it.amount = ap amount_on it.is in
-        let same : Some q ≡ Some (amount_on r) = sym was ∙ recorded_one texts held r [] one in
-        let had_is : it.amount ≡ q = sym worth ∙ ap (λ o. unwrap_or o 0) (sym same) in
+        let had_it : amount_at old.now key ≡ Some it.amount = recorded_one texts held r [] one ∙ ap Some worth in
+        let had_is : it.amount ≡ had old.now key = sym (ap (λ o. unwrap_or o 0) had_it) in
         let fits : it.amount + d < 2 ^ 63 = omega (arith, had_is, small) in
         let found = one_permutation _ raised.0 (subst (λ xs. IsPermutation (map shown_more xs) raised.0) one raised_are) ∙ ap (λ (x : Row). x ∷ []) (more_row texts d r it fits) in
         let left = left_one old.now new.now own raised.0 count raised.2 raised.3 it.id it.texts (it.amount + d) found in
         let set = sets_amount old.now new.now key (it.amount + d) (set_rows held all texts r one it (it.amount + d) fits) amounts left.0
         (set_all held all texts r one it (it.amount + d) fits) (set_recorded held all texts r one it (it.amount + d) fits) in
-        subst (λ n. SetsAmount old.now new.now key (n + d)) had_is set
+        subst (λ n. Raises old.now new.now key d (n == 1)) (sym left.1) (subst (λ n. SetsAmount old.now new.now key (n + d)) had_is set)
 
-    pub puts : SetsAmount old.now new.now key (q + d)
+    pub puts : Raises old.now new.now key d (count == 1)
     puts = elim (once texts held all.apart) [
-      | inl none ↦ absurd (let e : Some q ≡ None = sym was ∙ recorded_none texts held none in cc)
+      | inl none ↦ puts_none none
       | inr one ↦ puts_on one.0 one.1
     ]
 

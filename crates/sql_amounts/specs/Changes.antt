@@ -1,5 +1,5 @@
 -- What calls make of the tables of amounts.
-use Rattle.std.specs.Prelude.{◌≡◌, ℕ, ◌-◌, ◌<◌, ◌≤◌, Bool, true, false, List, Option, Some, None, unwrap_or, if◌then◌else◌}
+use Rattle.std.specs.Prelude.{◌≡◌, ℕ, ◌+◌, ◌-◌, ◌<◌, ◌≤◌, Bool, true, false, List, Option, Some, None, unwrap_or, if◌then◌else◌}
 use Rattle.sqlite.specs.Effect.{Database}
 use Rattle.sql_tables.specs.Ends.{SparesOthers}
 use Rattle.sql_amounts.specs.declared.key.Ledger.{Ledger}
@@ -26,3 +26,8 @@ had db key = unwrap_or (amount_at db key) 0
 abbrev pub Takes : Database → Database → AmountKey → ℕ → Bool → Type 0
 Takes old new key amount true = (amount ≤ had old key) × SetsAmount old new key (had old key - amount)
 Takes old new key amount false = IsShort (amount_at old key) amount × SparesOthers 0 0 old new
+
+-- an amount is put on what is recorded, or nothing is recorded and every table is as it was
+abbrev pub Raises : Database → Database → AmountKey → ℕ → Bool → Type 0
+Raises old new key amount true = SetsAmount old new key (had old key + amount)
+Raises old new key amount false = (amount_at old key ≡ None) × SparesOthers 0 0 old new

@@ -1,8 +1,8 @@
 //! The calls on one amount.
-ghost use Rattle.std.specs.Prelude.{◌≡◌, ℕ, ◌+◌, ◌<◌, ◌^◌, is_some, IfOk, OnOk};
+ghost use Rattle.std.specs.Prelude.{◌≡◌, ◌+◌, ◌<◌, ◌^◌, IfOk, OnOk};
 ghost use Rattle.sql_tables.specs.Rows.{number_rows};
 ghost use Rattle.sql_amounts.specs.Amounts.{AreAmounts, amount_at};
-ghost use Rattle.sql_amounts.specs.Changes.{SetsAmount, Takes, had};
+ghost use Rattle.sql_amounts.specs.Changes.{Raises, SetsAmount, Takes, had};
 ghost use Rattle.sql_tables.specs.Calls.{Looks, Soundly, Writes, tables};
 
 use crate::key::AmountKey;
@@ -36,15 +36,6 @@ pub fn amount<S: Alter>(conn: &mut Connection<S>, key: &AmountKey) -> Result<Opt
     only_number(&rows)
 }
 
-/// Whether something is recorded under a key.
-fn is_recorded<S: Alter>(conn: &mut Connection<S>, key: &AmountKey) -> Result<bool, Error>
-    ensures value { Soundly S.Store conn.old conn.new (AreAmounts (tables S.Store conn.old) → IfOk result (λ r. r ≡ is_some (amount_at (tables S.Store conn.old) key.now))) }
-    ensures look { Looks S.Store conn.old conn.new result }
-{
-    let rows = rows_of(conn, key)?;
-    Ok(!rows.is_empty())
-}
-
 /// Takes an amount off, where there is as much: true. Where there is less, or nothing: false, and nothing has changed.
 /// What is 0 then stays recorded.
 pub fn take<S: Alter>(conn: &mut Connection<S>, key: &AmountKey, amount: u64) -> Result<bool, Error>
@@ -65,14 +56,14 @@ pub fn take<S: Alter>(conn: &mut Connection<S>, key: &AmountKey, amount: u64) ->
     Ok(count == 1)
 }
 
-/// Puts an amount on what is recorded under a key.
-fn raise<S: Alter>(conn: &mut Connection<S>, key: &AmountKey, amount: u64) -> Result<usize, Error>
+/// Puts an amount on what is recorded under a key: true. Where nothing is: false, and nothing has changed.
+fn raise<S: Alter>(conn: &mut Connection<S>, key: &AmountKey, amount: u64) -> Result<bool, Error>
     requires small { amount < 2 ^ 63 }
-    ensures changed { Soundly S.Store conn.old conn.new (AreAmounts (tables S.Store conn.old) → (recorded : ℕ) → amount_at (tables S.Store conn.old) key.now ≡ Some recorded → recorded + amount < 2 ^ 63 → OnOk result (SetsAmount (tables S.Store conn.old) (tables S.Store conn.new) key.now (recorded + amount))) }
+    ensures changed { Soundly S.Store conn.old conn.new (AreAmounts (tables S.Store conn.old) → had (tables S.Store conn.old) key.now + amount < 2 ^ 63 → IfOk result (Raises (tables S.Store conn.old) (tables S.Store conn.new) key.now amount)) }
     ensures write { Writes S.Store conn.old conn.new result }
 {
     let text = statements::put_on(key.ledger());
-    execute(
+    let raised = execute(
         conn,
         text,
         &[
@@ -80,7 +71,8 @@ fn raise<S: Alter>(conn: &mut Connection<S>, key: &AmountKey, amount: u64) -> Re
             ValueRef::Text(key.second()),
             integer(amount),
         ],
-    )
+    )?;
+    Ok(raised == 1)
 }
 
 /// Records the first amount of a key.
@@ -108,9 +100,7 @@ pub fn put<S: Alter>(conn: &mut Connection<S>, key: &AmountKey, amount: u64) -> 
     ensures changed { Soundly S.Store conn.old conn.new (AreAmounts (tables S.Store conn.old) → had (tables S.Store conn.old) key.now + amount < 2 ^ 63 → OnOk result (SetsAmount (tables S.Store conn.old) (tables S.Store conn.new) key.now (had (tables S.Store conn.old) key.now + amount))) }
     ensures write { Writes S.Store conn.old conn.new result }
 {
-    if is_recorded(conn, key)? {
-        raise(conn, key, amount)?;
-    } else {
+    if !raise(conn, key, amount)? {
         insert(conn, key, amount)?;
     }
     Ok(())
