@@ -1,5 +1,5 @@
 -- The place of a message more.
-use Rattle.std.proofs.Common.{◌≡◌, ℕ, zero, suc, ◌+◌, ◌<◌, ◌≤◌, ◌^◌, min, List, [], ◌∷◌, ◌++◌, length, take, filter, slice_get, option_map, unwrap_or, Bool, true, false, if◌then◌else◌, cond, bytes_eq, Some, inl, inr, refl, sym, ap, subst, ◌∙◌, arith}
+use Rattle.std.proofs.Common.{◌≡◌, ℕ, zero, suc, ◌+◌, ◌<◌, ◌≤◌, ◌^◌, List, [], ◌∷◌, ◌++◌, length, take, filter, slice_get, option_map, unwrap_or, Bool, true, false, if◌then◌else◌, cond, bytes_eq, Some, inl, inr, refl, sym, ap, subst, ◌∙◌, arith}
 use Rattle.std.specs.BTreeMap.{BTreeMap, get}
 use Rattle.std.specs.Cmp.Lexicographic.{slice_cmp}
 use Rattle.std.specs.Ordering.{is_eq, nat_cmp}
@@ -9,37 +9,31 @@ use Rattle.desk_rules.specs.declared.answers.reply.Sent.{Sent}
 use Rattle.desk_rules.specs.Questions.{sent_at}
 use Rattle.desk_register.proofs.CaseLemmas.{same_bytes}
 use Rattle.sql_sent.specs.Messages.{sent_to}
-use Rattle.audit_sent.specs.Placed.{message_at, ArePlaces, IsPlaced, IsPlacedNext}
-
-filter_more : {X : Type 0} (p : X → Bool) (xs : List X) (x : X) → length (filter p (xs ++ x ∷ [])) ≡ length (filter p xs) + (if p x then 1 else 0)
-filter_more p [] x = elim (cases_Bool (p x)) [ inl passes ↦ rw passes refl | inr fails ↦ rw fails refl ]
-filter_more p (y ∷ ys) x = let rest = filter_more p ys x in elim (cases_Bool (p y)) [ inl passes ↦ rw passes (omega (arith, rest)) | inr fails ↦ rw fails rest ]
+use Rattle.sql_sent.proofs.CountLemmas.{count_more}
+use Rattle.audit_sent.specs.Placed.{count_of, message_at, ArePlaces, IsPlaced, IsPlacedNext}
 
 filter_few : {X : Type 0} (p : X → Bool) (xs : List X) → length (filter p xs) ≤ length xs
 filter_few p [] = omega arith
 filter_few p (y ∷ ys) = let rest = filter_few p ys in elim (cases_Bool (p y)) [ inl passes ↦ rw passes (omega (arith, rest)) | inr fails ↦ rw fails (omega (arith, rest)) ]
 
 module _ (old new : BTreeMap (List ℕ) ℕ) (messages : List Sent) (message : Sent) (place : ℕ) (are : ArePlaces old messages) (few : length messages + 1 < 2 ^ 64)
-    (is : place ≡ min (unwrap_or (get (slice_cmp nat_cmp) old message.bic) 0 + 1) 18446744073709551615)
+    (is : count_of old message.bic + 1 < 2 ^ 64 → place ≡ count_of old message.bic + 1)
     (puts : (bic : List ℕ) → get (slice_cmp nat_cmp) new bic ≡ cond (is_eq (slice_cmp nat_cmp message.bic bic)) (Some place) (get (slice_cmp nat_cmp) old bic)) where
   place_is : place ≡ length (sent_to messages message.bic) + 1
   place_is =
       let count = are.each message.bic in
       let some = filter_few (λ (m : Sent). bytes_eq m.bic message.bic) messages in
-      let least : min (length (sent_to messages message.bic) + 1) 18446744073709551615 ≡ length (sent_to messages message.bic) + 1 = omega (arith, some, few) in
-      is ∙ ap (λ n. min (n + 1) 18446744073709551615) count ∙ least
+      let small : count_of old message.bic + 1 < 2 ^ 64 = omega (arith, count, some, few) in
+      is small ∙ ap (λ n. n + 1) count
 
   put : (bic : List ℕ) (b : Bool) → bytes_eq message.bic bic ≡ b → get (slice_cmp nat_cmp) new bic ≡ cond b (Some place) (get (slice_cmp nat_cmp) old bic)
   put bic b e = puts bic ∙ ap (λ x. cond x (Some place) (get (slice_cmp nat_cmp) old bic)) (is_eq-slice_cmp message.bic bic ∙ e)
 
-  more : (bic : List ℕ) (b : Bool) → bytes_eq message.bic bic ≡ b → length (sent_to (messages ++ message ∷ []) bic) ≡ length (sent_to messages bic) + (if b then 1 else 0)
-  more bic b e = filter_more (λ (m : Sent). bytes_eq m.bic bic) messages message ∙ ap (λ x. length (sent_to messages bic) + (if x then 1 else 0)) e
-
   counted : (bic : List ℕ) → unwrap_or (get (slice_cmp nat_cmp) new bic) 0 ≡ length (sent_to (messages ++ message ∷ []) bic)
   counted bic = elim (cases_Bool (bytes_eq message.bic bic)) [
-    | inl its ↦ ap (λ o. unwrap_or o 0) (put bic true its) ∙ place_is ∙ ap (λ b. length (sent_to messages b) + 1) (same_bytes message.bic bic its) ∙ sym (more bic true its)
+    | inl its ↦ ap (λ o. unwrap_or o 0) (put bic true its) ∙ place_is ∙ ap (λ b. length (sent_to messages b) + 1) (same_bytes message.bic bic its) ∙ sym (count_more messages message bic true its)
     | inr other ↦ (let none : length (sent_to messages bic) ≡ length (sent_to messages bic) + 0 = omega arith in
-        ap (λ o. unwrap_or o 0) (put bic false other) ∙ are.each bic ∙ none ∙ sym (more bic false other))
+        ap (λ o. unwrap_or o 0) (put bic false other) ∙ are.each bic ∙ none ∙ sym (count_more messages message bic false other))
   ]
 
   pub placed_next : IsPlacedNext messages message place new

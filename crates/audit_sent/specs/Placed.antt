@@ -11,9 +11,13 @@ abbrev pub message_at : List Sent → ℕ → Option (ℕ × Sent)
 message_at messages zero = None
 message_at messages (suc n) = option_map (λ message. (length (sent_to (take n messages) message.bic) + 1, message)) (slice_get messages n)
 
+-- how many were counted of a participant
+abbrev pub count_of : BTreeMap (List ℕ) ℕ → List ℕ → ℕ
+count_of places bic = unwrap_or (get (slice_cmp nat_cmp) places bic) 0
+
 -- how many of these messages were sent to each participant
 pub record ArePlaces (places : BTreeMap (List ℕ) ℕ) (messages : List Sent) : Type 0 where
-  pub each : (bic : List ℕ) → unwrap_or (get (slice_cmp nat_cmp) places bic) 0 ≡ length (sent_to messages bic)
+  pub each : (bic : List ℕ) → count_of places bic ≡ length (sent_to messages bic)
 
 -- the place of a message behind these, which is counted
 pub record IsPlacedNext (messages : List Sent) (message : Sent) (place : ℕ) (places : BTreeMap (List ℕ) ℕ) : Type 0 where

@@ -1,8 +1,10 @@
 //! The place of each message among those to its participant, counted as they come.
-ghost use Rattle.std.specs.Prelude.{◌≡◌, ◌+◌, ◌<◌, ◌^◌, List, length, take, IfOk, IfSome};
-ghost use Rattle.desk_rules.specs.declared.answers.reply.Sent.{Sent as SentValue};
+ghost use Rattle.std.specs.Prelude.{◌≡◌, ◌+◌, ◌<◌, ◌^◌, take, Some, IfOk, IfSome};
+ghost use Rattle.std.specs.BTreeMap.{Updates};
+ghost use Rattle.std.specs.Cmp.Lexicographic.{slice_cmp};
+ghost use Rattle.std.specs.Ordering.{nat_cmp};
 ghost use Rattle.desk_register.specs.View.{IfTrusted, IsRead};
-ghost use Rattle.audit_sent.specs.Placed.{ArePlaces, IsPlaced, IsPlacedNext};
+ghost use Rattle.audit_sent.specs.Placed.{count_of, ArePlaces, IsPlaced};
 
 use desk_codes::Bic;
 use desk_index::Messages;
@@ -11,12 +13,19 @@ use desk_rules::Sent;
 use std::alloc::{AllocError, Global};
 use std::collections::BTreeMap;
 
+/// How many were counted of a participant.
+fn counted(places: &BTreeMap<Bic, u64>, bic: Bic) -> u64
+    ensures { result ≡ count_of places.now bic }
+{
+    places.get(&bic).copied().unwrap_or(0)
+}
+
 /// The place of one message more to a participant, which is counted.
 fn next_place(places: &mut BTreeMap<Bic, u64>, bic: Bic) -> Result<u64, AllocError>
-    ensures { (messages : List SentValue) (message : SentValue) → message.bic ≡ bic → length messages + 1 < 2 ^ 64 → ArePlaces places.old messages
-        → IfOk result (λ place. IsPlacedNext messages message place places.new) }
+    ensures place { count_of places.old bic + 1 < 2 ^ 64 → IfOk result (λ place. place ≡ count_of places.old bic + 1) }
+    ensures counted { IfOk result (λ place. Updates (slice_cmp nat_cmp) places.old places.new bic (Some place)) }
 {
-    let place = places.get(&bic).copied().unwrap_or(0).saturating_add(1);
+    let place = counted(places, bic).saturating_add(1);
     places.insert(bic, place)?;
     Ok(place)
 }
