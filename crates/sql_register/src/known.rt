@@ -11,9 +11,9 @@ use desk_rules::Entry;
 use std::alloc::Global;
 use std::collections::BTreeMap;
 
-/// How many entries and sent messages the tables have, where a call has asked it, how many of these are to a participant to whom
-/// one was sent since, and what was found among the entries. Nothing is known after a call that failed, or once a transaction was
-/// taken back.
+/// How many entries and sent messages the tables have, where a call has asked it; how many messages each participant was sent, where
+/// a call has sent it one; and what was found among the entries. Nothing is known after a call that failed, or once a transaction
+/// was taken back.
 #[derive(Drop)]
 pub struct Known {
     pub(crate) entries: Option<u64>,
