@@ -155,10 +155,15 @@ def lacking_text(row):
     if row["lacking"] is None:
         return b""
     if row["lacking"] == 0:
-        return b"  lacks nothing now"
+        return b"  what it lacked has come"
     if row["reason"] == MONEY:
         return b"  lacks %s %s" % (row["ccy"], amount_text(row["ccy"], row["lacking"]))
     return b"  lacks %s %s" % (row["kind"], quantity_text(row["lacking"]))
+
+
+def front_text(row, behind):
+    """What a pair moves, as wide with no payment as with one where something stands behind it."""
+    return terms_text(row).ljust(71) if behind else terms_text(row)
 
 
 def side_text(does, row):
@@ -167,7 +172,8 @@ def side_text(does, row):
 
 
 def pending_lines(row):
-    yield b"%s  %s%s" % (row["reason"], terms_text(row), lacking_text(row))
+    lacks = lacking_text(row)
+    yield b"%s  %s%s" % (row["reason"], front_text(row, lacks), lacks)
     yield side_text(b"delivers", row["deliverer"])
     yield side_text(b"receives", row["receiver"])
 
@@ -204,7 +210,7 @@ def lines_of_sums(totals):
         yield b"%-12s  held %20s  paid in less paid out %20s" % (currency, held, net)
     for row in totals["securities"]:
         held, outstanding = quantity_text(row["held"]), quantity_text(row["outstanding"])
-        yield b"%-12s  held %20s  issued less redeemed %20s" % (row["isin"].encode(), held, outstanding)
+        yield b"%-12s  held %20s  issued less redeemed  %20s" % (row["isin"].encode(), held, outstanding)
 
 
 def lines_of_rows(lines):

@@ -1,5 +1,6 @@
 pub mod CallAnswer
 pub mod CheckAnswer
+pub mod Closed
 pub mod DropAnswer
 pub mod ExplainAnswer
 pub mod Finding

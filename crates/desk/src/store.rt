@@ -4,17 +4,18 @@ ghost use Rattle.std.specs.Io.KnownBytes.{Appends};
 ghost use Rattle.sqlite.specs.Files.{over_files};
 ghost use Rattle.desk_opening.specs.Opened.{IsOpened};
 ghost use Rattle.desk_rules.specs.declared.limits.TheConstants.{MOST_ENTRIES};
+ghost use Rattle.desk.specs.Closed.{AreClosed};
 ghost use Rattle.desk.specs.Status.{EndsAs, IsOpeningFailure};
 
 use crate::status::{Failure, Status, tell_failure};
 use crate::teller::Teller;
 use desk_index::IndexedRegister;
 use desk_mirror::MirroredRegister;
-use desk_opening::open_file;
+use desk_opening::{OpenFault, open_file};
 use desk_rules::MOST_ENTRIES;
 use desk_streams::Sink;
 use sql_register::SqlRegister;
-use sqlite::{Alter, Connection, Error, FileFrom, FileStore, Unknown};
+use sqlite::{Alter, Connection, Error, FileFrom, FileStore, Files, Unknown};
 use std::rt::HostRuntime;
 use std::{fs, io};
 
@@ -47,26 +48,28 @@ pub fn open_there(rt: &HostRuntime, path: &str) -> Result<FileRegister, Failure>
     ensures opened { IfOk result (IsOpened over_files MOST_ENTRIES) }
     ensures failure { IfErr result IsOpeningFailure }
 {
-    if fs::exists(rt, path).unwrap_or(false) {
-        open(rt, path)
-    } else {
-        Teller::new(rt, path).missing();
-        Err(Failure::Storage)
+    match fs::exists(rt, path) {
+        Ok(true) => return open(rt, path),
+        Ok(false) => Teller::new(rt, path).missing(),
+        Err(_) => Teller::new(rt, path).unopened(OpenFault::Storage),
     }
+    Err(Failure::Storage)
 }
 
-/// Closes the file of a desk: what its log holds goes into it, and the log is removed while nobody else can open the two.
+/// Closes the file of a desk: what its log holds goes into it, and the log is removed while nobody else can open the two, which are
+/// handed back.
 pub fn close(
     rt: &HostRuntime,
     path: &str,
     conn: Connection<FileStore<FileFrom<Unknown>>>,
-) -> Result<(), Error> {
+) -> Result<Files<FileFrom<Unknown>>, Error>
+    ensures { IfOk result (AreClosed conn) }
+{
     match conn.close_files() {
         Ok(files) => {
             // a log that holds nothing and stays is no harm
             let _ = remove_log(rt, path);
-            drop(files);
-            Ok(())
+            Ok(files)
         }
         Err((error, store)) => {
             drop(store.close());
@@ -96,10 +99,10 @@ pub fn connection_of<S: Alter + Drop>(
 }
 
 /// Tells how a run over a file ended, which was closed then, or could not be. A run that ended in a fault tells no other.
-pub fn ended<W: Sink>(
+pub fn ended<F: Drop, W: Sink>(
     teller: &Teller<'_>,
     told: io::Result<Status>,
-    closed: Result<(), Error>,
+    closed: Result<F, Error>,
     writer: &mut W,
 ) -> io::Result<Status>
     requires { OnErr told (W.may_fail ≡ true) }

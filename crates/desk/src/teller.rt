@@ -5,7 +5,7 @@ use desk_opening::{Difference, OpenFault, Progress, Table};
 use desk_rules::Reply;
 use std::io::{self, IsTerminal};
 
-/// So many entries may be read before it is told how far the opening of a file is.
+/// So many entries are read before it is told how far the opening of a file is.
 const UNTOLD: u64 = 20_000;
 
 /// It is told each time so many entries more are read.
@@ -188,7 +188,7 @@ impl<'a> Teller<'a> {
 
 impl Progress for Teller<'_> {
     fn taken(&mut self, count: u64) {
-        if self.is_watched && count > UNTOLD && count % TOLD_EACH == 0 {
+        if self.is_watched && count >= UNTOLD && count % TOLD_EACH == 0 {
             let _ = eprintln!(self.rt; "desk: {}: {count} entries are read", self.path);
         }
     }

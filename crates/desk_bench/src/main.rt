@@ -6,13 +6,16 @@
 //! first. Each way counts; the last line says 'N passed, M failed'.
 //!
 //! `play`, or no word, plays a script from standard input on a new desk whose register is in memory and in SQL tables, which
-//! stand in memory too, and `play FILE` on the desk of that file, which is made where there is none. `tables` and
-//! `tables FILE` do it over the tables alone. What is printed and the exit status are those of `desk play`; a file that is
-//! not opened is `fault N`, N being the number of an `OpenFault`, with status 3. The file is left as a killed process would
-//! leave it, with its log.
+//! stand in memory too, and `play FILE [LIMIT]` on the desk of that file, which may have so many entries, and is made where there
+//! is none. `tables` and `tables FILE` do it over the tables alone. What is printed and the exit status are those of `desk play`;
+//! a file that is not opened is `fault N`, N being the number of an `OpenFault`, with status 3. The file is left as a killed
+//! process would leave it, with its log.
 //!
 //! `open FILE [LIMIT]` opens the desk of a file, which may have so many entries, prints its sums and how many it has, and closes
 //! it.
+//!
+//! `adopt` plays a script on tables in memory, leaves a change under way in them, and takes them over again: it prints what `open`
+//! prints, behind the answers.
 //!
 //! `damaged CALL ROW [CHANGE]` tells what a call that reads the tables answers of a row, for tests/damaged_rows: ROW is a
 //! statement that puts it into new tables, and CHANGE one that damages it.
@@ -81,7 +84,8 @@ fn done(rt: &HostRuntime, work: Work<'_>) -> Result<bool, Failure> {
             response,
             setup,
         } => connections::try_files(rt, sent, response, setup),
-        Work::Play(registers, path) => tables::play_script(rt, registers, path),
+        Work::Play(registers, path, limit) => tables::play_script(rt, registers, path, limit),
+        Work::Adopt => tables::tell_adopted(rt),
         Work::Damaged { call, row, change } => damaged::tell(rt, call, row, change),
         Work::Open(path, limit) => tables::tell(rt, path, limit),
         Work::Day(store) => registers::try_store(rt, store),

@@ -14,7 +14,7 @@ use desk_opening::{Silent, adopt, adopt_tables, open_file, open_tables};
 use desk_register::Register;
 use desk_rules::MOST_ENTRIES;
 use sql_register::SqlRegister;
-use sqlite::{Alter, Connection, Unknown};
+use sqlite::{Alter, Connection, MemStore, Unknown};
 use std::io;
 
 /// What a script is played over.
@@ -37,23 +37,24 @@ impl Registers {
     }
 }
 
-/// Plays the script of standard input on a desk over a register, and prints the answers.
-fn play<D: Register + Drop>(rt: &HostRuntime, register: D) -> Result<(), Failure>
+/// Plays the script of standard input on a desk over a register, prints the answers, and gives the register back.
+fn play<D: Register + Drop>(rt: &HostRuntime, register: D) -> Result<D, Failure>
     requires { IsReady false (D.view register) }
 {
     let mut desk = Desk::new(register);
     desk.play(rt.alloc(), &mut rt.stdin(), &mut io::writer(rt))?;
-    Ok(())
+    Ok(desk.into_register())
 }
 
-/// The same over tables with a register in memory beside them.
+/// The same over tables with a register in memory beside them, of which the connection is given back.
 fn play_over_both<S: Alter + Drop>(
     rt: &HostRuntime,
     both: MirroredRegister<IndexedRegister, SqlRegister<S>>,
-) -> Result<(), Failure>
+) -> Result<Connection<S>, Failure>
     requires { IsReady false (view_of_both both) }
 {
-    play(rt, both)
+    let (_, tables) = play(rt, both)?.into_parts();
+    Ok(tables.into_connection())
 }
 
 /// The same over the tables alone.
@@ -63,25 +64,27 @@ fn play_over_tables<S: Alter + Drop>(
 ) -> Result<(), Failure>
     requires { IsReady false (shown (state S.Store tables.connection) tables.stage tables.failures tables.room) }
 {
-    play(rt, tables)
+    play(rt, tables)?;
+    Ok(())
 }
 
-/// Plays the script of standard input over tables in memory, or over those of a file.
+/// Plays the script of standard input over tables in memory, or over those of a file, which may have so many entries.
 pub fn play_script(
     rt: &HostRuntime,
     registers: Registers,
     path: Option<&str>,
+    limit: u64,
 ) -> Result<bool, Failure> {
     match (path, registers) {
-        (Some(path), Registers::Both) => play_on_file(rt, path)?,
+        (Some(path), Registers::Both) => play_on_file(rt, path, limit)?,
         (Some(path), Registers::Tables) => play_on_tables(rt, path)?,
-        (None, Registers::Both) => play_in_memory(rt)?,
+        (None, Registers::Both) => drop(play_in_memory(rt)?),
         (None, Registers::Tables) => play_on_tables_in_memory(rt)?,
     }
     Ok(true)
 }
 
-fn play_in_memory(rt: &HostRuntime) -> Result<(), Failure> {
+fn play_in_memory(rt: &HostRuntime) -> Result<Connection<MemStore>, Failure> {
     let conn = Connection::open_in_memory(rt.alloc())?;
     match adopt(rt.alloc(), conn, MOST_ENTRIES) {
         Ok(both) => play_over_both(rt, both),
@@ -97,9 +100,12 @@ fn play_on_tables_in_memory(rt: &HostRuntime) -> Result<(), Failure> {
     }
 }
 
-fn play_on_file(rt: &HostRuntime, path: &str) -> Result<(), Failure> {
-    match open_file(rt, path, Unknown, MOST_ENTRIES, &mut Silent) {
-        Ok(both) => play_over_both(rt, both),
+fn play_on_file(rt: &HostRuntime, path: &str, limit: u64) -> Result<(), Failure> {
+    match open_file(rt, path, Unknown, limit.min(MOST_ENTRIES), &mut Silent) {
+        Ok(both) => {
+            play_over_both(rt, both)?;
+            Ok(())
+        }
         Err(fault) => Err(Failure::from(fault)),
     }
 }
@@ -142,5 +148,20 @@ pub fn tell(rt: &HostRuntime, path: &str, limit: u64) -> Result<bool, Failure> {
             Ok(true)
         }
         Err(fault) => Err(Failure::from(fault)),
+    }
+}
+
+/// Plays the script of standard input over tables in memory, takes their connection back and leaves a change under way in it: all
+/// entries are deleted. Then it is adopted, and told of as `tell` tells of a file.
+pub fn tell_adopted(rt: &HostRuntime) -> Result<bool, Failure> {
+    let mut conn = play_in_memory(rt)?;
+    conn.execute("BEGIN", &[])?;
+    conn.execute("DELETE FROM register", &[])?;
+    match adopt(rt.alloc(), conn, MOST_ENTRIES) {
+        Ok(both) => {
+            told_of_both(rt, both)?;
+            Ok(true)
+        }
+        Err((fault, _)) => Err(Failure::from(fault)),
     }
 }

@@ -16,8 +16,10 @@ pub enum Work<'a> {
         response: &'a str,
         setup: Option<&'a str>,
     },
-    /// A script is played over registers, in memory or in the file of a path.
-    Play(Registers, Option<&'a str>),
+    /// A script is played over registers, in memory or in the file of a path, for so many entries.
+    Play(Registers, Option<&'a str>, u64),
+    /// A script is played in memory, and its tables are adopted and told of.
+    Adopt,
     /// The desk of a file is opened for so many entries, told of and closed.
     Open(&'a str, u64),
     /// A row is put into tables, damaged where a change is given, and read.
@@ -40,8 +42,8 @@ impl<'a> Work<'a> {
     /// What the program's words ask for; None where it is nothing.
     pub fn read(words: &'a [String]) -> Option<Work<'a>> {
         match words {
-            [_] => Some(Work::Play(Registers::Both, None)),
-            [_, kind] => Some(Work::Play(Registers::read(kind.as_str())?, None)),
+            [_] => Some(Work::Play(Registers::Both, None, MOST_ENTRIES)),
+            [_, kind] => Work::of_none(kind.as_str()),
             [_, kind, word] => Work::of_one(kind.as_str(), word.as_str()),
             [_, kind, first, second] => {
                 Work::of_two(kind.as_str(), first.as_str(), second.as_str())
@@ -56,10 +58,18 @@ impl<'a> Work<'a> {
         }
     }
 
+    /// What a kind asks for.
+    fn of_none(kind: &'a str) -> Option<Work<'a>> {
+        Some(match kind {
+            "adopt" => Work::Adopt,
+            _ => Work::Play(Registers::read(kind)?, None, MOST_ENTRIES),
+        })
+    }
+
     /// What a kind and one word ask for.
     fn of_one(kind: &'a str, word: &'a str) -> Option<Work<'a>> {
         Some(match kind {
-            "play" | "tables" => Work::Play(Registers::read(kind)?, Some(word)),
+            "play" | "tables" => Work::Play(Registers::read(kind)?, Some(word), MOST_ENTRIES),
             "open" => Work::Open(word, MOST_ENTRIES),
             "day" => Work::Day(Store::read(word)?),
             "schema" => Work::Schema(word),
@@ -78,6 +88,7 @@ impl<'a> Work<'a> {
                 setup: None,
             },
             "open" => Work::Open(first, u64::from(number(second)?)),
+            "play" => Work::Play(Registers::Both, Some(first), u64::from(number(second)?)),
             "damaged" => Work::Damaged {
                 call: Call::read(first)?,
                 row: second,

@@ -63,8 +63,8 @@ meaning_of Line = codes "the line of the script asks nothing that the desk knows
 meaning_of NoSuchMessage = codes "the participant was not sent so many messages"
 meaning_of NotOurFile = codes "the file is none of a desk's: it is no database, or its tables are not those that accepted entries leave"
 meaning_of OtherVersion = codes "the tables of the file are of another version"
-meaning_of NoMemory = codes "memory is wanting; nothing was changed"
-meaning_of DeviceFailed = codes "the device under the tables failed, or the file cannot be opened or closed; nothing was changed"
+meaning_of NoMemory = codes "memory is wanting; a request that it answers changed nothing"
+meaning_of DeviceFailed = codes "the device under the tables failed, or the file cannot be opened or closed; a request that it answers changed nothing"
 meaning_of DeskClosed = codes "the desk is closed: it could not be shown that its tables are as before"
 
 -- what to do about it, in a line

@@ -211,9 +211,9 @@ impl Cause {
                 "the file is none of a desk's: it is no database, or its tables are not those that accepted entries leave"
             }
             Cause::OtherVersion => { "the tables of the file are of another version" }
-            Cause::NoMemory => { "memory is wanting; nothing was changed" }
+            Cause::NoMemory => { "memory is wanting; a request that it answers changed nothing" }
             Cause::DeviceFailed => {
-                "the device under the tables failed, or the file cannot be opened or closed; nothing was changed"
+                "the device under the tables failed, or the file cannot be opened or closed; a request that it answers changed nothing"
             }
             Cause::DeskClosed => {
                 "the desk is closed: it could not be shown that its tables are as before"

@@ -87,6 +87,7 @@ impl<M: MemoryRegister, S: ToldRegister + Drop> MirroredRegister<M, S> {
         ensures tables { result.1 ≡ self.tables }
         ensures same { self.stage ≢ Failed → HasSame (shown (M.view result.0) self.stage self.failures) (S.view result.1) }
         ensures idle { self.stage ≡ Idle → (S.view result.1).stage ≡ Idle }
+        ensures begun { self.stage ≡ Begun → HasSameMark (shown (M.view result.0) self.stage self.failures) (S.view result.1) }
     {
         (self.memory, self.tables)
     }

@@ -60,7 +60,7 @@ fn lacking_text(alloc: Global, row: &PendingPair) -> Result<String, AllocError> 
         return Ok(String::new(alloc));
     };
     if lacking == 0 {
-        return String::from_str(alloc, "  lacks nothing now");
+        return String::from_str(alloc, "  what it lacked has come");
     }
     match row.cash {
         Some(cash) if row.reason == Reason::Money => {
@@ -72,6 +72,14 @@ fn lacking_text(alloc: Global, row: &PendingPair) -> Result<String, AllocError> 
             format!(in alloc; "  lacks {} {}", row.kind.as_str(), quantity.as_str())
         }
     }
+}
+
+/// What a pair moves, as wide with no payment as with one where something stands behind it.
+fn front_text(alloc: Global, terms: String, behind: &str) -> Result<String, AllocError> {
+    if behind.is_empty() {
+        return Ok(terms);
+    }
+    format!(in alloc; "{:<71}", terms.as_str())
 }
 
 /// The line of a side of a pair.
@@ -96,12 +104,13 @@ fn side_text(alloc: Global, does: &str, side: &Side) -> Result<String, AllocErro
 pub fn pending_text(alloc: Global, row: &PendingPair) -> Result<String, AllocError> {
     let terms = terms_text(alloc, row.day, row.isin, row.kind, row.quantity, row.cash)?;
     let lacking = lacking_text(alloc, row)?;
+    let front = front_text(alloc, terms, &lacking)?;
     let deliverer = side_text(alloc, "delivers", &row.deliverer)?;
     let receiver = side_text(alloc, "receives", &row.receiver)?;
     format!(in alloc;
         "{}  {}{}\n{}{}",
         reason_code(row.reason),
-        terms.as_str(),
+        front.as_str(),
         lacking.as_str(),
         deliverer.as_str(),
         receiver.as_str()
@@ -223,7 +232,7 @@ pub fn security_total_text(alloc: Global, total: &SecurityTotal) -> Result<Strin
     let held = number_text(alloc, total.held, 0)?;
     let outstanding = number_text(alloc, total.outstanding, 0)?;
     format!(in alloc;
-        "{:<12}  held {:>20}  issued less redeemed {:>20}\n",
+        "{:<12}  held {:>20}  issued less redeemed  {:>20}\n",
         total.isin.as_str(),
         held.as_str(),
         outstanding.as_str()

@@ -1,8 +1,9 @@
 -- What a register in SQL keeps true, and what contracts see of it.
 use Rattle.std.specs.Prelude.{◌≡◌, ◌≢◌, ℕ, [], true, false, IsTrue, refl}
 use Rattle.std.specs.Coded.{Coded, code_by, coded×, coded_ℕ}
-use Rattle.sqlite.specs.Held.{Held, held_code}
+use Rattle.sqlite.specs.Held.{Held, held_code, state}
 use Rattle.sqlite.specs.State.{State, HasCleanDisk}
+use Rattle.sqlite_trees.specs.declared.store.Store.{Ghosts}
 use Rattle.desk_register.specs.declared.register.Stage.{Stage}
 use Rattle.desk_register.specs.contracts.register.Stage as stage
 use Rattle.desk_register.specs.declared.register.Stage.TheVariants.{Idle, Begun, Failed}
@@ -50,3 +51,6 @@ shown s stage failures room = record {
   is_honest = HasCleanDisk s;
   is_sure = IsTrue s.is_open;
 }
+
+abbrev pub view_of : {S : Type 0} → Ghosts S → Kept S → View
+view_of store k = shown (state store k.connection) k.stage k.failures k.room

@@ -3,7 +3,7 @@
 use crate::counting::{count_entries, count_messages};
 use crate::sql_register::SqlRegister;
 use crate::undoing::take_back;
-use crate::{appending, cancelling, looking, pairing, sending, settling};
+use crate::{cancelling, looking, pairing, settling};
 use desk_codes::{AccountId, Bic, Ccy, Day, Isin, Reference};
 use desk_mirror::{KnownPair, ToldRegister};
 use desk_msg::{Instruction, Kind};
@@ -18,10 +18,9 @@ use std::alloc::Global;
 
 impl<S: Alter> Register for SqlRegister<S> {
     ghost use Rattle.std.specs.Prelude.{false};
-    ghost use Rattle.sql_register.specs.Kept.{shown};
-    ghost use Rattle.sqlite.specs.Held.{state};
+    ghost use Rattle.sql_register.specs.Kept.{view_of};
 
-    ghost view = { λ r. shown (state S.Store r.connection) r.stage r.failures r.room };
+    ghost view = { λ r. view_of S.Store r };
 
     ghost in_memory = { false };
 
@@ -190,9 +189,8 @@ impl<S: Alter> Register for SqlRegister<S> {
     }
 
     fn append(&mut self, alloc: Global, entry: Entry, reply: Reply) -> Result<(), Fault> {
-        let known = self.course.known.entries;
-        let added = appending::append(&mut self.conn, known, &entry, &reply);
-        self.course.told_entry(alloc, entry, added)
+        self.count(alloc)?;
+        self.add_entry(alloc, entry, reply)
     }
 
     fn pair(&mut self, alloc: Global, earlier: u64, later: u64) -> Result<(), Fault> {
@@ -218,10 +216,8 @@ impl<S: Alter> Register for SqlRegister<S> {
     }
 
     fn send(&mut self, alloc: Global, message: Sent) -> Result<(), Fault> {
-        let known = self.course.known.messages;
-        let mut known_to = self.course.known.messages_to(&message.bic);
-        let sent = sending::send(&mut self.conn, known, &mut known_to, &message);
-        self.course.told_message(alloc, message.bic, known_to, sent)
+        self.sent_count(alloc)?;
+        self.add_message(alloc, message)
     }
 }
 

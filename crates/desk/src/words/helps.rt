@@ -137,8 +137,8 @@ The parts, in the order in which they are told, each once however often it is na
 Each part has its name for a heading, which stands alone where there is nothing to tell. With --json it is one
 JSON object on a line, with a member for each part: an array of rows, of the sums an object; an amount is in
 minor units of its currency.
-Nothing is changed. With --db it is the desk of that file; where there is no file none is made, and it is
-`fault 61`. Without --db a script from standard input is played on a desk in memory; its answers are not
+What the desk holds stays. With --db it is the desk of that file; where there is no file none is made, and it
+is `fault 61`. Without --db a script from standard input is played on a desk in memory; its answers are not
 printed, and what stands at its end is told.
 
 Example:
@@ -159,8 +159,8 @@ and of a run how many pairs it settled and how many due ones it left. Behind an 
 message that was sent because of it: its type, its addressee, and its number there, as `sent BIC K` of a
 script asks for it. With --json it is one JSON object on a line, with an array `journal` of rows; an amount is
 in minor units of its currency.
-Nothing is changed. With --db it is the desk of that file; where there is no file none is made, and it is
-`fault 61`. Without --db a script from standard input is played on a desk in memory; its answers are not
+What the desk holds stays. With --db it is the desk of that file; where there is no file none is made, and it
+is `fault 61`. Without --db a script from standard input is played on a desk in memory; its answers are not
 printed, and the entries at its end are told.
 
 Example:

@@ -1,12 +1,12 @@
 use Rattle.std.proofs.Common.{rules}
-use Rattle.desk_opening.proofs.AloneLemmas.{alone_finds, alone_keeps, alone_ready}
+use Rattle.desk_opening.proofs.AloneLemmas.{alone_fault, alone_finds, alone_opened}
 use Rattle.desk_opening.proofs.tables.adopt_tables.Goals as goal
 
-pub returns-in-Ok-clause-ready : goal.returns-in-Ok-clause-ready
-returns-in-Ok-clause-ready g c = search (rules, alone_ready)
+pub returns-clause-opened : goal.returns-clause-opened
+returns-clause-opened g c = search (rules, alone_opened)
 
-pub returns-in-Ok-clause-keep : goal.returns-in-Ok-clause-keep
-returns-in-Ok-clause-keep g c = search (rules, alone_keeps)
+pub returns-clause-which : goal.returns-clause-which
+returns-clause-which g c = search (rules, alone_finds)
 
-pub returns-in-Ok-clause-which : goal.returns-in-Ok-clause-which
-returns-in-Ok-clause-which g c = search (rules, alone_finds)
+pub returns-clause-back : goal.returns-clause-back
+returns-clause-back g c = search (rules, alone_fault)

@@ -5,7 +5,7 @@ use Rattle.desk_register.specs.Changes.{with_sent}
 use Rattle.sql_register.specs.Content.{content_in}
 use Rattle.sql_register.specs.Kept.{Kept}
 use Rattle.sql_register.proofs.KnownLemmas.{content_changed, holds_changed}
-use Rattle.sql_register.proofs.calls.SqlRegisterRegister.send.Goals as goal
+use Rattle.sql_register.proofs.sql_register.SqlRegister.add_message.Goals as goal
 
 pub invariant_of-self : goal.invariant_of-self
 invariant_of-self g c =
