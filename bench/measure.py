@@ -22,18 +22,10 @@ import time
 sys.dont_write_bytecode = True
 sys.path.insert(0, os.path.join(os.path.dirname(os.path.abspath(__file__)), "..", "tests"))
 
+from codes import check_digit  # noqa: E402
 from over_http import requests_of, sent_for  # noqa: E402
 from scripts import requests_in  # noqa: E402
 from statements import Desk  # noqa: E402
-
-
-def check_digit(body):
-    digits = "".join(str(int(c, 36)) for c in body)
-    total = 0
-    for place, digit in enumerate(reversed(digits)):
-        product = int(digit) * (2 if place % 2 == 0 else 1)
-        total += product // 10 + product % 10
-    return (10 - total % 10) % 10
 
 
 def is_isin(code):

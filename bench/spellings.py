@@ -6,25 +6,10 @@ taken off. It prints a row of a table for each spelling: the cost of one command
 import json
 import sys
 
+from codes import bic, isin
 from counting import COST, UNIT
 
 EACH = 625
-
-
-def check_digit(body):
-    """The last digit of an ISIN (ISO 6166, annex A)."""
-    digits = "".join(str(int(c, 36)) for c in body)
-    doubled = [int(d) * (2 if at % 2 == 0 else 1) for at, d in enumerate(reversed(digits))]
-    return -sum(n // 10 + n % 10 for n in doubled) % 10
-
-
-def isin(number):
-    body = f"DE{number:09d}"
-    return f"{body}{check_digit(body)}"
-
-
-def bic(number):
-    return "".join(chr(65 + number // 26**place % 26) for place in (3, 2, 1, 0)) + "DEFF"
 
 
 def commands():
