@@ -1,13 +1,35 @@
 """The requests of a script, the words that play it and the answers that are printed to it: what tests/refuse_memory,
 tests/refuse_disk, tests/same_tables, tests/generate and bench/measure.py share."""
 
+import functools
 import os
+import tempfile
+
+# the word that stands for a path at which there is no file
+NEW = "NEW"
+
+
+@functools.cache
+def folder_of_files():
+    return tempfile.TemporaryDirectory()
+
+
+def new_path():
+    """A path at which there is no file; what stood at the last one goes."""
+    path = os.path.join(folder_of_files().name, "desk.db")
+    for end in ("", "-wal"):
+        if os.path.exists(path + end):
+            os.remove(path + end)
+    return path
 
 
 def playing(program):
-    """The words that play a script on a program: `PROGRAM play`, or `PROGRAM WORD` where it is given as PROGRAM:WORD."""
-    path, colon, word = program.rpartition(":")
-    return [os.path.abspath(path), word] if colon else [os.path.abspath(program), "play"]
+    """The words that play a script on a program: `PROGRAM play`, or `PROGRAM WORDS` where it is given as PROGRAM:WORDS, one of
+    which may be NEW: the path of a file that is not there."""
+    path, colon, words = program.rpartition(":")
+    if not colon:
+        return [os.path.abspath(program), "play"]
+    return [os.path.abspath(path), *(new_path() if it == NEW else it for it in words.split())]
 
 
 def requests_in(script):

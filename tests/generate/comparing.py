@@ -18,10 +18,10 @@ MOST_SHRINKING = 30
 
 
 def ended(program, words, given):
-    """The exit status and what was printed; a program that does not end in time has no status. Of PROGRAM:WORD it is WORD that
-    plays a script."""
-    path, play = playing(program)
-    own = [play if word == "play" else word for word in words]
+    """The exit status and what was printed; a program that does not end in time has no status. Of PROGRAM:WORDS it is these
+    words that play a script."""
+    path, *play = playing(program)
+    own = [it for word in words for it in (play if word == "play" else [word])]
     try:
         ran = subprocess.run([path, *own], input=given, capture_output=True, timeout=MOST_SECONDS)
     except subprocess.TimeoutExpired:
