@@ -5,13 +5,13 @@ import functools
 import os
 import tempfile
 
-# the word that stands for a path at which there is no file
-NEW = "NEW"
+# the word that stands for a path at which there is no file, and a folder that lies in memory, in which it is made where there is one
+NEW, SHARED_MEMORY = "NEW", "/dev/shm"
 
 
 @functools.cache
 def folder_of_files():
-    return tempfile.TemporaryDirectory()
+    return tempfile.TemporaryDirectory(dir=SHARED_MEMORY if os.path.isdir(SHARED_MEMORY) else None)
 
 
 def new_path():
