@@ -2,10 +2,13 @@
 tests/opened_days and tests/odd_files share."""
 
 import contextlib
+import json
 import os
 import re
 import shutil
 import sqlite3
+import subprocess
+import sys
 from collections import namedtuple
 
 from files import changed, written
@@ -14,8 +17,8 @@ TOP = os.path.dirname(os.path.dirname(os.path.abspath(__file__)))
 MAKING = os.path.join(TOP, "crates/sql_tables/src/making.rt")
 DAY = os.path.join(TOP, "cases/play/play_day_of_every_request.stdin")
 
-# What the opening of a file comes to: the number of its fault (0: none), and of such why it is one, as standard error tells; of a
-# file that is opened, whether it holds the day or nothing.
+# What the opening of a file comes to: the number of its fault (0: none), and of such why it is one, as standard error tells; of
+# a file that is opened, whether it holds the day or nothing.
 Due = namedtuple("Due", "fault why")
 A_DAY, NOTHING = Due(0, "a day"), Due(0, "nothing")
 
@@ -37,6 +40,12 @@ def other_in(table):
     return Due(50, f"the table {name} does not say what the entries come to")
 
 
+def command(op, reference, **members):
+    """The request of an operator's command."""
+    said = json.dumps({"op": op, "ref": reference, **members}, separators=(",", ":"))
+    return f"op\n{said}\n.\n".encode()
+
+
 def instruction(sender, mt, reference, quantity, day):
     """The request of a side that delivers, or receives, so many units of a day."""
     account, counterparty, qualifier = ("A-1", "BETADEFF", "REAG") if mt == 542 else ("B-1", "ALPHDEFF", "DEAG")
@@ -48,7 +57,20 @@ def instruction(sender, mt, reference, quantity, day):
     return f"in {sender} {mt}\n{chr(10).join(lines)}\n.\n".encode()
 
 
-# What still waits behind the day: two pairs of a later day, and two instructions that are unmatched.
+def cancellation(sender, mt, reference, previous):
+    """The request that an instruction be cancelled."""
+    lines = ["{4:", ":16R:GENL", f":20C::SEME//{reference}", ":23G:CANC"]
+    lines += [":16R:LINK", f":20C::PREV//{previous}", ":16S:LINK", ":16S:GENL", "-}"]
+    return f"in {sender} {mt}\n{chr(10).join(lines)}\n.\n".encode()
+
+
+# What is paid in behind the day of a currency, and paid out again, so that all of it is 0.
+SPENT = [
+    command("payin", "M3", bic="ALPHDEFF", ccy="USD", amount=700),
+    command("payout", "M4", bic="ALPHDEFF", ccy="USD", amount=700),
+]
+
+# What still waits behind it: two pairs of a later day, and two instructions that are unmatched.
 WAITING = [
     instruction("ALPHDEFF", 542, "W1", 5, "20990102"),
     instruction("BETADEFF", 540, "W1", 5, "20990102"),
@@ -60,15 +82,20 @@ WAITING = [
 
 
 def script_of_day():
-    """A day of every request, and what still waits behind it."""
+    """A day of every request, a currency that is spent behind it, and what still waits."""
     with open(DAY, "rb") as file:
-        return file.read() + b"".join(WAITING)
+        return file.read() + b"".join([*SPENT, *WAITING])
 
 
 def texts():
     """The texts that make the tables and the indexes, in their order."""
     with open(MAKING, encoding="utf-8") as file:
         return re.findall(r'"(CREATE [^"]*)"', file.read())
+
+
+def texts_of_first():
+    """Those of version 1, which has two tables."""
+    return [it for it in texts() if re.match(r"CREATE (TABLE (register|version)|INDEX register_about) ", it)]
 
 
 @contextlib.contextmanager
@@ -79,6 +106,38 @@ def held_by_another(path, mode):
     connection.execute("SELECT COUNT(*) FROM register").fetchall()
     yield path
     connection.close()
+
+
+# A program that has read a file and begun nothing, and has it open, with its log, until its input ends.
+IDLE = """import sqlite3, sys
+connection = sqlite3.connect(sys.argv[1])
+connection.execute("SELECT COUNT(*) FROM register").fetchall()
+print("read", flush=True)
+sys.stdin.read()"""
+
+
+@contextlib.contextmanager
+def open_elsewhere(path):
+    """A file that another program has open, idle."""
+    with subprocess.Popen([sys.executable, "-c", IDLE, path], stdin=subprocess.PIPE, stdout=subprocess.PIPE) as program:
+        program.stdout.readline()
+        yield path
+        program.stdin.close()
+
+
+def left_by_kill(path, end, *statements):
+    """What a program that is killed behind these statements leaves: a copy of a file, and of the one beside it of this end."""
+    left = path + "_left"
+    with contextlib.closing(sqlite3.connect(path, isolation_level=None)) as connection:
+        for statement in statements:
+            connection.execute(statement)
+        for it in "", end:
+            shutil.copy(path + it, left + it)
+    return left
+
+
+# What changes all entries in a rollback journal's mode, and does not end. As there is room for few pages, some are written.
+UNENDED = "PRAGMA journal_mode = DELETE", "PRAGMA cache_size = 1", "BEGIN", "UPDATE register SET place = 'X'"
 
 
 def odd_files(room, day):
@@ -99,32 +158,50 @@ def odd_files(room, day):
     yield Odd("a day", shutil.copy(day, path("day again")), A_DAY)
     yield Odd("a day in one file, vacuumed", of_day("vacuum", "VACUUM"), A_DAY)
     yield Odd("a day in a rollback journal's mode", of_day("delete", "PRAGMA journal_mode = DELETE"), A_DAY)
-    yield Odd("a table too many", of_day("many", "CREATE TABLE further (number INTEGER PRIMARY KEY) STRICT"), OTHER_TABLES)
+    further = "CREATE TABLE further (number INTEGER PRIMARY KEY) STRICT"
+    yield Odd("a table too many", of_day("many", further), OTHER_TABLES)
     yield Odd("a table too few", of_day("few", "DROP TABLE due"), OTHER_TABLES)
     yield Odd("a view", of_day("view", "CREATE VIEW further AS SELECT bic FROM cash"), OTHER_TABLES)
-    yield Odd("a trigger", of_day("trigger", "CREATE TRIGGER further AFTER INSERT ON cash BEGIN DELETE FROM due; END"), OTHER_TABLES)
+    trigger = "CREATE TRIGGER further AFTER INSERT ON cash BEGIN DELETE FROM due; END"
+    yield Odd("a trigger", of_day("trigger", trigger), OTHER_TABLES)
     yield Odd("an analysis", of_day("analysis", "ANALYZE"), OTHER_TABLES)
     yield Odd("the tables of another", changed(path("another"), "CREATE TABLE note (title TEXT)"), OTHER_TABLES)
+    yield Odd("another's table of the name", changed(path("register"), "CREATE TABLE register (a TEXT)"), OTHER_TABLES)
     yield Odd("the tables, and no version", changed(path("unversioned"), *texts()), OTHER_TABLES)
     yield Odd("the tables, and their version", changed(path("versioned"), *texts(), "INSERT INTO version VALUES (3)"), NOTHING)
+    first = *texts_of_first(), "INSERT INTO version VALUES (1)"
+    yield Odd("version 1", changed(path("version 1"), *first), OTHER_VERSION)
     yield Odd("version 2", of_day("version 2", "UPDATE version SET number = 2"), OTHER_VERSION)
     yield Odd("version 4", of_day("version 4", "UPDATE version SET number = 4"), OTHER_VERSION)
     yield Odd("two versions", of_day("two versions", "INSERT INTO version VALUES (4)"), OTHER_TABLES)
     yield Odd("no version", of_day("no version", "DELETE FROM version"), OTHER_TABLES)
-    yield Odd("other tables of version 4", of_day("of version 4", "UPDATE version SET number = 4", "DROP TABLE due"), OTHER_VERSION)
-    yield Odd("another's table of versions", changed(path("versions"), "CREATE TABLE version (number INTEGER)", "INSERT INTO version VALUES (1)"), OTHER_VERSION)
+    version_4 = "UPDATE version SET number = 4", "DROP TABLE due"
+    yield Odd("other tables of version 4", of_day("of version 4", *version_4), OTHER_VERSION)
+    versions = "CREATE TABLE version (number INTEGER)", "INSERT INTO version VALUES (1)"
+    yield Odd("another's table of versions", changed(path("versions"), *versions), OTHER_VERSION)
     view = "CREATE TABLE note (number INTEGER)", "INSERT INTO note VALUES (4)", "CREATE VIEW version AS SELECT number FROM note"
     yield Odd("a view of versions", changed(path("view of versions"), *view), OTHER_TABLES)
-    yield Odd("a table of versions that are words", changed(path("words"), "CREATE TABLE version (name TEXT)", "INSERT INTO version VALUES ('1')"), OTHER_TABLES)
-    yield Odd("an entry too few", of_day("entry", "DELETE FROM register WHERE number = (SELECT MAX(number) FROM register)"), other_in("state"))
+    words = "CREATE TABLE version (name TEXT)", "INSERT INTO version VALUES ('1')"
+    yield Odd("a table of versions that are words", changed(path("words"), *words), OTHER_TABLES)
+    last = "DELETE FROM {0} WHERE rowid = (SELECT MAX(rowid) FROM {0})"
+    yield Odd("an entry too few", of_day("entry", last.format("register")), other_in("state"))
     yield Odd("a gap among the entries", of_day("gap", "DELETE FROM register WHERE number = 2"), other_entry(2))
     yield Odd("an entry below the first", of_day("below", "UPDATE register SET number = 0 WHERE number = 1"), other_entry(1))
-    for table in "balance", "cash", "total", "state", "sent", "unmatched", "due":
-        yield Odd(f"a row too few in {table}", of_day(f"less {table}", f"DELETE FROM {table} WHERE rowid = (SELECT MAX(rowid) FROM {table})"), other_in(table))
+    for table in "balance", "cash", "total":
+        yield Odd(f"no first row in {table}", of_day(f"less {table}", f"DELETE FROM {table} WHERE rowid = 1"), other_in(table))
+    for table in "state", "sent", "unmatched", "due":
+        yield Odd(f"no last row in {table}", of_day(f"less {table}", last.format(table)), other_in(table))
     yield Odd("a balance of nothing", of_day("nothing", "INSERT INTO balance VALUES ('A-9', 'DE0007164600', 0)"), A_DAY)
-    yield Odd("a balance of somebody", of_day("somebody", "INSERT INTO balance VALUES ('A-9', 'DE0007164600', 1)"), other_in("balance"))
+    somebody = "INSERT INTO balance VALUES ('A-9', 'DE0007164600', 1)"
+    yield Odd("a balance of somebody", of_day("somebody", somebody), other_in("balance"))
+    yield Odd("no cash where it is spent", of_day("spent", "DELETE FROM cash WHERE amount = 0"), A_DAY)
     yield Odd("a total of nothing", of_day("total", "INSERT INTO total VALUES ('security', 'DE000BASF111', 0)"), A_DAY)
-    yield Odd("a total of another subject", of_day("subject", "INSERT INTO total VALUES ('other', 'EUR', 1)"), other_in("total"))
+    subject = of_day("subject", "INSERT INTO total VALUES ('other', 'EUR', 1)")
+    yield Odd("a total of another subject", subject, other_in("total"))
+    unpaid = of_day("unpaid", "INSERT INTO total VALUES ('currency', 'CHF', 0)")
+    yield Odd("a total of 0 of a currency that was never paid in", unpaid, other_in("total"))
+    paid = of_day("paid", "DELETE FROM total WHERE subject = 'currency' AND amount = 0")
+    yield Odd("no total of a currency that was paid in and out again", paid, other_in("total"))
     negative = of_day("negative", "PRAGMA ignore_check_constraints = ON", "UPDATE balance SET quantity = -1 WHERE rowid = 1")
     yield Odd("a negative balance", negative, NO_DATABASE)
     with open(day, "rb") as file:
@@ -136,6 +213,12 @@ def odd_files(room, day):
     yield Odd("no such folder", path("none such/file"), NOT_OPENED)
     yield Odd("memory", ":memory:", NOT_OPENED)
     yield Odd("a URI", "file:" + path("uri"), NOT_OPENED)
+    yield Odd("a rollback journal beside it", left_by_kill(of_day("unended"), "-journal", *UNENDED), NOT_OPENED)
+    with open_elsewhere(of_day("idle")) as idle:
+        yield Odd("a file that another program has open, idle", idle, NOT_OPENED)
+    logged = left_by_kill(of_day("logged"), "-wal", "UPDATE version SET number = 3")
+    with open(logged + "-wal", "rb"):
+        yield Odd("a log beside it, which another program has open", logged, A_DAY)
     for name, mode in ("shared", "BEGIN"), ("exclusive", "BEGIN EXCLUSIVE"):
         journal = of_day(name, "PRAGMA journal_mode = DELETE")
         with held_by_another(journal, mode):
@@ -152,9 +235,9 @@ def damaged_files(room, day):
         ("register", "quantity = 11 WHERE number = 6", other_in("balance")),
         ("register", "reply = 'accepted 10' WHERE number = 9", other_entry(9)),
         ("register", "about = 'BETADEFF' WHERE number = 12", other_entry(12)),
-        ("register", "number = 99 WHERE number = 26", other_entry(26)),
+        ("register", "number = 99 WHERE number = 28", other_entry(28)),
         ("state", "state = 3 WHERE number = 10", other_in("state")),
-        ("unmatched", "quantity = 9 WHERE number = 25", other_in("unmatched")),
+        ("unmatched", "quantity = 9 WHERE number = 27", other_in("unmatched")),
         ("due", "place = place - 1", other_in("due")),
         ("sent", "text = 'MATCHED' WHERE number = 1", other_in("sent")),
         ("balance", "quantity = 4 WHERE account = 'A-1'", other_in("balance")),
@@ -164,7 +247,8 @@ def damaged_files(room, day):
     ]:
         yield Odd(f"{table} where {change}", of_day(f"{table}_{change[:4]}", f"UPDATE {table} SET {change}"), due)
     for number in 1, 13:
-        yield Odd(f"entry {number} removed", of_day(f"without_{number}", f"DELETE FROM register WHERE number = {number}"), other_entry(number))
+        removed = of_day(f"without_{number}", f"DELETE FROM register WHERE number = {number}")
+        yield Odd(f"entry {number} removed", removed, other_entry(number))
     yield Odd("no entry", of_day("no_entry", "DELETE FROM register"), other_in("state"))
     with open(day, "rb") as file:
         content = file.read()

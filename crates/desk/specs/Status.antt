@@ -1,5 +1,5 @@
 -- How a run ends.
-use Rattle.std.specs.Prelude.{◌≡◌, ◌≢◌, ◌⊎◌, ℕ, List, ◌++◌, codes}
+use Rattle.std.specs.Prelude.{◌≡◌, ◌≢◌, ◌⊎◌, ℕ, List, ◌++◌, codes, Result, Err}
 use Rattle.std.specs.declared.io.ErrorKind.{ErrorKind as IoKind}
 use Rattle.std.specs.declared.io.ErrorKind.TheVariants as io_kind
 use Rattle.clap.specs.declared.error.kind.ErrorKind.{ErrorKind}
@@ -46,6 +46,12 @@ IsFailureTold failure status IsPrinted = (status ≡ Fault) × IsPrinted (failur
 -- could not be closed, which is told behind.
 abbrev pub EndsAs : Status → Status → Type 0 → (List ℕ → Type 0) → Type 0
 EndsAs said status IsUnwritten IsPrinted = ((status ≡ said) × IsUnwritten) ⊎ ((said ≢ Fault) × IsFailureTold Storage status IsPrinted)
+
+-- and how it ended by whether the file could be closed: a run that told no fault tells that it could not, and any other ends as it did
+abbrev pub EndsBy : {F E : Type 0} → Result F E → Status → Status → Type 0 → (List ℕ → Type 0) → Type 0
+EndsBy (Err error) Done status IsUnwritten IsPrinted = IsFailureTold Storage status IsPrinted
+EndsBy (Err error) Refused status IsUnwritten IsPrinted = IsFailureTold Storage status IsPrinted
+EndsBy closed said status IsUnwritten IsPrinted = (status ≡ said) × IsUnwritten
 
 -- the exit status of help and of what is wrong with the words
 abbrev pub status_of_error : ErrorKind → Status

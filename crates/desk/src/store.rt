@@ -5,7 +5,7 @@ ghost use Rattle.sqlite.specs.Files.{over_files};
 ghost use Rattle.desk_opening.specs.Opened.{IsOpened};
 ghost use Rattle.desk_rules.specs.declared.limits.TheConstants.{MOST_ENTRIES};
 ghost use Rattle.desk.specs.Closed.{AreClosed};
-ghost use Rattle.desk.specs.Status.{EndsAs, IsOpeningFailure};
+ghost use Rattle.desk.specs.Status.{EndsAs, EndsBy, IsOpeningFailure};
 
 use crate::status::{Failure, Status, tell_failure};
 use crate::teller::Teller;
@@ -107,6 +107,7 @@ pub fn ended<F: Drop, W: Sink>(
 ) -> io::Result<Status>
     requires { OnErr told (W.may_fail ≡ true) }
     ensures told { IfOk result (λ status. IsOkAnd told (λ said. EndsAs said status (writer.new ≡ writer.old) (Appends (W.contents writer.old) (W.contents writer.new)))) }
+    ensures closed { IfOk result (λ status. IsOkAnd told (λ said. EndsBy closed said status (writer.new ≡ writer.old) (Appends (W.contents writer.old) (W.contents writer.new)))) }
     ensures failed { OnErr result (W.may_fail ≡ true) }
 {
     let status = told?;
