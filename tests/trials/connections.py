@@ -82,7 +82,7 @@ def trials(room):
         copy(path, room)
     write(f"{room}/cases/sums.stdin", ASKED.decode())
     write(f"{room}/cases/sums.stdout", ANSWERED.decode())
-    yield passes("a program that serves", served(room), "25 passed, 0 failed\n")
+    yield passes("a program that serves", served(room), "26 passed, 0 failed\n")
     yield fails("another answer", served(room, ANSWERED=ANSWERED + b" "), "serve: cases/sums: not as it must be\n")
     yield fails("it listens elsewhere", served(room, ELSEWHERE=1), "serve: cases/sums: not as it must be\n")
     yield fails("it serves too few", served(room, FEWER=-1), "serve: cases/sums: not as it must be\n")

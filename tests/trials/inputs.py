@@ -1,7 +1,13 @@
 """Trials of the scripts that make input for the program, or refuse it memory or a file, with programs that do nothing, or
 little."""
 
-from .room import TESTS, fails, passes, run, write
+import contextlib
+import os
+import sqlite3
+
+from plain.program import answer
+
+from .room import TESTS, copy, fails, passes, run, write, write_script
 
 SILENT = "int main(void) { return 0; }\n"
 
@@ -88,6 +94,186 @@ int main(int count, char **words)
 }
 """
 
+# takes memory for its words, to open a file and for each of three rows; what is broken is defined
+TELLS = """#include <fcntl.h>
+#include <stdio.h>
+#include <stdlib.h>
+#include <string.h>
+#include <unistd.h>
+static int say(const char *text)
+{
+    size_t length = strlen(text);
+    while (length > 0) {
+        ssize_t wrote = write(1, text, length);
+        if (wrote < 0 && RETRIES)
+            wrote = write(1, text, length);
+        if (wrote < 0)
+            return 1;
+        text += wrote;
+        length -= wrote;
+    }
+    return 0;
+}
+static int fault(const char *front)
+{
+    return say(front) || say("fault 60\\n") ? UNWRITTEN : 3;
+}
+int main(int count, char **words)
+{
+    const char *db = NULL;
+    int is_json = 0;
+    for (int at = 2; at < count; at += 1) {
+        is_json = is_json || strcmp(words[at], "--json") == 0;
+        db = strcmp(words[at - 1], "--db") == 0 ? words[at] : db;
+    }
+    if (malloc(1) == NULL)
+        return fault("");
+    if (strcmp(words[1], "play") == 0)
+        return close(open(db, O_RDWR | O_CREAT, 0600));
+    if (db != NULL && malloc(1) == NULL) {
+        fprintf(stderr, "desk: %s: fault 60: memory is wanting\\n", db);
+        return fault("");
+    }
+    for (int row = 0; row < 3; row += 1) {
+        if (malloc(1) != NULL) {
+            if (say(is_json ? "[]" : "row\\n"))
+                return UNWRITTEN;
+        } else if (!LEAVES_OUT) {
+            if (TELLS_MORE)
+                fprintf(stderr, "desk: %s: fault 60: memory is wanting\\n", db);
+            if (CHANGES)
+                truncate(db, 1);
+            return fault(is_json && ENDS ? "\\n" : "");
+        }
+    }
+    return say("\\n") ? UNWRITTEN : 0;
+}
+"""
+TOLD_WELL = {"RETRIES": 0, "UNWRITTEN": 3, "LEAVES_OUT": 0, "TELLS_MORE": 0, "CHANGES": 0, "ENDS": 1}
+
+# no odd file but those that tests/odd_files makes itself, and a day of nothing
+NO_ODD_FILES = """from all_odd import *
+def script_of_day():
+    return b""
+def odd_files(room, day):
+    return []
+def damaged_files(room, day):
+    return []
+"""
+
+# opens no file that another has open, and none with that table; what is broken is defined
+LOOKS = """db=$3
+fault() {
+  [ -z "$BESIDE" ] || touch "$db$BESIDE"
+  echo "fault $1"
+  echo "desk: $db: fault $1: $2" >&2
+  exit 3
+}
+if ! [ -e "$db" ]; then
+  [ "$1" = play ] && exec cp "$TABLES" "$db"
+  [ "$1" != "$MAKES" ] || touch "$db"
+  fault 61 "there is no such file, and none is made"
+fi
+if [ -e "$db-shm" ] || [ -e "$db.served" ] || ! [ -r "$db" ]; then
+  fault 61 "it cannot be opened, read or written, or another program has it open"
+fi
+! grep -q "TABLE note" "$db"* || fault 50 "it has other tables than the desk's, or others beside"
+case $1 in
+sums) echo '{"cash":[],"securities":[]}' ;;
+serve)
+  touch "$db.served"
+  "$PLAIN" "$@"
+  rm "$db.served" ;;
+esac
+"""
+
+# goes on where the desk of this file ended, by the plain program
+GOES_ON = """import os, sys
+if sys.argv[1] != "play":
+    os.execv(PLAIN, [PLAIN, *sys.argv[1:]])
+sys.dont_write_bytecode = True
+sys.path.insert(0, TESTS)
+from plain.dropping import keep, kept
+from plain.scripts import ask_item, items_of, shown
+books = kept(FROM or sys.argv[3])
+for line, body in items_of(sys.stdin.buffer.read()):
+    books, reply = ask_item(books, line, body)
+    sys.stdout.buffer.write(shown(reply))
+keep(sys.argv[3], books)
+"""
+CUT = """op
+{"op":"participant","ref":"P1","bic":"ALPHDEFF"}
+.
+op
+{"op":"account","ref":"A1","account":"A-1","bic":"ALPHDEFF"}
+.
+holdings ALPHDEFF A-1
+"""
+
+
+def trials_of_cuts(room):
+    """Two cases of three requests each are cut in two runs."""
+    for name in "one", "two":
+        write(f"{room}/cut/{name}.stdin", CUT)
+        write(f"{room}/cut/{name}.stdout", answer(["play"], CUT.encode())[1].decode())
+
+    def cut(*step, begins=""):
+        names = {"PLAIN": f"{TESTS}/plain/desk", "TESTS": TESTS, "FROM": begins}
+        write(f"{room}/goes_on.py", "".join(f"{name} = {value!r}\n" for name, value in names.items()) + GOES_ON)
+        write_script(f"{room}/goes_on", f'exec python3 {room}/goes_on.py "$@"')
+        return run(room, f"{TESTS}/cut_cases", f"{room}/goes_on", "cut", *step)
+
+    yield passes("cut_cases: each cut", cut(), "6 passed, 0 failed\n")
+    yield passes("cut_cases: one cut of each case at least", cut("9"), "2 passed, 0 failed\n")
+    why = "two.stdin, cut at byte 54: the answers are others; "
+    yield fails("cut_cases: a program that forgets what it was asked", cut("9", begins=":memory:"), why)
+    yield fails("cut_cases: no case", run(room, f"{TESTS}/cut_cases", f"{room}/goes_on", "none"), "there is no script to cut\n")
+
+
+def trials_of_reports(room):
+    """Memory and writes are refused to a program that tells three rows."""
+    write(f"{room}/tells.c", TELLS)
+
+    def refused(**broken):
+        words = [f"-D{it}={value}" for it, value in {**TOLD_WELL, **broken}.items()]
+        run(room, "gcc", "-O0", "-fno-builtin", *words, "-o", f"{room}/tells", f"{room}/tells.c")
+        return run(room, f"{TESTS}/refuse_reports", f"{room}/tells", "/dev/null")
+
+    yield passes("refuse_reports: a program that tells rows", refused(), " passed, 0 failed\n")
+    for name, (value, why) in {
+        "LEAVES_OUT": (1, "report, growth 3 of 5 refused: (0,"),
+        "TELLS_MORE": (1, "journal, growth 5 of 5 refused: (3,"),
+        "CHANGES": (1, "report, growth 4 of 5 refused: (3,"),
+        "ENDS": (0, "report --json, growth 4 of 5 refused: (3,"),
+        "UNWRITTEN": (1, "journal, write 2 half: (1,"),
+        "RETRIES": (1, "report --json, write 4 unmade: (0,"),
+    }.items():
+        yield fails(f"refuse_reports: {name} is {value}", refused(**{name: value}), why)
+
+
+def trials_of_files(room):
+    """A program is let at files, of which one is not there."""
+    copy("tests/odd_files", room)
+    for name in "files.py", "folders.py", "server.py", "plain":
+        os.symlink(f"{TESTS}/{name}", f"{room}/tests/{name}")
+    os.symlink(f"{TESTS}/odd.py", f"{room}/tests/all_odd.py")
+    write(f"{room}/tests/odd.py", NO_ODD_FILES)
+    with contextlib.closing(sqlite3.connect(f"{room}/tables")) as connection:
+        connection.execute("PRAGMA journal_mode = WAL")
+        connection.execute("CREATE TABLE register (number INTEGER PRIMARY KEY)")
+
+    def let_at(makes="", beside=""):
+        names = {"TABLES": f"{room}/tables", "PLAIN": f"{TESTS}/plain/desk", "MAKES": makes, "BESIDE": beside}
+        write_script(f"{room}/looks", *(f"{name}={value}" for name, value in names.items()), LOOKS)
+        return run(room, "tests/odd_files", f"{room}/looks")
+
+    yield passes("odd_files: a program that makes no file", let_at(), " passed, 0 failed\n")
+    for word in "holdings", "sums", "report", "journal":
+        why = f"odd_files: {word} over a path with no file: the file is another\n"
+        yield fails(f"odd_files: {word} makes the file that it looks for", let_at(makes=word), why)
+    why = "odd_files: play over a database that another left: beside it stand "
+    yield fails("odd_files: a journal that is left", let_at(beside="-journal"), why)
+
 
 def trials(room):
     def tried(script, *words):
@@ -137,6 +323,9 @@ def trials(room):
     yield fails("refuse_words: no growth", tried("refuse_words", silent, "case"), "no refusal led to this")
     yield fails("refuse_words: no case", tried("refuse_words", silent), "there is no case to run\n")
     yield fails("refuse_reports: no file", tried("refuse_reports", silent, "/dev/null"), "the program has made no file\n")
+    yield from trials_of_reports(room)
+    yield from trials_of_cuts(room)
+    yield from trials_of_files(room)
     yield fails("refuse_words: an unknown case", tried("refuse_words", silent, "none"), "there is no none.stdout\n")
     yield fails("refuse_register: no growth", tried("refuse_register", silent), "\n0 passed, 2 failed\n")
     yield fails("bounded_memory: a program that does nothing", tried("bounded_memory", silent), "\n0 passed, 10 failed\n")
