@@ -50,7 +50,7 @@ def trials_of_parts(room):
 
 def trials_of_tables(room):
     for part in SHARED:
-        write_script(f"{room}/tests/{part}", f"[ $1 != {TABLES} ] || echo '0 passed, 0 failed'", f"[ $1 = {TABLES} ] || {WELL}")
+        write_script(f"{room}/tests/{part}", f"[[ $1 != {TABLES}* ]] || echo '0 passed, 0 failed'", f"[[ $1 = {TABLES}* ]] || {WELL}")
         yield fails(f"{part} runs nothing over SQL", run(room, "./test"), f"tests/{part} passed 0, and its least count is ")
         write_script(f"{room}/tests/{part}", WELL)
 
