@@ -21,19 +21,18 @@ use Rattle.desk_rules.specs.declared.history.entry.Entry.{Entry}
 use Rattle.desk_rules.specs.Content.{Content, history_of}
 use Rattle.desk_register.specs.declared.holding.Holding.{Holding}
 use Rattle.desk_register.specs.Looked.{IsHoldingAfter, IsLess}
-use Rattle.desk_register.specs.View.{View, IfTrusted, IsLater, IsRead}
-use Rattle.desk_register.specs.declared.register.Stage.TheVariants.{Idle}
+use Rattle.desk_register.specs.View.{HasRead, IfTrusted, IsLater, IsRead, View}
 use Rattle.desk_register.proofs.CaseLemmas.{same_bytes}
-use Rattle.sql_tables.specs.Ends.{IfSound, IsLook, IsSame}
+use Rattle.sql_tables.specs.Ends.{HasLooked, IfSound, IsLook, IsSame}
 use Rattle.sql_tables.specs.Ends.{IsLater as IsLaterState}
 use Rattle.sql_tables.specs.Schema.{desk_schema}
 use Rattle.sql_amounts.specs.declared.key.Ledger.TheVariants as ledgers
 use Rattle.sql_amounts.specs.declared.key.AmountKey.{AmountKey}
 use Rattle.sql_amounts.specs.declared.key.AmountKey.TheVariants.{Balance, Cash, Currency}
 use Rattle.audit_rows.specs.declared.fault.AuditFault.{AuditFault}
-use Rattle.audit_rows.specs.Audits.{HasLooked, HasRead, of_register, of_tables}
-use Rattle.audit_rows.proofs.LookLemmas.{look_then}
-use Rattle.audit_rows.proofs.ReadLemmas.{read_then}
+use Rattle.audit_rows.specs.Audits.{of_register, of_tables}
+use Rattle.sql_tables.proofs.LookLemmas.{look_more, look_then}
+use Rattle.desk_register.proofs.ReadLemmas.{read_more, read_then}
 use Rattle.audit_amounts.specs.Shown.{AreTrueTables, IsTrueTable}
 use Rattle.audit_amounts.specs.Said.{HasAmounts, HasNoStranger}
 use Rattle.audit_amounts.proofs.EntryLemmas.{has_all}
@@ -68,11 +67,11 @@ module _ (s0 s1 s2 : State) (v0 v1 v2 : View) (looked : HasLooked s0 s1) (read :
   )
 
 -- three steps
-module _ (s0 s1 s2 s3 : State) (v0 v1 v2 v3 : View) (idle : v0.stage ≡ Idle) (look1 : HasLooked s0 s1) (read1 : HasRead v0 v1) (look2 : HasLooked s1 s2) (read2 : HasRead v1 v2) (later : IsLaterState s2 s3) (on : IsLater v2 v3) where
+module _ (s0 s1 s2 s3 : State) (v0 v1 v2 v3 : View) (look1 : HasLooked s0 s1) (read1 : HasRead v0 v1) (look2 : HasLooked s1 s2) (read2 : HasRead v1 v2) (later : IsLaterState s2 s3) (on : IsLater v2 v3) where
   pub in_three : (F G H : Database → Content → Type 0) → Found s0 s1 v0 v1 (F s0.now v0.content) → Found s1 s2 v1 v2 (G s1.now v1.content) → Found s2 s3 v2 v3 (H s2.now v2.content)
       → Found s0 s3 v0 v3 ((F s0.now v0.content × G s0.now v0.content) × H s0.now v0.content)
   in_three F G H one two three =
-      in_turn s0 s2 s3 v0 v2 v3 (look_then tt (Ok tt) s0 s1 s2 look1 look2) (read_then tt (Ok tt) v0 v1 v2 idle read1 read2) later on (λ db content. F db content × G db content) H
+      in_turn s0 s2 s3 v0 v2 v3 (look_more tt s0 s1 s2 look1 look2) (read_more tt v0 v1 v2 read1 read2) later on (λ db content. F db content × G db content) H
       (in_turn s0 s1 s2 v0 v1 v2 look1 read1 look2.later read2.later F G one two) three
 
 -- a step after others that gave no answer
@@ -80,9 +79,9 @@ pub look_failed : (fault : AuditFault) (r : Result Bool AuditFault) → IsErrAnd
 look_failed fault (Ok x) is s0 s1 s2 looked failed = absurd is
 look_failed fault (Err e) is s0 s1 s2 looked failed = look_then tt (of_tables {X = Bool} (Err e)) s0 s1 s2 looked (subst (λ f. IsLook (of_tables {X = Bool} (Err f)) s1 s2) (sym is) failed)
 
-pub read_failed : (fault : AuditFault) (r : Result Bool AuditFault) → IsErrAnd r (λ e. e ≡ fault) → (v0 v1 v2 : View) → v0.stage ≡ Idle → HasRead v0 v1 → IsRead (of_register {X = Bool} (Err fault)) v1 v2 → IsRead (of_register r) v0 v2
-read_failed fault (Ok x) is v0 v1 v2 idle read failed = absurd is
-read_failed fault (Err e) is v0 v1 v2 idle read failed = read_then tt (of_register {X = Bool} (Err e)) v0 v1 v2 idle read (subst (λ f. IsRead (of_register {X = Bool} (Err f)) v1 v2) (sym is) failed)
+pub read_failed : (fault : AuditFault) (r : Result Bool AuditFault) → IsErrAnd r (λ e. e ≡ fault) → (v0 v1 v2 : View) → HasRead v0 v1 → IsRead (of_register {X = Bool} (Err fault)) v1 v2 → IsRead (of_register r) v0 v2
+read_failed fault (Ok x) is v0 v1 v2 read failed = absurd is
+read_failed fault (Err e) is v0 v1 v2 read failed = read_then v0 v1 v2 read (of_register {X = Bool} (Err e)) (subst (λ f. IsRead (of_register {X = Bool} (Err f)) v1 v2) (sym is) failed)
 
 -- ---- what an account holds, security by security
 

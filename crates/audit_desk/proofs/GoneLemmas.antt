@@ -3,14 +3,13 @@ use Rattle.std.proofs.Common.{◌≡◌, ℕ, sym, ap, subst, ◌∙◌, arith}
 use Rattle.sqlite.specs.Effect.{Database}
 use Rattle.sqlite.specs.State.{State, HasCleanDisk}
 use Rattle.desk_rules.specs.Content.{Content}
-use Rattle.desk_register.specs.View.{View, IfTrusted, IsLater}
+use Rattle.desk_register.specs.View.{HasRead, IfTrusted, IsLater, View}
 use Rattle.desk_replay.specs.KeptHistory.{HoldsKept}
-use Rattle.sql_tables.specs.Ends.{IfSound, IsSame}
+use Rattle.sql_tables.specs.Ends.{HasLooked, IfSound, IsSame}
 use Rattle.sql_tables.specs.Ends.{IsLater as IsLaterState}
 use Rattle.sql_tables.specs.Schema.{desk_schema}
 use Rattle.sql_opening.specs.Forms.{AreAllFormed}
 use Rattle.sql_opening.specs.Order.{AreInOrder}
-use Rattle.audit_rows.specs.Audits.{HasLooked, HasRead}
 
 -- rows that stand in order and have the form of their tables, beside an accepted history
 pub record IsAccepted (db : Database) (limit : ℕ) (content : Content) : Type 0 where

@@ -28,11 +28,3 @@ module _ {S : Type 0} (store : Ghosts S) (old new : Held S) where
 -- its calls of the register
 abbrev pub Consults : {X : Type 0} → Result X AuditFault → View → View → Type 0
 Consults result old new = IsRead (of_register result) old new
-
--- looks so far, which went well
-abbrev pub HasLooked : State → State → Type 0
-HasLooked old new = IsLook {X = ⊤} (Ok tt) old new
-
--- calls of the register so far, which went well
-abbrev pub HasRead : View → View → Type 0
-HasRead old new = IsRead {X = ⊤} (Ok tt) old new

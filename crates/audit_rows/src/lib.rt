@@ -4,8 +4,7 @@
 //! specs/Audits.antt how one ends, for the tables and for the register. `same_row` in `rows.rt` compares a row that is shown
 //! with values as they are bound. A table of numbered rows is computed, number by number (specs/Numbered.antt), and
 //! proofs/RowLemmas.antt says when what a query shows makes it the table, ByNumberLemmas.antt when look-ups of each number do
-//! (specs/ByNumber.antt). Proofs of audits cite proofs/LookLemmas.antt, one look at the tables after another, and
-//! ReadLemmas.antt, one call of a register after another. Begin with specs/Audits.antt.
+//! (specs/ByNumber.antt). Begin with specs/Audits.antt.
 #![tactic(auto)]
 
 mod fault;

@@ -1,6 +1,6 @@
 -- A folder, taken on the desk of a file.
 use Rattle.std.proofs.Common.{inl, inr, ◌≡◌, ℕ, Bool, false, List, [], map, Option, refl, sym, ◌∙◌, subst}
-use Rattle.std.specs.Prelude.{◌⊎◌, Result, Ok, Err, IfErr, IfOk, IsOkAnd}
+use Rattle.std.specs.Prelude.{◌⊎◌, Result, Ok, Err, IfErr, IfOk, IsOkAnd, OnErr}
 use Rattle.std.specs.Io.KnownBytes.{Appends}
 use Rattle.std.proofs.KnownBytes.{Appends-nil}
 use Rattle.desk_rules.specs.declared.answers.reply.Reply.{Reply}
@@ -9,11 +9,13 @@ use Rattle.desk_register.specs.View.{View}
 use Rattle.desk_book.specs.declared.fault.Fault.{Fault as DeskFault}
 use Rattle.desk_book.specs.Answered.{AnsweredInTurn}
 use Rattle.desk_book.specs.Asked.{Asked}
+use Rattle.desk_book.specs.DeskValue.{DeskValue}
 use Rattle.desk_book.specs.Headline.{Headline}
 use Rattle.desk_book.specs.Held.{Holds}
 use Rattle.desk_drop.specs.declared.file.DropReply.{DropReply}
 use Rattle.desk_drop.specs.Folder.{File, IsOnlyFolder, Item}
 use Rattle.desk_drop.specs.Taken.{AreAnswered, HasTaken, answers_in, asked_in}
+use Rattle.desk.specs.Left.{IsLeft, LeavesSome}
 use Rattle.desk.specs.DropAnswer.{AreTakenFrom, IsDropAnswer, IsFolderFailure, IsFolderTold, told_failed, told_nothing}
 use Rattle.desk.specs.Status.{EndsAs, IsFailureTold, IsOpeningFailure}
 use Rattle.desk.specs.declared.status.Failure.{Failure}
@@ -21,13 +23,15 @@ use Rattle.desk.specs.declared.status.Failure.TheVariants.{Storage}
 use Rattle.desk.specs.declared.status.Status.{Status}
 use Rattle.desk.specs.declared.status.Status.TheVariants.{Done, Fault}
 use Rattle.desk_opening.specs.declared.fault.OpenFault.TheVariants as opening
+use Rattle.desk.proofs.LeftLemmas.{none_asked}
+use Rattle.desk.proofs.PlayLemmas.{left_so}
 
 -- files were taken from these books
 pub taken_from : (limit : ℕ) (books : Books) (files : List File) (replies : List DropReply) (was is : Bool) (v0 v1 : View) → v0.room ≡ limit → v1.room ≡ v0.room → was ≡ false
     → (t : (items : List Item) × IsOnlyFolder files items × (map (λ (reply : DropReply). reply.index) replies ≡ map (λ (item : Item). item.index) items)
     × AreAnswered was (map (λ (item : Item). item.request) items) (map (λ (reply : DropReply). reply.answer) replies) is
     × ((b : Books) → v1.is_honest → Holds was v0 b → HasTaken v0.room was b (map (λ (item : Item). item.request) items) (map (λ (reply : DropReply). reply.answer) replies) is v1))
-    → v1.is_honest → Holds was v0 books → AreTakenFrom limit books files replies
+    → v1.is_honest → Holds was v0 books → AreTakenFrom limit (IsLeft is v1) books files replies
 taken_from limit books files replies was is v0 v1 most room not_closed t honest holds =
     let taken = t.4 books honest holds in
     let requests = map (λ (item : Item). item.request) t.0 in
@@ -45,6 +49,7 @@ taken_from limit books files replies was is v0 v1 most room not_closed t honest 
       last = taken.last;
       in_turn = subst Q not_closed (subst P most taken.in_turn);
       promise = λ stays. (v1.content, subst H (room ∙ most) (taken.promise stays));
+      left = record { closed = refl; holds = taken.holds };
     }
 
 module _ {X : Type 0} (contents : X → Option (List ℕ)) (w0 w1 w2 : X) where
@@ -79,6 +84,23 @@ pub ok_taken : {V E : Type 0} (items_of : V → List DropReply) (r : Result V E)
     → IfOk r (λ replies. (items : List Item) × IsOnlyFolder files items × (map (λ (reply : DropReply). reply.index) (items_of replies) ≡ map (λ (item : Item). item.index) items)
     × AreAnswered was (map (λ (item : Item). item.request) items) (map (λ (reply : DropReply). reply.answer) (items_of replies)) is
     × ((b : Books) → v1.is_honest → Holds was v0 b → HasTaken v0.room was b (map (λ (item : Item). item.request) items) (map (λ (reply : DropReply). reply.answer) (items_of replies)) is v1))
-    → v1.is_honest → Holds was v0 books → IfOk r (λ replies. AreTakenFrom limit books files (items_of replies))
+    → v1.is_honest → Holds was v0 books → IfOk r (λ replies. AreTakenFrom limit (IsLeft is v1) books files (items_of replies))
 ok_taken items_of (Ok replies) limit books files was is v0 v1 most room not_closed t honest holds = taken_from limit books files (items_of replies) was is v0 v1 most room not_closed t honest holds
 ok_taken items_of (Err fault) limit books files was is v0 v1 most room not_closed t honest holds = tt
+
+-- a folder that was taken is some requests
+pub taken_some : (limit : ℕ) (L : Bool → Books → Type 0) (books : Books) (files : List File) (replies : List DropReply) → AreTakenFrom limit L books files replies → LeavesSome limit books L
+taken_some limit L books files replies t =
+    let requests = map (λ (item : Item). item.request) t.items in
+    let answers = map (λ (reply : DropReply). reply.answer) replies in
+    record { requests = asked_in requests; answers = answers_in requests answers; is_closed = t.is_closed; last = t.last; in_turn = t.in_turn; left = t.left }
+
+-- what was left where memory was wanting for the lists, or where the files were taken
+module _ {R : Type 0} (view : R → View) (old new : DeskValue R) (books : Books) (stays : old.is_closed ≡ false) (holds : Holds old.is_closed (view old.register) books) where
+  pub untouched_some : new ≡ old → LeavesSome (view old.register).room books (IsLeft new.is_closed (view new.register))
+  untouched_some same = none_asked (view old.register).room books (IsLeft new.is_closed (view new.register)) (left_so view old new books same stays holds)
+
+  pub taken_or_not : {V E : Type 0} (items_of : V → List DropReply) (files : List File) (r : Result V E) → IfOk r (λ replies. AreTakenFrom (view old.register).room (IsLeft new.is_closed (view new.register)) books files (items_of replies)) → OnErr r (new ≡ old)
+      → LeavesSome (view old.register).room books (IsLeft new.is_closed (view new.register))
+  taken_or_not items_of files (Ok replies) taken none = taken_some (view old.register).room (IsLeft new.is_closed (view new.register)) books files (items_of replies) taken
+  taken_or_not items_of files (Err fault) taken none = untouched_some none

@@ -2,6 +2,7 @@ pub mod ReadLemmas
 mod OverviewLemmas
 mod PlayLemmas
 mod JournalWords
+mod LeftLemmas
 mod NumberWords
 mod PlainWords
 mod ReportWords

@@ -1,7 +1,7 @@
 -- A script on a new desk in memory.
 use Rattle.std.proofs.Common.{inl, inr, ◌≡◌, ◌≢◌, ◌<◌, ◌≤◌, ℕ, Bool, false, List, length, get_or, All, Option, IfSome, refl, sym, ◌∙◌, subst, arith}
 use Rattle.std.proofs.KnownBytes.{Appends-trans}
-use Rattle.std.specs.Prelude.{◌++◌, Result, Ok, Err, IfOk, IsOkAnd, OnOk, codes, true}
+use Rattle.std.specs.Prelude.{◌++◌, Result, Ok, Err, IfOk, IsOkAnd, OnErr, OnOk, codes, true}
 use Rattle.std.specs.Io.KnownBytes.{Appends}
 use Rattle.desk_book.specs.declared.limits.TheConstants.{LONGEST_SCRIPT}
 use Rattle.desk_rules.specs.declared.answers.reply.Reply.{Reply}
@@ -19,15 +19,17 @@ use Rattle.desk_book.proofs.RunLemmas.{none_failed, open_all_along}
 use Rattle.desk_book.specs.declared.fault.Fault.{Fault}
 use Rattle.desk_book.specs.declared.fault.Fault.TheVariants as faults
 use Rattle.desk_book.specs.Answered.{AnsweredInTurn, says_closed}
+use Rattle.desk_book.specs.DeskValue.{DeskValue}
 use Rattle.desk_book.specs.Headline.{Headline}
 use Rattle.desk_book.specs.Held.{Holds, KeepsFormed}
-use Rattle.desk_book.specs.Played.{PlaysScript, answers_text, asked_in}
+use Rattle.desk_book.specs.Played.{PlaysFront, PlaysScript, answers_text, asked_in}
 use Rattle.desk_book.specs.declared.fault.InputFault.{InputFault}
 use Rattle.desk_book.specs.declared.fault.InputFault.TheVariants.{Memory, ReadFailed, TooLong}
 use Rattle.desk_book.specs.declared.fault.PlayFault.{PlayFault}
 use Rattle.desk_book.specs.declared.fault.PlayFault.TheVariants as plays
 use Rattle.desk.specs.Input.{MayGiveNone, failure_of}
-use Rattle.desk.specs.PlayAnswer.{IsReplyOrMemory, IsPlayAnswer, IsPlayAnswerFrom, IsPlayed, IsPlayedFrom, IsPlayTold, AreKept, IsFilePlayAnswer, told_answers, told_answers_from, told_from, told_no_script_from, told_unclosed, told_unopened}
+use Rattle.desk.specs.Left.{IsLeft}
+use Rattle.desk.specs.PlayAnswer.{IsLeftAnyhow, IsReplyOrMemory, IsPlayAnswer, IsPlayAnswerFrom, IsPlayed, IsPlayedFrom, IsPlayedInFront, IsPlayedInPart, IsPlayTold, AreKept, IsFilePlayAnswer, told_answers, told_answers_from, told_from, told_no_script_from, told_unclosed, told_unopened}
 use Rattle.desk_opening.specs.Opened.{IsReadyFor}
 use Rattle.desk.specs.Status.{EndsAs, IsFailureTold, IsOpeningFailure, failure_line}
 use Rattle.desk.specs.declared.status.Failure.{Failure}
@@ -74,26 +76,27 @@ told r U reads before after was is v0 v1 most room not_closed stays sound few ho
     told_answers p.0 (answers_text s.items s.answers) p.1 is_played refl s.written
 
 -- What is told of a script that was played, or was not, by a writer that held this before, once it was played, and at the end.
-module _ {X : Type 0} (contents : X → Option (List ℕ)) (w0 w1 w2 : X) (given : Option (List ℕ)) (U : Type 0) (reads : Bool) (A : Status → Type 0) where
+-- (What is so where nothing was asked is N.)
+module _ {X : Type 0} (contents : X → Option (List ℕ)) (w0 w1 w2 : X) (given : Option (List ℕ)) (U : Type 0) (reads : Bool) (N : Type 0) (A : Status → Type 0) where
   -- why it was not is told in this answer
   abbrev pub MayTellWhy : Type 0
-  MayTellWhy = (status : Status) (fault : InputFault) → MayGiveNone LONGEST_SCRIPT given U reads fault → IsFailureTold (failure_of fault) status (Appends (contents w0) (contents w2)) → A status
+  MayTellWhy = (status : Status) (fault : InputFault) → MayGiveNone LONGEST_SCRIPT given U reads fault → IsFailureTold (failure_of fault) status (Appends (contents w0) (contents w2)) → N → A status
 
   untold : (status : Status) (failure : Failure) → w1 ≡ w0 → IsFailureTold failure status (Appends (contents w1) (contents w2)) → IsFailureTold failure status (Appends (contents w0) (contents w2))
   untold status failure unwritten told = subst (λ w. IsFailureTold failure status (Appends (contents w) (contents w2))) unwritten told
 
   told_status : (played : Result (Unit {0}) PlayFault) (status : Status) → MayTellWhy → OnOk played (w2 ≡ w1 → A exit.Done)
-      → (played ≡ Err plays.ReadFailed → (w1 ≡ w0) × (reads ≡ true)) → (played ≡ Err plays.TooLong → (w1 ≡ w0) × IfSome given (λ input. LONGEST_SCRIPT < length input))
-      → (played ≡ Err plays.Memory → (w1 ≡ w0) × U) → IsPlayTold played status (w2 ≡ w1) (Appends (contents w1) (contents w2)) → A status
+      → (played ≡ Err plays.ReadFailed → N × (w1 ≡ w0) × (reads ≡ true)) → (played ≡ Err plays.TooLong → N × (w1 ≡ w0) × IfSome given (λ input. LONGEST_SCRIPT < length input))
+      → (played ≡ Err plays.Memory → N × (w1 ≡ w0) × U) → IsPlayTold played status (w2 ≡ w1) (Appends (contents w1) (contents w2)) → A status
   told_status (Ok done) status why ok unread long memory told = subst A (sym told.0) (ok told.1)
-  told_status (Err plays.Memory) status why ok unread long memory told = let m = memory refl in why status Memory m.1 (untold status failure.Memory m.0 told)
-  told_status (Err plays.ReadFailed) status why ok unread long memory told = let m = unread refl in why status ReadFailed m.1 (untold status failure.Input m.0 told)
-  told_status (Err plays.TooLong) status why ok unread long memory told = let m = long refl in why status TooLong m.1 (untold status failure.Input m.0 told)
+  told_status (Err plays.Memory) status why ok unread long memory told = let m = memory refl in why status Memory m.2 (untold status failure.Memory m.1 told) m.0
+  told_status (Err plays.ReadFailed) status why ok unread long memory told = let m = unread refl in why status ReadFailed m.2 (untold status failure.Input m.1 told) m.0
+  told_status (Err plays.TooLong) status why ok unread long memory told = let m = long refl in why status TooLong m.2 (untold status failure.Input m.1 told) m.0
   told_status (Err plays.WriteFailed) status why ok unread long memory told = absurd told
 
   pub told_played : {E : Type 0} (result : Result Status E) (played : Result (Unit {0}) PlayFault) → MayTellWhy → OnOk played (w2 ≡ w1 → A exit.Done)
-      → (played ≡ Err plays.ReadFailed → (w1 ≡ w0) × (reads ≡ true)) → (played ≡ Err plays.TooLong → (w1 ≡ w0) × IfSome given (λ input. LONGEST_SCRIPT < length input))
-      → (played ≡ Err plays.Memory → (w1 ≡ w0) × U) → IfOk result (λ status. IsPlayTold played status (w2 ≡ w1) (Appends (contents w1) (contents w2))) → IfOk result A
+      → (played ≡ Err plays.ReadFailed → N × (w1 ≡ w0) × (reads ≡ true)) → (played ≡ Err plays.TooLong → N × (w1 ≡ w0) × IfSome given (λ input. LONGEST_SCRIPT < length input))
+      → (played ≡ Err plays.Memory → N × (w1 ≡ w0) × U) → IfOk result (λ status. IsPlayTold played status (w2 ≡ w1) (Appends (contents w1) (contents w2))) → IfOk result A
   told_played (Ok status) played why ok unread long memory told = told_status played status why ok unread long memory told
   told_played (Err e) played why ok unread long memory told = tt
 
@@ -107,13 +110,14 @@ ok_then (Err fault) a then = tt
 
 -- from these books
 pub told_from_books : (limit : ℕ) (books : Books) (given : Option (List ℕ)) (U : Type 0) (reads : Bool) (before after : Option (List ℕ)) (was is : Bool) (v0 v1 : View) → v0.room ≡ limit → v1.room ≡ v0.room → was ≡ false
-    → (script : List ℕ) × IfSome given (λ input. input ≡ script) × (length script ≤ LONGEST_SCRIPT) × PlaysScript was books script before after is v0 v1 → IsPlayAnswerFrom limit books given U reads exit.Done (Appends before after)
+    → (script : List ℕ) × IfSome given (λ input. input ≡ script) × (length script ≤ LONGEST_SCRIPT) × PlaysScript was books script before after is v0 v1
+    → IsPlayAnswerFrom limit (IsLeft is v1) books given U reads exit.Done (Appends before after)
 told_from_books limit books given U reads before after was is v0 v1 most room not_closed p =
     let s = p.3 in
     let P : ℕ → Type 0 = λ k. AnsweredInTurn k was books (asked_in s.items) s.answers is s.played.last in
     let Q : Bool → Type 0 = λ b. AnsweredInTurn limit b books (asked_in s.items) s.answers is s.played.last in
     let H : ℕ → Type 0 = λ k. Headline k s.played.last v1.content in
-    let is_played : IsPlayedFrom limit books p.0 (answers_text s.items s.answers) = record {
+    let is_played : IsPlayedFrom limit (IsLeft is v1) books p.0 (answers_text s.items s.answers) = record {
       items = s.items;
       answers = s.answers;
       is_closed = is;
@@ -122,9 +126,93 @@ told_from_books limit books given U reads before after was is v0 v1 most room no
       spells = s.spells;
       in_turn = subst Q not_closed (subst P most s.played.in_turn);
       promise = λ stays. (v1.content, subst H (room ∙ most) (s.played.promise stays));
+      left = record { closed = refl; holds = s.played.holds };
       written = refl;
     } in
     told_answers_from p.0 (answers_text s.items s.answers) p.1 is_played refl s.written
+
+-- a desk of which nothing was asked
+pub left_so : {R : Type 0} (view : R → View) (old new : DeskValue R) (books : Books) → new ≡ old → old.is_closed ≡ false → Holds old.is_closed (view old.register) books → IsLeft new.is_closed (view new.register) false books
+left_so view old new books same stays holds =
+    let P : Bool → Type 0 = λ b. Holds b (view old.register) books in
+    subst (λ d. IsLeft d.is_closed (view d.register) false books) (sym same) (record { closed = stays; holds = subst P stays holds })
+
+-- the first items of the script were played, from these books
+in_front : (limit : ℕ) (books : Books) (given : Option (List ℕ)) (was is : Bool) (v0 v1 : View) → v0.room ≡ limit → was ≡ false
+    → (script : List ℕ) × IfSome given (λ input. input ≡ script) × (length script ≤ LONGEST_SCRIPT) × PlaysFront was books script is v0 v1 → IsPlayedInFront limit (IsLeft is v1) books given
+in_front limit books given was is v0 v1 most not_closed p =
+    let s = p.3 in
+    let P : ℕ → Type 0 = λ k. AnsweredInTurn k was books (asked_in s.front) s.answers is s.played.last in
+    let Q : Bool → Type 0 = λ b. AnsweredInTurn limit b books (asked_in s.front) s.answers is s.played.last in
+    record {
+      script = p.0;
+      came = p.1;
+      short = p.2;
+      front = s.front;
+      behind = s.behind;
+      spells = s.spells;
+      answers = s.answers;
+      is_closed = is;
+      last = s.played.last;
+      in_turn = subst Q not_closed (subst P most s.played.in_turn);
+      left = record { closed = refl; holds = s.played.holds };
+    }
+
+-- what was played where the writer failed
+pub in_part : {E : Type 0} (result : Result Status E) (played : Result (Unit {0}) PlayFault) (limit : ℕ) (books : Books) (given : Option (List ℕ)) (was is : Bool) (v0 v1 : View) → v0.room ≡ limit → was ≡ false → OnOk played (result ≡ Ok exit.Done)
+    → (played ≡ Err plays.ReadFailed → IsLeft is v1 false books) → (played ≡ Err plays.TooLong → IsLeft is v1 false books) → (played ≡ Err plays.Memory → IsLeft is v1 false books)
+    → (played ≡ Err plays.WriteFailed → (script : List ℕ) × IfSome given (λ input. input ≡ script) × (length script ≤ LONGEST_SCRIPT) × PlaysFront was books script is v0 v1)
+    → OnErr result (IsPlayedInPart limit (IsLeft is v1) books given)
+in_part (Ok status) played limit books given was is v0 v1 most not_closed done unread long memory stands = tt
+in_part (Err e) (Ok told) limit books given was is v0 v1 most not_closed done unread long memory stands = absurd (cc)
+in_part (Err e) (Err plays.Memory) limit books given was is v0 v1 most not_closed done unread long memory stands = inl (memory refl)
+in_part (Err e) (Err plays.ReadFailed) limit books given was is v0 v1 most not_closed done unread long memory stands = inl (unread refl)
+in_part (Err e) (Err plays.TooLong) limit books given was is v0 v1 most not_closed done unread long memory stands = inl (long refl)
+in_part (Err e) (Err plays.WriteFailed) limit books given was is v0 v1 most not_closed done unread long memory stands = inr (in_front limit books given was is v0 v1 most not_closed (stands refl))
+
+-- of what was left something else is said
+module _ (limit : ℕ) (L M : Bool → Books → Type 0) (each : (is_closed : Bool) (last : Books) → L is_closed last → M is_closed last) (books : Books) (given : Option (List ℕ)) where
+  said_of : (script text : List ℕ) → IsPlayedFrom limit L books script text → IsPlayedFrom limit M books script text
+  said_of script text p = record {
+    items = p.items;
+    answers = p.answers;
+    is_closed = p.is_closed;
+    last = p.last;
+    short = p.short;
+    spells = p.spells;
+    in_turn = p.in_turn;
+    promise = p.promise;
+    left = each p.is_closed p.last p.left;
+    written = p.written;
+  }
+
+  pub told_of : (U : Type 0) (reads : Bool) (status : Status) (P : List ℕ → Type 0) → IsPlayAnswerFrom limit L books given U reads status P → IsPlayAnswerFrom limit M books given U reads status P
+  told_of U reads status P (told_answers_from script text came played done written) = told_answers_from script text came (said_of script text played) done written
+  told_of U reads status P (told_no_script_from fault may failure left) = told_no_script_from fault may failure (each false books left)
+
+  part_of : IsPlayedInPart limit L books given → IsPlayedInPart limit M books given
+  part_of (inl left) = inl (each false books left)
+  part_of (inr p) = inr (record {
+    script = p.script;
+    came = p.came;
+    short = p.short;
+    front = p.front;
+    behind = p.behind;
+    spells = p.spells;
+    answers = p.answers;
+    is_closed = p.is_closed;
+    last = p.last;
+    in_turn = p.in_turn;
+    left = each p.is_closed p.last p.left;
+  })
+
+  pub ok_told_of : {E : Type 0} (r : Result Status E) (U : Type 0) (reads : Bool) (P : List ℕ → Type 0) → IfOk r (λ status. IsPlayAnswerFrom limit L books given U reads status P) → IfOk r (λ status. IsPlayAnswerFrom limit M books given U reads status P)
+  ok_told_of (Ok status) U reads P told = told_of U reads status P told
+  ok_told_of (Err e) U reads P told = tt
+
+  pub err_part_of : {E : Type 0} (r : Result Status E) → OnErr r (IsPlayedInPart limit L books given) → OnErr r (IsPlayedInPart limit M books given)
+  err_part_of (Ok status) part = tt
+  err_part_of (Err e) part = part_of part
 
 -- a new register keeps the tables of no history, and so does what is equal to it
 pub new_keeps : (made held : IndexedRegister) → held ≡ made → (view_of_index made).content ≡ empty_content → KeepsFormed (view_of_index held).room no_books (view_of_index held).content
@@ -136,25 +224,22 @@ pub limit_is : (made held : IndexedRegister) → held ≡ made → (view_of_inde
 limit_is made held same limit = let P : IndexedRegister → Type 0 = λ r. (view_of_index r).room ≡ MOST_ENTRIES in subst P (sym same) limit
 
 -- of a register with room for as many entries as a desk may have
-pub from_most : {E : Type 0} (r : Result Status E) (room : ℕ) (books : Books) (content : Content) (given : Option (List ℕ)) (U : Type 0) (reads : Bool) (P : List ℕ → Type 0) → room ≡ MOST_ENTRIES → KeepsFormed MOST_ENTRIES books content
-    → ((false ≡ false → KeepsFormed room books content) → IfOk r (λ status. IsPlayAnswerFrom room books given U reads status P)) → IfOk r (λ status. IsPlayAnswerFrom MOST_ENTRIES books given U reads status P)
-from_most r room books content given U reads P most keeps told =
-    let Q : ℕ → Type 0 = λ k. IfOk r (λ status. IsPlayAnswerFrom k books given U reads status P) in
-    subst Q most (told (λ is. subst (λ k. KeepsFormed k books content) (sym most) keeps))
+pub from_most : (room : ℕ) (books : Books) (content : Content) (Q : ℕ → Type 0) → room ≡ MOST_ENTRIES → KeepsFormed MOST_ENTRIES books content → ((false ≡ false → KeepsFormed room books content) → Q room) → Q MOST_ENTRIES
+from_most room books content Q most keeps told = subst Q most (told (λ is. subst (λ k. KeepsFormed k books content) (sym most) keeps))
 
 -- how a run over a file ended, from books that the file held
 pub ended_played : {E : Type 0} (told result : Result Status E) (books : Books) (given : Option (List ℕ)) (U : Type 0) (reads : Bool) {X : Type 0} (contents : X → Option (List ℕ)) (w0 w1 w2 : X) → AreKept books
-    → IfOk told (λ status. IsPlayAnswerFrom MOST_ENTRIES books given U reads status (Appends (contents w0) (contents w1)))
+    → IfOk told (λ status. IsPlayAnswerFrom MOST_ENTRIES IsLeftAnyhow books given U reads status (Appends (contents w0) (contents w1)))
     → IfOk result (λ status. IsOkAnd told (λ said. EndsAs said status (w2 ≡ w1) (Appends (contents w1) (contents w2))))
     → IfOk result (λ status. IsFilePlayAnswer given U reads status (Appends (contents w0) (contents w2)))
 ended_played told (Err e) books given U reads contents w0 w1 w2 kept is ends = tt
 ended_played (Err e) (Ok status) books given U reads contents w0 w1 w2 kept is ends = absurd ends
 ended_played (Ok said) (Ok status) books given U reads contents w0 w1 w2 kept is (inl same) =
     let P : Status → Type 0 = λ s. IsFilePlayAnswer given U reads s (Appends (contents w0) (contents w2)) in
-    subst P (sym same.0) (told_from books kept (subst (λ w. IsPlayAnswerFrom MOST_ENTRIES books given U reads said (Appends (contents w0) (contents w))) (sym same.1) is))
+    subst P (sym same.0) (told_from books kept (subst (λ w. IsPlayAnswerFrom MOST_ENTRIES IsLeftAnyhow books given U reads said (Appends (contents w0) (contents w))) (sym same.1) is))
 ended_played (Ok said) (Ok status) books given U reads contents w0 w1 w2 kept (told_answers_from script text came played done written) (inr unclosed) =
     told_unclosed books kept script text came played unclosed.1.0 (Appends-trans (contents w0) (contents w1) (contents w2) text (failure_line Storage ++ codes "\n") written unclosed.1.1)
-ended_played (Ok said) (Ok status) books given U reads contents w0 w1 w2 kept (told_no_script_from fault may failure) (inr unclosed) = absurd (unclosed.0 failure.0)
+ended_played (Ok said) (Ok status) books given U reads contents w0 w1 w2 kept (told_no_script_from fault may failure left) (inr unclosed) = absurd (unclosed.0 failure.0)
 
 -- the file was not opened
 pub told_unopened_so : {E : Type 0} (r : Result Status E) (failure : Failure) (given : Option (List ℕ)) (U : Type 0) (reads : Bool) (P : List ℕ → Type 0) → IsOpeningFailure failure → U → IfOk r (λ status. IsFailureTold failure status P)

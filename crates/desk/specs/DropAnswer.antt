@@ -17,8 +17,8 @@ use Rattle.desk.specs.declared.status.Status.{Status}
 use Rattle.desk.specs.declared.status.Status.TheVariants.{Done}
 
 -- Files were taken on a desk that kept these books, and got these replies; what the desk held then, unless it was closed, keeps
--- its promise.
-pub record AreTakenFrom (limit : ℕ) (books : Books) (files : List File) (replies : List DropReply) : Type 0 where
+-- its promise, and this is what was left of it.
+pub record AreTakenFrom (limit : ℕ) (IsLeftSo : Bool → Books → Type 0) (books : Books) (files : List File) (replies : List DropReply) : Type 0 where
   pub items : List Item
   pub only : IsOnlyFolder files items
   pub told : map (λ reply. reply.index) replies ≡ map (λ item. item.index) items
@@ -27,6 +27,7 @@ pub record AreTakenFrom (limit : ℕ) (books : Books) (files : List File) (repli
   pub last : Books
   pub in_turn : AnsweredInTurn limit false books (asked_in (map (λ item. item.request) items)) (answers_in (map (λ item. item.request) items) (map (λ reply. reply.answer) replies)) is_closed last
   pub promise : is_closed ≡ false → (held : Content) × Headline limit last held
+  pub left : IsLeftSo is_closed last
 
 -- the name of the file in which the answer to a file of this name stands
 abbrev pub answer_name : List ℕ → List ℕ

@@ -6,6 +6,7 @@ pub mod ExplainAnswer
 pub mod Finding
 pub mod Input
 pub mod IsinAnswer
+pub mod Left
 pub mod OverviewAnswer
 pub mod PlayAnswer
 pub mod ReadAnswer

@@ -1,5 +1,5 @@
 -- What `desk play` answers.
-use Rattle.std.specs.Prelude.{◌≡◌, ◌≤◌, ℕ, Bool, false, List, ◌++◌, length, All, Option, Result, Ok, Err, codes}
+use Rattle.std.specs.Prelude.{◌≡◌, ◌⊎◌, ◌≤◌, ℕ, Bool, false, List, ◌++◌, length, All, Option, Result, Ok, Err, codes}
 use Rattle.desk_book.specs.declared.limits.TheConstants.{LONGEST_SCRIPT}
 use Rattle.desk_rules.specs.declared.answers.reply.Reply.{Reply}
 use Rattle.desk_rules.specs.Books.{Books}
@@ -57,9 +57,9 @@ IsPlayTold (Err plays.ReadFailed) status IsUnwritten IsPrinted = IsFailureTold I
 IsPlayTold (Err plays.TooLong) status IsUnwritten IsPrinted = IsFailureTold Input status IsPrinted
 IsPlayTold (Err plays.WriteFailed) status IsUnwritten IsPrinted = ⊥
 
--- The whole script was played on a desk that kept these books; this is the text of its answers, and what the desk held then,
--- unless it was closed, keeps its promise.
-pub record IsPlayedFrom (limit : ℕ) (books : Books) (script text : List ℕ) : Type 0 where
+-- The whole script was played on a desk that kept these books, and this is the text of its answers. What the desk held then,
+-- unless it was closed, keeps its promise; and this is what was left of it.
+pub record IsPlayedFrom (limit : ℕ) (IsLeftSo : Bool → Books → Type 0) (books : Books) (script text : List ℕ) : Type 0 where
   pub items : List Item
   pub answers : List (Result Reply Fault)
   pub is_closed : Bool
@@ -68,22 +68,48 @@ pub record IsPlayedFrom (limit : ℕ) (books : Books) (script text : List ℕ) :
   pub spells : Script script items
   pub in_turn : AnsweredInTurn limit false books (asked_in items) answers is_closed last
   pub promise : is_closed ≡ false → (held : Content) × Headline limit last held
+  pub left : IsLeftSo is_closed last
   pub written : text ≡ answers_text items answers
 
--- as `IsPlayAnswer`, from these books
-pub data IsPlayAnswerFrom (limit : ℕ) (books : Books) (given : Option (List ℕ)) (IsUnread : Type 0) (may_fail : Bool) (status : Status) (IsPrinted : List ℕ → Type 0) : Type 0 where
-  told_answers_from : (script text : List ℕ) → Came given script → IsPlayedFrom limit books script text → status ≡ exit.Done → IsPrinted text → IsPlayAnswerFrom limit books given IsUnread may_fail status IsPrinted
-  told_no_script_from : (fault : InputFault) → MayGiveNone LONGEST_SCRIPT given IsUnread may_fail fault → IsFailureTold (failure_of fault) status IsPrinted
-      → IsPlayAnswerFrom limit books given IsUnread may_fail status IsPrinted
+-- as `IsPlayAnswer`, from these books; where no script was read the desk was left as it was
+pub data IsPlayAnswerFrom (limit : ℕ) (IsLeftSo : Bool → Books → Type 0) (books : Books) (given : Option (List ℕ)) (IsUnread : Type 0) (may_fail : Bool) (status : Status) (IsPrinted : List ℕ → Type 0) : Type 0 where
+  told_answers_from : (script text : List ℕ) → Came given script → IsPlayedFrom limit IsLeftSo books script text → status ≡ exit.Done → IsPrinted text
+      → IsPlayAnswerFrom limit IsLeftSo books given IsUnread may_fail status IsPrinted
+  told_no_script_from : (fault : InputFault) → MayGiveNone LONGEST_SCRIPT given IsUnread may_fail fault → IsFailureTold (failure_of fault) status IsPrinted → IsLeftSo false books
+      → IsPlayAnswerFrom limit IsLeftSo books given IsUnread may_fail status IsPrinted
+
+-- The first items of a script that came were played on a desk that kept these books, and what stands behind them spells the items
+-- that follow; this is what was left of it.
+pub record IsPlayedInFront (limit : ℕ) (IsLeftSo : Bool → Books → Type 0) (books : Books) (given : Option (List ℕ)) : Type 0 where
+  pub script : List ℕ
+  pub came : Came given script
+  pub short : length script ≤ LONGEST_SCRIPT
+  pub front : List Item
+  pub behind : List ℕ
+  pub spells : (items : List Item) → Script behind items → Script script (front ++ items)
+  pub answers : List (Result Reply Fault)
+  pub is_closed : Bool
+  pub last : Books
+  pub in_turn : AnsweredInTurn limit false books (asked_in front) answers is_closed last
+  pub left : IsLeftSo is_closed last
+
+-- What was played where a writer failed: nothing, or the first items of the script.
+abbrev pub IsPlayedInPart : ℕ → (Bool → Books → Type 0) → Books → Option (List ℕ) → Type 0
+IsPlayedInPart limit IsLeftSo books given = IsLeftSo false books ⊎ IsPlayedInFront limit IsLeftSo books given
+
+-- of what is left nothing is said
+abbrev pub IsLeftAnyhow : Bool → Books → Type 0
+IsLeftAnyhow is_closed books = Unit {0}
 
 -- some desk keeps these books: an accepted history of well-formed entries, with their replies
 abbrev pub AreKept : Books → Type 0
 AreKept books = (content : Content) × KeepsFormed MOST_ENTRIES books content
 
 -- What `desk play --db` answers: the file was not opened, which is told alone, and nothing was read; or the script was played
--- on the desk of what the file held; or that, and the file could not be closed, which is told behind.
+-- on the desk of what the file held; or that, and the file could not be closed, which is told behind. (What the file holds then is
+-- said of the connection that is closed, and of its files.)
 pub data IsFilePlayAnswer (given : Option (List ℕ)) (IsUnread : Type 0) (may_fail : Bool) (status : Status) (IsPrinted : List ℕ → Type 0) : Type 0 where
   told_unopened : (failure : Failure) → IsOpeningFailure failure → IsUnread → IsFailureTold failure status IsPrinted → IsFilePlayAnswer given IsUnread may_fail status IsPrinted
-  told_from : (books : Books) → AreKept books → IsPlayAnswerFrom MOST_ENTRIES books given IsUnread may_fail status IsPrinted → IsFilePlayAnswer given IsUnread may_fail status IsPrinted
-  told_unclosed : (books : Books) → AreKept books → (script text : List ℕ) → Came given script → IsPlayedFrom MOST_ENTRIES books script text
+  told_from : (books : Books) → AreKept books → IsPlayAnswerFrom MOST_ENTRIES IsLeftAnyhow books given IsUnread may_fail status IsPrinted → IsFilePlayAnswer given IsUnread may_fail status IsPrinted
+  told_unclosed : (books : Books) → AreKept books → (script text : List ℕ) → Came given script → IsPlayedFrom MOST_ENTRIES IsLeftAnyhow books script text
       → status ≡ exit.Fault → IsPrinted (text ++ (failure_line Storage ++ codes "\n")) → IsFilePlayAnswer given IsUnread may_fail status IsPrinted

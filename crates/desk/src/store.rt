@@ -1,17 +1,23 @@
 //! The desk of a file: opened, and closed again.
-ghost use Rattle.std.specs.Prelude.{◌≡◌, true, IfErr, IfOk, IsOkAnd, OnErr};
+ghost use Rattle.std.specs.Prelude.{◌≡◌, Bool, true, IfErr, IfOk, IsOkAnd, OnErr};
 ghost use Rattle.std.specs.Io.KnownBytes.{Appends};
 ghost use Rattle.sqlite.specs.Files.{over_files};
-ghost use Rattle.desk_opening.specs.Opened.{IsOpened};
+ghost use Rattle.sqlite.specs.Held.{state};
+ghost use Rattle.desk_register.specs.declared.register.Stage.TheVariants.{Idle};
+ghost use Rattle.desk_opening.specs.Opened.{IsOpened, view_of_both};
+ghost use Rattle.desk_rules.specs.Books.{Books};
 ghost use Rattle.desk_rules.specs.declared.limits.TheConstants.{MOST_ENTRIES};
+ghost use Rattle.desk_book.specs.Held.{KeepsFormed};
 ghost use Rattle.desk.specs.Closed.{AreClosed};
+ghost use Rattle.desk.specs.Left.{HandsOver, IsLeft, IsLeftIn, TablesSay};
 ghost use Rattle.desk.specs.Status.{EndsAs, EndsBy, IsOpeningFailure};
 
 use crate::status::{Failure, Status, tell_failure};
 use crate::teller::Teller;
+use desk_book::Desk;
 use desk_index::IndexedRegister;
 use desk_mirror::MirroredRegister;
-use desk_opening::{OpenFault, open_file};
+use desk_opening::{OpenFault, is_live, open_file};
 use desk_rules::MOST_ENTRIES;
 use desk_streams::Sink;
 use sql_register::SqlRegister;
@@ -63,7 +69,8 @@ pub fn close(
     path: &str,
     conn: Connection<FileStore<FileFrom<Unknown>>>,
 ) -> Result<Files<FileFrom<Unknown>>, Error>
-    ensures { IfOk result (AreClosed conn) }
+    ensures closed { IfOk result (AreClosed conn) }
+    ensures left { IfOk result (HandsOver conn) }
 {
     match conn.close_files() {
         Ok(files) => {
@@ -93,9 +100,35 @@ fn remove_log(rt: &HostRuntime, path: &str) -> io::Result<()> {
 pub fn connection_of<S: Alter + Drop>(
     both: MirroredRegister<IndexedRegister, SqlRegister<S>>,
 ) -> Connection<S>
-    ensures { result ≡ both.tables.connection }
+    ensures connection { result ≡ both.tables.connection }
+    ensures left { both.stage ≡ Idle → (books : Books) → KeepsFormed MOST_ENTRIES books (view_of_both both).content → TablesSay (state S.Store result) books }
 {
-    both.into_parts().1.into_connection()
+    let conn = both.into_parts().1.into_connection();
+    is_live(&conn);
+    conn
+}
+
+/// What a run leaves of the desk of a file.
+#[derive(Drop)]
+pub struct Left<S: Alter + Drop> {
+    /// Whether the desk answers nothing any more
+    pub is_closed: bool,
+    /// The connection to its tables
+    pub conn: Connection<S>,
+}
+
+/// What is left of a desk over tables with a register in memory beside them.
+pub fn left_of<S: Alter + Drop>(
+    desk: Desk<MirroredRegister<IndexedRegister, SqlRegister<S>>>,
+) -> Left<S>
+    requires { (view_of_both desk.register).room ≡ MOST_ENTRIES }
+    ensures { (is_closed : Bool) (books : Books) → IsLeft desk.is_closed (view_of_both desk.register) is_closed books
+        → IsLeftIn result.is_closed (state S.Store result.conn) is_closed books }
+{
+    Left {
+        is_closed: desk.is_closed(),
+        conn: connection_of(desk.into_register()),
+    }
 }
 
 /// Tells how a run over a file ended, which was closed then, or could not be. A run that ended in a fault tells no other.

@@ -12,15 +12,14 @@ use Rattle.desk_rules.specs.Facts.{kind_of}
 use Rattle.desk_rules.specs.Reply.{untyped_reply}
 use Rattle.desk_register.specs.declared.register.Fault.{Fault}
 use Rattle.desk_register.specs.declared.register.Fault.TheVariants as faults
-use Rattle.desk_register.specs.declared.register.Stage.TheVariants.{Idle, Failed}
 use Rattle.desk_register.specs.Looked.{IsSecurityAfter}
-use Rattle.desk_register.specs.View.{View, IsLater, IsRead}
-use Rattle.desk_register.proofs.ViewLemmas.{idle_goes}
+use Rattle.desk_register.specs.View.{HasRead, IsLater, IsRead, View}
 use Rattle.desk_engine.specs.Applied.{Keeps}
 use Rattle.desk_holdings.specs.declared.fault.WalkFault.{WalkFault}
 use Rattle.desk_holdings.specs.declared.fault.WalkFault.TheVariants as walks
 use Rattle.desk_holdings.specs.Ends.{HaveRead, broken_off}
-use Rattle.desk_holdings.proofs.ReadingLemmas.{HasRead, held_so, kept_so, read_more, read_on}
+use Rattle.desk_register.proofs.ReadLemmas.{held_so, kept_so, read_more, read_none}
+use Rattle.desk_holdings.proofs.ReadingLemmas.{read_on}
 use Rattle.desk_book.specs.Answered.{IsToldSums}
 use Rattle.desk_book.specs.RowByRow.{IsCashText, IsSecuritiesText, WritesCurrency, WritesSecurity, WritesSome, WritesText, WritesTotal, WritesWhole, told_of_walk}
 use Rattle.desk_book.specs.Sums.{cash_data, rows_text, security_data, sums_text}
@@ -109,18 +108,9 @@ pub record Cashing (v0 v : View) (turns : ℕ) (is_later : Bool) (before now : O
   pub read : HasRead v0 v
   pub rows : v.is_honest → v0.is_sure → CashWritten v0.content turns is_later before now
 
--- no call yet
-pub reads_nothing : (v : View) → v.stage ≡ Idle → HasRead v v
-reads_nothing v idle = record {
-  idle = idle;
-  stays = record { stage = refl; sure = λ honest sure. sure; mark = λ honest sure. refl; failures = λ honest few. refl };
-  later = record { honest = λ h. h; sure = λ h s. s; failures = omega arith; room = refl };
-  same = λ honest sure. refl;
-}
-
-pub cashing_begins : (v0 : View) (before : Option (List ℕ)) → v0.stage ≡ Idle → Cashing v0 v0 0 false before before
-cashing_begins v0 before idle = record {
-  read = reads_nothing v0 idle;
+pub cashing_begins : (v0 : View) (before : Option (List ℕ)) → Cashing v0 v0 0 false before before
+cashing_begins v0 before = record {
+  read = read_none v0;
   rows = λ honest sure. record { rows = []; gathered = cash_none v0.content; text = []; written = appends_nothing before; begun = begun_nothing cash_data };
 }
 
@@ -131,7 +121,7 @@ module _ (v0 v : View) (turns : ℕ) (was_later : Bool) (before between : Option
     read = read_on v0 v s.read tt v1 read;
     rows = λ honest sure.
         let honest_now = read.later.honest honest in
-        let more = held_so v0 v s.read (λ c. WritesCurrency c ccy was_later (Ok is_later) between now) honest_now sure (writes honest (s.read.stays.sure honest_now sure)) in
+        let more = held_so v0 v s.read (λ c. WritesCurrency c ccy was_later (Ok is_later) between now) honest_now sure (writes honest (s.read.ok.sure honest_now sure)) in
         cash_more v0.content turns was_later is_later before between now ccy at (s.rows honest_now sure) more;
   }
 
@@ -141,7 +131,7 @@ module _ (v0 v : View) (turns : ℕ) (was_later : Bool) (before between : Option
       let honest_now = later.honest honest in
       let front = cash_front v0.room books v0.content turns was_later before between keeps (s.rows honest_now sure) in
       handed_on (IsCashText v0.content) fault r before now is
-      (currency_broke_off v0.content v.content ccy was_later fault before between now front (writes honest (s.read.stays.sure honest_now sure)))
+      (currency_broke_off v0.content v.content ccy was_later fault before between now front (writes honest (s.read.ok.sure honest_now sure)))
 
   pub cashing_ends : 6 ≤ turns → v.is_honest → v0.is_sure → WritesWhole (IsCashText v0.content) before between
   cashing_ends enough honest sure = cash_whole v0.content turns was_later before between enough (s.rows honest sure)
@@ -199,25 +189,21 @@ listing_begins v0 v count before read entries = record { entries = entries; read
 pub nothing_listed : (v0 : View) (books : Books) (before : Option (List ℕ)) → Keeps v0.room books v0.content → WritesSome (IsSecuritiesText v0.content) before before
 nothing_listed v0 books before keeps = listed_front v0.room books v0.content None 0 before before keeps (listed_none v0.content before)
 
--- no call of the loop has failed
-pub still_idle : {v0 v : View} {count turns : ℕ} {last : Option (List ℕ)} {before now : Option (List ℕ)} → Listing v0 v count last turns before now → v.stage ≢ Failed
-still_idle s = idle_goes _ (s.read.stays.stage ∙ s.read.idle)
-
 module _ (v0 v : View) (count : ℕ) (last : Option (List ℕ)) (turns : ℕ) (before between : Option (List ℕ)) (s : Listing v0 v count last turns before between) where
   -- the next one
   module _ (v1 v2 : View) (isin : List ℕ) (first : IsRead {X = Option (List ℕ)} (Ok (Some isin)) v v1) (after : v1.is_honest → v.is_sure → IsSecurityAfter (history_of v.content) last (Some isin)) where
     is_next : v1.is_honest → v0.is_sure → IsSecurityAfter (history_of v0.content) last (Some isin)
     is_next honest sure =
         let honest_now = first.later.honest honest in
-        held_so v0 v s.read (λ c. IsSecurityAfter (history_of c) last (Some isin)) honest_now sure (after honest (s.read.stays.sure honest_now sure))
+        held_so v0 v s.read (λ c. IsSecurityAfter (history_of c) last (Some isin)) honest_now sure (after honest (s.read.ok.sure honest_now sure))
 
     is_known : v1.is_honest → v0.is_sure → is_some (kind_of (history_of v1.content) isin) ≡ true
-    is_known honest sure = kept_so v0 v1 (read_more v0 v s.read (Some isin) v1 first) (λ c. is_some (kind_of (history_of c) isin) ≡ true) honest sure (is_next honest sure).0.0
+    is_known honest sure = kept_so v0 v1 (read_more (Some isin) v0 v v1 s.read first) (λ c. is_some (kind_of (history_of c) isin) ≡ true) honest sure (is_next honest sure).0.0
 
     pub listing_goes_on : (now : Option (List ℕ)) → HaveRead {X = Unit {0}} (Ok tt) v1 v2
         → (v2.is_honest → v1.is_sure → is_some (kind_of (history_of v1.content) isin) ≡ true → WritesTotal v1.content isin (is_some last) between now) → Listing v0 v2 count (Some isin) (turns + 1) before now
     listing_goes_on now second writes =
-        let read1 = read_more v0 v s.read (Some isin) v1 first in
+        let read1 = read_more (Some isin) v0 v v1 s.read first in
         record {
           entries = λ honest sure. s.entries (first.later.honest (second.later.honest honest)) sure;
           read = read_on v0 v1 read1 tt v2 second;
@@ -225,7 +211,7 @@ module _ (v0 v : View) (count : ℕ) (last : Option (List ℕ)) (turns : ℕ) (b
               let honest1 = second.later.honest honest in
               let honest_now = first.later.honest honest1 in
               let next = is_next honest1 sure in
-              let row = held_so v0 v1 read1 (λ c. WritesTotal c isin (is_some last) between now) honest1 sure (writes honest (read1.stays.sure honest1 sure) (is_known honest1 sure)) in
+              let row = held_so v0 v1 read1 (λ c. WritesTotal c isin (is_some last) between now) honest1 sure (writes honest (read1.ok.sure honest1 sure) (is_known honest1 sure)) in
               let l = s.listed honest_now sure in
               record {
                 rows = l.rows ++ row.row ∷ [];
@@ -241,10 +227,10 @@ module _ (v0 v : View) (count : ℕ) (last : Option (List ℕ)) (turns : ℕ) (b
         → Keeps v0.room books v0.content → WritesText (IsSecuritiesText v0.content) r before now
     listing_breaks is_later now fault r books is later writes honest sure keeps =
         let honest1 = later.honest honest in
-        let read1 = read_more v0 v s.read (Some isin) v1 first in
+        let read1 = read_more (Some isin) v0 v v1 s.read first in
         let front = listed_front v0.room books v0.content last turns before between keeps (s.listed (first.later.honest honest1) sure) in
         handed_on (IsSecuritiesText v0.content) fault r before now is
-        (security_broke_off v0.content v1.content isin is_later fault before between now front (writes honest (read1.stays.sure honest1 sure) (is_known honest1 sure)))
+        (security_broke_off v0.content v1.content isin is_later fault before between now front (writes honest (read1.ok.sure honest1 sure) (is_known honest1 sure)))
 
   pub listing_fails : (v1 : View) (books : Books) → IsLater v v1 → v1.is_honest → v0.is_sure → Keeps v0.room books v0.content → WritesSome (IsSecuritiesText v0.content) before between
   listing_fails v1 books later honest sure keeps = listed_front v0.room books v0.content last turns before between keeps (s.listed (later.honest honest) sure)
@@ -252,7 +238,7 @@ module _ (v0 v : View) (count : ℕ) (last : Option (List ℕ)) (turns : ℕ) (b
   pub listing_ends_none : (v1 : View) → IsLater v v1 → (v1.is_honest → v.is_sure → IsSecurityAfter (history_of v.content) last None) → v1.is_honest → v0.is_sure → WritesWhole (IsSecuritiesText v0.content) before between
   listing_ends_none v1 later after honest sure =
       let honest_now = later.honest honest in
-      let none = held_so v0 v s.read (λ c. IsSecurityAfter (history_of c) last None) honest_now sure (after honest (s.read.stays.sure honest_now sure)) in
+      let none = held_so v0 v s.read (λ c. IsSecurityAfter (history_of c) last None) honest_now sure (after honest (s.read.ok.sure honest_now sure)) in
       let l = s.listed honest_now sure in
       listed_whole v0.content last turns before between l (gathered_all v0.content last turns l.rows l.gathered none)
 

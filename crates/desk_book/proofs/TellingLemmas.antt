@@ -7,12 +7,13 @@ use Rattle.desk_rules.specs.Books.{Books}
 use Rattle.desk_rules.specs.Content.{Content}
 use Rattle.desk_register.specs.declared.register.Fault.{Fault}
 use Rattle.desk_register.specs.declared.register.Fault.TheVariants as faults
-use Rattle.desk_register.specs.View.{View, IfTrusted, IsLater}
+use Rattle.desk_register.specs.View.{HasRead, IfTrusted, IsLater, View}
 use Rattle.desk_engine.specs.Applied.{Keeps}
 use Rattle.desk_holdings.specs.declared.fault.WalkFault.{WalkFault}
 use Rattle.desk_holdings.specs.declared.fault.WalkFault.TheVariants as walks
 use Rattle.desk_holdings.specs.Ends.{HaveRead, at_register, broken_off}
-use Rattle.desk_holdings.proofs.ReadingLemmas.{HasRead, broke_off, held_so, read_on, read_so}
+use Rattle.desk_register.proofs.ReadLemmas.{held_so}
+use Rattle.desk_holdings.proofs.ReadingLemmas.{broke_off, read_on, read_so}
 use Rattle.desk_codes.specs.Account.{IsAccount}
 use Rattle.desk_book.specs.Answered.{Step}
 use Rattle.desk_book.specs.declared.requests.question.Question.TheVariants as questions
@@ -46,7 +47,7 @@ walk_broke fault (Err broken) v0 v1 v2 is h read = subst (λ z. HaveRead (at_reg
 pub known_before : (v0 v1 v2 : View) (books : Books) (P : Type 0) → HasRead v0 v1 → IsLater v1 v2 → IfTrusted v1 v2 (Keeps v1.room books v1.content → P) → IfTrusted v0 v2 (Keeps v0.room books v0.content → P)
 known_before v0 v1 v2 books P h later known honest sure keeps =
     let honest1 = later.honest honest in
-    known honest (h.stays.sure honest1 sure) (keeps_at v0 v1 books (h.same honest1 sure) h.later.room keeps)
+    known honest (h.ok.sure honest1 sure) (keeps_at v0 v1 books (h.same honest1 sure) h.later.room keeps)
 
 -- and of the content that was read
 pub known_of : (v0 v1 v2 : View) (books : Books) (P : Content → Type 0) → HasRead v0 v1 → IsLater v1 v2 → IfTrusted v1 v2 (Keeps v1.room books v1.content → P v1.content)

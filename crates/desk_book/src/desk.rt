@@ -61,9 +61,10 @@ impl<R: Register> Desk<R> {
         }
     }
 
-    /// The register, as it stands now.
+    /// The register, as it stands now. That of an open desk is ready for another.
     pub fn into_register(self) -> R
-        ensures { result ≡ self.register }
+        ensures register { result ≡ self.register }
+        ensures ready { IsReady self.is_closed (R.view result) }
     {
         self.register
     }

@@ -18,7 +18,7 @@ use Rattle.desk_rules.specs.Content.{Content, history_of}
 use Rattle.desk_rules.specs.Facts.{last_run}
 use Rattle.desk_register.specs.declared.register.Fault.TheVariants as faults
 use Rattle.desk_register.specs.declared.register.Stage.TheVariants.{Idle}
-use Rattle.desk_register.specs.View.{View, IfRead, IfTrusted, IsLater, IsRead}
+use Rattle.desk_register.specs.View.{HasRead, IfRead, IfTrusted, IsLater, IsRead, View}
 use Rattle.desk_register.proofs.ViewLemmas.{idle_goes}
 use Rattle.desk_holdings.specs.Ends.{HaveRead, at_register}
 use Rattle.desk_holdings.specs.Holdings.{AreFirstHoldings, AreHoldings}
@@ -26,11 +26,12 @@ use Rattle.desk_holdings.specs.Statement.{IsFront, IsStatementDay, IsTold, Write
 use Rattle.desk_holdings.specs.Taking.{Took, TookFirst, TookHoldings, TookUpTo}
 use Rattle.desk_holdings.specs.declared.fault.WalkFault.{WalkFault}
 use Rattle.desk_holdings.specs.declared.fault.WalkFault.TheVariants.{Sink, Memory, Storage}
-use Rattle.desk_holdings.proofs.ReadingLemmas.{HasRead, broke_off, held_so, read_more, read_on, read_one, read_so}
+use Rattle.desk_register.proofs.ReadLemmas.{held_so, read_more, read_one}
+use Rattle.desk_holdings.proofs.ReadingLemmas.{broke_off, read_on, read_so}
 
 -- after the first two calls
-pub read_two : {X Y : Type 0} (x : X) (y : Y) (v0 v1 v2 : View) → v0.stage ≡ Idle → IsRead {X = X} (Ok x) v0 v1 → IsRead {X = Y} (Ok y) v1 v2 → HasRead v0 v2
-read_two x y v0 v1 v2 idle first second = read_more v0 v1 (read_one x v0 v1 idle first) y v2 second
+pub read_two : {X Y : Type 0} (x : X) (y : Y) (v0 v1 v2 : View) → IsRead {X = X} (Ok x) v0 v1 → IsRead {X = Y} (Ok y) v1 v2 → HasRead v0 v2
+read_two x y v0 v1 v2 first second = read_more y v0 v1 v2 (read_one x v0 v1 first) second
 
 -- and after a walk that broke off
 abbrev Ended : Type 0
@@ -77,25 +78,25 @@ module _ (v0 v1 v2 : View) (count limit entries : ℕ) (day : List ℕ) where
   module _ (a : HasAnswered) where
     pub told_so : (account : List ℕ) (rows : List StatementRow) (v3 : View) → IsLater v2 v3 → IfTrusted v2 v3 (AreHoldings v2.content account rows) → IfTrusted v0 v3 (IsTold v0 account entries day rows)
     told_so account rows v3 later are honest sure =
-        let one = read_one count v0 v1 a.idle a.first in
-        let two = read_more v0 v1 one day v2 a.second in
+        let one = read_one count v0 v1 a.first in
+        let two = read_more day v0 v1 v2 one a.second in
         let honest2 = later.honest honest in
         let honest1 = a.second.later.honest honest2 in
-        let sure1 = one.stays.sure honest1 sure in
+        let sure1 = one.ok.sure honest1 sure in
         let is = a.counted honest1 sure (idle_goes v0.stage a.idle) in
         record {
           counted = λ within. (let room = a.room in let least = a.least in omega arith);
-          dated = held_so v0 v1 one (λ c. IsStatementDay (last_run (history_of c)) day) honest1 sure (a.dated honest2 sure1 (idle_goes v1.stage (one.stays.stage ∙ a.idle)));
-          held = held_so v0 v2 two (λ c. AreHoldings c account rows) honest2 sure (are honest (two.stays.sure honest2 sure));
+          dated = held_so v0 v1 one (λ c. IsStatementDay (last_run (history_of c)) day) honest1 sure (a.dated honest2 sure1 (idle_goes v1.stage (one.ok.stage ∙ a.idle)));
+          held = held_so v0 v2 two (λ c. AreHoldings c account rows) honest2 sure (are honest (two.ok.sure honest2 sure));
         }
 
     -- the same of the first of the holdings
     front_so : (account : List ℕ) (rows : List StatementRow) (v3 : View) → IsLater v2 v3 → IfTrusted v2 v3 (AreFirstHoldings v2.content account rows) → (h : Heading) → h ≡ record { entries = entries; day = day; account = account }
         → IfTrusted v0 v3 (IsFront v0 account (written_by h rows))
     front_so account rows v3 later first h same honest sure =
-        let two = read_two count day v0 v1 v2 a.idle a.first a.second in
+        let two = read_two count day v0 v1 v2 a.first a.second in
         let honest2 = later.honest honest in
-        let f = first honest (two.stays.sure honest2 sure) in
+        let f = first honest (two.ok.sure honest2 sure) in
         let text = first_written h rows f.rest in
         record {
           entries = entries;

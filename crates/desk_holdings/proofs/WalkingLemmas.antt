@@ -10,8 +10,7 @@ use Rattle.desk_msg.specs.TookRows.{TookAll}
 use Rattle.desk_msg.proofs.TakenRows.{TookAll-push}
 use Rattle.desk_register.specs.declared.register.Fault.{Fault}
 use Rattle.desk_register.specs.declared.register.Fault.TheVariants as faults
-use Rattle.desk_register.specs.declared.register.Stage.TheVariants.{Idle}
-use Rattle.desk_register.specs.View.{View, IsLater}
+use Rattle.desk_register.specs.View.{HasRead, IsLater, View}
 use Rattle.desk_register.specs.Looked.{IsHoldingAfter}
 use Rattle.desk_register.specs.declared.holding.Holding.{Holding}
 use Rattle.desk_holdings.specs.Ends.{HaveRead, broken_off}
@@ -21,7 +20,8 @@ use Rattle.desk_holdings.specs.Walking.{IsNextRow}
 use Rattle.desk_holdings.specs.declared.fault.WalkFault.{WalkFault}
 use Rattle.desk_holdings.specs.declared.fault.WalkFault.TheVariants.{Sink}
 use Rattle.desk_holdings.proofs.GatheringLemmas.{Gathered, gathered_all, gathered_first, gathers_none, gathers_one, none_further}
-use Rattle.desk_holdings.proofs.ReadingLemmas.{HasRead, held_so, read_on}
+use Rattle.desk_register.proofs.ReadLemmas.{held_so}
+use Rattle.desk_holdings.proofs.ReadingLemmas.{read_on}
 
 module _ {S : Type 0} (took : S → StatementRow → S → Type 0) (account : List ℕ) where
   -- The walk, after so many rows.
@@ -50,9 +50,6 @@ module _ {S : Type 0} (took : S → StatementRow → S → Type 0) (account : Li
   }
 
   module _ (v0 v : View) (count : ℕ) (last : Option (List ℕ)) (told : ℕ) (before now : S) (w : Walking v0 v count last told before now) where
-    still_idle : v.stage ≡ Idle
-    still_idle = w.read.stays.stage ∙ w.read.idle
-
     pub walking_goes_on : (v1 : View) (row : StatementRow) (after : S) → HaveRead {X = Option StatementRow} (Ok (Some row)) v v1 → (v1.is_honest → v.is_sure → IsNextRow v.content account last (Some row)) → took now row after
         → Walking v0 v1 count (Some row.isin) (told + 1) before after
     walking_goes_on v1 row after read next one = record {
@@ -62,7 +59,7 @@ module _ {S : Type 0} (took : S → StatementRow → S → Type 0) (account : Li
       taken = TookAll-push took before w.rows now row after w.taken one;
       gathered = λ honest sure.
           let honest1 = read.later.honest honest in
-          let is = held_so v0 v w.read (λ c. IsNextRow c account last (Some row)) honest1 sure (next honest (w.read.stays.sure honest1 sure)) in
+          let is = held_so v0 v w.read (λ c. IsNextRow c account last (Some row)) honest1 sure (next honest (w.read.ok.sure honest1 sure)) in
           gathers_one v0.content account last told w.rows (w.gathered honest1 sure) row is;
     }
 
@@ -85,7 +82,7 @@ module _ {S : Type 0} (took : S → StatementRow → S → Type 0) (account : Li
       taken = w.taken;
       are = λ honest sure.
           let honest1 = read.later.honest honest in
-          let is = held_so v0 v w.read (λ c. IsNextRow c account last (Some row)) honest1 sure (next honest (w.read.stays.sure honest1 sure)) in
+          let is = held_so v0 v w.read (λ c. IsNextRow c account last (Some row)) honest1 sure (next honest (w.read.ok.sure honest1 sure)) in
           gathered_first v0.content account (known (w.read.later.honest honest1) sure) (Some row.isin) (told + 1) (w.rows ++ row ∷ [])
           (gathers_one v0.content account last told w.rows (w.gathered honest1 sure) row is);
     }
@@ -96,7 +93,7 @@ module _ {S : Type 0} (took : S → StatementRow → S → Type 0) (account : Li
       taken = w.taken;
       are = λ honest sure.
           let honest1 = later.honest honest in
-          let none = held_so v0 v w.read (λ c. IsNextRow c account last None) honest1 sure (next honest (w.read.stays.sure honest1 sure)) in
+          let none = held_so v0 v w.read (λ c. IsNextRow c account last None) honest1 sure (next honest (w.read.ok.sure honest1 sure)) in
           gathered_all v0.content account last told w.rows (w.gathered honest1 sure) none;
     }
 
@@ -108,7 +105,7 @@ module _ {S : Type 0} (took : S → StatementRow → S → Type 0) (account : Li
         let is = w.entries honest1 sure in
         let len = length-map v0.content.register (λ kept. kept.entry) in
         let none = none_further v0.content account last told w.rows (w.gathered honest1 sure) (known (w.read.later.honest honest1) sure) (omega arith) in
-        let held = held_so v0 v w.read (λ c. IsHoldingAfter c account last (Some holding)) honest1 sure (next honest (w.read.stays.sure honest1 sure)) in
+        let held = held_so v0 v w.read (λ c. IsHoldingAfter c account last (Some holding)) honest1 sure (next honest (w.read.ok.sure honest1 sure)) in
         none holding.isin held.0
 
 -- What was taken where the walk broke off, by why.

@@ -17,10 +17,11 @@ use Rattle.desk_rules.specs.Tables.{AreTables}
 use Rattle.desk_rules.proofs.HistoryLemmas.{slice_get-some}
 use Rattle.desk_rules.proofs.OneContent.{one_books}
 use Rattle.desk_rules.proofs.SentNumbers.{all_known, sent_length, sent_numbered}
-use Rattle.desk_register.specs.View.{View}
+use Rattle.desk_register.specs.View.{HasRead, View}
 use Rattle.desk_holdings.specs.declared.fault.WalkFault.{WalkFault}
 use Rattle.desk_holdings.specs.Ends.{HaveRead}
-use Rattle.desk_holdings.proofs.ReadingLemmas.{HasRead, kept_so, read_on}
+use Rattle.desk_register.proofs.ReadLemmas.{kept_so}
+use Rattle.desk_holdings.proofs.ReadingLemmas.{read_on}
 use Rattle.journal_rows.specs.declared.journal.MessageKey.{MessageKey}
 use Rattle.desk_journal.specs.Counting.{AreCounted, AreKeyed, CountsMore, IsNoticeAt, bic_cmp}
 use Rattle.desk_journal.specs.Messages.{keys_after, keys_of}
@@ -129,7 +130,7 @@ module _ (v0 v : View) (index : ℕ) (notices : List Notice) (counts : BTreeMap 
     read = read_on v0 v k.read tt v1 read;
     keyed = λ books honest sure are is.
         let honest_now = read.later.honest honest in
-        more books honest (k.read.stays.sure honest_now sure) (kept_so v0 v k.read (AreTables books) honest_now sure are) index
+        more books honest (k.read.ok.sure honest_now sure) (kept_so v0 v k.read (AreTables books) honest_now sure are) index
         (ap (λ ns. slice_get ns index) (sym is) ∙ slice_get-get_or notices index notice within) (k.keyed books honest_now sure are is);
   }
 

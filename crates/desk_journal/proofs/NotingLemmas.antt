@@ -19,11 +19,12 @@ use Rattle.desk_rules.proofs.OneContent.{one_books}
 use Rattle.desk_rules.proofs.SentFronts.{flat-append, range-append}
 use Rattle.desk_register.specs.Looked.{reply_at}
 use Rattle.desk_register.specs.declared.register.Fault.TheVariants as faults
-use Rattle.desk_register.specs.View.{View}
+use Rattle.desk_register.specs.View.{HasRead, View}
 use Rattle.desk_holdings.specs.declared.fault.WalkFault.{WalkFault}
 use Rattle.desk_holdings.specs.declared.fault.WalkFault.TheVariants as walks
 use Rattle.desk_holdings.specs.Ends.{HaveRead, at_register}
-use Rattle.desk_holdings.proofs.ReadingLemmas.{HasRead, broke_off, kept_so, read_on, read_so}
+use Rattle.desk_register.proofs.ReadLemmas.{kept_so}
+use Rattle.desk_holdings.proofs.ReadingLemmas.{broke_off, read_on, read_so}
 use Rattle.desk_journal.specs.Messages.{sent_upto}
 use Rattle.desk_journal.specs.Runs.{left_waiting}
 use Rattle.desk_journal.specs.Sending.{HoldsRun, blank, told_upto}
@@ -137,7 +138,7 @@ module _ (v0 v : View) (n : ℕ) (notices : List Notice) (ends : List ℕ) (s : 
     noted = λ books honest sure are.
         let honest_now = read.later.honest honest in
         let before = s.noted books honest_now sure are in
-        let one = noted books honest (s.read.stays.sure honest_now sure) (kept_so v0 v s.read (AreTables books) honest_now sure are) in
+        let one = noted books honest (s.read.ok.sure honest_now sure) (kept_so v0 v s.read (AreTables books) honest_now sure are) in
         let all : more ≡ map blank (told_upto books (n + 1)) = one ∙ ap (λ z. z ++ map blank (told_by books (n + 1))) before.0 ∙ sym (told_more books n) in
         let many : count ≡ sent_upto books (n + 1) = counted ∙ ap (λ (z : List Notice). length z) all ∙ length-map (told_upto books (n + 1)) blank in
         (all, added ∙ ap (λ z. z ++ count ∷ []) before.1 ∙ ap (λ k. map (sent_upto books) (range_with_len 1 n) ++ k ∷ []) many ∙ sym (ends_more books n));

@@ -23,10 +23,11 @@ use Rattle.desk_rules.proofs.OneContent.{one_books}
 use Rattle.desk_register.specs.declared.register.Fault.{Fault}
 use Rattle.desk_register.specs.declared.register.Stage.TheVariants.{Idle}
 use Rattle.desk_register.specs.Looked.{confirmation_in}
-use Rattle.desk_register.specs.View.{View, IfRead, IsRead}
+use Rattle.desk_register.specs.View.{HasRead, IfRead, IsRead, View}
 use Rattle.desk_register.proofs.ViewLemmas.{idle_goes}
 use Rattle.desk_holdings.specs.Ends.{HaveRead}
-use Rattle.desk_holdings.proofs.ReadingLemmas.{HasRead, broke_off, held_so, kept_so, read_on, read_one}
+use Rattle.desk_register.proofs.ReadLemmas.{held_so, kept_so, read_one}
+use Rattle.desk_holdings.proofs.ReadingLemmas.{broke_off, read_on}
 use Rattle.desk_journal.specs.Sending.{HoldsBooks, IsConfirmedAt, IsPlaceOf, blank, known_upto}
 use Rattle.desk_journal.proofs.PlaceLemmas.{all_known_upto, confirmed_at, nothing_more, settled_in_is, settled_one, unsettled_other, unsettled_state}
 
@@ -98,8 +99,8 @@ pub message_read : (v0 v1 v2 : View) (standing : Standing) (message : Option Sen
     → IfRead v1 v2 (message ≡ confirmation_in v1.content n) → v2.is_honest → v0.is_sure → message ≡ confirmation_in v0.content n
 message_read v0 v1 v2 standing message n idle first second value honest sure =
     let honest1 = second.later.honest honest in
-    let read = read_one standing v0 v1 idle first in
-    held_so v0 v1 read (λ content. message ≡ confirmation_in content n) honest1 sure (value honest (read.stays.sure honest1 sure) (idle_goes v1.stage (read.stays.stage ∙ idle)))
+    let read = read_one standing v0 v1 first in
+    held_so v0 v1 read (λ content. message ≡ confirmation_in content n) honest1 sure (value honest (read.ok.sure honest1 sure) (idle_goes v1.stage (read.ok.stage ∙ idle)))
 
 -- The notices, with one number more.
 
@@ -145,7 +146,7 @@ noting_goes_on v0 v v1 n start now more so read noted = record {
   noted = λ books honest sure tables is.
       let honest_now = read.later.honest honest in
       let before : n ≡ n + 1 - 1 = omega arith in
-      noted books honest (so.read.stays.sure honest_now sure) (kept_so v0 v so.read (λ c. AreTables books c) honest_now sure tables)
+      noted books honest (so.read.ok.sure honest_now sure) (kept_so v0 v so.read (λ c. AreTables books c) honest_now sure tables)
       (so.noted books honest_now sure tables is ∙ ap (λ m. map (known_upto m) (notices_of books)) before);
 }
 

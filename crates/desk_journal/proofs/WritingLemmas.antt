@@ -15,15 +15,14 @@ use Rattle.desk_rules.specs.Tables.{AreTables}
 use Rattle.desk_rules.proofs.SentFronts.{range-append}
 use Rattle.desk_register.specs.declared.register.Fault.{Fault}
 use Rattle.desk_register.specs.declared.register.Fault.TheVariants as faults
-use Rattle.desk_register.specs.declared.register.Stage.TheVariants.{Idle}
-use Rattle.desk_register.specs.View.{View, IsLater}
+use Rattle.desk_register.specs.View.{HasRead, IsLater, View}
 use Rattle.desk_holdings.specs.declared.fault.WalkFault.{WalkFault}
 use Rattle.desk_holdings.specs.declared.fault.WalkFault.TheVariants as walks
 use Rattle.desk_holdings.specs.Ends.{HaveRead, broken_off}
-use Rattle.desk_holdings.proofs.ReadingLemmas.{HasRead, kept_so, read_on}
+use Rattle.desk_register.proofs.ReadLemmas.{kept_so, read_none}
+use Rattle.desk_holdings.proofs.ReadingLemmas.{read_on}
 use Rattle.desk_book.specs.RowByRow.{WritesSome, WritesText, WritesWhole}
 use Rattle.desk_book.specs.Sums.{rows_text}
-use Rattle.desk_book.proofs.SummingLemmas.{reads_nothing}
 use Rattle.report_rows.specs.RowWritten.{WritesRow}
 use Rattle.report_rows.proofs.NumberedLemmas.{RowsWritten, handed_on, none_written, one_written, rows_front, rows_whole}
 use Rattle.journal_rows.specs.JournalData.{journal_data}
@@ -141,8 +140,8 @@ module _ (from : ℕ) (sending : Sending) (IsJson : Type 0) (v0 : View) (count :
     pub read : HasRead v0 v
     pub rows_of : (books : Books) → IsJson → v.is_honest → v0.is_sure → AreKnown books → RowsWritten (data_of books) (rows_upto books from n) is_later before now
 
-  pub writing_begins : (before : Option (List ℕ)) → v0.stage ≡ Idle → Writing v0 0 false before before
-  writing_begins before idle = record { read = reads_nothing v0 idle; rows_of = λ books json honest sure known. none_written (data_of books) before }
+  pub writing_begins : (before : Option (List ℕ)) → Writing v0 0 false before before
+  writing_begins before = record { read = read_none v0; rows_of = λ books json honest sure known. none_written (data_of books) before }
 
   module _ (v : View) (n : ℕ) (was_later : Bool) (before between : Option (List ℕ)) (w : Writing v n was_later before between) where
     -- what a number's row says of the content that was read
@@ -153,7 +152,7 @@ module _ (from : ℕ) (sending : Sending) (IsJson : Type 0) (v0 : View) (count :
         → WritesIf (data_of books) r (row_from books from (n + 1)) was_later between now
     of_first v1 r now later writes books json honest sure known =
         let honest_now = later.honest honest in
-        writes books json honest (w.read.stays.sure honest_now sure) (kept_so v0 v w.read (AreTables books) honest_now sure known.tables) known.sent
+        writes books json honest (w.read.ok.sure honest_now sure) (kept_so v0 v w.read (AreTables books) honest_now sure known.tables) known.sent
 
     pub writing_goes_on : (v1 : View) (is_later : Bool) (now : Option (List ℕ)) → HaveRead {X = Unit {0}} (Ok tt) v v1 → WritesNumber v1 (Ok is_later) now → Writing v1 (n + 1) is_later before now
     writing_goes_on v1 is_later now read writes = record {

@@ -9,17 +9,17 @@ use Rattle.desk_rules.specs.Content.{Content}
 use Rattle.desk_rules.specs.Standing.{reason_of_lack}
 use Rattle.desk_register.specs.declared.register.Fault.{Fault}
 use Rattle.desk_register.specs.declared.register.Stage.TheVariants as stages
-use Rattle.desk_register.specs.View.{View, IfRead, IfTrusted, IsChange, Stays}
+use Rattle.desk_register.specs.View.{View, HasRead, IfRead, IfTrusted, IsChange, Stays}
 use Rattle.desk_register.specs.Device.{HasNoDevice}
 use Rattle.desk_register.specs.declared.outcome.Outcome.{Outcome}
 use Rattle.desk_register.specs.declared.outcome.Outcome.TheVariants.{Lacks, Settled}
 use Rattle.desk_register.specs.Changes.{TriesPair, standing_both}
 use Rattle.desk_register.proofs.StandingLemmas.{stand_already}
-use Rattle.desk_register.proofs.ViewLemmas.{change_ok, later_then, stays_then}
+use Rattle.desk_register.proofs.ViewLemmas.{blames_none, change_ok, later_then, stays_then}
 use Rattle.desk_mirror.specs.declared.course.Phase.{Phase}
 use Rattle.desk_mirror.specs.Course.{IsAfter}
 use Rattle.desk_mirror.specs.Mirrored.{AreMirrored, stage_of}
-use Rattle.desk_mirror.specs.Waiting.{BothWait, HasRead, IsInVain}
+use Rattle.desk_mirror.specs.Waiting.{BothWait, IsInVain}
 use Rattle.desk_mirror.proofs.ChangeLemmas.{begun_at, change_keeps, ok_phase}
 use Rattle.desk_mirror.proofs.ReadLemmas.{stays_at}
 use Rattle.desk_mirror.specs.declared.told.KnownPair.{KnownPair}
@@ -56,14 +56,14 @@ ok_tries (Err fault) outcome n old new is tries = absurd (cc)
 
 -- a call that went well, and reading calls behind it
 change_read : {X : Type 0} (result : Result X Fault) (x : X) (v0 v1 v2 : View) → result ≡ Ok x → IsChange result v0 v1 → HasRead v1 v2 → IsChange result v0 v2
-change_read (Ok y) x v0 v1 v2 is change read = change_ok y v0 v2 (stays_then v0 v1 v2 change.ok change.later read.later read.stays) (later_then v0 v1 v2 change.ok change.later read.later)
+change_read (Ok y) x v0 v1 v2 is change read = change_ok y v0 v2 (stays_then v0 v1 v2 change.ok change.later read.later read.ok) (later_then v0 v1 v2 change.ok change.later read.later)
 change_read (Err fault) x v0 v1 v2 is change read = absurd (cc)
 
 -- memory was read
 pub read_mirrored : (phase : Phase) (m new t : View) → HasNoDevice m → HasNoDevice new → HasRead m new → AreMirrored phase m t → AreMirrored phase new t
 read_mirrored phase m new t was is read are = record {
   room = read.later.room ∙ are.room;
-  at = stays_at phase m new t was is (read.same is.honest was.sure) read.stays are.at;
+  at = stays_at phase m new t was is (read.same is.honest was.sure) read.ok are.at;
 }
 
 module _ (result : Result Outcome Fault) (outcome : Outcome) (reason : Option Reason) (phase phase' : Phase) (k k' n : ℕ) (m between new t : View) (was : HasNoDevice m) (is_between : HasNoDevice between) (is : HasNoDevice new)
@@ -83,8 +83,10 @@ module _ (result : Result Outcome Fault) (outcome : Outcome) (reason : Option Re
       let wait : IfSome reason (λ r. BothWait between.content n r) = subst (λ c. IfSome reason (λ r. BothWait c n r)) (sym same) (waits is_between.honest was.sure (λ failed. let at = begun.memory in absurd (cc))) in
       let last : HasRead between new = record {
         same = λ honest sure. in_vain between.content new.content n reason outcome wait tried vain;
-        stays = ok_stays result outcome between new is_ok change.ok;
+        ok = ok_stays result outcome between new is_ok change.ok;
+        err = tt;
         later = change.later;
+        blame = blames_none tt between new;
       } in
       subst (λ p. AreMirrored p new t) (sym (ok_phase result outcome phase phase' k k' is_ok after)) (read_mirrored phase between new t is_between is last are_between)
 

@@ -5,7 +5,6 @@ use Rattle.desk_rules.specs.declared.history.standing.Standing.{Standing}
 use Rattle.desk_rules.specs.declared.history.standing.State.TheVariants.{Matched}
 use Rattle.desk_rules.specs.Content.{Content}
 use Rattle.desk_rules.specs.Standing.{reason_of_lack}
-use Rattle.desk_register.specs.View.{View, IfTrusted, IsLater, Stays}
 use Rattle.desk_register.specs.declared.outcome.Outcome.{Outcome}
 use Rattle.desk_register.specs.declared.outcome.Outcome.TheVariants.{Lacks}
 
@@ -24,9 +23,3 @@ pub record BothWait (content : Content) (n : ℕ) (reason : Reason) : Type 0 whe
 abbrev pub IsInVain : Option Reason → Outcome → Type 0
 IsInVain (Some reason) (Lacks lack) = reason ≡ reason_of_lack (Some lack)
 IsInVain reason outcome = ⊥
-
--- nothing but reading calls were made, and they went well
-pub record HasRead (old new : View) : Type 0 where
-  pub same : IfTrusted old new (new.content ≡ old.content)
-  pub stays : Stays old new
-  pub later : IsLater old new

@@ -2,12 +2,11 @@
 ghost use Rattle.std.specs.Prelude.{◌≡◌, Some, option_and_then, IfOk, IfSome, OnOk};
 ghost use Rattle.desk_codes.specs.Number.{number_of};
 ghost use Rattle.desk_register.specs.declared.register.Stage.TheVariants.{Begun};
-ghost use Rattle.desk_register.specs.View.{IfRead, IfTrusted, IsChange};
+ghost use Rattle.desk_register.specs.View.{HasRead, IfRead, IfTrusted, IsChange};
 ghost use Rattle.desk_register.specs.Changes.{CanCancelPair, CanSettle, TriesPair};
 ghost use Rattle.desk_rules.specs.History.{instructed, instruction_at};
 ghost use Rattle.desk_rules.specs.Content.{Content, history_of};
 ghost use Rattle.desk_mirror.specs.Told.{IsDone, IsKnownAt, waiting};
-ghost use Rattle.desk_mirror.specs.Waiting.{HasRead};
 
 use desk_codes::Day;
 use desk_register::{Fault, MemoryRegister, Outcome, Register};

@@ -1,8 +1,8 @@
 //! Tries of a pair that change nothing.
 ghost use Rattle.std.specs.Prelude.{◌≡◌, ◌≢◌, IsTrue, Some, IfSome};
 ghost use Rattle.desk_register.specs.declared.register.Stage.TheVariants.{Failed};
-ghost use Rattle.desk_register.specs.View.{IfRead};
-ghost use Rattle.desk_mirror.specs.Waiting.{BothWait, HasRead, IsInVain, WaitsWith};
+ghost use Rattle.desk_register.specs.View.{HasRead, IfRead};
+ghost use Rattle.desk_mirror.specs.Waiting.{BothWait, IsInVain, WaitsWith};
 
 use desk_msg::Reason;
 use desk_register::{MemoryRegister, Outcome};

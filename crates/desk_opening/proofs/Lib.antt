@@ -1,3 +1,4 @@
+pub mod AgainLemmas
 pub mod AloneLemmas
 pub mod FoundLemmas
 pub mod OpenedLemmas

@@ -1,4 +1,5 @@
 pub mod Alone
 pub mod Faults
 pub mod Opened
+pub mod Said
 pub mod Spared

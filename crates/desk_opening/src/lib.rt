@@ -17,5 +17,6 @@ mod version;
 pub use audit_desk::Table;
 pub use audit_entries::{Progress, Silent};
 pub use fault::{Difference, OpenFault};
+pub use laws::{found_again, is_live};
 pub use opening::{adopt, open_file};
 pub use tables::{adopt_tables, open_tables};

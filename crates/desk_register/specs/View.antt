@@ -1,5 +1,5 @@
 -- What contracts see of a register, and how its calls change it.
-use Rattle.std.specs.Prelude.{◌≡◌, ◌≢◌, ℕ, ◌<◌, ◌≤◌, Result, Err, OnOk, OnErr}
+use Rattle.std.specs.Prelude.{◌≡◌, ◌≢◌, ℕ, ◌<◌, ◌≤◌, ⊤, Result, Ok, Err, OnOk, OnErr}
 use Rattle.desk_register.specs.declared.register.Fault.{Fault}
 use Rattle.desk_register.specs.declared.register.Fault.TheVariants.{Memory, Storage}
 use Rattle.desk_register.specs.declared.register.Stage.{Stage}
@@ -101,6 +101,10 @@ pub record IsRead {X : Type 0} (result : Result X Fault) (old new : View) : Type
   pub err : OnErr result (Falls old new)
   pub later : IsLater old new
   pub blame : Blames result old new
+
+-- reading calls so far, each of which went well: together they are one that did
+abbrev pub HasRead : View → View → Type 0
+HasRead old new = IsRead {X = ⊤} (Ok tt) old new
 
 -- how a changing call ends
 pub record IsChange {X : Type 0} (result : Result X Fault) (old new : View) : Type 0 where

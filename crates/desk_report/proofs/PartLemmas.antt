@@ -10,11 +10,10 @@ use Rattle.serde_json.specs.View.{items_of}
 use Rattle.serde_json.specs.Written.{comma_if, compact_text}
 use Rattle.desk_rules.specs.Books.{Books}
 use Rattle.desk_rules.specs.Content.{Content}
-use Rattle.desk_register.specs.View.{View, IfTrusted, IsLater}
-use Rattle.desk_register.specs.declared.register.Stage.TheVariants.{Idle}
+use Rattle.desk_register.specs.View.{HasRead, IfTrusted, IsLater, View}
 use Rattle.desk_holdings.specs.Ends.{HaveRead}
-use Rattle.desk_holdings.proofs.ReadingLemmas.{HasRead, read_on}
-use Rattle.desk_book.proofs.SummingLemmas.{reads_nothing}
+use Rattle.desk_holdings.proofs.ReadingLemmas.{read_on}
+use Rattle.desk_register.proofs.ReadLemmas.{read_none}
 use Rattle.desk_book.proofs.TellingLemmas.{known_of}
 use Rattle.report_rows.proofs.NumberedLemmas.{handed_on}
 use Rattle.desk_engine.specs.Applied.{Keeps}
@@ -175,8 +174,8 @@ pub record Writing (parts : Parts) (v0 v : View) (index : ℕ) (is_later : Bool)
   pub read : HasRead v0 v
   pub written : (books : Books) → v.is_honest → v0.is_sure → Keeps v0.room books v0.content → MembersWritten books v0.content (filter (is_asked parts) (take index all_parts)) is_later before now
 
-pub writing_begins : (parts : Parts) (v0 : View) (before : Option (List ℕ)) → v0.stage ≡ Idle → Writing parts v0 v0 0 false before before
-writing_begins parts v0 before idle = record { read = reads_nothing v0 idle; written = λ books honest sure keeps. none_written books v0.content before }
+pub writing_begins : (parts : Parts) (v0 : View) (before : Option (List ℕ)) → Writing parts v0 v0 0 false before before
+writing_begins parts v0 before = record { read = read_none v0; written = λ books honest sure keeps. none_written books v0.content before }
 
 module _ (parts : Parts) (v0 v : View) (index : ℕ) (is_later : Bool) (before between : Option (List ℕ)) (w : Writing parts v0 v index is_later before between) where
   module _ (part : Part) (within : index < 5) (at : get_or all_parts index Accounts ≡ part) where

@@ -4,11 +4,10 @@ use Rattle.std.specs.Prelude.{Result, Ok, Err, IfErr, OnOk}
 use Rattle.std.specs.Result.{IsErrAnd}
 use Rattle.std.specs.Io.KnownBytes.{Appends}
 use Rattle.desk_msg.specs.declared.writing.statement_row.SinkFault.TheVariants as sinks
-use Rattle.desk_register.specs.View.{View}
+use Rattle.desk_register.specs.View.{HasRead, View}
 use Rattle.desk_rules.specs.Content.{Content}
 use Rattle.desk_holdings.specs.declared.fault.WalkFault.{WalkFault}
 use Rattle.desk_holdings.specs.declared.fault.WalkFault.TheVariants as walks
-use Rattle.desk_holdings.proofs.ReadingLemmas.{HasRead}
 use Rattle.desk_book.specs.Held.{IsReady, KeepsFormed}
 use Rattle.desk_book.specs.RowByRow.{WritesSome, WritesText, WritesWhole}
 use Rattle.desk_book.proofs.RowLemmas.{appended}
@@ -66,8 +65,8 @@ module _ (P Q : List ℕ → Type 0) where
 -- reading calls leave a register ready
 pub ready_still : (v0 v : View) → IsReady false v0 → HasRead v0 v → IsReady false v
 ready_still v0 v ready read = record {
-  stage = λ is. read.stays.stage ∙ read.idle;
-  sure = λ is honest. read.stays.sure honest (ready.sure refl (read.later.honest honest));
+  stage = λ is. read.ok.stage ∙ ready.stage refl;
+  sure = λ is honest. read.ok.sure honest (ready.sure refl (read.later.honest honest));
   books = λ is honest.
       let held = ready.books refl (read.later.honest honest) in
       let C : Content → Type 0 = λ z. KeepsFormed v.room held.0 z in

@@ -8,10 +8,11 @@ use Rattle.serde_json.specs.Data.{Data}
 use Rattle.desk_rules.specs.declared.history.entry.Entry.{Entry}
 use Rattle.desk_rules.specs.History.{entry_at}
 use Rattle.desk_rules.specs.Content.{Content, history_of}
-use Rattle.desk_register.specs.View.{View, IsLater}
+use Rattle.desk_register.specs.View.{HasRead, IsLater, View}
 use Rattle.desk_holdings.specs.declared.fault.WalkFault.{WalkFault}
 use Rattle.desk_holdings.specs.Ends.{HaveRead}
-use Rattle.desk_holdings.proofs.ReadingLemmas.{HasRead, held_so, read_on}
+use Rattle.desk_register.proofs.ReadLemmas.{held_so}
+use Rattle.desk_holdings.proofs.ReadingLemmas.{read_on}
 use Rattle.desk_book.specs.RowByRow.{WritesText, WritesWhole}
 use Rattle.report_accounts.specs.Writing.{IsRows, WritesRows, rows_at, rows_if}
 use Rattle.report_accounts.proofs.RowsLemmas.{RowsWritten, all_written, broke_in, handed_on, none_written, rows_ended, whole_of, written_then}
@@ -65,7 +66,7 @@ module _ {Row Item X : Type 0} (data_of : Row → Data) (Given : Content → X �
       read = read_on v0 v s.read tt v1 read;
       written = λ json honest sure x given.
           let honest_now = read.later.honest honest in
-          let turn = held_so v0 v s.read (λ c. Turn turns is_later (Ok now_later) between now c) honest_now sure (writes json honest (s.read.stays.sure honest_now sure)) x given in
+          let turn = held_so v0 v s.read (λ c. Turn turns is_later (Ok now_later) between now c) honest_now sure (writes json honest (s.read.ok.sure honest_now sure)) x given in
           let rows = rows_if (rows_by v0.content x) (slice_get (items v0.content) turns) in
           let first = flat_map (rows_by v0.content x) (take turns (items v0.content)) in
           let all = written_then data_of first was_later is_later before between (s.written json honest_now sure x given) rows now_later now (all_written data_of rows is_later now_later between now turn.text turn.later) in
@@ -77,7 +78,7 @@ module _ {Row Item X : Type 0} (data_of : Row → Data) (Given : Content → X �
         → WritesText (IsRows data_of (flat_map (rows_by v0.content x) (items v0.content)) was_later) r before now
     looping_breaks v1 now fault r is later writes json honest sure x given =
         let honest_now = later.honest honest in
-        let turn = held_so v0 v s.read (λ c. Turn turns is_later (Err fault) between now c) honest_now sure (writes json honest (s.read.stays.sure honest_now sure)) x given in
+        let turn = held_so v0 v s.read (λ c. Turn turns is_later (Err fault) between now c) honest_now sure (writes json honest (s.read.ok.sure honest_now sure)) x given in
         let all = flat_map (rows_by v0.content x) (items v0.content) in
         let rows = rows_if (rows_by v0.content x) (slice_get (items v0.content) turns) in
         let first = flat_map (rows_by v0.content x) (take turns (items v0.content)) in

@@ -9,13 +9,13 @@ use Rattle.desk_rules.specs.declared.history.pair.Place.{Place}
 use Rattle.desk_rules.specs.Content.{Content, history_of}
 use Rattle.desk_register.specs.declared.register.Fault.{Fault}
 use Rattle.desk_register.specs.declared.register.Fault.TheVariants as faults
-use Rattle.desk_register.specs.declared.register.Stage.TheVariants.{Idle}
 use Rattle.desk_register.specs.Looked.{IsMatchedPair}
-use Rattle.desk_register.specs.View.{View, IsLater, IsRead}
+use Rattle.desk_register.specs.View.{HasRead, IsLater, IsRead, View}
 use Rattle.desk_holdings.specs.declared.fault.WalkFault.{WalkFault}
 use Rattle.desk_holdings.specs.declared.fault.WalkFault.TheVariants as walks
 use Rattle.desk_holdings.specs.Ends.{HaveRead, broken_off}
-use Rattle.desk_holdings.proofs.ReadingLemmas.{HasRead, held_so, kept_so, read_more, read_on}
+use Rattle.desk_register.proofs.ReadLemmas.{held_so, kept_so, read_more}
+use Rattle.desk_holdings.proofs.ReadingLemmas.{read_on}
 use Rattle.desk_book.specs.Held.{IsReady}
 use Rattle.desk_book.specs.RowByRow.{WritesSome, WritesText, WritesWhole}
 use Rattle.desk_book.specs.Sums.{rows_text}
@@ -134,9 +134,6 @@ listing_begins v0 v format count before read entries = record {
 }
 
 module _ (v0 v : View) (format : Format) (count : ℕ) (last : Option Place) (turns : ℕ) (before between : Option (List ℕ)) (s : Listing v0 v format count last turns before between) where
-  pub still_idle : v.stage ≡ Idle
-  still_idle = s.read.stays.stage ∙ s.read.idle
-
   -- what is known of the pairs at the beginning is known still
   pub still_dated : (v0.is_honest → TellsPairs v0.content) → v.is_honest → v.is_sure → AreDated v.content
   still_dated tells honest sure =
@@ -148,18 +145,18 @@ module _ (v0 v : View) (format : Format) (count : ℕ) (last : Option Place) (tu
     is_next : v1.is_honest → v0.is_sure → IsPairAfter v0.content last (Some next)
     is_next honest sure =
         let honest_now = first.later.honest honest in
-        held_so v0 v s.read (λ c. IsPairAfter c last (Some next)) honest_now sure (after honest (s.read.stays.sure honest_now sure))
+        held_so v0 v s.read (λ c. IsPairAfter c last (Some next)) honest_now sure (after honest (s.read.ok.sure honest_now sure))
 
     pub is_known : (v0.is_honest → TellsPairs v0.content) → v1.is_honest → v1.is_sure → IsWaitingPair v1.content next
     is_known tells honest sure =
-        let read1 = read_more v0 v s.read (Some next) v1 first in
+        let read1 = read_more (Some next) v0 v v1 s.read first in
         let sure0 = read1.later.sure honest sure in
         kept_so v0 v1 read1 (λ c. IsWaitingPair c next) honest sure0 ((tells (read1.later.honest honest)).opposite next (is_next honest sure0).0)
 
     pub listing_goes_on : (v2 : View) (now : Option (List ℕ)) → HaveRead {X = Unit {0}} (Ok tt) v1 v2 → (format ≡ Json → v2.is_honest → v1.is_sure → WritesRowOf v1.content next (is_some last) between now)
         → Listing v0 v2 format count (Some next) (turns + 1) before now
     listing_goes_on v2 now second writes =
-        let read1 = read_more v0 v s.read (Some next) v1 first in
+        let read1 = read_more (Some next) v0 v v1 s.read first in
         record {
           entries = λ honest sure. s.entries (first.later.honest (second.later.honest honest)) sure;
           read = read_on v0 v1 read1 tt v2 second;
@@ -171,7 +168,7 @@ module _ (v0 v : View) (format : Format) (count : ℕ) (last : Option Place) (tu
               omega arith;
           listed = λ json honest sure.
               let honest1 = second.later.honest honest in
-              let row = held_so v0 v1 read1 (λ c. WritesRowOf c next (is_some last) between now) honest1 sure (writes json honest (read1.stays.sure honest1 sure)) in
+              let row = held_so v0 v1 read1 (λ c. WritesRowOf c next (is_some last) between now) honest1 sure (writes json honest (read1.ok.sure honest1 sure)) in
               listed_one v0.content last next before between now (s.listed json (first.later.honest honest1) sure) (is_next honest1 sure) row;
         }
 
@@ -181,10 +178,10 @@ module _ (v0 v : View) (format : Format) (count : ℕ) (last : Option Place) (tu
     listing_breaks v2 now fault r is_later is tells later writes json honest sure =
         let honest1 = later.honest honest in
         let honest_now = first.later.honest honest1 in
-        let read1 = read_more v0 v s.read (Some next) v1 first in
+        let read1 = read_more (Some next) v0 v v1 s.read first in
         let front = listed_front v0.content last before between (tells (s.read.later.honest honest_now)) (s.listed json honest_now sure) in
         handed_on (IsPendingText v0.content) fault r before now is
-        (pair_broke_off v0.content v1.content next is_later fault before between now front (writes json honest (read1.stays.sure honest1 sure)))
+        (pair_broke_off v0.content v1.content next is_later fault before between now front (writes json honest (read1.ok.sure honest1 sure)))
 
     -- a store that shows what it holds has no pair left after as many as there are entries
     pub listing_is_over : count ≤ turns → v1.is_honest → v0.is_sure → ⊥
@@ -205,5 +202,5 @@ module _ (v0 v : View) (format : Format) (count : ℕ) (last : Option Place) (tu
   pub listing_ends : (v1 : View) → IsLater v v1 → (v1.is_honest → v.is_sure → IsPairAfter v.content last None) → format ≡ Json → v1.is_honest → v0.is_sure → WritesWhole (IsPendingText v0.content) before between
   listing_ends v1 later after json honest sure =
       let honest_now = later.honest honest in
-      let none = held_so v0 v s.read (λ c. IsPairAfter c last None) honest_now sure (after honest (s.read.stays.sure honest_now sure)) in
+      let none = held_so v0 v s.read (λ c. IsPairAfter c last None) honest_now sure (after honest (s.read.ok.sure honest_now sure)) in
       listed_whole v0.content last before between (s.listed json honest_now sure) none

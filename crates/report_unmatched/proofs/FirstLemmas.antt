@@ -10,10 +10,11 @@ use Rattle.std.proofs.lemmas.List.Folds.{find-append}
 use Rattle.desk_rules.specs.Content.{Content}
 use Rattle.desk_rules.specs.declared.history.entry.Instructed.{Instructed}
 use Rattle.desk_rules.proofs.SentFronts.{range-append}
-use Rattle.desk_register.specs.View.{View}
+use Rattle.desk_register.specs.View.{HasRead, View}
 use Rattle.desk_register.proofs.CaseLemmas.{by_bool}
 use Rattle.desk_holdings.specs.Ends.{HaveRead}
-use Rattle.desk_holdings.proofs.ReadingLemmas.{HasRead, held_so, read_on}
+use Rattle.desk_register.proofs.ReadLemmas.{held_so, read_none}
+use Rattle.desk_holdings.proofs.ReadingLemmas.{read_on}
 use Rattle.report_unmatched.specs.declared.near.NearKey.{NearKey}
 use Rattle.report_unmatched.specs.NearKeys.{key_of, near_cmp, near_key}
 use Rattle.report_unmatched.specs.FirstNumbers.{AreFirst, IsNoted, has_key}
@@ -57,8 +58,8 @@ pub record Noting (v0 v : View) (upto : ℕ) (numbers : BTreeMap NearKey ℕ) : 
   pub read : HasRead v0 v
   pub first : v.is_honest → v0.is_sure → AreFirst numbers v0.content upto
 
-pub noting_begins : (v0 : View) (numbers : BTreeMap NearKey ℕ) → HasRead v0 v0 → IsEmpty numbers → Noting v0 v0 0 numbers
-noting_begins v0 numbers read empty = record { read = read; first = λ honest sure. first_none v0.content numbers empty }
+pub noting_begins : (v0 : View) (numbers : BTreeMap NearKey ℕ) → IsEmpty numbers → Noting v0 v0 0 numbers
+noting_begins v0 numbers empty = record { read = read_none v0; first = λ honest sure. first_none v0.content numbers empty }
 
 pub noting_goes_on : (v0 v v1 : View) (upto : ℕ) (old new : BTreeMap NearKey ℕ) → Noting v0 v upto old → HaveRead {X = Unit {0}} (Ok tt) v v1
     → (v1.is_honest → v.is_sure → IsNoted v.content (upto + 1) old new) → Noting v0 v1 (upto + 1) new
@@ -66,7 +67,7 @@ noting_goes_on v0 v v1 upto old new n read noted = record {
   read = read_on v0 v n.read tt v1 read;
   first = λ honest sure.
       let honest_now = read.later.honest honest in
-      let here = held_so v0 v n.read (λ c. IsNoted c (upto + 1) old new) honest_now sure (noted honest (n.read.stays.sure honest_now sure)) in
+      let here = held_so v0 v n.read (λ c. IsNoted c (upto + 1) old new) honest_now sure (noted honest (n.read.ok.sure honest_now sure)) in
       first_more v0.content upto old new (n.first honest_now sure) here;
 }
 

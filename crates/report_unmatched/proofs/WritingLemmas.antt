@@ -9,15 +9,14 @@ use Rattle.desk_rules.specs.Content.{Content}
 use Rattle.desk_rules.proofs.SentFronts.{range-append}
 use Rattle.desk_register.specs.declared.register.Fault.{Fault}
 use Rattle.desk_register.specs.declared.register.Fault.TheVariants as faults
-use Rattle.desk_register.specs.declared.register.Stage.TheVariants.{Idle}
 use Rattle.desk_register.specs.View.{View, IsLater}
 use Rattle.desk_holdings.specs.declared.fault.WalkFault.{WalkFault}
 use Rattle.desk_holdings.specs.declared.fault.WalkFault.TheVariants as walks
 use Rattle.desk_holdings.specs.Ends.{HaveRead, broken_off}
-use Rattle.desk_holdings.proofs.ReadingLemmas.{held_so, read_on}
+use Rattle.desk_register.proofs.ReadLemmas.{held_so, read_none}
+use Rattle.desk_holdings.proofs.ReadingLemmas.{read_on}
 use Rattle.desk_book.specs.RowByRow.{WritesSome, WritesText, WritesWhole}
 use Rattle.desk_book.specs.Sums.{rows_text}
-use Rattle.desk_book.proofs.SummingLemmas.{reads_nothing}
 use Rattle.report_rows.specs.RowData.{unmatched_data}
 use Rattle.report_rows.specs.RowWritten.{WritesRow}
 use Rattle.report_rows.specs.declared.unmatched.UnmatchedInstruction.{UnmatchedInstruction}
@@ -113,8 +112,8 @@ abbrev pub Writing : Type 0 → View → View → ℕ → ℕ → Bool → Optio
 Writing IsJson v0 v count n is_later before now = Walked unmatched_data (rows_upto n) IsJson v0 v count is_later before now
 
 module _ (IsJson : Type 0) (v0 : View) (count : ℕ) where
-  pub writing_begins : (before : Option (List ℕ)) → v0.stage ≡ Idle → (v0.is_honest → v0.is_sure → count ≡ length v0.content.register) → Writing IsJson v0 v0 count 0 false before before
-  writing_begins before idle entries = record { read = reads_nothing v0 idle; entries = entries; rows_of = λ json honest sure. none_written unmatched_data before }
+  pub writing_begins : (before : Option (List ℕ)) → (v0.is_honest → v0.is_sure → count ≡ length v0.content.register) → Writing IsJson v0 v0 count 0 false before before
+  writing_begins before entries = record { read = read_none v0; entries = entries; rows_of = λ json honest sure. none_written unmatched_data before }
 
   module _ (v : View) (n : ℕ) (was_later : Bool) (before between : Option (List ℕ)) (w : Writing IsJson v0 v count n was_later before between) where
     pub writing_goes_on : (v1 : View) (is_later : Bool) (now : Option (List ℕ)) → HaveRead {X = Unit {0}} (Ok tt) v v1
@@ -124,7 +123,7 @@ module _ (IsJson : Type 0) (v0 : View) (count : ℕ) where
       entries = λ honest sure. w.entries (read.later.honest honest) sure;
       rows_of = λ json honest sure.
           let honest_now = read.later.honest honest in
-          let more = held_so v0 v w.read (λ c. WritesIf (Ok is_later) (unmatched_row c (n + 1)) was_later between now) honest_now sure (writes json honest (w.read.stays.sure honest_now sure)) in
+          let more = held_so v0 v w.read (λ c. WritesIf (Ok is_later) (unmatched_row c (n + 1)) was_later between now) honest_now sure (writes json honest (w.read.ok.sure honest_now sure)) in
           subst (λ z. RowsWritten unmatched_data z is_later before now) (sym (rows_more v0.content n))
           (row_more (rows_upto n v0.content) (unmatched_row v0.content (n + 1)) was_later is_later before between now (w.rows_of json honest_now sure) more);
     }
@@ -136,7 +135,7 @@ module _ (IsJson : Type 0) (v0 : View) (count : ℕ) where
         let entries = w.entries honest_now sure in
         let front = front_of v0.content n was_later before between (omega arith) (w.rows_of json honest_now sure) in
         handed_on (IsUnmatchedText v0.content) fault r before now is
-        (broken_in (IsUnmatchedText v0.content) (unmatched_row v.content (n + 1)) was_later fault before between now front (writes json honest (w.read.stays.sure honest_now sure)))
+        (broken_in (IsUnmatchedText v0.content) (unmatched_row v.content (n + 1)) was_later fault before between now front (writes json honest (w.read.ok.sure honest_now sure)))
 
     pub writing_ends : n ≤ count → count ≤ n → IsJson → v.is_honest → v0.is_sure → WritesWhole (IsUnmatchedText v0.content) before between
     writing_ends within enough json honest sure =

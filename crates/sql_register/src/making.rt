@@ -121,9 +121,10 @@ impl<S: Alter + Drop> SqlRegister<S> {
         }
     }
 
-    /// The connection, handed back.
+    /// The connection, handed back, with the tables of a desk: what it shows is committed where no `begin` is open.
     pub fn into_connection(self) -> Connection<S>
-        ensures { result ≡ self.connection }
+        ensures connection { result ≡ self.connection }
+        ensures kept { IsKept (state S.Store result) self.stage }
     {
         self.conn
     }

@@ -3,6 +3,7 @@ pub mod ColumnLemmas
 pub mod ControlLemmas
 pub mod EditLemmas
 pub mod EndLemmas
+pub mod LookLemmas
 pub mod MadeLemmas
 pub mod MakingLemmas
 pub mod QueryLemmas

@@ -1,5 +1,5 @@
 -- How a call on the desk's tables ends.
-use Rattle.std.specs.Prelude.{◌≡◌, ◌⊎◌, ℕ, ◌+◌, ◌^◌, ◌≤◌, ◌<◌, [], IsTrue, false, Result, OnOk, OnErr, IfErr}
+use Rattle.std.specs.Prelude.{◌≡◌, ◌⊎◌, ℕ, ◌+◌, ◌^◌, ◌≤◌, ◌<◌, [], ⊤, IsTrue, false, Result, Ok, OnOk, OnErr, IfErr}
 use Rattle.sqlite_trees.specs.View.{doubt}
 use Rattle.sqlite_rules.specs.Edit.{IsNoIndex}
 use Rattle.sqlite.specs.Effect.{Database}
@@ -69,6 +69,10 @@ pub record IsLook {X : Type 0} (result : Result X Error) (old new : State) : Typ
   pub why : IfSound old new (IfErr result (SaysWhy old new))
   pub opened : HasCleanDisk new → IsTrue new.is_open → IsTrue old.is_open
   pub later : IsLater old new
+
+-- looks so far, each of which went well: together they are one that did
+abbrev pub HasLooked : State → State → Type 0
+HasLooked old new = IsLook {X = ⊤} (Ok tt) old new
 
 -- how a call ends that changes the tables
 pub record IsWrite {X : Type 0} (result : Result X Error) (old new : State) : Type 0 where

@@ -1,17 +1,20 @@
 //! `desk drop`.
 ghost use Rattle.std.specs.Prelude.{◌≡◌, ◌<◌, true, false, All, length, map, string_bytes, IfErr, IfOk, OnErr};
 ghost use Rattle.std.specs.Io.KnownBytes.{Appends};
+ghost use Rattle.sqlite.specs.Held.{state};
 ghost use Rattle.desk_rules.specs.Books.{Books};
 ghost use Rattle.desk_rules.specs.declared.limits.TheConstants.{MOST_ENTRIES};
-ghost use Rattle.desk_book.specs.Held.{Holds, IsReady};
+ghost use Rattle.desk_book.specs.Held.{IfHolds, KeepsFormed};
 ghost use Rattle.desk_book.specs.Played.{answer_text};
 ghost use Rattle.desk_drop.specs.Folder.{file_of};
 ghost use Rattle.desk_opening.specs.Opened.{IsReadyFor, view_of_both};
+ghost use Rattle.desk_register.specs.View.{IsLater};
+ghost use Rattle.desk.specs.Left.{IsLeft, IsLeftIn, LeavesSome};
 ghost use Rattle.desk.specs.DropAnswer.{AreTakenFrom, IsDropAnswer, IsFolderFailure, IsFolderTold, answer_name};
 
 use crate::folders::{BEHIND, Found, put_answer, read_folder, try_folder};
 use crate::status::{Failure, Status, tell_failure};
-use crate::store::{close, connection_of, ended, open};
+use crate::store::{FileRegister, Left, close, ended, left_of, open};
 use crate::teller::{Tally, Teller, Watch};
 use desk_book::{Desk, Fault, Outbox};
 use desk_drop::{DropFile, DropReply, take};
@@ -21,7 +24,7 @@ use desk_register::Register;
 use desk_rules::Reply;
 use desk_streams::Sink;
 use sql_register::SqlRegister;
-use sqlite::{Alter, Connection};
+use sqlite::Alter;
 use std::alloc::{AllocError, Global};
 use std::io;
 use std::rt::HostRuntime;
@@ -55,14 +58,27 @@ pub fn answer_drop<W: Sink>(
     ensures failed { OnErr result (W.may_fail ≡ true) }
 {
     match open(rt, path) {
-        Ok(both) => {
-            let mut teller = Teller::new(rt, path);
-            let (done, conn) = drop_on_both(rt, both, &mut teller, Folders { from, to });
-            let told = tell_done(done, writer);
-            ended(&teller, told, close(rt, path, conn), writer)
-        }
+        Ok(both) => drop_opened(rt, path, both, Folders { from, to }, writer),
         Err(failure) => tell_failure(failure, writer),
     }
+}
+
+/// The same on the desk of a file that was opened.
+fn drop_opened<W: Sink>(
+    rt: &HostRuntime,
+    path: &str,
+    both: FileRegister,
+    folders: Folders<'_>,
+    writer: &mut W,
+) -> io::Result<Status>
+    requires { IsReadyFor MOST_ENTRIES (view_of_both both) }
+    ensures told { IfOk result (λ status. IsDropAnswer status (Appends (W.contents writer.old) (W.contents writer.new))) }
+    ensures failed { OnErr result (W.may_fail ≡ true) }
+{
+    let mut teller = Teller::new(rt, path);
+    let (done, left) = drop_on_both(rt, both, &mut teller, folders);
+    let told = tell_done(done, writer);
+    ended(&teller, told, close(rt, path, left.conn), writer)
 }
 
 /// Tells nothing of a folder whose answers are written, or why they are not.
@@ -82,27 +98,32 @@ fn drop_on_both<S: Alter + Drop>(
     both: MirroredRegister<IndexedRegister, SqlRegister<S>>,
     teller: &mut Teller<'_>,
     folders: Folders<'_>,
-) -> (Result<(), Failure>, Connection<S>)
+) -> (Result<(), Failure>, Left<S>)
     requires { IsReadyFor MOST_ENTRIES (view_of_both both) }
-    ensures { IfErr result.0 IsFolderFailure }
+    ensures failure { IfErr result.0 IsFolderFailure }
+    ensures left { (books : Books) → KeepsFormed MOST_ENTRIES books (view_of_both both).content
+        → LeavesSome MOST_ENTRIES books (IsLeftIn result.1.is_closed (state S.Store result.1.conn)) }
 {
-    let (done, both) = drop_over(rt, both, teller, folders);
-    (done, connection_of(both))
+    let mut desk = Desk::new(both);
+    let done = drop_on(rt, &mut desk, teller, folders);
+    (done, left_of(desk))
 }
 
-/// The same on a desk over a register, which is given back.
-fn drop_over<D: Register + Drop>(
+/// The same on a desk that is open.
+fn drop_on<D: Register + Drop>(
     rt: &HostRuntime,
-    register: D,
+    desk: &mut Desk<D>,
     teller: &mut Teller<'_>,
     folders: Folders<'_>,
-) -> (Result<(), Failure>, D)
-    requires { IsReady false (D.view register) }
-    ensures { IfErr result.0 IsFolderFailure }
+) -> Result<(), Failure>
+    requires { desk.old.is_closed ≡ false }
+    ensures failure { IfErr result IsFolderFailure }
+    ensures left { IfHolds D.view desk.old desk.new (λ books. LeavesSome (D.view desk.old.register).room books (IsLeft desk.new.is_closed (D.view desk.new.register))) }
+    ensures later { IsLater (D.view desk.old.register) (D.view desk.new.register) }
 {
     match read_all(rt, teller, folders) {
-        Ok(found) => answer_all(rt, register, teller, folders.to, &found),
-        Err(error) => (Err(Failure::from(error)), register),
+        Ok(found) => answer_all(rt, desk, teller, folders.to, &found),
+        Err(error) => Err(Failure::from(error)),
     }
 }
 
@@ -112,26 +133,28 @@ fn read_all(rt: &HostRuntime, teller: &Teller<'_>, folders: Folders<'_>) -> io::
     read_folder(rt, folders.from, teller)
 }
 
-/// Takes the files that were read, and writes their answers to a folder.
+/// Takes the files that were read on a desk that is open, and writes their answers to a folder.
 fn answer_all<D: Register + Drop>(
     rt: &HostRuntime,
-    register: D,
+    desk: &mut Desk<D>,
     teller: &mut Teller<'_>,
     folder: &str,
     found: &[Found],
-) -> (Result<(), Failure>, D)
-    requires { IsReady false (D.view register) }
-    ensures { IfErr result.0 IsFolderFailure }
+) -> Result<(), Failure>
+    requires { desk.old.is_closed ≡ false }
+    ensures failure { IfErr result IsFolderFailure }
+    ensures left { IfHolds D.view desk.old desk.new (λ books. LeavesSome (D.view desk.old.register).room books (IsLeft desk.new.is_closed (D.view desk.new.register))) }
+    ensures later { IsLater (D.view desk.old.register) (D.view desk.new.register) }
 {
     let Ok(files) = files_of(rt.alloc(), found) else {
-        return (Err(Failure::Memory), register);
+        return Err(Failure::Memory);
     };
-    let (taken, register) = take_over(rt.alloc(), register, teller, &files);
-    let done = match taken {
+    let taken = take_on(rt.alloc(), desk, &files);
+    teller.look(desk.is_closed());
+    match taken {
         Ok(replies) => write_all(rt, teller, folder, &files, &replies),
         Err(_) => Err(Failure::Memory),
-    };
-    (done, register)
+    }
 }
 
 /// The files that were read.
@@ -146,23 +169,21 @@ fn files_of(alloc: Global, found: &[Found]) -> Result<Vec<DropFile<'_>>, AllocEr
     Ok(files)
 }
 
-/// Takes files on a desk over a register, which is given back.
-fn take_over<D: Register + Drop, P: Watch>(
+/// Takes files on a desk that is open. Where memory is wanting for the lists nothing was asked.
+fn take_on<D: Register + Drop>(
     alloc: Global,
-    register: D,
-    watch: &mut P,
+    desk: &mut Desk<D>,
     files: &[DropFile<'_>],
-) -> (Result<Vec<DropReply>, Fault>, D)
-    requires { IsReady false (D.view register) }
-    ensures taken { (books : Books) → (D.view result.1).is_honest → Holds false (D.view register) books
-        → IfOk result.0 (λ replies. AreTakenFrom (D.view register).room books (map file_of files.now) replies.items) }
-    ensures within { IfOk result.0 (λ replies. All (λ reply. reply.index < length files.now) replies.items) }
-    ensures memory { IfErr result.0 (λ fault. fault ≡ Fault.Memory) }
+) -> Result<Vec<DropReply>, Fault>
+    requires { desk.old.is_closed ≡ false }
+    ensures taken { IfHolds D.view desk.old desk.new (λ books.
+        IfOk result (λ replies. AreTakenFrom (D.view desk.old.register).room (IsLeft desk.new.is_closed (D.view desk.new.register)) books (map file_of files.now) replies.items)) }
+    ensures untaken { OnErr result (desk.new ≡ desk.old) }
+    ensures within { IfOk result (λ replies. All (λ reply. reply.index < length files.now) replies.items) }
+    ensures memory { IfErr result (λ fault. fault ≡ Fault.Memory) }
+    ensures later { IsLater (D.view desk.old.register) (D.view desk.new.register) }
 {
-    let mut desk = Desk::new(register);
-    let taken = take(alloc, &mut desk, files);
-    watch.look(desk.is_closed());
-    (taken, desk.into_register())
+    take(alloc, desk, files)
 }
 
 /// Writes the answers to files, and tells people how many there are of each kind.

@@ -6,11 +6,14 @@ ghost use Rattle.desk_rules.specs.declared.limits.TheConstants.{MOST_ENTRIES};
 ghost use Rattle.desk_book.specs.Held.{IsReady, KeepsFormed};
 ghost use Rattle.desk_index.specs.IndexView.{view_of_index};
 ghost use Rattle.desk_opening.specs.Opened.{IsReadyFor, view_of_both};
+ghost use Rattle.desk_register.specs.declared.register.Stage.TheVariants.{Idle};
+ghost use Rattle.sqlite.specs.Held.{state};
+ghost use Rattle.desk.specs.Left.{TablesSay};
 ghost use Rattle.desk.specs.OverviewAnswer.{IsAfterScript, IsBrokenOffAs, IsFileOverviewAnswer, IsOverviewAnswer, IsOverviewEnd, IsOverviewFrom, MayPlayNone, failure_of_played, line_end};
 
 use crate::answers::shown::{Shown, write_shown};
 use crate::status::{Failure, Status, tell_failure};
-use crate::store::{close, connection_of, ended, open_there};
+use crate::store::{FileRegister, close, connection_of, ended, open_there};
 use crate::teller::Teller;
 use desk_book::{Desk, PlayFault};
 use desk_holdings::WalkFault;
@@ -53,17 +56,9 @@ fn register_after<R: Source>(alloc: Global, reader: &mut R) -> Result<IndexedReg
 {
     let mut desk = Desk::new(IndexedRegister::new(alloc, MOST_ENTRIES));
     match desk.play(alloc, reader, &mut io::sink()) {
-        Ok(()) => Ok(register_of(desk)),
+        Ok(()) => Ok(desk.into_register()),
         Err(fault) => Err(failure_of(fault)),
     }
-}
-
-/// The register of a desk, which is ready for another where the desk is open.
-fn register_of(desk: Desk<IndexedRegister>) -> IndexedRegister
-    ensures register { result ≡ desk.register }
-    ensures ready { IsReady desk.is_closed (view_of_index result) }
-{
-    desk.into_register()
 }
 
 /// What is told where a script was not played whose answers go nowhere: such a writer does not fail.
@@ -89,12 +84,26 @@ pub fn answer_overview_on<W: Sink>(
     ensures failed { OnErr result (W.may_fail ≡ true) }
 {
     match open_there(rt, path) {
-        Ok(both) => {
-            let (told, conn) = overview_on_both(rt.alloc(), both, shown, format, writer);
-            ended(&Teller::new(rt, path), told, close(rt, path, conn), writer)
-        }
+        Ok(both) => overview_opened(rt, path, both, shown, format, writer),
         Err(failure) => tell_failure(failure, writer),
     }
+}
+
+/// The same of the desk of a file that was opened.
+fn overview_opened<W: Sink>(
+    rt: &HostRuntime,
+    path: &str,
+    both: FileRegister,
+    shown: Shown,
+    format: Format,
+    writer: &mut W,
+) -> io::Result<Status>
+    requires { IsReadyFor MOST_ENTRIES (view_of_both both) }
+    ensures told { IfOk result (λ status. IsFileOverviewAnswer shown format status (Appends (W.contents writer.old) (W.contents writer.new))) }
+    ensures failed { OnErr result (W.may_fail ≡ true) }
+{
+    let (told, conn) = overview_on_both(rt.alloc(), both, shown, format, writer);
+    ended(&Teller::new(rt, path), told, close(rt, path, conn), writer)
 }
 
 /// The same over tables with a register in memory beside them, of which the connection is given back.
@@ -108,6 +117,7 @@ fn overview_on_both<S: Alter + Drop, W: Sink>(
     requires { IsReadyFor MOST_ENTRIES (view_of_both both) }
     ensures told { (books : Books) → KeepsFormed MOST_ENTRIES books (view_of_both both).content
         → IfOk result.0 (λ status. IsOverviewFrom format shown books status (Appends (W.contents writer.old) (W.contents writer.new))) }
+    ensures left { (books : Books) → KeepsFormed MOST_ENTRIES books (view_of_both both).content → TablesSay (state S.Store result.1) books }
     ensures failed { OnErr result.0 (W.may_fail ≡ true) }
 {
     let mut both = both;
@@ -126,6 +136,8 @@ fn tell_overview<D: Register, W: Sink>(
     requires ready { IsReady false (D.view register.old) }
     ensures told { (books : Books) → (D.view register.new).is_honest → (D.view register.old).room ≡ MOST_ENTRIES → KeepsFormed MOST_ENTRIES books (D.view register.old).content
         → IfOk result (λ status. IsOverviewFrom format shown books status (Appends (W.contents writer.old) (W.contents writer.new))) }
+    ensures stage { (D.view register.new).stage ≡ Idle }
+    ensures same { (D.view register.new).is_honest → (D.view register.new).is_sure → (D.view register.new).content ≡ (D.view register.old).content }
     ensures failed { OnErr result (W.may_fail ≡ true) }
 {
     let written = write_shown(alloc, register, shown, format, writer);

@@ -1,15 +1,18 @@
 //! `desk holdings` and `desk sums`.
 ghost use Rattle.std.specs.Prelude.{◌≡◌, ◌≢◌, true, false, Err, IfOk, OnErr};
 ghost use Rattle.std.specs.Io.KnownBytes.{Appends};
+ghost use Rattle.sqlite.specs.Held.{state};
+ghost use Rattle.desk_register.specs.View.{IsLater};
 ghost use Rattle.desk_rules.specs.Books.{Books};
 ghost use Rattle.desk_rules.specs.declared.limits.TheConstants.{MOST_ENTRIES};
 ghost use Rattle.desk_book.specs.Held.{Holds, IfHolds, IsReady, KeepsFormed};
 ghost use Rattle.desk_book.specs.WrittenTo.{WritesAsked};
 ghost use Rattle.desk_opening.specs.Opened.{IsReadyFor, view_of_both};
+ghost use Rattle.desk.specs.Left.{IsLeftIn};
 ghost use Rattle.desk.specs.ReportAnswer.{asked_for, status_of_answer, IsBrokenOff, IsReportAnswer, IsReportFrom, IsReportTold};
 
 use crate::status::{Failure, Status, tell_failure};
-use crate::store::{close, connection_of, ended, open_there};
+use crate::store::{FileRegister, Left, close, ended, left_of, open_there};
 use crate::teller::Teller;
 use desk_book::{Desk, Head, ToFault};
 use desk_codes::Bic;
@@ -18,7 +21,7 @@ use desk_mirror::MirroredRegister;
 use desk_register::Register;
 use desk_streams::Sink;
 use sql_register::SqlRegister;
-use sqlite::{Alter, Connection};
+use sqlite::Alter;
 use std::alloc::Global;
 use std::io;
 use std::rt::HostRuntime;
@@ -37,12 +40,31 @@ pub fn answer_report<W: Sink>(
     ensures failed { OnErr result (W.may_fail ≡ true) }
 {
     match open_there(rt, path) {
-        Ok(both) => {
-            let (told, conn) = report_on_both(rt.alloc(), both, owner, account, writer);
-            ended(&Teller::new(rt, path), told, close(rt, path, conn), writer)
-        }
+        Ok(both) => report_opened(rt, path, both, owner, account, writer),
         Err(failure) => tell_failure(failure, writer),
     }
+}
+
+/// The same by the desk of a file that was opened.
+fn report_opened<W: Sink>(
+    rt: &HostRuntime,
+    path: &str,
+    both: FileRegister,
+    owner: Option<Bic>,
+    account: &[u8],
+    writer: &mut W,
+) -> io::Result<Status>
+    requires { IsReadyFor MOST_ENTRIES (view_of_both both) }
+    ensures told { IfOk result (λ status. IsReportAnswer (asked_for owner account.now) status (Appends (W.contents writer.old) (W.contents writer.new))) }
+    ensures failed { OnErr result (W.may_fail ≡ true) }
+{
+    let (told, left) = report_on_both(rt.alloc(), both, owner, account, writer);
+    ended(
+        &Teller::new(rt, path),
+        told,
+        close(rt, path, left.conn),
+        writer,
+    )
 }
 
 /// The same over tables with a register in memory beside them, of which the connection is given back.
@@ -52,32 +74,37 @@ fn report_on_both<S: Alter + Drop, W: Sink>(
     owner: Option<Bic>,
     account: &[u8],
     writer: &mut W,
-) -> (io::Result<Status>, Connection<S>)
+) -> (io::Result<Status>, Left<S>)
     requires { IsReadyFor MOST_ENTRIES (view_of_both both) }
     ensures told { (books : Books) → KeepsFormed MOST_ENTRIES books (view_of_both both).content
         → IfOk result.0 (λ status. IsReportFrom MOST_ENTRIES books (asked_for owner account.now) status (Appends (W.contents writer.old) (W.contents writer.new))) }
+    ensures left { (books : Books) → KeepsFormed MOST_ENTRIES books (view_of_both both).content
+        → IsLeftIn result.1.is_closed (state S.Store result.1.conn) result.1.is_closed books }
     ensures failed { OnErr result.0 (W.may_fail ≡ true) }
 {
-    let (told, both) = report_over(alloc, both, owner, account, writer);
-    (told, connection_of(both))
+    let (told, desk) = report_over(alloc, both, owner, account, writer);
+    (told, left_of(desk))
 }
 
-/// The same on a desk over a register, which is given back.
+/// The same on a desk over a register; the desk is given back.
 fn report_over<D: Register + Drop, W: Sink>(
     alloc: Global,
     register: D,
     owner: Option<Bic>,
     account: &[u8],
     writer: &mut W,
-) -> (io::Result<Status>, D)
+) -> (io::Result<Status>, Desk<D>)
     requires { IsReady false (D.view register) }
-    ensures told { (books : Books) → (D.view result.1).is_honest → Holds false (D.view register) books
+    ensures told { (books : Books) → (D.view result.1.register).is_honest → Holds false (D.view register) books
         → IfOk result.0 (λ status. IsReportFrom (D.view register).room books (asked_for owner account.now) status (Appends (W.contents writer.old) (W.contents writer.new))) }
+    ensures keeps { (books : Books) → (D.view result.1.register).is_honest → Holds false (D.view register) books
+        → Holds result.1.is_closed (D.view result.1.register) books }
+    ensures room { (D.view result.1.register).room ≡ (D.view register).room }
     ensures failed { OnErr result.0 (W.may_fail ≡ true) }
 {
     let mut desk = Desk::new(register);
     let written = write_report(alloc, &mut desk, owner, account, writer);
-    (tell_written(written, writer), desk.into_register())
+    (tell_written(written, writer), desk)
 }
 
 /// Writes the answer to what is asked for.
@@ -90,6 +117,8 @@ fn write_report<D: Register + Drop, W: Sink>(
 ) -> Result<Head, ToFault>
     ensures written { IfHolds D.view desk.old desk.new (λ books.
         WritesAsked (D.view desk.old.register).room books (asked_for owner account.now) result (W.contents writer.old) (W.contents writer.new)) }
+    ensures keeps { IfHolds D.view desk.old desk.new (Holds desk.new.is_closed (D.view desk.new.register)) }
+    ensures later { IsLater (D.view desk.old.register) (D.view desk.new.register) }
     ensures open { desk.old.is_closed ≡ false → result ≢ Err ToFault.Closed }
     ensures unwritten { result ≡ Err ToFault.WriteFailed → W.may_fail ≡ true }
 {

@@ -1,15 +1,18 @@
 //! `desk serve`.
 ghost use Rattle.std.specs.Prelude.{◌≡◌, ◌⊎◌, true, false, None, IfOk, OnErr, OnOk};
 ghost use Rattle.std.specs.Io.KnownBytes.{Appends};
+ghost use Rattle.sqlite.specs.Held.{state};
 ghost use Rattle.desk_rules.specs.Books.{Books};
+ghost use Rattle.desk_rules.specs.declared.limits.TheConstants.{MOST_ENTRIES};
 ghost use Rattle.desk_register.specs.View.{IsLater};
-ghost use Rattle.desk_book.specs.Held.{Holds, IsReady};
+ghost use Rattle.desk_book.specs.Held.{Holds, KeepsFormed};
 ghost use Rattle.desk_http.specs.Served.{Serves};
-ghost use Rattle.desk_opening.specs.Opened.{view_of_both};
+ghost use Rattle.desk_opening.specs.Opened.{IsReadyFor, view_of_both};
+ghost use Rattle.desk.specs.Left.{IsLeftIn, LeavesSome};
 ghost use Rattle.desk.specs.ServeAnswer.{HoldsOn, IsFileServeAnswer, IsServeAnswer, listening_line};
 
 use crate::status::{Failure, Status, tell_failure};
-use crate::store::{close, connection_of, ended, open};
+use crate::store::{FileRegister, Left, close, ended, left_of, open};
 use crate::teller::{Nobody, Teller, Watch};
 use desk_book::{CHUNK, Desk};
 use desk_http::{Routes, serve_one};
@@ -19,7 +22,7 @@ use desk_register::Register;
 use desk_rules::MOST_ENTRIES;
 use desk_streams::Sink;
 use sql_register::SqlRegister;
-use sqlite::{Alter, Connection};
+use sqlite::Alter;
 use std::alloc::Global;
 use std::io::{self, Read};
 use std::net::{Ipv4Addr, Net, Shutdown, TcpListener, TcpStream};
@@ -54,6 +57,7 @@ pub fn answer_serve<N: Net<Listener = TcpListener, Stream = TcpStream>, W: Sink>
 
 /// The same on the desk of a file, which is made where there is none. It is opened before it is told where it listens, and closed
 /// at the end; a file that is not opened, or not closed, is its fault. Where the desk is closed, standard error says so.
+#[tactic(auto, using(crate::proofs::ServeLemmas::unserved))]
 pub fn answer_serve_on<W: Sink>(
     rt: &HostRuntime,
     path: &str,
@@ -65,13 +69,27 @@ pub fn answer_serve_on<W: Sink>(
     ensures failed { OnErr result (W.may_fail ≡ true) }
 {
     match open(rt, path) {
-        Ok(both) => {
-            let mut teller = Teller::new(rt, path);
-            let (told, conn) = serve_on_both(rt, port, count, both, &mut teller, writer);
-            ended(&teller, told, close(rt, path, conn), writer)
-        }
+        Ok(both) => serve_opened(rt, path, both, port, count, writer),
         Err(failure) => tell_failure(failure, writer),
     }
+}
+
+/// The same on the desk of a file that was opened.
+fn serve_opened<W: Sink>(
+    rt: &HostRuntime,
+    path: &str,
+    both: FileRegister,
+    port: u16,
+    count: u32,
+    writer: &mut W,
+) -> io::Result<Status>
+    requires { IsReadyFor MOST_ENTRIES (view_of_both both) }
+    ensures told { IfOk result (λ status. IsFileServeAnswer port status (Appends (W.contents writer.old) (W.contents writer.new))) }
+    ensures failed { OnErr result (W.may_fail ≡ true) }
+{
+    let mut teller = Teller::new(rt, path);
+    let (told, left) = serve_on_both(rt, port, count, both, &mut teller, writer);
+    ended(&teller, told, close(rt, path, left.conn), writer)
 }
 
 /// The same over tables with a register in memory beside them, of which the connection is given back.
@@ -82,14 +100,16 @@ fn serve_on_both<S: Alter + Drop, P: Watch, W: Sink>(
     both: MirroredRegister<IndexedRegister, SqlRegister<S>>,
     watch: &mut P,
     writer: &mut W,
-) -> (io::Result<Status>, Connection<S>)
-    requires { IsReady false (view_of_both both) }
+) -> (io::Result<Status>, Left<S>)
+    requires { IsReadyFor MOST_ENTRIES (view_of_both both) }
     ensures told { IfOk result.0 (λ status. IsServeAnswer port status (Appends (W.contents writer.old) (W.contents writer.new))) }
+    ensures left { (books : Books) → KeepsFormed MOST_ENTRIES books (view_of_both both).content
+        → LeavesSome MOST_ENTRIES books (IsLeftIn result.1.is_closed (state S.Store result.1.conn)) }
     ensures failed { OnErr result.0 (W.may_fail ≡ true) }
 {
     let mut desk = Desk::new(both);
     let told = serve_desk(rt, rt.alloc(), port, count, &mut desk, watch, writer);
-    (told, connection_of(desk.into_register()))
+    (told, left_of(desk))
 }
 
 /// Serves so many connections on a desk, once it has told where it listens.
@@ -109,6 +129,7 @@ fn serve_desk<
 ) -> io::Result<Status>
     ensures told { IfOk result (λ status. IsServeAnswer port status (Appends (W.contents writer.old) (W.contents writer.new))) }
     ensures keeps { (D.view desk.new.register).is_honest → HoldsOn desk.old.is_closed (D.view desk.old.register) desk.new.is_closed (D.view desk.new.register) }
+    ensures later { IsLater (D.view desk.old.register) (D.view desk.new.register) }
     ensures failed { OnErr result (W.may_fail ≡ true) }
 {
     let Ok(routes) = Routes::new(alloc) else {

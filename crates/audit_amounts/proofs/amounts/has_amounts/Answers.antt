@@ -20,7 +20,7 @@ returns-clause-says g c = λ clean is_open has honest sure order formed strange.
     let r = c.is_paid_recorded.result in
     let all = in_three s0 (state g.S.Store c.are_true_tables.new.conn) (state g.S.Store c.are_entries_recorded.new.conn) (state g.S.Store c.is_paid_recorded.new.conn)
     v0 (g.R.Register.view c.are_true_tables.new.register) (g.R.Register.view c.are_entries_recorded.new.register) (g.R.Register.view c.is_paid_recorded.new.register)
-    c.requires.stage one.look one.read two.look two.read three.look.later three.read.later
+    one.look one.read two.look two.read three.look.later three.read.later
     (λ db content. AreInOrder desk_schema db.trees → AreAllFormed db.trees → AreTrueTables db content) (λ db content. AreAmounts db → AreAllRecorded db content)
     (λ db content. AreAmounts db → IfOk r (λ so. IsTrue so → IsPaidRecorded db content))
     (λ clean is_open has honest sure order formed. one.says clean is_open has honest sure order formed c.if-not-branch.false)

@@ -5,9 +5,9 @@ use Rattle.desk_register.specs.Looked.{IsHoldingAfter}
 use Rattle.desk_register.proofs.ViewLemmas.{idle_goes}
 use Rattle.sql_amounts.specs.declared.key.AmountKey.TheVariants.{Balance}
 use Rattle.sql_amounts.specs.Amounts.{AreAmounts}
-use Rattle.audit_rows.specs.Audits.{HasRead}
-use Rattle.audit_rows.proofs.LookLemmas.{look_then}
-use Rattle.audit_rows.proofs.ReadLemmas.{read_idle, read_ok, read_then}
+use Rattle.desk_register.specs.View.{HasRead}
+use Rattle.sql_tables.proofs.LookLemmas.{look_more}
+use Rattle.desk_register.proofs.ReadLemmas.{read_idle, read_more}
 use Rattle.audit_amounts.specs.Recorded.{AreRecordedTo, IsRecorded}
 use Rattle.audit_amounts.proofs.WalkLemmas.{in_turn, look_failed, one_more, read_failed}
 use Rattle.audit_amounts.proofs.recorded.are_holdings_recorded.Goals as goal
@@ -22,8 +22,8 @@ returns-in_err-is_recorded-clause-read g c =
     let v0 = g.R.Register.view c.args.register.now in
     let v1 = g.R.Register.view c.loop-told.register in
     let v2 = g.R.Register.view c.holding_after.new.self in
-    read_failed c.in_err-is_recorded.field-0.0 c.from_residual-in_err-is_recorded.result c.from_residual-in_err-is_recorded.ensures.1 v0 v2 (g.R.Register.view c.is_recorded.new.register) c.requires.stage
-    (read_ok c.in_ok-holding.field-0 _ v0 v2 (read_then _ (Ok c.in_ok-holding.field-0) v0 v1 v2 c.requires.stage c.loop-told.invariant.read c.in_ok-holding.ensures.read)) c.in_err-is_recorded.ensures.read
+    read_failed c.in_err-is_recorded.field-0.0 c.from_residual-in_err-is_recorded.result c.from_residual-in_err-is_recorded.ensures.1 v0 v2 (g.R.Register.view c.is_recorded.new.register)
+    (read_more c.in_ok-holding.field-0 v0 v1 v2 c.loop-told.invariant.read c.in_ok-holding.ensures.read) c.in_err-is_recorded.ensures.read
 
 pub loop-told-preserved : goal.loop-told-preserved
 loop-told-preserved g c =
@@ -38,14 +38,14 @@ loop-told-preserved g c =
     let found = c.in_ok-holding.ensures in
     let so = c.in_ok-is_recorded.ensures in
     let holding = c.in-Some.holding in
-    let read02 : HasRead v0 v2 = read_ok c.in_ok-holding.field-0 _ v0 v2 (read_then _ (Ok c.in_ok-holding.field-0) v0 v1 v2 c.requires.stage i.read found.read) in
+    let read02 : HasRead v0 v2 = read_more c.in_ok-holding.field-0 v0 v1 v2 i.read found.read in
     record {
-      look = look_then _ (Ok _) s0 s1 s2 i.look so.look;
-      read = read_then _ (Ok _) v0 v2 v3 c.requires.stage read02 so.read;
+      look = look_more _ s0 s1 s2 i.look so.look;
+      read = read_more _ v0 v2 v3 read02 so.read;
       said = λ clean is_open has honest sure amounts.
           let honest1 = found.read.later.honest (so.read.later.honest honest) in
           let sure1 = i.read.ok.sure honest1 sure in
-          let idle1 = read_idle _ v0 v1 c.requires.stage i.read in
+          let idle1 = read_idle v0 v1 i.read c.requires.stage in
           let next1 = subst (IsHoldingAfter v1.content c.args.account c.loop-told.last) c.in-Some.is (found.value (so.read.later.honest honest) sure1 (idle_goes v1.stage idle1)) in
           let next = subst (λ (x : Content). IsHoldingAfter x c.args.account c.loop-told.last (Some holding)) (i.read.same honest1 sure) next1 in
           let both = in_turn s0 s1 s2 v0 v2 v3 i.look read02 so.look.later so.read.later

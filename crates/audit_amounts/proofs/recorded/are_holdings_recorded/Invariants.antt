@@ -1,8 +1,8 @@
 use Rattle.sqlite.specs.Held.{state}
-use Rattle.desk_register.specs.View.{IfTrusted}
+use Rattle.desk_register.specs.View.{HasRead, IfTrusted}
 use Rattle.sql_amounts.specs.Amounts.{AreAmounts}
 use Rattle.sql_tables.specs.Calls.{Soundly, tables}
-use Rattle.audit_rows.specs.Audits.{HasLooked, HasRead}
+use Rattle.sql_tables.specs.Ends.{HasLooked}
 use Rattle.audit_amounts.specs.Recorded.{AreRecordedTo}
 use Rattle.audit_amounts.proofs.recorded.are_holdings_recorded.Given as goal
 

@@ -24,7 +24,7 @@ returns-clause-says g c = λ clean is_open has honest sure order formed.
     let r = c.is_true_table-3.result in
     let all = in_three s0 (state g.S.Store c.is_true_table.new.conn) (state g.S.Store c.is_true_table-2.new.conn) (state g.S.Store c.is_true_table-3.new.conn)
     v0 (g.R.Register.view c.is_true_table.new.register) (g.R.Register.view c.is_true_table-2.new.register) (g.R.Register.view c.is_true_table-3.new.register)
-    c.requires.stage one.look one.read two.look two.read three.look.later three.read.later
+    one.look one.read two.look two.read three.look.later three.read.later
     (Says Balance) (Says Cash) (λ db content. AreInOrder desk_schema db.trees → AreAllFormed db.trees → IfOk r (λ so. IsTrue so → IsTrueTable db content Total))
     (λ clean is_open has honest sure order formed. one.says clean is_open has honest sure order formed c.if-not-branch.false)
     (λ clean is_open has honest sure order formed. two.says clean is_open has honest sure order formed c.if-not-branch-2.false)

@@ -7,9 +7,10 @@ use Rattle.sql_register.specs.Holds.{unmatched_of}
 use Rattle.sql_sent.specs.Messages.{AreSent}
 use Rattle.sql_standings.specs.Unmatched.{AreUnmatched}
 use Rattle.audit_amounts.specs.Said.{HasAmounts}
-use Rattle.audit_rows.specs.Audits.{HasLooked, HasRead}
-use Rattle.audit_rows.proofs.LookLemmas.{look_more}
-use Rattle.audit_rows.proofs.ReadLemmas.{read_more}
+use Rattle.desk_register.specs.View.{HasRead}
+use Rattle.sql_tables.specs.Ends.{HasLooked}
+use Rattle.sql_tables.proofs.LookLemmas.{look_more}
+use Rattle.desk_register.proofs.ReadLemmas.{read_more}
 use Rattle.audit_standings.specs.Due.{SaysDue}
 use Rattle.audit_desk.proofs.GoneLemmas.{moved, IsAccepted}
 use Rattle.audit_desk.proofs.RestLemmas.{no_stranger, stands_within}

@@ -6,7 +6,7 @@ use Rattle.sqlite.specs.State.{HasCleanDisk}
 use Rattle.sql_tables.specs.Ends.{IsSame}
 use Rattle.sql_tables.specs.Schema.{desk_schema, register_table}
 use Rattle.sql_opening.specs.Forms.{HasForm}
-use Rattle.audit_rows.proofs.LookLemmas.{look_more}
+use Rattle.sql_tables.proofs.LookLemmas.{look_more}
 use Rattle.audit_rows.specs.declared.rows.TheConstants.{MOST}
 use Rattle.audit_rows.specs.ByNumber.{HasNoOther}
 use Rattle.audit_entries.specs.declared.register.Reading.TheVariants.{Whole}

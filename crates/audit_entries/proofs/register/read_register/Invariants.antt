@@ -5,7 +5,7 @@ use Rattle.desk_register.specs.View.{IfTrusted, IsLater}
 use Rattle.sql_tables.specs.Calls.{Soundly, tables}
 use Rattle.sql_tables.specs.Schema.{register_table}
 use Rattle.sql_opening.specs.Forms.{HasForm}
-use Rattle.audit_rows.specs.Audits.{HasLooked}
+use Rattle.sql_tables.specs.Ends.{HasLooked}
 use Rattle.audit_entries.specs.Reading.{HoldsFormed, HoldsRows}
 use Rattle.audit_entries.proofs.register.read_register.Given as goal
 

@@ -7,8 +7,8 @@ use Rattle.desk_rules.specs.Content.{Content}
 use Rattle.sql_tables.specs.Ends.{IsSame}
 use Rattle.sql_tables.specs.Schema.{desk_schema, sent_table}
 use Rattle.sql_opening.specs.Forms.{HasForm}
-use Rattle.audit_rows.proofs.LookLemmas.{look_more}
-use Rattle.audit_rows.proofs.ReadLemmas.{read_more}
+use Rattle.sql_tables.proofs.LookLemmas.{look_more}
+use Rattle.desk_register.proofs.ReadLemmas.{read_more}
 use Rattle.audit_sent.specs.Placed.{ArePlaces}
 use Rattle.audit_sent.specs.Told.{IsToldNext}
 use Rattle.audit_sent.proofs.TableLemmas.{told_next}

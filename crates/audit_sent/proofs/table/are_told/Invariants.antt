@@ -1,10 +1,10 @@
 use Rattle.std.specs.List.{AllByRecursion}
 use Rattle.sqlite.specs.Held.{state}
-use Rattle.desk_register.specs.View.{IfTrusted}
+use Rattle.desk_register.specs.View.{HasRead, IfTrusted}
 use Rattle.sql_tables.specs.Calls.{Soundly, tables}
 use Rattle.sql_tables.specs.Schema.{sent_table}
 use Rattle.sql_opening.specs.Forms.{HasForm}
-use Rattle.audit_rows.specs.Audits.{HasLooked, HasRead}
+use Rattle.sql_tables.specs.Ends.{HasLooked}
 use Rattle.audit_sent.proofs.TableLemmas.{AreToldSoFar}
 use Rattle.audit_sent.proofs.table.are_told.Given as goal
 

@@ -5,8 +5,8 @@ use Rattle.sqlite.specs.State.{HasCleanDisk}
 use Rattle.desk_rules.specs.Content.{Content}
 use Rattle.sql_tables.specs.Ends.{IsSame}
 use Rattle.sql_tables.specs.Schema.{desk_schema}
-use Rattle.audit_rows.proofs.LookLemmas.{look_more}
-use Rattle.audit_rows.proofs.ReadLemmas.{read_more}
+use Rattle.sql_tables.proofs.LookLemmas.{look_more}
+use Rattle.desk_register.proofs.ReadLemmas.{read_more}
 use Rattle.audit_standings.specs.Due.{IsFound}
 use Rattle.audit_standings.proofs.DuePlaces.{found_more}
 use Rattle.audit_standings.proofs.due.are_found.Goals as goal

@@ -1,8 +1,8 @@
 use Rattle.std.proofs.Common.{ℕ, ◌<◌}
 use Rattle.sqlite.specs.Held.{state}
-use Rattle.desk_register.specs.View.{IfTrusted}
+use Rattle.desk_register.specs.View.{HasRead, IfTrusted}
 use Rattle.sql_tables.specs.Calls.{Soundly, tables}
-use Rattle.audit_rows.specs.Audits.{HasLooked, HasRead}
+use Rattle.sql_tables.specs.Ends.{HasLooked}
 use Rattle.audit_standings.specs.Due.{IsFound}
 use Rattle.audit_standings.proofs.due.are_found.Given as goal
 

@@ -1,7 +1,6 @@
 use Rattle.std.proofs.Common.{ℕ, ◌<◌, slice_index_or}
 use Rattle.sqlite.specs.Order.{Row}
-use Rattle.desk_register.specs.View.{IfTrusted}
-use Rattle.audit_rows.specs.Audits.{HasRead}
+use Rattle.desk_register.specs.View.{HasRead, IfTrusted}
 use Rattle.audit_standings.specs.Due.{ShowsPair}
 use Rattle.audit_standings.proofs.places.show_pairs.Given as goal
 

@@ -2,7 +2,7 @@ use Rattle.std.proofs.Common.{◌≡◌, ◌+◌, ◌∙◌, ap, subst, sym, ref
 use Rattle.std.proofs.lemmas.Bool.{eqb-true, ltb-true}
 use Rattle.desk_rules.specs.Content.{Content}
 use Rattle.desk_register.proofs.ViewLemmas.{idle_goes}
-use Rattle.audit_rows.proofs.ReadLemmas.{read_more}
+use Rattle.desk_register.proofs.ReadLemmas.{read_more}
 use Rattle.audit_standings.specs.Standings.{AreTold}
 use Rattle.audit_standings.proofs.StandingRows.{told_all, told_none, told_row}
 use Rattle.audit_standings.proofs.standings.standings_told.Goals.{in-NoInstruction, in_default+in-Some+else-not-is_row}

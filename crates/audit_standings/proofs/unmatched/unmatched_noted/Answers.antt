@@ -2,7 +2,7 @@ use Rattle.std.proofs.Common.{◌≡◌, ◌+◌, ◌∙◌, ap, subst, sym, ref
 use Rattle.std.proofs.lemmas.Bool.{eqb-true, ltb-true}
 use Rattle.desk_rules.specs.Content.{Content}
 use Rattle.sql_register.specs.Holds.{unmatched_of}
-use Rattle.audit_rows.proofs.ReadLemmas.{read_more}
+use Rattle.desk_register.proofs.ReadLemmas.{read_more}
 use Rattle.audit_standings.specs.Unmatched.{AreNoted}
 use Rattle.audit_standings.proofs.UnmatchedRows.{noted_all, noted_none, noted_row}
 use Rattle.audit_standings.proofs.unmatched.unmatched_noted.Goals.{in-Some+in-Some-get+else-not-is_row, in_default}

@@ -1,6 +1,5 @@
 use Rattle.std.proofs.Common.{◌≤◌, length, take}
-use Rattle.desk_register.specs.View.{IfTrusted}
-use Rattle.audit_rows.specs.Audits.{HasRead}
+use Rattle.desk_register.specs.View.{HasRead, IfTrusted}
 use Rattle.audit_standings.specs.Unmatched.{AreNoted}
 use Rattle.audit_standings.proofs.unmatched.unmatched_noted.Given as goal
 

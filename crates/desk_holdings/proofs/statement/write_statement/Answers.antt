@@ -14,7 +14,7 @@ returns-in_err-holdings_rows-clause-read g c =
     let v2 = g.R.Register.view c.statement_day.new.register in
     let v3 = g.R.Register.view c.holdings_rows.new.register in
     walk_broke_off c.in_err-holdings_rows.field-0.0 c.from_residual-in_err-holdings_rows.result v0 v2 v3 c.from_residual-in_err-holdings_rows.ensures.1
-    (read_two c.in_ok-count.field-0 c.in_ok-day.day v0 v1 v2 c.requires.stage c.in_ok-count.ensures.read c.in_ok-day.ensures.read)
+    (read_two c.in_ok-count.field-0 c.in_ok-day.day v0 v1 v2 c.in_ok-count.ensures.read c.in_ok-day.ensures.read)
     c.in_err-holdings_rows.ensures.read
 
 pub returns-in_err-finish-clause-read : goal.returns-in_err-finish-clause-read
@@ -25,7 +25,7 @@ returns-in_err-finish-clause-read g c =
     let v3 = g.R.Register.view c.holdings_rows.new.register in
     sink_broke_off c.in_err-finish.field-0.0 c.from_residual-in_err-finish.result v0 v3 c.from_residual-in_err-finish.ensures.1
     (read_on v0 v2
-    (read_two c.in_ok-count.field-0 c.in_ok-day.day v0 v1 v2 c.requires.stage c.in_ok-count.ensures.read c.in_ok-day.ensures.read)
+    (read_two c.in_ok-count.field-0 c.in_ok-day.day v0 v1 v2 c.in_ok-count.ensures.read c.in_ok-day.ensures.read)
     tt v3 c.in_ok-holdings_rows.ensures.read)
 
 pub returns-in_err-holdings_rows-clause-written : goal.returns-in_err-holdings_rows-clause-written

@@ -1,7 +1,8 @@
 -- Row by row, until nothing is held above the last one.
 use Rattle.std.proofs.Common.{◌≤◌, Err, ap, ◌∙◌, arith}
 use Rattle.desk_register.proofs.ViewLemmas.{idle_goes}
-use Rattle.desk_holdings.proofs.ReadingLemmas.{gives_up, read_more, read_one}
+use Rattle.desk_register.proofs.ReadLemmas.{read_more, read_one}
+use Rattle.desk_holdings.proofs.ReadingLemmas.{gives_up}
 use Rattle.desk_holdings.proofs.WalkingLemmas.{none_taken, took_by_fault, took_by_sink, walking_begins, walking_breaks, walking_ends, walking_goes_on, walking_hands_over, walking_is_over}
 use Rattle.desk_holdings.proofs.walk.holdings_rows.Goals as goal
 
@@ -18,7 +19,7 @@ holdings-init g c =
     let r = c.in_ok-count.ensures in
     let v0 = g.R.Register.view c.args.register.now in
     let v = g.R.Register.view c.count.new.self in
-    walking_begins g.S.RowSink.took c.args.account v0 v c.in_ok-count.count c.args.sink.now (read_one c.in_ok-count.count v0 v c.requires.stage r.read) (λ honest sure. r.value honest sure (idle_goes _ c.requires.stage))
+    walking_begins g.S.RowSink.took c.args.account v0 v c.in_ok-count.count c.args.sink.now (read_one c.in_ok-count.count v0 v r.read) (λ honest sure. r.value honest sure (idle_goes _ c.requires.stage))
 
 pub returns-in_err-row-clause-took : goal.returns-in_err-row-clause-took
 returns-in_err-row-clause-took g c =
@@ -64,7 +65,7 @@ returns-in-None-clause-took g c =
     let r = c.in_ok-holding_after.ensures in
     let i = c.holdings.invariant in
     walking_ends g.S.RowSink.took c.args.account (g.R.Register.view c.args.register.now) (g.R.Register.view c.holdings.register) c.in_ok-count.count c.holdings.last c.holdings._told c.args.sink.now c.holdings.sink i
-    (g.R.Register.view c.holding_after.new.self) r.read.later (λ honest sure. (rw c.in-None.is at r.value) honest sure (idle_goes _ (i.read.stays.stage ∙ c.requires.stage)))
+    (g.R.Register.view c.holding_after.new.self) r.read.later (λ honest sure. (rw c.in-None.is at r.value) honest sure (idle_goes _ (i.read.ok.stage ∙ c.requires.stage)))
 
 pub returns-in-Some-2-clause-took : goal.returns-in-Some-2-clause-took
 returns-in-Some-2-clause-took g c =
@@ -79,6 +80,6 @@ returns-in-Some-2-clause-read g c =
     let v = g.R.Register.view c.holdings.register in
     let w = g.R.Register.view c.holding_after.new.self in
     let all : c.in_ok-count.count ≤ c.holdings._told = omega arith in
-    gives_up v0 w (read_more v0 v i.read c.in_ok-holding_after.field-0 w r.read)
+    gives_up v0 w (read_more c.in_ok-holding_after.field-0 v0 v w i.read r.read) c.requires.stage
     (walking_is_over g.S.RowSink.took c.args.account v0 v c.in_ok-count.count c.holdings.last c.holdings._told c.args.sink.now c.holdings.sink i
-    w c.in-Some-2.field-0 all r.read.later c.requires.registered (λ honest sure. (rw c.in-Some-2.is at r.value) honest sure (idle_goes _ (i.read.stays.stage ∙ c.requires.stage))))
+    w c.in-Some-2.field-0 all r.read.later c.requires.registered (λ honest sure. (rw c.in-Some-2.is at r.value) honest sure (idle_goes _ (i.read.ok.stage ∙ c.requires.stage))))

@@ -4,7 +4,7 @@ use Rattle.std.specs.Prelude.{OnOk}
 use Rattle.desk_rules.specs.declared.answers.reply.Notice.{Notice}
 use Rattle.desk_rules.specs.Tables.{AreTables}
 use Rattle.desk_register.proofs.ViewLemmas.{idle_goes}
-use Rattle.desk_holdings.proofs.ReadingLemmas.{kept_so, read_one}
+use Rattle.desk_register.proofs.ReadLemmas.{kept_so, read_one}
 use Rattle.desk_journal.proofs.NotingLemmas.{walk_then}
 use Rattle.desk_journal.proofs.ToldLemmas.{by_instruction, by_none, by_other, by_run}
 use Rattle.desk_journal.proofs.sending.note_entry.Goals as goal
@@ -21,18 +21,18 @@ returns-in-Instruct-clause-noted g c = λ books honest sure are.
     let r = c.in_ok-entry.ensures in
     let v0 = g.R.Register.view c.args.register.now in
     let v1 = g.R.Register.view c.entry.new.self in
-    let read = read_one c.in_ok-entry.field-0 v0 v1 c.requires.stage r.read in
+    let read = read_one c.in_ok-entry.field-0 v0 v1 r.read in
     let honest1 = c.note_pair.ensures.read.later.honest honest in
     let at = sym (r.value honest1 sure (idle_goes _ c.requires.stage)) ∙ c.in-Some.is ∙ ap Some c.in-Instruct.is in
     let P : List Notice → Type 0 = λ z. OnOk c.note_pair.result (c.note_pair.new.notices.items ≡ c.args.notices.now.items ++ z) in
     subst P (by_instruction v0.content books are c.args.number c.in-Instruct.sender c.in-Instruct.instruction at)
-    (c.note_pair.ensures.noted books honest (read.stays.sure honest1 sure) (kept_so v0 v1 read (AreTables books) honest1 sure are))
+    (c.note_pair.ensures.noted books honest (read.ok.sure honest1 sure) (kept_so v0 v1 read (AreTables books) honest1 sure are))
 
 pub returns-in-Instruct-clause-read : goal.returns-in-Instruct-clause-read
 returns-in-Instruct-clause-read g c =
     let v0 = g.R.Register.view c.args.register.now in
     let v1 = g.R.Register.view c.entry.new.self in
-    walk_then c.note_pair.result v0 v1 (g.R.Register.view c.note_pair.new.register) (read_one c.in_ok-entry.field-0 v0 v1 c.requires.stage c.in_ok-entry.ensures.read) c.note_pair.ensures.read
+    walk_then c.note_pair.result v0 v1 (g.R.Register.view c.note_pair.new.register) (read_one c.in_ok-entry.field-0 v0 v1 c.in_ok-entry.ensures.read) c.note_pair.ensures.read
 
 pub returns-in_ok-counts-in-Run-clause-noted : goal.returns-in_ok-counts-in-Run-clause-noted
 returns-in_ok-counts-in-Run-clause-noted g c = λ books honest sure are.
@@ -40,10 +40,10 @@ returns-in_ok-counts-in-Run-clause-noted g c = λ books honest sure are.
     let told = c.in_ok-counts-in-Run.ensures in
     let v0 = g.R.Register.view c.args.register.now in
     let v1 = g.R.Register.view c.entry.new.self in
-    let read = read_one c.in_ok-entry.field-0 v0 v1 c.requires.stage r.read in
+    let read = read_one c.in_ok-entry.field-0 v0 v1 r.read in
     let honest1 = told.read.later.honest honest in
     let at = sym (r.value honest1 sure (idle_goes _ c.requires.stage)) ∙ c.in-Some.is ∙ ap Some c.in-Run.is in
-    let counts = told.counts books honest (read.stays.sure honest1 sure) (kept_so v0 v1 read (AreTables books) honest1 sure are) in
+    let counts = told.counts books honest (read.ok.sure honest1 sure) (kept_so v0 v1 read (AreTables books) honest1 sure are) in
     let P : List Notice → Type 0 = λ z. OnOk c.note_confirmations.result (c.note_confirmations.new.notices.items ≡ c.args.notices.now.items ++ z) in
     subst P (by_run v0.content books are c.args.number c.in-Run.reference c.in-Run.day c.in-Run.rule at c.in_ok-counts-in-Run.counts.0 counts.0) c.note_confirmations.ensures.noted
 

@@ -1,7 +1,8 @@
 use Rattle.std.proofs.Common.{◌≡◌, ◌≢◌, refl, sym, ◌∙◌, arith}
 use Rattle.std.proofs.lemmas.Bool.{ltb-true}
 use Rattle.desk_register.specs.declared.register.Stage.TheVariants.{Failed, Idle}
-use Rattle.desk_holdings.proofs.ReadingLemmas.{gives_up, read_one}
+use Rattle.desk_register.proofs.ReadLemmas.{read_one}
+use Rattle.desk_holdings.proofs.ReadingLemmas.{gives_up}
 use Rattle.desk_journal.proofs.KnownLemmas.{within_room}
 use Rattle.desk_journal.proofs.walk.known_count.Goals as goal
 
@@ -12,7 +13,7 @@ returns-then-are_too_many-clause-read g c =
     let r = c.in_ok-count.ensures in
     let idle = c.requires.ready.stage refl in
     let begun : v0.stage ≢ Failed = λ failed. (let clash : Idle ≡ Failed = sym idle ∙ failed in cc) in
-    gives_up v0 v1 (read_one c.in_ok-count.count v0 v1 idle r.read) (λ honest sure.
+    gives_up v0 v1 (read_one c.in_ok-count.count v0 v1 r.read) idle (λ honest sure.
     let within = within_room v0 c.requires.ready (r.read.later.honest honest) in
     let entries = r.value honest sure begun in
     let room = r.read.later.room in

@@ -5,7 +5,7 @@ use Rattle.desk_journal.proofs.walk.write_rows.Goals as goal
 
 pub numbers-init : goal.numbers-init
 numbers-init g c =
-    writing_begins c.args.from c.args.sending.now (c.args.format ≡ Json) (g.R.Register.view c.args.register.now) c.args.count (g.W.Write.contents c.args.writer.now) c.requires.stage
+    writing_begins c.args.from c.args.sending.now (c.args.format ≡ Json) (g.R.Register.view c.args.register.now) c.args.count (g.W.Write.contents c.args.writer.now)
 
 pub returns-in_err-is_later-clause-written : goal.returns-in_err-is_later-clause-written
 returns-in_err-is_later-clause-written g c = λ books json honest sure tables sent entries.

@@ -16,7 +16,7 @@ returns-clause-known g c = λ honest sure goes.
     let same = ok_fact c.standing.result c.unwrap.result (m1.content ≡ m0.content) is_ok (read.same (law c.standing.new.self).honest sure) in
     let stays = ok_fact c.standing.result c.unwrap.result (Stays m0 m1) is_ok read.ok in
     let goes1 : m1.stage ≢ Failed = λ e. goes (sym stays.stage ∙ e) in
-    let goes2 : m2.stage ≢ Failed = λ e. goes1 (sym c.in_ok-earlier.ensures.read.stays.stage ∙ e) in
+    let goes2 : m2.stage ≢ Failed = λ e. goes1 (sym c.in_ok-earlier.ensures.read.ok.stage ∙ e) in
     let honest2 = (law c.instruction.new.register).honest in
     read_pair m0.content m1.content m2.content c.args.number c.in_ok-mate.mate c.in_ok-earlier.earlier c.in_ok-later.later (ap (λ s. s.mate) (sym stands) ∙ c.in_ok-mate.was) same
     (c.in_ok-earlier.ensures.value honest2 (law c.standing.new.self).sure goes1) (c.in_ok-earlier.ensures.read.same honest2 (law c.standing.new.self).sure)

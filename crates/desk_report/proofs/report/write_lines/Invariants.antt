@@ -1,4 +1,4 @@
-use Rattle.desk_holdings.proofs.ReadingLemmas.{HasRead}
+use Rattle.desk_register.specs.View.{HasRead}
 use Rattle.desk_report.proofs.report.write_lines.Given as goal
 
 abbrev pub invariant-parts : goal.invariant-parts

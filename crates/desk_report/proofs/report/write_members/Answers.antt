@@ -5,7 +5,7 @@ use Rattle.desk_report.proofs.report.write_members.Goals as goal
 use Rattle.desk_report.proofs.report.write_members.Goals.{then-asks+in_ok-write_member, else-asks}
 
 pub parts-init : goal.parts-init
-parts-init g c = writing_begins c.args.parts (g.R.Register.view c.args.register.now) (g.W.Write.contents c.args.writer.now) (c.requires.ready.stage refl)
+parts-init g c = writing_begins c.args.parts (g.R.Register.view c.args.register.now) (g.W.Write.contents c.args.writer.now)
 
 pub write_member-requires : goal.write_member-requires
 write_member-requires g c = record { ready = ready_still (g.R.Register.view c.args.register.now) (g.R.Register.view c.parts.register) c.requires.ready c.parts.invariant.read }

@@ -1,4 +1,4 @@
-use Rattle.desk_holdings.proofs.ReadingLemmas.{HasRead}
+use Rattle.desk_register.specs.View.{HasRead}
 use Rattle.desk_report.proofs.sums.write_currencies.Given as goal
 
 abbrev pub invariant-currencies : goal.invariant-currencies

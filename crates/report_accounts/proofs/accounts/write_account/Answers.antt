@@ -1,7 +1,7 @@
 -- The holdings, or that there are none.
 use Rattle.std.proofs.Common.{Bool}
 use Rattle.desk_holdings.proofs.ReadingLemmas.{read_on}
-use Rattle.desk_book.proofs.SummingLemmas.{reads_nothing}
+use Rattle.desk_register.proofs.ReadLemmas.{read_none}
 use Rattle.report_accounts.proofs.AccountLemmas.{account_broke, account_ended, account_written}
 use Rattle.report_accounts.proofs.EndLemmas.{row_then, walk_broke}
 use Rattle.report_accounts.proofs.accounts.write_account.Goals as goal
@@ -14,7 +14,7 @@ returns-in_err-holds_some-clause-written g c = λ json honest sure held are.
 pub returns-in_err-holds_some-clause-read : goal.returns-in_err-holds_some-clause-read
 returns-in_err-holds_some-clause-read g c =
     let v0 = g.R.Register.view c.args.register.now in
-    walk_broke Bool c.in_err-holds_some.field-0.0 c.from_residual.result v0 v0 (g.R.Register.view c.write_holdings.new.register) c.from_residual.ensures.1 (reads_nothing v0 c.requires.stage) c.in_err-holds_some.ensures.read
+    walk_broke Bool c.in_err-holds_some.field-0.0 c.from_residual.result v0 v0 (g.R.Register.view c.write_holdings.new.register) c.from_residual.ensures.1 (read_none v0) c.in_err-holds_some.ensures.read
 
 pub returns-then-holds_some-clause-written : goal.returns-then-holds_some-clause-written
 returns-then-holds_some-clause-written g c = λ json honest sure held are.
@@ -30,4 +30,4 @@ pub returns-clause-read : goal.returns-clause-read
 returns-clause-read g c =
     let v0 = g.R.Register.view c.args.register.now in
     let v1 = g.R.Register.view c.write_holdings.new.register in
-    row_then c.write_account_row.result v0 v1 c.write_account_row.ensures.register (read_on v0 v0 (reads_nothing v0 c.requires.stage) tt v1 c.in_ok-holds_some.ensures.read)
+    row_then c.write_account_row.result v0 v1 c.write_account_row.ensures.register (read_on v0 v0 (read_none v0) tt v1 c.in_ok-holds_some.ensures.read)

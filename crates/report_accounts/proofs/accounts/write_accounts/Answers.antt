@@ -3,7 +3,7 @@ use Rattle.std.proofs.Common.{◌≡◌, ◌≤◌, Bool, Err, Ok, false, refl, 
 use Rattle.std.specs.Prelude.{flat_map}
 use Rattle.desk_rules.specs.Content.{history_of}
 use Rattle.desk_register.proofs.ViewLemmas.{idle_goes}
-use Rattle.desk_holdings.proofs.ReadingLemmas.{kept_so, read_one}
+use Rattle.desk_register.proofs.ReadLemmas.{kept_so, read_one}
 use Rattle.desk_holdings.specs.declared.fault.WalkFault.TheVariants.{Memory}
 use Rattle.report_rows.specs.declared.format.Format.TheVariants.{Json}
 use Rattle.report_rows.specs.RowData.{account_data}
@@ -29,7 +29,7 @@ entries-init g c =
     let v0 = g.R.Register.view c.args.register.now in
     let v = g.R.Register.view c.count.new.self in
     let idle = c.requires.ready.stage refl in
-    numbering_begins account_data AreHeld rows_by_entry (c.args.format ≡ Json) v0 v c.in_ok-count.count (g.W.Write.contents c.args.writer.now) (read_one c.in_ok-count.count v0 v idle r.read)
+    numbering_begins account_data AreHeld rows_by_entry (c.args.format ≡ Json) v0 v c.in_ok-count.count (g.W.Write.contents c.args.writer.now) (read_one c.in_ok-count.count v0 v r.read)
     (λ honest sure. r.value honest sure (idle_goes _ idle))
 
 pub write_entry-requires-clause-known : goal.write_entry-requires-clause-known

@@ -3,8 +3,8 @@ use Rattle.std.proofs.Common.{Some, ap, ◌∙◌}
 use Rattle.desk_rules.specs.Content.{history_of}
 use Rattle.desk_rules.specs.declared.history.entry.Entry.TheVariants.{Account}
 use Rattle.desk_holdings.specs.Holdings.{AreHoldings, HoldsRegistered}
-use Rattle.desk_holdings.proofs.ReadingLemmas.{kept_so, read_on}
-use Rattle.desk_book.proofs.SummingLemmas.{reads_nothing}
+use Rattle.desk_register.proofs.ReadLemmas.{kept_so, read_none}
+use Rattle.desk_holdings.proofs.ReadingLemmas.{read_on}
 use Rattle.report_rows.specs.RowData.{account_data}
 use Rattle.report_accounts.specs.Accounts.{account_rows, rows_of}
 use Rattle.report_accounts.specs.Writing.{IsRows, rows_at}
@@ -32,7 +32,7 @@ write_account-requires-clause-registered g c = λ honest sure.
     let v1 = g.R.Register.view c.entry_of.new.register in
     let sure0 = first.later.sure honest sure in
     let known = c.requires.registered (first.later.honest honest) sure0 in
-    kept_so v0 v1 (read_on v0 v0 (reads_nothing v0 c.requires.stage) c.in_ok-bic.field-0 v1 first) (λ z. HoldsRegistered z c.in-Account.account) honest sure0 (known.each c.in-Account.account)
+    kept_so v0 v1 (read_on v0 v0 (read_none v0) c.in_ok-bic.field-0 v1 first) (λ z. HoldsRegistered z c.in-Account.account) honest sure0 (known.each c.in-Account.account)
 
 pub returns-in_err-write_account-in-Account-clause-written : goal.returns-in_err-write_account-in-Account-clause-written
 returns-in_err-write_account-in-Account-clause-written g c = λ json honest sure held are.
@@ -48,7 +48,7 @@ returns-in_err-write_account-in-Account-clause-written g c = λ json honest sure
     let fault = c.in_err-write_account-in-Account.field-0.0 in
     let r = c.from_residual-in_err-write_account-in-Account.result in
     let is = c.from_residual-in_err-write_account-in-Account.ensures.1 in
-    let here = kept_so v0 v1 (read_on v0 v0 (reads_nothing v0 c.requires.stage) c.in_ok-bic.field-0 v1 first.read) (λ z. AreHoldings z account (held account)) honest1 sure (are.each account) in
+    let here = kept_so v0 v1 (read_on v0 v0 (read_none v0) c.in_ok-bic.field-0 v1 first.read) (λ z. AreHoldings z account (held account)) honest1 sure (are.each account) in
     entry_rows account_data (account_rows held) (history_of v0.content) c.args.number (Account c.in-Account.reference owner account) (first.entry honest1 sure ∙ ap Some c.in-Account.is) c.args.is_later r before now
     (rows_broke account_data (rows_of owner account (held account)) c.args.is_later fault r before now is
     (handed_on (IsRows account_data (rows_of owner account (held account)) c.args.is_later) fault r before now is
@@ -60,7 +60,7 @@ returns-in_err-write_account-in-Account-clause-read g c =
     let v1 = g.R.Register.view c.entry_of.new.register in
     let v2 = g.R.Register.view c.write_account.new.register in
     walk_broke (Unit {0}) c.in_err-write_account-in-Account.field-0.0 c.from_residual-in_err-write_account-in-Account.result v0 v1 v2 c.from_residual-in_err-write_account-in-Account.ensures.1
-    (read_on v0 v0 (reads_nothing v0 c.requires.stage) c.in_ok-bic.field-0 v1 c.in_ok-bic.ensures.read) c.in_err-write_account-in-Account.ensures.read
+    (read_on v0 v0 (read_none v0) c.in_ok-bic.field-0 v1 c.in_ok-bic.ensures.read) c.in_err-write_account-in-Account.ensures.read
 
 pub returns-in_ok-write_account-in-Account-clause-written : goal.returns-in_ok-write_account-in-Account-clause-written
 returns-in_ok-write_account-in-Account-clause-written g c = λ json honest sure held are.
@@ -73,6 +73,6 @@ returns-in_ok-write_account-in-Account-clause-written g c = λ json honest sure 
     let now = g.W.Write.contents c.write_account.new.writer in
     let owner = c.in-Account.bic in
     let account = c.in-Account.account in
-    let here = kept_so v0 v1 (read_on v0 v0 (reads_nothing v0 c.requires.stage) c.in_ok-bic.field-0 v1 first.read) (λ z. AreHoldings z account (held account)) honest1 sure (are.each account) in
+    let here = kept_so v0 v1 (read_on v0 v0 (read_none v0) c.in_ok-bic.field-0 v1 first.read) (λ z. AreHoldings z account (held account)) honest1 sure (are.each account) in
     entry_rows account_data (account_rows held) (history_of v0.content) c.args.number (Account c.in-Account.reference owner account) (first.entry honest1 sure ∙ ap Some c.in-Account.is) c.args.is_later _ before now
     (record { text = second.written json honest (first.read.ok.sure honest1 sure) (held account) here; later = has_row owner account c.args.is_later (held account) })

@@ -1,7 +1,7 @@
 -- Currency by currency.
 use Rattle.std.proofs.Common.{◌≡◌, ◌≤◌, Bool, length, Err, Ok, subst, arith}
 use Rattle.std.specs.Prelude.{List}
-use Rattle.desk_book.proofs.SummingLemmas.{reads_nothing}
+use Rattle.desk_register.proofs.ReadLemmas.{read_none}
 use Rattle.report_rows.specs.declared.balances.CashRow.{CashRow}
 use Rattle.report_rows.specs.declared.format.Format.TheVariants.{Json}
 use Rattle.report_rows.specs.RowData.{cash_data}
@@ -16,7 +16,7 @@ use Rattle.report_accounts.proofs.cash.write_balances.Goals as goal
 pub currencies-init : goal.currencies-init
 currencies-init g c =
     let v0 = g.R.Register.view c.args.register.now in
-    looping_begins cash_data NoneGiven all_currencies (rows_by_currency c.args.bic) (c.args.format ≡ Json) v0 v0 c.args.is_later (g.W.Write.contents c.args.writer.now) (reads_nothing v0 c.requires.stage)
+    looping_begins cash_data NoneGiven all_currencies (rows_by_currency c.args.bic) (c.args.format ≡ Json) v0 v0 c.args.is_later (g.W.Write.contents c.args.writer.now) (read_none v0)
 
 pub returns-in_err-is_later-clause-written : goal.returns-in_err-is_later-clause-written
 returns-in_err-is_later-clause-written g c = λ json honest sure.

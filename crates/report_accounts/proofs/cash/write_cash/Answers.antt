@@ -1,7 +1,7 @@
 -- Entry by entry.
 use Rattle.std.proofs.Common.{◌≡◌, ◌≤◌, Bool, false, refl, arith}
 use Rattle.desk_register.proofs.ViewLemmas.{idle_goes}
-use Rattle.desk_holdings.proofs.ReadingLemmas.{read_one}
+use Rattle.desk_register.proofs.ReadLemmas.{read_one}
 use Rattle.report_rows.specs.declared.format.Format.TheVariants.{Json}
 use Rattle.report_rows.specs.RowData.{cash_data}
 use Rattle.report_accounts.specs.Cash.{IsCashText, cash_of}
@@ -23,7 +23,7 @@ entries-init g c =
     let v0 = g.R.Register.view c.args.register.now in
     let v = g.R.Register.view c.count.new.self in
     let idle = c.requires.ready.stage refl in
-    numbering_begins cash_data NoneGiven rows_by_entry (c.args.format ≡ Json) v0 v c.in_ok-count.count (g.W.Write.contents c.args.writer.now) (read_one c.in_ok-count.count v0 v idle r.read)
+    numbering_begins cash_data NoneGiven rows_by_entry (c.args.format ≡ Json) v0 v c.in_ok-count.count (g.W.Write.contents c.args.writer.now) (read_one c.in_ok-count.count v0 v r.read)
     (λ honest sure. r.value honest sure (idle_goes _ idle))
 
 pub write_entry-requires-clause-known : goal.write_entry-requires-clause-known

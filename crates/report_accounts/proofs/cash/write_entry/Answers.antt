@@ -3,7 +3,7 @@ use Rattle.std.proofs.Common.{Some, ap, ◌∙◌, subst}
 use Rattle.desk_rules.specs.Content.{Content, history_of}
 use Rattle.desk_rules.specs.declared.history.entry.Entry.TheVariants.{Participant}
 use Rattle.desk_holdings.proofs.ReadingLemmas.{read_on}
-use Rattle.desk_book.proofs.SummingLemmas.{reads_nothing}
+use Rattle.desk_register.proofs.ReadLemmas.{read_none}
 use Rattle.report_rows.specs.RowData.{cash_data}
 use Rattle.report_accounts.specs.Cash.{balance_rows, cash_rows, currencies}
 use Rattle.report_accounts.specs.Writing.{WritesRows, rows_at}
@@ -43,4 +43,4 @@ returns-in-Participant-clause-read g c =
     let v0 = g.R.Register.view c.args.register.now in
     let v1 = g.R.Register.view c.entry_of.new.register in
     let v2 = g.R.Register.view c.write_balances.new.register in
-    walk_then c.write_balances.result v0 v1 v2 (read_on v0 v0 (reads_nothing v0 c.requires.stage) c.in_ok-bic.field-0 v1 c.in_ok-bic.ensures.read) c.write_balances.ensures.read
+    walk_then c.write_balances.result v0 v1 v2 (read_on v0 v0 (read_none v0) c.in_ok-bic.field-0 v1 c.in_ok-bic.ensures.read) c.write_balances.ensures.read

@@ -1,7 +1,8 @@
 -- Row by row, until nothing is held above the last one.
 use Rattle.std.proofs.Common.{◌≡◌, ◌≤◌, false, is_some, refl, ◌∙◌, arith}
 use Rattle.desk_register.proofs.ViewLemmas.{idle_goes}
-use Rattle.desk_holdings.proofs.ReadingLemmas.{gives_up, read_more, read_on, read_one}
+use Rattle.desk_register.proofs.ReadLemmas.{read_more, read_one}
+use Rattle.desk_holdings.proofs.ReadingLemmas.{gives_up, read_on}
 use Rattle.desk_holdings.proofs.WalkingLemmas.{none_taken, walking_begins, walking_breaks, walking_ends, walking_goes_on, walking_hands_over, walking_is_over}
 use Rattle.report_rows.specs.declared.format.Format.TheVariants.{Json}
 use Rattle.report_accounts.proofs.EndLemmas.{row_broke}
@@ -25,7 +26,7 @@ holdings-init g c =
     let v = g.R.Register.view c.count.new.self in
     walking_begins (TakesRow c.args.owner c.args.account (c.args.format ≡ Json)) c.args.account v0 v c.in_ok-count.count
     (record { later = c.args.is_later; some = false; held = g.W.Write.contents c.args.writer.now })
-    (read_one c.in_ok-count.count v0 v c.requires.stage r.read) (λ honest sure. r.value honest sure (idle_goes _ c.requires.stage))
+    (read_one c.in_ok-count.count v0 v r.read) (λ honest sure. r.value honest sure (idle_goes _ c.requires.stage))
 
 pub returns-in_err-held-clause-written : goal.returns-in_err-held-clause-written
 returns-in_err-held-clause-written g c = λ json honest sure held are.
@@ -109,7 +110,7 @@ returns-in-None-clause-written g c = λ json honest sure held are.
     rw c.is_some-in-None.ensures
     (holdings_written c.args.owner c.args.account (c.args.format ≡ Json) v0 v1 start here json honest sure held are refl
     (walking_ends (TakesRow c.args.owner c.args.account (c.args.format ≡ Json)) c.args.account v0 v c.in_ok-count.count c.holdings.last c.holdings._told start here i v1 r.read.later
-    (λ really known. (rw c.in-None.is at r.value) really known (idle_goes _ (i.read.stays.stage ∙ c.requires.stage)))))
+    (λ really known. (rw c.in-None.is at r.value) really known (idle_goes _ (i.read.ok.stage ∙ c.requires.stage)))))
 
 pub returns-in-Some-2-clause-written : goal.returns-in-Some-2-clause-written
 returns-in-Some-2-clause-written g c = λ json honest sure held are.
@@ -135,6 +136,6 @@ returns-in-Some-2-clause-read g c =
     let all : c.in_ok-count.count ≤ c.holdings._told = omega arith in
     let start : Told = record { later = c.args.is_later; some = false; held = g.W.Write.contents c.args.writer.now } in
     let here : Told = record { later = c.holdings.comes_later; some = is_some c.holdings.last; held = g.W.Write.contents c.holdings.writer } in
-    gives_up v0 v1 (read_more v0 v i.read c.in_ok-holding_after.field-0 v1 r.read)
+    gives_up v0 v1 (read_more c.in_ok-holding_after.field-0 v0 v v1 i.read r.read) c.requires.stage
     (walking_is_over (TakesRow c.args.owner c.args.account (c.args.format ≡ Json)) c.args.account v0 v c.in_ok-count.count c.holdings.last c.holdings._told start here i v1 c.in-Some-2.field-0 all r.read.later c.requires.registered
-    (λ honest sure. (rw c.in-Some-2.is at r.value) honest sure (idle_goes _ (i.read.stays.stage ∙ c.requires.stage))))
+    (λ honest sure. (rw c.in-Some-2.is at r.value) honest sure (idle_goes _ (i.read.ok.stage ∙ c.requires.stage))))

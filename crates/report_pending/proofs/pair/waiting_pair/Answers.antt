@@ -8,4 +8,4 @@ returns-clause-value g c =
     let second = c.in_ok-earlier.ensures in
     let pair = c.sided.ensures in
     pair_read (g.R.Register.view c.args.register.now) (g.R.Register.view c.read_leg.new.register) (g.R.Register.view c.read_leg-2.new.register) c.args.place c.in-Some.mate c.in-Matched.reason c.in_ok-later.later c.in_ok-earlier.earlier c.sided.result
-    c.requires.stage c.requires.known first.read first.value c.in-Some.is c.in-Matched.is second.read second.value pair.reason pair.later pair.deliverer pair.receiver
+    c.requires.known first.read first.value c.in-Some.is c.in-Matched.is second.read second.value pair.reason pair.later pair.deliverer pair.receiver

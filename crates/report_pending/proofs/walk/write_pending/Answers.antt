@@ -1,7 +1,8 @@
 -- Pair by pair, until there is none past the last one.
 use Rattle.std.proofs.Common.{◌≤◌, arith, refl}
 use Rattle.desk_register.proofs.ViewLemmas.{idle_goes}
-use Rattle.desk_holdings.proofs.ReadingLemmas.{gives_up, read_more, read_one}
+use Rattle.desk_register.proofs.ReadLemmas.{read_more, read_one}
+use Rattle.desk_holdings.proofs.ReadingLemmas.{gives_up}
 use Rattle.desk_book.proofs.SummingLemmas.{register_failed}
 use Rattle.desk_book.proofs.TellingLemmas.{walk_broke}
 use Rattle.report_pending.proofs.WalkLemmas.{is_known, listing_begins, listing_breaks, listing_ends, listing_fails, listing_goes_on, listing_is_over, nothing_listed, still_dated, tells_pairs}
@@ -20,7 +21,7 @@ pairs-init g c =
     let v0 = g.R.Register.view c.args.register.now in
     let v = g.R.Register.view c.count.new.self in
     let idle = c.requires.ready.stage refl in
-    listing_begins v0 v c.args.format c.in_ok-count.count (g.W.Write.contents c.args.writer.now) (read_one c.in_ok-count.count v0 v idle r.read) (λ honest sure. r.value honest sure (idle_goes _ idle))
+    listing_begins v0 v c.args.format c.in_ok-count.count (g.W.Write.contents c.args.writer.now) (read_one c.in_ok-count.count v0 v r.read) (λ honest sure. r.value honest sure (idle_goes _ idle))
 
 pub next_pair-requires-clause-dated : goal.next_pair-requires-clause-dated
 next_pair-requires-clause-dated g c =
@@ -65,7 +66,7 @@ returns-in_err-write_pair-clause-read g c =
     let v1 = g.R.Register.view c.next_pair.new.register in
     let v2 = g.R.Register.view c.write_pair.new.register in
     walk_broke c.in_err-write_pair.field-0.0 c.from_residual-in_err-write_pair.result v0 v1 v2 c.from_residual-in_err-write_pair.ensures.1
-    (read_more v0 v c.pairs.invariant.read c.in_ok-place.field-0 v1 c.in_ok-place.ensures.read) c.in_err-write_pair.ensures.read
+    (read_more c.in_ok-place.field-0 v0 v v1 c.pairs.invariant.read c.in_ok-place.ensures.read) c.in_err-write_pair.ensures.read
 
 pub pairs-preserved : goal.pairs-preserved
 pairs-preserved g c =
@@ -109,6 +110,6 @@ returns-in-Some-2-clause-read g c =
     let v = g.R.Register.view c.pairs.register in
     let w = g.R.Register.view c.next_pair-2.new.register in
     let all : c.in_ok-count.count ≤ c.pairs._told = omega arith in
-    gives_up v0 w (read_more v0 v i.read c.in_ok-next_pair.field-0 w r.read)
+    gives_up v0 w (read_more c.in_ok-next_pair.field-0 v0 v w i.read r.read) (c.requires.ready.stage refl)
     (listing_is_over v0 v c.args.format c.in_ok-count.count c.pairs.last c.pairs._told (g.W.Write.contents c.args.writer.now) (g.W.Write.contents c.pairs.writer) i w c.in-Some-2.field-0
     (rw c.in-Some-2.is at r.read) (rw c.in-Some-2.is at r.next) all)

@@ -1,6 +1,7 @@
 use Rattle.std.proofs.Common.{ap, sym, Some, ◌∙◌}
 use Rattle.std.specs.BTreeMap.{get}
-use Rattle.desk_holdings.proofs.ReadingLemmas.{gives_up, read_one}
+use Rattle.desk_register.proofs.ReadLemmas.{read_one}
+use Rattle.desk_holdings.proofs.ReadingLemmas.{gives_up}
 use Rattle.report_unmatched.specs.NearKeys.{near_cmp}
 use Rattle.report_unmatched.proofs.NearestLemmas.{nearest_known, nearest_none, nearest_there}
 use Rattle.report_unmatched.proofs.rows.nearest.Goals as goal
@@ -15,7 +16,7 @@ returns-in_default-2-clause-read g c =
     let r = c.in_ok-other.ensures in
     let v0 = g.R.Register.view c.args.register.now in
     let v1 = g.R.Register.view c.instruction.new.register in
-    gives_up v0 v1 (read_one c.in_ok-other.field-0 v0 v1 c.requires.stage r.read) (λ honest sure.
+    gives_up v0 v1 (read_one c.in_ok-other.field-0 v0 v1 r.read) c.requires.stage (λ honest sure.
     nearest_there v0.content c.args.numbers.now c.args.one.now (c.requires.first (r.read.later.honest honest) sure) c.in-Some.number
     (ap (get near_cmp c.args.numbers.now) (sym c.near_key.ensures) ∙ sym c.number_at.ensures ∙ c.in-Some.is)
     (sym (r.found honest sure) ∙ c.in_default-2.is))

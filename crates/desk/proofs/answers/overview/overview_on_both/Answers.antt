@@ -1,5 +1,12 @@
-use Rattle.desk_opening.specs.Opened.{view_of_both}
+use Rattle.std.proofs.Common.{sym, subst}
+use Rattle.desk_rules.specs.declared.limits.TheConstants.{MOST_ENTRIES}
+use Rattle.desk_book.specs.Held.{KeepsFormed}
 use Rattle.desk.proofs.answers.overview.overview_on_both.Goals as goal
 
 pub returns-clause-told : goal.returns-clause-told
 returns-clause-told g c = λ books keeps. c.tell_overview-told.ensures.told books tt c.requires.room keeps
+
+pub returns-clause-left : goal.returns-clause-left
+returns-clause-left g c = λ books keeps.
+    let told = c.tell_overview-told.ensures in
+    c.connection_of.ensures.left told.stage books (subst (KeepsFormed MOST_ENTRIES books) (sym (told.same tt tt)) keeps)

@@ -20,8 +20,8 @@ returns-in-Ok-clause-after g c =
     let p = c.play.ensures in
     let given = g.R.Read.remaining c.args.reader.now in
     let now = c.play.new.self in
-    let ready : IsReady now.is_closed (view_of_index now.register) = subst (λ (r : IndexedRegister). IsReady now.is_closed (view_of_index r)) c.register_of.ensures.register c.register_of.ensures.ready in
-    subst (λ (r : IndexedRegister). IsAfterScript given (view_of_index r)) (sym c.register_of.ensures.register)
+    let ready : IsReady now.is_closed (view_of_index now.register) = subst (λ (r : IndexedRegister). IsReady now.is_closed (view_of_index r)) c.into_register.ensures.register c.into_register.ensures.ready in
+    subst (λ (r : IndexedRegister). IsAfterScript given (view_of_index r)) (sym c.into_register.ensures.register)
     (after_script given _ _ c.new-desk.result.is_closed now.is_closed (view_of_index held) (view_of_index now.register) (limit_is made held same c.new.ensures.limit) p.left.later.room c.new-desk.ensures.open (p.left.in_memory refl c.new-desk.ensures.open) refl
     (lit< tt) tt (λ is. new_keeps made held same c.new.ensures.empty) ready c.in-Ok.ensures.played)
 

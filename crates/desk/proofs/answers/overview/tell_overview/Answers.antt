@@ -1,5 +1,6 @@
 use Rattle.std.proofs.Common.{ℕ, refl, subst, sym}
 use Rattle.desk_engine.specs.Applied.{Keeps}
+use Rattle.desk.proofs.LeftLemmas.{have_same, have_stage}
 use Rattle.desk.proofs.OverviewLemmas.{told_overview}
 use Rattle.desk.proofs.answers.overview.tell_overview.Goals as goal
 
@@ -12,3 +13,9 @@ returns-clause-told g c = λ books honest most keeps.
     let in_room : Keeps v0.room books v0.content = subst (λ (k : ℕ). Keeps k books v0.content) (sym most) keeps.tables in
     told_overview (contents c.args.writer.now) (contents c.write_shown-written.new.writer) (contents c.tell_end.new.writer) c.args.shown books v0.content keeps.tables c.tell_end.result c.args.format c.write_shown-written.result
     (λ is. w.written is books honest sure in_room) c.tell_end.ensures.told
+
+pub returns-clause-stage : goal.returns-clause-stage
+returns-clause-stage g c = have_stage (g.D.Register.view c.args.register.now) (g.D.Register.view c.write_shown-written.new.register) _ (c.requires.ready.stage refl) c.write_shown-written.ensures.read
+
+pub returns-clause-same : goal.returns-clause-same
+returns-clause-same g c = have_same (g.D.Register.view c.args.register.now) (g.D.Register.view c.write_shown-written.new.register) _ (c.requires.ready.stage refl) c.write_shown-written.ensures.read

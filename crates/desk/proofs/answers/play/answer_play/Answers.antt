@@ -20,11 +20,11 @@ returns-clause-told g c =
     let contents = g.W.Write.contents in
     let given = g.R.Read.remaining c.args.reader.now in
     let U : Type 0 = c.play.new.reader ≡ c.args.reader.now in
-    told_played contents c.args.writer.now c.play.new.writer c.tell_played.new.writer given U g.R.Source.may_fail
+    told_played contents c.args.writer.now c.play.new.writer c.tell_played.new.writer given U g.R.Source.may_fail (c.play.new.self ≡ c.new-desk.result)
     (λ status. IsPlayAnswer given U g.R.Source.may_fail status (Appends (contents c.args.writer.now) (contents c.tell_played.new.writer)))
-    c.tell_played.result c.play.result (λ status fault may said. told_no_script fault may said)
+    c.tell_played.result c.play.result (λ status fault may said same. told_no_script fault may said)
     (ok_then c.play.result p.played (λ played unwritten.
     where_played contents c.args.writer.now c.play.new.writer c.tell_played.new.writer (λ after. IsPlayAnswer given U g.R.Source.may_fail exit.Done (Appends (contents c.args.writer.now) after)) unwritten
     (told given U _ _ _ c.new-desk.result.is_closed c.play.new.self.is_closed (view_of_index held) (view_of_index c.play.new.self.register) (limit_is made held same c.new.ensures.limit) p.left.later.room c.new-desk.ensures.open
     (p.left.in_memory refl c.new-desk.ensures.open) refl (lit< tt) tt (λ is. new_keeps made held same c.new.ensures.empty) played)))
-    (λ is. let m = p.unread is in (m.1, m.2)) (λ is. let m = p.too_long is in (m.1, m.2)) (λ is. let m = p.memory is in (m.1, m.2)) c.tell_played.ensures.told
+    p.unread p.too_long p.memory c.tell_played.ensures.told

@@ -1,4 +1,4 @@
-use Rattle.std.proofs.Common.{◌≡◌, false, refl, subst, sym}
+use Rattle.std.proofs.Common.{◌≡◌, ◌∙◌, ap, false, subst, sym}
 use Rattle.desk_book.specs.Held.{Holds}
 use Rattle.desk.specs.ReportAnswer.{IsReportFrom, asked_for}
 use Rattle.std.specs.Io.KnownBytes.{Appends}
@@ -13,8 +13,16 @@ returns-clause-told g c = λ books honest holds.
     let same = c.new-desk.ensures.register in
     let w = c.write_report-written.ensures in
     let asked = asked_for c.args.owner c.args.account.now in
-    let honest1 = subst (λ r. (view r).is_honest) c.into_register.ensures honest in
     let holds0 = subst (λ b. Holds b (view held) books) (sym c.new-desk.ensures.open) (subst (λ r. Holds false (view r) books) (sym same) holds) in
     subst (λ r. IfOk c.tell_written.result (λ status. IsReportFrom (view r).room books asked status (Appends (g.W.Write.contents c.args.writer.now) (g.W.Write.contents c.tell_written.new.writer)))) same
     (told_written (g.W.Write.contents c.args.writer.now) (g.W.Write.contents c.write_report-written.new.writer) (g.W.Write.contents c.tell_written.new.writer) (view held).room books asked c.tell_written.result c.write_report-written.result (w.open c.new-desk.ensures.open)
-    (w.written books honest1 holds0) c.tell_written.ensures.told)
+    (w.written books honest holds0) c.tell_written.ensures.told)
+
+pub returns-clause-keeps : goal.returns-clause-keeps
+returns-clause-keeps g c = λ books honest holds.
+    let view = g.D.Register.view in
+    let held = c.new-desk.result.register in
+    c.write_report-written.ensures.keeps books honest (subst (λ b. Holds b (view held) books) (sym c.new-desk.ensures.open) (subst (λ r. Holds false (view r) books) (sym c.new-desk.ensures.register) holds))
+
+pub returns-clause-room : goal.returns-clause-room
+returns-clause-room g c = c.write_report-written.ensures.later.room ∙ ap (λ r. (g.D.Register.view r).room) c.new-desk.ensures.register

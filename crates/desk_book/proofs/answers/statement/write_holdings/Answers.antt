@@ -2,7 +2,8 @@ use Rattle.std.proofs.Common.{◌≡◌, true, List, sym, ◌∙◌, refl, subst
 use Rattle.desk_rules.specs.declared.history.entry.Entry.{Entry}
 use Rattle.desk_rules.specs.Facts.{is_participant}
 use Rattle.desk_register.proofs.ViewLemmas.{idle_goes}
-use Rattle.desk_holdings.proofs.ReadingLemmas.{HasRead, read_one}
+use Rattle.desk_register.specs.View.{HasRead}
+use Rattle.desk_register.proofs.ReadLemmas.{read_one}
 use Rattle.desk_book.specs.RowByRow.{told_of_walk}
 use Rattle.desk_book.specs.Statement.{TellsHoldings, TellsOwner}
 use Rattle.desk_book.specs.WrittenTo.{Writes}
@@ -25,7 +26,7 @@ returns-clause-written g c = λ books honest sure keeps.
     let honest1 = w.read.later.honest honest in
     let P : List Entry → Type 0 = λ h. is_participant h c.args.owner ≡ true in
     let known = subst P keeps.tables.history (sym (first.value honest1 sure (idle_goes _ (c.requires.ready.stage refl))) ∙ c.if-not-is_participant.false) in
-    let read : HasRead v0 v1 = read_one c.in_ok-is_participant.is_participant v0 v1 (c.requires.ready.stage refl) first.read in
+    let read : HasRead v0 v1 = read_one c.in_ok-is_participant.is_participant v0 v1 first.read in
     let told = told_of_walk c.write_own_holdings.result in
     writes_as (TellsOwner books c.args.owner c.args.account) (TellsHoldings books c.args.owner c.args.account) told a b (λ reply owned. rw known owned)
     (known_before v0 v1 v2 books (Writes (TellsOwner books c.args.owner c.args.account) told a b) read w.read.later (w.written books) honest sure keeps)
@@ -35,4 +36,4 @@ returns-clause-read g c =
     let v0 = g.R.Register.view c.args.register.now in
     let v1 = g.R.Register.view c.participant.new.self in
     let v2 = g.R.Register.view c.write_own_holdings.new.register in
-    walk_then c.write_own_holdings.result v0 v1 v2 (read_one c.in_ok-is_participant.is_participant v0 v1 (c.requires.ready.stage refl) c.in_ok-is_participant.ensures.read) c.write_own_holdings.ensures.read
+    walk_then c.write_own_holdings.result v0 v1 v2 (read_one c.in_ok-is_participant.is_participant v0 v1 c.in_ok-is_participant.ensures.read) c.write_own_holdings.ensures.read

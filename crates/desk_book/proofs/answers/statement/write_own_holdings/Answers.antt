@@ -4,7 +4,8 @@ use Rattle.desk_rules.specs.Facts.{is_owner, owner_of}
 use Rattle.desk_rules.specs.Questions.{refused_question}
 use Rattle.desk_rules.specs.Refusals.{number_of_refusal}
 use Rattle.desk_rules.specs.declared.answers.verdict.Refusal.TheVariants.{AccountNotSenders}
-use Rattle.desk_holdings.proofs.ReadingLemmas.{HasRead, read_one}
+use Rattle.desk_register.specs.View.{HasRead}
+use Rattle.desk_register.proofs.ReadLemmas.{read_one}
 use Rattle.desk_book.specs.RowByRow.{told_of_walk}
 use Rattle.desk_book.specs.Statement.{IsStatement, TellsOwner}
 use Rattle.desk_book.specs.WrittenTo.{Writes}
@@ -40,7 +41,7 @@ returns-clause-written g c = λ books honest sure keeps.
     let honest1 = w.read.later.honest honest in
     let P : List Entry → Type 0 = λ h. is_owner c.args.owner (owner_of h account) ≡ true in
     let known = subst P keeps.tables.history (sym (first.own honest1 sure) ∙ c.if-not-is_own.false) in
-    let read : HasRead v0 v1 = read_one c.in_ok-is_own.is_own v0 v1 (c.requires.ready.stage refl) first.read in
+    let read : HasRead v0 v1 = read_one c.in_ok-is_own.is_own v0 v1 first.read in
     let told = told_of_walk c.write_account.result in
     rw c.in-Some.is
     (writes_as (IsStatement books account) (TellsOwner books c.args.owner (Some account)) told a b (λ reply is. rw known is)
@@ -51,4 +52,4 @@ returns-clause-read g c =
     let v0 = g.R.Register.view c.args.register.now in
     let v1 = g.R.Register.view c.is_own.new.register in
     let v2 = g.R.Register.view c.write_account.new.register in
-    walk_then c.write_account.result v0 v1 v2 (read_one c.in_ok-is_own.is_own v0 v1 (c.requires.ready.stage refl) c.in_ok-is_own.ensures.read) c.write_account.ensures.read
+    walk_then c.write_account.result v0 v1 v2 (read_one c.in_ok-is_own.is_own v0 v1 c.in_ok-is_own.ensures.read) c.write_account.ensures.read

@@ -7,7 +7,7 @@ use Rattle.desk_book.proofs.SummingLemmas.{cashing_begins, cashing_breaks, cashi
 use Rattle.desk_book.proofs.answers.summing.write_currencies.Goals as goal
 
 pub currencies-init : goal.currencies-init
-currencies-init g c = cashing_begins (g.R.Register.view c.args.register.now) (g.W.Write.contents c.args.writer.now) c.requires.stage
+currencies-init g c = cashing_begins (g.R.Register.view c.args.register.now) (g.W.Write.contents c.args.writer.now)
 
 pub returns-in_err-is_later-clause-written : goal.returns-in_err-is_later-clause-written
 returns-in_err-is_later-clause-written g c = λ books honest sure keeps.

@@ -1,8 +1,8 @@
 -- Security by security, until there is none above the last one.
-use Rattle.std.proofs.Common.{◌≤◌, arith}
+use Rattle.std.proofs.Common.{◌≤◌, ◌∙◌, arith}
 use Rattle.desk_register.proofs.ViewLemmas.{idle_goes}
-use Rattle.desk_holdings.proofs.ReadingLemmas.{read_more, read_one}
-use Rattle.desk_book.proofs.SummingLemmas.{listing_begins, listing_breaks, listing_ends_all, listing_ends_none, listing_fails, listing_goes_on, nothing_listed, register_failed, still_idle}
+use Rattle.desk_register.proofs.ReadLemmas.{read_more, read_one}
+use Rattle.desk_book.proofs.SummingLemmas.{listing_begins, listing_breaks, listing_ends_all, listing_ends_none, listing_fails, listing_goes_on, nothing_listed, register_failed}
 use Rattle.desk_book.proofs.TellingLemmas.{walk_broke}
 use Rattle.desk_book.proofs.answers.summing.write_securities.Goals as goal
 
@@ -16,7 +16,7 @@ securities-init g c =
     let r = c.in_ok-count.ensures in
     let v0 = g.R.Register.view c.args.register.now in
     let v = g.R.Register.view c.count.new.self in
-    listing_begins v0 v c.in_ok-count.count (g.W.Write.contents c.args.writer.now) (read_one c.in_ok-count.count v0 v c.requires.stage r.read) (λ honest sure. r.value honest sure (idle_goes _ c.requires.stage))
+    listing_begins v0 v c.in_ok-count.count (g.W.Write.contents c.args.writer.now) (read_one c.in_ok-count.count v0 v r.read) (λ honest sure. r.value honest sure (idle_goes _ c.requires.stage))
 
 pub returns-in_err-isin-clause-written : goal.returns-in_err-isin-clause-written
 returns-in_err-isin-clause-written g c = λ books honest sure keeps.
@@ -31,7 +31,7 @@ returns-in_default-clause-written g c = λ books honest sure keeps.
     let r = c.in_ok-isin.ensures in
     listing_ends_none (g.R.Register.view c.args.register.now) (g.R.Register.view c.securities.register) c.in_ok-count.count c.securities.last c.securities._told (g.W.Write.contents c.args.writer.now)
     (g.W.Write.contents c.securities.writer) c.securities.invariant (g.R.Register.view c.security_after.new.self) r.read.later
-    (λ really known. (rw c.in_default.is at r.value) really known (still_idle c.securities.invariant)) honest sure
+    (λ really known. (rw c.in_default.is at r.value) really known (idle_goes _ (c.securities.invariant.read.ok.stage ∙ c.requires.stage))) honest sure
 
 pub returns-in_err-write_security-clause-written : goal.returns-in_err-write_security-clause-written
 returns-in_err-write_security-clause-written g c = λ books honest sure keeps.
@@ -39,7 +39,7 @@ returns-in_err-write_security-clause-written g c = λ books honest sure keeps.
     let w = c.in_err-write_security.ensures in
     listing_breaks (g.R.Register.view c.args.register.now) (g.R.Register.view c.securities.register) c.in_ok-count.count c.securities.last c.securities._told (g.W.Write.contents c.args.writer.now)
     (g.W.Write.contents c.securities.writer) c.securities.invariant (g.R.Register.view c.security_after.new.self) (g.R.Register.view c.write_security.new.register) c.in-Some.isin (rw c.in-Some.is at r.read)
-    (λ really known. (rw c.in-Some.is at r.value) really known (still_idle c.securities.invariant)) c.is_some.result (g.W.Write.contents c.write_security.new.writer) c.in_err-write_security.field-0.0
+    (λ really known. (rw c.in-Some.is at r.value) really known (idle_goes _ (c.securities.invariant.read.ok.stage ∙ c.requires.stage))) c.is_some.result (g.W.Write.contents c.write_security.new.writer) c.in_err-write_security.field-0.0
     c.from_residual-in_err-write_security.result books c.from_residual-in_err-write_security.ensures.1 w.read.later w.written honest sure keeps
 
 pub returns-in_err-write_security-clause-read : goal.returns-in_err-write_security-clause-read
@@ -49,7 +49,7 @@ returns-in_err-write_security-clause-read g c =
     let v1 = g.R.Register.view c.security_after.new.self in
     let v2 = g.R.Register.view c.write_security.new.register in
     walk_broke c.in_err-write_security.field-0.0 c.from_residual-in_err-write_security.result v0 v1 v2 c.from_residual-in_err-write_security.ensures.1
-    (read_more v0 v c.securities.invariant.read c.in_ok-isin.field-0 v1 c.in_ok-isin.ensures.read) c.in_err-write_security.ensures.read
+    (read_more c.in_ok-isin.field-0 v0 v v1 c.securities.invariant.read c.in_ok-isin.ensures.read) c.in_err-write_security.ensures.read
 
 pub securities-preserved : goal.securities-preserved
 securities-preserved g c =
@@ -57,7 +57,7 @@ securities-preserved g c =
     let w = c.in_ok-write_security.ensures in
     listing_goes_on (g.R.Register.view c.args.register.now) (g.R.Register.view c.securities.register) c.in_ok-count.count c.securities.last c.securities._told (g.W.Write.contents c.args.writer.now)
     (g.W.Write.contents c.securities.writer) c.securities.invariant (g.R.Register.view c.security_after.new.self) (g.R.Register.view c.write_security.new.register) c.in-Some.isin (rw c.in-Some.is at r.read)
-    (λ really known. (rw c.in-Some.is at r.value) really known (still_idle c.securities.invariant)) (g.W.Write.contents c.write_security.new.writer) w.read (rw c.is_some.ensures at w.written)
+    (λ really known. (rw c.in-Some.is at r.value) really known (idle_goes _ (c.securities.invariant.read.ok.stage ∙ c.requires.stage))) (g.W.Write.contents c.write_security.new.writer) w.read (rw c.is_some.ensures at w.written)
 
 pub returns-clause-written : goal.returns-clause-written
 returns-clause-written g c = λ books honest sure keeps.

@@ -1,8 +1,10 @@
 -- The currencies between the first part and the middle one, and the securities between that and the last one.
 use Rattle.std.proofs.Common.{Err}
-use Rattle.desk_holdings.proofs.ReadingLemmas.{HasRead, read_on}
+use Rattle.desk_register.specs.View.{HasRead}
+use Rattle.desk_holdings.proofs.ReadingLemmas.{read_on}
 use Rattle.desk_book.specs.RowByRow.{IsSecuritiesText, WritesText, WritesWhole}
-use Rattle.desk_book.proofs.SummingLemmas.{broke_in_cash, broke_in_securities, reads_nothing, sums_whole}
+use Rattle.desk_register.proofs.ReadLemmas.{read_none}
+use Rattle.desk_book.proofs.SummingLemmas.{broke_in_cash, broke_in_securities, sums_whole}
 use Rattle.desk_book.proofs.TellingLemmas.{known_of}
 use Rattle.desk_book.proofs.answers.summing.write_sums.Goals as goal
 
@@ -20,7 +22,7 @@ returns-in_err-write_securities-clause-written g c = λ books honest sure keeps.
     let v2 = g.R.Register.view c.write_securities.new.register in
     let cash = c.in_ok-write_currencies.ensures in
     let w = c.in_err-write_securities.ensures in
-    let read : HasRead v0 v1 = read_on v0 v0 (reads_nothing v0 c.requires.stage) tt v1 cash.read in
+    let read : HasRead v0 v1 = read_on v0 v0 (read_none v0) tt v1 cash.read in
     let d = g.W.Write.contents c.write_text-2.new.writer in
     let e = g.W.Write.contents c.write_securities.new.writer in
     broke_in_securities v0.room books v0.content keeps c.in_err-write_securities.field-0.0 c.from_residual-in_err-write_securities.result (g.W.Write.contents c.args.writer.now) (g.W.Write.contents c.write_text.new.writer)
@@ -35,7 +37,7 @@ returns-clause-written g c = λ books honest sure keeps.
     let v2 = g.R.Register.view c.write_securities.new.register in
     let cash = c.in_ok-write_currencies.ensures in
     let w = c.in_ok-write_securities.ensures in
-    let read : HasRead v0 v1 = read_on v0 v0 (reads_nothing v0 c.requires.stage) tt v1 cash.read in
+    let read : HasRead v0 v1 = read_on v0 v0 (read_none v0) tt v1 cash.read in
     let d = g.W.Write.contents c.write_text-2.new.writer in
     let e = g.W.Write.contents c.write_securities.new.writer in
     sums_whole v0.room books v0.content keeps (g.W.Write.contents c.args.writer.now) (g.W.Write.contents c.write_text.new.writer) (g.W.Write.contents c.write_currencies.new.writer) d e

@@ -4,7 +4,7 @@ use Rattle.sqlite.specs.declared.error.Error.{Error}
 use Rattle.sqlite.specs.State.{State, HasCleanDisk}
 use Rattle.sql_tables.specs.Schema.{desk_schema}
 use Rattle.sql_tables.specs.Ends.{SaysWhy, IsSame, IsUndone, FellLooking, IsLook}
-use Rattle.audit_rows.specs.Audits.{HasLooked}
+use Rattle.sql_tables.specs.Ends.{HasLooked}
 use Rattle.sql_tables.proofs.CallLemmas.{later_then}
 use Rattle.sql_tables.proofs.EndLemmas.{why_later}
 

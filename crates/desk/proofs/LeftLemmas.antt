@@ -1,0 +1,98 @@
+-- What a run leaves of a desk.
+use Rattle.std.proofs.Common.{◌≡◌, ℕ, Bool, false, [], IsTrue, refl, sym, ap, ◌∙◌, subst}
+use Rattle.std.specs.Prelude.{Result, Ok, Err, IfOk, OnErr}
+use Rattle.sqlite.specs.Files.{file_state}
+use Rattle.sqlite.specs.Held.{Held, state}
+use Rattle.sqlite_trees.specs.declared.store.Store.{Ghosts as Stores}
+use Rattle.sqlite.specs.State.{State, HasCleanDisk, IsLive}
+use Rattle.sqlite_disk.specs.declared.Disk.{Ghosts}
+use Rattle.sqlite_disk.specs.declared.Files.{Files}
+use Rattle.sqlite_store.specs.declared.store.FileStore.{FileStore}
+use Rattle.desk_rules.specs.Books.{Books}
+use Rattle.desk_rules.specs.Content.{Content}
+use Rattle.desk_rules.specs.declared.limits.TheConstants.{MOST_ENTRIES}
+use Rattle.desk_register.specs.View.{View, fallen}
+use Rattle.desk_register.specs.declared.register.Fault.{Fault}
+use Rattle.desk_register.specs.declared.register.Stage.{Stage}
+use Rattle.desk_register.specs.declared.register.Stage.TheVariants.{Idle}
+use Rattle.sql_register.specs.Content.{content_in}
+use Rattle.sql_register.specs.Kept.{IsKept, Kept}
+use Rattle.desk_index.specs.declared.indexed_register.IndexedRegister.{IndexedRegister}
+use Rattle.desk_mirror.specs.Both.{Both}
+use Rattle.desk_opening.specs.Opened.{view_of_both}
+use Rattle.desk_book.specs.Answered.{AnsweredInTurn}
+use Rattle.desk_book.specs.Held.{Holds, IsReady, KeepsFormed}
+use Rattle.desk_holdings.specs.Ends.{HaveRead}
+use Rattle.desk.specs.Closed.{AreClosed}
+use Rattle.desk.specs.ServeAnswer.{Leaves}
+use Rattle.desk.specs.Left.{HandsOver, IsLeft, IsLeftIn, LeavesSome, TablesSay}
+
+-- of a connection that was handed on the same is known
+pub same_handed : {S : Type 0} (store : Stores S) (given handed : Held S) (content : Content) → handed ≡ given → (HasCleanDisk (state store given) → IsTrue (state store given).is_open → content ≡ content_in (state store given).now)
+    → HasCleanDisk (state store handed) → IsTrue (state store handed).is_open → content ≡ content_in (state store handed).now
+same_handed {S} store given handed content is same =
+    let Same : Held S → Type 0 = λ k. HasCleanDisk (state store k) → IsTrue (state store k).is_open → content ≡ content_in (state store k).now in
+    subst Same (sym is) same
+
+-- tables with no `begin` open that say what books come to
+pub tables_say : (s : State) (stage : Stage) (content : Content) (books : Books) → stage ≡ Idle → IsKept s stage → IsLive s → (HasCleanDisk s → IsTrue s.is_open → content ≡ content_in s.now) → KeepsFormed MOST_ENTRIES books content → TablesSay s books
+tables_say s stage content books idle kept live same keeps = λ clean is_open.
+    let desk = kept clean is_open in
+    record { is = (live is_open).1; content = content; keeps = keeps; tables = record { desk = desk.committed; content_is = sym (same clean is_open ∙ ap content_in (desk.idle idle)) } }
+
+-- those of a desk that is open
+pub left_in : {S : Type 0} (gives now : Bool) (given held : Both IndexedRegister (Kept S)) (s : State) → now ≡ gives → held ≡ given → (view_of_both given).room ≡ MOST_ENTRIES → IsReady gives (view_of_both held)
+    → (held.stage ≡ Idle → (books : Books) → KeepsFormed MOST_ENTRIES books (view_of_both held).content → TablesSay s books) → (is_closed : Bool) (books : Books) → IsLeft gives (view_of_both given) is_closed books → IsLeftIn now s is_closed books
+left_in {S} gives now given held s same is most ready say is_closed books left =
+    let L : Both IndexedRegister (Kept S) → Type 0 = λ r. Holds is_closed (view_of_both r) books in
+    let M : Both IndexedRegister (Kept S) → Type 0 = λ r. (view_of_both r).room ≡ MOST_ENTRIES in
+    let holds = subst L (sym is) left.holds in
+    record {
+      closed = same ∙ left.closed;
+      says = λ stays. say (ready.stage (left.closed ∙ stays)) books (subst (λ k. KeepsFormed k books (view_of_both held).content) (subst M (sym is) most) (holds stays));
+    }
+
+-- what the tables say of a connection that was closed its files say
+pub hands_over : {D : Type 0} {g : Ghosts D} (connection : Held (FileStore D g)) (files : Files D) → AreClosed connection files → HandsOver connection files
+hands_over connection files closed = λ books say clean.
+    let copied = closed clean in
+    record { db = (file_state connection).committed; says = say copied.was_clean copied.was_open; seen = copied.seen; left = copied.left }
+
+-- nothing was asked
+pub none_asked : (limit : ℕ) (books : Books) (L : Bool → Books → Type 0) → L false books → LeavesSome limit books L
+none_asked limit books L left = record { requests = []; answers = []; is_closed = false; last = books; in_turn = (refl, refl); left = left }
+
+-- what was left of the desk is left in its tables, where there is room for as many entries as a desk may have
+pub some_left : (limit : ℕ) (books : Books) (L M : Bool → Books → Type 0) → limit ≡ MOST_ENTRIES → ((is_closed : Bool) (last : Books) → L is_closed last → M is_closed last) → LeavesSome limit books L → LeavesSome MOST_ENTRIES books M
+some_left limit books L M most each left =
+    let moved : LeavesSome limit books M = record { requests = left.requests; answers = left.answers; is_closed = left.is_closed; last = left.last; in_turn = left.in_turn; left = each left.is_closed left.last left.left } in
+    subst (λ k. LeavesSome k books M) most moved
+
+-- what connections left of a desk that was open
+pub left_of_requests : (books : Books) (was is : Bool) (v0 v1 : View) (M : Bool → Books → Type 0) → v0.room ≡ MOST_ENTRIES → was ≡ false → Leaves was books is v0 v1
+    → ((is_closed : Bool) (last : Books) → IsLeft is v1 is_closed last → M is_closed last) → LeavesSome MOST_ENTRIES books M
+left_of_requests books was is v0 v1 M most stays l each =
+    let P : ℕ → Type 0 = λ k. AnsweredInTurn k was books l.requests l.answers is l.last in
+    let Q : Bool → Type 0 = λ b. AnsweredInTurn MOST_ENTRIES b books l.requests l.answers is l.last in
+    record {
+      requests = l.requests;
+      answers = l.answers;
+      is_closed = is;
+      last = l.last;
+      in_turn = subst Q stays (subst P most l.in_turn);
+      left = each is l.last (record { closed = refl; holds = l.holds });
+    }
+
+-- what is left of a desk that is open or closed as it is
+pub left_as_it_is : (gives : Bool) (s : State) (is_closed : Bool) (books : Books) → IsLeftIn gives s is_closed books → IsLeftIn gives s gives books
+left_as_it_is gives s is_closed books left = record { closed = refl; says = λ stays. left.says (sym left.closed ∙ stays) }
+
+-- several reading calls of a register with no `begin` open: none is open behind them, and it holds what it held
+module _ {X : Type 0} (v0 v1 : View) where
+  pub have_stage : (r : Result X Fault) → v0.stage ≡ Idle → HaveRead r v0 v1 → v1.stage ≡ Idle
+  have_stage (Ok x) idle read = read.ok.stage ∙ idle
+  have_stage (Err fault) idle read = read.err.stage ∙ ap fallen idle
+
+  pub have_same : (r : Result X Fault) → v0.stage ≡ Idle → HaveRead r v0 v1 → v1.is_honest → v1.is_sure → v1.content ≡ v0.content
+  have_same (Ok x) idle read honest sure = read.same honest (read.later.sure honest sure)
+  have_same (Err fault) idle read honest sure = read.err.content honest sure idle
