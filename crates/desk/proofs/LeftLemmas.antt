@@ -1,6 +1,6 @@
 -- What a run leaves of a desk.
 use Rattle.std.proofs.Common.{◌≡◌, ℕ, Bool, false, [], IsTrue, refl, sym, ap, ◌∙◌, subst}
-use Rattle.std.specs.Prelude.{Result, Ok, Err, IfOk, OnErr}
+use Rattle.std.specs.Prelude.{Result, Ok, Err, IfOk}
 use Rattle.sqlite.specs.Files.{file_state}
 use Rattle.sqlite.specs.Held.{Held, state}
 use Rattle.sqlite_trees.specs.declared.store.Store.{Ghosts as Stores}
@@ -24,8 +24,9 @@ use Rattle.desk_book.specs.Answered.{AnsweredInTurn}
 use Rattle.desk_book.specs.Held.{Holds, IsReady, KeepsFormed}
 use Rattle.desk_holdings.specs.Ends.{HaveRead}
 use Rattle.desk.specs.Closed.{AreClosed}
-use Rattle.desk.specs.ServeAnswer.{Leaves}
-use Rattle.desk.specs.Left.{HandsOver, IsLeft, IsLeftIn, LeavesSome, TablesSay}
+use Rattle.desk.specs.ServeAnswer.{HoldsOn}
+use Rattle.desk.specs.Left.{AreLeft, AreSaid, IsLeft, LeavesSome, PassesOn, TablesSay}
+use Rattle.desk.specs.PlayAnswer.{KeptBy}
 
 -- of a connection that was handed on the same is known
 pub same_handed : {S : Type 0} (store : Stores S) (given handed : Held S) (content : Content) → handed ≡ given → (HasCleanDisk (state store given) → IsTrue (state store given).is_open → content ≡ content_in (state store given).now)
@@ -40,52 +41,49 @@ tables_say s stage content books idle kept live same keeps = λ clean is_open.
     let desk = kept clean is_open in
     record { is = (live is_open).1; content = content; keeps = keeps; tables = record { desk = desk.committed; content_is = sym (same clean is_open ∙ ap content_in (desk.idle idle)) } }
 
--- those of a desk that is open
-pub left_in : {S : Type 0} (gives now : Bool) (given held : Both IndexedRegister (Kept S)) (s : State) → now ≡ gives → held ≡ given → (view_of_both given).room ≡ MOST_ENTRIES → IsReady gives (view_of_both held)
-    → (held.stage ≡ Idle → (books : Books) → KeepsFormed MOST_ENTRIES books (view_of_both held).content → TablesSay s books) → (is_closed : Bool) (books : Books) → IsLeft gives (view_of_both given) is_closed books → IsLeftIn now s is_closed books
-left_in {S} gives now given held s same is most ready say is_closed books left =
-    let L : Both IndexedRegister (Kept S) → Type 0 = λ r. Holds is_closed (view_of_both r) books in
-    let M : Both IndexedRegister (Kept S) → Type 0 = λ r. (view_of_both r).room ≡ MOST_ENTRIES in
-    let holds = subst L (sym is) left.holds in
+-- what is left of a desk its tables say
+pub said_left : {S : Type 0} (gives : Bool) (given held : Both IndexedRegister (Kept S)) (s : State) → held ≡ given → (view_of_both given).room ≡ MOST_ENTRIES → IsReady gives (view_of_both held)
+    → (held.stage ≡ Idle → (books : Books) → KeptBy (view_of_both held) books → TablesSay s books) → PassesOn (IsLeft gives (view_of_both given)) (AreSaid s)
+said_left {S} gives given held s is most ready say =
+    let L : Both IndexedRegister (Kept S) → Bool → Books → Type 0 = λ k is_closed books. Holds is_closed (view_of_both k) books in
+    let M : Both IndexedRegister (Kept S) → Type 0 = λ k. (view_of_both k).room ≡ MOST_ENTRIES in
     record {
-      closed = same ∙ left.closed;
-      says = λ stays. say (ready.stage (left.closed ∙ stays)) books (subst (λ k. KeepsFormed k books (view_of_both held).content) (subst M (sym is) most) (holds stays));
+      each = λ is_closed books left stays. (let holds = subst (λ k. L k is_closed books) (sym is) left.holds in
+          say (ready.stage (left.closed ∙ stays)) books (subst (λ k. KeepsFormed k books (view_of_both held).content) (subst M (sym is) most) (holds stays)));
     }
 
 -- what the tables say of a connection that was closed its files say
-pub hands_over : {D : Type 0} {g : Ghosts D} (connection : Held (FileStore D g)) (files : Files D) → AreClosed connection files → HandsOver connection files
-hands_over connection files closed = λ books say clean.
-    let copied = closed clean in
-    record { db = (file_state connection).committed; says = say copied.was_clean copied.was_open; seen = copied.seen; left = copied.left }
+pub files_say : {D E : Type 0} {g : Ghosts D} (connection : Held (FileStore D g)) (r : Result (Files D) E) → IfOk r (AreClosed connection) → PassesOn (AreSaid (file_state connection)) (AreLeft g r)
+files_say connection (Ok files) closed = record {
+  each = λ is_closed books say stays clean. (let copied = closed clean in
+      record { db = (file_state connection).committed; says = say stays copied.was_clean copied.was_open; seen = copied.seen; left = copied.left });
+}
+files_say connection (Err e) closed = record { each = λ is_closed books say stays. tt }
 
 -- nothing was asked
 pub none_asked : (limit : ℕ) (books : Books) (L : Bool → Books → Type 0) → L false books → LeavesSome limit books L
 none_asked limit books L left = record { requests = []; answers = []; is_closed = false; last = books; in_turn = (refl, refl); left = left }
 
--- what was left of the desk is left in its tables, where there is room for as many entries as a desk may have
-pub some_left : (limit : ℕ) (books : Books) (L M : Bool → Books → Type 0) → limit ≡ MOST_ENTRIES → ((is_closed : Bool) (last : Books) → L is_closed last → M is_closed last) → LeavesSome limit books L → LeavesSome MOST_ENTRIES books M
-some_left limit books L M most each left =
-    let moved : LeavesSome limit books M = record { requests = left.requests; answers = left.answers; is_closed = left.is_closed; last = left.last; in_turn = left.in_turn; left = each left.is_closed left.last left.left } in
+-- what is left of a desk is left of what stands in its place, where there is room for as many entries as a desk may have
+pub some_left : (limit : ℕ) (books : Books) (L M : Bool → Books → Type 0) → limit ≡ MOST_ENTRIES → PassesOn L M → LeavesSome limit books L → LeavesSome MOST_ENTRIES books M
+some_left limit books L M most on left =
+    let moved : LeavesSome limit books M = record { requests = left.requests; answers = left.answers; is_closed = left.is_closed; last = left.last; in_turn = left.in_turn; left = on.each left.is_closed left.last left.left } in
     subst (λ k. LeavesSome k books M) most moved
 
 -- what connections left of a desk that was open
-pub left_of_requests : (books : Books) (was is : Bool) (v0 v1 : View) (M : Bool → Books → Type 0) → v0.room ≡ MOST_ENTRIES → was ≡ false → Leaves was books is v0 v1
-    → ((is_closed : Bool) (last : Books) → IsLeft is v1 is_closed last → M is_closed last) → LeavesSome MOST_ENTRIES books M
-left_of_requests books was is v0 v1 M most stays l each =
-    let P : ℕ → Type 0 = λ k. AnsweredInTurn k was books l.requests l.answers is l.last in
-    let Q : Bool → Type 0 = λ b. AnsweredInTurn MOST_ENTRIES b books l.requests l.answers is l.last in
+pub left_of_requests : (books : Books) (is : Bool) (v0 v1 : View) (M : Bool → Books → Type 0) → v0.room ≡ MOST_ENTRIES → v1.is_honest → (v1.is_honest → HoldsOn false v0 is v1) → PassesOn (IsLeft is v1) M
+    → KeptBy v0 books → LeavesSome MOST_ENTRIES books M
+left_of_requests books is v0 v1 M most honest keeps on held =
+    let l = keeps honest books (λ it. subst (λ k. KeepsFormed k books v0.content) (sym most) held) in
+    let P : ℕ → Type 0 = λ k. AnsweredInTurn k false books l.requests l.answers is l.last in
     record {
       requests = l.requests;
       answers = l.answers;
       is_closed = is;
       last = l.last;
-      in_turn = subst Q stays (subst P most l.in_turn);
-      left = each is l.last (record { closed = refl; holds = l.holds });
+      in_turn = subst P most l.in_turn;
+      left = on.each is l.last (record { closed = refl; holds = l.holds });
     }
-
--- what is left of a desk that is open or closed as it is
-pub left_as_it_is : (gives : Bool) (s : State) (is_closed : Bool) (books : Books) → IsLeftIn gives s is_closed books → IsLeftIn gives s gives books
-left_as_it_is gives s is_closed books left = record { closed = refl; says = λ stays. left.says (sym left.closed ∙ stays) }
 
 -- several reading calls of a register with no `begin` open: none is open behind them, and it holds what it held
 module _ {X : Type 0} (v0 v1 : View) where

@@ -1,5 +1,5 @@
 -- What is told of what stands.
-use Rattle.std.proofs.Common.{◌≡◌, ◌<◌, ◌≤◌, ℕ, Bool, true, false, List, [], ◌++◌, length, All, Option, IfSome, inl, inr, refl, sym, ◌∙◌, subst, arith}
+use Rattle.std.proofs.Common.{◌≡◌, ◌<◌, ◌≤◌, ℕ, Bool, true, false, List, ◌++◌, length, Option, IfSome, inl, inr, refl, sym, ◌∙◌, subst, arith}
 use Rattle.std.proofs.KnownBytes.{Appends-trans}
 use Rattle.std.specs.Io.KnownBytes.{Appends}
 use Rattle.std.specs.Prelude.{Result, Ok, Err, IfOk, IsOkAnd, codes}
@@ -23,14 +23,12 @@ use Rattle.desk_book.specs.Played.{PlaysScript, asked_in}
 use Rattle.desk_book.specs.RowByRow.{WritesText}
 use Rattle.report_rows.specs.declared.format.Format.{Format}
 use Rattle.report_rows.specs.declared.format.Format.TheVariants.{Text, Json}
-use Rattle.desk.specs.OverviewAnswer.{IsAfterScript, IsFileOverviewAnswer, IsOverviewAnswer, IsOverviewEnd, IsOverviewFrom, IsShownText, MayPlayNone, failure_of_played, told_after, told_from, told_front, told_no_script, told_report, told_unclosed, told_unopened}
-use Rattle.desk.specs.PlayAnswer.{AreKept}
+use Rattle.desk.specs.OverviewAnswer.{IsAfterScript, IsFileOverviewAnswer, IsOpenOverviewAnswer, IsOverviewAnswer, IsOverviewEnd, IsOverviewFrom, IsShownText, MayPlayNone, failure_of_played, told_after, told_from, told_front, told_no_script, told_opened, told_report, told_unclosed, told_unopened}
 use Rattle.desk.specs.declared.answers.shown.Shown.{Shown}
-use Rattle.desk.specs.Status.{EndsAs, IsFailureTold, IsOpeningFailure, failure_line}
+use Rattle.desk.specs.Status.{EndsBy, IsFailureTold, IsUnopened, failure_line}
 use Rattle.desk.specs.declared.status.Failure.{Failure}
 use Rattle.desk.specs.declared.status.Failure.TheVariants.{Memory, Storage}
 use Rattle.desk.specs.declared.status.Status.{Status}
-use Rattle.desk.specs.declared.status.Status.TheVariants.{Done, Fault}
 use Rattle.desk.proofs.PlayLemmas.{only_memory}
 
 -- what was written as JSON, and what is told behind it
@@ -41,11 +39,11 @@ module _ (before mid after : Option (List ℕ)) (shown : Shown) (books : Books) 
       told_report w.text (record { content = content; keeps = keeps; is_shown = w.is_text }) told.0 (Appends-trans before mid after w.text (codes "\n") w.written told.1)
   told_object (Err (walks.Sink sinks.Write)) status w told = absurd told
   told_object (Err (walks.Sink sinks.Memory)) status w told =
-      told_front w.text w.rest (record { content = content; keeps = keeps; is_shown = w.is_text }) Memory told.0 (Appends-trans before mid after w.text (codes "\n" ++ (failure_line Memory ++ codes "\n")) w.written told.1)
+      told_front w.text w.rest (record { content = content; keeps = keeps; is_shown = w.is_text }) Memory (inl refl) told.0 (Appends-trans before mid after w.text (codes "\n" ++ (failure_line Memory ++ codes "\n")) w.written told.1)
   told_object (Err walks.Memory) status w told =
-      told_front w.text w.rest (record { content = content; keeps = keeps; is_shown = w.is_text }) Memory told.0 (Appends-trans before mid after w.text (codes "\n" ++ (failure_line Memory ++ codes "\n")) w.written told.1)
+      told_front w.text w.rest (record { content = content; keeps = keeps; is_shown = w.is_text }) Memory (inl refl) told.0 (Appends-trans before mid after w.text (codes "\n" ++ (failure_line Memory ++ codes "\n")) w.written told.1)
   told_object (Err walks.Storage) status w told =
-      told_front w.text w.rest (record { content = content; keeps = keeps; is_shown = w.is_text }) Storage told.0 (Appends-trans before mid after w.text (codes "\n" ++ (failure_line Storage ++ codes "\n")) w.written told.1)
+      told_front w.text w.rest (record { content = content; keeps = keeps; is_shown = w.is_text }) Storage (inr refl) told.0 (Appends-trans before mid after w.text (codes "\n" ++ (failure_line Storage ++ codes "\n")) w.written told.1)
 
   told_lines : (written : Result (Unit {0}) WalkFault) (status : Status) → IsOverviewEnd written Text status (Appends mid after) → IsOverviewFrom Text shown books status (Appends before after)
   told_lines (Ok done) status told = inl told.0
@@ -106,29 +104,34 @@ pub told_none : {E : Type 0} (r : Result Status E) (failure : Failure) (shown : 
 told_none (Ok status) failure shown format given U may_fail P may told = told_no_script may.0 may.1 (subst (λ f. IsFailureTold f status P) may.2 told)
 told_none (Err e) failure shown format given U may_fail P may told = tt
 
-module _ {X : Type 0} (shown : Shown) (books : Books) (contents : X → Option (List ℕ)) (w0 w1 w2 : X) (kept : AreKept books) where
-  -- how it ended over a file
-  ended_so : (format : Format) (said status : Status) → IsOverviewFrom format shown books said (Appends (contents w0) (contents w1)) → EndsAs said status (w2 ≡ w1) (Appends (contents w1) (contents w2))
-      → IsFileOverviewAnswer shown format status (Appends (contents w0) (contents w2))
-  ended_so format said status is (inl same) =
-      let P : Status → Type 0 = λ s. IsFileOverviewAnswer shown format s (Appends (contents w0) (contents w2)) in
-      subst P (sym same.0) (told_from books kept (subst (λ w. IsOverviewFrom format shown books said (Appends (contents w0) (contents w))) (sym same.1) is))
-  ended_so Text said status is (inr unclosed) = told_unclosed books kept unclosed.1.0 tt
-  ended_so Json said status (told_report text stands done written) (inr unclosed) =
-      told_unclosed books kept unclosed.1.0 (text, stands, Appends-trans (contents w0) (contents w1) (contents w2) (text ++ codes "\n") (failure_line Storage ++ codes "\n") written unclosed.1.1)
-  ended_so Json said status (told_front front rest stands failure fault written) (inr unclosed) = absurd (unclosed.0 fault)
+-- how it ended over a file
+module _ (has_closed : Bool) (shown : Shown) (books : Books) (before mid after : Option (List ℕ)) where
+  ended_by : (format : Format) (said status : Status) → IsOverviewFrom format shown books said (Appends before mid) → EndsBy has_closed said status (after ≡ mid) (Appends mid after)
+      → IsOpenOverviewAnswer has_closed shown format books status (Appends before after)
+  ended_by format said status is (inl same) =
+      let P : Status → Type 0 = λ s. IsOpenOverviewAnswer has_closed shown format books s (Appends before after) in
+      subst P (sym same.0) (told_from (subst (λ k. IsOverviewFrom format shown books said (Appends before k)) (sym same.1) is) same.2)
+  ended_by Text said status is (inr unclosed) = told_unclosed unclosed.1 unclosed.2.0 tt
+  ended_by Json said status (told_report text stands done written) (inr unclosed) =
+      told_unclosed unclosed.1 unclosed.2.0 (text, stands, Appends-trans before mid after (text ++ codes "\n") (failure_line Storage ++ codes "\n") written unclosed.2.1)
+  ended_by Json said status (told_front front rest stands failure may fault written) (inr unclosed) = absurd (unclosed.0 fault)
 
-  pub ended_overview : {E : Type 0} (format : Format) (told result : Result Status E) → IfOk told (λ status. IsOverviewFrom format shown books status (Appends (contents w0) (contents w1)))
-      → IfOk result (λ status. IsOkAnd told (λ said. EndsAs said status (w2 ≡ w1) (Appends (contents w1) (contents w2)))) → IfOk result (λ status. IsFileOverviewAnswer shown format status (Appends (contents w0) (contents w2)))
+  pub ended_overview : {E : Type 0} (format : Format) (told result : Result Status E) → IfOk told (λ status. IsOverviewFrom format shown books status (Appends before mid))
+      → IfOk result (λ status. IsOkAnd told (λ said. EndsBy has_closed said status (after ≡ mid) (Appends mid after))) → IfOk result (λ status. IsOpenOverviewAnswer has_closed shown format books status (Appends before after))
   ended_overview format told (Err e) is ends = tt
   ended_overview format (Err e) (Ok status) is ends = absurd ends
-  ended_overview format (Ok said) (Ok status) is ends = ended_so format said status is ends
+  ended_overview format (Ok said) (Ok status) is ends = ended_by format said status is ends
+
+-- the file was opened
+pub shown_there : {E : Type 0} (r : Result Status E) (has_closed : Bool) (view : View) (shown : Shown) (format : Format) (P : List ℕ → Type 0) → (kept : (books : Books) × KeepsFormed MOST_ENTRIES books view.content)
+    → IfOk r (λ status. IsOpenOverviewAnswer has_closed shown format kept.0 status P) → IfOk r (λ status. IsFileOverviewAnswer shown format status P)
+shown_there (Ok status) has_closed view shown format P kept told = told_opened kept.0 (view.content, kept.1) has_closed told
+shown_there (Err e) has_closed view shown format P kept told = tt
 
 -- the file was not opened
-pub unopened : {E : Type 0} (r : Result Status E) (failure : Failure) (shown : Shown) (format : Format) (P : List ℕ → Type 0) → IsOpeningFailure failure → IfOk r (λ status. IsFailureTold failure status P)
-    → IfOk r (λ status. IsFileOverviewAnswer shown format status P)
-unopened (Ok status) failure shown format P is told = told_unopened failure is told
-unopened (Err e) failure shown format P is told = tt
+pub unopened : {E : Type 0} (r : Result Status E) (shown : Shown) (format : Format) (P : List ℕ → Type 0) → IfOk r (λ status. IsUnopened status P) → IfOk r (λ status. IsFileOverviewAnswer shown format status P)
+unopened (Ok status) shown format P told = told_unopened told
+unopened (Err e) shown format P told = tt
 
 -- why no script was played by a writer that does not fail
 pub none_played : (given : Option (List ℕ)) (U : Type 0) (may_fail : Bool) (fault : PlayFault) (failure : Failure) → (fault ≡ plays.Memory → U) → (fault ≡ plays.ReadFailed → may_fail ≡ true)

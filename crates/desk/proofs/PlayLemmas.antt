@@ -6,7 +6,6 @@ use Rattle.std.specs.Io.KnownBytes.{Appends}
 use Rattle.desk_book.specs.declared.limits.TheConstants.{LONGEST_SCRIPT}
 use Rattle.desk_rules.specs.declared.answers.reply.Reply.{Reply}
 use Rattle.desk_rules.specs.Books.{Books}
-use Rattle.desk_rules.specs.Content.{Content}
 use Rattle.desk_index.specs.declared.indexed_register.IndexedRegister.{IndexedRegister}
 use Rattle.desk_engine.specs.Applied.{no_books}
 use Rattle.desk_index.specs.IndexView.{view_of_index}
@@ -28,10 +27,10 @@ use Rattle.desk_book.specs.declared.fault.InputFault.TheVariants.{Memory, ReadFa
 use Rattle.desk_book.specs.declared.fault.PlayFault.{PlayFault}
 use Rattle.desk_book.specs.declared.fault.PlayFault.TheVariants as plays
 use Rattle.desk.specs.Input.{MayGiveNone, failure_of}
-use Rattle.desk.specs.Left.{IsLeft}
-use Rattle.desk.specs.PlayAnswer.{IsLeftAnyhow, IsReplyOrMemory, IsPlayAnswer, IsPlayAnswerFrom, IsPlayed, IsPlayedFrom, IsPlayedInFront, IsPlayedInPart, IsPlayTold, AreKept, IsFilePlayAnswer, told_answers, told_answers_from, told_from, told_no_script_from, told_unclosed, told_unopened}
+use Rattle.desk.specs.Left.{IsLeft, PassesOn}
+use Rattle.desk.specs.PlayAnswer.{AreHeld, IsOpenPlayAnswer, IsPlayedAnyhow, KeptBy, PlaysFrom, told_opened, IsLeftAnyhow, IsReplyOrMemory, IsPlayAnswer, IsPlayAnswerFrom, IsPlayed, IsPlayedFrom, IsPlayedInFront, IsPlayedInPart, IsPlayTold, IsFilePlayAnswer, told_answers, told_answers_from, told_from, told_no_script_from, told_unclosed, told_unopened}
 use Rattle.desk_opening.specs.Opened.{IsReadyFor}
-use Rattle.desk.specs.Status.{EndsAs, IsFailureTold, IsOpeningFailure, failure_line}
+use Rattle.desk.specs.Status.{Ends, EndsBy, IsFailureTold, IsUnopened, failure_line}
 use Rattle.desk.specs.declared.status.Failure.{Failure}
 use Rattle.desk.specs.declared.status.Failure.TheVariants as failure
 use Rattle.desk.specs.declared.status.Failure.TheVariants.{Storage}
@@ -223,29 +222,79 @@ new_keeps made held same empty =
 pub limit_is : (made held : IndexedRegister) → held ≡ made → (view_of_index made).room ≡ MOST_ENTRIES → (view_of_index held).room ≡ MOST_ENTRIES
 limit_is made held same limit = let P : IndexedRegister → Type 0 = λ r. (view_of_index r).room ≡ MOST_ENTRIES in subst P (sym same) limit
 
--- of a register with room for as many entries as a desk may have
-pub from_most : (room : ℕ) (books : Books) (content : Content) (Q : ℕ → Type 0) → room ≡ MOST_ENTRIES → KeepsFormed MOST_ENTRIES books content → ((false ≡ false → KeepsFormed room books content) → Q room) → Q MOST_ENTRIES
-from_most room books content Q most keeps told = subst Q most (told (λ is. subst (λ k. KeepsFormed k books content) (sym most) keeps))
+-- a script was played on the desk over a register
+pub plays_over : {R E : Type 0} (view : R → View) (register : R) (made now : DeskValue R) (L : Bool → Books → Type 0) (given : Option (List ℕ)) (U : Type 0) (reads : Bool) (r : Result Status E) (P : List ℕ → Type 0) → made.register ≡ register
+    → PlaysFrom (view made.register).room (AreHeld (view made.register) (view now.register)) L given U reads r P → PlaysFrom (view register).room (AreHeld (view register) (view now.register)) L given U reads r P
+plays_over {R} view register made now L given U reads r P same played =
+    let Q : R → Type 0 = λ k. PlaysFrom (view k).room (AreHeld (view k) (view now.register)) L given U reads r P in
+    subst Q same played
 
--- how a run over a file ended, from books that the file held
-pub ended_played : {E : Type 0} (told result : Result Status E) (books : Books) (given : Option (List ℕ)) (U : Type 0) (reads : Bool) {X : Type 0} (contents : X → Option (List ℕ)) (w0 w1 w2 : X) → AreKept books
-    → IfOk told (λ status. IsPlayAnswerFrom MOST_ENTRIES IsLeftAnyhow books given U reads status (Appends (contents w0) (contents w1)))
-    → IfOk result (λ status. IsOkAnd told (λ said. EndsAs said status (w2 ≡ w1) (Appends (contents w1) (contents w2))))
-    → IfOk result (λ status. IsFilePlayAnswer given U reads status (Appends (contents w0) (contents w2)))
-ended_played told (Err e) books given U reads contents w0 w1 w2 kept is ends = tt
-ended_played (Err e) (Ok status) books given U reads contents w0 w1 w2 kept is ends = absurd ends
-ended_played (Ok said) (Ok status) books given U reads contents w0 w1 w2 kept is (inl same) =
-    let P : Status → Type 0 = λ s. IsFilePlayAnswer given U reads s (Appends (contents w0) (contents w2)) in
-    subst P (sym same.0) (told_from books kept (subst (λ w. IsPlayAnswerFrom MOST_ENTRIES IsLeftAnyhow books given U reads said (Appends (contents w0) (contents w))) (sym same.1) is))
-ended_played (Ok said) (Ok status) books given U reads contents w0 w1 w2 kept (told_answers_from script text came played done written) (inr unclosed) =
-    told_unclosed books kept script text came played unclosed.1.0 (Appends-trans (contents w0) (contents w1) (contents w2) text (failure_line Storage ++ codes "\n") written unclosed.1.1)
-ended_played (Ok said) (Ok status) books given U reads contents w0 w1 w2 kept (told_no_script_from fault may failure left) (inr unclosed) = absurd (unclosed.0 failure.0)
+-- the same over tables with a register in memory beside them
+pub plays_on_both : {E : Type 0} (v0 v1 : View) (L M : Bool → Books → Type 0) (given : Option (List ℕ)) (U : Type 0) (reads : Bool) (r : Result Status E) (P : List ℕ → Type 0) → IsReadyFor MOST_ENTRIES v0 → v1.is_honest → PlaysFrom v0.room (AreHeld v0 v1) L given U reads r P
+    → PassesOn L M → PlaysFrom MOST_ENTRIES (KeptBy v0) M given U reads r P
+plays_on_both v0 v1 L M given U reads r P ready honest from on =
+    let held : (books : Books) → KeptBy v0 books → AreHeld v0 v1 books = λ books keeps. (honest, subst (λ k. KeepsFormed k books v0.content) (sym ready.room) keeps) in
+    record {
+      told = λ books keeps. (let Q : ℕ → Type 0 = λ k. IfOk r (λ status. IsPlayAnswerFrom k L books given U reads status P) in
+          ok_told_of MOST_ENTRIES L M on.each books given r U reads P (subst Q ready.room (from.told books (held books keeps))));
+      stands = λ books keeps. (let Q : ℕ → Type 0 = λ k. OnErr r (IsPlayedInPart k L books given) in
+          err_part_of MOST_ENTRIES L M on.each books given r (subst Q ready.room (from.stands books (held books keeps))));
+    }
 
--- the file was not opened
-pub told_unopened_so : {E : Type 0} (r : Result Status E) (failure : Failure) (given : Option (List ℕ)) (U : Type 0) (reads : Bool) (P : List ℕ → Type 0) → IsOpeningFailure failure → U → IfOk r (λ status. IsFailureTold failure status P)
-    → IfOk r (λ status. IsFilePlayAnswer given U reads status P)
-told_unopened_so (Ok status) failure given U reads P is unread told = told_unopened failure is unread told
-told_unopened_so (Err e) failure given U reads P is unread told = tt
+-- how a run over a file ended
+module _ {E : Type 0} (K : Books → Type 0) (L M : Bool → Books → Type 0) (played result : Result Status E) (given : Option (List ℕ)) (U : Type 0) (reads : Bool) (before mid : Option (List ℕ))
+    (from : PlaysFrom MOST_ENTRIES K L given U reads played (Appends before mid)) (on : PassesOn L M) where
+  told_there : (books : Books) → K books → IfOk played (λ status. IsPlayAnswerFrom MOST_ENTRIES M books given U reads status (Appends before mid))
+  told_there books keeps = ok_told_of MOST_ENTRIES L M on.each books given played U reads (Appends before mid) (from.told books keeps)
+
+  ended_by : (has_closed : Bool) (after : Option (List ℕ)) (said status : Status) (books : Books) → IsPlayAnswerFrom MOST_ENTRIES M books given U reads said (Appends before mid) → EndsBy has_closed said status (after ≡ mid) (Appends mid after)
+      → IsOpenPlayAnswer has_closed M books given U reads status (Appends before after)
+  ended_by has_closed after said status books is (inl same) =
+      let P : Status → Type 0 = λ s. IsOpenPlayAnswer has_closed M books given U reads s (Appends before after) in
+      subst P (sym same.0) (told_from (subst (λ k. IsPlayAnswerFrom MOST_ENTRIES M books given U reads said (Appends before k)) (sym same.1) is) same.2)
+  ended_by has_closed after said status books (told_answers_from script text came played done written) (inr unclosed) =
+      told_unclosed script text came played unclosed.1 unclosed.2.0 (Appends-trans before mid after text (failure_line Storage ++ codes "\n") written unclosed.2.1)
+  ended_by has_closed after said status books (told_no_script_from fault may failure left) (inr unclosed) = absurd (unclosed.0 failure.0)
+
+  ended_so : (has_closed : Bool) (after : Option (List ℕ)) (told ended : Result Status E) (books : Books) → IfOk told (λ status. IsPlayAnswerFrom MOST_ENTRIES M books given U reads status (Appends before mid))
+      → IfOk ended (λ status. IsOkAnd told (λ said. EndsBy has_closed said status (after ≡ mid) (Appends mid after))) → IfOk ended (λ status. IsOpenPlayAnswer has_closed M books given U reads status (Appends before after))
+  ended_so has_closed after told (Err e) books is ends = tt
+  ended_so has_closed after (Err e) (Ok status) books is ends = absurd ends
+  ended_so has_closed after (Ok said) (Ok status) books is ends = ended_by has_closed after said status books is ends
+
+  pub opened_played : (has_closed : Bool) (after : Option (List ℕ)) → Ends has_closed played result mid after → (books : Books) → K books
+      → IfOk result (λ status. IsOpenPlayAnswer has_closed M books given U reads status (Appends before after))
+  opened_played has_closed after ends books keeps = ended_so has_closed after played result books (told_there books keeps) ends.by
+
+  whole_of : (status : Status) (books : Books) → IsPlayAnswerFrom MOST_ENTRIES M books given U reads status (Appends before mid) → IsPlayedAnyhow M books given
+  whole_of status books (told_answers_from script text came played done written) = inr (script, text, came, played)
+  whole_of status books (told_no_script_from fault may failure left) = inl (inl left)
+
+  stands_so : (told ended : Result Status E) (books : Books) → IfOk told (λ status. IsPlayAnswerFrom MOST_ENTRIES M books given U reads status (Appends before mid)) → OnErr told (IsPlayedInPart MOST_ENTRIES M books given)
+      → OnErr ended (IsPlayedAnyhow M books given)
+  stands_so told (Ok status) books is part = tt
+  stands_so (Ok said) (Err e) books is part = whole_of said books is
+  stands_so (Err f) (Err e) books is part = inl part
+
+  pub opened_stands : (books : Books) → K books → OnErr result (IsPlayedAnyhow M books given)
+  opened_stands books keeps = stands_so played result books (told_there books keeps) (err_part_of MOST_ENTRIES L M on.each books given played (from.stands books keeps))
+
+-- the file was not opened, and the reader is as it was
+pub unplayed : {E X : Type 0} (r : Result Status E) (given : Option (List ℕ)) (reader : X) (reads : Bool) (P : List ℕ → Type 0) → IfOk r (λ status. IsUnopened status P) → IfOk r (λ status. IsFilePlayAnswer given (reader ≡ reader) reads status P)
+unplayed (Ok status) given reader reads P told = told_unopened refl told
+unplayed (Err e) given reader reads P told = tt
+
+-- of what is left nothing is said
+anyhow : (has_closed : Bool) (L : Bool → Books → Type 0) (books : Books) (given : Option (List ℕ)) (U : Type 0) (reads : Bool) (status : Status) (P : List ℕ → Type 0) → IsOpenPlayAnswer has_closed L books given U reads status P → IsOpenPlayAnswer has_closed IsLeftAnyhow books given U reads status P
+anyhow has_closed L books given U reads status P (told_from told closed) = told_from (told_of MOST_ENTRIES L IsLeftAnyhow (λ is_closed last left. tt) books given U reads status P told) closed
+anyhow has_closed L books given U reads status P (told_unclosed script text came played unclosed fault written) =
+    told_unclosed script text came (said_of MOST_ENTRIES L IsLeftAnyhow (λ is_closed last left. tt) books given script text played) unclosed fault written
+
+-- the file was opened
+pub played_there : {E : Type 0} (r : Result Status E) (has_closed : Bool) (L : Bool → Books → Type 0) (view : View) (given : Option (List ℕ)) (U : Type 0) (reads : Bool) (P : List ℕ → Type 0) → (kept : (books : Books) × KeepsFormed MOST_ENTRIES books view.content)
+    → IfOk r (λ status. IsOpenPlayAnswer has_closed L kept.0 given U reads status P) → IfOk r (λ status. IsFilePlayAnswer given U reads status P)
+played_there (Ok status) has_closed L view given U reads P kept told = told_opened kept.0 (view.content, kept.1) has_closed (anyhow has_closed L kept.0 given U reads status P told)
+played_there (Err e) has_closed L view given U reads P kept told = tt
 
 -- the books that a register keeps which is ready
 pub kept_books : (view : View) → IsReadyFor MOST_ENTRIES view → view.is_honest → (books : Books) × KeepsFormed MOST_ENTRIES books view.content

@@ -1,22 +1,26 @@
 -- What is told of what a desk holds.
-use Rattle.std.proofs.Common.{◌≡◌, ℕ, List, [], ◌++◌, Option, inl, inr, refl, sym, subst}
+use Rattle.std.proofs.Common.{◌≡◌, ◌∙◌, ℕ, Bool, false, List, ◌++◌, Option, inl, inr, refl, sym, subst}
 use Rattle.std.proofs.KnownBytes.{Appends-trans}
 use Rattle.std.specs.Io.KnownBytes.{Appends}
-use Rattle.std.specs.Prelude.{◌≢◌, false, Result, Ok, Err, IfOk, IsOkAnd, codes}
+use Rattle.std.specs.Prelude.{◌≢◌, Result, Ok, Err, IfOk, IsOkAnd, codes}
+use Rattle.sqlite_disk.specs.declared.Disk.{Ghosts}
+use Rattle.sqlite_disk.specs.declared.Files.{Files}
+use Rattle.desk_register.specs.View.{View}
 use Rattle.desk_rules.specs.Books.{Books}
-use Rattle.desk_rules.specs.Content.{Content}
 use Rattle.desk_rules.specs.declared.limits.TheConstants.{MOST_ENTRIES}
 use Rattle.desk_book.specs.Asked.{Asked}
-use Rattle.desk_book.specs.Held.{KeepsFormed}
-use Rattle.desk_book.specs.WrittenTo.{WritesAsked, reply_with}
+use Rattle.desk_book.specs.DeskValue.{DeskValue}
+use Rattle.desk_book.specs.Held.{Holds, KeepsFormed}
+use Rattle.desk_book.specs.WrittenTo.{StaysOpen, WritesAsked, reply_with}
 use Rattle.desk_book.specs.declared.answers.head.Head.{Head}
 use Rattle.desk_book.specs.declared.fault.ToFault.{ToFault}
 use Rattle.desk_book.specs.declared.fault.ToFault.TheVariants as to
-use Rattle.desk.specs.PlayAnswer.{AreKept}
-use Rattle.desk.specs.ReportAnswer.{IsReportAnswer, IsReportFrom, IsReportTold, told_answer, told_from, told_front, told_unclosed, told_unopened}
-use Rattle.desk.specs.Status.{EndsAs, IsFailureTold, IsOpeningFailure, failure_line}
-use Rattle.desk.specs.declared.status.Failure.{Failure}
-use Rattle.desk.specs.declared.status.Failure.TheVariants.{Memory, Storage, Closed}
+use Rattle.desk_opening.specs.Opened.{IsReadyFor}
+use Rattle.desk.specs.Left.{AreLeft, IsLeft, PassesOn}
+use Rattle.desk.specs.PlayAnswer.{AreHeld, KeptBy}
+use Rattle.desk.specs.ReportAnswer.{IsOpenReportAnswer, IsReportAnswer, IsReportFrom, IsReportTold, LeavesBooks, ReportsFrom, told_answer, told_from, told_front, told_opened, told_unclosed, told_unopened}
+use Rattle.desk.specs.Status.{Ends, EndsBy, IsUnopened, failure_line}
+use Rattle.desk.specs.declared.status.Failure.TheVariants.{Memory, Storage}
 use Rattle.desk.specs.declared.status.Status.{Status}
 use Rattle.desk.specs.declared.status.Status.TheVariants.{Fault}
 
@@ -26,9 +30,9 @@ module _ (before mid after : Option (List ℕ)) (limit : ℕ) (books : Books) (a
   told_status (Ok head) status stays writes told = told_answer (reply_with head writes.text) writes.is_answer told.0 (Appends-trans before mid after writes.text (codes "\n") writes.written told.1)
   told_status (Err to.WriteFailed) status stays writes told = absurd told
   told_status (Err to.Memory) status stays writes told =
-      told_front writes.text writes.front Memory told.0 (Appends-trans before mid after writes.text (codes "\n" ++ (failure_line Memory ++ codes "\n")) writes.written told.1)
+      told_front writes.text writes.front Memory (inl refl) told.0 (Appends-trans before mid after writes.text (codes "\n" ++ (failure_line Memory ++ codes "\n")) writes.written told.1)
   told_status (Err to.Storage) status stays writes told =
-      told_front writes.text writes.front Storage told.0 (Appends-trans before mid after writes.text (codes "\n" ++ (failure_line Storage ++ codes "\n")) writes.written told.1)
+      told_front writes.text writes.front Storage (inr refl) told.0 (Appends-trans before mid after writes.text (codes "\n" ++ (failure_line Storage ++ codes "\n")) writes.written told.1)
   told_status (Err to.Closed) status stays writes told = absurd (stays refl)
 
   -- an answer was written, or a front of one, and what is told behind it
@@ -37,28 +41,83 @@ module _ (before mid after : Option (List ℕ)) (limit : ℕ) (books : Books) (a
   told_written (Ok status) written stays writes told = told_status written status stays writes told
   told_written (Err e) written stays writes told = tt
 
--- of a register with room for as many entries as a desk may have
-pub from_most : {E : Type 0} (r : Result Status E) (room : ℕ) (books : Books) (content : Content) (asked : Asked) (P : List ℕ → Type 0) → room ≡ MOST_ENTRIES → KeepsFormed MOST_ENTRIES books content
-    → ((false ≡ false → KeepsFormed room books content) → IfOk r (λ status. IsReportFrom room books asked status P)) → IfOk r (λ status. IsReportFrom MOST_ENTRIES books asked status P)
-from_most r room books content asked P most keeps told =
-    let Q : ℕ → Type 0 = λ k. IfOk r (λ status. IsReportFrom k books asked status P) in
-    subst Q most (told (λ is. subst (λ k. KeepsFormed k books content) (sym most) keeps))
+-- what is told without a fault is an answer, behind which the desk is open
+left_open : {R : Type 0} (view : R → View) (now : DeskValue R) (books : Books) (written : Result Head ToFault) (status : Status) (P : List ℕ → Type 0) → StaysOpen written now.is_closed → Holds now.is_closed (view now.register) books → IsReportTold written status P
+    → status ≢ Fault → IsLeft now.is_closed (view now.register) false books
+left_open view now books (Ok head) status P stays holds told none =
+    let K : Bool → Type 0 = λ b. Holds b (view now.register) books in
+    record { closed = stays; holds = subst K stays holds }
+left_open view now books (Err to.WriteFailed) status P stays holds told none = absurd told
+left_open view now books (Err to.Memory) status P stays holds told none = absurd (none told.0)
+left_open view now books (Err to.Storage) status P stays holds told none = absurd (none told.0)
+left_open view now books (Err to.Closed) status P stays holds told none = absurd (none told.0)
+
+pub left_written : {R E : Type 0} (view : R → View) (now : DeskValue R) (books : Books) (r : Result Status E) (written : Result Head ToFault) (P : List ℕ → Type 0) → StaysOpen written now.is_closed → Holds now.is_closed (view now.register) books
+    → IfOk r (λ status. IsReportTold written status P) → IfOk r (λ status. status ≢ Fault → IsLeft now.is_closed (view now.register) false books)
+left_written view now books (Ok status) written P stays holds told = left_open view now books written status P stays holds told
+left_written view now books (Err e) written P stays holds told = tt
+
+-- the question was answered by the desk over a register
+pub reports_over : {R E : Type 0} (view : R → View) (register : R) (made now : DeskValue R) (L : Bool → Books → Type 0) (asked : Asked) (r : Result Status E) (P : List ℕ → Type 0) → made.register ≡ register
+    → ReportsFrom (view made.register).room (AreHeld (view made.register) (view now.register)) L asked r P → ReportsFrom (view register).room (AreHeld (view register) (view now.register)) L asked r P
+reports_over {R} view register made now L asked r P same reported =
+    let Q : R → Type 0 = λ k. ReportsFrom (view k).room (AreHeld (view k) (view now.register)) L asked r P in
+    subst Q same reported
+
+-- the same over tables with a register in memory beside them
+pub reports_on_both : {E : Type 0} (v0 v1 : View) (L M : Bool → Books → Type 0) (asked : Asked) (r : Result Status E) (P : List ℕ → Type 0) → IsReadyFor MOST_ENTRIES v0 → v1.is_honest → ReportsFrom v0.room (AreHeld v0 v1) L asked r P → PassesOn L M
+    → ReportsFrom MOST_ENTRIES (KeptBy v0) M asked r P
+reports_on_both {E} v0 v1 L M asked r P ready honest from on =
+    let held : (books : Books) → KeptBy v0 books → AreHeld v0 v1 books = λ books keeps. (honest, subst (λ k. KeepsFormed k books v0.content) (sym ready.room) keeps) in
+    record {
+      told = λ books keeps. (let Q : ℕ → Type 0 = λ k. IfOk r (λ status. IsReportFrom k books asked status P) in subst Q ready.room (from.told books (held books keeps)));
+      left = λ books keeps. passed r books (from.left books (held books keeps));
+    }
+  where
+    passed : (q : Result Status E) (books : Books) → IfOk q (λ status. status ≢ Fault → L false books) → IfOk q (λ status. status ≢ Fault → M false books)
+    passed (Ok status) books left = λ none. on.each false books (left none)
+    passed (Err e) books left = tt
 
 -- how it ended over a file
-pub ended_report : {E X : Type 0} (told result : Result Status E) (books : Books) (asked : Asked) (contents : X → Option (List ℕ)) (w0 w1 w2 : X) → AreKept books
-    → IfOk told (λ status. IsReportFrom MOST_ENTRIES books asked status (Appends (contents w0) (contents w1)))
-    → IfOk result (λ status. IsOkAnd told (λ said. EndsAs said status (w2 ≡ w1) (Appends (contents w1) (contents w2))))
-    → IfOk result (λ status. IsReportAnswer asked status (Appends (contents w0) (contents w2)))
-ended_report told (Err e) books asked contents w0 w1 w2 kept is ends = tt
-ended_report (Err e) (Ok status) books asked contents w0 w1 w2 kept is ends = absurd ends
-ended_report (Ok said) (Ok status) books asked contents w0 w1 w2 kept is (inl same) =
-    let P : Status → Type 0 = λ s. IsReportAnswer asked s (Appends (contents w0) (contents w2)) in
-    subst P (sym same.0) (told_from books kept (subst (λ w. IsReportFrom MOST_ENTRIES books asked said (Appends (contents w0) (contents w))) (sym same.1) is))
-ended_report (Ok said) (Ok status) books asked contents w0 w1 w2 kept (told_answer reply step number written) (inr unclosed) =
-    told_unclosed books kept reply step unclosed.1.0 (Appends-trans (contents w0) (contents w1) (contents w2) (reply.text ++ codes "\n") (failure_line Storage ++ codes "\n") written unclosed.1.1)
-ended_report (Ok said) (Ok status) books asked contents w0 w1 w2 kept (told_front front is_front failure fault written) (inr unclosed) = absurd (unclosed.0 fault)
+module _ {E : Type 0} (has_closed : Bool) (K : Books → Type 0) (L : Bool → Books → Type 0) (reported result : Result Status E) (asked : Asked) (before mid after : Option (List ℕ))
+    (from : ReportsFrom MOST_ENTRIES K L asked reported (Appends before mid)) where
+  ended_by : (said status : Status) (books : Books) → IsReportFrom MOST_ENTRIES books asked said (Appends before mid) → EndsBy has_closed said status (after ≡ mid) (Appends mid after)
+      → IsOpenReportAnswer has_closed books asked status (Appends before after)
+  ended_by said status books is (inl same) =
+      let P : Status → Type 0 = λ s. IsOpenReportAnswer has_closed books asked s (Appends before after) in
+      subst P (sym same.0) (told_from (subst (λ k. IsReportFrom MOST_ENTRIES books asked said (Appends before k)) (sym same.1) is) same.2)
+  ended_by said status books (told_answer reply step number written) (inr unclosed) =
+      told_unclosed reply step unclosed.1 unclosed.2.0 (Appends-trans before mid after (reply.text ++ codes "\n") (failure_line Storage ++ codes "\n") written unclosed.2.1)
+  ended_by said status books (told_front front is_front failure may fault written) (inr unclosed) = absurd (unclosed.0 fault)
+
+  ended_so : (told ended : Result Status E) (books : Books) → IfOk told (λ status. IsReportFrom MOST_ENTRIES books asked status (Appends before mid))
+      → IfOk ended (λ status. IsOkAnd told (λ said. EndsBy has_closed said status (after ≡ mid) (Appends mid after))) → IfOk ended (λ status. IsOpenReportAnswer has_closed books asked status (Appends before after))
+  ended_so told (Err e) books is ends = tt
+  ended_so (Err e) (Ok status) books is ends = absurd ends
+  ended_so (Ok said) (Ok status) books is ends = ended_by said status books is ends
+
+  pub opened_reported : Ends has_closed reported result mid after → (books : Books) → K books
+      → IfOk result (λ status. IsOpenReportAnswer has_closed books asked status (Appends before after))
+  opened_reported ends books keeps = ended_so reported result books (from.told books keeps) ends.by
+
+  leaves_so : {D F : Type 0} (g : Ghosts D) (closed : Result (Files D) F) (told ended : Result Status E) (books : Books) → PassesOn L (AreLeft g closed) → IfOk told (λ status. status ≢ Fault → L false books)
+      → IfOk ended (λ status. IsOkAnd told (λ said. EndsBy has_closed said status (after ≡ mid) (Appends mid after))) → LeavesBooks g ended closed books
+  leaves_so g closed told (Err e) books on left ends = tt
+  leaves_so g closed (Err f) (Ok status) books on left ends = absurd ends
+  leaves_so g closed (Ok said) (Ok status) books on left (inl same) = λ none. on.each false books (left (λ is. none (same.0 ∙ is))) refl
+  leaves_so g closed (Ok said) (Ok status) books on left (inr unclosed) = λ none. absurd (none unclosed.2.0)
+
+  pub opened_left : {D F : Type 0} (g : Ghosts D) (closed : Result (Files D) F) → PassesOn L (AreLeft g closed) → Ends has_closed reported result mid after
+      → (books : Books) → K books → LeavesBooks g result closed books
+  opened_left g closed on ends books keeps = leaves_so g closed reported result books on (from.left books keeps) ends.by
+
+-- the file was opened
+pub reported_there : {E : Type 0} (r : Result Status E) (has_closed : Bool) (view : View) (asked : Asked) (P : List ℕ → Type 0) → (kept : (books : Books) × KeepsFormed MOST_ENTRIES books view.content) → IfOk r (λ status. IsOpenReportAnswer has_closed kept.0 asked status P)
+    → IfOk r (λ status. IsReportAnswer asked status P)
+reported_there (Ok status) has_closed view asked P kept told = told_opened kept.0 (view.content, kept.1) has_closed told
+reported_there (Err e) has_closed view asked P kept told = tt
 
 -- the file was not opened
-pub unreported : {E : Type 0} (r : Result Status E) (failure : Failure) (asked : Asked) (P : List ℕ → Type 0) → IsOpeningFailure failure → IfOk r (λ status. IsFailureTold failure status P) → IfOk r (λ status. IsReportAnswer asked status P)
-unreported (Ok status) failure asked P is told = told_unopened failure is told
-unreported (Err e) failure asked P is told = tt
+pub unreported : {E : Type 0} (r : Result Status E) (asked : Asked) (P : List ℕ → Type 0) → IfOk r (λ status. IsUnopened status P) → IfOk r (λ status. IsReportAnswer asked status P)
+unreported (Ok status) asked P told = told_unopened told
+unreported (Err e) asked P told = tt

@@ -1,5 +1,5 @@
 -- What connections leave of a desk.
-use Rattle.std.proofs.Common.{◌≡◌, ◌⊎◌, ◌∙◌, ℕ, Bool, List, [], ◌∷◌, ◌++◌, Option, None, inl, inr, refl, sym, subst, arith}
+use Rattle.std.proofs.Common.{◌≡◌, ◌⊎◌, ◌∙◌, ℕ, Bool, false, List, [], ◌∷◌, ◌++◌, Option, None, inl, inr, refl, sym, subst, arith}
 use Rattle.std.proofs.KnownBytes.{Appends-trans}
 use Rattle.std.specs.Io.KnownBytes.{Appends}
 use Rattle.std.specs.Prelude.{Result, Ok, Err, IfOk, IsOkAnd, OnOk, codes}
@@ -9,15 +9,16 @@ use Rattle.desk_register.specs.View.{View, IsLater}
 use Rattle.desk_book.specs.declared.fault.Fault.{Fault}
 use Rattle.desk_book.specs.Answered.{AnsweredInTurn, says_closed}
 use Rattle.desk_book.specs.Asked.{Asked}
+use Rattle.desk_book.specs.DeskValue.{DeskValue}
 use Rattle.desk_book.specs.Held.{Holds}
 use Rattle.desk_book.proofs.HeadlineLemmas.{promised}
 use Rattle.desk_http.specs.Served.{Responds, Serves, asked_of_desk}
 use Rattle.desk_http.specs.declared.refusal.HttpFault.{HttpFault}
 use Rattle.desk_http.specs.declared.refusal.HttpFault.TheVariants.{Memory, ReadFailed, WriteFailed}
-use Rattle.desk.specs.ServeAnswer.{HoldsOn, IsFileServeAnswer, IsServeAnswer, Leaves, listening_line, told_served, told_unclosed, told_unopened}
-use Rattle.desk.specs.Status.{EndsAs, IsFailureTold, IsOpeningFailure, failure_line}
+use Rattle.desk.specs.ServeAnswer.{HoldsOn, IsFileServeAnswer, IsOpenServeAnswer, IsServeAnswer, Leaves, listening_line, told_opened, told_served, told_unclosed, told_unopened}
+use Rattle.desk.specs.Status.{Ends, EndsBy, IsFailureTold, IsMemoryOr, IsUnopened, failure_line}
 use Rattle.desk.specs.declared.status.Failure.{Failure}
-use Rattle.desk.specs.declared.status.Failure.TheVariants.{Storage}
+use Rattle.desk.specs.declared.status.Failure.TheVariants.{Input, Storage}
 use Rattle.desk.specs.declared.status.Status.{Status}
 use Rattle.desk.specs.declared.status.Status.TheVariants as exit
 
@@ -94,27 +95,46 @@ later_all_along v0 v1 v2 a b = record {
   room = b.room ∙ a.room;
 }
 
+-- connections were served on the desk over a register
+pub serves_over : {R : Type 0} (view : R → View) (register : R) (made now : DeskValue R) → made.register ≡ register → made.is_closed ≡ false → ((view now.register).is_honest → HoldsOn made.is_closed (view made.register) now.is_closed (view now.register))
+    → (view now.register).is_honest → HoldsOn false (view register) now.is_closed (view now.register)
+serves_over {R} view register made now same stays keeps honest =
+    let Q : R → Type 0 = λ r. HoldsOn false (view r) now.is_closed (view now.register) in
+    let W : Bool → Type 0 = λ b. HoldsOn b (view made.register) now.is_closed (view now.register) in
+    subst Q same (subst W stays (keeps honest))
+
 -- how it ended over a file
-pub ended_served : {E X : Type 0} (told result : Result Status E) (port : ℕ) (contents : X → Option (List ℕ)) (w0 w1 w2 : X) → IfOk told (λ status. IsServeAnswer port status (Appends (contents w0) (contents w1)))
-    → IfOk result (λ status. IsOkAnd told (λ said. EndsAs said status (w2 ≡ w1) (Appends (contents w1) (contents w2))))
-    → IfOk result (λ status. IsFileServeAnswer port status (Appends (contents w0) (contents w2)))
-ended_served told (Err e) port contents w0 w1 w2 is ends = tt
-ended_served (Err e) (Ok status) port contents w0 w1 w2 is ends = absurd ends
-ended_served (Ok said) (Ok status) port contents w0 w1 w2 is (inl same) =
-    let P : Status → Type 0 = λ s. IsFileServeAnswer port s (Appends (contents w0) (contents w2)) in
-    subst P (sym same.0) (told_served (subst (λ w. IsServeAnswer port said (Appends (contents w0) (contents w))) (sym same.1) is))
-ended_served (Ok exit.Done) (Ok status) port contents w0 w1 w2 is (inr unclosed) =
-    told_unclosed unclosed.1.0 (Appends-trans (contents w0) (contents w1) (contents w2) (listening_line port) (failure_line Storage ++ codes "\n") is unclosed.1.1)
-ended_served (Ok exit.Refused) (Ok status) port contents w0 w1 w2 is (inr unclosed) = absurd is
-ended_served (Ok exit.Usage) (Ok status) port contents w0 w1 w2 is (inr unclosed) = absurd is
-ended_served (Ok exit.Fault) (Ok status) port contents w0 w1 w2 is (inr unclosed) = absurd (unclosed.0 refl)
+module _ (has_closed : Bool) (port : ℕ) (before mid after : Option (List ℕ)) where
+  ended_by : (said status : Status) → IsServeAnswer port said (Appends before mid) → EndsBy has_closed said status (after ≡ mid) (Appends mid after) → IsOpenServeAnswer has_closed port status (Appends before after)
+  ended_by said status is (inl same) =
+      let P : Status → Type 0 = λ s. IsOpenServeAnswer has_closed port s (Appends before after) in
+      subst P (sym same.0) (told_served (subst (λ k. IsServeAnswer port said (Appends before k)) (sym same.1) is) same.2)
+  ended_by exit.Done status is (inr unclosed) =
+      told_unclosed unclosed.1 unclosed.2.0 (Appends-trans before mid after (listening_line port) (failure_line Storage ++ codes "\n") is unclosed.2.1)
+  ended_by exit.Refused status is (inr unclosed) = absurd is
+  ended_by exit.Usage status is (inr unclosed) = absurd is
+  ended_by exit.Fault status is (inr unclosed) = absurd (unclosed.0 refl)
+
+  ended_so : {E : Type 0} (told result : Result Status E) → IfOk result (λ status. IsOkAnd told (λ said. EndsBy has_closed said status (after ≡ mid) (Appends mid after))) → IfOk told (λ status. IsServeAnswer port status (Appends before mid))
+      → IfOk result (λ status. IsOpenServeAnswer has_closed port status (Appends before after))
+  ended_so told (Err e) ends is = tt
+  ended_so (Err e) (Ok status) ends is = absurd ends
+  ended_so (Ok said) (Ok status) ends is = ended_by said status is ends
+
+  pub ended_served : {E : Type 0} (told result : Result Status E) → Ends has_closed told result mid after → IfOk told (λ status. IsServeAnswer port status (Appends before mid)) → IfOk result (λ status. IsOpenServeAnswer has_closed port status (Appends before after))
+  ended_served told result ends is = ended_so told result ends.by is
+
+-- the file was opened
+pub served_there : {E : Type 0} (r : Result Status E) (has_closed : Bool) (port : ℕ) (P : List ℕ → Type 0) → IfOk r (λ status. IsOpenServeAnswer has_closed port status P) → IfOk r (λ status. IsFileServeAnswer port status P)
+served_there (Ok status) has_closed port P told = told_opened has_closed told
+served_there (Err e) has_closed port P told = tt
 
 -- the file was not opened
-pub unserved : {E : Type 0} (r : Result Status E) (failure : Failure) (port : ℕ) (P : List ℕ → Type 0) → IsOpeningFailure failure → IfOk r (λ status. IsFailureTold failure status P) → IfOk r (λ status. IsFileServeAnswer port status P)
-unserved (Ok status) failure port P is told = told_unopened failure is told
-unserved (Err e) failure port P is told = tt
+pub unserved : {E : Type 0} (r : Result Status E) (port : ℕ) (P : List ℕ → Type 0) → IfOk r (λ status. IsUnopened status P) → IfOk r (λ status. IsFileServeAnswer port status P)
+unserved (Ok status) port P told = told_unopened told
+unserved (Err e) port P told = tt
 
 -- nobody is there, and why is told
-pub nobody_there : {E : Type 0} (r : Result Status E) (failure : Failure) (port : ℕ) (P : List ℕ → Type 0) → IfOk r (λ status. IsFailureTold failure status P) → IfOk r (λ status. IsServeAnswer port status P)
-nobody_there (Ok status) failure port P told = subst (λ s. IsServeAnswer port s P) (sym told.0) (failure, told.1)
-nobody_there (Err e) failure port P told = tt
+pub nobody_there : {E : Type 0} (r : Result Status E) (failure : Failure) (port : ℕ) (P : List ℕ → Type 0) → IsMemoryOr Input failure → IfOk r (λ status. IsFailureTold failure status P) → IfOk r (λ status. IsServeAnswer port status P)
+nobody_there (Ok status) failure port P may told = subst (λ s. IsServeAnswer port s P) (sym told.0) (failure, may, told.1)
+nobody_there (Err e) failure port P may told = tt

@@ -1,13 +1,11 @@
--- What a run leaves of a desk: in the desk itself, in its tables, and in the files of one that was closed.
-use Rattle.std.specs.Prelude.{◌≡◌, ℕ, Bool, false, IsTrue, List, Result}
+-- What a run leaves of a desk: in the desk itself, in its tables, and in its files, which were closed.
+use Rattle.std.specs.Prelude.{◌≡◌, ℕ, Bool, false, IfOk, IsTrue, List, Result}
 use Rattle.sqlite.specs.Closing.{HoldsAlone}
 use Rattle.sqlite.specs.Effect.{Database}
-use Rattle.sqlite.specs.Files.{file_state, image_of}
-use Rattle.sqlite.specs.Held.{Held}
+use Rattle.sqlite.specs.Files.{image_of}
 use Rattle.sqlite.specs.State.{State, HasCleanDisk}
 use Rattle.sqlite_disk.specs.declared.Disk.{Ghosts}
 use Rattle.sqlite_disk.specs.declared.Files.{Files}
-use Rattle.sqlite_store.specs.declared.store.FileStore.{FileStore}
 use Rattle.sqlite_wal.specs.Files.{outcomes}
 use Rattle.sqlite_wal.specs.Reads.{AreClean}
 use Rattle.sqlite_wal.specs.Recovery.{Image}
@@ -24,6 +22,10 @@ use Rattle.desk_book.specs.declared.fault.Fault.{Fault}
 abbrev pub TablesSay : State → Books → Type 0
 TablesSay s books = HasCleanDisk s → IsTrue s.is_open → SaysBooks s.committed books
 
+-- of a desk that was open to its end the tables say these books
+abbrev pub AreSaid : State → Bool → Books → Type 0
+AreSaid s is_closed books = is_closed ≡ false → TablesSay s books
+
 -- files hold by themselves tables that say these books, and so does what a crash leaves of them
 pub record HoldBooks {D : Type 0} (g : Ghosts D) (files : Files D) (books : Books) : Type 0 where
   pub db : Database
@@ -35,19 +37,18 @@ pub record HoldBooks {D : Type 0} (g : Ghosts D) (files : Files D) (books : Book
 abbrev pub FilesSay : {D : Type 0} (g : Ghosts D) → Files D → Books → Type 0
 FilesSay g files books = AreClean g files.log files.db → HoldBooks g files books
 
--- what the tables of a connection say that was closed, its files say
-abbrev pub HandsOver : {D : Type 0} {g : Ghosts D} → Held (FileStore D g) → Files D → Type 0
-HandsOver {D} {g} connection files = (books : Books) → TablesSay (file_state connection) books → FilesSay g files books
+-- Of a desk that was open to its end the files say these books, where they could be closed.
+abbrev pub AreLeft : {D E : Type 0} → Ghosts D → Result (Files D) E → Bool → Books → Type 0
+AreLeft g closed is_closed books = is_closed ≡ false → IfOk closed (λ files. FilesSay g files books)
 
 -- A desk is given back: closed exactly where this is so, and an open one holds these books.
 pub record IsLeft (gives : Bool) (view : View) (is_closed : Bool) (books : Books) : Type 0 where
   pub closed : gives ≡ is_closed
   pub holds : Holds is_closed view books
 
--- Of a desk over tables its connection is given back: those of one that is open say these books.
-pub record IsLeftIn (gives : Bool) (tables : State) (is_closed : Bool) (books : Books) : Type 0 where
-  pub closed : gives ≡ is_closed
-  pub says : is_closed ≡ false → TablesSay tables books
+-- what is left of a desk is known of what stands in its place
+pub record PassesOn (IsLeftSo AreLeftSo : Bool → Books → Type 0) : Type 0 where
+  pub each : (is_closed : Bool) (books : Books) → IsLeftSo is_closed books → AreLeftSo is_closed books
 
 -- Some requests, or none, were asked of an open desk with these books, one after another, and this is what was left of it.
 pub record LeavesSome (limit : ℕ) (books : Books) (IsLeftSo : Bool → Books → Type 0) : Type 0 where

@@ -1,5 +1,5 @@
 -- What `desk report` and `desk journal` answer: what stands at a moment, and what led to it.
-use Rattle.std.specs.Prelude.{◌≡◌, ◌⊎◌, ◌≤◌, ℕ, Bool, false, List, [], ◌++◌, length, All, Option, Result, Ok, Err, codes, unwrap_or}
+use Rattle.std.specs.Prelude.{◌≡◌, ◌≢◌, ◌⊎◌, ◌≤◌, ℕ, Bool, true, false, List, [], ◌++◌, length, All, Option, Result, Ok, Err, codes, unwrap_or}
 use Rattle.desk_rules.specs.declared.answers.reply.Reply.{Reply}
 use Rattle.desk_rules.specs.declared.limits.TheConstants.{MOST_ENTRIES}
 use Rattle.desk_rules.specs.Books.{Books}
@@ -24,7 +24,7 @@ use Rattle.desk_journal.specs.Journal.{IsJournalText}
 use Rattle.desk_report.specs.Report.{IsReportText}
 use Rattle.desk.specs.Input.{Came, MayGiveNone, failure_of}
 use Rattle.desk.specs.PlayAnswer.{AreKept, IsReplyOrMemory}
-use Rattle.desk.specs.Status.{IsFailureTold, IsOpeningFailure, failure_line}
+use Rattle.desk.specs.Status.{IsFailureTold, IsMemoryOr, IsUnopened, failure_line}
 use Rattle.desk.specs.declared.answers.shown.Shown.{Shown}
 use Rattle.desk.specs.declared.answers.shown.Shown.TheVariants.{Journal, Report}
 use Rattle.desk.specs.declared.status.Failure.{Failure}
@@ -46,7 +46,7 @@ pub record Stands (shown : Shown) (books : Books) (text : List ℕ) : Type 0 whe
 -- It was printed in a line; or a front of it, and why it ends there in a line behind it.
 pub data IsObjectFrom (shown : Shown) (books : Books) (status : Status) (IsPrinted : List ℕ → Type 0) : Type 0 where
   told_report : (text : List ℕ) → Stands shown books text → status ≡ Done → IsPrinted (text ++ codes "\n") → IsObjectFrom shown books status IsPrinted
-  told_front : (front rest : List ℕ) → Stands shown books (front ++ rest) → (failure : Failure) → status ≡ Failed → IsPrinted (front ++ (codes "\n" ++ (failure_line failure ++ codes "\n")))
+  told_front : (front rest : List ℕ) → Stands shown books (front ++ rest) → (failure : Failure) → IsMemoryOr Storage failure → status ≡ Failed → IsPrinted (front ++ (codes "\n" ++ (failure_line failure ++ codes "\n")))
       → IsObjectFrom shown books status IsPrinted
 
 -- What is told of these books. Of lines for people the status alone is said.
@@ -111,9 +111,14 @@ abbrev pub IsUnclosed : Format → Shown → Books → (List ℕ → Type 0) →
 IsUnclosed Json shown books IsPrinted = (text : List ℕ) × Stands shown books text × IsPrinted ((text ++ codes "\n") ++ (failure_line Storage ++ codes "\n"))
 IsUnclosed Text shown books IsPrinted = Unit {0}
 
--- The file was not opened, which is told alone; or what stands is told by what it held; or that, and the file could not be
--- closed, which is told behind.
+-- What is told by these books of a file that was opened, which was closed then, or could not be: what stands; or that, and that the
+-- file could not be closed is told behind.
+pub data IsOpenOverviewAnswer (has_closed : Bool) (shown : Shown) (format : Format) (books : Books) (status : Status) (IsPrinted : List ℕ → Type 0) : Type 0 where
+  told_from : IsOverviewFrom format shown books status IsPrinted → (status ≢ Failed → has_closed ≡ true) → IsOpenOverviewAnswer has_closed shown format books status IsPrinted
+  told_unclosed : has_closed ≡ false → status ≡ Failed → IsUnclosed format shown books IsPrinted → IsOpenOverviewAnswer has_closed shown format books status IsPrinted
+
+-- The file was not opened, which is told alone; or what stands is told by the books of some accepted history. (Which that is, is said
+-- of what tells of the register that was opened.)
 pub data IsFileOverviewAnswer (shown : Shown) (format : Format) (status : Status) (IsPrinted : List ℕ → Type 0) : Type 0 where
-  told_unopened : (failure : Failure) → IsOpeningFailure failure → IsFailureTold failure status IsPrinted → IsFileOverviewAnswer shown format status IsPrinted
-  told_from : (books : Books) → AreKept books → IsOverviewFrom format shown books status IsPrinted → IsFileOverviewAnswer shown format status IsPrinted
-  told_unclosed : (books : Books) → AreKept books → status ≡ Failed → IsUnclosed format shown books IsPrinted → IsFileOverviewAnswer shown format status IsPrinted
+  told_unopened : IsUnopened status IsPrinted → IsFileOverviewAnswer shown format status IsPrinted
+  told_opened : (books : Books) → AreKept books → (has_closed : Bool) → IsOpenOverviewAnswer has_closed shown format books status IsPrinted → IsFileOverviewAnswer shown format status IsPrinted

@@ -1,10 +1,11 @@
 -- What `desk play` answers.
-use Rattle.std.specs.Prelude.{◌≡◌, ◌⊎◌, ◌≤◌, ℕ, Bool, false, List, ◌++◌, length, All, Option, Result, Ok, Err, codes}
+use Rattle.std.specs.Prelude.{◌≡◌, ◌≢◌, ◌⊎◌, ◌≤◌, ℕ, Bool, true, false, List, ◌++◌, length, All, Option, Result, Ok, Err, IfOk, OnErr, codes}
 use Rattle.desk_book.specs.declared.limits.TheConstants.{LONGEST_SCRIPT}
 use Rattle.desk_rules.specs.declared.answers.reply.Reply.{Reply}
 use Rattle.desk_rules.specs.Books.{Books}
 use Rattle.desk_rules.specs.Content.{Content}
 use Rattle.desk_rules.specs.declared.limits.TheConstants.{MOST_ENTRIES}
+use Rattle.desk_register.specs.View.{View}
 use Rattle.desk_engine.specs.Applied.{no_books}
 use Rattle.desk_book.specs.declared.fault.Fault.{Fault}
 use Rattle.desk_book.specs.declared.fault.Fault.TheVariants as desk_fault
@@ -17,8 +18,7 @@ use Rattle.desk_book.specs.Held.{KeepsFormed}
 use Rattle.desk_book.specs.Played.{answers_text, asked_in}
 use Rattle.desk_book.specs.Script.{Item, Script}
 use Rattle.desk.specs.Input.{Came, MayGiveNone, failure_of}
-use Rattle.desk.specs.Status.{IsFailureTold, IsOpeningFailure, failure_line}
-use Rattle.desk.specs.declared.status.Failure.{Failure}
+use Rattle.desk.specs.Status.{IsFailureTold, IsUnopened, failure_line}
 use Rattle.desk.specs.declared.status.Failure.TheVariants.{Memory, Storage, Input}
 use Rattle.desk.specs.declared.status.Status.{Status}
 use Rattle.desk.specs.declared.status.Status.TheVariants as exit
@@ -57,8 +57,8 @@ IsPlayTold (Err plays.ReadFailed) status IsUnwritten IsPrinted = IsFailureTold I
 IsPlayTold (Err plays.TooLong) status IsUnwritten IsPrinted = IsFailureTold Input status IsPrinted
 IsPlayTold (Err plays.WriteFailed) status IsUnwritten IsPrinted = ⊥
 
--- The whole script was played on a desk that kept these books, and this is the text of its answers. What the desk held then,
--- unless it was closed, keeps its promise; and this is what was left of it.
+-- The whole script was played on a desk that kept these books, and this is the text of its answers. There are tables of the books
+-- that it came to, unless the desk was closed, that keep its promise; and this is what was left of it.
 pub record IsPlayedFrom (limit : ℕ) (IsLeftSo : Bool → Books → Type 0) (books : Books) (script text : List ℕ) : Type 0 where
   pub items : List Item
   pub answers : List (Result Reply Fault)
@@ -97,6 +97,19 @@ pub record IsPlayedInFront (limit : ℕ) (IsLeftSo : Bool → Books → Type 0) 
 abbrev pub IsPlayedInPart : ℕ → (Bool → Books → Type 0) → Books → Option (List ℕ) → Type 0
 IsPlayedInPart limit IsLeftSo books given = IsLeftSo false books ⊎ IsPlayedInFront limit IsLeftSo books given
 
+-- these books an open desk holds whose register shows the first, where no wrong answer of a device was taken as true up to the second
+abbrev pub AreHeld : View → View → Books → Type 0
+AreHeld old new books = new.is_honest × KeepsFormed old.room books old.content
+
+-- a register that shows this keeps these books, with room for as many entries as a desk may have
+abbrev pub KeptBy : View → Books → Type 0
+KeptBy view books = KeepsFormed MOST_ENTRIES books view.content
+
+-- What a script is answered, whichever of these books a desk holds, and what it leaves, which a failed writer does not change.
+pub record PlaysFrom {E : Type 0} (limit : ℕ) (AreBooks : Books → Type 0) (IsLeftSo : Bool → Books → Type 0) (given : Option (List ℕ)) (IsUnread : Type 0) (may_fail : Bool) (result : Result Status E) (IsPrinted : List ℕ → Type 0) : Type 0 where
+  pub told : (books : Books) → AreBooks books → IfOk result (λ status. IsPlayAnswerFrom limit IsLeftSo books given IsUnread may_fail status IsPrinted)
+  pub stands : (books : Books) → AreBooks books → OnErr result (IsPlayedInPart limit IsLeftSo books given)
+
 -- of what is left nothing is said
 abbrev pub IsLeftAnyhow : Bool → Books → Type 0
 IsLeftAnyhow is_closed books = Unit {0}
@@ -105,11 +118,20 @@ IsLeftAnyhow is_closed books = Unit {0}
 abbrev pub AreKept : Books → Type 0
 AreKept books = (content : Content) × KeepsFormed MOST_ENTRIES books content
 
--- What `desk play --db` answers: the file was not opened, which is told alone, and nothing was read; or the script was played
--- on the desk of what the file held; or that, and the file could not be closed, which is told behind. (What the file holds then is
--- said of the connection that is closed, and of its files.)
+-- What is told of a script over a file that was opened, which was closed then, or could not be: the script was played from these
+-- books; or that, and that the file could not be closed is told behind.
+pub data IsOpenPlayAnswer (has_closed : Bool) (IsLeftSo : Bool → Books → Type 0) (books : Books) (given : Option (List ℕ)) (IsUnread : Type 0) (may_fail : Bool) (status : Status) (IsPrinted : List ℕ → Type 0) : Type 0 where
+  told_from : IsPlayAnswerFrom MOST_ENTRIES IsLeftSo books given IsUnread may_fail status IsPrinted → (status ≢ exit.Fault → has_closed ≡ true) → IsOpenPlayAnswer has_closed IsLeftSo books given IsUnread may_fail status IsPrinted
+  told_unclosed : (script text : List ℕ) → Came given script → IsPlayedFrom MOST_ENTRIES IsLeftSo books script text → has_closed ≡ false → status ≡ exit.Fault → IsPrinted (text ++ (failure_line Storage ++ codes "\n"))
+      → IsOpenPlayAnswer has_closed IsLeftSo books given IsUnread may_fail status IsPrinted
+
+-- what was played over a file where a writer failed: nothing, the first items of the script, or the whole of it
+abbrev pub IsPlayedAnyhow : (Bool → Books → Type 0) → Books → Option (List ℕ) → Type 0
+IsPlayedAnyhow IsLeftSo books given = IsPlayedInPart MOST_ENTRIES IsLeftSo books given ⊎ ((script text : List ℕ) × Came given script × IsPlayedFrom MOST_ENTRIES IsLeftSo books script text)
+
+-- What `desk play --db` answers: the file was not opened, which is told alone, and nothing was read; or the script was played, from
+-- the books of some accepted history. (Which that is, and what the file holds then, is said of what plays over the register that
+-- was opened.)
 pub data IsFilePlayAnswer (given : Option (List ℕ)) (IsUnread : Type 0) (may_fail : Bool) (status : Status) (IsPrinted : List ℕ → Type 0) : Type 0 where
-  told_unopened : (failure : Failure) → IsOpeningFailure failure → IsUnread → IsFailureTold failure status IsPrinted → IsFilePlayAnswer given IsUnread may_fail status IsPrinted
-  told_from : (books : Books) → AreKept books → IsPlayAnswerFrom MOST_ENTRIES IsLeftAnyhow books given IsUnread may_fail status IsPrinted → IsFilePlayAnswer given IsUnread may_fail status IsPrinted
-  told_unclosed : (books : Books) → AreKept books → (script text : List ℕ) → Came given script → IsPlayedFrom MOST_ENTRIES IsLeftAnyhow books script text
-      → status ≡ exit.Fault → IsPrinted (text ++ (failure_line Storage ++ codes "\n")) → IsFilePlayAnswer given IsUnread may_fail status IsPrinted
+  told_unopened : IsUnread → IsUnopened status IsPrinted → IsFilePlayAnswer given IsUnread may_fail status IsPrinted
+  told_opened : (books : Books) → AreKept books → (has_closed : Bool) → IsOpenPlayAnswer has_closed IsLeftAnyhow books given IsUnread may_fail status IsPrinted → IsFilePlayAnswer given IsUnread may_fail status IsPrinted

@@ -1,5 +1,7 @@
 -- What is told of what a desk holds: `desk holdings` and `desk sums`.
-use Rattle.std.specs.Prelude.{◌≡◌, ◌≢◌, ◌==◌, ℕ, List, [], ◌++◌, Option, Some, None, Result, Ok, Err, codes, if◌then◌else◌}
+use Rattle.std.specs.Prelude.{◌≡◌, ◌≢◌, ◌==◌, ℕ, Bool, true, false, List, [], ◌++◌, Option, Some, None, Result, Ok, Err, IfOk, codes, if◌then◌else◌}
+use Rattle.sqlite_disk.specs.declared.Disk.{Ghosts}
+use Rattle.sqlite_disk.specs.declared.Files.{Files}
 use Rattle.desk_rules.specs.Books.{Books}
 use Rattle.desk_rules.specs.declared.answers.reply.Reply.{Reply}
 use Rattle.desk_rules.specs.declared.limits.TheConstants.{MOST_ENTRIES}
@@ -10,8 +12,9 @@ use Rattle.desk_book.specs.declared.fault.ToFault.TheVariants as to
 use Rattle.desk_book.specs.declared.requests.question.Question.TheVariants as questions
 use Rattle.desk_book.specs.WrittenTo.{reply_with}
 use Rattle.desk_book.specs.declared.answers.head.Head.{Head}
+use Rattle.desk.specs.Left.{FilesSay}
 use Rattle.desk.specs.PlayAnswer.{AreKept}
-use Rattle.desk.specs.Status.{IsFailureTold, IsOpeningFailure, failure_line}
+use Rattle.desk.specs.Status.{IsMemoryOr, IsUnopened, failure_line}
 use Rattle.desk.specs.declared.status.Failure.{Failure}
 use Rattle.desk.specs.declared.status.Failure.TheVariants.{Memory, Storage, Closed}
 use Rattle.desk.specs.declared.status.Status.{Status}
@@ -45,13 +48,27 @@ IsReportTold (Err to.Closed) status IsPrinted = IsBrokenOff Closed status IsPrin
 -- The whole answer by these books was printed, in a line; or a front of it, and why it ends there in a line behind it.
 pub data IsReportFrom (limit : ℕ) (books : Books) (asked : Asked) (status : Status) (IsPrinted : List ℕ → Type 0) : Type 0 where
   told_answer : (reply : Reply) → Step limit books asked (Ok reply) books → status ≡ status_of_answer reply.status → IsPrinted (reply.text ++ codes "\n") → IsReportFrom limit books asked status IsPrinted
-  told_front : (front : List ℕ) → IsFrontOf limit books asked front → (failure : Failure) → status ≡ Fault → IsPrinted (front ++ (codes "\n" ++ (failure_line failure ++ codes "\n")))
+  told_front : (front : List ℕ) → IsFrontOf limit books asked front → (failure : Failure) → IsMemoryOr Storage failure → status ≡ Fault → IsPrinted (front ++ (codes "\n" ++ (failure_line failure ++ codes "\n")))
       → IsReportFrom limit books asked status IsPrinted
 
--- The file was not opened, which is told alone; or the answer is told by what it held; or that, and the file could not be closed,
--- which is told behind.
+-- Whichever of these books a desk holds, the question is answered so by it, and where that tells no fault the desk is open, and left so.
+pub record ReportsFrom {E : Type 0} (limit : ℕ) (AreBooks : Books → Type 0) (IsLeftSo : Bool → Books → Type 0) (asked : Asked) (result : Result Status E) (IsPrinted : List ℕ → Type 0) : Type 0 where
+  pub told : (books : Books) → AreBooks books → IfOk result (λ status. IsReportFrom limit books asked status IsPrinted)
+  pub left : (books : Books) → AreBooks books → IfOk result (λ status. status ≢ Fault → IsLeftSo false books)
+
+-- What is told by these books of a file that was opened, which was closed then, or could not be: the answer; or that, and that the
+-- file could not be closed is told behind.
+pub data IsOpenReportAnswer (has_closed : Bool) (books : Books) (asked : Asked) (status : Status) (IsPrinted : List ℕ → Type 0) : Type 0 where
+  told_from : IsReportFrom MOST_ENTRIES books asked status IsPrinted → (status ≢ Fault → has_closed ≡ true) → IsOpenReportAnswer has_closed books asked status IsPrinted
+  told_unclosed : (reply : Reply) → Step MOST_ENTRIES books asked (Ok reply) books → has_closed ≡ false → status ≡ Fault → IsPrinted ((reply.text ++ codes "\n") ++ (failure_line Storage ++ codes "\n"))
+      → IsOpenReportAnswer has_closed books asked status IsPrinted
+
+-- The file was not opened, which is told alone; or the answer is told by the books of some accepted history. (Which that is, is said
+-- of what reports on the register that was opened.)
 pub data IsReportAnswer (asked : Asked) (status : Status) (IsPrinted : List ℕ → Type 0) : Type 0 where
-  told_unopened : (failure : Failure) → IsOpeningFailure failure → IsFailureTold failure status IsPrinted → IsReportAnswer asked status IsPrinted
-  told_from : (books : Books) → AreKept books → IsReportFrom MOST_ENTRIES books asked status IsPrinted → IsReportAnswer asked status IsPrinted
-  told_unclosed : (books : Books) → AreKept books → (reply : Reply) → Step MOST_ENTRIES books asked (Ok reply) books → status ≡ Fault
-      → IsPrinted ((reply.text ++ codes "\n") ++ (failure_line Storage ++ codes "\n")) → IsReportAnswer asked status IsPrinted
+  told_unopened : IsUnopened status IsPrinted → IsReportAnswer asked status IsPrinted
+  told_opened : (books : Books) → AreKept books → (has_closed : Bool) → IsOpenReportAnswer has_closed books asked status IsPrinted → IsReportAnswer asked status IsPrinted
+
+-- a report that was told without a fault left its books as they were, in the files too, where they could be closed
+abbrev pub LeavesBooks : {D F E : Type 0} → Ghosts D → Result Status F → Result (Files D) E → Books → Type 0
+LeavesBooks g told closed books = IfOk told (λ status. status ≢ Fault → IfOk closed (λ files. FilesSay g files books))

@@ -1,5 +1,5 @@
 -- What is told by who serves.
-use Rattle.std.specs.Prelude.{◌≡◌, ℕ, Bool, List, ◌++◌, Result, codes, decimal}
+use Rattle.std.specs.Prelude.{◌≡◌, ◌≢◌, ℕ, Bool, true, false, List, ◌++◌, Result, codes, decimal}
 use Rattle.desk_rules.specs.declared.answers.reply.Reply.{Reply}
 use Rattle.desk_rules.specs.Books.{Books}
 use Rattle.desk_register.specs.View.{View}
@@ -8,9 +8,9 @@ use Rattle.desk_book.specs.Answered.{AnsweredInTurn}
 use Rattle.desk_book.specs.Asked.{Asked}
 use Rattle.desk_book.specs.Headline.{KeepsPromise}
 use Rattle.desk_book.specs.Held.{Holds}
-use Rattle.desk.specs.Status.{IsFailureTold, IsOpeningFailure, failure_line}
+use Rattle.desk.specs.Status.{IsMemoryOr, IsUnopened, failure_line}
 use Rattle.desk.specs.declared.status.Failure.{Failure}
-use Rattle.desk.specs.declared.status.Failure.TheVariants.{Storage}
+use Rattle.desk.specs.declared.status.Failure.TheVariants.{Input, Storage}
 use Rattle.desk.specs.declared.status.Status.{Status}
 use Rattle.desk.specs.declared.status.Status.TheVariants.{Done, Fault}
 
@@ -22,15 +22,19 @@ listening_line port = codes "listening " ++ decimal port ++ codes "\n"
 -- wanting for the routes. What connections get is said of `serve_one`, and what they leave of the desk by `HoldsOn`.
 abbrev pub IsServeAnswer : ℕ → Status → (List ℕ → Type 0) → Type 0
 IsServeAnswer port Done Told = Told (listening_line port)
-IsServeAnswer port Fault Told = (failure : Failure) × Told (failure_line failure ++ codes "\n")
+IsServeAnswer port Fault Told = (failure : Failure) × IsMemoryOr Input failure × Told (failure_line failure ++ codes "\n")
 IsServeAnswer port status Told = ⊥
 
--- What who serves with `--db` tells: why the file was not opened, alone; or what who serves tells; or, once as many connections were
--- served, that the file could not be closed, behind where it listened.
+-- What who serves tells over a file that was opened, which was closed then, or could not be: what who serves tells; or that, and that
+-- the file could not be closed is told behind.
+pub data IsOpenServeAnswer (has_closed : Bool) (port : ℕ) (status : Status) (Told : List ℕ → Type 0) : Type 0 where
+  told_served : IsServeAnswer port status Told → (status ≢ Fault → has_closed ≡ true) → IsOpenServeAnswer has_closed port status Told
+  told_unclosed : has_closed ≡ false → status ≡ Fault → Told (listening_line port ++ (failure_line Storage ++ codes "\n")) → IsOpenServeAnswer has_closed port status Told
+
+-- What who serves with `--db` tells: why the file was not opened, alone; or what is told over one that was.
 pub data IsFileServeAnswer (port : ℕ) (status : Status) (Told : List ℕ → Type 0) : Type 0 where
-  told_unopened : (failure : Failure) → IsOpeningFailure failure → IsFailureTold failure status Told → IsFileServeAnswer port status Told
-  told_served : IsServeAnswer port status Told → IsFileServeAnswer port status Told
-  told_unclosed : status ≡ Fault → Told (listening_line port ++ (failure_line Storage ++ codes "\n")) → IsFileServeAnswer port status Told
+  told_unopened : IsUnopened status Told → IsFileServeAnswer port status Told
+  told_opened : (has_closed : Bool) → IsOpenServeAnswer has_closed port status Told → IsFileServeAnswer port status Told
 
 -- What connections leave of a desk with these books: some requests were asked of it, one after another, to the books that
 -- it holds then, and with which it keeps its promise.

@@ -1,5 +1,6 @@
 -- How a run ends.
-use Rattle.std.specs.Prelude.{◌≡◌, ◌≢◌, ◌⊎◌, ℕ, List, ◌++◌, codes, Result, Err}
+use Rattle.std.specs.Prelude.{◌≡◌, ◌≢◌, ◌⊎◌, ℕ, Bool, true, false, List, ◌++◌, Option, Result, IfOk, IsOkAnd, codes}
+use Rattle.std.specs.Io.KnownBytes.{Appends}
 use Rattle.std.specs.declared.io.ErrorKind.{ErrorKind as IoKind}
 use Rattle.std.specs.declared.io.ErrorKind.TheVariants as io_kind
 use Rattle.clap.specs.declared.error.kind.ErrorKind.{ErrorKind}
@@ -38,20 +39,29 @@ failure_of_opening opening.Storage = Storage
 abbrev pub IsOpeningFailure : Failure → Type 0
 IsOpeningFailure failure = (fault : OpenFault) × (failure ≡ failure_of_opening fault)
 
+-- it is want of memory, or this other one
+abbrev pub IsMemoryOr : Failure → Failure → Type 0
+IsMemoryOr other failure = (failure ≡ Memory) ⊎ (failure ≡ other)
+
 -- a failure was told alone, as a fault
 abbrev pub IsFailureTold : Failure → Status → (List ℕ → Type 0) → Type 0
 IsFailureTold failure status IsPrinted = (status ≡ Fault) × IsPrinted (failure_line failure ++ codes "\n")
 
--- How a run over a file ended, once this status was told and the file was to be closed: so; or, where it was no fault, the file
--- could not be closed, which is told behind.
-abbrev pub EndsAs : Status → Status → Type 0 → (List ℕ → Type 0) → Type 0
-EndsAs said status IsUnwritten IsPrinted = ((status ≡ said) × IsUnwritten) ⊎ ((said ≢ Fault) × IsFailureTold Storage status IsPrinted)
+-- the file of a desk was not opened, and why is told alone
+pub record IsUnopened (status : Status) (IsPrinted : List ℕ → Type 0) : Type 0 where
+  pub failure : Failure
+  pub is : IsOpeningFailure failure
+  pub told : IsFailureTold failure status IsPrinted
 
--- and how it ended by whether the file could be closed: a run that told no fault tells that it could not, and any other ends as it did
-abbrev pub EndsBy : {F E : Type 0} → Result F E → Status → Status → Type 0 → (List ℕ → Type 0) → Type 0
-EndsBy (Err error) Done status IsUnwritten IsPrinted = IsFailureTold Storage status IsPrinted
-EndsBy (Err error) Refused status IsUnwritten IsPrinted = IsFailureTold Storage status IsPrinted
-EndsBy closed said status IsUnwritten IsPrinted = (status ≡ said) × IsUnwritten
+-- How a run over a file ended, once this status was told and its file was closed, or could not be: so; or, where it was no fault and
+-- the file could not be closed, that is told behind.
+abbrev pub EndsBy : Bool → Status → Status → Type 0 → (List ℕ → Type 0) → Type 0
+EndsBy has_closed said status IsUnwritten IsPrinted =
+    ((status ≡ said) × IsUnwritten × (said ≢ Fault → has_closed ≡ true)) ⊎ ((said ≢ Fault) × (has_closed ≡ false) × IsFailureTold Storage status IsPrinted)
+
+-- how one ended that told this, by a writer that held the first then and holds the second in the end
+pub record Ends {E : Type 0} (has_closed : Bool) (told result : Result Status E) (mid after : Option (List ℕ)) : Type 0 where
+  pub by : IfOk result (λ status. IsOkAnd told (λ said. EndsBy has_closed said status (after ≡ mid) (Appends mid after)))
 
 -- the exit status of help and of what is wrong with the words
 abbrev pub status_of_error : ErrorKind → Status

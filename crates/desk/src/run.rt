@@ -16,6 +16,7 @@ use crate::status::{Failure, Status, tell_failure};
 use crate::words::{Call, NO_TEXT, call_of};
 use clap::error::{Error, ErrorKind};
 use desk_streams::{Sink, Source};
+use sqlite::Unknown;
 use std::convert::AsStr;
 use std::io;
 use std::rt::HostRuntime;
@@ -78,27 +79,27 @@ fn answer<R: Source, W: Sink>(
         Call::Isin(code) => answer_isin(code.as_bytes(), writer),
         Call::Read(mt) => answer_read(rt.alloc(), mt, reader, writer),
         Call::Play => answer_play(rt.alloc(), reader, writer),
-        Call::PlayOn(db) => answer_play_on(rt, db, reader, writer),
+        Call::PlayOn(db) => answer_play_on(rt, db, Unknown, reader, writer),
         Call::Check => answer_check(rt.alloc(), reader, writer),
         Call::Explain(topic) => answer_explain(topic, writer),
         Call::Serve(port, count) => answer_serve(rt, rt.alloc(), port, count, writer),
-        Call::ServeOn(db, port, count) => answer_serve_on(rt, db, port, count, writer),
+        Call::ServeOn(db, port, count) => answer_serve_on(rt, db, Unknown, port, count, writer),
         Call::Holdings(db, owner, account) => {
-            answer_report(rt, db, Some(owner), account.as_bytes(), writer)
+            answer_report(rt, db, Unknown, Some(owner), account.as_bytes(), writer)
         }
-        Call::Sums(db) => answer_report(rt, db, None, b"", writer),
-        Call::Folder(db, from, to) => answer_drop(rt, db, from, to, writer),
+        Call::Sums(db) => answer_report(rt, db, Unknown, None, b"", writer),
+        Call::Folder(db, from, to) => answer_drop(rt, db, Unknown, from, to, writer),
         Call::Report(parts, format) => {
             answer_overview(rt.alloc(), Shown::Report(parts), format, reader, writer)
         }
         Call::ReportOn(db, parts, format) => {
-            answer_overview_on(rt, db, Shown::Report(parts), format, writer)
+            answer_overview_on(rt, db, Unknown, Shown::Report(parts), format, writer)
         }
         Call::Journal(from, format) => {
             answer_overview(rt.alloc(), Shown::Journal(from), format, reader, writer)
         }
         Call::JournalOn(db, from, format) => {
-            answer_overview_on(rt, db, Shown::Journal(from), format, writer)
+            answer_overview_on(rt, db, Unknown, Shown::Journal(from), format, writer)
         }
     }
 }

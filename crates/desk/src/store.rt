@@ -1,16 +1,19 @@
 //! The desk of a file: opened, and closed again.
-ghost use Rattle.std.specs.Prelude.{◌≡◌, Bool, true, IfErr, IfOk, IsOkAnd, OnErr};
+ghost use Rattle.std.specs.Prelude.{◌≡◌, Ok, true, is_ok, IfErr, IfOk, OnErr};
 ghost use Rattle.std.specs.Io.KnownBytes.{Appends};
-ghost use Rattle.sqlite.specs.Files.{over_files};
+ghost use Rattle.sqlite.specs.Files.{file_state, over_files};
 ghost use Rattle.sqlite.specs.Held.{state};
+ghost use Rattle.sqlite.specs.State.{HasCleanDisk};
+ghost use Rattle.sqlite_wal.specs.Files.{image_at};
 ghost use Rattle.desk_register.specs.declared.register.Stage.TheVariants.{Idle};
-ghost use Rattle.desk_opening.specs.Opened.{IsOpened, view_of_both};
+ghost use Rattle.desk_index.specs.IndexView.{view_of_index};
+ghost use Rattle.desk_opening.specs.Opened.{FindsIn, IsOpened, view_of_both};
 ghost use Rattle.desk_rules.specs.Books.{Books};
 ghost use Rattle.desk_rules.specs.declared.limits.TheConstants.{MOST_ENTRIES};
-ghost use Rattle.desk_book.specs.Held.{KeepsFormed};
 ghost use Rattle.desk.specs.Closed.{AreClosed};
-ghost use Rattle.desk.specs.Left.{HandsOver, IsLeft, IsLeftIn, TablesSay};
-ghost use Rattle.desk.specs.Status.{EndsAs, EndsBy, IsOpeningFailure};
+ghost use Rattle.desk.specs.Left.{AreLeft, AreSaid, IsLeft, PassesOn, TablesSay};
+ghost use Rattle.desk.specs.PlayAnswer.{KeptBy};
+ghost use Rattle.desk.specs.Status.{Ends, IsOpeningFailure, IsUnopened};
 
 use crate::status::{Failure, Status, tell_failure};
 use crate::teller::Teller;
@@ -21,26 +24,30 @@ use desk_opening::{OpenFault, is_live, open_file};
 use desk_rules::MOST_ENTRIES;
 use desk_streams::Sink;
 use sql_register::SqlRegister;
-use sqlite::{Alter, Connection, Error, FileFrom, FileStore, Files, Unknown};
+use sqlite::{Alter, Connection, Error, FileFrom, FileStore, Files, Start};
+use sqlite_disk::Disk;
 use std::rt::HostRuntime;
 use std::{fs, io};
 
 /// A log that holds nothing has so many bytes at most: its head of 32, and some that make no commit count.
 const LONGEST_EMPTY_LOG: u64 = 64;
 
-/// A register in memory beside the tables of a file.
-pub type FileRegister = MirroredRegister<
-    IndexedRegister,
-    SqlRegister<FileStore<FileFrom<Unknown>>>,
->;
+/// A register in memory beside the tables of a file on such a disk.
+pub type FileRegister<D> = MirroredRegister<IndexedRegister, SqlRegister<FileStore<D>>>;
 
-/// Opens the desk of a file, which is made where there is none. Why it is not opened is told on standard error too.
-pub fn open(rt: &HostRuntime, path: &str) -> Result<FileRegister, Failure>
+/// Opens the desk of a file, which is made where there is none. Why it is not opened is told on standard error too. `start` stands
+/// for what the files hold, as at `open_file`.
+pub fn open<S: Start>(
+    rt: &HostRuntime,
+    path: &str,
+    start: S,
+) -> Result<FileRegister<FileFrom<S>>, Failure>
     ensures opened { IfOk result (IsOpened over_files MOST_ENTRIES) }
+    ensures which { IfOk result (λ both. HasCleanDisk (file_state both.tables.connection) → FindsIn (image_at S.Start) (file_state both.tables.connection).committed (view_of_index both.memory).content) }
     ensures failure { IfErr result IsOpeningFailure }
 {
     let mut teller = Teller::new(rt, path);
-    match open_file(rt, path, Unknown, MOST_ENTRIES, &mut teller) {
+    match open_file(rt, path, start, MOST_ENTRIES, &mut teller) {
         Ok(both) => Ok(both),
         Err(fault) => {
             teller.unopened(fault);
@@ -50,27 +57,66 @@ pub fn open(rt: &HostRuntime, path: &str) -> Result<FileRegister, Failure>
 }
 
 /// Opens the desk of a file that is there.
-pub fn open_there(rt: &HostRuntime, path: &str) -> Result<FileRegister, Failure>
+pub fn open_there<S: Start>(
+    rt: &HostRuntime,
+    path: &str,
+    start: S,
+) -> Result<FileRegister<FileFrom<S>>, Failure>
     ensures opened { IfOk result (IsOpened over_files MOST_ENTRIES) }
+    ensures which { IfOk result (λ both. HasCleanDisk (file_state both.tables.connection) → FindsIn (image_at S.Start) (file_state both.tables.connection).committed (view_of_index both.memory).content) }
     ensures failure { IfErr result IsOpeningFailure }
 {
-    match fs::exists(rt, path) {
-        Ok(true) => return open(rt, path),
+    open_found(rt, path, start, fs::exists(rt, path))
+}
+
+/// The same once it was looked whether there is a file: where none was found, none is opened.
+fn open_found<S: Start>(
+    rt: &HostRuntime,
+    path: &str,
+    start: S,
+    found: io::Result<bool>,
+) -> Result<FileRegister<FileFrom<S>>, Failure>
+    ensures opened { IfOk result (IsOpened over_files MOST_ENTRIES) }
+    ensures which { IfOk result (λ both. HasCleanDisk (file_state both.tables.connection) → FindsIn (image_at S.Start) (file_state both.tables.connection).committed (view_of_index both.memory).content) }
+    ensures found { IfOk result (λ both. found ≡ Ok true) }
+    ensures failure { IfErr result IsOpeningFailure }
+{
+    match found {
+        Ok(true) => return open(rt, path, start),
         Ok(false) => Teller::new(rt, path).missing(),
         Err(_) => Teller::new(rt, path).unopened(OpenFault::Storage),
     }
     Err(Failure::Storage)
 }
 
+/// Closes the file of a desk behind a run over it, which told this, and tells where it could not be closed.
+pub fn close_behind<D: Disk + Drop, W: Sink>(
+    rt: &HostRuntime,
+    teller: &Teller<'_>,
+    told: io::Result<Status>,
+    path: &str,
+    conn: Connection<FileStore<D>>,
+    writer: &mut W,
+) -> (io::Result<Status>, Result<Files<D>, Error>)
+    requires { OnErr told (W.may_fail ≡ true) }
+    ensures closed { IfOk result.1 (AreClosed conn) }
+    ensures left { PassesOn (AreSaid (file_state conn)) (AreLeft D.Disk result.1) }
+    ensures ends { Ends (is_ok result.1) told result.0 (W.contents writer.old) (W.contents writer.new) }
+    ensures failed { OnErr result.0 (W.may_fail ≡ true) }
+{
+    let closed = close(rt, path, conn);
+    (ended(teller, told, &closed, writer), closed)
+}
+
 /// Closes the file of a desk: what its log holds goes into it, and the log is removed while nobody else can open the two, which are
 /// handed back.
-pub fn close(
+fn close<D: Disk + Drop>(
     rt: &HostRuntime,
     path: &str,
-    conn: Connection<FileStore<FileFrom<Unknown>>>,
-) -> Result<Files<FileFrom<Unknown>>, Error>
+    conn: Connection<FileStore<D>>,
+) -> Result<Files<D>, Error>
     ensures closed { IfOk result (AreClosed conn) }
-    ensures left { IfOk result (HandsOver conn) }
+    ensures left { PassesOn (AreSaid (file_state conn)) (AreLeft D.Disk result) }
 {
     match conn.close_files() {
         Ok(files) => {
@@ -83,6 +129,15 @@ pub fn close(
             Err(error)
         }
     }
+}
+
+/// Writes why the file of a desk is not opened.
+pub fn tell_unopened<W: Sink>(failure: Failure, writer: &mut W) -> io::Result<Status>
+    requires { IsOpeningFailure failure }
+    ensures told { IfOk result (λ status. IsUnopened status (Appends (W.contents writer.old) (W.contents writer.new))) }
+    ensures failed { OnErr result (W.may_fail ≡ true) }
+{
+    tell_failure(failure, writer)
 }
 
 /// Removes the log of a file, which stands beside the file itself where the path is a link.
@@ -101,54 +156,41 @@ pub fn connection_of<S: Alter + Drop>(
     both: MirroredRegister<IndexedRegister, SqlRegister<S>>,
 ) -> Connection<S>
     ensures connection { result ≡ both.tables.connection }
-    ensures left { both.stage ≡ Idle → (books : Books) → KeepsFormed MOST_ENTRIES books (view_of_both both).content → TablesSay (state S.Store result) books }
+    ensures left { both.stage ≡ Idle → (books : Books) → KeptBy (view_of_both both) books → TablesSay (state S.Store result) books }
 {
     let conn = both.into_parts().1.into_connection();
     is_live(&conn);
     conn
 }
 
-/// What a run leaves of the desk of a file.
-#[derive(Drop)]
-pub struct Left<S: Alter + Drop> {
-    /// Whether the desk answers nothing any more
-    pub is_closed: bool,
-    /// The connection to its tables
-    pub conn: Connection<S>,
-}
-
-/// What is left of a desk over tables with a register in memory beside them.
-pub fn left_of<S: Alter + Drop>(
+/// The connection to the tables of a desk.
+pub fn tables_of<S: Alter + Drop>(
     desk: Desk<MirroredRegister<IndexedRegister, SqlRegister<S>>>,
-) -> Left<S>
+) -> Connection<S>
     requires { (view_of_both desk.register).room ≡ MOST_ENTRIES }
-    ensures { (is_closed : Bool) (books : Books) → IsLeft desk.is_closed (view_of_both desk.register) is_closed books
-        → IsLeftIn result.is_closed (state S.Store result.conn) is_closed books }
+    ensures connection { result ≡ desk.register.tables.connection }
+    ensures left { PassesOn (IsLeft desk.is_closed (view_of_both desk.register)) (AreSaid (state S.Store result)) }
 {
-    Left {
-        is_closed: desk.is_closed(),
-        conn: connection_of(desk.into_register()),
-    }
+    connection_of(desk.into_register())
 }
 
 /// Tells how a run over a file ended, which was closed then, or could not be. A run that ended in a fault tells no other.
-pub fn ended<F: Drop, W: Sink>(
+fn ended<F, W: Sink>(
     teller: &Teller<'_>,
     told: io::Result<Status>,
-    closed: Result<F, Error>,
+    closed: &Result<F, Error>,
     writer: &mut W,
 ) -> io::Result<Status>
     requires { OnErr told (W.may_fail ≡ true) }
-    ensures told { IfOk result (λ status. IsOkAnd told (λ said. EndsAs said status (writer.new ≡ writer.old) (Appends (W.contents writer.old) (W.contents writer.new)))) }
-    ensures closed { IfOk result (λ status. IsOkAnd told (λ said. EndsBy closed said status (writer.new ≡ writer.old) (Appends (W.contents writer.old) (W.contents writer.new)))) }
+    ensures ends { Ends (is_ok closed.now) told result (W.contents writer.old) (W.contents writer.new) }
     ensures failed { OnErr result (W.may_fail ≡ true) }
 {
-    let status = told?;
-    match (status, closed) {
-        (Status::Done | Status::Refused, Err(_)) => {
+    let said = told?;
+    match (said, closed) {
+        (Status::Fault, _) | (_, Ok(_)) => Ok(said),
+        _ => {
             teller.unclosed();
             tell_failure(Failure::Storage, writer)
         }
-        _ => Ok(status),
     }
 }

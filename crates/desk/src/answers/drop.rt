@@ -1,20 +1,22 @@
 //! `desk drop`.
-ghost use Rattle.std.specs.Prelude.{◌≡◌, ◌<◌, true, false, All, length, map, string_bytes, IfErr, IfOk, OnErr};
+ghost use Rattle.std.specs.Prelude.{◌≡◌, ◌<◌, true, false, is_ok, All, length, map, string_bytes, IfErr, IfOk, OnErr};
 ghost use Rattle.std.specs.Io.KnownBytes.{Appends};
 ghost use Rattle.sqlite.specs.Held.{state};
 ghost use Rattle.desk_rules.specs.Books.{Books};
 ghost use Rattle.desk_rules.specs.declared.limits.TheConstants.{MOST_ENTRIES};
-ghost use Rattle.desk_book.specs.Held.{IfHolds, KeepsFormed};
+ghost use Rattle.desk_book.specs.Answered.{AreBlamed};
+ghost use Rattle.desk_book.specs.Held.{IfHolds, IsReady};
 ghost use Rattle.desk_book.specs.Played.{answer_text};
 ghost use Rattle.desk_drop.specs.Folder.{file_of};
 ghost use Rattle.desk_opening.specs.Opened.{IsReadyFor, view_of_both};
-ghost use Rattle.desk_register.specs.View.{IsLater};
-ghost use Rattle.desk.specs.Left.{IsLeft, IsLeftIn, LeavesSome};
-ghost use Rattle.desk.specs.DropAnswer.{AreTakenFrom, IsDropAnswer, IsFolderFailure, IsFolderTold, answer_name};
+ghost use Rattle.desk_register.specs.View.{IfCounted, IsLater};
+ghost use Rattle.desk.specs.Left.{AreLeft, AreSaid, IsLeft, LeavesSome};
+ghost use Rattle.desk.specs.PlayAnswer.{AreHeld, KeptBy};
+ghost use Rattle.desk.specs.DropAnswer.{AreTakenFrom, IsDropAnswer, IsFolderFailure, IsFolderTold, IsOpenDropAnswer, answer_name};
 
 use crate::folders::{BEHIND, Found, put_answer, read_folder, try_folder};
 use crate::status::{Failure, Status, tell_failure};
-use crate::store::{FileRegister, Left, close, ended, left_of, open};
+use crate::store::{FileRegister, close_behind, open, tables_of, tell_unopened};
 use crate::teller::{Tally, Teller, Watch};
 use desk_book::{Desk, Fault, Outbox};
 use desk_drop::{DropFile, DropReply, take};
@@ -24,7 +26,8 @@ use desk_register::Register;
 use desk_rules::Reply;
 use desk_streams::Sink;
 use sql_register::SqlRegister;
-use sqlite::Alter;
+use sqlite::{Alter, Connection, Error, Files, Start};
+use sqlite_disk::Disk;
 use std::alloc::{AllocError, Global};
 use std::io;
 use std::rt::HostRuntime;
@@ -47,9 +50,10 @@ struct AnswerFile {
 /// and closes it. It is done where each answer is written, whatever it is; nothing is printed then. `fault io` tells that a
 /// folder failed, `fault 60` that memory is wanting; a file that is not opened, or not closed, is its fault. What was
 /// accepted stands.
-pub fn answer_drop<W: Sink>(
+pub fn answer_drop<S: Start, W: Sink>(
     rt: &HostRuntime,
     path: &str,
+    start: S,
     from: &str,
     to: &str,
     writer: &mut W,
@@ -57,28 +61,29 @@ pub fn answer_drop<W: Sink>(
     ensures told { IfOk result (λ status. IsDropAnswer status (Appends (W.contents writer.old) (W.contents writer.new))) }
     ensures failed { OnErr result (W.may_fail ≡ true) }
 {
-    match open(rt, path) {
-        Ok(both) => drop_opened(rt, path, both, Folders { from, to }, writer),
-        Err(failure) => tell_failure(failure, writer),
+    match open(rt, path, start) {
+        Ok(both) => drop_opened(rt, path, both, Folders { from, to }, writer).0,
+        Err(failure) => tell_unopened(failure, writer),
     }
 }
 
-/// The same on the desk of a file that was opened.
-fn drop_opened<W: Sink>(
+/// The same on the desk of a file that was opened. Its files are handed back, where they could be closed.
+fn drop_opened<D: Disk + Drop, W: Sink>(
     rt: &HostRuntime,
     path: &str,
-    both: FileRegister,
+    both: FileRegister<D>,
     folders: Folders<'_>,
     writer: &mut W,
-) -> io::Result<Status>
+) -> (io::Result<Status>, Result<Files<D>, Error>)
     requires { IsReadyFor MOST_ENTRIES (view_of_both both) }
-    ensures told { IfOk result (λ status. IsDropAnswer status (Appends (W.contents writer.old) (W.contents writer.new))) }
-    ensures failed { OnErr result (W.may_fail ≡ true) }
+    ensures told { IfOk result.0 (λ status. IsOpenDropAnswer (is_ok result.1) status (Appends (W.contents writer.old) (W.contents writer.new))) }
+    ensures left { (books : Books) → KeptBy (view_of_both both) books → LeavesSome MOST_ENTRIES books (AreLeft D.Disk result.1) }
+    ensures failed { OnErr result.0 (W.may_fail ≡ true) }
 {
     let mut teller = Teller::new(rt, path);
-    let (done, left) = drop_on_both(rt, both, &mut teller, folders);
-    let told = tell_done(done, writer);
-    ended(&teller, told, close(rt, path, left.conn), writer)
+    let (done, conn) = drop_on_both(rt, both, &mut teller, folders);
+    let taken = tell_done(done, writer);
+    close_behind(rt, &teller, taken, path, conn, writer)
 }
 
 /// Tells nothing of a folder whose answers are written, or why they are not.
@@ -98,15 +103,30 @@ fn drop_on_both<S: Alter + Drop>(
     both: MirroredRegister<IndexedRegister, SqlRegister<S>>,
     teller: &mut Teller<'_>,
     folders: Folders<'_>,
-) -> (Result<(), Failure>, Left<S>)
+) -> (Result<(), Failure>, Connection<S>)
     requires { IsReadyFor MOST_ENTRIES (view_of_both both) }
     ensures failure { IfErr result.0 IsFolderFailure }
-    ensures left { (books : Books) → KeepsFormed MOST_ENTRIES books (view_of_both both).content
-        → LeavesSome MOST_ENTRIES books (IsLeftIn result.1.is_closed (state S.Store result.1.conn)) }
+    ensures left { (books : Books) → KeptBy (view_of_both both) books → LeavesSome MOST_ENTRIES books (AreSaid (state S.Store result.1)) }
 {
-    let mut desk = Desk::new(both);
+    let (done, desk) = drop_over(rt, both, teller, folders);
+    (done, tables_of(desk))
+}
+
+/// Takes a folder on a desk over a register; the desk is given back.
+fn drop_over<D: Register + Drop>(
+    rt: &HostRuntime,
+    register: D,
+    teller: &mut Teller<'_>,
+    folders: Folders<'_>,
+) -> (Result<(), Failure>, Desk<D>)
+    requires { IsReady false (D.view register) }
+    ensures failure { IfErr result.0 IsFolderFailure }
+    ensures left { (books : Books) → AreHeld (D.view register) (D.view result.1.register) books → LeavesSome (D.view register).room books (IsLeft result.1.is_closed (D.view result.1.register)) }
+    ensures room { (D.view result.1.register).room ≡ (D.view register).room }
+{
+    let mut desk = Desk::new(register);
     let done = drop_on(rt, &mut desk, teller, folders);
-    (done, left_of(desk))
+    (done, desk)
 }
 
 /// The same on a desk that is open.
@@ -180,6 +200,8 @@ fn take_on<D: Register + Drop>(
         IfOk result (λ replies. AreTakenFrom (D.view desk.old.register).room (IsLeft desk.new.is_closed (D.view desk.new.register)) books (map file_of files.now) replies.items)) }
     ensures untaken { OnErr result (desk.new ≡ desk.old) }
     ensures within { IfOk result (λ replies. All (λ reply. reply.index < length files.now) replies.items) }
+    ensures blame { IfOk result (λ replies. IfCounted (D.view desk.new.register)
+        (AreBlamed (map (λ reply. reply.answer) replies.items) (D.view desk.old.register).failures (D.view desk.new.register).failures)) }
     ensures memory { IfErr result (λ fault. fault ≡ Fault.Memory) }
     ensures later { IsLater (D.view desk.old.register) (D.view desk.new.register) }
 {

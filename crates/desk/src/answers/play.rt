@@ -1,16 +1,16 @@
 //! `desk play`.
-ghost use Rattle.std.specs.Prelude.{◌≡◌, true, false, Ok, Err, IfOk, OnErr, OnOk};
+ghost use Rattle.std.specs.Prelude.{◌≡◌, true, false, is_ok, Ok, Err, IfOk, OnErr, OnOk};
 ghost use Rattle.std.specs.Io.KnownBytes.{Appends};
 ghost use Rattle.sqlite.specs.Held.{state};
 ghost use Rattle.desk_rules.specs.Books.{Books};
 ghost use Rattle.desk_rules.specs.declared.limits.TheConstants.{MOST_ENTRIES};
-ghost use Rattle.desk_book.specs.Held.{Holds, IsReady, KeepsFormed};
+ghost use Rattle.desk_book.specs.Held.{IsReady};
 ghost use Rattle.desk_opening.specs.Opened.{IsReadyFor, view_of_both};
-ghost use Rattle.desk.specs.Left.{IsLeft, IsLeftIn};
-ghost use Rattle.desk.specs.PlayAnswer.{IsFilePlayAnswer, IsPlayAnswer, IsPlayAnswerFrom, IsPlayTold, IsPlayedInPart};
+ghost use Rattle.desk.specs.Left.{AreLeft, AreSaid, IsLeft};
+ghost use Rattle.desk.specs.PlayAnswer.{AreHeld, IsFilePlayAnswer, IsOpenPlayAnswer, IsPlayAnswer, IsPlayTold, IsPlayedAnyhow, KeptBy, PlaysFrom};
 
 use crate::status::{Failure, Status, tell_failure};
-use crate::store::{FileRegister, Left, close, ended, left_of, open};
+use crate::store::{FileRegister, close_behind, open, tables_of, tell_unopened};
 use crate::teller::{Teller, Watch};
 use desk_book::{Desk, PlayFault};
 use desk_index::IndexedRegister;
@@ -19,7 +19,8 @@ use desk_register::Register;
 use desk_rules::MOST_ENTRIES;
 use desk_streams::{Sink, Source};
 use sql_register::SqlRegister;
-use sqlite::Alter;
+use sqlite::{Alter, Connection, Error, Files, Start};
+use sqlite_disk::Disk;
 use std::alloc::Global;
 use std::io;
 use std::rt::HostRuntime;
@@ -63,67 +64,81 @@ fn play_over<D: Register + Drop, R: Source, W: Sink>(
     writer: &mut W,
 ) -> (io::Result<Status>, Desk<D>)
     requires { IsReady false (D.view register) }
-    ensures told { (books : Books) → (D.view result.1.register).is_honest → Holds false (D.view register) books
-        → IfOk result.0 (λ status. IsPlayAnswerFrom (D.view register).room (IsLeft result.1.is_closed (D.view result.1.register)) books (R.remaining reader.old) (reader.new ≡ reader.old) R.may_fail status (Appends (W.contents writer.old) (W.contents writer.new))) }
-    ensures stands { (books : Books) → (D.view result.1.register).is_honest → Holds false (D.view register) books
-        → OnErr result.0 (IsPlayedInPart (D.view register).room (IsLeft result.1.is_closed (D.view result.1.register)) books (R.remaining reader.old)) }
+    ensures played { PlaysFrom (D.view register).room (AreHeld (D.view register) (D.view result.1.register)) (IsLeft result.1.is_closed (D.view result.1.register)) (R.remaining reader.old) (reader.new ≡ reader.old) R.may_fail result.0 (Appends (W.contents writer.old) (W.contents writer.new)) }
     ensures room { (D.view result.1.register).room ≡ (D.view register).room }
     ensures failed { OnErr result.0 (W.may_fail ≡ true) }
 {
     let mut desk = Desk::new(register);
-    let played = desk.play(alloc, reader, writer);
-    (tell_played(played, writer), desk)
+    let told = play_desk(alloc, &mut desk, reader, writer);
+    (told, desk)
 }
 
-/// The same over tables with a register in memory beside them, of which the connection is given back.
-fn play_on_both<S: Alter + Drop, R: Source, W: Sink>(
+/// The same on a desk that is open.
+fn play_desk<D: Register + Drop, R: Source, W: Sink>(
     alloc: Global,
-    both: MirroredRegister<IndexedRegister, SqlRegister<S>>,
+    desk: &mut Desk<D>,
     reader: &mut R,
     writer: &mut W,
-) -> (io::Result<Status>, Left<S>)
-    requires { IsReadyFor MOST_ENTRIES (view_of_both both) }
-    ensures told { (books : Books) → KeepsFormed MOST_ENTRIES books (view_of_both both).content
-        → IfOk result.0 (λ status. IsPlayAnswerFrom MOST_ENTRIES (IsLeftIn result.1.is_closed (state S.Store result.1.conn)) books (R.remaining reader.old) (reader.new ≡ reader.old) R.may_fail status (Appends (W.contents writer.old) (W.contents writer.new))) }
-    ensures stands { (books : Books) → KeepsFormed MOST_ENTRIES books (view_of_both both).content
-        → OnErr result.0 (IsPlayedInPart MOST_ENTRIES (IsLeftIn result.1.is_closed (state S.Store result.1.conn)) books (R.remaining reader.old)) }
-    ensures failed { OnErr result.0 (W.may_fail ≡ true) }
+) -> io::Result<Status>
+    requires { desk.old.is_closed ≡ false }
+    ensures played { PlaysFrom (D.view desk.old.register).room (AreHeld (D.view desk.old.register) (D.view desk.new.register)) (IsLeft desk.new.is_closed (D.view desk.new.register)) (R.remaining reader.old) (reader.new ≡ reader.old) R.may_fail result (Appends (W.contents writer.old) (W.contents writer.new)) }
+    ensures room { (D.view desk.new.register).room ≡ (D.view desk.old.register).room }
+    ensures failed { OnErr result (W.may_fail ≡ true) }
 {
-    let (told, desk) = play_over(alloc, both, reader, writer);
-    (told, left_of(desk))
+    let played = desk.play(alloc, reader, writer);
+    tell_played(played, writer)
 }
 
 /// Plays a script from the reader on the desk of a file, which is made where there is none, and closes it. What is told is as in
 /// `answer_play`; a file that is not opened, or not closed, is its fault. Where the desk was closed, standard error says so.
-pub fn answer_play_on<R: Source, W: Sink>(
+pub fn answer_play_on<S: Start, R: Source, W: Sink>(
     rt: &HostRuntime,
     path: &str,
+    start: S,
     reader: &mut R,
     writer: &mut W,
 ) -> io::Result<Status>
     ensures told { IfOk result (λ status. IsFilePlayAnswer (R.remaining reader.old) (reader.new ≡ reader.old) R.may_fail status (Appends (W.contents writer.old) (W.contents writer.new))) }
     ensures failed { OnErr result (W.may_fail ≡ true) }
 {
-    match open(rt, path) {
-        Ok(both) => play_opened(rt, path, both, reader, writer),
-        Err(failure) => tell_failure(failure, writer),
+    match open(rt, path, start) {
+        Ok(both) => play_opened(rt, path, both, reader, writer).0,
+        Err(failure) => tell_unopened(failure, writer),
     }
 }
 
-/// The same on the desk of a file that was opened.
-fn play_opened<R: Source, W: Sink>(
+/// The same on the desk of a file that was opened. Its files are handed back, where they could be closed.
+fn play_opened<D: Disk + Drop, R: Source, W: Sink>(
     rt: &HostRuntime,
     path: &str,
-    both: FileRegister,
+    both: FileRegister<D>,
     reader: &mut R,
     writer: &mut W,
-) -> io::Result<Status>
+) -> (io::Result<Status>, Result<Files<D>, Error>)
     requires { IsReadyFor MOST_ENTRIES (view_of_both both) }
-    ensures told { IfOk result (λ status. IsFilePlayAnswer (R.remaining reader.old) (reader.new ≡ reader.old) R.may_fail status (Appends (W.contents writer.old) (W.contents writer.new))) }
-    ensures failed { OnErr result (W.may_fail ≡ true) }
+    ensures told { (books : Books) → KeptBy (view_of_both both) books
+        → IfOk result.0 (λ status. IsOpenPlayAnswer (is_ok result.1) (AreLeft D.Disk result.1) books (R.remaining reader.old) (reader.new ≡ reader.old) R.may_fail status (Appends (W.contents writer.old) (W.contents writer.new))) }
+    ensures stands { (books : Books) → KeptBy (view_of_both both) books → OnErr result.0 (IsPlayedAnyhow (AreLeft D.Disk result.1) books (R.remaining reader.old)) }
+    ensures failed { OnErr result.0 (W.may_fail ≡ true) }
 {
     let mut teller = Teller::new(rt, path);
-    let (told, left) = play_on_both(rt.alloc(), both, reader, writer);
-    teller.look(left.is_closed);
-    ended(&teller, told, close(rt, path, left.conn), writer)
+    let (played, conn) = play_on_both(rt.alloc(), both, &mut teller, reader, writer);
+    close_behind(rt, &teller, played, path, conn, writer)
+}
+
+/// The same over tables with a register in memory beside them, of which the connection is given back.
+fn play_on_both<S: Alter + Drop, P: Watch, R: Source, W: Sink>(
+    alloc: Global,
+    both: MirroredRegister<IndexedRegister, SqlRegister<S>>,
+    watch: &mut P,
+    reader: &mut R,
+    writer: &mut W,
+) -> (io::Result<Status>, Connection<S>)
+    requires { IsReadyFor MOST_ENTRIES (view_of_both both) }
+    ensures played { PlaysFrom MOST_ENTRIES (KeptBy (view_of_both both)) (AreSaid (state S.Store result.1)) (R.remaining reader.old) (reader.new ≡ reader.old) R.may_fail result.0 (Appends (W.contents writer.old) (W.contents writer.new)) }
+    ensures failed { OnErr result.0 (W.may_fail ≡ true) }
+{
+    let (told, desk) = play_over(alloc, both, reader, writer);
+    watch.look(desk.is_closed());
+    (told, tables_of(desk))
 }

@@ -1,18 +1,19 @@
 //! `desk holdings` and `desk sums`.
-ghost use Rattle.std.specs.Prelude.{◌≡◌, ◌≢◌, true, false, Err, IfOk, OnErr};
+ghost use Rattle.std.specs.Prelude.{◌≡◌, ◌≢◌, true, false, is_ok, Err, IfOk, OnErr};
 ghost use Rattle.std.specs.Io.KnownBytes.{Appends};
 ghost use Rattle.sqlite.specs.Held.{state};
 ghost use Rattle.desk_register.specs.View.{IsLater};
 ghost use Rattle.desk_rules.specs.Books.{Books};
 ghost use Rattle.desk_rules.specs.declared.limits.TheConstants.{MOST_ENTRIES};
-ghost use Rattle.desk_book.specs.Held.{Holds, IfHolds, IsReady, KeepsFormed};
-ghost use Rattle.desk_book.specs.WrittenTo.{WritesAsked};
+ghost use Rattle.desk_book.specs.Held.{Holds, IfHolds, IsReady};
+ghost use Rattle.desk_book.specs.WrittenTo.{StaysOpen, WritesAsked};
 ghost use Rattle.desk_opening.specs.Opened.{IsReadyFor, view_of_both};
-ghost use Rattle.desk.specs.Left.{IsLeftIn};
-ghost use Rattle.desk.specs.ReportAnswer.{asked_for, status_of_answer, IsBrokenOff, IsReportAnswer, IsReportFrom, IsReportTold};
+ghost use Rattle.desk.specs.Left.{AreSaid, IsLeft};
+ghost use Rattle.desk.specs.PlayAnswer.{AreHeld, KeptBy};
+ghost use Rattle.desk.specs.ReportAnswer.{asked_for, status_of_answer, IsBrokenOff, IsOpenReportAnswer, IsReportAnswer, IsReportTold, LeavesBooks, ReportsFrom};
 
 use crate::status::{Failure, Status, tell_failure};
-use crate::store::{FileRegister, Left, close, ended, left_of, open_there};
+use crate::store::{FileRegister, close_behind, open_there, tables_of, tell_unopened};
 use crate::teller::Teller;
 use desk_book::{Desk, Head, ToFault};
 use desk_codes::Bic;
@@ -21,7 +22,8 @@ use desk_mirror::MirroredRegister;
 use desk_register::Register;
 use desk_streams::Sink;
 use sql_register::SqlRegister;
-use sqlite::Alter;
+use sqlite::{Alter, Connection, Error, Files, Start};
+use sqlite_disk::Disk;
 use std::alloc::Global;
 use std::io;
 use std::rt::HostRuntime;
@@ -29,9 +31,10 @@ use std::rt::HostRuntime;
 /// Prints what an account of a participant holds, or the totals of all where none is named, by the desk of a file, and closes it:
 /// the answer to such a question, in a line. Where there is no file none is made. A fault within it ends the line there, and is told in a line of its own; a file that is not opened, or not
 /// closed, is its fault. Where the writer failed nothing more is written.
-pub fn answer_report<W: Sink>(
+pub fn answer_report<S: Start, W: Sink>(
     rt: &HostRuntime,
     path: &str,
+    start: S,
     owner: Option<Bic>,
     account: &[u8],
     writer: &mut W,
@@ -39,32 +42,29 @@ pub fn answer_report<W: Sink>(
     ensures told { IfOk result (λ status. IsReportAnswer (asked_for owner account.now) status (Appends (W.contents writer.old) (W.contents writer.new))) }
     ensures failed { OnErr result (W.may_fail ≡ true) }
 {
-    match open_there(rt, path) {
-        Ok(both) => report_opened(rt, path, both, owner, account, writer),
-        Err(failure) => tell_failure(failure, writer),
+    match open_there(rt, path, start) {
+        Ok(both) => report_opened(rt, path, both, owner, account, writer).0,
+        Err(failure) => tell_unopened(failure, writer),
     }
 }
 
-/// The same by the desk of a file that was opened.
-fn report_opened<W: Sink>(
+/// The same by the desk of a file that was opened. Its files are handed back, where they could be closed.
+fn report_opened<D: Disk + Drop, W: Sink>(
     rt: &HostRuntime,
     path: &str,
-    both: FileRegister,
+    both: FileRegister<D>,
     owner: Option<Bic>,
     account: &[u8],
     writer: &mut W,
-) -> io::Result<Status>
+) -> (io::Result<Status>, Result<Files<D>, Error>)
     requires { IsReadyFor MOST_ENTRIES (view_of_both both) }
-    ensures told { IfOk result (λ status. IsReportAnswer (asked_for owner account.now) status (Appends (W.contents writer.old) (W.contents writer.new))) }
-    ensures failed { OnErr result (W.may_fail ≡ true) }
+    ensures told { (books : Books) → KeptBy (view_of_both both) books
+        → IfOk result.0 (λ status. IsOpenReportAnswer (is_ok result.1) books (asked_for owner account.now) status (Appends (W.contents writer.old) (W.contents writer.new))) }
+    ensures left { (books : Books) → KeptBy (view_of_both both) books → LeavesBooks D.Disk result.0 result.1 books }
+    ensures failed { OnErr result.0 (W.may_fail ≡ true) }
 {
-    let (told, left) = report_on_both(rt.alloc(), both, owner, account, writer);
-    ended(
-        &Teller::new(rt, path),
-        told,
-        close(rt, path, left.conn),
-        writer,
-    )
+    let (reported, conn) = report_on_both(rt.alloc(), both, owner, account, writer);
+    close_behind(rt, &Teller::new(rt, path), reported, path, conn, writer)
 }
 
 /// The same over tables with a register in memory beside them, of which the connection is given back.
@@ -74,16 +74,13 @@ fn report_on_both<S: Alter + Drop, W: Sink>(
     owner: Option<Bic>,
     account: &[u8],
     writer: &mut W,
-) -> (io::Result<Status>, Left<S>)
+) -> (io::Result<Status>, Connection<S>)
     requires { IsReadyFor MOST_ENTRIES (view_of_both both) }
-    ensures told { (books : Books) → KeepsFormed MOST_ENTRIES books (view_of_both both).content
-        → IfOk result.0 (λ status. IsReportFrom MOST_ENTRIES books (asked_for owner account.now) status (Appends (W.contents writer.old) (W.contents writer.new))) }
-    ensures left { (books : Books) → KeepsFormed MOST_ENTRIES books (view_of_both both).content
-        → IsLeftIn result.1.is_closed (state S.Store result.1.conn) result.1.is_closed books }
+    ensures reported { ReportsFrom MOST_ENTRIES (KeptBy (view_of_both both)) (AreSaid (state S.Store result.1)) (asked_for owner account.now) result.0 (Appends (W.contents writer.old) (W.contents writer.new)) }
     ensures failed { OnErr result.0 (W.may_fail ≡ true) }
 {
     let (told, desk) = report_over(alloc, both, owner, account, writer);
-    (told, left_of(desk))
+    (told, tables_of(desk))
 }
 
 /// The same on a desk over a register; the desk is given back.
@@ -95,16 +92,30 @@ fn report_over<D: Register + Drop, W: Sink>(
     writer: &mut W,
 ) -> (io::Result<Status>, Desk<D>)
     requires { IsReady false (D.view register) }
-    ensures told { (books : Books) → (D.view result.1.register).is_honest → Holds false (D.view register) books
-        → IfOk result.0 (λ status. IsReportFrom (D.view register).room books (asked_for owner account.now) status (Appends (W.contents writer.old) (W.contents writer.new))) }
-    ensures keeps { (books : Books) → (D.view result.1.register).is_honest → Holds false (D.view register) books
-        → Holds result.1.is_closed (D.view result.1.register) books }
+    ensures reported { ReportsFrom (D.view register).room (AreHeld (D.view register) (D.view result.1.register)) (IsLeft result.1.is_closed (D.view result.1.register)) (asked_for owner account.now) result.0 (Appends (W.contents writer.old) (W.contents writer.new)) }
     ensures room { (D.view result.1.register).room ≡ (D.view register).room }
     ensures failed { OnErr result.0 (W.may_fail ≡ true) }
 {
     let mut desk = Desk::new(register);
-    let written = write_report(alloc, &mut desk, owner, account, writer);
-    (tell_written(written, writer), desk)
+    let told = report_desk(alloc, &mut desk, owner, account, writer);
+    (told, desk)
+}
+
+/// The same on a desk that is open.
+fn report_desk<D: Register + Drop, W: Sink>(
+    alloc: Global,
+    desk: &mut Desk<D>,
+    owner: Option<Bic>,
+    account: &[u8],
+    writer: &mut W,
+) -> io::Result<Status>
+    requires { desk.old.is_closed ≡ false }
+    ensures reported { ReportsFrom (D.view desk.old.register).room (AreHeld (D.view desk.old.register) (D.view desk.new.register)) (IsLeft desk.new.is_closed (D.view desk.new.register)) (asked_for owner account.now) result (Appends (W.contents writer.old) (W.contents writer.new)) }
+    ensures room { (D.view desk.new.register).room ≡ (D.view desk.old.register).room }
+    ensures failed { OnErr result (W.may_fail ≡ true) }
+{
+    let written = write_report(alloc, desk, owner, account, writer);
+    tell_written(written, writer)
 }
 
 /// Writes the answer to what is asked for.
@@ -120,6 +131,7 @@ fn write_report<D: Register + Drop, W: Sink>(
     ensures keeps { IfHolds D.view desk.old desk.new (Holds desk.new.is_closed (D.view desk.new.register)) }
     ensures later { IsLater (D.view desk.old.register) (D.view desk.new.register) }
     ensures open { desk.old.is_closed ≡ false → result ≢ Err ToFault.Closed }
+    ensures stays { StaysOpen result desk.new.is_closed }
     ensures unwritten { result ≡ Err ToFault.WriteFailed → W.may_fail ≡ true }
 {
     match owner {

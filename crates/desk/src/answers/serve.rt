@@ -1,18 +1,19 @@
 //! `desk serve`.
-ghost use Rattle.std.specs.Prelude.{◌≡◌, ◌⊎◌, true, false, None, IfOk, OnErr, OnOk};
+ghost use Rattle.std.specs.Prelude.{◌≡◌, ◌⊎◌, true, false, is_ok, None, IfOk, OnErr, OnOk};
 ghost use Rattle.std.specs.Io.KnownBytes.{Appends};
 ghost use Rattle.sqlite.specs.Held.{state};
 ghost use Rattle.desk_rules.specs.Books.{Books};
 ghost use Rattle.desk_rules.specs.declared.limits.TheConstants.{MOST_ENTRIES};
 ghost use Rattle.desk_register.specs.View.{IsLater};
-ghost use Rattle.desk_book.specs.Held.{Holds, KeepsFormed};
+ghost use Rattle.desk_book.specs.Held.{Holds, IsReady};
 ghost use Rattle.desk_http.specs.Served.{Serves};
 ghost use Rattle.desk_opening.specs.Opened.{IsReadyFor, view_of_both};
-ghost use Rattle.desk.specs.Left.{IsLeftIn, LeavesSome};
-ghost use Rattle.desk.specs.ServeAnswer.{HoldsOn, IsFileServeAnswer, IsServeAnswer, listening_line};
+ghost use Rattle.desk.specs.Left.{AreLeft, AreSaid, LeavesSome};
+ghost use Rattle.desk.specs.PlayAnswer.{KeptBy};
+ghost use Rattle.desk.specs.ServeAnswer.{HoldsOn, IsFileServeAnswer, IsOpenServeAnswer, IsServeAnswer, listening_line};
 
 use crate::status::{Failure, Status, tell_failure};
-use crate::store::{FileRegister, Left, close, ended, left_of, open};
+use crate::store::{FileRegister, close_behind, open, tables_of, tell_unopened};
 use crate::teller::{Nobody, Teller, Watch};
 use desk_book::{CHUNK, Desk};
 use desk_http::{Routes, serve_one};
@@ -22,7 +23,8 @@ use desk_register::Register;
 use desk_rules::MOST_ENTRIES;
 use desk_streams::Sink;
 use sql_register::SqlRegister;
-use sqlite::Alter;
+use sqlite::{Alter, Connection, Error, Files, Start};
+use sqlite_disk::Disk;
 use std::alloc::Global;
 use std::io::{self, Read};
 use std::net::{Ipv4Addr, Net, Shutdown, TcpListener, TcpStream};
@@ -51,16 +53,16 @@ pub fn answer_serve<N: Net<Listener = TcpListener, Stream = TcpStream>, W: Sink>
     ensures told { IfOk result (λ status. IsServeAnswer port status (Appends (W.contents writer.old) (W.contents writer.new))) }
     ensures failed { OnErr result (W.may_fail ≡ true) }
 {
-    let mut desk = Desk::new(IndexedRegister::new(alloc, MOST_ENTRIES));
-    serve_desk(net, alloc, port, count, &mut desk, &mut Nobody, writer)
+    let register = IndexedRegister::new(alloc, MOST_ENTRIES);
+    serve_over(net, alloc, port, count, register, &mut Nobody, writer).0
 }
 
 /// The same on the desk of a file, which is made where there is none. It is opened before it is told where it listens, and closed
 /// at the end; a file that is not opened, or not closed, is its fault. Where the desk is closed, standard error says so.
-#[tactic(auto, using(crate::proofs::ServeLemmas::unserved))]
-pub fn answer_serve_on<W: Sink>(
+pub fn answer_serve_on<S: Start, W: Sink>(
     rt: &HostRuntime,
     path: &str,
+    start: S,
     port: u16,
     count: u32,
     writer: &mut W,
@@ -68,28 +70,29 @@ pub fn answer_serve_on<W: Sink>(
     ensures told { IfOk result (λ status. IsFileServeAnswer port status (Appends (W.contents writer.old) (W.contents writer.new))) }
     ensures failed { OnErr result (W.may_fail ≡ true) }
 {
-    match open(rt, path) {
-        Ok(both) => serve_opened(rt, path, both, port, count, writer),
-        Err(failure) => tell_failure(failure, writer),
+    match open(rt, path, start) {
+        Ok(both) => serve_opened(rt, path, both, port, count, writer).0,
+        Err(failure) => tell_unopened(failure, writer),
     }
 }
 
-/// The same on the desk of a file that was opened.
-fn serve_opened<W: Sink>(
+/// The same on the desk of a file that was opened. Its files are handed back, where they could be closed.
+fn serve_opened<D: Disk + Drop, W: Sink>(
     rt: &HostRuntime,
     path: &str,
-    both: FileRegister,
+    both: FileRegister<D>,
     port: u16,
     count: u32,
     writer: &mut W,
-) -> io::Result<Status>
+) -> (io::Result<Status>, Result<Files<D>, Error>)
     requires { IsReadyFor MOST_ENTRIES (view_of_both both) }
-    ensures told { IfOk result (λ status. IsFileServeAnswer port status (Appends (W.contents writer.old) (W.contents writer.new))) }
-    ensures failed { OnErr result (W.may_fail ≡ true) }
+    ensures told { IfOk result.0 (λ status. IsOpenServeAnswer (is_ok result.1) port status (Appends (W.contents writer.old) (W.contents writer.new))) }
+    ensures left { (books : Books) → KeptBy (view_of_both both) books → LeavesSome MOST_ENTRIES books (AreLeft D.Disk result.1) }
+    ensures failed { OnErr result.0 (W.may_fail ≡ true) }
 {
     let mut teller = Teller::new(rt, path);
-    let (told, left) = serve_on_both(rt, port, count, both, &mut teller, writer);
-    ended(&teller, told, close(rt, path, left.conn), writer)
+    let (served, conn) = serve_on_both(rt, port, count, both, &mut teller, writer);
+    close_behind(rt, &teller, served, path, conn, writer)
 }
 
 /// The same over tables with a register in memory beside them, of which the connection is given back.
@@ -100,16 +103,40 @@ fn serve_on_both<S: Alter + Drop, P: Watch, W: Sink>(
     both: MirroredRegister<IndexedRegister, SqlRegister<S>>,
     watch: &mut P,
     writer: &mut W,
-) -> (io::Result<Status>, Left<S>)
+) -> (io::Result<Status>, Connection<S>)
     requires { IsReadyFor MOST_ENTRIES (view_of_both both) }
     ensures told { IfOk result.0 (λ status. IsServeAnswer port status (Appends (W.contents writer.old) (W.contents writer.new))) }
-    ensures left { (books : Books) → KeepsFormed MOST_ENTRIES books (view_of_both both).content
-        → LeavesSome MOST_ENTRIES books (IsLeftIn result.1.is_closed (state S.Store result.1.conn)) }
+    ensures left { (books : Books) → KeptBy (view_of_both both) books → LeavesSome MOST_ENTRIES books (AreSaid (state S.Store result.1)) }
     ensures failed { OnErr result.0 (W.may_fail ≡ true) }
 {
-    let mut desk = Desk::new(both);
-    let told = serve_desk(rt, rt.alloc(), port, count, &mut desk, watch, writer);
-    (told, left_of(desk))
+    let (told, desk) = serve_over(rt, rt.alloc(), port, count, both, watch, writer);
+    (told, tables_of(desk))
+}
+
+/// Serves so many connections on a desk over a register, once it has told where it listens; the desk is given back.
+fn serve_over<
+    N: Net<Listener = TcpListener, Stream = TcpStream>,
+    D: Register + Drop,
+    P: Watch,
+    W: Sink,
+>(
+    net: &N,
+    alloc: Global,
+    port: u16,
+    count: u32,
+    register: D,
+    watch: &mut P,
+    writer: &mut W,
+) -> (io::Result<Status>, Desk<D>)
+    requires { IsReady false (D.view register) }
+    ensures told { IfOk result.0 (λ status. IsServeAnswer port status (Appends (W.contents writer.old) (W.contents writer.new))) }
+    ensures keeps { (D.view result.1.register).is_honest → HoldsOn false (D.view register) result.1.is_closed (D.view result.1.register) }
+    ensures room { (D.view result.1.register).room ≡ (D.view register).room }
+    ensures failed { OnErr result.0 (W.may_fail ≡ true) }
+{
+    let mut desk = Desk::new(register);
+    let told = serve_desk(net, alloc, port, count, &mut desk, watch, writer);
+    (told, desk)
 }
 
 /// Serves so many connections on a desk, once it has told where it listens.

@@ -5,7 +5,8 @@ use Rattle.desk.specs.DropAnswer.{IsDropAnswer}
 use Rattle.desk.specs.ExplainAnswer.{IsExplainAnswer}
 use Rattle.desk.specs.OverviewAnswer.{IsFileOverviewAnswer}
 use Rattle.desk.specs.ReportAnswer.{IsReportAnswer, asked_for}
-use Rattle.desk.specs.Words.{explain, folder, holdings, journal, report, sums}
+use Rattle.desk.specs.ServeAnswer.{IsFileServeAnswer}
+use Rattle.desk.specs.Words.{explain, folder, holdings, journal, report, serve, sums}
 use Rattle.desk.specs.declared.answers.shown.Shown.TheVariants as shown
 use Rattle.desk.specs.declared.words.calls.Call.TheVariants as call
 use Rattle.desk.proofs.run.answer.Goals as goal
@@ -76,4 +77,13 @@ returns-in-JournalOn-clause-told g c =
     let format = c.in-JournalOn.format in
     told_of c.answer_overview_on-in-JournalOn.result (g.R.Read.remaining c.args.reader.now) _ g.R.Source.may_fail P c.args.call (call.JournalOn c.in-JournalOn.db from format) c.in-JournalOn.is
     (told_unread c.answer_overview_on-in-JournalOn.result (g.R.Read.remaining c.args.reader.now) _ g.R.Source.may_fail P (journal (Some c.in-JournalOn.db.now) from format) (λ status. IsFileOverviewAnswer (shown.Journal from) format status P) refl c.answer_overview_on-in-JournalOn.ensures.told
+    (λ status unread t. (unread, t)))
+
+pub returns-in-ServeOn-clause-told : goal.returns-in-ServeOn-clause-told
+returns-in-ServeOn-clause-told g c =
+    let P = (Appends (g.W.Write.contents c.args.writer.now) (g.W.Write.contents c.answer_serve_on.new.writer)) in
+    let port = c.in-ServeOn.port in
+    let count = c.in-ServeOn.count in
+    told_of c.answer_serve_on.result (g.R.Read.remaining c.args.reader.now) _ g.R.Source.may_fail P c.args.call (call.ServeOn c.in-ServeOn.db port count) c.in-ServeOn.is
+    (told_unread c.answer_serve_on.result (g.R.Read.remaining c.args.reader.now) _ g.R.Source.may_fail P (serve (Some c.in-ServeOn.db.now) port count) (λ status. IsFileServeAnswer port status P) refl c.answer_serve_on.ensures.told
     (λ status unread t. (unread, t)))

@@ -1,9 +1,10 @@
-use Rattle.desk_opening.specs.Opened.{view_of_both}
+use Rattle.std.proofs.Common.{refl}
 use Rattle.desk.proofs.OverviewLemmas.{ended_overview}
-use Rattle.desk.proofs.PlayLemmas.{kept_books}
 use Rattle.desk.proofs.answers.overview.overview_opened.Goals as goal
 
 pub returns-clause-told : goal.returns-clause-told
-returns-clause-told g c =
-    let kept = kept_books (view_of_both c.args.both) c.requires tt in
-    ended_overview c.args.shown kept.0 g.W.Write.contents c.args.writer.now c.overview_on_both-told.new.writer c.ended.new.writer (_, kept.1) c.args.format c.overview_on_both-told.result.0 c.ended.result (c.overview_on_both-told.ensures.told kept.0 kept.1) c.ended.ensures.told
+returns-clause-told g c = λ books keeps.
+    ended_overview _ c.args.shown books (g.W.Write.contents c.args.writer.now) (g.W.Write.contents c.overview_on_both-shown.new.writer) (g.W.Write.contents c.close_behind.new.writer) c.args.format c.overview_on_both-shown.result.0 c.close_behind.result.0 (c.overview_on_both-shown.ensures.told books keeps) c.close_behind.ensures.ends.by
+
+pub returns-clause-left : goal.returns-clause-left
+returns-clause-left g c = λ books keeps. c.close_behind.ensures.left.each _ books (λ is. c.overview_on_both-shown.ensures.left books keeps) refl

@@ -1,4 +1,4 @@
-use Rattle.std.proofs.Common.{◌≡◌, refl, sym, subst, lit<, ap, Err}
+use Rattle.std.proofs.Common.{refl, sym, subst, lit<, ap, Err}
 use Rattle.desk_index.specs.IndexView.{view_of_index}
 use Rattle.desk_index.specs.declared.indexed_register.IndexedRegister.{IndexedRegister}
 use Rattle.desk_engine.specs.Applied.{no_books}

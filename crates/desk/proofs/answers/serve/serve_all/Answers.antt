@@ -1,5 +1,4 @@
-use Rattle.std.proofs.Common.{◌∙◌, inl, refl, subst, sym}
-use Rattle.desk_book.specs.DeskValue.{DeskValue}
+use Rattle.std.proofs.Common.{subst, sym}
 use Rattle.desk_register.specs.View.{IsLater}
 use Rattle.desk.specs.ServeAnswer.{HoldsOn}
 use Rattle.desk.proofs.ServeLemmas.{goes_on, later_all_along, nothing_later, untouched}
