@@ -1,6 +1,6 @@
 """Builds libraries that are loaded before the C library, and runs a program while one growth of memory is refused: what
 tests/refuse_memory, tests/refuse_http, tests/refuse_words, tests/refuse_register and tests/bounded_memory share.
-tests/refuse_disk builds its library by it too."""
+tests/refuse_disk, tests/refuse_folders and tests/serve build a library by it too, and want its faults of a file."""
 
 import os
 import subprocess
@@ -10,6 +10,13 @@ HERE = os.path.dirname(os.path.abspath(__file__))
 
 # no run here asks for memory so often; a run that never ends its refusals is a failure
 MOST_GROWTHS = 100_000
+
+# how requests are answered that met a failure of their file: as if not asked, and by a desk that is closed
+UNDONE, CLOSED = b"500\nfault 61\n.\n", b"500\nfault 62\n.\n"
+
+# what standard error tells of a file, behind its name: that the desk is closed, and that it is not closed itself
+TELLS_CLOSED = "fault 62: the file failed, and the desk is closed: it answers nothing more; run it anew over the file"
+TELLS_UNCLOSED = "fault 61: it could not be closed: its log stays beside it, and belongs to it"
 
 # how a request that met a refusal is answered, and how a program ends that had no room to begin: status and answers
 FAULT = b"503\nfault 60\n.\n"

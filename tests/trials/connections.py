@@ -1,6 +1,6 @@
 """Trials of tests/serve, with one case and a made-up program that serves it: as it must, and with one thing broken."""
 
-from .room import copy, fails, passes, run, write, write_script
+from .room import TESTS, fails, passes, run, write, write_script
 
 ASKED = b"GET /sums HTTP/1.1\r\n\r\n"
 ANSWERED = b'HTTP/1.1 200 OK\r\nContent-Type: text/plain\r\nConnection: close\r\n\r\n{"cash":[],"securities":[]}'
@@ -74,12 +74,10 @@ def served(room, **broken):
     names = "\n".join(f"{name} = {value!r}" for name, value in {**SOUND, **broken}.items())
     write(f"{room}/server.py", names + SERVER)
     write_script(f"{room}/desk", f"exec python3 {room}/server.py \"$@\"")
-    return run(room, "tests/serve", f"{room}/desk", "cases")
+    return run(room, f"{TESTS}/serve", f"{room}/desk", "cases")
 
 
 def trials(room):
-    for path in ("tests/serve", "tests/server.py", "tests/over_http.py", "tests/scripts.py"):
-        copy(path, room)
     write(f"{room}/cases/sums.stdin", ASKED.decode())
     write(f"{room}/cases/sums.stdout", ANSWERED.decode())
     yield passes("a program that serves", served(room), "26 passed, 0 failed\n")
