@@ -1,0 +1,90 @@
+"""Trials of tests/refuse_disk, with a made-up program that plays requests on a file: as it must, and with one thing broken."""
+
+import sys
+
+from .room import TESTS, fails, passes, run, write, write_script
+
+# keeps each request as a line, behind a call by which it is as if not asked and before one by which nobody can say
+PLAYS = """
+import os, sys
+sys.dont_write_bytecode = True
+sys.path.insert(0, TESTS)
+from refusing import CLOSED, TELLS_CLOSED, TELLS_UNCLOSED, UNDONE
+from scripts import requests_in
+db = sys.argv[3]
+log, answers, is_closed = db + "-wal", [], False
+
+def tell(text):
+    print(f"desk: {db}: {text}", file=sys.stderr)
+
+try:
+    file = os.open(db, os.O_RDWR | os.O_CREAT, 0o600)
+    kept = os.pread(file, 1000000, 0).split(b"\\n")[:-1]
+    os.close(os.open(log, os.O_RDWR | os.O_CREAT, 0o600))
+except OSError:
+    print("fault 61")
+    tell("fault 61: it cannot be opened, read or written, or another program has it open")
+    sys.exit(3)
+
+def answer(line):
+    global is_closed
+    if is_closed:
+        return CLOSED
+    if line not in kept:
+        at = sum(len(it) + 1 for it in kept)
+        try:
+            os.fsync(file)
+        except OSError:
+            return UNDONE
+        try:
+            os.pwrite(file, line + b"\\n", at)
+            os.fsync(file)
+        except OSError:
+            if not CLOSES:
+                os.ftruncate(file, at)
+                return UNDONE
+            is_closed = STAYS_CLOSED
+            tell(TELLS_CLOSED)
+            return CLOSED
+        kept.append(line)
+    return b"200\\naccepted %d\\n.\\n" % (kept.index(line) + 1)
+
+answers = [answer(b" ".join(it.split())) for it in requests_in(sys.stdin.buffer.read())]
+is_left = CLOSED in answers
+try:
+    os.fsync(file)
+except OSError:
+    is_left = is_left or LOOKS
+if is_left:
+    answers.append(b"fault 61\\n")
+    tell(TELLS_UNCLOSED)
+else:
+    os.remove(log)
+sys.stdout.buffer.write(b"".join(answers))
+sys.exit(3 if is_left else 0)
+"""
+RIGHT = {"CLOSES": True, "STAYS_CLOSED": True, "LOOKS": True}
+
+SCRIPT = "".join(f"op\n{number}\n.\n" for number in range(3))
+
+# a step that meets each fault at some of the 13 calls, and one that meets none by which a request is as if not asked
+FIT, UNFIT = "2", "4"
+
+
+def refused(room, step, **broken):
+    """How tests/refuse_disk ends, with this step, on a program of which this is broken."""
+    names = "\n".join(f"{name} = {value!r}" for name, value in {"TESTS": TESTS, **RIGHT, **broken}.items())
+    write(f"{room}/plays.py", names + PLAYS)
+    # nothing but the library that fails calls is in its surroundings
+    write_script(f"{room}/desk", f'exec {sys.executable} -S {room}/plays.py "$@"')
+    return run(room, f"{TESTS}/refuse_disk", f"{room}/desk:play --db", f"{room}/script", step)
+
+
+def trials(room):
+    write(f"{room}/script", SCRIPT)
+    yield passes("calls fail", refused(room, FIT), "\n40 passed, 0 failed\n")
+    why = "no failure led to this: {!r} at {}\n"
+    yield fails("a program that never tells 62", refused(room, FIT, CLOSES=False), why.format(b"500\nfault 62\n.\n", 0))
+    yield fails("one that never tells of a close", refused(room, FIT, LOOKS=False), why.format(b"fault 61\n", 3))
+    yield fails("one that goes on behind 62", refused(room, FIT, STAYS_CLOSED=False), "fault 62\\n.\\n200\\naccepted ")
+    yield fails("a step that passes over a fault", refused(room, UNFIT), why.format(b"500\nfault 61\n.\n", 0))
