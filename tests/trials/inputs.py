@@ -161,7 +161,8 @@ def damaged_files(room, day):
     return []
 """
 
-# opens no file that another has open, and none with that table; what is broken is defined
+# opens no file that another has open, and none with that table, and counts the entries of the one of many; what is broken is
+# defined
 LOOKS = """db=$3
 fault() {
   [ -z "$BESIDE" ] || touch "$db$BESIDE"
@@ -169,6 +170,14 @@ fault() {
   echo "desk: $db: fault $1: $2" >&2
   exit 3
 }
+if [ "${db##*/}" = many ]; then
+  [ "$1" = play ] && exec grep -c '^op$' >>"$db"
+  count=$(($(paste -sd+ "$db")))
+  if [ -t 2 ] || [ -n "$ALWAYS" ]; then
+    seq "$UNTOLD" 5000 "$count" | sed "s|.*|desk: $db: & entries are read|" >&2
+  fi
+  exec printf '{"cash":[{"ccy":"EUR","held":%d,"net":%d}],"securities":[]}\\n' $((count - 1)) $((count - 1))
+fi
 if ! [ -e "$db" ]; then
   [ "$1" = play ] && exec cp "$TABLES" "$db"
   [ "$1" != "$MAKES" ] || touch "$db"
@@ -254,7 +263,7 @@ def trials_of_reports(room):
 def trials_of_files(room):
     """A program is let at files, of which one is not there."""
     copy("tests/odd_files", room)
-    for name in "files.py", "folders.py", "server.py", "plain":
+    for name in "files.py", "folders.py", "scripts.py", "server.py", "plain":
         os.symlink(f"{TESTS}/{name}", f"{room}/tests/{name}")
     os.symlink(f"{TESTS}/odd.py", f"{room}/tests/all_odd.py")
     write(f"{room}/tests/odd.py", NO_ODD_FILES)
@@ -262,8 +271,9 @@ def trials_of_files(room):
         connection.execute("PRAGMA journal_mode = WAL")
         connection.execute("CREATE TABLE register (number INTEGER PRIMARY KEY)")
 
-    def let_at(makes="", beside=""):
+    def let_at(makes="", beside="", untold="20000", always=""):
         names = {"TABLES": f"{room}/tables", "PLAIN": f"{TESTS}/plain/desk", "MAKES": makes, "BESIDE": beside}
+        names |= {"UNTOLD": untold, "ALWAYS": always}
         write_script(f"{room}/looks", *(f"{name}={value}" for name, value in names.items()), LOOKS)
         return run(room, "tests/odd_files", f"{room}/looks")
 
@@ -273,6 +283,10 @@ def trials_of_files(room):
         yield fails(f"odd_files: {word} makes the file that it looks for", let_at(makes=word), why)
     why = "odd_files: play over a database that another left: beside it stand "
     yield fails("odd_files: a journal that is left", let_at(beside="-journal"), why)
+    why = "odd_files: {} entries, told to a {}: "
+    yield fails("odd_files: a short opening that is told", let_at(untold="15000"), why.format(19_999, "terminal"))
+    yield fails("odd_files: a long one that is not told", let_at(untold="30000"), why.format(25_000, "terminal"))
+    yield fails("odd_files: one that is told to a pipe", let_at(always="yes"), why.format(25_000, "pipe"))
 
 
 def trials(room):
