@@ -18,6 +18,12 @@ try:
         sys.exit(2)
 except (KeyError, ValueError):
     sys.exit(2)
+try:
+    if PORT_FIRST:
+        socket.create_server(("127.0.0.1", port)).close()
+except OSError:
+    print("fault io")
+    sys.exit(3)
 if "--db" in words:
     with open(words["--db"], "a+b") as file:
         file.seek(0)
@@ -65,6 +71,7 @@ SOUND = {
     "REFUSED": REFUSED,
     "READS_ON": True,
     "NOT_OURS": "fault 50",
+    "PORT_FIRST": False,
     "BESIDE": "",
 }
 
@@ -80,7 +87,7 @@ def served(room, **broken):
 def trials(room):
     write(f"{room}/cases/sums.stdin", ASKED.decode())
     write(f"{room}/cases/sums.stdout", ANSWERED.decode())
-    yield passes("a program that serves", served(room), "26 passed, 0 failed\n")
+    yield passes("a program that serves", served(room), "27 passed, 0 failed\n")
     yield fails("another answer", served(room, ANSWERED=ANSWERED + b" "), "serve: cases/sums: not as it must be\n")
     yield fails("it listens elsewhere", served(room, ELSEWHERE=1), "serve: cases/sums: not as it must be\n")
     yield fails("it serves too few", served(room, FEWER=-1), "serve: cases/sums: not as it must be\n")
@@ -88,6 +95,8 @@ def trials(room):
     yield fails("it ends with another status", served(room, STATUS=1), "serve: cases/sums: not as it must be\n")
     why = "serve: a file that is no desk's: not as it must be\n"
     yield fails("another fault of a file", served(room, NOT_OURS="fault 51"), why)
+    why = "serve: a file that is no desk's, and a port that is in use: not as it must be\n"
+    yield fails("a port that is looked at before the file", served(room, PORT_FIRST=True), why)
     why = "serve: a file, and a port that is in use: not as it must be\n"
     yield fails("a log that is left", served(room, BESIDE="-wal"), why)
     yield fails("a reset", served(room, READS_ON=False), "serve: the rest of a long body: not as it must be\n")
