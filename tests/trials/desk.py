@@ -29,6 +29,7 @@ RUNS = [LIBRARIES, NAMED, "cat >out/desk <<'PROGRAM'", PROGRAM.format("new"), "P
 STEPS = """\
 desk: the program is proved and built first, 2 crates; .*
 desk: to try it at once, unproved: cd .* && rt try -- WORDS
+desk:   \\(it runs in another folder, .* whole path\\)
 desk: proving desk_text, 1 of 2
 desk: proved desk_text in \\d+ seconds
 desk: proving desk, 2 of 2
