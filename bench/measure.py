@@ -13,6 +13,7 @@ import re
 import resource
 import socket
 import sqlite3
+import statistics
 import string
 import subprocess
 import sys
@@ -153,6 +154,11 @@ LONGEST_SCRIPT = 16_777_216
 # one that lies in memory, where there is such.
 BENCH = "crates/desk_bench/out/desk_bench"
 SHARED_MEMORY = "/dev/shm"
+
+# A mixed day of so many requests is played beside its statements. The variable that names a folder on a disk for that (none:
+# the folder of the system for files of a time), and how often it is played there, since what waits for a device varies.
+DAY = 10_000
+DISK, DISK_TURNS = "BENCH_DISK", 7
 
 # In the scripts that are played: the security, the request for the totals, and after how many rounds a run settles
 # their pairs; and how many pairs a chain in the wrong order has.
@@ -335,11 +341,12 @@ def chain_script(pairs):
     return "".join([*requests, command(op="run", ref="R1", day="20240229")]).encode(), pairs
 
 
-def played(words, script, pairs):
-    """The processor seconds that these words take to play a script in which so many pairs settle."""
-    started = processor_time()
+def played(words, script, pairs, clock=processor_time):
+    """The seconds, of the processor or by another clock, that these words take to play a script in which so many pairs
+    settle."""
+    started = clock()
     done = subprocess.run(words, input=script, capture_output=True, check=True)
-    taken = processor_time() - started
+    taken = clock() - started
     settled = sum(map(int, re.findall(rb"^accepted [0-9]+ settled ([0-9]+) waiting [01]$", done.stdout, re.MULTILINE)))
     if settled != pairs:
         sys.exit(f"play: {settled} pairs settled of {pairs}")
@@ -382,17 +389,25 @@ def played_in_tables(script, pairs):
     return played([BENCH, "tables"], script, pairs)
 
 
+def folder_in_memory():
+    return SHARED_MEMORY if os.path.isdir(SHARED_MEMORY) else tempfile.gettempdir()
+
+
+def folder_on_disk():
+    return os.environ.get(DISK) or tempfile.gettempdir()
+
+
 @contextlib.contextmanager
-def new_path():
-    """A path at which there is no file, in a folder that goes with it."""
-    with tempfile.TemporaryDirectory(dir=SHARED_MEMORY if os.path.isdir(SHARED_MEMORY) else None) as folder:
+def new_path(beneath=None):
+    """A path at which there is no file, in a folder that goes with it, beneath this one, or one that lies in memory."""
+    with tempfile.TemporaryDirectory(dir=beneath or folder_in_memory()) as folder:
         yield os.path.join(folder, "desk.db")
 
 
-def played_in_file(script, pairs):
+def played_in_file(script, pairs, beneath=None, clock=processor_time):
     """As `played`, by the desk's program in a new file: over tables, with a register in memory beside them."""
-    with new_path() as path:
-        return played([DESK, "play", "--db", path], script, pairs)
+    with new_path(beneath) as path:
+        return played([DESK, "play", "--db", path], script, pairs, clock)
 
 
 def played_in_tables_of_file(script, pairs):
@@ -410,20 +425,20 @@ def bare_desk(script, passes_over=False):
     return desk
 
 
-def asked_of_sqlite(script, pairs, passes_over=False):
-    """The processor seconds that Python's SQLite takes for the statements of a script, on a new file with a log of its writes,
-    as the desk's library has one, of which each commit waits until the device has it."""
+def asked_of_sqlite(script, pairs, passes_over=False, beneath=None, clock=processor_time):
+    """The seconds that Python's SQLite takes for the statements of a script, on a new file with a log of its writes, as the
+    desk's library has one, of which each commit waits until the device has it."""
     desk = bare_desk(script, passes_over)
     if desk.settled != pairs:
         sys.exit(f"store: {desk.settled} pairs settled of {pairs}")
-    with new_path() as path:
-        started = processor_time()
+    with new_path(beneath) as path:
+        started = clock()
         with contextlib.closing(sqlite3.connect(path, isolation_level=None)) as connection:
             connection.execute("PRAGMA journal_mode = WAL")
             connection.execute("PRAGMA synchronous = FULL")
             for text, parameters in desk.asked:
                 connection.execute(text, parameters).fetchall()
-        return processor_time() - started
+        return clock() - started
 
 
 def rows_in(connection):
@@ -474,18 +489,38 @@ def measure_store():
     for name, play, who in work:
         timed_at = functools.partial(script_timed, mixed_script, play)
         measure_growing(f"{name} of a mixed day of", "request", "requests", timed_at, who)
-    measure_chain()
+    measure_statements(f"a mixed day of {DAY:,} requests", *mixed_script(DAY))
+    measure_statements(f"a chain of {CHAIN:,} pairs in the wrong order, one run", *chain_script(CHAIN))
+    measure_on_disk()
 
 
-def measure_chain():
-    """A chain in the wrong order over a file, beside its statements asked of Python's SQLite; a try that would change nothing is
-    asked of neither."""
-    script, pairs = chain_script(CHAIN)
-    statements = functools.partial(asked_of_sqlite, passes_over=True)
-    desk, python = (min(play(script, pairs) for _ in range(TURNS)) for play in (played_in_file, statements))
+# The statements of a script over a file with memory beside it: a try that would change nothing is asked of neither.
+statements_timed = functools.partial(asked_of_sqlite, passes_over=True)
+
+
+def measure_statements(name, script, pairs):
+    """A script over a file, beside its statements asked of Python's SQLite."""
+    desk, python = (min(play(script, pairs) for _ in range(TURNS)) for play in (played_in_file, statements_timed))
     print(
-        f"play over a file, with memory beside it of a chain of {pairs:,} pairs in the wrong order, one run: desk {desk:.3f} s, "
+        f"play over a file, with memory beside it of {name}: desk {desk:.3f} s, "
         f"its statements by Python's SQLite {python:.3f} s, ratio {desk / python:.2f}"
+    )
+
+
+def measure_on_disk():
+    """A mixed day over a file on a disk, by turns with its statements, by the clock, which waits for the device too."""
+    folder, (script, pairs) = folder_on_disk(), mixed_script(DAY)
+    taken = [], []
+    for turn in range(DISK_TURNS):
+        # which of the two begins changes from turn to turn
+        for which in ((0, 1), (1, 0))[turn % 2]:
+            play = (played_in_file, statements_timed)[which]
+            taken[which].append(play(script, pairs, beneath=folder, clock=time.monotonic))
+    desk, python = (f"{statistics.median(of):.3f} s ({min(of):.3f} to {max(of):.3f})" for of in taken)
+    print(
+        f"play over a file in {folder}, with memory beside it of a mixed day of {DAY:,} requests, by the clock, the median of "
+        f"{DISK_TURNS} by turns: desk {desk}, its statements by Python's SQLite {python}, "
+        f"ratio {statistics.median(taken[0]) / statistics.median(taken[1]):.2f}"
     )
 
 
