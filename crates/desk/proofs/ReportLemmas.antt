@@ -71,7 +71,8 @@ reports_on_both {E} v0 v1 L M asked r P ready honest from on =
     let held : (books : Books) → KeptBy v0 books → AreHeld v0 v1 books = λ books keeps. (honest, subst (λ k. KeepsFormed k books v0.content) (sym ready.room) keeps) in
     record {
       told = λ books keeps. (let Q : ℕ → Type 0 = λ k. IfOk r (λ status. IsReportFrom k books asked status P) in subst Q ready.room (from.told books (held books keeps)));
-      left = λ books keeps. passed r books (from.left books (held books keeps));
+      left = λ books keeps. (let l = from.left books (held books keeps) in (l.0, on.each l.0 books l.1));
+      stays = λ books keeps. passed r books (from.stays books (held books keeps));
     }
   where
     passed : (q : Result Status E) (books : Books) → IfOk q (λ status. status ≢ Fault → L false books) → IfOk q (λ status. status ≢ Fault → M false books)
@@ -109,7 +110,7 @@ module _ {E : Type 0} (has_closed : Bool) (K : Books → Type 0) (L : Bool → B
 
   pub opened_left : {D F : Type 0} (g : Ghosts D) (closed : Result (Files D) F) → PassesOn L (AreLeft g closed) → Ends has_closed reported result mid after
       → (books : Books) → K books → LeavesBooks g result closed books
-  opened_left g closed on ends books keeps = leaves_so g closed reported result books on (from.left books keeps) ends.by
+  opened_left g closed on ends books keeps = leaves_so g closed reported result books on (from.stays books keeps) ends.by
 
 -- the file was opened
 pub reported_there : {E : Type 0} (r : Result Status E) (has_closed : Bool) (view : View) (asked : Asked) (P : List ℕ → Type 0) → (kept : (books : Books) × KeepsFormed MOST_ENTRIES books view.content) → IfOk r (λ status. IsOpenReportAnswer has_closed kept.0 asked status P)

@@ -1,22 +1,32 @@
--- What a run leaves of a desk: in the desk itself, in its tables, and in its files, which were closed.
+-- What a run finds in the files of a desk, and what it leaves: in the desk itself, in its tables, and in its files, which were closed.
 use Rattle.std.specs.Prelude.{◌≡◌, ℕ, Bool, false, IfOk, IsTrue, List, Result}
 use Rattle.sqlite.specs.Closing.{HoldsAlone}
 use Rattle.sqlite.specs.Effect.{Database}
-use Rattle.sqlite.specs.Files.{image_of}
+use Rattle.sqlite.specs.Files.{file_state, image_of}
 use Rattle.sqlite.specs.State.{State, HasCleanDisk}
 use Rattle.sqlite_disk.specs.declared.Disk.{Ghosts}
 use Rattle.sqlite_disk.specs.declared.Files.{Files}
+use Rattle.sqlite_store.specs.declared.store.FileStore.{FileStore}
 use Rattle.sqlite_wal.specs.Files.{outcomes}
 use Rattle.sqlite_wal.specs.Reads.{AreClean}
 use Rattle.sqlite_wal.specs.Recovery.{Image}
 use Rattle.desk_rules.specs.Books.{Books}
 use Rattle.desk_rules.specs.declared.answers.reply.Reply.{Reply}
 use Rattle.desk_register.specs.View.{View}
+use Rattle.desk_index.specs.IndexView.{view_of_index}
+use Rattle.desk_index.specs.declared.indexed_register.IndexedRegister.{IndexedRegister}
+use Rattle.desk_mirror.specs.Both.{Both}
+use Rattle.sql_register.specs.Kept.{Kept}
 use Rattle.desk_book.specs.Answered.{AnsweredInTurn}
 use Rattle.desk_book.specs.Asked.{Asked}
 use Rattle.desk_book.specs.Held.{Holds}
+use Rattle.desk_opening.specs.Opened.{FindsIn}
 use Rattle.desk_opening.specs.Said.{SaysBooks}
 use Rattle.desk_book.specs.declared.fault.Fault.{Fault}
+
+-- What was opened is what files held that hold this, where no wrong answer of the device was taken as true.
+abbrev pub IsFoundIn : {D : Type 0} {g : Ghosts D} → Image → Both IndexedRegister (Kept (FileStore D g)) → Type 0
+IsFoundIn image both = HasCleanDisk (file_state both.tables.connection) → FindsIn image (file_state both.tables.connection).committed (view_of_index both.memory).content
 
 -- what is committed says these books, where no wrong answer of the device was taken as true and the device has not shut the store
 abbrev pub TablesSay : State → Books → Type 0

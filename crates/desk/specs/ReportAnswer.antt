@@ -51,10 +51,12 @@ pub data IsReportFrom (limit : ℕ) (books : Books) (asked : Asked) (status : St
   told_front : (front : List ℕ) → IsFrontOf limit books asked front → (failure : Failure) → IsMemoryOr Storage failure → status ≡ Fault → IsPrinted (front ++ (codes "\n" ++ (failure_line failure ++ codes "\n")))
       → IsReportFrom limit books asked status IsPrinted
 
--- Whichever of these books a desk holds, the question is answered so by it, and where that tells no fault the desk is open, and left so.
+-- Whichever of these books a desk holds, the question is answered so by it, and it is left with them; where that tells no fault it is
+-- open still.
 pub record ReportsFrom {E : Type 0} (limit : ℕ) (AreBooks : Books → Type 0) (IsLeftSo : Bool → Books → Type 0) (asked : Asked) (result : Result Status E) (IsPrinted : List ℕ → Type 0) : Type 0 where
   pub told : (books : Books) → AreBooks books → IfOk result (λ status. IsReportFrom limit books asked status IsPrinted)
-  pub left : (books : Books) → AreBooks books → IfOk result (λ status. status ≢ Fault → IsLeftSo false books)
+  pub left : (books : Books) → AreBooks books → (is_closed : Bool) × IsLeftSo is_closed books
+  pub stays : (books : Books) → AreBooks books → IfOk result (λ status. status ≢ Fault → IsLeftSo false books)
 
 -- What is told by these books of a file that was opened, which was closed then, or could not be: the answer; or that, and that the
 -- file could not be closed is told behind.
@@ -69,6 +71,6 @@ pub data IsReportAnswer (asked : Asked) (status : Status) (IsPrinted : List ℕ 
   told_unopened : IsUnopened status IsPrinted → IsReportAnswer asked status IsPrinted
   told_opened : (books : Books) → AreKept books → (has_closed : Bool) → IsOpenReportAnswer has_closed books asked status IsPrinted → IsReportAnswer asked status IsPrinted
 
--- a report that was told without a fault left its books as they were, in the files too, where they could be closed
+-- a report that was told without a fault left its books as they were, in the files, where they could be closed
 abbrev pub LeavesBooks : {D F E : Type 0} → Ghosts D → Result Status F → Result (Files D) E → Books → Type 0
 LeavesBooks g told closed books = IfOk told (λ status. status ≢ Fault → IfOk closed (λ files. FilesSay g files books))

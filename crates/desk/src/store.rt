@@ -3,17 +3,15 @@ ghost use Rattle.std.specs.Prelude.{◌≡◌, Ok, true, is_ok, IfErr, IfOk, OnE
 ghost use Rattle.std.specs.Io.KnownBytes.{Appends};
 ghost use Rattle.sqlite.specs.Files.{file_state, over_files};
 ghost use Rattle.sqlite.specs.Held.{state};
-ghost use Rattle.sqlite.specs.State.{HasCleanDisk};
 ghost use Rattle.sqlite_wal.specs.Files.{image_at};
 ghost use Rattle.desk_register.specs.declared.register.Stage.TheVariants.{Idle};
-ghost use Rattle.desk_index.specs.IndexView.{view_of_index};
-ghost use Rattle.desk_opening.specs.Opened.{FindsIn, IsOpened, view_of_both};
+ghost use Rattle.desk_opening.specs.Opened.{IsOpened, view_of_both};
 ghost use Rattle.desk_rules.specs.Books.{Books};
 ghost use Rattle.desk_rules.specs.declared.limits.TheConstants.{MOST_ENTRIES};
 ghost use Rattle.desk.specs.Closed.{AreClosed};
-ghost use Rattle.desk.specs.Left.{AreLeft, AreSaid, IsLeft, PassesOn, TablesSay};
+ghost use Rattle.desk.specs.Left.{AreLeft, AreSaid, IsFoundIn, IsLeft, PassesOn, TablesSay};
 ghost use Rattle.desk.specs.PlayAnswer.{KeptBy};
-ghost use Rattle.desk.specs.Status.{Ends, IsOpeningFailure, IsUnopened};
+ghost use Rattle.desk.specs.Status.{Ends, IsFailureTold, IsOpeningFailure, IsUnopened};
 
 use crate::status::{Failure, Status, tell_failure};
 use crate::teller::Teller;
@@ -43,7 +41,7 @@ pub fn open<S: Start>(
     start: S,
 ) -> Result<FileRegister<FileFrom<S>>, Failure>
     ensures opened { IfOk result (IsOpened over_files MOST_ENTRIES) }
-    ensures which { IfOk result (λ both. HasCleanDisk (file_state both.tables.connection) → FindsIn (image_at S.Start) (file_state both.tables.connection).committed (view_of_index both.memory).content) }
+    ensures which { IfOk result (IsFoundIn (image_at S.Start)) }
     ensures failure { IfErr result IsOpeningFailure }
 {
     let mut teller = Teller::new(rt, path);
@@ -63,7 +61,7 @@ pub fn open_there<S: Start>(
     start: S,
 ) -> Result<FileRegister<FileFrom<S>>, Failure>
     ensures opened { IfOk result (IsOpened over_files MOST_ENTRIES) }
-    ensures which { IfOk result (λ both. HasCleanDisk (file_state both.tables.connection) → FindsIn (image_at S.Start) (file_state both.tables.connection).committed (view_of_index both.memory).content) }
+    ensures which { IfOk result (IsFoundIn (image_at S.Start)) }
     ensures failure { IfErr result IsOpeningFailure }
 {
     open_found(rt, path, start, fs::exists(rt, path))
@@ -77,7 +75,7 @@ fn open_found<S: Start>(
     found: io::Result<bool>,
 ) -> Result<FileRegister<FileFrom<S>>, Failure>
     ensures opened { IfOk result (IsOpened over_files MOST_ENTRIES) }
-    ensures which { IfOk result (λ both. HasCleanDisk (file_state both.tables.connection) → FindsIn (image_at S.Start) (file_state both.tables.connection).committed (view_of_index both.memory).content) }
+    ensures which { IfOk result (IsFoundIn (image_at S.Start)) }
     ensures found { IfOk result (λ both. found ≡ Ok true) }
     ensures failure { IfErr result IsOpeningFailure }
 {
@@ -135,6 +133,7 @@ fn close<D: Disk + Drop>(
 pub fn tell_unopened<W: Sink>(failure: Failure, writer: &mut W) -> io::Result<Status>
     requires { IsOpeningFailure failure }
     ensures told { IfOk result (λ status. IsUnopened status (Appends (W.contents writer.old) (W.contents writer.new))) }
+    ensures which { IfOk result (λ status. IsFailureTold failure status (Appends (W.contents writer.old) (W.contents writer.new))) }
     ensures failed { OnErr result (W.may_fail ≡ true) }
 {
     tell_failure(failure, writer)
