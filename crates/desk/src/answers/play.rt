@@ -118,6 +118,7 @@ fn play_opened<D: Disk + Drop, R: Source, W: Sink>(
     requires { IsReadyFor MOST_ENTRIES (view_of_both both) }
     ensures told { (books : Books) → KeptBy (view_of_both both) books
         → IfOk result.0 (λ status. IsOpenPlayAnswer (is_ok result.1) (AreLeft D.Disk result.1) books (R.remaining reader.old) (reader.new ≡ reader.old) R.may_fail status (Appends (W.contents writer.old) (W.contents writer.new))) }
+    ensures answered { IfOk result.0 (λ status. IsFilePlayAnswer (R.remaining reader.old) (reader.new ≡ reader.old) R.may_fail status (Appends (W.contents writer.old) (W.contents writer.new))) }
     ensures stands { (books : Books) → KeptBy (view_of_both both) books → OnErr result.0 (IsPlayedAnyhow (AreLeft D.Disk result.1) books (R.remaining reader.old)) }
     ensures failed { OnErr result.0 (W.may_fail ≡ true) }
 {

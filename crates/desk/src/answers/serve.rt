@@ -87,6 +87,7 @@ fn serve_opened<D: Disk + Drop, W: Sink>(
 ) -> (io::Result<Status>, Result<Files<D>, Error>)
     requires { IsReadyFor MOST_ENTRIES (view_of_both both) }
     ensures told { IfOk result.0 (λ status. IsOpenServeAnswer (is_ok result.1) port status (Appends (W.contents writer.old) (W.contents writer.new))) }
+    ensures answered { IfOk result.0 (λ status. IsFileServeAnswer port status (Appends (W.contents writer.old) (W.contents writer.new))) }
     ensures left { (books : Books) → KeptBy (view_of_both both) books → LeavesSome MOST_ENTRIES books (AreLeft D.Disk result.1) }
     ensures failed { OnErr result.0 (W.may_fail ≡ true) }
 {
