@@ -10,45 +10,72 @@ import time
 
 from .room import copy, fails, run, write, write_script
 
-CRATES = "desk_text: smallvec\ndesk_tests: desk_text\ndesk: desk_text clap\ndesk_bench: desk_text\n"
+CRATES = """\
+desk_codes jobs=1:
+desk_text: desk_codes smallvec
+desk_tests: desk_text
+# a note: desk_codes
+desk: desk_text clap
+desk_bench: desk_text
+"""
+# the lines of what the program is made of, the crates below those that it names among them
+OWN_CRATES = "desk_codes jobs=1:\ndesk_text: desk_codes smallvec\ndesk: desk_text clap\n"
 SOURCES = [
     "crates.txt",
     "crates/desk/src/main.rt",
     "crates/desk/specs/run.antt",
     "crates/desk/proofs/run.antt",
     "crates/desk_text/src/of_tests/lib.rt",
+    "crates/desk_codes/src/lib.rt",
 ]
-NO_SOURCES = ["crates/desk_tests/src/lib.rt", "crates/desk_bench/src/main.rt", "crates/desk/stdout"]
+NO_SOURCES = ["crates/desk_tests/src/lib.rt", "crates/desk_bench/src/main.rt", "crates/desk/stdout", "HANDLES"]
+NO_SOURCES += ["crates/desk_text/must-fail/one.edit", "crates/desk_text/out/rlib/stamp"]
+# what rt ci is to find, and nothing else
+COPIED = sorted(["HANDLES", "crates/desk/stdout", *SOURCES])
 # a checkout may lie anywhere, also below folders that are named as those of a repository
 PLACES = ["clone", "x_tests/clone", "desk_bench/clone"]
 PROGRAM = 'echo "{}: $*"; exit 7'
-LIBRARIES = "if [ $* = lib ] && [ ${PWD##*/} = desk_text ]; then exit; fi"
-NAMED = '[ "$*" = "run -- --help" ] && [ ${PWD##*/} = desk ] || exit 2'
-RUNS = [LIBRARIES, NAMED, "cat >out/desk <<'PROGRAM'", PROGRAM.format("new"), "PROGRAM", "chmod +x out/desk"]
+MADE = ["mkdir -p crates/desk/out", "cat >crates/desk/out/desk <<'PROGRAM'", PROGRAM.format("new"), "PROGRAM"]
+MADE += ["chmod +x crates/desk/out/desk"]
+TOLD = ["rt: desk_codes is kept: an earlier run on this machine proved the same files over the same libraries"]
+TOLD += ["== desk_text", "fn desk_text::a: proved", "rt: desk_text proved", "== desk", "rt: desk proved"]
+TOLD += ["rt: desk: its tests are proved", "rt: desk ran, and wrote what its file stdout has", "4 passed, 0 failed"]
+NAMED = '[ "$*" = ci ] || exit 2'
+RUNS = [NAMED, *MADE, "cat <<'TOLD'", *TOLD, "TOLD"]
 # what is told of a build that goes well
-STEPS = """\
-desk: the program is proved and built first, 2 crates; .*
+BEGUN = """\
+desk: the program is proved and built first, 3 crates; .*
 desk: to try it at once, unproved: cd .* && rt try -- WORDS
 desk:   \\(it runs in another folder, .* whole path\\)
-desk: proving desk_text, 1 of 2
-desk: proved desk_text in \\d+ seconds
-desk: proving desk, 2 of 2
-desk: proved desk in \\d+ seconds
+desk: \\d+ processors, \\d+ GB of memory, \\d+ GB free; checks side by side: .*
+"""
+STEPS = f"""{BEGUN}\
+desk: desk_codes was proved before, 2 left
+desk: proved desk_text in \\d+ seconds, 1 left
+desk: proved desk in \\d+ seconds, 0 left
 desk: built in \\d+ seconds
 """
-# what rt tells of a failed proof, and how ./desk ends then
+# what rt ci tells of a failed proof, and how ./desk ends then
 UNPROVED = """\
+== desk_codes
+fn desk_codes::c: proved
+rt: desk_codes proved
+== desk_text
 so far: 1 of 2 functions checked
 ./proofs/b/Answers.antt:1:2: error: `returns-clause-said`: not so
   a note
 fn desk_text::a: proved
 fn desk_text::b: not proved
 logic=not-proved
+rt: desk_text NOT PROVED
+rt: desk NOT PROVED: its library desk_text failed
+rt: FAILED: desk_text desk
+1 passed, 2 failed
 """
 OPEN = """\
 ./proofs/b/Answers.antt:1:2: error: `returns-clause-said`: not so
 fn desk_text::b: not proved
-desk: desk_text could not be proved, so the program is not built
+desk: the program could not be proved, so it is not built
 """
 TOOLS = ["bash", "readlink", "sed", "find", "mktemp", "rm", "touch"]
 
@@ -64,6 +91,7 @@ def checkout(folder):
     for path in [*SOURCES, *NO_SOURCES]:
         write(f"{folder}/{path}")
     write(f"{folder}/crates.txt", CRATES)
+    copy("tests/lib/rt_ci", folder)
     script = copy("desk", folder)
     write_script(f"{folder}/crates/desk/out/desk", PROGRAM.format("old"))
     for at, folders, files in os.walk(folder):
@@ -112,25 +140,34 @@ def kept_in(room):
 
 def trials_of_builds(room):
     script, rt = checkout(f"{room}/clone"), f"{room}/bin/rt"
-    source = f"{room}/clone/{SOURCES[1]}"
+    source, program = f"{room}/clone/{SOURCES[1]}", f"{room}/clone/crates/desk/out/desk"
     set_age(source, 60)
-    why = "desk: desk could not be proved, so the program is not built\n"
-    for name, line in (("fails", "exit 1"), ("is not there", "exit 127"), ("builds nothing", "rm out/desk")):
-        write_script(rt, LIBRARIES, line)
+    why = "desk: the program could not be proved, so it is not built\n"
+    for name, lines in (("fails", [*RUNS, "exit 1"]), ("is not there", ["exit 127"]), ("builds nothing", [NAMED])):
+        write_script(rt, *lines)
         yield fails(f"a build that {name}", run(room, script), why)
-    script = checkout(f"{room}/clone")
-    set_age(source, 60)
-    write_script(rt)
-    yield builds("a build that finds nothing to do", run(room, script), "old: \n")
-    yield runs("and is not tried again", run(room, script), "old: \n")
-    set_age(f"{room}/clone/crates/desk/out/desk", 1800)
-    write_script(rt, *RUNS[:-1], f"{RUNS[-1]}; sleep 0.05; touch {source}")
+        yield f"a build that {name} leaves the program", run(room, program) == (7, "old: \n"), (0, "")
+    write_script(rt, "echo it is not to be, >&2", "echo 0 passed, 1 failed", "exit 1")
+    status, told = run(room, script)
+    is_told = re.search(r"it is not to be,\n *\d+:\d\d 0 passed, 1 failed\n", told)
+    yield "a build that fails and says why", status == 3 and bool(is_told) and told.endswith(why), (status, told)
+    write_script(rt, f"find . -type f -printf '%P\\n' | LC_ALL=C sort >{room}/found; cp crates.txt {room}/listed", *RUNS)
+    yield builds("a build in a copy", run(room, script), "new: \n")
+    with open(f"{room}/found", encoding="utf-8") as file:
+        found = file.read().split()
+    yield "the copy has what the program is made of", found == COPIED, (0, str(found))
+    with open(f"{room}/listed", encoding="utf-8") as file:
+        listed = file.read()
+    yield "and their lines of crates.txt", listed == OWN_CRATES, (0, listed)
+    yield "no file is left", not kept_in(room), (0, str(kept_in(room)))
+    yield runs("what is built is not built again", run(room, script), "new: \n")
+    set_age(program, 1800)
+    write_script(rt, *RUNS, f"sleep 0.05; touch {source}")
     yield builds("a source that changes while it is built", run(room, script), "new: \n")
     yield builds("and is built in then", run(room, script), "new: \n")
-    write_script(rt, "[ ${PWD##*/} = desk ] || exit 2", *RUNS[1:])
     os.remove(f"{room}/clone/{SOURCES[0]}")
-    status, told = run(room, script)
-    yield "no crates.txt", status == 7 and "desk: proving desk, 1 of 1\n" in told, (status, told)
+    write_script(rt, *RUNS)
+    yield fails("no crates.txt", run(room, script), why)
 
 
 def trials_of_proofs(room):
@@ -138,10 +175,16 @@ def trials_of_proofs(room):
     set_age(f"{room}/clone/{SOURCES[1]}", 60)
     write_script(rt, "cat <<'TOLD'", f"{UNPROVED}TOLD", "exit 1")
     status, told = run(room, script)
-    yield "a failed proof", status == 3 and told.endswith(f"  a note\nfn desk_text::b: not proved\ndesk: what is not proved, \
-the goals (the clauses are in their names) and then the functions:\n{OPEN}"), (status, told)
-    yield "how far it was", "desk:   1 of 2 functions\n" in told, (status, told)
-    yield "no file is left", not kept_in(room), (status, kept_in(room))
+    wanted = f"{BEGUN}desk: proved desk_codes in \\d+ seconds, 2 left\ndesk: desk_text NOT PROVED\n"
+    wanted += "desk: desk NOT PROVED: its library desk_text failed\n"
+    wanted += re.escape(f"""\
+./proofs/b/Answers.antt:1:2: error: `returns-clause-said`: not so
+  a note
+fn desk_text::b: not proved
+desk: what is not proved, the goals (the clauses are in their names) and then the functions:
+{OPEN}""")
+    yield "a failed proof", status == 3 and bool(re.fullmatch(wanted, told)), (status, told)
+    yield "no file is left of it", not kept_in(room), (status, str(kept_in(room)))
     for tool in TOOLS:
         os.makedirs(f"{room}/tools", exist_ok=True)
         os.symlink(shutil.which(tool), f"{room}/tools/{tool}")

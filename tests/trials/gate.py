@@ -64,6 +64,20 @@ def trials_of_groups(room):
         write_script(path, WELL)
 
 
+def trials_of_times(room):
+    """The gate tells how long it took, and whether that is too long; its clock begins where it is told to."""
+    took = r"test: \d+ minutes by the clock, \d+ of the processors\n"
+    long = f"{took}test: 150 minutes are the most that it is to take\n"
+    for name, seconds, wanted in (("short", 0, took), ("of 150 minutes", 9000, took), ("of 151 minutes", 9060, long)):
+        status, told = run(room, "env", f"SECONDS={seconds}", "./test")
+        # (a busy machine takes a minute no sooner)
+        yield f"a gate that is {name}", status == 0 and bool(re.search(f"\n{wanted}\\d+ passed, 0 failed\n$", told)), (status, told)
+    write_script(f"{room}/tests/helps", "sleep 1.1", WELL)
+    status, told = run(room, "./test")
+    yield "a part of a second", bool(re.search(r"test: tests/helps took [12] seconds, and \d+ of the processors\n", told)), (status, told)
+    write_script(f"{room}/tests/helps", WELL)
+
+
 def trials_of_programs(room, programs):
     for program in programs:
         write_script(f"{room}/tests/prove_all", *proofs(it for it in programs if it != program))
@@ -95,5 +109,6 @@ def trials(room):
     yield from trials_of_parts(room)
     yield from trials_of_tables(room)
     yield from trials_of_groups(room)
+    yield from trials_of_times(room)
     yield from trials_of_programs(room, programs)
     yield from trials_of_tools(room)

@@ -30,6 +30,7 @@ def told_by_rt(room, *lines, status=0):
 
 
 def trials(room):
+    copy("tests/lib/rt_ci", room)
     copy("tests/prove_all", room)
     for path, text in FILES.items():
         write(f"{room}/{path}", text)
