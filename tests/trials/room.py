@@ -8,6 +8,8 @@ import subprocess
 TESTS = os.path.dirname(os.path.dirname(os.path.abspath(__file__)))
 TOP = os.path.dirname(TESTS)
 BASH = shutil.which("bash")
+# the most seconds that a script takes, also beside proofs that take every processor
+PATIENCE = 900
 
 
 def write(path, text=""):
@@ -32,7 +34,7 @@ def run(room, *words, path=None):
     """Runs words in a room, whose folder bin comes first in PATH. Gives the status and all that was told."""
     surroundings = {name: text for name, text in os.environ.items() if not name.startswith("GIT_")}
     surroundings.update(PATH=path or f"{room}/bin:{os.environ['PATH']}", TMPDIR=room)
-    how = {"cwd": room, "env": surroundings, "stdin": subprocess.DEVNULL, "timeout": 120}
+    how = {"cwd": room, "env": surroundings, "stdin": subprocess.DEVNULL, "timeout": PATIENCE}
     ran = subprocess.run(words, stdout=subprocess.PIPE, stderr=subprocess.STDOUT, errors="replace", **how)
     return ran.returncode, ran.stdout
 
