@@ -2,7 +2,7 @@
 
 Each script is played by `PROGRAM play`, whole and without what stands from its first run on (of calls that are told alone:
 from that call on); the difference is what the rest costs. With words, only scripts are counted whose names have one of them. It
-prints a row of a table for each; docs/PERF.md has them."""
+prints a row of a table for each; docs/PERF.md has some."""
 
 import itertools
 import sys
