@@ -8,6 +8,8 @@ mod book;
 #[cfg(test)]
 mod codes;
 #[cfg(test)]
+mod made;
+#[cfg(test)]
 mod msg;
 #[cfg(test)]
 mod rules;

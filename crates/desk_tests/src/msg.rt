@@ -1,26 +1,12 @@
-//! Texts from outside that no case of the program shows.
-mod statements;
+//! What no subcommand calls: a confirmation is read, and a statement is written that stands in memory.
 mod vectors;
 
-use crate::msg::vectors::{CONFIRMED_DELIVERY, STATUS_REFUSED};
-use desk_codes::{Ccy, Reference};
-use desk_msg::{Case, MsgFault, Mt, Own, Word, read_confirmation, status_text};
+use crate::msg::vectors::{CONFIRMED_DELIVERY, STATEMENT};
+use desk_codes::{AccountId, Ccy, Day, Isin};
+use desk_msg::{Kind, MsgFault, Mt, StatementRow, Word, holdings_text, read_confirmation};
 use desk_text::read_block;
+use std::alloc::Global;
 use std::test::Fail;
-
-/// A refusal's number has two digits.
-#[test]
-fn writes_advices(rt: HostRuntime) -> Result<(), Fail> {
-    let alloc = rt.alloc();
-    let reference = Reference::read(b"A1").ok_or("no reference")?;
-    for (number, narrative) in [(11, "DESK 11"), (7, "DESK 07")] {
-        let wanted = STATUS_REFUSED.replace(alloc, "DESK 11", narrative)?;
-        let case = Case::NewRefused(number);
-        let text = status_text(alloc, Own::Answer(10), Mt::Mt543, &reference, case)?;
-        assert!(rt; text.as_slice() == wanted.as_bytes(), "at {number}");
-    }
-    Ok(())
-}
 
 #[test]
 fn reads_a_confirmation(rt: HostRuntime) -> Result<(), Fail> {
@@ -66,15 +52,40 @@ const CHANGES: [(&str, &str, MsgFault); 15] = [
     ),
 ];
 
+/// How the confirmation fails with a change of its text, if it does.
+fn fault_of(alloc: Global, from: &str, to: &str) -> Result<Option<MsgFault>, Fail> {
+    let text = CONFIRMED_DELIVERY.replace(alloc, from, to)?;
+    let block = read_block(alloc, text.as_bytes())?;
+    Ok(read_confirmation(Mt::Mt547, &block).err())
+}
+
 #[test]
 fn refuses_changed_confirmations(rt: HostRuntime) -> Result<(), Fail> {
-    for (from, to, fault) in CHANGES {
-        let text = CONFIRMED_DELIVERY.replace(rt.alloc(), from, to)?;
-        let block = read_block(rt.alloc(), text.as_bytes())?;
-        assert!(rt;
-            read_confirmation(Mt::Mt547, &block).err() == Some(fault),
-            "at {to}"
-        );
+    for (from, to, fault) in &CHANGES {
+        assert!(rt; fault_of(rt.alloc(), from, to)? == Some(*fault));
     }
+    Ok(())
+}
+
+/// The statement of two rows.
+fn statement(alloc: Global) -> Result<Vec<u8>, Fail> {
+    let day = Day::read(b"20240229").ok_or("no day")?;
+    let account = AccountId::read(b"B-1").ok_or("no account")?;
+    let first = StatementRow {
+        isin: Isin::parse(b"DE0007164600")?,
+        kind: Kind::Unit,
+        quantity: 400,
+    };
+    let second = StatementRow {
+        isin: Isin::parse(b"US0378331005")?,
+        kind: Kind::FaceAmount,
+        quantity: 99_999_999_999_999,
+    };
+    Ok(holdings_text(alloc, 12, day, &account, &[first, second])?)
+}
+
+#[test]
+fn writes_a_statement(rt: HostRuntime) -> Result<(), Fail> {
+    assert!(rt; statement(rt.alloc())?.as_slice() == STATEMENT.as_bytes());
     Ok(())
 }

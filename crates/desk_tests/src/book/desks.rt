@@ -1,5 +1,5 @@
 //! A desk over plain lists: one that may hold one entry, and several requests at once.
-use crate::book::over_lists::new_desk;
+use crate::made::new_desk;
 use desk_book::*;
 use desk_lists::ListRegister;
 use desk_rules::Reply;
@@ -7,7 +7,7 @@ use std::alloc::Global;
 use std::test::Fail;
 
 /// Whether an answer is a reply of this status and text.
-fn is_reply(answer: &Result<Reply, Fault>, (status, text): (u16, &[u8])) -> bool {
+fn is_reply(answer: &Result<Reply, Fault>, status: u16, text: &[u8]) -> bool {
     match answer {
         Ok(reply) => reply.status == status && reply.text.as_bytes() == text,
         Err(_) => false,
@@ -23,17 +23,12 @@ fn is_full(alloc: Global, desk: &mut Desk<ListRegister>, first: &[u8]) -> Result
         Question::Operator.with(second),
     ];
     let answers = desk.ask_all(alloc, &requests)?;
-    let wanted = [
-        (200, b"accepted 1".as_slice()),
-        (422, b"refused 21".as_slice()),
-    ];
-    Ok(
-        answers.len() == 2
-            && answers
-                .iter()
-                .zip(wanted)
-                .all(|(answer, reply)| is_reply(answer, reply)),
-    )
+    Ok(match answers.as_slice() {
+        [first, second] => {
+            is_reply(first, 200, b"accepted 1") && is_reply(second, 422, b"refused 21")
+        }
+        _ => false,
+    })
 }
 
 #[test]

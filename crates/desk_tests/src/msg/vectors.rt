@@ -1,25 +1,5 @@
 //! Texts from outside, for the tests.
 
-/// The answer to a reference that was used.
-pub const STATUS_REFUSED: &str = "\
-{4:\r\n\
-:16R:GENL\r\n\
-:20C::SEME//S000000000000010\r\n\
-:23G:INST\r\n\
-:16R:LINK\r\n\
-:13A::LINK//543\r\n\
-:20C::RELA//A1\r\n\
-:16S:LINK\r\n\
-:16R:STAT\r\n\
-:25D::IPRC//REJT\r\n\
-:16R:REAS\r\n\
-:24B::REJT//NARR\r\n\
-:70D::REAS//DESK 11\r\n\
-:16S:REAS\r\n\
-:16S:STAT\r\n\
-:16S:GENL\r\n\
--}";
-
 /// What is sent to the deliverer once it settled.
 pub const CONFIRMED_DELIVERY: &str = "\
 {4:\r\n\
@@ -52,7 +32,7 @@ pub const CONFIRMED_DELIVERY: &str = "\
 :16S:SETDET\r\n\
 -}";
 
-/// The statement of an account with two securities.
+/// The statement of an account with two securities, and the most that it can hold of the second.
 pub const STATEMENT: &str = "\
 {4:\r\n\
 :16R:GENL\r\n\
@@ -75,7 +55,7 @@ pub const STATEMENT: &str = "\
 :16S:FIN\r\n\
 :16R:FIN\r\n\
 :35B:ISIN US0378331005\r\n\
-:93B::AGGR//UNIT/7,\r\n\
+:93B::AGGR//FAMT/99999999999999,\r\n\
 :16S:FIN\r\n\
 :16S:SUBSAFE\r\n\
 -}";

@@ -1,4 +1,0 @@
-mod PlainLemmas
-mod StandingLemmas
-mod ToldLemmas
-mod VerdictLemmas

@@ -1,9 +1,0 @@
-use Rattle.std.proofs.Common.{◌≡◌, ◌≤◌, ◌*◌, ◌^◌, take, sum_by}
-use Rattle.desk_rules.specs.Balances.{paid_out_by, payment_in}
-use Rattle.desk_plain.proofs.sums.totals.paid_out.Given as goal
-
-abbrev pub invariant-loop-entry : goal.invariant-loop-entry
-invariant-loop-entry l = record {
-  sum : l.total ≡ sum_by (paid_out_by (payment_in l.ccy)) (take l.entry-index l.entries);
-  small : l.total ≤ l.entry-index * 10 ^ 18;
-}

@@ -1,3 +1,0 @@
-pub mod Books
-pub mod Told
-pub mod Deciding

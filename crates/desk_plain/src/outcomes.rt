@@ -1,5 +1,0 @@
-//! What became of an entry.
-pub mod pairing;
-pub mod settlement;
-pub mod standing;
-pub mod verdict;

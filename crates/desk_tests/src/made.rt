@@ -1,0 +1,14 @@
+//! A new desk over a register in memory.
+ghost use Rattle.std.specs.Prelude.{◌≤◌};
+ghost use Rattle.desk_rules.specs.declared.limits.TheConstants.{MOST_ENTRIES};
+
+use desk_book::Desk;
+use desk_register::MemoryRegister;
+use std::alloc::Global;
+
+/// A desk that has no entry, and may hold so many.
+pub fn new_desk<R: MemoryRegister>(alloc: Global, limit: u64) -> Desk<R>
+    requires { limit ≤ MOST_ENTRIES }
+{
+    Desk::new(R::empty(alloc, limit))
+}
