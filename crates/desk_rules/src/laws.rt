@@ -122,7 +122,7 @@ pub fn accepted_fronts()
     ensures { (limit : ℕ) (front rest : List Entry) → WasAccepted limit (front ++ rest) → WasAccepted limit front }
 {}
 
-/// An entry has one verdict at most. (That it has one is what `verdict_on` of `desk_plain` shows, which computes it.)
+/// An entry has one verdict at most. (That it has one `decide` of `desk_engine` shows, over any register in memory.)
 pub fn one_verdict()
     ensures { (limit : ℕ) (books : Books) (entry : Entry) (a b : Verdict) → IsVerdict limit books entry a → IsVerdict limit books entry b → a ≡ b }
 {}
