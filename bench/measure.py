@@ -24,8 +24,8 @@ sys.dont_write_bytecode = True
 sys.path.insert(0, os.path.join(os.path.dirname(os.path.abspath(__file__)), "..", "tests"))
 
 from codes import check_digit  # noqa: E402
-from over_http import requests_of, sent_for  # noqa: E402
-from scripts import requests_in  # noqa: E402
+from lib.over_http import requests_of, sent_for  # noqa: E402
+from lib.play import requests_in  # noqa: E402
 from statements import Desk  # noqa: E402
 
 

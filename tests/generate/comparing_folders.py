@@ -1,15 +1,14 @@
 """Compares a program's `drop` with the plain program, tests/plain, on random folders."""
 
+import functools
 import os
-import sys
 import tempfile
-import time
 
-from files import left_otherwise, new_path
-from folders import PlainDesk, drop, held_in, made, others, told_of
+from lib.files import left_otherwise, new_path
+from lib.folders import PlainDesk, drop, held_in, made, others, told_of
 
 from .chance import Chance
-from .comparing import MOST_SHOWN, MOST_SHRINKING
+from .comparing import shrunk, with_files
 from .folders import random_folder
 
 TIMES = ("out", "again")
@@ -36,47 +35,24 @@ def differences(program, files):
         yield from left_otherwise(program, db, plain.sums())
 
 
-def shrunk(program, files):
-    """Files that still show a difference, and of which none can be left out, unless that takes too long."""
-    files, at = list(files), 0
-    started = time.monotonic()
-    while at < len(files) and time.monotonic() - started < MOST_SHRINKING:
-        fewer = files[:at] + files[at + 1 :]
-        if any(differences(program, fewer)):
-            files, at = fewer, 0
-        else:
-            at += 1
-    return files
-
-
-def write_out(folder, program, files):
-    """Writes a difference as a case is written, and beside it what came."""
-    plain = PlainDesk()
-    os.mkdir(folder)
+def write_out(program, files, room, name):
+    """Writes a difference as a case is written, shrunk, and beside it what came."""
+    files = shrunk(files, lambda fewer: any(differences(program, fewer)))
+    plain, folder = PlainDesk(), made(os.path.join(room, f"{name}.case"))
     made(os.path.join(folder, "in"), files)
     with new_path() as db:
-        for name, (_, answers) in zip(TIMES, taken(program, db, files)):
-            made(os.path.join(folder, name), plain.take(files).items())
-            made(os.path.join(folder, f"{name}.got"), answers.items())
+        for when, (_, answers) in zip(TIMES, taken(program, db, files)):
+            made(os.path.join(folder, when), plain.take(files).items())
+            made(os.path.join(folder, f"{when}.got"), answers.items())
 
 
-def try_folders(program, count, seed):
-    """Tries so many folders of a seed. Gives the exit status."""
-    if count < 1:
-        sys.exit(f"folder: with a count of {count} nothing is tried")
-    program = os.path.abspath(program)
-    started = time.monotonic()
-    print(f"folder: {count} of seed {seed}")
-    room, failed = None, 0
-    for number in range(count):
-        files = random_folder(Chance(seed, number))
-        found = list(differences(program, files))
-        failed += bool(found)
-        if found and failed <= MOST_SHOWN:
-            room = room or tempfile.mkdtemp(prefix="wattlepeg_differences_")
-            folder = os.path.join(room, f"folder_{seed}_{number}")
-            write_out(folder, program, shrunk(program, files))
-            print(f"folder_{seed}_{number}: {'; '.join(found)[:1000]}; see {folder}")
-    print(f"folder: {time.monotonic() - started:.0f} seconds")
-    print(f"{count - failed} passed, {failed} failed")
-    return failed != 0
+def compared_folders(program, count, seed):
+    """Compares so many folders of a seed."""
+
+    def found():
+        for number in range(count):
+            files = random_folder(Chance(seed, number))
+            difference = "; ".join(differences(program, files))[:1000]
+            yield f"folder_{seed}_{number}", difference, functools.partial(write_out, program, files)
+
+    return with_files(found())

@@ -1,16 +1,13 @@
 """Compares a program's `serve` with the plain program, tests/plain, on random streams."""
 
-import os
-import sys
-import tempfile
-import time
+import functools
 
+from lib.server import Server
 from plain.books import EMPTY
 from plain.connections import NotServed, Unfinished, asked_by, responses, served
-from server import Server
 
 from .chance import Chance
-from .comparing import MOST_SHOWN
+from .comparing import with_files, write_files
 from .streams import random_streams, sent_by
 
 
@@ -58,33 +55,20 @@ def setup_of(streams):
     return script
 
 
-def write_out(folder, name, streams, wanted, got):
+def write_out(streams, wanted, got, folder, name):
     """Writes a difference, at the last of these streams, as a case is written, and beside it what came."""
     ends = {"setup": setup_of(streams[:-1]), "stdin": sent_by(streams[-1]), "stdout": wanted, "got": got or b""}
-    for end, content in ends.items():
-        with open(os.path.join(folder, f"{name}.{end}"), "wb") as file:
-            file.write(content)
+    write_files(folder, name, ends)
 
 
-def try_streams(program, count, seed):
-    """Tries so many streams of a seed, in days of connections to one desk. Gives the exit status."""
-    if count < 1:
-        sys.exit(f"stream: with a count of {count} nothing is tried")
-    program = os.path.abspath(program)
-    started = time.monotonic()
-    print(f"stream: {count} of seed {seed}")
-    folder, failed = None, 0
-    for number, streams in days_of(count, seed):
-        wanted, got = responses(map(sent_by, streams)), answers_of(program, streams)
-        for at, (some, one) in enumerate(zip(wanted, got)):
-            if one in some:
-                continue
-            failed += 1
-            if failed <= MOST_SHOWN:
-                folder = folder or tempfile.mkdtemp(prefix="wattlepeg_differences_")
-                name = f"stream_{seed}_{number}_{at}"
-                write_out(folder, name, streams[: at + 1], some[0], one)
-                print(f"{name}: see {folder}/{name}.stdin, .stdout and .got")
-    print(f"stream: {time.monotonic() - started:.0f} seconds")
-    print(f"{count - failed} passed, {failed} failed")
-    return failed != 0
+def compared_streams(program, count, seed):
+    """Compares so many streams of a seed, in days of connections to one desk."""
+
+    def found():
+        for number, streams in days_of(count, seed):
+            wanted, got = responses(map(sent_by, streams)), answers_of(program, streams)
+            for at, (some, one) in enumerate(zip(wanted, got)):
+                difference = "" if one in some else "it answers otherwise"
+                yield f"stream_{seed}_{number}_{at}", difference, functools.partial(write_out, streams[: at + 1], some[0], one)
+
+    return with_files(found())

@@ -1,8 +1,8 @@
-"""Trials of tests/run_cases and tests/run_changes, with made-up programs."""
+"""Trials of `tests/parts/cases run` and `changes`, with made-up programs."""
 
 import os
 
-from .room import TESTS, fails, passes, run, write, write_script
+from .room import fails, part, passes, write, write_script
 
 CASE = {"args": "one\ntwo", "stdin": "given\n", "stdout": "one two given\n", "status": "3\n"}
 
@@ -18,7 +18,7 @@ READS = "read -r first", "read -r second", 'echo "${second/#x/refused }"', '[[ $
 
 def trials_of_changes(room):
     def run_changes(*changes, program="reads"):
-        return run(room, f"{TESTS}/run_changes", f"{room}/{program}", "texts", *changes)
+        return part(room, "cases changes", f"{room}/{program}", "texts", *changes)
 
     write_script(f"{room}/reads", *READS)
     write_case(f"{room}/texts", "case", {"args": "read\n", "stdin": "a\nb\nc\n", "stdout": "b\n"})
@@ -27,10 +27,10 @@ def trials_of_changes(room):
     wrong = {"read what is refused": "b|x1|read", "another number": "b|x1|refused 2", "refused what is read": "c|d|refused 1"}
     for name, row in {**wrong, "no such text": "e|f|read"}.items():
         write(f"{room}/wrong/case.changes", f"c|d|read\n{row}\n")
-        yield fails(f"changes: {name}", run_changes("wrong/case.changes"), f"failed: {row}\n1 passed, 1 failed\n")
+        yield fails(f"changes: {name}", run_changes("wrong/case.changes"), f"case.changes: {row}: ", "1 passed, 1 failed")
     write(f"{room}/other/other.changes", "c|d|read\n")
     yield fails("changes of no case", run_changes("other/other.changes"), "No such file")
-    yield fails("no changes", run(room, f"{TESTS}/run_changes", f"{room}/reads", "texts"), "there are no changes\n0 passed, 1 failed\n")
+    yield fails("no changes", run_changes(), "nothing is tried\n", "0 passed, 1 failed")
     yield fails("changes, no program", run_changes("few/case.changes", program="none"), "No such file")
 
 
@@ -38,26 +38,28 @@ def trials(room):
     yield from trials_of_changes(room)
 
     def run_cases(*folders, program="program"):
-        return run(room, f"{TESTS}/run_cases", f"{room}/{program}", *folders)
+        return part(room, "cases run", f"{room}/{program}", *folders)
 
     write_script(f"{room}/program", "read -r line", 'echo "$* $line"', "exit $(($# > 0 ? 3 : 0))")
     write_case(f"{room}/sound/below", "full", CASE)
     write_case(f"{room}/sound", "short", {"stdout": " \n"})
     yield passes("sound cases", run_cases("sound"), "2 passed, 0 failed\n")
     for end in CASE:
-        write_case(f"{room}/other_{end}", "other", {**CASE, end: "other"})
-        yield fails(f"another .{end}", run_cases(f"other_{end}"), f"case other_{end}/other: failed")
+        write_case(f"{room}/other_{end}", "other", {**CASE, end: "4" if end == "status" else "other"})
+        yield fails(f"another .{end}", run_cases(f"other_{end}"), f"case other_{end}/other: ", "0 passed, 1 failed")
     for end in ("args", "stdin", "status", "setup"):
         write_case(f"{room}/alone_{end}", "sound", CASE)
         write_case(f"{room}/alone_{end}", "alone", {end: "3\n"})
-        why = f"alone.{end}: its case has no .stdout\n1 passed, 1 failed\n"
-        yield fails(f"a .{end} without .stdout", run_cases(f"alone_{end}"), why)
+        why = "no case has such a file" if end == "setup" else "its case has no .stdout"
+        yield fails(f"a .{end} without .stdout", run_cases(f"alone_{end}"), f"alone.{end}: {why}\n", "1 passed, 1 failed")
     write_case(f"{room}/unknown", "case", {**CASE, "sdtin": ""})
-    yield fails("a file of no case", run_cases("unknown"), "case.sdtin: no case has such a file\n1 passed, 1 failed\n")
+    yield fails("a file of no case", run_cases("unknown"), "case.sdtin: no case has such a file\n", "1 passed, 1 failed")
     write_case(f"{room}/setup", "case", {**CASE, "setup": ""})
-    yield fails("a case with a .setup", run_cases("setup"), "this runner sets nothing up\n0 passed, 1 failed\n")
+    yield fails("a case with a .setup", run_cases("setup"), "case.setup: no case has such a file\n", "1 passed, 1 failed")
     os.makedirs(f"{room}/empty/below")
-    yield fails("an empty folder", run_cases("sound", "empty"), "empty/below: it has no case\n2 passed, 1 failed\n")
-    yield fails("no such folder", run_cases("sound", "none"), "folder none: there is none\n2 passed, 1 failed\n")
-    yield fails("no folder", run_cases(), "the words are PROGRAM FOLDER..\n")
-    yield fails("no program", run_cases("sound", program="none"), "\n0 passed, 2 failed\n")
+    yield fails("an empty folder", run_cases("sound", "empty"), "empty/below: it has no case\n", "2 passed, 1 failed")
+    yield fails("no such folder", run_cases("sound", "none"), "folder none: it has no case\n", "2 passed, 1 failed")
+    yield fails("no folder", run_cases(), "nothing is tried\n", "0 passed, 1 failed")
+    yield fails("no program is named", part(room, "cases run"), "the words are PROGRAM FOLDERS..\n")
+    yield fails("no word", part(room, "cases none"), "cases: the first word is one of: run, changes, ")
+    yield fails("no program", run_cases("sound", program="none"), "No such file", "0 passed, 2 failed")

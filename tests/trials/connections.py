@@ -1,6 +1,6 @@
-"""Trials of tests/serve, with one case and a made-up program that serves it: as it must, and with one thing broken."""
+"""Trials of `tests/parts/http serve`, with one case and a made-up program that serves it: as it must, and with one thing broken."""
 
-from .room import TESTS, fails, passes, run, write, write_script
+from .room import fails, part, passes, write, write_script
 
 ASKED = b"GET /sums HTTP/1.1\r\n\r\n"
 ANSWERED = b'HTTP/1.1 200 OK\r\nContent-Type: text/plain\r\nConnection: close\r\n\r\n{"cash":[],"securities":[]}'
@@ -77,27 +77,27 @@ SOUND = {
 
 
 def served(room, **broken):
-    """How tests/serve ends with a program of which this is broken."""
+    """How that ends with a program of which this is broken."""
     names = "\n".join(f"{name} = {value!r}" for name, value in {**SOUND, **broken}.items())
     write(f"{room}/server.py", names + SERVER)
     write_script(f"{room}/desk", f"exec python3 {room}/server.py \"$@\"")
-    return run(room, f"{TESTS}/serve", f"{room}/desk", "cases")
+    return part(room, "http serve", f"{room}/desk", "cases")
 
 
 def trials(room):
     write(f"{room}/cases/sums.stdin", ASKED.decode())
     write(f"{room}/cases/sums.stdout", ANSWERED.decode())
     yield passes("a program that serves", served(room), "27 passed, 0 failed\n")
-    yield fails("another answer", served(room, ANSWERED=ANSWERED + b" "), "serve: cases/sums: not as it must be\n")
-    yield fails("it listens elsewhere", served(room, ELSEWHERE=1), "serve: cases/sums: not as it must be\n")
-    yield fails("it serves too few", served(room, FEWER=-1), "serve: cases/sums: not as it must be\n")
-    yield fails("it says more at its end", served(room, LAST="x"), "serve: cases/sums: not as it must be\n")
-    yield fails("it ends with another status", served(room, STATUS=1), "serve: cases/sums: not as it must be\n")
-    why = "serve: a file that is no desk's: not as it must be\n"
+    yield fails("another answer", served(room, ANSWERED=ANSWERED + b" "), "http serve: cases/sums: not as it must be\n")
+    yield fails("it listens elsewhere", served(room, ELSEWHERE=1), "http serve: cases/sums: not as it must be\n")
+    yield fails("it serves too few", served(room, FEWER=-1), "http serve: cases/sums: not as it must be\n")
+    yield fails("it says more at its end", served(room, LAST="x"), "http serve: cases/sums: not as it must be\n")
+    yield fails("it ends with another status", served(room, STATUS=1), "http serve: cases/sums: not as it must be\n")
+    why = "http serve: a file that is no desk's: not as it must be\n"
     yield fails("another fault of a file", served(room, NOT_OURS="fault 51"), why)
-    why = "serve: a file that is no desk's, and a port that is in use: not as it must be\n"
+    why = "http serve: a file that is no desk's, and a port that is in use: not as it must be\n"
     yield fails("a port that is looked at before the file", served(room, PORT_FIRST=True), why)
-    why = "serve: a file, and a port that is in use: not as it must be\n"
+    why = "http serve: a file, and a port that is in use: not as it must be\n"
     yield fails("a log that is left", served(room, BESIDE="-wal"), why)
-    yield fails("a reset", served(room, READS_ON=False), "serve: the rest of a long body: not as it must be\n")
-    yield fails("another refusal", served(room, REFUSED=ANSWERED), "serve: a long body by 1000: not as it must be\n")
+    yield fails("a reset", served(room, READS_ON=False), "http serve: the rest of a long body: [Errno ")
+    yield fails("another refusal", served(room, REFUSED=ANSWERED), "http serve: a long body by 1000: not as it must be\n")

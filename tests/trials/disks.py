@@ -1,16 +1,16 @@
-"""Trials of tests/refuse_disk, with a made-up program that plays requests on a file: as it must, and with one thing broken."""
+"""Trials of `tests/parts/refuse disk`, with a made-up program that plays requests on a file: as it must, and with one thing broken."""
 
 import sys
 
-from .room import TESTS, fails, passes, run, write, write_script
+from .room import TESTS, fails, part, passes, write, write_script
 
 # keeps each request as a line, behind a call by which it is as if not asked and before one by which nobody can say
 PLAYS = """
 import os, sys
 sys.dont_write_bytecode = True
 sys.path.insert(0, TESTS)
-from refusing import CLOSED, TELLS_CLOSED, TELLS_UNCLOSED, UNDONE
-from scripts import requests_in
+from lib.refusing import CLOSED, TELLS_CLOSED, TELLS_UNCLOSED, UNDONE
+from lib.play import requests_in
 db = sys.argv[3]
 log, answers, is_closed = db + "-wal", [], False
 
@@ -72,19 +72,19 @@ FIT, UNFIT = "2", "4"
 
 
 def refused(room, step, **broken):
-    """How tests/refuse_disk ends, with this step, on a program of which this is broken."""
+    """How that ends, with this step, on a program of which this is broken."""
     names = "\n".join(f"{name} = {value!r}" for name, value in {"TESTS": TESTS, **RIGHT, **broken}.items())
     write(f"{room}/plays.py", names + PLAYS)
     # nothing but the library that fails calls is in its surroundings
     write_script(f"{room}/desk", f'exec {sys.executable} -S {room}/plays.py "$@"')
-    return run(room, f"{TESTS}/refuse_disk", f"{room}/desk:play --db", f"{room}/script", step)
+    return part(room, "refuse disk", f"{room}/desk:play --db", f"{room}/script", step)
 
 
 def trials(room):
     write(f"{room}/script", SCRIPT)
     yield passes("calls fail", refused(room, FIT), "\n40 passed, 0 failed\n")
-    why = "no failure led to this: {!r} at {}\n"
-    yield fails("a program that never tells 62", refused(room, FIT, CLOSES=False), why.format(b"500\nfault 62\n.\n", 0))
-    yield fails("one that never tells of a close", refused(room, FIT, LOOKS=False), why.format(b"fault 61\n", 3))
+    why = "no failure led to this: ({}, {!r})\n"
+    yield fails("a program that never tells 62", refused(room, FIT, CLOSES=False), why.format(0, b"500\nfault 62\n.\n"))
+    yield fails("one that never tells of a close", refused(room, FIT, LOOKS=False), why.format(3, b"fault 61\n"))
     yield fails("one that goes on behind 62", refused(room, FIT, STAYS_CLOSED=False), "fault 62\\n.\\n200\\naccepted ")
-    yield fails("a step that passes over a fault", refused(room, UNFIT), why.format(b"500\nfault 61\n.\n", 0))
+    yield fails("a step that passes over a fault", refused(room, UNFIT), why.format(0, b"500\nfault 61\n.\n"))

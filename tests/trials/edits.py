@@ -1,8 +1,8 @@
-"""Trials of tests/edits_apply, in a repository of their own."""
+"""Trials of `tests/parts/gate edits`, in a repository of their own."""
 
 import os
 
-from .room import copy, fails, passes, run, write
+from .room import copy_gate, fails, passes, run, write
 
 OF_THE_GATE = "crates/one/must-fail/of_the_gate.edit"
 ASIDE = "tests/wrong_bodies/one.edits"
@@ -38,7 +38,7 @@ FAULTS_ASIDE = {
     "no name": (SOUND_ASIDE.replace("One is two\n", ""), "a line has no sign, or stands before any file:  fn one"),
     "a name alone": ("One is two\n", "it changes no place"),
     "two places on one line": (SOUND_ASIDE + "file: src/lib.rt\n-    let a = 1;\n", "two of its places share a line"),
-    "two of one name": (f"{SOUND_ASIDE}\n{SOUND_ASIDE}", "edits_apply: one: One is two: 2 have this name"),
+    "two of one name": (f"{SOUND_ASIDE}\n{SOUND_ASIDE}", "gate edits: one: One is two: 2 have this name"),
     "the name of one of the gate": (SOUND_ASIDE.replace("One is two", "Of the gate"), "one: Of the gate: 2 have this name"),
 }
 
@@ -48,10 +48,9 @@ def trials(room):
         """How the script ends where a file of edits has this text, and the others are sound."""
         for other, sound in (OF_THE_GATE, SOUND), (ASIDE, SOUND_ASIDE + OTHER_ASIDE), (OF_THE_PLAIN, ""):
             write(f"{room}/{other}", text if other == path else sound)
-        return run(room, "tests/edits_apply")
+        return run(room, "tests/parts/gate", "edits")
 
-    for script in "tests/edits_apply", "tests/edits.py":
-        copy(script, room)
+    copy_gate(room)
     write(f"{room}/crates/one/src/lib.rt", BODY)
     write(f"{room}/tests/plain/one.py", "one = 1\n")
     yield passes("those that can be planted", tried(SOUND, OF_THE_GATE), "3 passed, 0 failed\n")

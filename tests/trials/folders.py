@@ -1,8 +1,8 @@
-"""Trials of the scripts that take folders, with made-up programs: sound ones, and ones with something broken."""
+"""Trials of the parts that take folders, with made-up programs: sound ones, and ones with something broken."""
 
 import os
 
-from .room import TESTS, fails, passes, run, write, write_script
+from .room import TESTS, fails, part, passes, run, write, write_script
 
 # takes folders in which each name says nothing; what is broken is defined
 TAKES = r"""#define _GNU_SOURCE
@@ -170,7 +170,7 @@ def write_case(room, case, **folders):
 
 def trials_of_cases(room, takes):
     def cases(*words, program=takes):
-        return run(room, f"{TESTS}/drop_cases", program, *words)
+        return part(room, "cases drop", program, *words)
 
     notes, refused = {"notes": "x", "Notes": ""}, "422\nrefused 40\n.\n"
     answers = {"notes.out": refused, "Notes.out": refused}
@@ -186,12 +186,12 @@ def trials_of_cases(room, takes):
     yield passes("sound cases", cases("sound"), "2 passed, 0 failed\n")
     for name, why in {"other": "notes.out", "fewer": "Notes.out", "more": "other.out"}.items():
         yield fails(f"a folder of answers, {name}", cases(name), f"the first time the answers are others: {why};")
-    yield fails("another second time", cases("again"), "; the second time the answers are others: Notes.out\n0 passed, 1 failed\n")
-    yield fails("a folder of no case", cases("strange"), "no case has this: agian\n0 passed, 1 failed\n")
-    yield fails("a case without in", cases("nothing"), "it has no folder in\n0 passed, 1 failed\n")
-    yield fails("no case", cases("sound", "empty"), "empty: it has no case\n2 passed, 1 failed\n")
-    yield fails("no folder", cases("none"), "none: it has no case\n0 passed, 1 failed\n")
-    yield fails("no word", cases(), "the words are PROGRAM FOLDER..\n")
+    yield fails("another second time", cases("again"), "; the second time the answers are others: Notes.out\n", "0 passed, 1 failed")
+    yield fails("a folder of no case", cases("strange"), "no case has this: agian\n", "0 passed, 1 failed")
+    yield fails("a case without in", cases("nothing"), "it has no folder in\n", "0 passed, 1 failed")
+    yield fails("no case", cases("sound", "empty"), "empty: it has no case\n", "2 passed, 1 failed")
+    yield fails("no folder", cases("none"), "none: it has no case\n", "0 passed, 1 failed")
+    yield fails("no folder is named", cases(), "nothing is tried\n", "0 passed, 1 failed")
     yield fails("a program that prints", cases("sound", program=built(room, "prints", PRINTS=1)), "it ends with (0, b'done")
     yield fails("other names of answers", cases("sound", program=built(room, "ends", ENDS='".OUT"')), "the answers are others")
 
@@ -200,7 +200,7 @@ def trials_of_failures(room, takes):
     """Calls fail, as a folder of one file or two is taken."""
 
     def refuse(case, program=takes):
-        return run(room, f"{TESTS}/refuse_folders", program, case, "0", "0")
+        return part(room, "refuse folders", program, case, "0", "0")
 
     write_case(room, "one", **{"in": {"notes": "x"}})
     yield passes("calls fail", refuse("sound/one"), " passed, 0 failed\n")
@@ -209,14 +209,14 @@ def trials_of_failures(room, takes):
         "STOPS": (0, "failed write: there are 0 answers:"),
         "LOOKS": (0, "failed fsync: the failure is not told:"),
         "TELLS": (0, "failed open: other lines are told:"),
-        "IS_PATIENT": (0, "byte by byte, : answers are others: notes.out:"),
+        "IS_PATIENT": (0, "byte by byte: answers are others: notes.out:"),
     }.items():
         yield fails(f"calls fail, and {name} is {value}", refuse("one", built(room, name, **{name: value})), why)
 
 
 def trials_of_faults(room):
     def faults(*rooms, **broken):
-        return run(room, f"{TESTS}/drop_faults", scripted(room, **broken), *rooms)
+        return part(room, "folders faults", scripted(room, **broken), *rooms)
 
     rooms = "--in", "--out", "pipe", "UTF-8", "too long", "unfinished", "nothing odd", "link to nothing", "whose name a folder has"
     yield passes("odd folders", faults(*rooms), " passed, 0 failed\n")
@@ -230,7 +230,7 @@ def trials_of_faults(room):
         "TELLS": (["an --in that is a file"], "it ends with (3, b'fault io"),
     }.items():
         yield fails(f"odd folders, and not {name}", faults(*rooms, **{name: False}), why)
-    yield fails("no such folder is odd", faults("a name of no folder"), "there is no folder to take\n")
+    yield fails("no such folder is odd", faults("a name of no folder"), "nothing is tried\n")
 
 
 def trials(room):
@@ -242,14 +242,14 @@ def trials(room):
     yield from trials_of_failures(room, takes)
     yield from trials_of_faults(room)
     plain, sound = f"{TESTS}/plain/desk", f"{room}/sound/one"
-    yield passes("random_folders: the plain program", run(room, f"{TESTS}/random_folders", plain, "2"), "\n2 passed, 0 failed\n")
-    yield fails("random_folders: one that does nothing", run(room, f"{TESTS}/random_folders", silent, "1"), "\n0 passed, ")
-    yield fails("random_folders: no program", run(room, f"{TESTS}/random_folders", f"{room}/none", "1"), "No such file")
-    yield fails("random_folders: a count of 0", run(room, f"{TESTS}/random_folders", plain, "0"), "of 0 nothing is tried\n")
-    yield fails("drop_faults: one that does nothing", run(room, f"{TESTS}/drop_faults", silent), "no entry is made: status 0")
-    yield fails("refuse_folders: one that does nothing", run(room, f"{TESTS}/refuse_folders", silent, sound), " not\n0 passed, ")
-    yield fails("refuse_folders: no case", run(room, f"{TESTS}/refuse_folders", takes, f"{room}/none"), "No such file")
-    yield passes("many_files: one that keeps little", run(room, f"{TESTS}/many_files", takes), "\n5 passed, 0 failed\n")
+    yield passes("random folders: the plain program", part(room, "random folders", plain, "2"), "\n2 passed, 0 failed\n")
+    yield fails("random folders: one that does nothing", part(room, "random folders", silent, "1"), "\n0 passed, ")
+    yield fails("random folders: no program", part(room, "random folders", f"{room}/none", "1"), "No such file")
+    yield fails("random folders: a count of 0", part(room, "random folders", plain, "0"), "nothing is tried\n")
+    yield fails("folders faults: one that does nothing", part(room, "folders faults", silent), "no entry is made: status 0")
+    yield fails("refuse folders: one that does nothing", part(room, "refuse folders", silent, sound), "\n0 passed, ")
+    yield fails("refuse folders: no case", part(room, "refuse folders", takes, f"{room}/none"), "No such file")
+    yield passes("folders many: one that keeps little", part(room, "folders many", takes), "\n5 passed, 0 failed\n")
     keeps = built(room, "keeps", KEEPS=5000)
-    yield fails("many_files: one that keeps much", run(room, f"{TESTS}/many_files", keeps), "\n4 passed, 1 failed\n")
-    yield fails("many_files: one that does nothing", run(room, f"{TESTS}/many_files", silent), "\n0 passed, 5 failed\n")
+    yield fails("folders many: one that keeps much", part(room, "folders many", keeps), "\n4 passed, 1 failed\n")
+    yield fails("folders many: one that does nothing", part(room, "folders many", silent), "\n0 passed, 5 failed\n")

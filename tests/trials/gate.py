@@ -1,4 +1,4 @@
-"""Trials of ./test, with made-up parts."""
+"""Trials of ./test, which is tests/gate, with made-up parts."""
 
 import os
 import re
@@ -6,27 +6,31 @@ import re
 from .room import BASH, TESTS, copy, fails, passes, run, write_script
 
 TOOLS = ["rt", "python3", "gcc", "git"]
-# the one script of tests/ that counts and is not in the gate
-OUTSIDE = "wrong_programs"
 WELL = "echo '99999 passed, 0 failed'"
-# the scripts that the gate runs on the program over tables in SQL too
-SHARED = ["random_scripts", "refuse_disk", "refuse_memory", "run_cases"]
+# what the gate runs on the program over tables in SQL too
+SHARED = ["random scripts", "refuse disk", "refuse memory", "cases run"]
 TABLES = "crates/desk_bench/out/desk_bench"
 
 # each way in which a part goes wrong: how its script is changed, and what ./test says of it
 FAULTS = {
-    "runs nothing": (("99999", "0"), "tests/{} passed 0, and its least count is "),
-    "says nothing": (("echo", ": "), "tests/{} did not come to its end: status 0\n"),
-    "goes on behind its counts": (("failed'", "failed' 'and more'"), "tests/{} did not come to its end: status 0\n"),
-    "dies behind its counts": ((WELL, f"{WELL}; exit 7"), "tests/{} tells no failure and ended with status 7\n"),
+    "runs nothing": (("99999", "0"), "tests/parts/{} passed 0, and its least count is "),
+    "says nothing": (("echo", ": "), "tests/parts/{} did not come to its end: status 0\n"),
+    "goes on behind its counts": (("failed'", "failed' 'and more'"), "tests/parts/{} did not come to its end: status 0\n"),
+    "dies behind its counts": ((WELL, f"{WELL}; exit 7"), "tests/parts/{} tells no failure and ended with status 7\n"),
     "fails once": (("0 failed", "1 failed"), "9 passed, 1 failed\n"),
 }
 
 
-def parts():
-    """The scripts of tests/ of which the gate is made."""
-    paths = [f"{TESTS}/{name}" for name in sorted(os.listdir(TESTS)) if name != OUTSIDE]
-    return [os.path.basename(path) for path in paths if os.path.isfile(path) and os.access(path, os.X_OK)]
+def parts(room):
+    """The parts of which the gate is made, each with its word, as each tells its words."""
+    for kind in sorted(it for it in os.listdir(f"{TESTS}/parts") if os.access(f"{TESTS}/parts/{it}", os.X_OK)):
+        _, told = run(room, f"{TESTS}/parts/{kind}")
+        yield from (f"{kind} {word}" for word in told.partition(": the first word is one of: ")[2].strip().split(", "))
+
+
+def made(room, part):
+    """The path of what a made-up part does for a word."""
+    return f"{room}/made/{part.replace(' ', '_')}"
 
 
 def proofs(programs):
@@ -36,8 +40,8 @@ def proofs(programs):
 
 
 def trials_of_parts(room):
-    for part in parts():
-        path = f"{room}/tests/{part}"
+    for part in parts(room):
+        path = made(room, part)
         with open(path, encoding="utf-8") as file:
             sound = file.read()
         for fault, ((old, new), why) in FAULTS.items():
@@ -50,15 +54,16 @@ def trials_of_parts(room):
 
 def trials_of_tables(room):
     for part in SHARED:
-        write_script(f"{room}/tests/{part}", f"[[ $1 != {TABLES}* ]] || echo '0 passed, 0 failed'", f"[[ $1 = {TABLES}* ]] || {WELL}")
-        yield fails(f"{part} runs nothing over SQL", run(room, "./test"), f"tests/{part} passed 0, and its least count is ")
-        write_script(f"{room}/tests/{part}", WELL)
+        lines = f"[[ $1 != {TABLES}* ]] || echo '0 passed, 0 failed'", f"[[ $1 = {TABLES}* ]] || {WELL}"
+        write_script(made(room, part), *lines)
+        yield fails(f"{part} runs nothing over SQL", run(room, "./test"), f"tests/parts/{part} passed 0, and its least count is ")
+        write_script(made(room, part), WELL)
 
 
 def trials_of_groups(room):
     """Groups of parts that run beside others and are killed in the middle."""
-    for part, group in (("edits_apply", "beside_the_proofs"), ("damaged_rows", "beside_the_desk")):
-        path = f"{room}/tests/{part}"
+    for part, group in (("gate edits", "beside_the_proofs"), ("files damaged", "beside_the_desk")):
+        path = made(room, part)
         write_script(path, "kill -9 $PPID", WELL)
         yield fails(f"{group} is killed", run(room, "./test"), f"test: {group} did not come to its end\n")
         write_script(path, WELL)
@@ -72,15 +77,16 @@ def trials_of_times(room):
         status, told = run(room, "env", f"SECONDS={seconds}", "./test")
         # (a busy machine takes a minute no sooner)
         yield f"a gate that is {name}", status == 0 and bool(re.search(f"\n{wanted}\\d+ passed, 0 failed\n$", told)), (status, told)
-    write_script(f"{room}/tests/helps", "sleep 1.1", WELL)
+    write_script(made(room, "cases helps"), "sleep 1.1", WELL)
     status, told = run(room, "./test")
-    yield "a part of a second", bool(re.search(r"test: tests/helps took [12] seconds, and \d+ of the processors\n", told)), (status, told)
-    write_script(f"{room}/tests/helps", WELL)
+    took = r"test: tests/parts/cases helps took [12] seconds, and \d+ of the processors\n"
+    yield "a part of a second", bool(re.search(took, told)), (status, told)
+    write_script(made(room, "cases helps"), WELL)
 
 
 def trials_of_programs(room, programs):
     for program in programs:
-        write_script(f"{room}/tests/prove_all", *proofs(it for it in programs if it != program))
+        write_script(made(room, "gate proofs"), *proofs(it for it in programs if it != program))
         yield fails("a program of an earlier run", run(room, "./test"), f"this run built no {program}")
         os.remove(f"{room}/{program}")
         yield fails("no program", run(room, "./test"), f"this run built no {program}")
@@ -94,16 +100,18 @@ def trials_of_tools(room):
             if tool != missing:
                 write_script(f"{tools}/{tool}")
         told = re.escape(f"test: {missing} is missing; install ") + ".*\n0 passed, 1 failed\n"
-        status, text = run(room, BASH, "./test", path=tools)
+        status, text = run(room, BASH, "tests/gate", path=tools)
         yield f"no {missing}", status != 0 and bool(re.fullmatch(told, text)), (status, text)
 
 
 def trials(room):
-    with open(copy("test", room), encoding="utf-8") as file:
+    copy("test", room)
+    with open(copy("tests/gate", room), encoding="utf-8") as file:
         programs = sorted(set(re.findall(r"crates/\w+/out/\w+", file.read())))
-    for part in parts():
-        write_script(f"{room}/tests/{part}", WELL)
-    write_script(f"{room}/tests/prove_all", *proofs(programs))
+    for part in parts(room):
+        write_script(f"{room}/tests/parts/{part.split()[0]}", "word=$1", "shift", f'exec {made(room, "${0##*/} $word")} "$@"')
+        write_script(made(room, part), WELL)
+    write_script(made(room, "gate proofs"), *proofs(programs))
     write_script(f"{room}/bin/rt")
     yield passes("a sound gate", run(room, "./test"), "9 passed, 0 failed\n")
     yield from trials_of_parts(room)

@@ -1,13 +1,14 @@
-"""Trials of the scripts that make input for the program, or refuse it memory or a file, with programs that do nothing, or
+"""Trials of the parts that make input for the program, or refuse it memory or a file, with programs that do nothing, or
 little."""
 
 import contextlib
 import os
+import shutil
 import sqlite3
 
 from plain.program import answer
 
-from .room import TESTS, copy, fails, passes, run, write, write_script
+from .room import TESTS, copy, fails, part, passes, run, write, write_script
 
 SILENT = "int main(void) { return 0; }\n"
 
@@ -151,8 +152,8 @@ int main(int count, char **words)
 """
 TOLD_WELL = {"RETRIES": 0, "UNWRITTEN": 3, "LEAVES_OUT": 0, "TELLS_MORE": 0, "CHANGES": 0, "ENDS": 1}
 
-# no odd file but those that tests/odd_files makes itself, and a day of nothing
-NO_ODD_FILES = """from all_odd import *
+# no odd file but those that `tests/parts/files odd` makes itself, and a day of nothing
+NO_ODD_FILES = """from .all_odd import *
 def script_of_day():
     return b""
 def odd_files(room, day):
@@ -230,13 +231,13 @@ def trials_of_cuts(room):
         names = {"PLAIN": f"{TESTS}/plain/desk", "TESTS": TESTS, "FROM": begins}
         write(f"{room}/goes_on.py", "".join(f"{name} = {value!r}\n" for name, value in names.items()) + GOES_ON)
         write_script(f"{room}/goes_on", f'exec python3 {room}/goes_on.py "$@"')
-        return run(room, f"{TESTS}/cut_cases", f"{room}/goes_on", "cut", *step)
+        return part(room, "files cut_cases", f"{room}/goes_on", "cut", *step)
 
-    yield passes("cut_cases: each cut", cut(), "6 passed, 0 failed\n")
-    yield passes("cut_cases: one cut of each case at least", cut("9"), "2 passed, 0 failed\n")
+    yield passes("files cut_cases: each cut", cut(), "6 passed, 0 failed\n")
+    yield passes("files cut_cases: one cut of each case at least", cut("9"), "2 passed, 0 failed\n")
     why = "two.stdin, cut at byte 54: the answers are others; "
-    yield fails("cut_cases: a program that forgets what it was asked", cut("9", begins=":memory:"), why)
-    yield fails("cut_cases: no case", run(room, f"{TESTS}/cut_cases", f"{room}/goes_on", "none"), "there is no script to cut\n")
+    yield fails("files cut_cases: a program that forgets what it was asked", cut("9", begins=":memory:"), why)
+    yield fails("files cut_cases: no case", part(room, "files cut_cases", f"{room}/goes_on", "none"), "nothing is tried\n")
 
 
 def trials_of_reports(room):
@@ -246,9 +247,9 @@ def trials_of_reports(room):
     def refused(**broken):
         words = [f"-D{it}={value}" for it, value in {**TOLD_WELL, **broken}.items()]
         run(room, "gcc", "-O0", "-fno-builtin", *words, "-o", f"{room}/tells", f"{room}/tells.c")
-        return run(room, f"{TESTS}/refuse_reports", f"{room}/tells", "/dev/null")
+        return part(room, "refuse reports", f"{room}/tells", "/dev/null")
 
-    yield passes("refuse_reports: a program that tells rows", refused(), " passed, 0 failed\n")
+    yield passes("refuse reports: a program that tells rows", refused(), " passed, 0 failed\n")
     for name, (value, why) in {
         "LEAVES_OUT": (1, "report, growth 3 of 5 refused: (0,"),
         "TELLS_MORE": (1, "journal, growth 5 of 5 refused: (3,"),
@@ -257,16 +258,18 @@ def trials_of_reports(room):
         "UNWRITTEN": (1, "journal, write 2 half: (1,"),
         "RETRIES": (1, "report --json, write 4 unmade: (0,"),
     }.items():
-        yield fails(f"refuse_reports: {name} is {value}", refused(**{name: value}), why)
+        yield fails(f"refuse reports: {name} is {value}", refused(**{name: value}), why)
 
 
 def trials_of_files(room):
     """A program is let at files, of which one is not there."""
-    copy("tests/odd_files", room)
-    for name in "files.py", "folders.py", "scripts.py", "server.py", "plain":
+    for name in "files", "files_days.py", "files_odd.py":
+        copy(f"tests/parts/{name}", room)
+    for name in "generate", "plain":
         os.symlink(f"{TESTS}/{name}", f"{room}/tests/{name}")
-    os.symlink(f"{TESTS}/odd.py", f"{room}/tests/all_odd.py")
-    write(f"{room}/tests/odd.py", NO_ODD_FILES)
+    shutil.copytree(f"{TESTS}/lib", f"{room}/tests/lib")
+    os.rename(f"{room}/tests/lib/odd.py", f"{room}/tests/lib/all_odd.py")
+    write(f"{room}/tests/lib/odd.py", NO_ODD_FILES)
     with contextlib.closing(sqlite3.connect(f"{room}/tables")) as connection:
         connection.execute("PRAGMA journal_mode = WAL")
         connection.execute("CREATE TABLE register (number INTEGER PRIMARY KEY)")
@@ -275,38 +278,35 @@ def trials_of_files(room):
         names = {"TABLES": f"{room}/tables", "PLAIN": f"{TESTS}/plain/desk", "MAKES": makes, "BESIDE": beside}
         names |= {"UNTOLD": untold, "ALWAYS": always}
         write_script(f"{room}/looks", *(f"{name}={value}" for name, value in names.items()), LOOKS)
-        return run(room, "tests/odd_files", f"{room}/looks")
+        return run(room, "tests/parts/files", "odd", f"{room}/looks")
 
-    yield passes("odd_files: a program that makes no file", let_at(), " passed, 0 failed\n")
+    yield passes("files odd: a program that makes no file", let_at(), " passed, 0 failed\n")
     for word in "holdings", "sums", "report", "journal":
-        why = f"odd_files: {word} over a path with no file: the file is another\n"
-        yield fails(f"odd_files: {word} makes the file that it looks for", let_at(makes=word), why)
-    why = "odd_files: play over a database that another left: beside it stand "
-    yield fails("odd_files: a journal that is left", let_at(beside="-journal"), why)
-    why = "odd_files: {} entries, told to a {}: "
-    yield fails("odd_files: a short opening that is told", let_at(untold="15000"), why.format(19_999, "terminal"))
-    yield fails("odd_files: a long one that is not told", let_at(untold="30000"), why.format(25_000, "terminal"))
-    yield fails("odd_files: one that is told to a pipe", let_at(always="yes"), why.format(25_000, "pipe"))
+        why = f"files odd: {word} over a path with no file: the file is another\n"
+        yield fails(f"files odd: {word} makes the file that it looks for", let_at(makes=word), why)
+    why = "files odd: play over a database that another left: beside it stand "
+    yield fails("files odd: a journal that is left", let_at(beside="-journal"), why)
+    why = "files odd: {} entries, told to a {}: "
+    yield fails("files odd: a short opening that is told", let_at(untold="15000"), why.format(19_999, "terminal"))
+    yield fails("files odd: a long one that is not told", let_at(untold="30000"), why.format(25_000, "terminal"))
+    yield fails("files odd: one that is told to a pipe", let_at(always="yes"), why.format(25_000, "pipe"))
 
 
 def trials(room):
-    def tried(script, *words):
-        return run(room, f"{TESTS}/{script}", *words)
-
     plain, silent = f"{TESTS}/plain/desk", f"{room}/silent"
     write(f"{room}/silent.c", SILENT)
     run(room, "gcc", "-o", silent, f"{room}/silent.c")
-    for script in ("random_scripts", "random_reports", "random_blocks", "random_streams"):
-        yield passes(f"{script}: the plain program", tried(script, plain, "2"), "\n2 passed, 0 failed\n")
-        yield fails(f"{script}: a program that does nothing", tried(script, silent, "2"), "\n0 passed, 2 failed\n")
-        yield fails(f"{script}: no program", tried(script, f"{room}/none", "2"), "No such file")
-        yield fails(f"{script}: a count of 0", tried(script, plain, "0"), "with a count of 0 nothing is tried\n")
-    yield fails("limits: a program that does nothing", tried("limits", silent), "\n0 passed, ")
+    for script in ("random scripts", "random reports", "random blocks", "random streams"):
+        yield passes(f"{script}: the plain program", part(room, script, plain, "2"), "\n2 passed, 0 failed\n")
+        yield fails(f"{script}: a program that does nothing", part(room, script, silent, "2"), "\n0 passed, 2 failed\n")
+        yield fails(f"{script}: no program", part(room, script, f"{room}/none", "2"), "No such file")
+        yield fails(f"{script}: a count of 0", part(room, script, plain, "0"), "nothing is tried\n")
+    yield fails("cases limits: a program that does nothing", part(room, "cases limits", silent), "\n0 passed, ")
     # no growth of memory can be refused to a program that asks for none
     write(f"{room}/script", "sums\n")
     write(f"{room}/case.stdout")
-    yield fails("refuse_memory: a program that does nothing", tried("refuse_memory", silent, "script"), "1 requests are answered: status 0, []\n")
-    yield fails("refuse_memory: no script", tried("refuse_memory", silent), "there is no script to play\n")
+    yield fails("refuse memory: a program that does nothing", part(room, "refuse memory", silent, "script"), "1 requests are answered: status 0, []\n")
+    yield fails("refuse memory: no script", part(room, "refuse memory", silent), "nothing is tried\n")
     write(f"{room}/asked.c", ASKED)
     asked = {
         "keeps what it had": ("malloc(1)", 0, passes, "7 passed, 0 failed"),
@@ -316,35 +316,35 @@ def trials(room):
     for at, (name, (growth, loses, told, ended)) in enumerate(asked.items()):
         words = ["-O0", "-fno-builtin", f"-DGROWTH={growth}", f"-DLOSES={loses}"]
         run(room, "gcc", *words, "-o", f"{room}/asked_{at}", f"{room}/asked.c")
-        yield told(f"refuse_memory: a program that {name}", tried("refuse_memory", f"{room}/asked_{at}", "script"), f"\n{ended}\n")
-    yield fails("refuse_http: a program that does nothing", tried("refuse_http", silent, "script"), "status 0, [b'']\n")
-    yield fails("refuse_http: no script", tried("refuse_http", silent), "there is no script to ask\n")
+        yield told(f"refuse memory: a program that {name}", part(room, "refuse memory", f"{room}/asked_{at}", "script"), f"\n{ended}\n")
+    yield fails("refuse http: a program that does nothing", part(room, "refuse http", silent, "script"), "status 0, [b'']\n")
+    yield fails("refuse http: no script", part(room, "refuse http", silent), "nothing is tried\n")
     write(f"{room}/opens.c", OPENS)
     for name, stops in (("stops", "-DSTOPS=1"), ("goes_on", "-DSTOPS=0")):
         run(room, "gcc", stops, "-o", f"{room}/{name}", f"{room}/opens.c")
     for name, told, ended in (("stops", passes, "10 passed, 0 failed"), ("goes_on", fails, "5 passed, 6 failed")):
-        ran = tried("refuse_disk", f"{room}/{name}", "script")
-        yield told(f"refuse_disk: a program that cannot open its file and {name}", ran, f"\n{ended}\n")
+        ran = part(room, "refuse disk", f"{room}/{name}", "script")
+        yield told(f"refuse disk: a program that cannot open its file and {name}", ran, f"\n{ended}\n")
     write(f"{room}/settles.c", SETTLES)
     for undoes, told, ended in ((1, passes, "20 passed, 0 failed"), (2, fails, "16 passed, 5 failed")):
         run(room, "gcc", f"-DUNDOES={undoes}", "-o", f"{room}/settles_{undoes}", f"{room}/settles.c")
-        ran = tried("refuse_disk", f"{room}/settles_{undoes}", "script")
-        yield told(f"refuse_disk: a program that takes back call {undoes} of two", ran, f"\n{ended}\n")
-    yield fails("refuse_disk: no answer", tried("refuse_disk", silent, "script"), "1 requests are answered: status 0, b''")
-    yield fails("refuse_disk: no script", tried("refuse_disk", silent), "there is no script to play\n")
-    yield fails("opened_days: a program that does nothing", tried("opened_days", silent, "1"), "the file of a day is not opened: (0, b'')")
-    yield fails("refuse_opening: a program that does nothing", tried("refuse_opening", silent, "script"), "a file is not opened: (0, b'')")
-    yield fails("refuse_words: no growth", tried("refuse_words", silent, "case"), "no refusal led to this")
-    yield fails("refuse_words: no case", tried("refuse_words", silent), "there is no case to run\n")
-    yield fails("refuse_reports: no file", tried("refuse_reports", silent, "/dev/null"), "the program has made no file\n")
+        ran = part(room, "refuse disk", f"{room}/settles_{undoes}", "script")
+        yield told(f"refuse disk: a program that takes back call {undoes} of two", ran, f"\n{ended}\n")
+    yield fails("refuse disk: no answer", part(room, "refuse disk", silent, "script"), "1 requests are answered: status 0, b''")
+    yield fails("refuse disk: no script", part(room, "refuse disk", silent), "nothing is tried\n")
+    yield fails("files days: a program that does nothing", part(room, "files days", silent, "1"), "the file of a day is not opened: (0, b'')")
+    yield fails("refuse opening: a program that does nothing", part(room, "refuse opening", silent, "script"), "a file is not opened: (0, b'')")
+    yield fails("refuse words: no growth", part(room, "refuse words", silent, "case"), "no failure led to this")
+    yield fails("refuse words: no case", part(room, "refuse words", silent), "nothing is tried\n")
+    yield fails("refuse reports: no file", part(room, "refuse reports", silent, "/dev/null"), "the program has made no file\n")
     yield from trials_of_reports(room)
     yield from trials_of_cuts(room)
     yield from trials_of_files(room)
-    yield fails("refuse_words: an unknown case", tried("refuse_words", silent, "none"), "there is no none.stdout\n")
-    yield fails("refuse_register: no growth", tried("refuse_register", silent), "\n0 passed, 2 failed\n")
-    yield fails("bounded_memory: a program that does nothing", tried("bounded_memory", silent), "\n0 passed, 10 failed\n")
+    yield fails("refuse words: an unknown case", part(room, "refuse words", silent, "none"), "none.stdout")
+    yield fails("refuse register: no growth", part(room, "refuse register", silent), "\n0 passed, 2 failed\n")
+    yield fails("cases bounded_memory: a program that does nothing", part(room, "cases bounded_memory", silent), "\n0 passed, 10 failed\n")
     write(f"{room}/rows.c", ROWS)
     for name, keep in (("keeps", "-DKEEP(row)="), ("frees", "-DKEEP(row)=free(row)")):
         run(room, "gcc", "-O0", "-fno-builtin", keep, "-o", f"{room}/{name}", f"{room}/rows.c")
-    yield passes("bounded_memory: a program that keeps no row", tried("bounded_memory", f"{room}/frees"), "\n10 passed, 0 failed\n")
-    yield fails("bounded_memory: a program that keeps its rows", tried("bounded_memory", f"{room}/keeps"), "\n8 passed, 2 failed\n")
+    yield passes("cases bounded_memory: a program that keeps no row", part(room, "cases bounded_memory", f"{room}/frees"), "\n10 passed, 0 failed\n")
+    yield fails("cases bounded_memory: a program that keeps its rows", part(room, "cases bounded_memory", f"{room}/keeps"), "\n8 passed, 2 failed\n")

@@ -1,6 +1,6 @@
-"""Trials of tests/prove_all, with crates of no content and an rt that tells what the real one would."""
+"""Trials of `tests/parts/gate proofs`, with crates of no content and an rt that tells what the real one would."""
 
-from .room import copy, fails, passes, run, write, write_script
+from .room import copy_gate, fails, passes, run, write, write_script
 
 FILES = {
     "crates/low/src/lib.rt": "// no #[test] stands here\n",
@@ -24,14 +24,13 @@ COUNTS = "5 passed, 0 failed"
 
 
 def told_by_rt(room, *lines, status=0):
-    """How tests/prove_all ends where rt ci tells these lines and ends with this status."""
+    """How that ends where rt ci tells these lines and ends with this status."""
     write_script(f"{room}/bin/rt", "[ $* = ci ] || exit 2", "cat <<'TOLD'", *lines, "TOLD", f"exit {status}")
-    return run(room, "tests/prove_all")
+    return run(room, "tests/parts/gate", "proofs")
 
 
 def trials(room):
-    copy("tests/lib/rt_ci", room)
-    copy("tests/prove_all", room)
+    copy_gate(room)
     for path, text in FILES.items():
         write(f"{room}/{path}", text)
     yield passes("a sound rt ci", told_by_rt(room, *WANTED, COUNTS), f"\n{len(WANTED)} passed, 0 failed\n")
@@ -40,14 +39,14 @@ def trials(room):
     yield passes("a kept crate", ran, f"\n{len(WANTED)} passed, 0 failed\n")
     kept = kept.replace("top", "topmost")
     ran = told_by_rt(room, *[kept if it == "rt: top proved" else it for it in WANTED], COUNTS)
-    yield fails("another crate is kept", ran, "rt ci did not tell 'rt: top proved'\n6 passed, 1 failed\n")
+    yield fails("another crate is kept", ran, "gate proofs: rt: top proved: rt ci did not tell it\n", "6 passed, 1 failed")
     for line in WANTED:
         others = [it for it in WANTED if it != line]
         ran = told_by_rt(room, *others, f"note: {line}", COUNTS)
-        yield fails(f"not told: {line}", ran, f"rt ci did not tell '{line}'\n6 passed, 1 failed\n")
+        yield fails(f"not told: {line}", ran, f"gate proofs: {line}: rt ci did not tell it\n", "6 passed, 1 failed")
     yield fails("rt ci proves nothing", told_by_rt(room, COUNTS), "\n0 passed, 7 failed\n")
-    yield fails("rt ci ends with status 1", told_by_rt(room, *WANTED, COUNTS, status=1), "rt ci ended with status 1\n")
+    yield fails("rt ci ends with status 1", told_by_rt(room, *WANTED, COUNTS, status=1), "rt ci: it ended with status 1\n")
     ran = told_by_rt(room, *WANTED, "5 passed, 1 failed")
-    yield fails("rt ci counts a failure", ran, "the last line of rt ci is '5 passed, 1 failed'\n")
-    yield fails("rt ci does not count", told_by_rt(room, *WANTED), f"the last line of rt ci is '{WANTED[-1]}'\n")
-    yield fails("rt ci cannot be run", told_by_rt(room, status=127), "rt ci ended with status 127\n")
+    yield fails("rt ci counts a failure", ran, "rt ci: its last line is '5 passed, 1 failed'\n")
+    yield fails("rt ci does not count", told_by_rt(room, *WANTED), f"rt ci: its last line is '{WANTED[-1]}'\n")
+    yield fails("rt ci cannot be run", told_by_rt(room, status=127), "rt ci: it ended with status 127\n")

@@ -30,6 +30,12 @@ def copy(name, room):
     return shutil.copy(os.path.join(TOP, name), path)
 
 
+def copy_gate(room):
+    """Copies what looks at the tree, so that it looks at the room."""
+    copy("tests/parts/gate", room)
+    shutil.copytree(f"{TESTS}/lib", f"{room}/tests/lib")
+
+
 def run(room, *words, path=None):
     """Runs words in a room, whose folder bin comes first in PATH. Gives the status and all that was told."""
     surroundings = {name: text for name, text in os.environ.items() if not name.startswith("GIT_")}
@@ -39,9 +45,17 @@ def run(room, *words, path=None):
     return ran.returncode, ran.stdout
 
 
+def part(room, words, *more):
+    """Runs a word of a part of the gate in a room: part(room, "KIND WORD", WORDS..)."""
+    kind, word = words.split()
+    return run(room, f"{TESTS}/parts/{kind}", word, *more)
+
+
 def passes(name, ran, told=""):
     return name, ran[0] == 0 and told in ran[1], ran
 
 
-def fails(name, ran, why):
-    return name, ran[0] != 0 and why in ran[1] and not ran[1].endswith("passed, 0 failed\n"), ran
+def fails(name, ran, why, counts=""):
+    """A trial in which something fails and says why, and ends with these counts, where it comes to its end."""
+    is_told = why in ran[1] and (not counts or ran[1].endswith(f"\n{counts}\n"))
+    return name, ran[0] != 0 and is_told and not ran[1].endswith("passed, 0 failed\n"), ran

@@ -65,7 +65,7 @@ def trials(room):
         return f"""{HAS_ANSWER} || open '`{goal}`'"""
 
     copy("tests/wrong_bodies/run", room)
-    copy("tests/edits.py", room)
+    copy("tests/lib/edits.py", room)
     for crate in "one", "two", "without":
         write(f"{room}/crates/{crate}/src/lib.rt", SOURCE)
         write(f"{room}/crates/{crate}/proofs/first/Answers.antt", ANSWERS)

@@ -2,7 +2,7 @@
 //! a `Work`.
 //!
 //! `connection SENT RESPONSE [SETUP]`, the names of files, tries what a connection sends, and the response that is wanted,
-//! in each way in which the bytes may come and go, for tests/http_cases. The setup is a script that is played on the desk
+//! in each way in which the bytes may come and go, for `tests/parts/http cases`. The setup is a script that is played on the desk
 //! first. Each way counts; the last line says 'N passed, M failed'.
 //!
 //! `play`, or no word, plays a script from standard input on a new desk whose register is in memory and in SQL tables, which
@@ -17,16 +17,16 @@
 //! `adopt` plays a script on tables in memory, leaves a change under way in them, and takes them over again: it prints what `open`
 //! prints, behind the answers.
 //!
-//! `damaged CALL ROW [CHANGE]` tells what a call that reads the tables answers of a row, for tests/damaged_rows: ROW is a
+//! `damaged CALL ROW [CHANGE]` tells what a call that reads the tables answers of a row, for `tests/parts/files damaged`: ROW is a
 //! statement that puts it into new tables, and CHANGE one that damages it.
 //!
-//! `day STORE` asks a register a day's entries, for tests/refuse_register, which refuses it growths of memory. STORE is
+//! `day STORE` asks a register a day's entries, for `tests/parts/refuse register`, which refuses it growths of memory. STORE is
 //! `lists` or `index`.
 //!
-//! `schema FILE` opens a file and tells `ours` where its schema is the desk's, else `not ours`, for tests/opened_files.
+//! `schema FILE` opens a file and tells `ours` where its schema is the desk's, else `not ours`, for `tests/parts/files opened`.
 //!
 //! `statement COUNT` and `sums COUNT` write the statement of an account that holds so many securities, or the totals of as
-//! many, straight to standard output, for tests/bounded_memory.
+//! many, straight to standard output, for `tests/parts/cases bounded_memory`.
 //!
 //! `isin COUNT`, `number COUNT`, `block COUNT`, `lists COUNT` and `index COUNT` do one kind of the desk's work that many
 //! times and print a figure of it, so that two programs can be seen to have done the same. The text of a block comes on
