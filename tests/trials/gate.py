@@ -13,10 +13,10 @@ TABLES = "crates/desk_bench/out/desk_bench"
 
 # each way in which a part goes wrong: how its script is changed, and what ./test says of it
 FAULTS = {
-    "runs nothing": (("99999", "0"), "tests/parts/{} passed 0, and its least count is "),
-    "says nothing": (("echo", ": "), "tests/parts/{} did not come to its end: status 0\n"),
-    "goes on behind its counts": (("failed'", "failed' 'and more'"), "tests/parts/{} did not come to its end: status 0\n"),
-    "dies behind its counts": ((WELL, f"{WELL}; exit 7"), "tests/parts/{} tells no failure and ended with status 7\n"),
+    "runs nothing": (("99999", "0"), "test: {} passed 0, and its least count is "),
+    "says nothing": (("echo", ": "), "test: {} did not come to its end: status 0\n"),
+    "goes on behind its counts": (("failed'", "failed' 'and more'"), "test: {} did not come to its end: status 0\n"),
+    "dies behind its counts": ((WELL, f"{WELL}; exit 7"), "test: {} tells no failure and ended with status 7\n"),
     "fails once": (("0 failed", "1 failed"), "9 passed, 1 failed\n"),
 }
 
@@ -56,7 +56,7 @@ def trials_of_tables(room):
     for part in SHARED:
         lines = f"[[ $1 != {TABLES}* ]] || echo '0 passed, 0 failed'", f"[[ $1 = {TABLES}* ]] || {WELL}"
         write_script(made(room, part), *lines)
-        yield fails(f"{part} runs nothing over SQL", run(room, "./test"), f"tests/parts/{part} passed 0, and its least count is ")
+        yield fails(f"{part} runs nothing over SQL", run(room, "./test"), f"test: {part} passed 0, and its least count is ")
         write_script(made(room, part), WELL)
 
 
@@ -79,7 +79,7 @@ def trials_of_times(room):
         yield f"a gate that is {name}", status == 0 and bool(re.search(f"\n{wanted}\\d+ passed, 0 failed\n$", told)), (status, told)
     write_script(made(room, "cases helps"), "sleep 1.1", WELL)
     status, told = run(room, "./test")
-    took = r"test: tests/parts/cases helps took [12] seconds, and \d+ of the processors\n"
+    took = r"test: cases helps took [12] seconds, and \d+ of the processors\n"
     yield "a part of a second", bool(re.search(took, told)), (status, told)
     write_script(made(room, "cases helps"), WELL)
 
