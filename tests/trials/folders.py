@@ -2,7 +2,7 @@
 
 import os
 
-from .room import TESTS, fails, part, passes, run, write, write_script
+from .room import TESTS, build, build_silent, fails, part, passes, write, write_script
 
 # takes folders in which each name says nothing; what is broken is defined
 TAKES = r"""#define _GNU_SOURCE
@@ -147,10 +147,7 @@ RIGHT = dict.fromkeys(("REMOVES", "LOOKS", "TRIES", "MEASURES", "DECODES", "AT_O
 
 def built(room, name, **broken):
     """A program in C that takes folders, of which this is broken."""
-    write(f"{room}/takes.c", TAKES)
-    words = [f"-D{it}={value}" for it, value in {**SOUND, **broken}.items()]
-    run(room, "gcc", "-O0", "-fno-builtin", *words, "-o", f"{room}/{name}", f"{room}/takes.c")
-    return f"{room}/{name}"
+    return build(room, name, TAKES, **{**SOUND, **broken})
 
 
 def scripted(room, **broken):
@@ -234,10 +231,7 @@ def trials_of_faults(room):
 
 
 def trials(room):
-    silent = f"{room}/silent"
-    write(f"{room}/silent.c", "int main(void) { return 0; }\n")
-    run(room, "gcc", "-o", silent, f"{room}/silent.c")
-    takes = built(room, "takes")
+    silent, takes = build_silent(room), built(room, "takes")
     yield from trials_of_cases(room, takes)
     yield from trials_of_failures(room, takes)
     yield from trials_of_faults(room)

@@ -8,9 +8,7 @@ import sqlite3
 
 from plain.program import answer
 
-from .room import TESTS, copy, fails, part, passes, run, write, write_script
-
-SILENT = "int main(void) { return 0; }\n"
+from .room import TESTS, build, build_silent, copy, fails, part, passes, run, write, write_script
 
 # writes so many rows, and keeps each of them or none
 ROWS = """#include <stdlib.h>
@@ -242,12 +240,9 @@ def trials_of_cuts(room):
 
 def trials_of_reports(room):
     """Memory and writes are refused to a program that tells three rows."""
-    write(f"{room}/tells.c", TELLS)
 
     def refused(**broken):
-        words = [f"-D{it}={value}" for it, value in {**TOLD_WELL, **broken}.items()]
-        run(room, "gcc", "-O0", "-fno-builtin", *words, "-o", f"{room}/tells", f"{room}/tells.c")
-        return part(room, "refuse reports", f"{room}/tells", "/dev/null")
+        return part(room, "refuse reports", build(room, "tells", TELLS, **{**TOLD_WELL, **broken}), "/dev/null")
 
     yield passes("refuse reports: a program that tells rows", refused(), " passed, 0 failed\n")
     for name, (value, why) in {
@@ -292,59 +287,78 @@ def trials_of_files(room):
     yield fails("files odd: one that is told to a pipe", let_at(always="yes"), why.format(25_000, "pipe"))
 
 
-def trials(room):
-    plain, silent = f"{TESTS}/plain/desk", f"{room}/silent"
-    write(f"{room}/silent.c", SILENT)
-    run(room, "gcc", "-o", silent, f"{room}/silent.c")
-    for script in ("random scripts", "random reports", "random blocks", "random streams"):
-        yield passes(f"{script}: the plain program", part(room, script, plain, "2"), "\n2 passed, 0 failed\n")
-        yield fails(f"{script}: a program that does nothing", part(room, script, silent, "2"), "\n0 passed, 2 failed\n")
-        yield fails(f"{script}: no program", part(room, script, f"{room}/none", "2"), "No such file")
-        yield fails(f"{script}: a count of 0", part(room, script, plain, "0"), "nothing is tried\n")
-    yield fails("cases limits: a program that does nothing", part(room, "cases limits", silent), "\n0 passed, ")
+# what parts tell of a program that does nothing, on these words
+OF_NOTHING = {
+    "cases limits": ([], "\n0 passed, "),
+    "cases bounded_memory": ([], "\n0 passed, 10 failed\n"),
+    "files days": (["1"], "the file of a day is not opened: (0, b'')"),
     # no growth of memory can be refused to a program that asks for none
+    "refuse memory": (["script"], "1 requests are answered: status 0, []\n"),
+    "refuse http": (["script"], "status 0, [b'']\n"),
+    "refuse words": (["case"], "no failure led to this"),
+    "refuse register": ([], "\n0 passed, 2 failed\n"),
+    "refuse opening": (["script"], "a file is not opened: (0, b'')"),
+    "refuse reports": (["/dev/null"], "the program has made no file\n"),
+    "refuse disk": (["script"], "1 requests are answered: status 0, b''"),
+}
+
+# those that try nothing where no script, no case and no folder is named
+OF_SOME = ["refuse memory", "refuse http", "refuse words", "refuse disk", "cases same_tables", "http cases"]
+
+
+def trials_of_random(room, silent):
+    plain = f"{TESTS}/plain/desk"
+    for word in "random scripts", "random reports", "random blocks", "random streams":
+        yield passes(f"{word}: the plain program", part(room, word, plain, "2"), "\n2 passed, 0 failed\n")
+        yield fails(f"{word}: a program that does nothing", part(room, word, silent, "2"), "\n0 passed, 2 failed\n")
+        yield fails(f"{word}: no program", part(room, word, f"{room}/none", "2"), "No such file")
+        yield fails(f"{word}: a count of 0", part(room, word, plain, "0"), "nothing is tried\n")
+
+
+def trials_of_nothing(room, silent):
+    """Programs that do nothing, and parts that are given nothing."""
     write(f"{room}/script", "sums\n")
     write(f"{room}/case.stdout")
-    yield fails("refuse memory: a program that does nothing", part(room, "refuse memory", silent, "script"), "1 requests are answered: status 0, []\n")
-    yield fails("refuse memory: no script", part(room, "refuse memory", silent), "nothing is tried\n")
-    write(f"{room}/asked.c", ASKED)
-    asked = {
-        "keeps what it had": ("malloc(1)", 0, passes, "7 passed, 0 failed"),
-        "loses what it had": ("malloc(1)", 1, fails, "6 passed, 2 failed"),
-        "takes no memory": ("line", 0, fails, "2 passed, 5 failed"),
-    }
-    for at, (name, (growth, loses, told, ended)) in enumerate(asked.items()):
-        words = ["-O0", "-fno-builtin", f"-DGROWTH={growth}", f"-DLOSES={loses}"]
-        run(room, "gcc", *words, "-o", f"{room}/asked_{at}", f"{room}/asked.c")
-        yield told(f"refuse memory: a program that {name}", part(room, "refuse memory", f"{room}/asked_{at}", "script"), f"\n{ended}\n")
-    yield fails("refuse http: a program that does nothing", part(room, "refuse http", silent, "script"), "status 0, [b'']\n")
-    yield fails("refuse http: no script", part(room, "refuse http", silent), "nothing is tried\n")
-    write(f"{room}/opens.c", OPENS)
-    for name, stops in (("stops", "-DSTOPS=1"), ("goes_on", "-DSTOPS=0")):
-        run(room, "gcc", stops, "-o", f"{room}/{name}", f"{room}/opens.c")
-    for name, told, ended in (("stops", passes, "10 passed, 0 failed"), ("goes_on", fails, "5 passed, 6 failed")):
-        ran = part(room, "refuse disk", f"{room}/{name}", "script")
-        yield told(f"refuse disk: a program that cannot open its file and {name}", ran, f"\n{ended}\n")
-    write(f"{room}/settles.c", SETTLES)
-    for undoes, told, ended in ((1, passes, "20 passed, 0 failed"), (2, fails, "16 passed, 5 failed")):
-        run(room, "gcc", f"-DUNDOES={undoes}", "-o", f"{room}/settles_{undoes}", f"{room}/settles.c")
-        ran = part(room, "refuse disk", f"{room}/settles_{undoes}", "script")
+    for word, (words, why) in OF_NOTHING.items():
+        yield fails(f"{word}: a program that does nothing", part(room, word, silent, *words), why)
+    for word in OF_SOME:
+        yield fails(f"{word}: nothing to try", part(room, word, silent), "nothing is tried\n")
+    yield fails("refuse words: an unknown case", part(room, "refuse words", silent, "none"), "none.stdout")
+
+
+def trials_of_refusals(room):
+    """Memory is refused to a program that plays a script, and its calls on a file fail."""
+    for at, (name, told, ended, how) in enumerate([
+        ("keeps what it had", passes, "7 passed, 0 failed", {"GROWTH": "malloc(1)", "LOSES": 0}),
+        ("loses what it had", fails, "6 passed, 2 failed", {"GROWTH": "malloc(1)", "LOSES": 1}),
+        ("takes no memory", fails, "2 passed, 5 failed", {"GROWTH": "line", "LOSES": 0}),
+    ]):
+        ran = part(room, "refuse memory", build(room, f"asked_{at}", ASKED, **how), "script")
+        yield told(f"refuse memory: a program that {name}", ran, f"\n{ended}\n")
+    for stops, told, ended in (1, passes, "10 passed, 0 failed"), (0, fails, "5 passed, 6 failed"):
+        ran = part(room, "refuse disk", build(room, f"opens_{stops}", OPENS, STOPS=stops), "script")
+        yield told(f"refuse disk: a program that cannot open its file, and STOPS is {stops}", ran, f"\n{ended}\n")
+    for undoes, told, ended in (1, passes, "20 passed, 0 failed"), (2, fails, "16 passed, 5 failed"):
+        ran = part(room, "refuse disk", build(room, f"settles_{undoes}", SETTLES, UNDOES=undoes), "script")
         yield told(f"refuse disk: a program that takes back call {undoes} of two", ran, f"\n{ended}\n")
-    yield fails("refuse disk: no answer", part(room, "refuse disk", silent, "script"), "1 requests are answered: status 0, b''")
-    yield fails("refuse disk: no script", part(room, "refuse disk", silent), "nothing is tried\n")
-    yield fails("files days: a program that does nothing", part(room, "files days", silent, "1"), "the file of a day is not opened: (0, b'')")
-    yield fails("refuse opening: a program that does nothing", part(room, "refuse opening", silent, "script"), "a file is not opened: (0, b'')")
-    yield fails("refuse words: no growth", part(room, "refuse words", silent, "case"), "no failure led to this")
-    yield fails("refuse words: no case", part(room, "refuse words", silent), "nothing is tried\n")
-    yield fails("refuse reports: no file", part(room, "refuse reports", silent, "/dev/null"), "the program has made no file\n")
+
+
+def trials_of_rows(room):
+    """The memory of a program that writes rows is watched."""
+    for name, told, keep, ended in (
+        ("no row", passes, "free(row)", "10 passed, 0 failed"),
+        ("its rows", fails, "", "8 passed, 2 failed"),
+    ):
+        ran = part(room, "cases bounded_memory", build(room, "rows", ROWS, **{"KEEP(row)": keep}))
+        yield told(f"cases bounded_memory: a program that keeps {name}", ran, f"\n{ended}\n")
+
+
+def trials(room):
+    silent = build_silent(room)
+    yield from trials_of_random(room, silent)
+    yield from trials_of_nothing(room, silent)
+    yield from trials_of_refusals(room)
+    yield from trials_of_rows(room)
     yield from trials_of_reports(room)
     yield from trials_of_cuts(room)
     yield from trials_of_files(room)
-    yield fails("refuse words: an unknown case", part(room, "refuse words", silent, "none"), "none.stdout")
-    yield fails("refuse register: no growth", part(room, "refuse register", silent), "\n0 passed, 2 failed\n")
-    yield fails("cases bounded_memory: a program that does nothing", part(room, "cases bounded_memory", silent), "\n0 passed, 10 failed\n")
-    write(f"{room}/rows.c", ROWS)
-    for name, keep in (("keeps", "-DKEEP(row)="), ("frees", "-DKEEP(row)=free(row)")):
-        run(room, "gcc", "-O0", "-fno-builtin", keep, "-o", f"{room}/{name}", f"{room}/rows.c")
-    yield passes("cases bounded_memory: a program that keeps no row", part(room, "cases bounded_memory", f"{room}/frees"), "\n10 passed, 0 failed\n")
-    yield fails("cases bounded_memory: a program that keeps its rows", part(room, "cases bounded_memory", f"{room}/keeps"), "\n8 passed, 2 failed\n")

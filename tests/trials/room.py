@@ -23,6 +23,20 @@ def write_script(path, *lines):
     os.chmod(path, 0o755)
 
 
+def build(room, name, text, **defined):
+    """Builds a program in C of a text in which this is defined. Gives its path."""
+    program = f"{room}/{name}"
+    write(f"{program}.c", text)
+    words = [f"-D{it}={value}" for it, value in defined.items()]
+    run(room, "gcc", "-O0", "-fno-builtin", *words, "-o", program, f"{program}.c")
+    return program
+
+
+def build_silent(room):
+    """Builds a program that does nothing."""
+    return build(room, "silent", "int main(void) { return 0; }\n")
+
+
 def copy(name, room):
     """Copies a file of the repository to the same place in a room. Gives its path there."""
     path = os.path.join(room, name)
