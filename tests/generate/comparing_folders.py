@@ -2,10 +2,9 @@
 
 import functools
 import os
-import tempfile
 
 from lib.files import left_otherwise, new_path
-from lib.folders import PlainDesk, drop, held_in, made, others, told_of
+from lib.folders import PlainDesk, made, others, taken, told_of
 
 from .chance import Chance
 from .comparing import shrunk, with_files
@@ -14,19 +13,11 @@ from .folders import random_folder
 TIMES = ("out", "again")
 
 
-def taken(program, db, files):
-    """How a folder of these files is taken, twice over a file: each time how that ended, and the answers that stand in the
-    folder of these then."""
-    with tempfile.TemporaryDirectory() as room:
-        source, target = made(os.path.join(room, "in"), files), made(os.path.join(room, "out"), [])
-        return [(drop(program, db, source, target), held_in(target)) for _ in TIMES]
-
-
 def differences(program, files):
     """In what a program takes a folder another way than the plain program."""
     plain = PlainDesk()
     with new_path() as db:
-        for when, (ended, answers) in zip(TIMES, taken(program, db, files)):
+        for when, (ended, answers) in zip(TIMES, taken(program, db, files, len(TIMES))):
             wanted = plain.take(files)
             if ended != (0, b"", told_of(db, wanted)):
                 yield f"{when}: it ends with {ended!r} where {told_of(db, wanted)!r} is to be told"
@@ -41,7 +32,7 @@ def write_out(program, files, room, name):
     plain, folder = PlainDesk(), made(os.path.join(room, f"{name}.case"))
     made(os.path.join(folder, "in"), files)
     with new_path() as db:
-        for when, (_, answers) in zip(TIMES, taken(program, db, files)):
+        for when, (_, answers) in zip(TIMES, taken(program, db, files, len(TIMES))):
             made(os.path.join(folder, when), plain.take(files).items())
             made(os.path.join(folder, f"{when}.got"), answers.items())
 

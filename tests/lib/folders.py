@@ -8,13 +8,11 @@ import tempfile
 
 from plain.books import EMPTY
 from plain.desk import sums
-from plain.dropping import UNFINISHED, files_in, tally
+from plain.dropping import tally
 from plain.folders import take
 
 from .files import entries_in
-from .play import ran, read
-
-__all__ = ["UNFINISHED", "PlainDesk", "Room", "drop", "fails_in", "files_in", "held_in", "made", "new_room", "others", "told_of"]
+from .play import SHARED_MEMORY, ran, read
 
 # what stands in a room's folder of answers: an older answer to the first file, and something else
 OLDER, ASIDE = b"an older answer\n", b"something else\n"
@@ -61,6 +59,14 @@ def fails_in(db, told):
 def drop(program, db, source, target, surroundings=None):
     """How a folder is taken: the status, and what is printed and told."""
     return ran(program, "drop", "--db", db, "--in", source, "--out", target, surroundings=surroundings)
+
+
+def taken(program, db, files, times=1, surroundings=None):
+    """How a new folder of these files is taken over a file, so many times: each time how that ended, and the answers that stand in
+    the other folder then."""
+    with tempfile.TemporaryDirectory(dir=SHARED_MEMORY) as room:
+        source, target = made(os.path.join(room, "in"), files), made(os.path.join(room, "out"))
+        return [(drop(program, db, source, target, surroundings), held_in(target)) for _ in range(times)]
 
 
 def others(got, wanted):

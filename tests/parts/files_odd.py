@@ -24,7 +24,7 @@ import sys
 import tempfile
 
 from lib.files import dumped
-from lib.folders import drop, held_in, made, told_of
+from lib.folders import taken, told_of
 from lib.odd import A_DAY, NOT_OPENED, NOTHING, OTHER_TABLES, Due, Odd, damaged_files, held_by_another
 from lib.odd import command, left_by_kill, odd_files, script_of_day
 from lib.play import PATIENCE, SHARED_MEMORY, ran, unlike
@@ -57,11 +57,8 @@ def answers_of_plain(script):
 def dropped(program, path):
     """How a folder is taken over a file: it has one file, whose name says nothing. Its answer stands behind what was printed,
     and the line that tells how many are taken is left out."""
-    with tempfile.TemporaryDirectory() as room:
-        source, target = made(os.path.join(room, "in"), [(b"notes.txt", b"sums\n")]), made(os.path.join(room, "out"))
-        status, printed, told = drop(program, path, source, target)
-        answers = held_in(target)
-        return status, printed + b"".join(answers.values()), told.replace(told_of(path, answers), b"")
+    [((status, printed, told), answers)] = taken(program, path, [(b"notes.txt", b"sums\n")])
+    return status, printed + b"".join(answers.values()), told.replace(told_of(path, answers), b"")
 
 
 def asked(program, word, path):

@@ -15,8 +15,9 @@ import subprocess
 import sys
 
 from lib.files import left_otherwise
-from lib.folders import UNFINISHED, PlainDesk, fails_in, held_in, made, new_room, others, told_of
+from lib.folders import PlainDesk, fails_in, held_in, made, new_room, others, told_of
 from lib.play import ran, ran_with, unlike
+from plain.dropping import UNFINISHED
 
 ENTRY = b'{"op":"participant","ref":"P0","bic":"GAMMDEFF"}\n'
 FILES = [

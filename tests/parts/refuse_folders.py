@@ -28,9 +28,10 @@ import tempfile
 from pathlib import Path
 
 from lib.files import left_otherwise
-from lib.folders import UNFINISHED, PlainDesk, files_in, held_in, new_room, others, told_of
+from lib.folders import PlainDesk, held_in, new_room, others, told_of
 from lib.preload import build, failed, refused
 from lib.refusing import CLOSED, FAULT, TELLS_CLOSED, TELLS_UNCLOSED, UNDONE, in_turn, unmet
+from plain.dropping import UNFINISHED, files_in
 
 IO, MEMORY, STORAGE = b"fault io\n", b"fault 60\n", b"fault 61\n"
 
