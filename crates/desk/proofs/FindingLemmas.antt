@@ -4,7 +4,7 @@ use Rattle.std.proofs.lemmas.List.Concat.{flat_map-cons}
 use Rattle.std.specs.List.{flat_map}
 use Rattle.std.specs.Prelude.{Option, Result, Ok, Err, OnOk}
 use Rattle.std.specs.Io.KnownBytes.{Appends}
-use Rattle.desk_causes.proofs.WritingLemmas.{both}
+use Rattle.desk_words.proofs.WritingLemmas.{both}
 
 pub each_told : {X Y : Type 0} (f : Y → List ℕ) (g : X → Y) (xs : List X) → flat_map (λ x. f (g x)) xs ≡ flat_map f (map g xs)
 each_told f g [] = refl

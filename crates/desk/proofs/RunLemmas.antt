@@ -6,8 +6,8 @@ use Rattle.clap.specs.declared.error.kind.ErrorKind.{ErrorKind}
 use Rattle.clap.specs.declared.error.kind.ErrorKind.TheVariants.{OutOfMemory}
 use Rattle.desk.specs.CallAnswer.{IsAnswer, IsCallAnswer, IsMemoryTold, told_call, told_error, told_memory}
 use Rattle.desk.specs.Status.{IsFailureTold, status_of_error}
-use Rattle.desk.specs.Words.{CallValue, IsErrorIn, IsSaidBy, value_of_call}
-use Rattle.desk.specs.declared.words.calls.Call.{Call}
+use Rattle.desk_words.specs.Words.{CallValue, IsErrorIn, IsSaidBy, value_of_call}
+use Rattle.desk_words.specs.declared.calls.Call.{Call}
 use Rattle.desk.specs.declared.status.Failure.TheVariants as failure
 use Rattle.desk.specs.declared.status.Status.{Status}
 use Rattle.desk.specs.declared.status.Status.TheVariants as exit

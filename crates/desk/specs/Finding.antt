@@ -4,9 +4,7 @@ use Rattle.std.specs.List.{flat_map}
 use Rattle.std.specs.Str.{byte}
 use Rattle.desk_book.specs.Lines.{has_body, is_skipped, is_stop, said_by, script_lines}
 use Rattle.desk_text.specs.BlockGrammar.{is_printable}
-use Rattle.desk_causes.specs.declared.cause.Cause.{Cause}
-use Rattle.desk_causes.specs.declared.cause.TheConstants.{CAUSES}
-use Rattle.desk_causes.specs.Causes.{cause_with, heading_of, meaning_of, number_of_cause}
+use Rattle.desk_words.specs.Causes.{CauseValue, catalogue, cause_with, heading_of, value_of_cause}
 use Rattle.desk.specs.declared.findings.finding.Finding.{Finding}
 use Rattle.desk.specs.declared.findings.finding.TheConstants.{TOLD}
 use Rattle.desk.specs.Told.{Told}
@@ -15,11 +13,11 @@ use Rattle.desk.specs.Told.{Told}
 pub record Found : Type 0 where
   pub line : ℕ
   pub said : List ℕ
-  pub cause : Cause
+  pub cause : CauseValue
   pub rest : List ℕ
 
 abbrev pub found_by : Finding → Found
-found_by finding = record { line = finding.line; said = finding.said.now; cause = finding.cause; rest = finding.rest.now }
+found_by finding = record { line = finding.line; said = finding.said.now; cause = value_of_cause finding.cause; rest = finding.rest.now }
 
 -- a line that stands in no body, and is neither empty nor a comment, asks something
 abbrev pub asks : Bool → List ℕ → Bool
@@ -29,7 +27,7 @@ asks in_body line = not in_body && not (is_skipped (said_by line))
 abbrev pub in_body_behind : Bool → List ℕ → Bool
 in_body_behind in_body line = if in_body then not (is_stop line) else has_body (said_by line)
 
-abbrev pub with_cause : ℕ → List ℕ → List ℕ → Option Cause → List Found
+abbrev pub with_cause : ℕ → List ℕ → List ℕ → Option CauseValue → List Found
 with_cause n line rest None = []
 with_cause n line rest (Some cause) = record { line = n; said = said_by line; cause = cause; rest = rest } ∷ []
 
@@ -67,20 +65,20 @@ front_text text = map shown (take TOLD text)
 abbrev pub place_text : ℕ → List ℕ → List ℕ
 place_text line said = (codes "line " ++ decimal line ++ codes ": ") ++ front_text said
 
-abbrev pub told_text : Cause → List ℕ → List ℕ
-told_text cause rest = codes ": " ++ heading_of cause ++ front_text rest ++ codes ": " ++ meaning_of cause ++ codes "\n"
+abbrev pub told_text : CauseValue → List ℕ → List ℕ
+told_text cause rest = codes ": " ++ heading_of cause.number ++ front_text rest ++ codes ": " ++ cause.meaning ++ codes "\n"
 
 abbrev pub finding_text : Found → List ℕ
 finding_text found = place_text found.line found.said ++ told_text found.cause found.rest
 
--- how many tell this cause
-abbrev pub count_of : Cause → List Found → ℕ
-count_of cause findings = count_by (λ found. number_of_cause found.cause == number_of_cause cause) findings
+-- how many tell the cause of this number
+abbrev pub count_of : ℕ → List Found → ℕ
+count_of number findings = count_by (λ found. found.cause.number == number) findings
 
 -- the line that tells how many
-abbrev pub count_text : List Found → Cause → List ℕ
-count_text findings cause = if count_of cause findings == 0 then [] else heading_of cause ++ codes ": " ++ decimal (count_of cause findings) ++ codes "\n"
+abbrev pub count_text : List Found → ℕ → List ℕ
+count_text findings number = if count_of number findings == 0 then [] else heading_of number ++ codes ": " ++ decimal (count_of number findings) ++ codes "\n"
 
 -- each of them, and then how many tell each cause
 abbrev pub report_text : List Found → List ℕ
-report_text findings = flat_map finding_text findings ++ flat_map (count_text findings) CAUSES
+report_text findings = flat_map finding_text findings ++ flat_map (λ cause. count_text findings cause.number) catalogue

@@ -14,4 +14,3 @@ pub mod ReportAnswer
 pub mod ServeAnswer
 pub mod Status
 pub mod Told
-pub mod Words

@@ -11,7 +11,7 @@ use Rattle.desk.specs.declared.status.Status.{Status}
 use Rattle.desk.specs.declared.status.Status.TheVariants.{Done, Refused, Usage, Fault}
 use Rattle.desk.specs.declared.status.Failure.{Failure}
 use Rattle.desk.specs.declared.status.Failure.TheVariants.{NotOurFile, OtherVersion, Memory, Storage, Closed, Input}
-use Rattle.desk.specs.declared.words.helps.TheConstants.{NO_TEXT}
+use Rattle.desk_words.specs.declared.helps.TheConstants.{NO_TEXT}
 
 -- the number with which the process ends
 abbrev pub status_number : Status → ℕ

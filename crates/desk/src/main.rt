@@ -1,8 +1,8 @@
 //! The settlement desk as a program: what its words ask for, printed.
 //!
-//! It stands at the edge: what is answered comes from the crates below, whose contracts say what it is. `words`
-//! reads the words, `answers` has the answer of each subcommand, `findings` what `desk check` finds in a script,
-//! `store` opens and closes the file of a desk, of which `teller` tells people, `status` says how a run ends, and `run` joins them. Begin with `run.rt`.
+//! It stands at the edge: what is answered comes from the crates below, whose contracts say what it is. `answers` has the answer
+//! of each subcommand, `findings` what `desk check` finds in a script, `store` opens and closes the file of a desk, of which
+//! `teller` tells people, `status` says how a run ends, and `run` joins them. Begin with `run.rt`.
 #![tactic(auto)]
 
 mod answers;
@@ -12,7 +12,6 @@ mod run;
 mod status;
 mod store;
 mod teller;
-mod words;
 
 use std::io::IsTerminal;
 use std::process::ExitCode;

@@ -5,7 +5,7 @@ ghost use Rattle.std.specs.IoError.{error_kind};
 ghost use Rattle.clap.specs.Words.{kind_of};
 ghost use Rattle.desk.specs.CallAnswer.{IsAnswer, IsCallAnswer, IsMemoryTold};
 ghost use Rattle.desk.specs.Status.{IsFailureTold, IsNoWordsTold, status_of_error};
-ghost use Rattle.desk.specs.Words.{CallValue, IsAskable, ReadsOnlyInstructions, value_of_call, words_for};
+ghost use Rattle.desk_words.specs.Words.{CallValue, IsAskable, ReadsOnlyInstructions, value_of_call, words_for};
 
 use crate::answers::{
     Shown, answer_check, answer_drop, answer_explain, answer_isin, answer_overview,
@@ -13,9 +13,9 @@ use crate::answers::{
     answer_serve_on,
 };
 use crate::status::{Failure, Status, tell_failure};
-use crate::words::{Call, NO_TEXT, call_of};
 use clap::error::{Error, ErrorKind};
 use desk_streams::{Sink, Source};
+use desk_words::{Call, NO_TEXT, call_of};
 use sqlite::Unknown;
 use std::convert::AsStr;
 use std::io;

@@ -1,8 +1,9 @@
 //! How a run ends: its exit status, and the failures that are told in place of an answer.
-ghost use Rattle.std.specs.Prelude.{◌≡◌, true, IfOk, OnErr};
+ghost use Rattle.std.specs.Prelude.{◌≡◌, ◌≢◌, ◌++◌, codes, true, IfOk, OnErr};
 ghost use Rattle.std.specs.Io.KnownBytes.{Appends};
 ghost use Rattle.std.specs.Process.{exit_status};
-ghost use Rattle.desk.specs.Status.{IsFailureTold, status_number};
+ghost use Rattle.desk_words.specs.Causes.{TellsCause};
+ghost use Rattle.desk.specs.Status.{IsFailureTold, failure_line, status_number};
 
 use desk_book::{InputFault, ToFault};
 use desk_opening::OpenFault;
@@ -94,13 +95,21 @@ pub fn tell_failure<W: Sink>(failure: Failure, writer: &mut W) -> io::Result<Sta
     ensures told { IfOk result (λ status. IsFailureTold failure status (Appends (W.contents writer.old) (W.contents writer.new))) }
     ensures failed { OnErr result (W.may_fail ≡ true) }
 {
-    writer.put(match failure {
+    writer.put(line_of(failure))?;
+    Ok(Status::Fault)
+}
+
+/// The line of a failure, which tells a cause of the catalogue, or that the input failed.
+fn line_of(failure: Failure) -> &'static [u8]
+    ensures line { result.now ≡ failure_line failure ++ codes "\n" }
+    ensures explained { failure ≢ Failure.Input → TellsCause (failure_line failure) }
+{
+    match failure {
         Failure::NotOurFile => b"fault 50\n",
         Failure::OtherVersion => b"fault 51\n",
         Failure::Memory => b"fault 60\n",
         Failure::Storage => b"fault 61\n",
         Failure::Closed => b"fault 62\n",
         Failure::Input => b"fault io\n",
-    })?;
-    Ok(Status::Fault)
+    }
 }

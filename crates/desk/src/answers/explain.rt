@@ -4,9 +4,8 @@ ghost use Rattle.std.specs.Io.KnownBytes.{Appends};
 ghost use Rattle.desk.specs.ExplainAnswer.{IsExplainAnswer};
 
 use crate::status::Status;
-use crate::words::Topic;
-use desk_causes::{Cause, write_catalogue, write_cause};
 use desk_streams::Sink;
+use desk_words::{Topic, cause_of, write_catalogue, write_cause};
 use std::io;
 
 /// Prints the whole catalogue, or what a number means that is told in place of an answer, and what to do about it. A
@@ -29,7 +28,7 @@ fn explain_number<W: Sink>(number: u8, writer: &mut W) -> io::Result<Status>
     ensures told { IfOk result (λ status. IsExplainAnswer (Topic.Number number) status (Appends (W.contents writer.old) (W.contents writer.new))) }
     ensures failed { OnErr result (W.may_fail ≡ true) }
 {
-    match Cause::of_number(number) {
+    match cause_of(number) {
         Some(cause) => {
             write_cause(cause, writer)?;
             Ok(Status::Done)

@@ -2,14 +2,14 @@
 ghost use Rattle.std.specs.Prelude.{◌≡◌, ◌≤◌, [], ◌∷◌, length, map, take, true, IfOk, MatchOption, OnErr, OnOk};
 ghost use Rattle.std.specs.List.{flat_map};
 ghost use Rattle.std.specs.Io.KnownBytes.{Appends};
-ghost use Rattle.desk_causes.specs.Causes.{heading_of};
+ghost use Rattle.desk_words.specs.Causes.{heading_of, value_of_cause};
 ghost use Rattle.desk.specs.Finding.{asks as may_ask, count_of as how_many, count_text, finding_text, findings_in as all_found, found_at, found_by, found_here, front_text, in_body_behind, place_text, report_text, shown as is_shown_as, told_behind, told_text};
 ghost use Rattle.desk.specs.Told.{told_by};
 
 use super::told::Telling;
 use desk_book::{first_line, has_body, is_skipped, is_stop, said_by};
-use desk_causes::{CAUSES, Cause};
 use desk_streams::Sink;
+use desk_words::{CAUSES, Cause, cause_of};
 use std::alloc::{AllocError, Global};
 use std::io;
 
@@ -101,7 +101,7 @@ fn finding_at<'a>(line: usize, text: &'a [u8], told: &[Telling<'a>]) -> Option<F
     ensures { MatchOption result (found_at line text.entry.now (map told_by told.now) ≡ []) (λ finding. found_at line text.entry.now (map told_by told.now) ≡ found_by finding ∷ []) }
 {
     let telling = told.first()?;
-    let cause = Cause::of_number(telling.number)?;
+    let cause = cause_of(telling.number)?;
     let said = said_by(text);
     let rest = telling.rest;
     Some(Finding {
@@ -149,13 +149,13 @@ fn tell_place<W: Sink>(line: usize, said: &[u8], writer: &mut W) -> io::Result<(
 
 /// Writes what a cause is told with: its number, what stands behind it, and what it means.
 fn tell_cause<W: Sink>(cause: Cause, rest: &[u8], writer: &mut W) -> io::Result<()>
-    ensures written { OnOk result (Appends (W.contents writer.old) (W.contents writer.new) (told_text cause rest.now)) }
+    ensures written { OnOk result (Appends (W.contents writer.old) (W.contents writer.new) (told_text (value_of_cause cause.entry) rest.now)) }
     ensures failed { OnErr result (W.may_fail ≡ true) }
 {
+    let (number, meaning, _) = cause;
     writer.put(b": ")?;
-    tell_heading(cause, writer)?;
+    tell_heading(number, writer)?;
     tell_front(rest, writer)?;
-    let meaning = cause.meaning();
     writer.put_text(format_args!(": {meaning}\n"))
 }
 
@@ -204,44 +204,42 @@ fn tell_counts<W: Sink>(
     findings: &[Finding<'_>],
     writer: &mut W,
 ) -> io::Result<()>
-    ensures written { OnOk result (Appends (W.contents writer.old) (W.contents writer.new) (flat_map (count_text (map found_by findings.now)) causes.now)) }
+    ensures written { OnOk result (Appends (W.contents writer.old) (W.contents writer.new) (flat_map (λ cause. count_text (map found_by findings.now) cause.0) causes.now)) }
     ensures failed { OnErr result (W.may_fail ≡ true) }
 {
     for cause in causes {
-        tell_count(*cause, findings, writer)?;
+        tell_count(cause.0, findings, writer)?;
     }
     Ok(())
 }
 
-fn tell_count<W: Sink>(cause: Cause, findings: &[Finding<'_>], writer: &mut W) -> io::Result<()>
-    ensures written { OnOk result (Appends (W.contents writer.old) (W.contents writer.new) (count_text (map found_by findings.now) cause)) }
+fn tell_count<W: Sink>(number: u8, findings: &[Finding<'_>], writer: &mut W) -> io::Result<()>
+    ensures written { OnOk result (Appends (W.contents writer.old) (W.contents writer.new) (count_text (map found_by findings.now) number)) }
     ensures failed { OnErr result (W.may_fail ≡ true) }
 {
-    let count = count_of(cause, findings);
+    let count = count_of(number, findings);
     if count == 0 {
         return Ok(());
     }
-    tell_heading(cause, writer)?;
+    tell_heading(number, writer)?;
     writer.put_text(format_args!(": {count}\n"))
 }
 
-/// How many findings tell a cause.
-fn count_of(cause: Cause, findings: &[Finding<'_>]) -> usize
-    ensures { result ≡ how_many cause (map found_by findings.now) }
+/// How many findings tell the cause of this number.
+fn count_of(number: u8, findings: &[Finding<'_>]) -> usize
+    ensures { result ≡ how_many number (map found_by findings.now) }
 {
-    let number = cause.number();
     findings
         .iter()
-        .filter(|finding| finding.cause.number() == number)
+        .filter(|finding| finding.cause.0 == number)
         .count()
 }
 
 /// Writes `refused N` or `fault N`.
-fn tell_heading<W: Sink>(cause: Cause, writer: &mut W) -> io::Result<()>
-    ensures written { OnOk result (Appends (W.contents writer.old) (W.contents writer.new) (heading_of cause)) }
+fn tell_heading<W: Sink>(number: u8, writer: &mut W) -> io::Result<()>
+    ensures written { OnOk result (Appends (W.contents writer.old) (W.contents writer.new) (heading_of number)) }
     ensures failed { OnErr result (W.may_fail ≡ true) }
 {
-    let number = cause.number();
     let word = if number < 50 { "refused" } else { "fault" };
     writer.put_text(format_args!("{word} {number}"))
 }

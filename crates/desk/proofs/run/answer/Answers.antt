@@ -6,9 +6,9 @@ use Rattle.desk.specs.ExplainAnswer.{IsExplainAnswer}
 use Rattle.desk.specs.OverviewAnswer.{IsFileOverviewAnswer}
 use Rattle.desk.specs.ReportAnswer.{IsReportAnswer, asked_for}
 use Rattle.desk.specs.ServeAnswer.{IsFileServeAnswer}
-use Rattle.desk.specs.Words.{explain, folder, holdings, journal, report, serve, sums}
+use Rattle.desk_words.specs.Words.{explain, folder, holdings, journal, report, serve, sums}
 use Rattle.desk.specs.declared.answers.shown.Shown.TheVariants as shown
-use Rattle.desk.specs.declared.words.calls.Call.TheVariants as call
+use Rattle.desk_words.specs.declared.calls.Call.TheVariants as call
 use Rattle.desk.proofs.run.answer.Goals as goal
 
 pub returns-in-Read-clause-told : goal.returns-in-Read-clause-told

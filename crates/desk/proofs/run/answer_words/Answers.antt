@@ -1,7 +1,7 @@
 use Rattle.std.proofs.Common.{◌≡◌, None, refl}
 use Rattle.std.specs.Io.KnownBytes.{Appends}
 use Rattle.clap.specs.Words.{kind_of}
-use Rattle.desk.specs.Words.{value_of_call, play}
+use Rattle.desk_words.specs.Words.{value_of_call, play}
 use Rattle.desk.proofs.RunLemmas.{answered, error_told, memory_told, said}
 use Rattle.desk.proofs.run.answer_words.Goals as goal
 

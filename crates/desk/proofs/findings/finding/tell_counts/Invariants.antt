@@ -5,4 +5,4 @@ use Rattle.desk.specs.Finding.{count_text, found_by}
 use Rattle.desk.proofs.findings.finding.tell_counts.Given as goal
 
 abbrev pub invariant-loop-cause : goal.invariant-loop-cause
-invariant-loop-cause g l = Appends (g.W.Write.contents l.initial.writer) (g.W.Write.contents l.writer) (flat_map (count_text (map found_by l.findings)) (take l.cause-index l.causes))
+invariant-loop-cause g l = Appends (g.W.Write.contents l.initial.writer) (g.W.Write.contents l.writer) (flat_map (λ cause. count_text (map found_by l.findings) cause.0) (take l.cause-index l.causes))

@@ -1,5 +1,5 @@
 use Rattle.desk.specs.Finding.{finding_text, found_by}
-use Rattle.desk_causes.proofs.WritingLemmas.{written}
+use Rattle.desk_words.proofs.WritingLemmas.{written}
 use Rattle.desk.proofs.findings.finding.tell_lines.Goals as goal
 
 pub loop-finding-preserved : goal.loop-finding-preserved

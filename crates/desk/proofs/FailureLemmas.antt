@@ -1,0 +1,16 @@
+-- What the program tells of its own failures.
+use Rattle.std.proofs.Common.{◌≢◌, [], refl}
+use Rattle.std.specs.Fmt.{digits}
+use Rattle.desk_words.specs.Causes.{TellsCause, catalogue}
+use Rattle.desk.specs.Status.{failure_line}
+use Rattle.desk.specs.declared.status.Failure.{Failure}
+use Rattle.desk.specs.declared.status.Failure.TheVariants.{NotOurFile, OtherVersion, Memory, Storage, Closed, Input}
+
+pub failure_told : (failure : Failure) → failure ≢ Input → TellsCause (failure_line failure)
+unfolding catalogue digits
+failure_told NotOurFile no = record { number = 50; rest = []; is_explained = refl; begins = refl }
+failure_told OtherVersion no = record { number = 51; rest = []; is_explained = refl; begins = refl }
+failure_told Memory no = record { number = 60; rest = []; is_explained = refl; begins = refl }
+failure_told Storage no = record { number = 61; rest = []; is_explained = refl; begins = refl }
+failure_told Closed no = record { number = 62; rest = []; is_explained = refl; begins = refl }
+failure_told Input no = absurd (no refl)

@@ -1,6 +1,0 @@
-use Rattle.std.proofs.Common.{◌∙◌, sym}
-use Rattle.desk.proofs.ReportWords.{told_where_named}
-use Rattle.desk.proofs.words.calls.is_told.Goals as goal
-
-pub returns-else-is_empty : goal.returns-else-is_empty
-returns-else-is_empty c = c.contains.ensures.value ∙ told_where_named c.args.named.now c.args.part.now (sym c.is_empty.ensures ∙ c.if-is_empty.false)

@@ -1,2 +1,0 @@
-mod CatalogueLemmas
-pub mod WritingLemmas

@@ -1,8 +1,0 @@
-use Rattle.std.proofs.Common.{take}
-use Rattle.std.specs.List.{flat_map}
-use Rattle.std.specs.Io.KnownBytes.{Appends}
-use Rattle.desk_causes.specs.Causes.{cause_text}
-use Rattle.desk_causes.proofs.writing.write_causes.Given as goal
-
-abbrev pub invariant-loop-cause : goal.invariant-loop-cause
-invariant-loop-cause g l = Appends (g.W.Write.contents l.initial.writer) (g.W.Write.contents l.writer) (flat_map cause_text (take l.cause-index l.causes))

@@ -1,0 +1,199 @@
+-- What the parser of words makes of those of the journal: a file or none, a number or none, and the form.
+use Rattle.std.proofs.Common.{◌≡◌, ◌∙◌, ◌<◌, ◌^◌, sym, ap, ap₂, ℕ, true, false, List, [], ◌∷◌, Option, Some, None, slice_index, codes, refl, subst, arith}
+use Rattle.std.specs.Prelude.{IsSomeAnd, decimal}
+use Rattle.clap.specs.Simple.{Shape, built_leaf, names_of, entered, rows_at}
+use Rattle.clap.specs.Takes.{level_passes}
+use Rattle.clap.specs.Walk.{Row, nothing_held, walk_from}
+use Rattle.clap.specs.Words.{first_of, first_value, one_of, one_text, rows_of, subcommand_of, takes}
+use Rattle.clap.specs.declared.parser.matches.Found.{Found}
+use Rattle.clap.proofs.OnLiterals.{clap_on_literals}
+use Rattle.clap.proofs.WalkLemmas.{first_value-rows, one_text-rows}
+use Rattle.desk_words.proofs.NumberWords.{IsTaken, number_taken}
+use Rattle.desk_words.proofs.ReportWords.{IsPlainFile, built_desk, is_no_flag, one_form, passes_stopped, plain_file, stops, takes_by}
+use Rattle.desk_words.specs.Words.{CallValue, IsFormatOf, IsFrom, IsFromAskable, IsFromSpelledOut, IsNoOptionIn, IsSaid, IsSpelledOut, check, desk_app, explain, folder, holdings, isin, journal, journal_app, play, read, report, serve, sums, words_for, words_of_file, words_of_format}
+use Rattle.desk_words.specs.declared.calls.Topic.TheVariants.{Catalogue, Number}
+use Rattle.report_rows.specs.declared.format.Format.{Format}
+use Rattle.report_rows.specs.declared.format.Format.TheVariants.{Json, Text}
+
+-- what the parser knows of `journal`
+journal_shape : Shape
+journal_shape = built_leaf journal_app.top
+
+-- the words that give the number by this text, if it is given, and others
+abbrev words_of_text : Option (List ℕ) → List (List ℕ) → List (List ℕ)
+words_of_text None others = others
+words_of_text (Some text) others = codes "--from" ∷ text ∷ others
+
+-- the words behind `journal`
+abbrev words_with : Option (List ℕ) → Option (List ℕ) → Format → List (List ℕ)
+words_with db number format = words_of_file db (words_of_text number (words_of_format format []))
+
+-- the number is taken, if it is given
+IsTakenIn : Option (List ℕ) → Type 0
+IsTakenIn None = Unit {0}
+IsTakenIn (Some text) = IsTaken 999999999 text
+
+-- the words are taken
+
+passes : (db number : Option (List ℕ)) (format : Format) → IsPlainFile db → IsTakenIn number → level_passes journal_shape [] nothing_held (words_with db number format) false ≡ true
+unfolding clap_on_literals journal_shape IsPlainFile IsTakenIn
+passes None None Json file is = refl
+passes None None Text file is = refl
+passes None (Some text) Json file is = rw (is.dashes, is.long, is.short) (rw is.fits refl)
+passes None (Some text) Text file is = rw (is.dashes, is.long, is.short) (rw is.fits refl)
+passes (Some db) None Json file is = rw (file.dashes, file.long, file.short) refl
+passes (Some db) None Text file is = rw (file.dashes, file.long, file.short) refl
+passes (Some db) (Some text) Json file is = rw (file.dashes, file.long, file.short) (rw (is.dashes, is.long, is.short) (rw is.fits refl))
+passes (Some db) (Some text) Text file is = rw (file.dashes, file.long, file.short) (rw (is.dashes, is.long, is.short) (rw is.fits refl))
+
+taken_behind : (words : List (List ℕ)) → level_passes journal_shape [] nothing_held words false ≡ true → takes_by true (record (walk_from nothing_held) { stopped = Some (codes "journal", words) }) ≡ true
+unfolding clap_on_literals journal_shape built_desk takes_by
+taken_behind words passes = rw passes refl
+
+takes_words : (program : List ℕ) (words : List (List ℕ)) → level_passes journal_shape [] nothing_held words false ≡ true → takes desk_app (program ∷ codes "journal" ∷ words) ≡ true
+unfolding clap_on_literals journal_shape built_desk takes_by
+takes_words program words passes =
+    ap₂ takes_by (passes_stopped built_desk.top (names_of built_desk) (walk_from nothing_held) (codes "journal") [] words) (stops built_desk.top.rules (names_of built_desk) (walk_from nothing_held) (codes "journal") [] words)
+    ∙ taken_behind words passes
+
+pub takes_journal : (program : List ℕ) (db : Option (List ℕ)) (from : Option ℕ) (format : Format) → IsNoOptionIn db → IsFromAskable from → takes desk_app (program ∷ words_for (journal db from format)) ≡ true
+unfolding IsTakenIn
+takes_journal program db None format file is = takes_words program (words_with db None format) (passes db None format (plain_file db file) tt)
+takes_journal program db (Some number) format file is =
+    takes_words program (words_with db (Some (decimal number)) format) (passes db (Some (decimal number)) format (plain_file db file) (number_taken number 999999999 is.0 is.1 (omega arith)))
+
+-- and name what is asked for
+
+-- what is found at the end says the file, the number and the form
+record IsFound (db number : Option (List ℕ)) (format : Format) (rows : List Row) : Type 0 where
+  file : first_of (codes "db") rows ≡ db
+  first : first_of (codes "from") rows ≡ number
+  one : one_of (codes "from") rows ≡ number
+  form : IsFormatOf format (one_of (codes "json") rows)
+
+finds : (db number : Option (List ℕ)) (format : Format) → IsPlainFile db → IsTakenIn number → IsFound db number format (rows_at journal_shape (words_with db number format)).1
+unfolding clap_on_literals journal_shape IsPlainFile IsTakenIn
+finds None None Json file is = record { file = refl; first = refl; one = refl; form = refl }
+finds None None Text file is = record { file = refl; first = refl; one = refl; form = is_no_flag }
+finds None (Some text) Json file is = record {
+  file = rw (is.dashes, is.long, is.short) refl;
+  first = rw (is.dashes, is.long, is.short) refl;
+  one = rw (is.dashes, is.long, is.short) (ap Some is.plain);
+  form = rw (is.dashes, is.long, is.short) refl;
+}
+finds None (Some text) Text file is = record {
+  file = rw (is.dashes, is.long, is.short) refl;
+  first = rw (is.dashes, is.long, is.short) refl;
+  one = rw (is.dashes, is.long, is.short) (ap Some is.plain);
+  form = rw (is.dashes, is.long, is.short) is_no_flag;
+}
+finds (Some db) None Json f is = record {
+  file = rw (f.dashes, f.long, f.short) refl;
+  first = rw (f.dashes, f.long, f.short) refl;
+  one = rw (f.dashes, f.long, f.short) refl;
+  form = rw (f.dashes, f.long, f.short) refl;
+}
+finds (Some db) None Text f is = record {
+  file = rw (f.dashes, f.long, f.short) refl;
+  first = rw (f.dashes, f.long, f.short) refl;
+  one = rw (f.dashes, f.long, f.short) refl;
+  form = rw (f.dashes, f.long, f.short) is_no_flag;
+}
+finds (Some db) (Some text) Json f is = record {
+  file = rw (f.dashes, f.long, f.short) (rw (is.dashes, is.long, is.short) refl);
+  first = rw (f.dashes, f.long, f.short) (rw (is.dashes, is.long, is.short) refl);
+  one = rw (f.dashes, f.long, f.short) (rw (is.dashes, is.long, is.short) (ap Some is.plain));
+  form = rw (f.dashes, f.long, f.short) (rw (is.dashes, is.long, is.short) refl);
+}
+finds (Some db) (Some text) Text f is = record {
+  file = rw (f.dashes, f.long, f.short) (rw (is.dashes, is.long, is.short) refl);
+  first = rw (f.dashes, f.long, f.short) (rw (is.dashes, is.long, is.short) refl);
+  one = rw (f.dashes, f.long, f.short) (rw (is.dashes, is.long, is.short) (ap Some is.plain));
+  form = rw (f.dashes, f.long, f.short) (rw (is.dashes, is.long, is.short) is_no_flag);
+}
+
+enters : (program : List ℕ) (words : List (List ℕ)) → subcommand_of desk_app (program ∷ codes "journal" ∷ words) ≡ Some (rows_at journal_shape words)
+unfolding clap_on_literals journal_shape built_desk
+enters program words = ap (λ w. entered built_desk w.stopped) (stops built_desk.top.rules (names_of built_desk) (walk_from nothing_held) (codes "journal") [] words)
+
+pub enters_journal : (program : List ℕ) (db : Option (List ℕ)) (from : Option ℕ) (format : Format) → IsNoOptionIn db → IsFromAskable from
+    → IsSomeAnd (subcommand_of desk_app (program ∷ words_for (journal db from format))) (λ p. IsSpelledOut (journal db from format) p.0 p.1)
+unfolding journal_shape IsTakenIn
+enters_journal program db None format file is =
+    let found = finds db None format (plain_file db file) tt in
+    let P : Option (List ℕ × List Row) → Type 0 = λ entered. IsSomeAnd entered (λ p. IsSpelledOut (journal db None format) p.0 p.1) in
+    subst P (sym (enters program (words_with db None format))) (refl, found.file, found.first, found.form)
+enters_journal program db (Some number) format file is =
+    let found = finds db (Some (decimal number)) format (plain_file db file) (number_taken number 999999999 is.0 is.1 (omega arith)) in
+    let small : number < 2 ^ 32 = omega (arith, is.1) in
+    let P : Option (List ℕ × List Row) → Type 0 = λ entered. IsSomeAnd entered (λ p. IsSpelledOut (journal db (Some number) format) p.0 p.1) in
+    subst P (sym (enters program (words_with db (Some (decimal number)) format))) (refl, found.file, (found.first, found.one, small), found.form)
+
+-- what the getters give
+
+module _ (asked : CallValue) (f : Found) where
+  -- the words of `journal`: a file or none, the number and the form
+  IsJournalNamed : CallValue → Type 0
+  IsJournalNamed a =
+      (db : Option (List ℕ)) × (from : Option ℕ) × (format : Format) × (a ≡ journal db from format) × (first_value f (codes "db") ≡ db)
+      × IsFromSpelledOut from (first_value f (codes "from")) (one_text f (codes "from")) × IsFormatOf format (one_text f (codes "json"))
+
+  number_named : (from : Option ℕ) → IsFromSpelledOut from (first_of (codes "from") (rows_of f)) (one_of (codes "from") (rows_of f)) → IsFromSpelledOut from (first_value f (codes "from")) (one_text f (codes "from"))
+  number_named None is = first_value-rows f (codes "from") ∙ is
+  number_named (Some number) is = (first_value-rows f (codes "from") ∙ is.0, one_text-rows f (codes "from") ∙ is.1, is.2)
+
+  named_journal : IsSpelledOut asked (codes "journal") (rows_of f) → IsJournalNamed asked
+  unfolding IsJournalNamed
+  named_journal named = go asked named
+    where
+      go : (a : CallValue) → IsSpelledOut a (codes "journal") (rows_of f) → IsJournalNamed a
+      go (isin code) h = let bad : 106 ≡ 105 = ap (λ t. slice_index t 0) h.0 in absurd (omega (arith, bad))
+      go (read mt) h = let bad : 106 ≡ 114 = ap (λ t. slice_index t 0) h.0 in absurd (omega (arith, bad))
+      go (play db) h = let bad : 106 ≡ 112 = ap (λ t. slice_index t 0) h.0 in absurd (omega (arith, bad))
+      go check h = let bad : 106 ≡ 99 = ap (λ t. slice_index t 0) h in absurd (omega (arith, bad))
+      go (explain Catalogue) h = let bad : 106 ≡ 101 = ap (λ t. slice_index t 0) h.0 in absurd (omega (arith, bad))
+      go (explain (Number number)) h = let bad : 106 ≡ 101 = ap (λ t. slice_index t 0) h.0 in absurd (omega (arith, bad))
+      go (serve db port count) h = let bad : 106 ≡ 115 = ap (λ t. slice_index t 0) h.0 in absurd (omega (arith, bad))
+      go (holdings db bic account) h = let bad : 106 ≡ 104 = ap (λ t. slice_index t 0) h.0 in absurd (omega (arith, bad))
+      go (sums db) h = let bad : 106 ≡ 115 = ap (λ t. slice_index t 0) h.0 in absurd (omega (arith, bad))
+      go (report db parts format) h = let bad : 106 ≡ 114 = ap (λ t. slice_index t 0) h.0 in absurd (omega (arith, bad))
+      go (journal db from format) h =
+          (db, from, format, refl, first_value-rows f (codes "db") ∙ h.1, number_named from h.2, subst (IsFormatOf format) (sym (one_text-rows f (codes "json"))) h.3)
+      go (folder db from to) h = let bad : 106 ≡ 100 = ap (λ t. slice_index t 0) h.0 in absurd (omega (arith, bad))
+
+  pub no_journal : ((from : Option ℕ) → IsFromSpelledOut from (first_value f (codes "from")) (one_text f (codes "from")) → ⊥) → IsSpelledOut asked (codes "journal") (rows_of f) → ⊥
+  unfolding IsJournalNamed
+  no_journal none named = let n = named_journal named in none n.1 n.5
+
+  pub same_journal : (db : Option (List ℕ)) (from : Option ℕ) (format : Format) → db ≡ first_value f (codes "db")
+      → ((other : Option ℕ) → IsFromSpelledOut other (first_value f (codes "from")) (one_text f (codes "from")) → from ≡ other) → IsFormatOf format (one_text f (codes "json"))
+      → IsSpelledOut asked (codes "journal") (rows_of f) → journal db from format ≡ asked
+  unfolding IsJournalNamed
+  same_journal db from format file one form named =
+      let n = named_journal named in
+      let same_file : db ≡ n.0 = file ∙ n.4 in
+      let same_number : from ≡ n.1 = one n.1 n.5 in
+      let same_form : format ≡ n.2 = one_form _ format n.2 form n.6 in
+      rw (same_file, same_number, same_form) (sym n.3)
+
+pub said_journal : (f : Found) (db : Option (List ℕ)) (from : Option ℕ) (format : Format) → db ≡ first_value f (codes "db") → IsFrom from (first_value f (codes "from")) (one_text f (codes "from"))
+    → IsFormatOf format (one_text f (codes "json")) → IsSaid (journal db from format) (codes "journal") (rows_of f)
+said_journal f db from format file number form =
+    let first : IsFrom from (first_of (codes "from") (rows_of f)) (one_text f (codes "from")) = subst (λ t. IsFrom from t (one_text f (codes "from"))) (first_value-rows f (codes "from")) number in
+    (refl, sym (first_value-rows f (codes "db")) ∙ sym file, subst (IsFrom from (first_of (codes "from") (rows_of f))) (one_text-rows f (codes "from")) first, subst (IsFormatOf format) (one_text-rows f (codes "json")) form)
+
+-- the number that is asked for is none where none was found, and the one that was
+
+pub none_asked : (from : Option ℕ) (first one : Option (List ℕ)) → None ≡ first → IsFromSpelledOut from first one → None ≡ from
+none_asked None first one none spelled = refl
+none_asked (Some number) first one none spelled = let bad : None ≡ Some (decimal number) = none ∙ spelled.0 in cc
+
+pub number_asked : (from : Option ℕ) (first one : Option (List ℕ)) (text : List ℕ) (found : ℕ) → Some text ≡ first → ((number : ℕ) → number < 2 ^ 32 → one ≡ Some (decimal number) → found ≡ number)
+    → IsFromSpelledOut from first one → Some found ≡ from
+number_asked None first one text found some same spelled = let bad : Some text ≡ None = some ∙ spelled in cc
+number_asked (Some number) first one text found some same spelled = ap Some (same number spelled.2 spelled.1)
+
+pub not_asked : (from : Option ℕ) (first one : Option (List ℕ)) (text : List ℕ) → Some text ≡ first → ((number : ℕ) → number < 2 ^ 32 → one ≡ Some (decimal number) → ⊥)
+    → IsFromSpelledOut from first one → ⊥
+not_asked None first one text some none spelled = let bad : Some text ≡ None = some ∙ spelled in cc
+not_asked (Some number) first one text some none spelled = none number spelled.2 spelled.1

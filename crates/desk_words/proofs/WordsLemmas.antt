@@ -1,0 +1,739 @@
+-- What the parser of words makes of those that ask for something, and what is taken for a call says it.
+use Rattle.std.proofs.Common.{◌≡◌, ◌&&◌, ◌∙◌, ◌⊎◌, ◌<◌, ◌^◌, inl, inr, sym, ap, ap₂, ℕ, Bool, true, false, List, [], ◌∷◌, Option, Some, None, option_map, slice_index, take, codes, refl, arith, subst}
+use Rattle.std.specs.Prelude.{IfNone, IfSome, IsSomeAnd, Ok, decimal}
+use Rattle.std.specs.Str.Parse.{IsNumeral, digits_value, without_leading_plus}
+use Rattle.std.proofs.lemmas.List.Elements.{All-head}
+use Rattle.std.proofs.lemmas.Fmt.{decimal_is_IsNumeral}
+use Rattle.std.specs.Str.{bytes_eq}
+use Rattle.clap.specs.Lexer.{long_of, short_of}
+use Rattle.std.specs.Box.{box_value}
+use Rattle.clap.specs.declared.parser.matches.ArgMatches.{ArgMatches}
+use Rattle.clap.specs.declared.parser.matches.ArgMatches.TheViews.{out-ArgMatches, out-SubCommand}
+use Rattle.clap.specs.declared.parser.matches.Found.{Found}
+use Rattle.clap.proofs.WalkLemmas.{first_value-rows, one_text-rows}
+use Rattle.clap.specs.declared.error.kind.ErrorKind.{ErrorKind}
+use Rattle.clap.specs.declared.error.kind.ErrorKind.TheVariants.{InvalidValue, OutOfMemory}
+use Rattle.clap.specs.Simple.{Shape, built_leaf, rows_at}
+use Rattle.clap.specs.Takes.{level_passes}
+use Rattle.clap.specs.Walk.{nothing_held}
+use Rattle.clap.specs.Words.{App, HasMatchesOf, IsAmong, Row, Text, fault_of, first_of, first_value, found_of, is_simple, is_simple_and_free, one_of, one_text, rows_of, subcommand_name_of, subcommand_of, subcommand_rows_of, takes}
+use Rattle.clap.proofs.OnLiterals.{clap_on_literals}
+use Rattle.desk_msg.specs.MessageType.{digits_of_type, is_instruction}
+use Rattle.desk_msg.specs.declared.mt.Mt.{Mt}
+use Rattle.desk_msg.specs.declared.mt.Mt.TheVariants.{Mt540, Mt541, Mt542, Mt543, Mt544, Mt545, Mt546, Mt547}
+use Rattle.desk_codes.specs.Bic.{IsBic, ReadsBic, party_of}
+use Rattle.desk_readable.proofs.PartLemmas.{bic_itself}
+use Rattle.desk_codes.specs.Characters.{IsCodeChar}
+use Rattle.desk_words.proofs.JournalWords.{enters_journal, takes_journal}
+use Rattle.desk_words.proofs.NumberWords.{IsTaken, no_sign, number_taken}
+use Rattle.desk_words.proofs.PlainWords.{IsPlain, no_dashes, no_long, no_short, plain_word}
+use Rattle.desk_words.proofs.ReportWords.{enters_report, enters_several, one_form, takes_report, takes_several}
+use Rattle.desk_words.specs.Words.{ArePartWords, ArePartsOf, CallValue, IsAskable, IsBicText, IsErrorIn, IsFormatOf, IsNoOption, IsNoOptionIn, IsSpelledOut, IsSaid, IsSaidBy, IsSaidIn, IsTypeText, value_of_call, desk_app, IsNumberText, IsTopic, check, explain, holdings, isin, journal, part_words_in, parts_by, play, read, report, report_words, serve, sums, serve_app, words_for, drop_app, folder}
+use Rattle.desk_report.specs.declared.part.Parts.{Parts}
+use Rattle.report_rows.specs.declared.format.Format.{Format}
+use Rattle.desk_words.specs.declared.calls.Call.{Call}
+use Rattle.desk_words.specs.declared.calls.Topic.{Topic}
+use Rattle.desk_words.specs.declared.calls.Topic.TheVariants.{Catalogue, Number}
+
+pub simple : is_simple desk_app ≡ true
+unfolding clap_on_literals
+simple = refl
+
+-- a number that is written in digits is read as that number
+module _ (n : ℕ) (small : n < 2 ^ 64) where
+  pub reads_back : (k : ℕ) → n < 2 ^ k → IsNumeral 10 (without_leading_plus (decimal n)) × (digits_value 10 (without_leading_plus (decimal n)) < 2 ^ k)
+  reads_back k fits =
+      let is = decimal_is_IsNumeral n small in
+      rw ((no_sign (decimal n) is.0).3) (is.0, rw is.1 fits)
+
+  pub read_value : digits_value 10 (without_leading_plus (decimal n)) ≡ n
+  read_value = let is = decimal_is_IsNumeral n small in rw ((no_sign (decimal n) is.0).3) is.1
+
+no_code_char : IsCodeChar 45 → ⊥
+no_code_char (inl digit) = omega (arith, digit.0, digit.1)
+no_code_char (inr capital) = omega (arith, capital.0, capital.1)
+
+-- a BIC begins with a letter or a digit
+plain_bic : (bic : List ℕ) → IsBic bic → IsPlain bic
+plain_bic bic is = plain_word bic (begins bic is)
+  where
+    begins : (b : List ℕ) → IsBic b → IsNoOption b
+    begins [] bad = absurd (elim bad.len [ inl e ↦ omega (arith, e) | inr e ↦ omega (arith, e) ])
+    begins (c ∷ rest) good = λ dash. let char : IsCodeChar c = All-head IsCodeChar c (take 3 rest) good.shaped.party in no_code_char (subst IsCodeChar dash char)
+
+-- the words are taken
+
+takes_isin : (program code : List ℕ) → bytes_eq code (45 ∷ 45 ∷ []) ≡ false → long_of code ≡ None → short_of code ≡ None → takes desk_app (program ∷ words_for (isin code)) ≡ true
+unfolding clap_on_literals
+takes_isin program code dashes long short = rw (dashes, long, short) refl
+
+takes_read : (program : List ℕ) (mt : Mt) → is_instruction mt ≡ true → takes desk_app (program ∷ words_for (read mt)) ≡ true
+unfolding clap_on_literals
+takes_read program Mt540 is = refl
+takes_read program Mt541 is = refl
+takes_read program Mt542 is = refl
+takes_read program Mt543 is = refl
+takes_read program Mt544 is = cc
+takes_read program Mt545 is = cc
+takes_read program Mt546 is = cc
+takes_read program Mt547 is = cc
+
+takes_play : (program : List ℕ) → takes desk_app (program ∷ words_for (play None)) ≡ true
+unfolding clap_on_literals
+takes_play program = refl
+
+takes_play_on : (program db : List ℕ) → IsPlain db → takes desk_app (program ∷ words_for (play (Some db))) ≡ true
+unfolding clap_on_literals
+takes_play_on program db is = rw (is.dashes, is.long, is.short) refl
+
+takes_holdings : (program db bic account : List ℕ) → IsPlain db → IsPlain bic → IsPlain account → takes desk_app (program ∷ words_for (holdings db bic account)) ≡ true
+unfolding clap_on_literals
+takes_holdings program db bic account a b c = rw (a.dashes, a.long, a.short, b.dashes, b.long, b.short, c.dashes, c.long, c.short) refl
+
+takes_sums : (program db : List ℕ) → IsPlain db → takes desk_app (program ∷ words_for (sums db)) ≡ true
+unfolding clap_on_literals
+takes_sums program db is = rw (is.dashes, is.long, is.short) refl
+
+-- what the parser knows of `drop`
+drop_shape : Shape
+drop_shape = built_leaf drop_app.top
+
+abbrev words_of_folder : List ℕ → List ℕ → List ℕ → List (List ℕ)
+words_of_folder db from to = codes "--db" ∷ db ∷ codes "--in" ∷ from ∷ codes "--out" ∷ to ∷ []
+
+takes_check : (program : List ℕ) → takes desk_app (program ∷ words_for check) ≡ true
+unfolding clap_on_literals
+takes_check program = refl
+
+takes_explain : (program : List ℕ) → takes desk_app (program ∷ words_for (explain Catalogue)) ≡ true
+unfolding clap_on_literals
+takes_explain program = refl
+
+takes_number : (program text : List ℕ) → IsTaken 99 text → takes desk_app (program ∷ codes "explain" ∷ text ∷ []) ≡ true
+unfolding clap_on_literals
+takes_number program text is = rw (is.dashes, is.long, is.short, is.fits) refl
+
+takes_service : (program port count : List ℕ) → IsTaken 65535 port → IsTaken 1000000 count
+    → takes desk_app (program ∷ codes "serve" ∷ codes "--port" ∷ port ∷ codes "--count" ∷ count ∷ []) ≡ true
+unfolding clap_on_literals
+takes_service program port count a b = rw (a.dashes, a.long, a.short) (rw a.fits (rw (b.dashes, b.long, b.short) (rw b.fits refl)))
+
+-- what the parser knows of `serve`, and the words behind it that name a file
+serve_shape : Shape
+serve_shape = built_leaf serve_app.top
+
+abbrev words_on : List ℕ → List ℕ → List ℕ → List (List ℕ)
+words_on db port count = codes "--db" ∷ db ∷ codes "--port" ∷ port ∷ codes "--count" ∷ count ∷ []
+
+and_true : (x y : Bool) → x ≡ true → y ≡ true → (x && y) ≡ true
+and_true true y is also = also
+and_true false y is also = cc
+
+passes_service_on : (db port count : List ℕ) → IsPlain db → IsTaken 65535 port → IsTaken 1000000 count → level_passes serve_shape [] nothing_held (words_on db port count) false ≡ true
+unfolding clap_on_literals serve_shape
+passes_service_on db port count f a b = rw (f.dashes, f.long, f.short) (rw (a.dashes, a.long, a.short) (rw a.fits (rw (b.dashes, b.long, b.short) (and_true _ _ (and_true _ _ b.fits refl) refl))))
+
+takes_service_on : (program db port count : List ℕ) → IsPlain db → IsTaken 65535 port → IsTaken 1000000 count → takes desk_app (program ∷ codes "serve" ∷ words_on db port count) ≡ true
+unfolding clap_on_literals serve_shape
+takes_service_on program db port count f a b = and_true (level_passes serve_shape [] nothing_held (words_on db port count) false) _ (passes_service_on db port count f a b) refl
+
+passes_folder : (db from to : List ℕ) → IsPlain db → IsPlain from → IsPlain to → level_passes drop_shape [] nothing_held (words_of_folder db from to) false ≡ true
+unfolding clap_on_literals drop_shape
+passes_folder db from to f a b = rw (f.dashes, f.long, f.short) (rw (a.dashes, a.long, a.short) (rw (b.dashes, b.long, b.short) refl))
+
+takes_folder : (program db from to : List ℕ) → IsPlain db → IsPlain from → IsPlain to → takes desk_app (program ∷ codes "drop" ∷ words_of_folder db from to) ≡ true
+unfolding clap_on_literals drop_shape
+takes_folder program db from to f a b = and_true (level_passes drop_shape [] nothing_held (words_of_folder db from to) false) _ (passes_folder db from to f a b) refl
+
+pub takes_asked : (program : List ℕ) (asked : CallValue) → IsAskable asked → takes desk_app (program ∷ words_for asked) ≡ true
+takes_asked program (isin code) other = takes_isin program code (no_dashes code other) (no_long code other) (no_short code other)
+takes_asked program (read mt) is = takes_read program mt is
+takes_asked program (play None) is = takes_play program
+takes_asked program (play (Some db)) is = takes_play_on program db (plain_word db is)
+takes_asked program check is = takes_check program
+takes_asked program (explain Catalogue) is = takes_explain program
+takes_asked program (explain (Number number)) is = takes_number program (decimal number) (number_taken number 99 is.0 is.1 (omega arith))
+takes_asked program (serve None port count) is =
+    takes_service program (decimal port) (decimal count) (number_taken port 65535 is.1.0 is.1.1 (omega arith)) (number_taken count 1000000 is.2 is.3 (omega arith))
+takes_asked program (serve (Some db) port count) is =
+    takes_service_on program db (decimal port) (decimal count) (plain_word db is.0) (number_taken port 65535 is.1.0 is.1.1 (omega arith)) (number_taken count 1000000 is.2 is.3 (omega arith))
+takes_asked program (holdings db bic account) is = takes_holdings program db bic account (plain_word db is.0) (plain_bic bic is.1) (plain_word account is.2)
+takes_asked program (sums db) is = takes_sums program db (plain_word db is)
+takes_asked program (report db parts format) is = takes_report program db parts format is.0
+takes_asked program (journal db from format) is = takes_journal program db from format is.0 is.1
+takes_asked program (folder db from to) is = takes_folder program db from to (plain_word db is.0) (plain_word from is.1) (plain_word to is.2)
+
+pub takes_nothing : (program : List ℕ) → takes desk_app (program ∷ []) ≡ true
+unfolding clap_on_literals
+takes_nothing program = refl
+
+-- and name what is asked for
+
+enters_isin : (program code : List ℕ) → bytes_eq code (45 ∷ 45 ∷ []) ≡ false → long_of code ≡ None → short_of code ≡ None
+    → IsSomeAnd (subcommand_of desk_app (program ∷ words_for (isin code))) (λ p. (p.0 ≡ codes "isin") × (first_of (codes "code") p.1 ≡ Some code))
+unfolding clap_on_literals
+enters_isin program code dashes long short = (refl, rw (dashes, long, short) refl)
+
+enters_read : (program : List ℕ) (mt : Mt) → is_instruction mt ≡ true
+    → IsSomeAnd (subcommand_of desk_app (program ∷ words_for (read mt))) (λ p. (p.0 ≡ codes "read") × (one_of (codes "mt") p.1 ≡ Some (digits_of_type mt)) × (is_instruction mt ≡ true))
+unfolding clap_on_literals
+enters_read program Mt540 is = (refl, refl, refl)
+enters_read program Mt541 is = (refl, refl, refl)
+enters_read program Mt542 is = (refl, refl, refl)
+enters_read program Mt543 is = (refl, refl, refl)
+enters_read program Mt544 is = cc
+enters_read program Mt545 is = cc
+enters_read program Mt546 is = cc
+enters_read program Mt547 is = cc
+
+enters_play : (program : List ℕ) → IsSomeAnd (subcommand_of desk_app (program ∷ words_for (play None))) (λ p. (p.0 ≡ codes "play") × (first_of (codes "db") p.1 ≡ None))
+unfolding clap_on_literals
+enters_play program = (refl, refl)
+
+enters_play_on : (program db : List ℕ) → IsPlain db
+    → IsSomeAnd (subcommand_of desk_app (program ∷ words_for (play (Some db)))) (λ p. (p.0 ≡ codes "play") × (first_of (codes "db") p.1 ≡ Some db))
+unfolding clap_on_literals
+enters_play_on program db is = (refl, rw (is.dashes, is.long, is.short) refl)
+
+enters_holdings : (program db bic account : List ℕ) → IsPlain db → IsPlain bic → IsPlain account
+    → IsSomeAnd (subcommand_of desk_app (program ∷ words_for (holdings db bic account)))
+    (λ p. (p.0 ≡ codes "holdings") × (first_of (codes "db") p.1 ≡ Some db) × (first_of (codes "bic") p.1 ≡ Some bic) × (first_of (codes "account") p.1 ≡ Some account))
+unfolding clap_on_literals
+enters_holdings program db bic account a b c = (
+  refl,
+  rw (a.dashes, a.long, a.short, b.dashes, b.long, b.short, c.dashes, c.long, c.short) refl,
+  rw (a.dashes, a.long, a.short, b.dashes, b.long, b.short, c.dashes, c.long, c.short) refl,
+  rw (a.dashes, a.long, a.short, b.dashes, b.long, b.short, c.dashes, c.long, c.short) refl,
+)
+
+enters_sums : (program db : List ℕ) → IsPlain db → IsSomeAnd (subcommand_of desk_app (program ∷ words_for (sums db))) (λ p. (p.0 ≡ codes "sums") × (first_of (codes "db") p.1 ≡ Some db))
+unfolding clap_on_literals
+enters_sums program db is = (refl, rw (is.dashes, is.long, is.short) refl)
+
+holdings_entered : (found : Option (List ℕ × List Row)) (db bic account : List ℕ) → IsBic bic
+    → IsSomeAnd found (λ p. (p.0 ≡ codes "holdings") × (first_of (codes "db") p.1 ≡ Some db) × (first_of (codes "bic") p.1 ≡ Some bic) × (first_of (codes "account") p.1 ≡ Some account))
+    → IsSomeAnd found (λ p. IsSpelledOut (holdings db bic account) p.0 p.1)
+holdings_entered None db bic account party is = is
+holdings_entered (Some p) db bic account party is = (is.0, is.1, party, is.2, is.3)
+
+enters_check : (program : List ℕ) → IsSomeAnd (subcommand_of desk_app (program ∷ words_for check)) (λ p. p.0 ≡ codes "check")
+unfolding clap_on_literals
+enters_check program = refl
+
+enters_explain : (program : List ℕ) → IsSomeAnd (subcommand_of desk_app (program ∷ words_for (explain Catalogue))) (λ p. (p.0 ≡ codes "explain") × (first_of (codes "number") p.1 ≡ None))
+unfolding clap_on_literals
+enters_explain program = (refl, refl)
+
+enters_number : (program text : List ℕ) → IsTaken 99 text
+    → IsSomeAnd (subcommand_of desk_app (program ∷ codes "explain" ∷ text ∷ [])) (λ p. (p.0 ≡ codes "explain") × (first_of (codes "number") p.1 ≡ Some text) × (one_of (codes "number") p.1 ≡ Some text))
+unfolding clap_on_literals
+enters_number program text is = (refl, rw (is.dashes, is.long, is.short) refl, rw (is.dashes, is.long, is.short, is.plain) refl)
+
+enters_service : (program port count : List ℕ) → IsTaken 65535 port → IsTaken 1000000 count
+    → IsSomeAnd (subcommand_of desk_app (program ∷ codes "serve" ∷ codes "--port" ∷ port ∷ codes "--count" ∷ count ∷ []))
+    (λ p. (p.0 ≡ codes "serve") × (first_of (codes "db") p.1 ≡ None) × (one_of (codes "port") p.1 ≡ Some port) × (one_of (codes "count") p.1 ≡ Some count))
+unfolding clap_on_literals
+enters_service program port count a b = (
+  refl,
+  rw (a.dashes, a.long, a.short, b.dashes, b.long, b.short) refl,
+  rw (a.dashes, a.long, a.short, b.dashes, b.long, b.short, a.plain) refl,
+  rw (a.dashes, a.long, a.short, b.dashes, b.long, b.short, b.plain) refl,
+)
+
+rows_on : (db port count : List ℕ) → IsPlain db → IsTaken 65535 port → IsTaken 1000000 count
+    → (first_of (codes "db") (rows_at serve_shape (words_on db port count)).1 ≡ Some db) × (one_of (codes "port") (rows_at serve_shape (words_on db port count)).1 ≡ Some port)
+    × (one_of (codes "count") (rows_at serve_shape (words_on db port count)).1 ≡ Some count)
+unfolding clap_on_literals serve_shape
+rows_on db port count f a b = (
+  rw (f.dashes, f.long, f.short) (rw (a.dashes, a.long, a.short) (rw (b.dashes, b.long, b.short) refl)),
+  rw (f.dashes, f.long, f.short) (rw (a.dashes, a.long, a.short) (rw (b.dashes, b.long, b.short) (ap Some a.plain))),
+  rw (f.dashes, f.long, f.short) (rw (a.dashes, a.long, a.short) (rw (b.dashes, b.long, b.short) (ap Some b.plain))),
+)
+
+enters_service_on : (program db port count : List ℕ) → IsPlain db → IsTaken 65535 port → IsTaken 1000000 count
+    → IsSomeAnd (subcommand_of desk_app (program ∷ codes "serve" ∷ words_on db port count))
+    (λ p. (p.0 ≡ codes "serve") × (first_of (codes "db") p.1 ≡ Some db) × (one_of (codes "port") p.1 ≡ Some port) × (one_of (codes "count") p.1 ≡ Some count))
+unfolding clap_on_literals serve_shape
+enters_service_on program db port count f a b = let rows = rows_on db port count f a b in (refl, rows.0, rows.1, rows.2)
+
+rows_of_folder : (db from to : List ℕ) → IsPlain db → IsPlain from → IsPlain to
+    → (first_of (codes "db") (rows_at drop_shape (words_of_folder db from to)).1 ≡ Some db) × (first_of (codes "in") (rows_at drop_shape (words_of_folder db from to)).1 ≡ Some from)
+    × (first_of (codes "out") (rows_at drop_shape (words_of_folder db from to)).1 ≡ Some to)
+unfolding clap_on_literals drop_shape
+rows_of_folder db from to f a b = (
+  rw (f.dashes, f.long, f.short) (rw (a.dashes, a.long, a.short) (rw (b.dashes, b.long, b.short) refl)),
+  rw (f.dashes, f.long, f.short) (rw (a.dashes, a.long, a.short) (rw (b.dashes, b.long, b.short) refl)),
+  rw (f.dashes, f.long, f.short) (rw (a.dashes, a.long, a.short) (rw (b.dashes, b.long, b.short) refl)),
+)
+
+enters_folder : (program db from to : List ℕ) → IsPlain db → IsPlain from → IsPlain to
+    → IsSomeAnd (subcommand_of desk_app (program ∷ codes "drop" ∷ words_of_folder db from to))
+    (λ p. (p.0 ≡ codes "drop") × (first_of (codes "db") p.1 ≡ Some db) × (first_of (codes "in") p.1 ≡ Some from) × (first_of (codes "out") p.1 ≡ Some to))
+unfolding clap_on_literals drop_shape
+enters_folder program db from to f a b = let rows = rows_of_folder db from to f a b in (refl, rows.0, rows.1, rows.2)
+
+number_entered : (found : Option (List ℕ × List Row)) (n : ℕ) → n < 2 ^ 8
+    → IsSomeAnd found (λ p. (p.0 ≡ codes "explain") × (first_of (codes "number") p.1 ≡ Some (decimal n)) × (one_of (codes "number") p.1 ≡ Some (decimal n)))
+    → IsSomeAnd found (λ p. IsSpelledOut (explain (Number n)) p.0 p.1)
+number_entered None n small is = is
+number_entered (Some p) n small is = (is.0, is.1, is.2, small)
+
+service_entered : (found : Option (List ℕ × List Row)) (db : Option (List ℕ)) (port count : ℕ) → port < 2 ^ 16 → count < 2 ^ 32
+    → IsSomeAnd found (λ p. (p.0 ≡ codes "serve") × (first_of (codes "db") p.1 ≡ db) × (one_of (codes "port") p.1 ≡ Some (decimal port)) × (one_of (codes "count") p.1 ≡ Some (decimal count)))
+    → IsSomeAnd found (λ p. IsSpelledOut (serve db port count) p.0 p.1)
+service_entered None db port count a b is = is
+service_entered (Some p) db port count a b is = (is.0, is.1, is.2, a, is.3, b)
+
+pub enters_asked : (program : List ℕ) (asked : CallValue) → IsAskable asked → IsSomeAnd (subcommand_of desk_app (program ∷ words_for asked)) (λ p. IsSpelledOut asked p.0 p.1)
+enters_asked program (isin code) other = enters_isin program code (no_dashes code other) (no_long code other) (no_short code other)
+enters_asked program (read mt) is = enters_read program mt is
+enters_asked program (play None) is = enters_play program
+enters_asked program (play (Some db)) is = enters_play_on program db (plain_word db is)
+enters_asked program check is = enters_check program
+enters_asked program (explain Catalogue) is = enters_explain program
+enters_asked program (explain (Number number)) is =
+    let small : number < 2 ^ 8 = omega (arith, is.1) in
+    number_entered _ number small (enters_number program (decimal number) (number_taken number 99 is.0 is.1 (omega arith)))
+enters_asked program (serve None port count) is =
+    let a : port < 2 ^ 16 = omega (arith, is.1.1) in
+    let b : count < 2 ^ 32 = omega (arith, is.3) in
+    service_entered _ None port count a b
+    (enters_service program (decimal port) (decimal count) (number_taken port 65535 is.1.0 is.1.1 (omega arith)) (number_taken count 1000000 is.2 is.3 (omega arith)))
+enters_asked program (serve (Some db) port count) is =
+    let a : port < 2 ^ 16 = omega (arith, is.1.1) in
+    let b : count < 2 ^ 32 = omega (arith, is.3) in
+    service_entered _ (Some db) port count a b
+    (enters_service_on program db (decimal port) (decimal count) (plain_word db is.0) (number_taken port 65535 is.1.0 is.1.1 (omega arith)) (number_taken count 1000000 is.2 is.3 (omega arith)))
+enters_asked program (holdings db bic account) is =
+    holdings_entered _ db bic account is.1 (enters_holdings program db bic account (plain_word db is.0) (plain_bic bic is.1) (plain_word account is.2))
+enters_asked program (sums db) is = enters_sums program db (plain_word db is)
+enters_asked program (report db parts format) is = enters_report program db parts format is.0 is.1
+enters_asked program (journal db from format) is = enters_journal program db from format is.0 is.1
+enters_asked program (folder db from to) is = enters_folder program db from to (plain_word db is.0) (plain_word from is.1) (plain_word to is.2)
+
+pub enters_nothing : (program : List ℕ) → subcommand_of desk_app (program ∷ []) ≡ None
+unfolding clap_on_literals
+enters_nothing program = refl
+
+-- what was found of a subcommand is read in two parts, its name and its matches
+
+abbrev pair : {S : Type 0} → (S → List ℕ) → (S → List Row) → S → List ℕ × List Row
+pair name_in rows_in s = (name_in s, rows_in s)
+
+pub named_parts : {S : Type 0} (found : Option S) (name_in : S → List ℕ) (rows_in : S → List Row) (asked : CallValue) (name : List ℕ) (rows : List Row)
+    → Some name ≡ option_map name_in found → Some rows ≡ option_map (λ p. p.1) (option_map (pair name_in rows_in) found)
+    → IsSomeAnd (option_map (pair name_in rows_in) found) (λ p. IsSpelledOut asked p.0 p.1) → IsSpelledOut asked name rows
+named_parts None name_in rows_in asked name rows named matched is = absurd is
+named_parts (Some s) name_in rows_in asked name rows named matched is =
+    let same : name ≡ name_in s = cc in
+    let same_rows : rows ≡ rows_in s = cc in
+    rw (same, same_rows) is
+
+pub not_found : {S : Type 0} (found : Option S) (name_in : S → List ℕ) (rows_in : S → List Row) → None ≡ option_map name_in found → option_map (pair name_in rows_in) found ≡ None
+not_found None name_in rows_in e = refl
+not_found (Some s) name_in rows_in e = cc
+
+pub one_found : {S : Type 0} (found : Option S) (name_in : S → List ℕ) (rows_in : S → List Row) (name : List ℕ) → Some name ≡ option_map name_in found → option_map (pair name_in rows_in) found ≡ None → ⊥
+one_found None name_in rows_in name e none = cc
+one_found (Some s) name_in rows_in name e none = cc
+
+-- what the getters give
+
+module _ (asked : CallValue) (name : List ℕ) (f : Found) where
+  named_isin : name ≡ codes "isin" → IsSpelledOut asked name (rows_of f) → (code : List ℕ) × (asked ≡ isin code) × (first_value f (codes "code") ≡ Some code)
+  named_isin is named = go asked named
+    where
+      go : (a : CallValue) → IsSpelledOut a name (rows_of f) → (code : List ℕ) × (a ≡ isin code) × (first_value f (codes "code") ≡ Some code)
+      go (isin code) h = (code, refl, first_value-rows f (codes "code") ∙ h.1)
+      go (read mt) h = let bad : 114 ≡ 105 = ap (λ t. slice_index t 0) (sym h.0 ∙ is) in absurd (omega (arith, bad))
+      go (play db) h = let bad : 112 ≡ 105 = ap (λ t. slice_index t 0) (sym h.0 ∙ is) in absurd (omega (arith, bad))
+      go check h = let bad : 99 ≡ 105 = ap (λ t. slice_index t 0) (sym h ∙ is) in absurd (omega (arith, bad))
+      go (explain Catalogue) h = let bad : 101 ≡ 105 = ap (λ t. slice_index t 0) (sym h.0 ∙ is) in absurd (omega (arith, bad))
+      go (explain (Number number)) h = let bad : 101 ≡ 105 = ap (λ t. slice_index t 0) (sym h.0 ∙ is) in absurd (omega (arith, bad))
+      go (serve db port count) h = let bad : 115 ≡ 105 = ap (λ t. slice_index t 0) (sym h.0 ∙ is) in absurd (omega (arith, bad))
+      go (holdings db bic account) h = let bad : 104 ≡ 105 = ap (λ t. slice_index t 0) (sym h.0 ∙ is) in absurd (omega (arith, bad))
+      go (sums db) h = let bad : 115 ≡ 105 = ap (λ t. slice_index t 0) (sym h.0 ∙ is) in absurd (omega (arith, bad))
+      go (report db parts format) h = let bad : 114 ≡ 105 = ap (λ t. slice_index t 0) (sym h.0 ∙ is) in absurd (omega (arith, bad))
+      go (journal db from format) h = let bad : 106 ≡ 105 = ap (λ t. slice_index t 0) (sym h.0 ∙ is) in absurd (omega (arith, bad))
+      go (folder db from to) h = let bad : 100 ≡ 105 = ap (λ t. slice_index t 0) (sym h.0 ∙ is) in absurd (omega (arith, bad))
+
+  named_read : name ≡ codes "read" → IsSpelledOut asked name (rows_of f) → (mt : Mt) × (asked ≡ read mt) × (one_text f (codes "mt") ≡ Some (digits_of_type mt)) × (is_instruction mt ≡ true)
+  named_read is named = go asked named
+    where
+      go : (a : CallValue) → IsSpelledOut a name (rows_of f) → (mt : Mt) × (a ≡ read mt) × (one_text f (codes "mt") ≡ Some (digits_of_type mt)) × (is_instruction mt ≡ true)
+      go (isin code) h = let bad : 105 ≡ 114 = ap (λ t. slice_index t 0) (sym h.0 ∙ is) in absurd (omega (arith, bad))
+      go (read mt) h = (mt, refl, one_text-rows f (codes "mt") ∙ h.1, h.2)
+      go (play db) h = let bad : 112 ≡ 114 = ap (λ t. slice_index t 0) (sym h.0 ∙ is) in absurd (omega (arith, bad))
+      go check h = let bad : 99 ≡ 114 = ap (λ t. slice_index t 0) (sym h ∙ is) in absurd (omega (arith, bad))
+      go (explain Catalogue) h = let bad : 101 ≡ 114 = ap (λ t. slice_index t 0) (sym h.0 ∙ is) in absurd (omega (arith, bad))
+      go (explain (Number number)) h = let bad : 101 ≡ 114 = ap (λ t. slice_index t 0) (sym h.0 ∙ is) in absurd (omega (arith, bad))
+      go (serve db port count) h = let bad : 115 ≡ 114 = ap (λ t. slice_index t 0) (sym h.0 ∙ is) in absurd (omega (arith, bad))
+      go (holdings db bic account) h = let bad : 104 ≡ 114 = ap (λ t. slice_index t 0) (sym h.0 ∙ is) in absurd (omega (arith, bad))
+      go (sums db) h = let bad : 115 ≡ 114 = ap (λ t. slice_index t 0) (sym h.0 ∙ is) in absurd (omega (arith, bad))
+      go (report db parts format) h = let bad : 112 ≡ 97 = ap (λ t. slice_index t 2) (sym h.0 ∙ is) in absurd (omega (arith, bad))
+      go (journal db from format) h = let bad : 106 ≡ 114 = ap (λ t. slice_index t 0) (sym h.0 ∙ is) in absurd (omega (arith, bad))
+      go (folder db from to) h = let bad : 100 ≡ 114 = ap (λ t. slice_index t 0) (sym h.0 ∙ is) in absurd (omega (arith, bad))
+
+  named_play : name ≡ codes "play" → IsSpelledOut asked name (rows_of f) → (db : Option (List ℕ)) × (asked ≡ play db) × (first_value f (codes "db") ≡ db)
+  named_play is named = go asked named
+    where
+      go : (a : CallValue) → IsSpelledOut a name (rows_of f) → (db : Option (List ℕ)) × (a ≡ play db) × (first_value f (codes "db") ≡ db)
+      go (isin code) h = let bad : 105 ≡ 112 = ap (λ t. slice_index t 0) (sym h.0 ∙ is) in absurd (omega (arith, bad))
+      go (read mt) h = let bad : 114 ≡ 112 = ap (λ t. slice_index t 0) (sym h.0 ∙ is) in absurd (omega (arith, bad))
+      go (play db) h = (db, refl, first_value-rows f (codes "db") ∙ h.1)
+      go check h = let bad : 99 ≡ 112 = ap (λ t. slice_index t 0) (sym h ∙ is) in absurd (omega (arith, bad))
+      go (explain Catalogue) h = let bad : 101 ≡ 112 = ap (λ t. slice_index t 0) (sym h.0 ∙ is) in absurd (omega (arith, bad))
+      go (explain (Number number)) h = let bad : 101 ≡ 112 = ap (λ t. slice_index t 0) (sym h.0 ∙ is) in absurd (omega (arith, bad))
+      go (serve db port count) h = let bad : 115 ≡ 112 = ap (λ t. slice_index t 0) (sym h.0 ∙ is) in absurd (omega (arith, bad))
+      go (holdings db bic account) h = let bad : 104 ≡ 112 = ap (λ t. slice_index t 0) (sym h.0 ∙ is) in absurd (omega (arith, bad))
+      go (sums db) h = let bad : 115 ≡ 112 = ap (λ t. slice_index t 0) (sym h.0 ∙ is) in absurd (omega (arith, bad))
+      go (report db parts format) h = let bad : 114 ≡ 112 = ap (λ t. slice_index t 0) (sym h.0 ∙ is) in absurd (omega (arith, bad))
+      go (journal db from format) h = let bad : 106 ≡ 112 = ap (λ t. slice_index t 0) (sym h.0 ∙ is) in absurd (omega (arith, bad))
+      go (folder db from to) h = let bad : 100 ≡ 112 = ap (λ t. slice_index t 0) (sym h.0 ∙ is) in absurd (omega (arith, bad))
+
+  -- the words of `explain`: none behind it, or a number
+  IsTopicNamed : CallValue → Type 0
+  IsTopicNamed a =
+      ((a ≡ explain Catalogue) × (first_value f (codes "number") ≡ None))
+      ⊎ ((n : ℕ) × (a ≡ explain (Number n)) × (n < 2 ^ 8) × (first_value f (codes "number") ≡ Some (decimal n)) × (one_text f (codes "number") ≡ Some (decimal n)))
+
+  named_explain : name ≡ codes "explain" → IsSpelledOut asked name (rows_of f) → IsTopicNamed asked
+  unfolding IsTopicNamed
+  named_explain is named = go asked named
+    where
+      go : (a : CallValue) → IsSpelledOut a name (rows_of f) → IsTopicNamed a
+      go (isin code) h = let bad : 105 ≡ 101 = ap (λ t. slice_index t 0) (sym h.0 ∙ is) in absurd (omega (arith, bad))
+      go (read mt) h = let bad : 114 ≡ 101 = ap (λ t. slice_index t 0) (sym h.0 ∙ is) in absurd (omega (arith, bad))
+      go (play db) h = let bad : 112 ≡ 101 = ap (λ t. slice_index t 0) (sym h.0 ∙ is) in absurd (omega (arith, bad))
+      go check h = let bad : 99 ≡ 101 = ap (λ t. slice_index t 0) (sym h ∙ is) in absurd (omega (arith, bad))
+      go (explain Catalogue) h = inl (refl, first_value-rows f (codes "number") ∙ h.1)
+      go (explain (Number number)) h = inr (number, refl, h.3, first_value-rows f (codes "number") ∙ h.1, one_text-rows f (codes "number") ∙ h.2)
+      go (serve db port count) h = let bad : 115 ≡ 101 = ap (λ t. slice_index t 0) (sym h.0 ∙ is) in absurd (omega (arith, bad))
+      go (holdings db bic account) h = let bad : 104 ≡ 101 = ap (λ t. slice_index t 0) (sym h.0 ∙ is) in absurd (omega (arith, bad))
+      go (sums db) h = let bad : 115 ≡ 101 = ap (λ t. slice_index t 0) (sym h.0 ∙ is) in absurd (omega (arith, bad))
+      go (report db parts format) h = let bad : 114 ≡ 101 = ap (λ t. slice_index t 0) (sym h.0 ∙ is) in absurd (omega (arith, bad))
+      go (journal db from format) h = let bad : 106 ≡ 101 = ap (λ t. slice_index t 0) (sym h.0 ∙ is) in absurd (omega (arith, bad))
+      go (folder db from to) h = let bad : 100 ≡ 101 = ap (λ t. slice_index t 0) (sym h.0 ∙ is) in absurd (omega (arith, bad))
+
+  pub no_topic : name ≡ codes "explain" → (first_value f (codes "number") ≡ None → ⊥)
+      → ((n : ℕ) → n < 2 ^ 8 → first_value f (codes "number") ≡ Some (decimal n) → one_text f (codes "number") ≡ Some (decimal n) → ⊥)
+      → IsSpelledOut asked name (rows_of f) → ⊥
+  unfolding IsTopicNamed
+  no_topic is some number named = elim (named_explain is named) [ inl none ↦ some none.1 | inr one ↦ number one.0 one.2 one.3 one.4 ]
+
+  pub same_topic : (found : Topic) → name ≡ codes "explain" → (first_value f (codes "number") ≡ None → found ≡ Catalogue)
+      → ((n : ℕ) → n < 2 ^ 8 → first_value f (codes "number") ≡ Some (decimal n) → one_text f (codes "number") ≡ Some (decimal n) → found ≡ Number n)
+      → IsSpelledOut asked name (rows_of f) → explain found ≡ asked
+  unfolding IsTopicNamed
+  same_topic found is none number named =
+      elim (named_explain is named) [ inl all ↦ ap explain (none all.1) ∙ sym all.0 | inr one ↦ ap explain (number one.0 one.2 one.3 one.4) ∙ sym one.1 ]
+
+  named_serve : name ≡ codes "serve" → IsSpelledOut asked name (rows_of f) → (db : Option (List ℕ)) × (port : ℕ) × (count : ℕ) × (asked ≡ serve db port count) × (first_value f (codes "db") ≡ db) × (one_text f (codes "port") ≡ Some (decimal port)) × (port < 2 ^ 16) × (one_text f (codes "count") ≡ Some (decimal count)) × (count < 2 ^ 32)
+  named_serve is named = go asked named
+    where
+      go : (a : CallValue) → IsSpelledOut a name (rows_of f) → (db : Option (List ℕ)) × (port : ℕ) × (count : ℕ) × (a ≡ serve db port count) × (first_value f (codes "db") ≡ db) × (one_text f (codes "port") ≡ Some (decimal port)) × (port < 2 ^ 16) × (one_text f (codes "count") ≡ Some (decimal count)) × (count < 2 ^ 32)
+      go (isin code) h = let bad : 105 ≡ 115 = ap (λ t. slice_index t 0) (sym h.0 ∙ is) in absurd (omega (arith, bad))
+      go (read mt) h = let bad : 114 ≡ 115 = ap (λ t. slice_index t 0) (sym h.0 ∙ is) in absurd (omega (arith, bad))
+      go (play db) h = let bad : 112 ≡ 115 = ap (λ t. slice_index t 0) (sym h.0 ∙ is) in absurd (omega (arith, bad))
+      go check h = let bad : 99 ≡ 115 = ap (λ t. slice_index t 0) (sym h ∙ is) in absurd (omega (arith, bad))
+      go (explain Catalogue) h = let bad : 101 ≡ 115 = ap (λ t. slice_index t 0) (sym h.0 ∙ is) in absurd (omega (arith, bad))
+      go (explain (Number number)) h = let bad : 101 ≡ 115 = ap (λ t. slice_index t 0) (sym h.0 ∙ is) in absurd (omega (arith, bad))
+      go (serve db port count) h = (db, port, count, refl, first_value-rows f (codes "db") ∙ h.1, one_text-rows f (codes "port") ∙ h.2, h.3, one_text-rows f (codes "count") ∙ h.4, h.5)
+      go (holdings db bic account) h = let bad : 104 ≡ 115 = ap (λ t. slice_index t 0) (sym h.0 ∙ is) in absurd (omega (arith, bad))
+      go (sums db) h = let bad : 117 ≡ 101 = ap (λ t. slice_index t 1) (sym h.0 ∙ is) in absurd (omega (arith, bad))
+      go (report db parts format) h = let bad : 114 ≡ 115 = ap (λ t. slice_index t 0) (sym h.0 ∙ is) in absurd (omega (arith, bad))
+      go (journal db from format) h = let bad : 106 ≡ 115 = ap (λ t. slice_index t 0) (sym h.0 ∙ is) in absurd (omega (arith, bad))
+      go (folder db from to) h = let bad : 100 ≡ 115 = ap (λ t. slice_index t 0) (sym h.0 ∙ is) in absurd (omega (arith, bad))
+
+  pub no_service : name ≡ codes "serve"
+      → ((port count : ℕ) → port < 2 ^ 16 → one_text f (codes "port") ≡ Some (decimal port) → count < 2 ^ 32 → one_text f (codes "count") ≡ Some (decimal count) → ⊥)
+      → IsSpelledOut asked name (rows_of f) → ⊥
+  no_service is none named = let n = named_serve is named in none n.1 n.2 n.6 n.5 n.8 n.7
+
+  pub same_service : (db : Option (List ℕ)) (port count : ℕ) → name ≡ codes "serve" → db ≡ first_value f (codes "db")
+      → ((p n : ℕ) → p < 2 ^ 16 → one_text f (codes "port") ≡ Some (decimal p) → n < 2 ^ 32 → one_text f (codes "count") ≡ Some (decimal n) → (port ≡ p) × (count ≡ n))
+      → IsSpelledOut asked name (rows_of f) → serve db port count ≡ asked
+  same_service db port count is file one named =
+      let n = named_serve is named in
+      let same = one n.1 n.2 n.6 n.5 n.8 n.7 in
+      let same_file : db ≡ n.0 = file ∙ n.4 in
+      rw (same_file, same.0, same.1) (sym n.3)
+
+  named_holdings : name ≡ codes "holdings" → IsSpelledOut asked name (rows_of f) → (db : List ℕ) × (bic : List ℕ) × (account : List ℕ) × (asked ≡ holdings db bic account) × (first_value f (codes "db") ≡ Some db) × IsBic bic × (first_value f (codes "bic") ≡ Some bic) × (first_value f (codes "account") ≡ Some account)
+  named_holdings is named = go asked named
+    where
+      go : (a : CallValue) → IsSpelledOut a name (rows_of f) → (db : List ℕ) × (bic : List ℕ) × (account : List ℕ) × (a ≡ holdings db bic account) × (first_value f (codes "db") ≡ Some db) × IsBic bic × (first_value f (codes "bic") ≡ Some bic) × (first_value f (codes "account") ≡ Some account)
+      go (isin code) h = let bad : 105 ≡ 104 = ap (λ t. slice_index t 0) (sym h.0 ∙ is) in absurd (omega (arith, bad))
+      go (read mt) h = let bad : 114 ≡ 104 = ap (λ t. slice_index t 0) (sym h.0 ∙ is) in absurd (omega (arith, bad))
+      go (play db) h = let bad : 112 ≡ 104 = ap (λ t. slice_index t 0) (sym h.0 ∙ is) in absurd (omega (arith, bad))
+      go check h = let bad : 99 ≡ 104 = ap (λ t. slice_index t 0) (sym h ∙ is) in absurd (omega (arith, bad))
+      go (explain Catalogue) h = let bad : 101 ≡ 104 = ap (λ t. slice_index t 0) (sym h.0 ∙ is) in absurd (omega (arith, bad))
+      go (explain (Number number)) h = let bad : 101 ≡ 104 = ap (λ t. slice_index t 0) (sym h.0 ∙ is) in absurd (omega (arith, bad))
+      go (serve db port count) h = let bad : 115 ≡ 104 = ap (λ t. slice_index t 0) (sym h.0 ∙ is) in absurd (omega (arith, bad))
+      go (holdings db bic account) h = (db, bic, account, refl, first_value-rows f (codes "db") ∙ h.1, h.2, first_value-rows f (codes "bic") ∙ h.3, first_value-rows f (codes "account") ∙ h.4)
+      go (sums db) h = let bad : 115 ≡ 104 = ap (λ t. slice_index t 0) (sym h.0 ∙ is) in absurd (omega (arith, bad))
+      go (report db parts format) h = let bad : 114 ≡ 104 = ap (λ t. slice_index t 0) (sym h.0 ∙ is) in absurd (omega (arith, bad))
+      go (journal db from format) h = let bad : 106 ≡ 104 = ap (λ t. slice_index t 0) (sym h.0 ∙ is) in absurd (omega (arith, bad))
+      go (folder db from to) h = let bad : 100 ≡ 104 = ap (λ t. slice_index t 0) (sym h.0 ∙ is) in absurd (omega (arith, bad))
+
+  named_sums : name ≡ codes "sums" → IsSpelledOut asked name (rows_of f) → (db : List ℕ) × (asked ≡ sums db) × (first_value f (codes "db") ≡ Some db)
+  named_sums is named = go asked named
+    where
+      go : (a : CallValue) → IsSpelledOut a name (rows_of f) → (db : List ℕ) × (a ≡ sums db) × (first_value f (codes "db") ≡ Some db)
+      go (isin code) h = let bad : 105 ≡ 115 = ap (λ t. slice_index t 0) (sym h.0 ∙ is) in absurd (omega (arith, bad))
+      go (read mt) h = let bad : 114 ≡ 115 = ap (λ t. slice_index t 0) (sym h.0 ∙ is) in absurd (omega (arith, bad))
+      go (play db) h = let bad : 112 ≡ 115 = ap (λ t. slice_index t 0) (sym h.0 ∙ is) in absurd (omega (arith, bad))
+      go check h = let bad : 99 ≡ 115 = ap (λ t. slice_index t 0) (sym h ∙ is) in absurd (omega (arith, bad))
+      go (explain Catalogue) h = let bad : 101 ≡ 115 = ap (λ t. slice_index t 0) (sym h.0 ∙ is) in absurd (omega (arith, bad))
+      go (explain (Number number)) h = let bad : 101 ≡ 115 = ap (λ t. slice_index t 0) (sym h.0 ∙ is) in absurd (omega (arith, bad))
+      go (serve db port count) h = let bad : 101 ≡ 117 = ap (λ t. slice_index t 1) (sym h.0 ∙ is) in absurd (omega (arith, bad))
+      go (holdings db bic account) h = let bad : 104 ≡ 115 = ap (λ t. slice_index t 0) (sym h.0 ∙ is) in absurd (omega (arith, bad))
+      go (sums db) h = (db, refl, first_value-rows f (codes "db") ∙ h.1)
+      go (report db parts format) h = let bad : 114 ≡ 115 = ap (λ t. slice_index t 0) (sym h.0 ∙ is) in absurd (omega (arith, bad))
+      go (journal db from format) h = let bad : 106 ≡ 115 = ap (λ t. slice_index t 0) (sym h.0 ∙ is) in absurd (omega (arith, bad))
+      go (folder db from to) h = let bad : 100 ≡ 115 = ap (λ t. slice_index t 0) (sym h.0 ∙ is) in absurd (omega (arith, bad))
+
+  named_folder : name ≡ codes "drop" → IsSpelledOut asked name (rows_of f)
+      → (db : List ℕ) × (from : List ℕ) × (to : List ℕ) × (asked ≡ folder db from to) × (first_value f (codes "db") ≡ Some db) × (first_value f (codes "in") ≡ Some from) × (first_value f (codes "out") ≡ Some to)
+  named_folder is named = go asked named
+    where
+      go : (a : CallValue) → IsSpelledOut a name (rows_of f)
+          → (db : List ℕ) × (from : List ℕ) × (to : List ℕ) × (a ≡ folder db from to) × (first_value f (codes "db") ≡ Some db) × (first_value f (codes "in") ≡ Some from) × (first_value f (codes "out") ≡ Some to)
+      go (isin code) h = let bad : 105 ≡ 100 = ap (λ t. slice_index t 0) (sym h.0 ∙ is) in absurd (omega (arith, bad))
+      go (read mt) h = let bad : 114 ≡ 100 = ap (λ t. slice_index t 0) (sym h.0 ∙ is) in absurd (omega (arith, bad))
+      go (play db) h = let bad : 112 ≡ 100 = ap (λ t. slice_index t 0) (sym h.0 ∙ is) in absurd (omega (arith, bad))
+      go check h = let bad : 99 ≡ 100 = ap (λ t. slice_index t 0) (sym h ∙ is) in absurd (omega (arith, bad))
+      go (explain Catalogue) h = let bad : 101 ≡ 100 = ap (λ t. slice_index t 0) (sym h.0 ∙ is) in absurd (omega (arith, bad))
+      go (explain (Number number)) h = let bad : 101 ≡ 100 = ap (λ t. slice_index t 0) (sym h.0 ∙ is) in absurd (omega (arith, bad))
+      go (serve db port count) h = let bad : 115 ≡ 100 = ap (λ t. slice_index t 0) (sym h.0 ∙ is) in absurd (omega (arith, bad))
+      go (holdings db bic account) h = let bad : 104 ≡ 100 = ap (λ t. slice_index t 0) (sym h.0 ∙ is) in absurd (omega (arith, bad))
+      go (sums db) h = let bad : 115 ≡ 100 = ap (λ t. slice_index t 0) (sym h.0 ∙ is) in absurd (omega (arith, bad))
+      go (report db parts format) h = let bad : 114 ≡ 100 = ap (λ t. slice_index t 0) (sym h.0 ∙ is) in absurd (omega (arith, bad))
+      go (journal db from format) h = let bad : 106 ≡ 100 = ap (λ t. slice_index t 0) (sym h.0 ∙ is) in absurd (omega (arith, bad))
+      go (folder db from to) h = (db, from, to, refl, first_value-rows f (codes "db") ∙ h.1, first_value-rows f (codes "in") ∙ h.2, first_value-rows f (codes "out") ∙ h.3)
+
+  -- the words of `report`: a file or none, the parts and the form
+  IsReportNamed : CallValue → Type 0
+  IsReportNamed a =
+      (db : Option (List ℕ)) × (parts : Parts) × (format : Format) × (a ≡ report db parts format) × (first_value f (codes "db") ≡ db) × ArePartsOf parts (part_words_in (rows_of f)) × IsFormatOf format (one_text f (codes "json"))
+
+  named_report : name ≡ codes "report" → IsSpelledOut asked name (rows_of f) → IsReportNamed asked
+  unfolding IsReportNamed
+  named_report is named = go asked named
+    where
+      go : (a : CallValue) → IsSpelledOut a name (rows_of f) → IsReportNamed a
+      go (isin code) h = let bad : 105 ≡ 114 = ap (λ t. slice_index t 0) (sym h.0 ∙ is) in absurd (omega (arith, bad))
+      go (read mt) h = let bad : 97 ≡ 112 = ap (λ t. slice_index t 2) (sym h.0 ∙ is) in absurd (omega (arith, bad))
+      go (play db) h = let bad : 112 ≡ 114 = ap (λ t. slice_index t 0) (sym h.0 ∙ is) in absurd (omega (arith, bad))
+      go check h = let bad : 99 ≡ 114 = ap (λ t. slice_index t 0) (sym h ∙ is) in absurd (omega (arith, bad))
+      go (explain Catalogue) h = let bad : 101 ≡ 114 = ap (λ t. slice_index t 0) (sym h.0 ∙ is) in absurd (omega (arith, bad))
+      go (explain (Number number)) h = let bad : 101 ≡ 114 = ap (λ t. slice_index t 0) (sym h.0 ∙ is) in absurd (omega (arith, bad))
+      go (serve db port count) h = let bad : 115 ≡ 114 = ap (λ t. slice_index t 0) (sym h.0 ∙ is) in absurd (omega (arith, bad))
+      go (holdings db bic account) h = let bad : 104 ≡ 114 = ap (λ t. slice_index t 0) (sym h.0 ∙ is) in absurd (omega (arith, bad))
+      go (sums db) h = let bad : 115 ≡ 114 = ap (λ t. slice_index t 0) (sym h.0 ∙ is) in absurd (omega (arith, bad))
+      go (report db parts format) h =
+          (db, parts, format, refl, first_value-rows f (codes "db") ∙ h.1, h.2, subst (IsFormatOf format) (sym (one_text-rows f (codes "json"))) h.3)
+      go (journal db from format) h = let bad : 106 ≡ 114 = ap (λ t. slice_index t 0) (sym h.0 ∙ is) in absurd (omega (arith, bad))
+      go (folder db from to) h = let bad : 100 ≡ 114 = ap (λ t. slice_index t 0) (sym h.0 ∙ is) in absurd (omega (arith, bad))
+
+  pub no_report : name ≡ codes "report" → ((parts : Parts) → ArePartsOf parts (part_words_in (rows_of f)) → ⊥) → IsSpelledOut asked name (rows_of f) → ⊥
+  unfolding IsReportNamed
+  no_report is none named = let n = named_report is named in none n.1 n.5
+
+  pub same_report : (db : Option (List ℕ)) (parts : Parts) (format : Format) → name ≡ codes "report" → db ≡ first_value f (codes "db")
+      → ((others : Parts) → ArePartsOf others (part_words_in (rows_of f)) → parts ≡ others) → IsFormatOf format (one_text f (codes "json"))
+      → IsSpelledOut asked name (rows_of f) → report db parts format ≡ asked
+  unfolding IsReportNamed
+  same_report db parts format is file one form named =
+      let n = named_report is named in
+      let same_file : db ≡ n.0 = file ∙ n.4 in
+      let same_parts : parts ≡ n.1 = one n.1 n.5 in
+      let same_form : format ≡ n.2 = one_form _ format n.2 form n.6 in
+      rw (same_file, same_parts, same_form) (sym n.3)
+
+  pub no_sums : name ≡ codes "sums" → None ≡ first_value f (codes "db") → IsSpelledOut asked name (rows_of f) → ⊥
+  no_sums is none named = let n = named_sums is named in let bad : None ≡ Some n.0 = none ∙ n.2 in cc
+
+  pub same_sums : (db : List ℕ) → name ≡ codes "sums" → Some db ≡ first_value f (codes "db") → IsSpelledOut asked name (rows_of f) → sums db ≡ asked
+  same_sums db is some named =
+      let n = named_sums is named in
+      let both : Some db ≡ Some n.0 = some ∙ n.2 in
+      let same : db ≡ n.0 = cc in
+      ap sums same ∙ sym n.1
+
+  pub same_play : (db : Option (List ℕ)) → name ≡ codes "play" → db ≡ first_value f (codes "db") → IsSpelledOut asked name (rows_of f) → play db ≡ asked
+  same_play db is file named = let n = named_play is named in ap play (file ∙ n.2) ∙ sym n.1
+
+  pub no_code : name ≡ codes "isin" → None ≡ first_value f (codes "code") → IsSpelledOut asked name (rows_of f) → ⊥
+  no_code is none named = let n = named_isin is named in let bad : None ≡ Some n.0 = none ∙ n.2 in cc
+
+  pub same_code : (code : List ℕ) → name ≡ codes "isin" → Some code ≡ first_value f (codes "code") → IsSpelledOut asked name (rows_of f) → isin code ≡ asked
+  same_code code is some named =
+      let n = named_isin is named in
+      let both : Some code ≡ Some n.0 = some ∙ n.2 in
+      let same : code ≡ n.0 = cc in
+      ap isin same ∙ sym n.1
+
+  pub no_type : name ≡ codes "read" → ((mt : Mt) → is_instruction mt ≡ true → one_text f (codes "mt") ≡ Some (digits_of_type mt) → ⊥) → IsSpelledOut asked name (rows_of f) → ⊥
+  no_type is none named = let n = named_read is named in none n.0 n.3 n.2
+
+  pub same_type : (found : Mt) → name ≡ codes "read" → ((mt : Mt) → is_instruction mt ≡ true → one_text f (codes "mt") ≡ Some (digits_of_type mt) → found ≡ mt)
+      → IsSpelledOut asked name (rows_of f) → read found ≡ asked
+  same_type found is one named = let n = named_read is named in ap read (one n.0 n.3 n.2) ∙ sym n.1
+
+-- what the words of `holdings` name
+pub held_by : (asked : CallValue) (f : Found) → IsSpelledOut asked (codes "holdings") (rows_of f)
+    → (db : List ℕ) × (bic : List ℕ) × (account : List ℕ) × (asked ≡ holdings db bic account) × (first_value f (codes "db") ≡ Some db) × IsBic bic × (first_value f (codes "bic") ≡ Some bic) × (first_value f (codes "account") ≡ Some account)
+held_by asked f spelled = named_holdings asked (codes "holdings") f refl spelled
+
+pub no_held_by : {X : Type 0} {found : Option (List ℕ)} {text : List ℕ} → None ≡ found → found ≡ Some text → X
+no_held_by {X} {found} {text} none some = let bad : None ≡ Some text = none ∙ some in cc
+
+same_text : {found : Option (List ℕ)} {a b : List ℕ} → Some a ≡ found → found ≡ Some b → a ≡ b
+same_text {found} {a} {b} one other = let both : Some a ≡ Some b = one ∙ other in cc
+
+pub held_as : (asked : CallValue) (f : Found) (n : (db : List ℕ) × (bic : List ℕ) × (account : List ℕ) × (asked ≡ holdings db bic account) × (first_value f (codes "db") ≡ Some db) × IsBic bic × (first_value f (codes "bic") ≡ Some bic) × (first_value f (codes "account") ≡ Some account))
+    → (db owner account : List ℕ) → Some db ≡ first_value f (codes "db") → owner ≡ n.1 → Some account ≡ first_value f (codes "account") → holdings db owner account ≡ asked
+held_as asked f n db owner account file same held =
+    let one : db ≡ n.0 = same_text file n.4 in
+    let other : account ≡ n.2 = same_text held n.7 in
+    rw (one, same, other) (sym n.3)
+
+-- what the words of `drop` name
+pub folder_by : (asked : CallValue) (f : Found) → IsSpelledOut asked (codes "drop") (rows_of f)
+    → (db : List ℕ) × (from : List ℕ) × (to : List ℕ) × (asked ≡ folder db from to) × (first_value f (codes "db") ≡ Some db) × (first_value f (codes "in") ≡ Some from) × (first_value f (codes "out") ≡ Some to)
+folder_by asked f spelled = named_folder asked (codes "drop") f refl spelled
+
+pub folder_as : (asked : CallValue) (f : Found) → IsSpelledOut asked (codes "drop") (rows_of f) → (db from to : List ℕ) → Some db ≡ first_value f (codes "db") → Some from ≡ first_value f (codes "in")
+    → Some to ≡ first_value f (codes "out") → folder db from to ≡ asked
+folder_as asked f spelled db from to file coming going =
+    let n = folder_by asked f spelled in
+    let one : db ≡ n.0 = same_text file n.4 in
+    let two : from ≡ n.1 = same_text coming n.5 in
+    let three : to ≡ n.2 = same_text going n.6 in
+    rw (one, two, three) (sym n.3)
+
+-- a BIC in its one spelling names itself
+pub known_party : (found : Option (List ℕ)) (bic text : List ℕ) → IsBic bic → text ≡ bic → IfNone found ((party : List ℕ) → ¬ ReadsBic text (Ok party)) → IfSome found (λ party. ReadsBic text (Ok party))
+    → IsSomeAnd found (λ owner. owner ≡ bic)
+known_party None bic text is same none some = absurd (none bic (subst (λ t. ReadsBic t (Ok bic)) (sym same) (bic_itself bic is)))
+known_party (Some party) bic text is same none some = some.0 ∙ ap party_of same ∙ sym (bic_itself bic is).0
+
+-- a parse of the words, by a command that is the desk's
+
+pub taken : (a : App) (words : List Text) (program : List ℕ) (asked : CallValue) → a ≡ desk_app → words ≡ program ∷ words_for asked → IsAskable asked → takes a words ≡ true
+taken a words program asked is are right = ap₂ takes is are ∙ takes_asked program asked right
+
+pub taken_alone : (a : App) (words : List Text) (program : List ℕ) → a ≡ desk_app → words ≡ program ∷ [] → takes a words ≡ true
+taken_alone a words program is are = ap₂ takes is are ∙ takes_nothing program
+
+pub entered : (a : App) (words : List Text) (m : ArgMatches) (program : List ℕ) (asked : CallValue) → HasMatchesOf a words m → a ≡ desk_app → words ≡ program ∷ words_for asked → IsAskable asked
+    → IsSomeAnd (subcommand_rows_of m) (λ p. IsSpelledOut asked p.0 p.1)
+entered a words m program asked has is are right =
+    let same : subcommand_rows_of m ≡ subcommand_of desk_app (program ∷ words_for asked) = (has (ap is_simple is ∙ simple)).1 ∙ ap₂ subcommand_of is are in
+    rw same (enters_asked program asked right)
+
+-- of a report, whichever words name its parts
+
+pub taken_several : (a : App) (words : List Text) (program : List ℕ) (db : Option (List ℕ)) (format : Format) (named : List (List ℕ)) → a ≡ desk_app → words ≡ program ∷ report_words db format named → IsNoOptionIn db → ArePartWords named → takes a words ≡ true
+taken_several a words program db format named is are file parts = ap₂ takes is are ∙ takes_several program db format named file parts
+
+pub entered_several : (a : App) (words : List Text) (m : ArgMatches) (program : List ℕ) (db : Option (List ℕ)) (format : Format) (named : List (List ℕ)) → HasMatchesOf a words m → a ≡ desk_app
+    → words ≡ program ∷ report_words db format named → IsNoOptionIn db → ArePartWords named → IsSomeAnd (subcommand_rows_of m) (λ p. IsSpelledOut (report db (parts_by named) format) p.0 p.1)
+entered_several a words m program db format named has is are file parts =
+    let same : subcommand_rows_of m ≡ subcommand_of desk_app (program ∷ report_words db format named) = (has (ap is_simple is ∙ simple)).1 ∙ ap₂ subcommand_of is are in
+    rw same (enters_several program db format named file parts)
+
+pub named_in : (m : ArgMatches) (asked : CallValue) (name : List ℕ) (rows : List Row) → Some name ≡ subcommand_name_of m → Some rows ≡ option_map (λ p. p.1) (subcommand_rows_of m)
+    → IsSomeAnd (subcommand_rows_of m) (λ p. IsSpelledOut asked p.0 p.1) → IsSpelledOut asked name rows
+named_in m = named_parts (out-ArgMatches m).subcommand (λ b. (out-SubCommand (box_value b)).name.now) (λ b. rows_of (found_of (out-SubCommand (box_value b)).matches))
+
+pub none_in : (m : ArgMatches) → None ≡ subcommand_name_of m → subcommand_rows_of m ≡ None
+none_in m = not_found (out-ArgMatches m).subcommand (λ b. (out-SubCommand (box_value b)).name.now) (λ b. rows_of (found_of (out-SubCommand (box_value b)).matches))
+
+pub one_in : (m : ArgMatches) (name : List ℕ) → Some name ≡ subcommand_name_of m → subcommand_rows_of m ≡ None → ⊥
+one_in m = one_found (out-ArgMatches m).subcommand (λ b. (out-SubCommand (box_value b)).name.now) (λ b. rows_of (found_of (out-SubCommand (box_value b)).matches))
+
+-- and what was found says it
+
+pub said_code : (name : List ℕ) (f : Found) (code : List ℕ) → name ≡ codes "isin" → Some code ≡ first_value f (codes "code") → IsSaid (isin code) name (rows_of f)
+said_code name f code is some = (is, sym (first_value-rows f (codes "code")) ∙ sym some)
+
+pub said_type : (name : List ℕ) (f : Found) (mt : Mt) → name ≡ codes "read" → IsSomeAnd (one_text f (codes "mt")) (IsTypeText mt) → IsSaid (read mt) name (rows_of f)
+said_type name f mt is text =
+    let P : Option (List ℕ) → Type 0 = λ found. IsSomeAnd found (IsTypeText mt) in
+    (is, subst P (one_text-rows f (codes "mt")) text)
+
+pub said_topic : (name : List ℕ) (f : Found) (topic : Topic) → name ≡ codes "explain" → IsTopic topic (first_value f (codes "number")) (one_text f (codes "number")) → IsSaid (explain topic) name (rows_of f)
+said_topic name f Catalogue is none = (is, sym (first_value-rows f (codes "number")) ∙ none)
+said_topic name f (Number number) is text =
+    let P : Option (List ℕ) → Type 0 = λ found. IsSomeAnd found (IsNumberText number) in
+    (is, subst P (one_text-rows f (codes "number")) text)
+
+pub said_service : (name : List ℕ) (f : Found) (db : Option (List ℕ)) (port count : ℕ) → name ≡ codes "serve" → db ≡ first_value f (codes "db") → IsSomeAnd (one_text f (codes "port")) (IsNumberText port) → IsSomeAnd (one_text f (codes "count")) (IsNumberText count)
+    → IsSaid (serve db port count) name (rows_of f)
+said_service name f db port count is file ports counts =
+    let P : ℕ → Option (List ℕ) → Type 0 = λ number found. IsSomeAnd found (IsNumberText number) in
+    (is, sym (first_value-rows f (codes "db")) ∙ sym file, subst (P port) (one_text-rows f (codes "port")) ports, subst (P count) (one_text-rows f (codes "count")) counts)
+
+pub said_play : (name : List ℕ) (f : Found) (db : Option (List ℕ)) → name ≡ codes "play" → db ≡ first_value f (codes "db") → IsSaid (play db) name (rows_of f)
+said_play name f db is file = (is, sym (first_value-rows f (codes "db")) ∙ sym file)
+
+pub said_held : (name : List ℕ) (f : Found) (db bic account : List ℕ) → name ≡ codes "holdings" → first_value f (codes "db") ≡ Some db → IsSomeAnd (first_value f (codes "bic")) (IsBicText bic)
+    → first_value f (codes "account") ≡ Some account → IsSaid (holdings db bic account) name (rows_of f)
+said_held name f db bic account is file party held =
+    let P : Option (List ℕ) → Type 0 = λ found. IsSomeAnd found (IsBicText bic) in
+    (is, sym (first_value-rows f (codes "db")) ∙ file, subst P (first_value-rows f (codes "bic")) party, sym (first_value-rows f (codes "account")) ∙ held)
+
+pub said_sums : (name : List ℕ) (f : Found) (db : List ℕ) → name ≡ codes "sums" → Some db ≡ first_value f (codes "db") → IsSaid (sums db) name (rows_of f)
+said_sums name f db is some = (is, sym (first_value-rows f (codes "db")) ∙ sym some)
+
+pub said_report : (name : List ℕ) (f : Found) (db : Option (List ℕ)) (parts : Parts) (format : Format) → name ≡ codes "report" → db ≡ first_value f (codes "db") → ArePartsOf parts (part_words_in (rows_of f)) → IsFormatOf format (one_text f (codes "json"))
+    → IsSaid (report db parts format) name (rows_of f)
+said_report name f db parts format is file named form = (is, sym (first_value-rows f (codes "db")) ∙ sym file, named, subst (IsFormatOf format) (one_text-rows f (codes "json")) form)
+
+pub said_folder : (name : List ℕ) (f : Found) (db from to : List ℕ) → name ≡ codes "drop" → Some db ≡ first_value f (codes "db") → Some from ≡ first_value f (codes "in") → Some to ≡ first_value f (codes "out")
+    → IsSaid (folder db from to) name (rows_of f)
+said_folder name f db from to is file coming going =
+    (is, sym (first_value-rows f (codes "db")) ∙ sym file, sym (first_value-rows f (codes "in")) ∙ sym coming, sym (first_value-rows f (codes "out")) ∙ sym going)
+
+said_parts : {S : Type 0} (found : Option S) (name_in : S → List ℕ) (rows_in : S → List Row) (asked : CallValue) (name : List ℕ) (rows : List Row)
+    → Some name ≡ option_map name_in found → Some rows ≡ option_map (λ p. p.1) (option_map (pair name_in rows_in) found) → IsSaid asked name rows
+    → IsSaidIn asked (option_map (pair name_in rows_in) found)
+said_parts None name_in rows_in asked name rows named matched is = cc
+said_parts (Some s) name_in rows_in asked name rows named matched is =
+    let same : name_in s ≡ name = cc in
+    let same_rows : rows_in s ≡ rows = cc in
+    rw (same, same_rows) is
+
+pub said_in : (m : ArgMatches) (name : List ℕ) (rows : List Row) (result : Option Call) → Some name ≡ subcommand_name_of m → Some rows ≡ option_map (λ p. p.1) (subcommand_rows_of m)
+    → IfSome result (λ call. IsSaid (value_of_call call) name rows) → IfSome result (λ call. IsSaidIn (value_of_call call) (subcommand_rows_of m))
+said_in m name rows None named matched is = is
+said_in m name rows (Some call) named matched is =
+    said_parts (out-ArgMatches m).subcommand (λ b. (out-SubCommand (box_value b)).name.now) (λ b. rows_of (found_of (out-SubCommand (box_value b)).matches)) (value_of_call call) name rows named matched is
+
+pub said_of_none : (m : ArgMatches) → None ≡ subcommand_name_of m → IsSaidIn (play None) (subcommand_rows_of m)
+said_of_none m none = rw (none_in m none) refl
+
+free : is_simple_and_free desk_app ≡ true
+unfolding clap_on_literals
+free = refl
+
+pub said_by : (a : App) (words : List Text) (m : ArgMatches) (asked : CallValue) → HasMatchesOf a words m → (is_simple_and_free a ≡ true → fault_of a words ≡ []) → a ≡ desk_app
+    → IsSaidIn asked (subcommand_rows_of m) → IsSaidBy asked words
+said_by a words m asked has taken is said =
+    let same : subcommand_rows_of m ≡ subcommand_of desk_app words = (has (ap is_simple is ∙ simple)).1 ∙ ap (λ b. subcommand_of b words) is in
+    let faultless : fault_of desk_app words ≡ [] = ap (λ b. fault_of b words) (sym is) ∙ taken (ap is_simple_and_free is ∙ free) in
+    (faultless, subst (IsSaidIn asked) same said)
+
+-- and an error says what is found in the words
+
+pub found_wrong : (a : App) (words : List Text) (kind : ErrorKind) → (is_simple_and_free a ≡ true → (kind ≡ OutOfMemory) ⊎ IsAmong kind (fault_of a words)) → a ≡ desk_app
+    → (kind ≡ OutOfMemory) ⊎ IsErrorIn kind words
+found_wrong a words kind found is =
+    let P : App → Type 0 = λ b. (kind ≡ OutOfMemory) ⊎ IsAmong kind (fault_of b words) in
+    elim (subst P is (found (ap is_simple_and_free is ∙ free))) [ inl none ↦ inl none | inr among ↦ inr (inl among) ]
+
+pub fits_none : (a : App) (words : List Text) (kind : ErrorKind) → (is_simple_and_free a ≡ true → fault_of a words ≡ []) → a ≡ desk_app → kind ≡ InvalidValue
+    → (kind ≡ OutOfMemory) ⊎ IsErrorIn kind words
+fits_none a words kind taken is invalid = inr (inr (ap (λ b. fault_of b words) (sym is) ∙ taken (ap is_simple_and_free is ∙ free), invalid))
