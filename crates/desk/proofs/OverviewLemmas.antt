@@ -24,7 +24,7 @@ use Rattle.desk_book.specs.RowByRow.{WritesText}
 use Rattle.report_rows.specs.declared.format.Format.{Format}
 use Rattle.report_rows.specs.declared.format.Format.TheVariants.{Text, Json}
 use Rattle.desk.specs.OverviewAnswer.{IsAfterScript, IsFileOverviewAnswer, IsOpenOverviewAnswer, IsOverviewAnswer, IsOverviewEnd, IsOverviewFrom, IsShownText, MayPlayNone, failure_of_played, told_after, told_from, told_front, told_no_script, told_opened, told_report, told_unclosed, told_unopened}
-use Rattle.desk.specs.declared.answers.shown.Shown.{Shown}
+use Rattle.desk.specs.declared.answers.report.Shown.{Shown}
 use Rattle.desk.specs.Status.{EndsBy, IsFailureTold, IsUnopened, failure_line}
 use Rattle.desk.specs.declared.status.Failure.{Failure}
 use Rattle.desk.specs.declared.status.Failure.TheVariants.{Memory, Storage}

@@ -12,7 +12,7 @@ use Rattle.desk.specs.ReportAnswer.{IsReportAnswer, asked_for}
 use Rattle.desk.specs.ServeAnswer.{IsFileServeAnswer, IsServeAnswer}
 use Rattle.desk.specs.Status.{IsFailureTold, status_of_error}
 use Rattle.desk_words.specs.Words.{CallValue, isin, read, play, check, explain, serve, holdings, sums, folder, report, journal, IsErrorIn, IsSaidBy}
-use Rattle.desk.specs.declared.answers.shown.Shown.TheVariants.{Journal, Report}
+use Rattle.desk.specs.declared.answers.report.Shown.TheVariants.{Journal, Report}
 use Rattle.desk.specs.declared.status.Failure.TheVariants.{Memory}
 use Rattle.desk.specs.declared.status.Status.{Status}
 

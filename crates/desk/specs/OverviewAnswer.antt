@@ -25,8 +25,8 @@ use Rattle.desk_report.specs.Report.{IsReportText}
 use Rattle.desk.specs.Input.{Came, MayGiveNone, failure_of}
 use Rattle.desk.specs.PlayAnswer.{AreKept, IsReplyOrMemory}
 use Rattle.desk.specs.Status.{IsFailureTold, IsMemoryOr, IsUnopened, failure_line}
-use Rattle.desk.specs.declared.answers.shown.Shown.{Shown}
-use Rattle.desk.specs.declared.answers.shown.Shown.TheVariants.{Journal, Report}
+use Rattle.desk.specs.declared.answers.report.Shown.{Shown}
+use Rattle.desk.specs.declared.answers.report.Shown.TheVariants.{Journal, Report}
 use Rattle.desk.specs.declared.status.Failure.{Failure}
 use Rattle.desk.specs.declared.status.Failure.TheVariants.{Memory, Storage, Input}
 use Rattle.desk.specs.declared.status.Status.{Status}

@@ -7,7 +7,7 @@ use Rattle.desk.specs.OverviewAnswer.{IsFileOverviewAnswer}
 use Rattle.desk.specs.ReportAnswer.{IsReportAnswer, asked_for}
 use Rattle.desk.specs.ServeAnswer.{IsFileServeAnswer}
 use Rattle.desk_words.specs.Words.{explain, folder, holdings, journal, report, serve, sums}
-use Rattle.desk.specs.declared.answers.shown.Shown.TheVariants as shown
+use Rattle.desk.specs.declared.answers.report.Shown.TheVariants as shown
 use Rattle.desk_words.specs.declared.calls.Call.TheVariants as call
 use Rattle.desk.proofs.run.answer.Goals as goal
 

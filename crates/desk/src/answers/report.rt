@@ -1,27 +1,32 @@
 //! `desk report` and `desk journal`.
-ghost use Rattle.std.specs.Prelude.{◌≡◌, true, false, is_ok, Err, IfErr, IfOk, OnErr};
+ghost use Rattle.std.specs.Prelude.{◌≡◌, true, false, is_ok, Err, IfErr, IfOk, OnErr, unwrap_or};
 ghost use Rattle.std.specs.Io.KnownBytes.{Appends};
 ghost use Rattle.desk_rules.specs.Books.{Books};
 ghost use Rattle.desk_rules.specs.declared.limits.TheConstants.{MOST_ENTRIES};
+ghost use Rattle.desk_engine.specs.Applied.{Keeps};
+ghost use Rattle.desk_holdings.specs.Ends.{HaveRead, at_register};
 ghost use Rattle.desk_book.specs.Held.{IsReady, KeepsFormed};
+ghost use Rattle.desk_book.specs.RowByRow.{WritesText};
 ghost use Rattle.desk_index.specs.IndexView.{view_of_index};
 ghost use Rattle.desk_opening.specs.Opened.{IsReadyFor, view_of_both};
+ghost use Rattle.desk_register.specs.View.{IfTrusted};
 ghost use Rattle.desk_register.specs.declared.register.Stage.TheVariants.{Idle};
 ghost use Rattle.sqlite.specs.Held.{state};
 ghost use Rattle.desk.specs.Left.{FilesSay, TablesSay};
 ghost use Rattle.desk.specs.PlayAnswer.{KeptBy};
-ghost use Rattle.desk.specs.OverviewAnswer.{IsAfterScript, IsBrokenOffAs, IsFileOverviewAnswer, IsOpenOverviewAnswer, IsOverviewAnswer, IsOverviewEnd, IsOverviewFrom, MayPlayNone, failure_of_played, line_end};
+ghost use Rattle.desk.specs.OverviewAnswer.{IsAfterScript, IsBrokenOffAs, IsFileOverviewAnswer, IsOpenOverviewAnswer, IsOverviewAnswer, IsOverviewEnd, IsOverviewFrom, IsShownText, MayPlayNone, failure_of_played, line_end};
 
-use crate::answers::shown::{Shown, write_shown};
 use crate::status::{Failure, Status, tell_failure};
 use crate::store::{FileRegister, close_behind, connection_of, open_there, tell_unopened};
 use crate::teller::Teller;
 use desk_book::{Desk, PlayFault};
 use desk_holdings::WalkFault;
 use desk_index::IndexedRegister;
+use desk_journal::write_journal;
 use desk_mirror::MirroredRegister;
 use desk_msg::SinkFault;
 use desk_register::Register;
+use desk_report::{Parts, write_report};
 use desk_rules::MOST_ENTRIES;
 use desk_streams::{Sink, Source};
 use report_rows::Format;
@@ -31,6 +36,15 @@ use sqlite_disk::Disk;
 use std::alloc::Global;
 use std::io;
 use std::rt::HostRuntime;
+
+/// What is shown of a desk.
+#[derive(Clone, Copy)]
+pub enum Shown {
+    /// What stands at this moment: these parts of it
+    Report(Parts),
+    /// The accepted entries from a number on, or all of them
+    Journal(Option<u32>),
+}
 
 /// Plays a script from the reader on a new desk in memory, and prints what is to be shown of it then. `fault 60` tells that memory
 /// is wanting for the script, or, behind what was printed, for a row; `fault io` that the reader failed or the script is too long.
@@ -147,6 +161,36 @@ fn tell_overview<D: Register, W: Sink>(
 {
     let written = write_shown(alloc, register, shown, format, writer);
     tell_end(written, format, writer)
+}
+
+/// Writes what is shown of the desk of a register.
+fn write_shown<R: Register, W: Sink>(
+    alloc: Global,
+    register: &mut R,
+    shown: Shown,
+    format: Format,
+    writer: &mut W,
+) -> Result<(), WalkFault>
+    requires ready { IsReady false (R.view register.old) }
+    ensures written { format ≡ Format.Json → (books : Books) → IfTrusted (R.view register.old) (R.view register.new) (Keeps (R.view register.old).room books (R.view register.old).content
+        → WritesText (IsShownText books (R.view register.old).content shown) result (W.contents writer.old) (W.contents writer.new)) }
+    ensures read { HaveRead (at_register result) (R.view register.old) (R.view register.new) }
+    ensures unwritten { result ≡ Err (WalkFault.Sink SinkFault.Write) → W.may_fail ≡ true }
+{
+    match shown {
+        Shown::Report(parts) => write_report(alloc, register, parts, format, writer),
+        Shown::Journal(from) => write_journal(alloc, register, number_of(from), format, writer),
+    }
+}
+
+/// The number of the first entry that is told.
+fn number_of(from: Option<u32>) -> u64
+    ensures { result ≡ unwrap_or from 1 }
+{
+    match from {
+        Some(number) => u64::from(number),
+        None => 1,
+    }
 }
 
 /// Ends what was written, or a front of it, behind which it tells why it ends there.

@@ -7,7 +7,7 @@ use Rattle.desk_book.specs.Held.{IsReady}
 use Rattle.desk.specs.OverviewAnswer.{IsAfterScript}
 use Rattle.desk.proofs.OverviewLemmas.{after_script, none_played}
 use Rattle.desk.proofs.PlayLemmas.{limit_is, new_keeps}
-use Rattle.desk.proofs.answers.overview.register_after.Goals as goal
+use Rattle.desk.proofs.answers.report.register_after.Goals as goal
 
 pub new-desk-requires : goal.new-desk-requires
 new-desk-requires g c = record { stage = λ is. c.new.ensures.stage; sure = λ is honest. tt; books = λ is honest. (no_books, empty_formed _ _ c.new.ensures.empty) }

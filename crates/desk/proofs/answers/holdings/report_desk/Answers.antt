@@ -1,7 +1,7 @@
 use Rattle.std.proofs.Common.{refl}
 use Rattle.desk.specs.ReportAnswer.{asked_for}
 use Rattle.desk.proofs.ReportLemmas.{left_written, told_written}
-use Rattle.desk.proofs.answers.reports.report_desk.Goals as goal
+use Rattle.desk.proofs.answers.holdings.report_desk.Goals as goal
 
 pub returns-clause-reported : goal.returns-clause-reported
 returns-clause-reported g c =

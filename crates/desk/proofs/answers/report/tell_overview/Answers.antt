@@ -2,7 +2,7 @@ use Rattle.std.proofs.Common.{ℕ, refl, subst, sym}
 use Rattle.desk_engine.specs.Applied.{Keeps}
 use Rattle.desk.proofs.LeftLemmas.{have_same, have_stage}
 use Rattle.desk.proofs.OverviewLemmas.{told_overview}
-use Rattle.desk.proofs.answers.overview.tell_overview.Goals as goal
+use Rattle.desk.proofs.answers.report.tell_overview.Goals as goal
 
 pub returns-clause-told : goal.returns-clause-told
 returns-clause-told g c = λ books honest most keeps.

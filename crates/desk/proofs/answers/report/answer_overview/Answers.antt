@@ -1,7 +1,7 @@
 use Rattle.std.specs.Io.KnownBytes.{Appends}
 use Rattle.desk_index.specs.IndexView.{view_of_index}
 use Rattle.desk.proofs.OverviewLemmas.{told_none, told_of_script}
-use Rattle.desk.proofs.answers.overview.answer_overview.Goals as goal
+use Rattle.desk.proofs.answers.report.answer_overview.Goals as goal
 
 pub returns-in-Ok-clause-told : goal.returns-in-Ok-clause-told
 returns-in-Ok-clause-told g c =

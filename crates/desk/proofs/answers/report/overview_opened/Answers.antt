@@ -1,6 +1,6 @@
 use Rattle.std.proofs.Common.{refl}
 use Rattle.desk.proofs.OverviewLemmas.{ended_overview}
-use Rattle.desk.proofs.answers.overview.overview_opened.Goals as goal
+use Rattle.desk.proofs.answers.report.overview_opened.Goals as goal
 
 pub returns-clause-told : goal.returns-clause-told
 returns-clause-told g c = λ books keeps.
