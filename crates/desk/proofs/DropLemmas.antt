@@ -1,8 +1,8 @@
 -- A folder, taken on the desk of a file.
-use Rattle.std.proofs.Common.{inl, inr, ◌≡◌, ◌≢◌, ℕ, Bool, true, false, List, [], map, Option, refl, sym, ◌∙◌, subst}
-use Rattle.std.specs.Prelude.{Result, Ok, Err, IfErr, IfOk, IsOkAnd, OnErr}
+use Rattle.std.proofs.Common.{inl, inr, ◌≡◌, ◌≢◌, ℕ, Bool, false, List, [], ◌++◌, map, Option, refl, sym, ◌∙◌, subst}
+use Rattle.std.specs.Prelude.{Result, Ok, Err, IfErr, IfOk, IsOkAnd, OnErr, codes}
 use Rattle.std.specs.Io.KnownBytes.{Appends}
-use Rattle.std.proofs.KnownBytes.{Appends-nil}
+use Rattle.std.proofs.KnownBytes.{Appends-nil, Appends-trans}
 use Rattle.desk_rules.specs.Books.{Books}
 use Rattle.desk_register.specs.View.{View}
 use Rattle.desk_book.specs.Answered.{AnsweredInTurn}
@@ -15,8 +15,8 @@ use Rattle.desk_drop.specs.Folder.{File, IsOnlyFolder, Item}
 use Rattle.desk_drop.specs.Taken.{AreAnswered, HasTaken, answers_in, asked_in}
 use Rattle.desk.specs.Left.{IsLeft, LeavesSome, PassesOn}
 use Rattle.desk.specs.PlayAnswer.{AreHeld, KeptBy}
-use Rattle.desk.specs.DropAnswer.{AreTakenFrom, IsDropAnswer, IsFolderFailure, IsFolderTold, IsOpenDropAnswer, told_failed, told_nothing, told_opened, told_unclosed, told_unopened}
-use Rattle.desk.specs.Status.{EndsBy, IsFailureTold, IsUnopened}
+use Rattle.desk.specs.DropAnswer.{AreTakenFrom, IsFolderEnd, IsFolderFailure, IsFolderTold, IsOpenDropAnswer, told_done, told_failed, told_nothing, told_unclosed, told_undone}
+use Rattle.desk.specs.Status.{EndsBy, IsFailureTold, failure_line}
 use Rattle.desk.specs.declared.status.Failure.{Failure}
 use Rattle.desk.specs.declared.status.Failure.TheVariants.{Storage}
 use Rattle.desk.specs.declared.status.Status.{Status}
@@ -50,48 +50,30 @@ taken_from limit books files replies was is v0 v1 most room not_closed t honest 
       left = record { closed = refl; holds = taken.holds };
     }
 
+-- what is told of a folder
+pub folder_end : {X E : Type 0} (contents : X → Option (List ℕ)) (w0 w1 : X) (done : Result (Unit {0}) Failure) (r : Result Status E) → IfErr done IsFolderFailure → IfOk r (λ status. IsFolderTold done status (w1 ≡ w0) (Appends (contents w0) (contents w1)))
+    → IfOk r (λ status. IsFolderEnd status (Appends (contents w0) (contents w1)))
+folder_end contents w0 w1 done (Err e) why told = tt
+folder_end contents w0 w1 (Ok done) (Ok status) why told = told_done told.0 (subst (λ w. Appends (contents w0) (contents w) []) (sym told.1) (Appends-nil (contents w0)))
+folder_end contents w0 w1 (Err failure) (Ok status) why told = told_undone failure why told
+
 -- how it ended over a file
-module _ {X : Type 0} (has_closed : Bool) (contents : X → Option (List ℕ)) (w0 w1 w2 : X) where
-  -- what was told of the folder, and nothing behind it
-  told_alone : (done : Result (Unit {0}) Failure) (said : Status) → IfErr done IsFolderFailure → IsFolderTold done said (w1 ≡ w0) (Appends (contents w0) (contents w1)) → (said ≢ Fault → has_closed ≡ true) → IsOpenDropAnswer has_closed said (Appends (contents w0) (contents w1))
-  told_alone (Ok done) said why told closed =
-      let none : said ≢ Fault = λ is. (let clash : Done ≡ Fault = sym told.0 ∙ is in cc) in
-      told_nothing told.0 (closed none) (subst (λ w. Appends (contents w0) (contents w) []) (sym told.1) (Appends-nil (contents w0)))
-  told_alone (Err failure) said why told closed = told_failed failure why told
+module _ (has_closed : Bool) (before mid after : Option (List ℕ)) where
+  ended_by : (said status : Status) → IsFolderEnd said (Appends before mid) → EndsBy has_closed said status (after ≡ mid) (Appends mid after) → IsOpenDropAnswer has_closed status (Appends before after)
+  ended_by said status (told_done done none) (inl same) =
+      let no_fault : said ≢ Fault = λ is. (let clash : Done ≡ Fault = sym done ∙ is in cc) in
+      told_nothing (same.0 ∙ done) (same.2 no_fault) (subst (λ k. Appends before k []) (sym same.1) none)
+  ended_by said status (told_undone failure why told) (inl same) =
+      let P : Status → Type 0 = λ s. IsFailureTold failure s (Appends before after) in
+      told_failed failure why (subst P (sym same.0) (subst (λ k. IsFailureTold failure said (Appends before k)) (sym same.1) told))
+  ended_by said status (told_done done none) (inr unclosed) = told_unclosed unclosed.1 (unclosed.2.0, Appends-trans before mid after [] (failure_line Storage ++ codes "\n") none unclosed.2.1)
+  ended_by said status (told_undone failure why told) (inr unclosed) = absurd (unclosed.0 told.0)
 
-  -- the file could not be closed, which is told alone where each answer is written
-  told_behind : (done : Result (Unit {0}) Failure) (said status : Status) → IsFolderTold done said (w1 ≡ w0) (Appends (contents w0) (contents w1)) → said ≢ Fault → has_closed ≡ false → IsFailureTold Storage status (Appends (contents w1) (contents w2))
-      → IsOpenDropAnswer has_closed status (Appends (contents w0) (contents w2))
-  told_behind (Ok done) said status told still left unclosed = told_unclosed left (subst (λ w. IsFailureTold Storage status (Appends (contents w) (contents w2))) told.1 unclosed)
-  told_behind (Err failure) said status told still left unclosed = absurd (still told.0)
-
-  pub ended_folder : {E : Type 0} (done : Result (Unit {0}) Failure) (told result : Result Status E) → IfErr done IsFolderFailure → IfOk told (λ said. IsFolderTold done said (w1 ≡ w0) (Appends (contents w0) (contents w1)))
-      → IfOk result (λ status. IsOkAnd told (λ said. EndsBy has_closed said status (contents w2 ≡ contents w1) (Appends (contents w1) (contents w2)))) → IfOk result (λ status. IsOpenDropAnswer has_closed status (Appends (contents w0) (contents w2)))
-  ended_folder done told (Err e) why is ends = tt
-  ended_folder done (Err e) (Ok status) why is ends = absurd ends
-  ended_folder done (Ok said) (Ok status) why is (inl same) =
-      let P : Status → Type 0 = λ s. IsOpenDropAnswer has_closed s (Appends (contents w0) (contents w2)) in
-      subst P (sym same.0) (subst (λ k. IsOpenDropAnswer has_closed said (Appends (contents w0) k)) (sym same.1) (told_alone done said why is same.2))
-  ended_folder done (Ok said) (Ok status) why is (inr unclosed) = told_behind done said status is unclosed.0 unclosed.1 unclosed.2
-
--- the file was not opened
-pub untaken : {E : Type 0} (r : Result Status E) (P : List ℕ → Type 0) → IfOk r (λ status. IsUnopened status P) → IfOk r (λ status. IsDropAnswer status P)
-untaken (Ok status) P told = told_unopened told
-untaken (Err e) P told = tt
-
--- the file was opened
-pub taken_there : {E : Type 0} (r : Result Status E) (has_closed : Bool) (P : List ℕ → Type 0) → IfOk r (λ status. IsOpenDropAnswer has_closed status P) → IfOk r (λ status. IsDropAnswer status P)
-taken_there (Ok status) has_closed P told = told_opened has_closed told
-taken_there (Err e) has_closed P told = tt
-
--- a folder was taken on the desk over a register
-pub drops_over : {R : Type 0} (view : R → View) (register : R) (made now : DeskValue R) → made.register ≡ register → made.is_closed ≡ false
-    → ((books : Books) → (view now.register).is_honest → Holds made.is_closed (view made.register) books → LeavesSome (view made.register).room books (IsLeft now.is_closed (view now.register)))
-    → (books : Books) → AreHeld (view register) (view now.register) books → LeavesSome (view register).room books (IsLeft now.is_closed (view now.register))
-drops_over {R} view register made now same stays left books held =
-    let Q : R → Type 0 = λ r. LeavesSome (view r).room books (IsLeft now.is_closed (view now.register)) in
-    let K : R → Type 0 = λ r. KeepsFormed (view r).room books (view r).content in
-    subst Q same (left books held.0 (λ is. subst K (sym same) held.1))
+  pub ended_folder : {E : Type 0} (told result : Result Status E) → IfOk told (λ said. IsFolderEnd said (Appends before mid)) → IfOk result (λ status. IsOkAnd told (λ said. EndsBy has_closed said status (after ≡ mid) (Appends mid after)))
+      → IfOk result (λ status. IsOpenDropAnswer has_closed status (Appends before after))
+  ended_folder told (Err e) is ends = tt
+  ended_folder (Err e) (Ok status) is ends = absurd ends
+  ended_folder (Ok said) (Ok status) is ends = ended_by said status is ends
 
 -- what a folder left over a file
 pub left_taken : (books : Books) (v0 v1 : View) (L M : Bool → Books → Type 0) → v0.room ≡ MOST_ENTRIES → v1.is_honest → (AreHeld v0 v1 books → LeavesSome v0.room books L) → PassesOn L M → KeptBy v0 books → LeavesSome MOST_ENTRIES books M

@@ -8,9 +8,9 @@ use Rattle.desk.specs.declared.status.Failure.TheVariants.{NotOurFile, OtherVers
 
 pub failure_told : (failure : Failure) → failure ≢ Input → TellsCause (failure_line failure)
 unfolding catalogue digits
-failure_told NotOurFile no = record { number = 50; rest = []; is_explained = refl; begins = refl }
-failure_told OtherVersion no = record { number = 51; rest = []; is_explained = refl; begins = refl }
-failure_told Memory no = record { number = 60; rest = []; is_explained = refl; begins = refl }
-failure_told Storage no = record { number = 61; rest = []; is_explained = refl; begins = refl }
-failure_told Closed no = record { number = 62; rest = []; is_explained = refl; begins = refl }
-failure_told Input no = absurd (no refl)
+failure_told NotOurFile other = record { number = 50; rest = []; is_explained = refl; begins = refl }
+failure_told OtherVersion other = record { number = 51; rest = []; is_explained = refl; begins = refl }
+failure_told Memory other = record { number = 60; rest = []; is_explained = refl; begins = refl }
+failure_told Storage other = record { number = 61; rest = []; is_explained = refl; begins = refl }
+failure_told Closed other = record { number = 62; rest = []; is_explained = refl; begins = refl }
+failure_told Input other = absurd (other refl)

@@ -20,11 +20,9 @@ use Rattle.sql_register.specs.Kept.{IsKept, Kept}
 use Rattle.desk_index.specs.declared.indexed_register.IndexedRegister.{IndexedRegister}
 use Rattle.desk_mirror.specs.Both.{Both}
 use Rattle.desk_opening.specs.Opened.{view_of_both}
-use Rattle.desk_book.specs.Answered.{AnsweredInTurn}
 use Rattle.desk_book.specs.Held.{Holds, IsReady, KeepsFormed}
 use Rattle.desk_holdings.specs.Ends.{HaveRead}
 use Rattle.desk.specs.Closed.{AreClosed}
-use Rattle.desk.specs.ServeAnswer.{HoldsOn}
 use Rattle.desk.specs.Left.{AreLeft, AreSaid, IsLeft, LeavesSome, PassesOn, TablesSay}
 use Rattle.desk.specs.PlayAnswer.{KeptBy}
 
@@ -69,21 +67,6 @@ pub some_left : (limit : ℕ) (books : Books) (L M : Bool → Books → Type 0) 
 some_left limit books L M most on left =
     let moved : LeavesSome limit books M = record { requests = left.requests; answers = left.answers; is_closed = left.is_closed; last = left.last; in_turn = left.in_turn; left = on.each left.is_closed left.last left.left } in
     subst (λ k. LeavesSome k books M) most moved
-
--- what connections left of a desk that was open
-pub left_of_requests : (books : Books) (is : Bool) (v0 v1 : View) (M : Bool → Books → Type 0) → v0.room ≡ MOST_ENTRIES → v1.is_honest → (v1.is_honest → HoldsOn false v0 is v1) → PassesOn (IsLeft is v1) M
-    → KeptBy v0 books → LeavesSome MOST_ENTRIES books M
-left_of_requests books is v0 v1 M most honest keeps on held =
-    let l = keeps honest books (λ it. subst (λ k. KeepsFormed k books v0.content) (sym most) held) in
-    let P : ℕ → Type 0 = λ k. AnsweredInTurn k false books l.requests l.answers is l.last in
-    record {
-      requests = l.requests;
-      answers = l.answers;
-      is_closed = is;
-      last = l.last;
-      in_turn = subst P most l.in_turn;
-      left = on.each is l.last (record { closed = refl; holds = l.holds });
-    }
 
 -- several reading calls of a register with no `begin` open: none is open behind them, and it holds what it held
 module _ {X : Type 0} (v0 v1 : View) where

@@ -1,4 +1,5 @@
 pub mod ReadLemmas
+mod OverFileLemmas
 mod OverviewLemmas
 mod PlayLemmas
 mod LeftLemmas

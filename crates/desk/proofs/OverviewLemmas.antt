@@ -23,9 +23,9 @@ use Rattle.desk_book.specs.Played.{PlaysScript, asked_in}
 use Rattle.desk_book.specs.RowByRow.{WritesText}
 use Rattle.report_rows.specs.declared.format.Format.{Format}
 use Rattle.report_rows.specs.declared.format.Format.TheVariants.{Text, Json}
-use Rattle.desk.specs.OverviewAnswer.{IsAfterScript, IsFileOverviewAnswer, IsOpenOverviewAnswer, IsOverviewAnswer, IsOverviewEnd, IsOverviewFrom, IsShownText, MayPlayNone, failure_of_played, told_after, told_from, told_front, told_no_script, told_opened, told_report, told_unclosed, told_unopened}
+use Rattle.desk.specs.OverviewAnswer.{IsAfterScript, IsOpenOverviewAnswer, IsOverviewAnswer, IsOverviewEnd, IsOverviewFrom, IsShownText, MayPlayNone, failure_of_played, told_after, told_from, told_front, told_no_script, told_report, told_unclosed}
 use Rattle.desk.specs.declared.answers.report.Shown.{Shown}
-use Rattle.desk.specs.Status.{EndsBy, IsFailureTold, IsUnopened, failure_line}
+use Rattle.desk.specs.Status.{EndsBy, IsFailureTold, failure_line}
 use Rattle.desk.specs.declared.status.Failure.{Failure}
 use Rattle.desk.specs.declared.status.Failure.TheVariants.{Memory, Storage}
 use Rattle.desk.specs.declared.status.Status.{Status}
@@ -121,17 +121,6 @@ module _ (has_closed : Bool) (shown : Shown) (books : Books) (before mid after :
   ended_overview format told (Err e) is ends = tt
   ended_overview format (Err e) (Ok status) is ends = absurd ends
   ended_overview format (Ok said) (Ok status) is ends = ended_by format said status is ends
-
--- the file was opened
-pub shown_there : {E : Type 0} (r : Result Status E) (has_closed : Bool) (view : View) (shown : Shown) (format : Format) (P : List ℕ → Type 0) → (kept : (books : Books) × KeepsFormed MOST_ENTRIES books view.content)
-    → IfOk r (λ status. IsOpenOverviewAnswer has_closed shown format kept.0 status P) → IfOk r (λ status. IsFileOverviewAnswer shown format status P)
-shown_there (Ok status) has_closed view shown format P kept told = told_opened kept.0 (view.content, kept.1) has_closed told
-shown_there (Err e) has_closed view shown format P kept told = tt
-
--- the file was not opened
-pub unopened : {E : Type 0} (r : Result Status E) (shown : Shown) (format : Format) (P : List ℕ → Type 0) → IfOk r (λ status. IsUnopened status P) → IfOk r (λ status. IsFileOverviewAnswer shown format status P)
-unopened (Ok status) shown format P told = told_unopened told
-unopened (Err e) shown format P told = tt
 
 -- why no script was played by a writer that does not fail
 pub none_played : (given : Option (List ℕ)) (U : Type 0) (may_fail : Bool) (fault : PlayFault) (failure : Failure) → (fault ≡ plays.Memory → U) → (fault ≡ plays.ReadFailed → may_fail ≡ true)

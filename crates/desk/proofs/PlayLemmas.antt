@@ -28,9 +28,9 @@ use Rattle.desk_book.specs.declared.fault.PlayFault.{PlayFault}
 use Rattle.desk_book.specs.declared.fault.PlayFault.TheVariants as plays
 use Rattle.desk.specs.Input.{MayGiveNone, failure_of}
 use Rattle.desk.specs.Left.{IsLeft, PassesOn}
-use Rattle.desk.specs.PlayAnswer.{AreHeld, IsOpenPlayAnswer, IsPlayedAnyhow, KeptBy, PlaysFrom, told_opened, IsLeftAnyhow, IsReplyOrMemory, IsPlayAnswer, IsPlayAnswerFrom, IsPlayed, IsPlayedFrom, IsPlayedInFront, IsPlayedInPart, IsPlayTold, IsFilePlayAnswer, told_answers, told_answers_from, told_from, told_no_script_from, told_unclosed, told_unopened}
+use Rattle.desk.specs.PlayAnswer.{AreHeld, IsOpenPlayAnswer, IsPlayedAnyhow, KeptBy, PlaysFrom, told_opened, IsLeftAnyhow, IsReplyOrMemory, IsPlayAnswer, IsPlayAnswerFrom, IsPlayed, IsPlayedFrom, IsPlayedInFront, IsPlayedInPart, IsPlayTold, IsFilePlayAnswer, told_answers, told_answers_from, told_from, told_no_script_from, told_unclosed}
 use Rattle.desk_opening.specs.Opened.{IsReadyFor}
-use Rattle.desk.specs.Status.{Ends, EndsBy, IsFailureTold, IsUnopened, failure_line}
+use Rattle.desk.specs.Status.{Ends, EndsBy, IsFailureTold, failure_line}
 use Rattle.desk.specs.declared.status.Failure.{Failure}
 use Rattle.desk.specs.declared.status.Failure.TheVariants as failure
 use Rattle.desk.specs.declared.status.Failure.TheVariants.{Storage}
@@ -222,13 +222,6 @@ new_keeps made held same empty =
 pub limit_is : (made held : IndexedRegister) → held ≡ made → (view_of_index made).room ≡ MOST_ENTRIES → (view_of_index held).room ≡ MOST_ENTRIES
 limit_is made held same limit = let P : IndexedRegister → Type 0 = λ r. (view_of_index r).room ≡ MOST_ENTRIES in subst P (sym same) limit
 
--- a script was played on the desk over a register
-pub plays_over : {R E : Type 0} (view : R → View) (register : R) (made now : DeskValue R) (L : Bool → Books → Type 0) (given : Option (List ℕ)) (U : Type 0) (reads : Bool) (r : Result Status E) (P : List ℕ → Type 0) → made.register ≡ register
-    → PlaysFrom (view made.register).room (AreHeld (view made.register) (view now.register)) L given U reads r P → PlaysFrom (view register).room (AreHeld (view register) (view now.register)) L given U reads r P
-plays_over {R} view register made now L given U reads r P same played =
-    let Q : R → Type 0 = λ k. PlaysFrom (view k).room (AreHeld (view k) (view now.register)) L given U reads r P in
-    subst Q same played
-
 -- the same over tables with a register in memory beside them
 pub plays_on_both : {E : Type 0} (v0 v1 : View) (L M : Bool → Books → Type 0) (given : Option (List ℕ)) (U : Type 0) (reads : Bool) (r : Result Status E) (P : List ℕ → Type 0) → IsReadyFor MOST_ENTRIES v0 → v1.is_honest → PlaysFrom v0.room (AreHeld v0 v1) L given U reads r P
     → PassesOn L M → PlaysFrom MOST_ENTRIES (KeptBy v0) M given U reads r P
@@ -278,11 +271,6 @@ module _ {E : Type 0} (K : Books → Type 0) (L M : Bool → Books → Type 0) (
 
   pub opened_stands : (books : Books) → K books → OnErr result (IsPlayedAnyhow M books given)
   opened_stands books keeps = stands_so played result books (told_there books keeps) (err_part_of MOST_ENTRIES L M on.each books given played (from.stands books keeps))
-
--- the file was not opened, and the reader is as it was
-pub unplayed : {E X : Type 0} (r : Result Status E) (given : Option (List ℕ)) (reader : X) (reads : Bool) (P : List ℕ → Type 0) → IfOk r (λ status. IsUnopened status P) → IfOk r (λ status. IsFilePlayAnswer given (reader ≡ reader) reads status P)
-unplayed (Ok status) given reader reads P told = told_unopened refl told
-unplayed (Err e) given reader reads P told = tt
 
 -- of what is left nothing is said
 anyhow : (has_closed : Bool) (L : Bool → Books → Type 0) (books : Books) (given : Option (List ℕ)) (U : Type 0) (reads : Bool) (status : Status) (P : List ℕ → Type 0) → IsOpenPlayAnswer has_closed L books given U reads status P → IsOpenPlayAnswer has_closed IsLeftAnyhow books given U reads status P

@@ -18,8 +18,8 @@ use Rattle.desk_book.specs.declared.fault.ToFault.TheVariants as to
 use Rattle.desk_opening.specs.Opened.{IsReadyFor}
 use Rattle.desk.specs.Left.{AreLeft, IsLeft, PassesOn}
 use Rattle.desk.specs.PlayAnswer.{AreHeld, KeptBy}
-use Rattle.desk.specs.ReportAnswer.{IsOpenReportAnswer, IsReportAnswer, IsReportFrom, IsReportTold, LeavesBooks, ReportsFrom, told_answer, told_from, told_front, told_opened, told_unclosed, told_unopened}
-use Rattle.desk.specs.Status.{Ends, EndsBy, IsUnopened, failure_line}
+use Rattle.desk.specs.ReportAnswer.{IsOpenReportAnswer, IsReportFrom, IsReportTold, LeavesBooks, ReportsFrom, told_answer, told_from, told_front, told_unclosed}
+use Rattle.desk.specs.Status.{Ends, EndsBy, failure_line}
 use Rattle.desk.specs.declared.status.Failure.TheVariants.{Memory, Storage}
 use Rattle.desk.specs.declared.status.Status.{Status}
 use Rattle.desk.specs.declared.status.Status.TheVariants.{Fault}
@@ -56,13 +56,6 @@ pub left_written : {R E : Type 0} (view : R → View) (now : DeskValue R) (books
     → IfOk r (λ status. IsReportTold written status P) → IfOk r (λ status. status ≢ Fault → IsLeft now.is_closed (view now.register) false books)
 left_written view now books (Ok status) written P stays holds told = left_open view now books written status P stays holds told
 left_written view now books (Err e) written P stays holds told = tt
-
--- the question was answered by the desk over a register
-pub reports_over : {R E : Type 0} (view : R → View) (register : R) (made now : DeskValue R) (L : Bool → Books → Type 0) (asked : Asked) (r : Result Status E) (P : List ℕ → Type 0) → made.register ≡ register
-    → ReportsFrom (view made.register).room (AreHeld (view made.register) (view now.register)) L asked r P → ReportsFrom (view register).room (AreHeld (view register) (view now.register)) L asked r P
-reports_over {R} view register made now L asked r P same reported =
-    let Q : R → Type 0 = λ k. ReportsFrom (view k).room (AreHeld (view k) (view now.register)) L asked r P in
-    subst Q same reported
 
 -- the same over tables with a register in memory beside them
 pub reports_on_both : {E : Type 0} (v0 v1 : View) (L M : Bool → Books → Type 0) (asked : Asked) (r : Result Status E) (P : List ℕ → Type 0) → IsReadyFor MOST_ENTRIES v0 → v1.is_honest → ReportsFrom v0.room (AreHeld v0 v1) L asked r P → PassesOn L M
@@ -111,14 +104,3 @@ module _ {E : Type 0} (has_closed : Bool) (K : Books → Type 0) (L : Bool → B
   pub opened_left : {D F : Type 0} (g : Ghosts D) (closed : Result (Files D) F) → PassesOn L (AreLeft g closed) → Ends has_closed reported result mid after
       → (books : Books) → K books → LeavesBooks g result closed books
   opened_left g closed on ends books keeps = leaves_so g closed reported result books on (from.stays books keeps) ends.by
-
--- the file was opened
-pub reported_there : {E : Type 0} (r : Result Status E) (has_closed : Bool) (view : View) (asked : Asked) (P : List ℕ → Type 0) → (kept : (books : Books) × KeepsFormed MOST_ENTRIES books view.content) → IfOk r (λ status. IsOpenReportAnswer has_closed kept.0 asked status P)
-    → IfOk r (λ status. IsReportAnswer asked status P)
-reported_there (Ok status) has_closed view asked P kept told = told_opened kept.0 (view.content, kept.1) has_closed told
-reported_there (Err e) has_closed view asked P kept told = tt
-
--- the file was not opened
-pub unreported : {E : Type 0} (r : Result Status E) (asked : Asked) (P : List ℕ → Type 0) → IfOk r (λ status. IsUnopened status P) → IfOk r (λ status. IsReportAnswer asked status P)
-unreported (Ok status) asked P told = told_unopened told
-unreported (Err e) asked P told = tt

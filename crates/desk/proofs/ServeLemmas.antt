@@ -1,5 +1,5 @@
 -- What connections leave of a desk.
-use Rattle.std.proofs.Common.{◌≡◌, ◌⊎◌, ◌∙◌, ℕ, Bool, false, List, [], ◌∷◌, ◌++◌, Option, None, inl, inr, refl, sym, subst, arith}
+use Rattle.std.proofs.Common.{◌≡◌, ◌⊎◌, ◌∙◌, ℕ, Bool, List, [], ◌∷◌, ◌++◌, Option, None, inl, inr, refl, sym, subst, arith}
 use Rattle.std.proofs.KnownBytes.{Appends-trans}
 use Rattle.std.specs.Io.KnownBytes.{Appends}
 use Rattle.std.specs.Prelude.{Result, Ok, Err, IfOk, IsOkAnd, OnOk, codes}
@@ -9,14 +9,13 @@ use Rattle.desk_register.specs.View.{View, IsLater}
 use Rattle.desk_book.specs.declared.fault.Fault.{Fault}
 use Rattle.desk_book.specs.Answered.{AnsweredInTurn, says_closed}
 use Rattle.desk_book.specs.Asked.{Asked}
-use Rattle.desk_book.specs.DeskValue.{DeskValue}
 use Rattle.desk_book.specs.Held.{Holds}
 use Rattle.desk_book.proofs.HeadlineLemmas.{promised}
 use Rattle.desk_http.specs.Served.{Responds, Serves, asked_of_desk}
 use Rattle.desk_http.specs.declared.refusal.HttpFault.{HttpFault}
 use Rattle.desk_http.specs.declared.refusal.HttpFault.TheVariants.{Memory, ReadFailed, WriteFailed}
-use Rattle.desk.specs.ServeAnswer.{HoldsOn, IsFileServeAnswer, IsOpenServeAnswer, IsServeAnswer, Leaves, listening_line, told_opened, told_served, told_unclosed, told_unopened}
-use Rattle.desk.specs.Status.{Ends, EndsBy, IsFailureTold, IsMemoryOr, IsUnopened, failure_line}
+use Rattle.desk.specs.ServeAnswer.{HoldsOn, IsOpenServeAnswer, IsServeAnswer, Leaves, listening_line, told_served, told_unclosed}
+use Rattle.desk.specs.Status.{Ends, EndsBy, IsFailureTold, IsMemoryOr, failure_line}
 use Rattle.desk.specs.declared.status.Failure.{Failure}
 use Rattle.desk.specs.declared.status.Failure.TheVariants.{Input, Storage}
 use Rattle.desk.specs.declared.status.Status.{Status}
@@ -95,14 +94,6 @@ later_all_along v0 v1 v2 a b = record {
   room = b.room ∙ a.room;
 }
 
--- connections were served on the desk over a register
-pub serves_over : {R : Type 0} (view : R → View) (register : R) (made now : DeskValue R) → made.register ≡ register → made.is_closed ≡ false → ((view now.register).is_honest → HoldsOn made.is_closed (view made.register) now.is_closed (view now.register))
-    → (view now.register).is_honest → HoldsOn false (view register) now.is_closed (view now.register)
-serves_over {R} view register made now same stays keeps honest =
-    let Q : R → Type 0 = λ r. HoldsOn false (view r) now.is_closed (view now.register) in
-    let W : Bool → Type 0 = λ b. HoldsOn b (view made.register) now.is_closed (view now.register) in
-    subst Q same (subst W stays (keeps honest))
-
 -- how it ended over a file
 module _ (has_closed : Bool) (port : ℕ) (before mid after : Option (List ℕ)) where
   ended_by : (said status : Status) → IsServeAnswer port said (Appends before mid) → EndsBy has_closed said status (after ≡ mid) (Appends mid after) → IsOpenServeAnswer has_closed port status (Appends before after)
@@ -123,16 +114,6 @@ module _ (has_closed : Bool) (port : ℕ) (before mid after : Option (List ℕ))
 
   pub ended_served : {E : Type 0} (told result : Result Status E) → Ends has_closed told result mid after → IfOk told (λ status. IsServeAnswer port status (Appends before mid)) → IfOk result (λ status. IsOpenServeAnswer has_closed port status (Appends before after))
   ended_served told result ends is = ended_so told result ends.by is
-
--- the file was opened
-pub served_there : {E : Type 0} (r : Result Status E) (has_closed : Bool) (port : ℕ) (P : List ℕ → Type 0) → IfOk r (λ status. IsOpenServeAnswer has_closed port status P) → IfOk r (λ status. IsFileServeAnswer port status P)
-served_there (Ok status) has_closed port P told = told_opened has_closed told
-served_there (Err e) has_closed port P told = tt
-
--- the file was not opened
-pub unserved : {E : Type 0} (r : Result Status E) (port : ℕ) (P : List ℕ → Type 0) → IfOk r (λ status. IsUnopened status P) → IfOk r (λ status. IsFileServeAnswer port status P)
-unserved (Ok status) port P told = told_unopened told
-unserved (Err e) port P told = tt
 
 -- nobody is there, and why is told
 pub nobody_there : {E : Type 0} (r : Result Status E) (failure : Failure) (port : ℕ) (P : List ℕ → Type 0) → IsMemoryOr Input failure → IfOk r (λ status. IsFailureTold failure status P) → IfOk r (λ status. IsServeAnswer port status P)

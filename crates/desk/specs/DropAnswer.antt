@@ -39,6 +39,11 @@ abbrev pub IsFolderTold : Result (Unit {0}) Failure → Status → Type 0 → (L
 IsFolderTold (Ok done) status IsUnwritten IsPrinted = (status ≡ Done) × IsUnwritten
 IsFolderTold (Err failure) status IsUnwritten IsPrinted = IsFailureTold failure status IsPrinted
 
+-- it is done, and nothing is told; or, alone, what failed of the folders
+pub data IsFolderEnd (status : Status) (IsPrinted : List ℕ → Type 0) : Type 0 where
+  told_done : status ≡ Done → IsPrinted [] → IsFolderEnd status IsPrinted
+  told_undone : (failure : Failure) → IsFolderFailure failure → IsFailureTold failure status IsPrinted → IsFolderEnd status IsPrinted
+
 -- What is told of a folder over a file that was opened, which was closed then, or could not be: nothing where each answer is written;
 -- or, alone, what failed of the folders, or that the file could not be closed.
 pub data IsOpenDropAnswer (has_closed : Bool) (status : Status) (IsPrinted : List ℕ → Type 0) : Type 0 where

@@ -10,11 +10,11 @@ mod report;
 mod serve;
 
 pub use check::answer_check;
-pub use drop::answer_drop;
+pub use drop::{Folders, take_folder};
 pub use explain::answer_explain;
-pub use holdings::answer_report;
+pub use holdings::report_desk;
 pub use isin::answer_isin;
-pub use play::{answer_play, answer_play_on};
+pub use play::{answer_play, play_desk};
 pub use read::answer_read;
-pub use report::{Shown, answer_overview, answer_overview_on};
-pub use serve::{answer_serve, answer_serve_on};
+pub use report::{Shown, answer_overview, show_on_both};
+pub use serve::{answer_serve, serve_desk};

@@ -8,6 +8,7 @@
 mod answers;
 mod findings;
 mod folders;
+mod over_file;
 mod run;
 mod status;
 mod store;

@@ -8,10 +8,10 @@ ghost use Rattle.desk.specs.Status.{IsFailureTold, IsNoWordsTold, status_of_erro
 ghost use Rattle.desk_words.specs.Words.{CallValue, IsAskable, ReadsOnlyInstructions, value_of_call, words_for};
 
 use crate::answers::{
-    Shown, answer_check, answer_drop, answer_explain, answer_isin, answer_overview,
-    answer_overview_on, answer_play, answer_play_on, answer_read, answer_report, answer_serve,
-    answer_serve_on,
+    Folders, Shown, answer_check, answer_explain, answer_isin, answer_overview, answer_play,
+    answer_read, answer_serve,
 };
+use crate::over_file::{Ask, Job, over_file};
 use crate::status::{Failure, Status, tell_failure};
 use clap::error::{Error, ErrorKind};
 use desk_streams::{Sink, Source};
@@ -79,27 +79,39 @@ fn answer<R: Source, W: Sink>(
         Call::Isin(code) => answer_isin(code.as_bytes(), writer),
         Call::Read(mt) => answer_read(rt.alloc(), mt, reader, writer),
         Call::Play => answer_play(rt.alloc(), reader, writer),
-        Call::PlayOn(db) => answer_play_on(rt, db, Unknown, reader, writer),
+        Call::PlayOn(db) => over_file(rt, db, Unknown, &Job::Ask(Ask::Play), reader, writer),
         Call::Check => answer_check(rt.alloc(), reader, writer),
         Call::Explain(topic) => answer_explain(topic, writer),
         Call::Serve(port, count) => answer_serve(rt, rt.alloc(), port, count, writer),
-        Call::ServeOn(db, port, count) => answer_serve_on(rt, db, Unknown, port, count, writer),
-        Call::Holdings(db, owner, account) => {
-            answer_report(rt, db, Unknown, Some(owner), account.as_bytes(), writer)
+        Call::ServeOn(db, port, count) => {
+            let job = Job::Ask(Ask::Serve(port, count));
+            over_file(rt, db, Unknown, &job, reader, writer)
         }
-        Call::Sums(db) => answer_report(rt, db, Unknown, None, b"", writer),
-        Call::Folder(db, from, to) => answer_drop(rt, db, Unknown, from, to, writer),
+        Call::Holdings(db, owner, account) => {
+            let job = Job::Ask(Ask::Tell(Some(owner), account.as_bytes()));
+            over_file(rt, db, Unknown, &job, reader, writer)
+        }
+        Call::Sums(db) => {
+            let job = Job::Ask(Ask::Tell(None, b""));
+            over_file(rt, db, Unknown, &job, reader, writer)
+        }
+        Call::Folder(db, from, to) => {
+            let job = Job::Ask(Ask::Take(Folders { from, to }));
+            over_file(rt, db, Unknown, &job, reader, writer)
+        }
         Call::Report(parts, format) => {
             answer_overview(rt.alloc(), Shown::Report(parts), format, reader, writer)
         }
         Call::ReportOn(db, parts, format) => {
-            answer_overview_on(rt, db, Unknown, Shown::Report(parts), format, writer)
+            let job = Job::Show(Shown::Report(parts), format);
+            over_file(rt, db, Unknown, &job, reader, writer)
         }
         Call::Journal(from, format) => {
             answer_overview(rt.alloc(), Shown::Journal(from), format, reader, writer)
         }
         Call::JournalOn(db, from, format) => {
-            answer_overview_on(rt, db, Unknown, Shown::Journal(from), format, writer)
+            let job = Job::Show(Shown::Journal(from), format);
+            over_file(rt, db, Unknown, &job, reader, writer)
         }
     }
 }

@@ -1,42 +1,31 @@
 //! `desk drop`.
-ghost use Rattle.std.specs.Prelude.{◌≡◌, ◌<◌, true, false, is_ok, All, length, map, string_bytes, IfErr, IfOk, OnErr};
+ghost use Rattle.std.specs.Prelude.{◌≡◌, ◌<◌, true, false, All, length, map, string_bytes, IfErr, IfOk, OnErr};
 ghost use Rattle.std.specs.Io.KnownBytes.{Appends};
-ghost use Rattle.sqlite.specs.Held.{state};
-ghost use Rattle.desk_rules.specs.Books.{Books};
-ghost use Rattle.desk_rules.specs.declared.limits.TheConstants.{MOST_ENTRIES};
 ghost use Rattle.desk_book.specs.Answered.{AreBlamed};
-ghost use Rattle.desk_book.specs.Held.{IfHolds, IsReady};
+ghost use Rattle.desk_book.specs.Held.{IfHolds};
 ghost use Rattle.desk_book.specs.Played.{answer_text};
 ghost use Rattle.desk_drop.specs.Folder.{file_of};
-ghost use Rattle.desk_opening.specs.Opened.{IsReadyFor, view_of_both};
 ghost use Rattle.desk_register.specs.View.{IfCounted, IsLater};
-ghost use Rattle.desk.specs.Left.{AreLeft, AreSaid, IsLeft, LeavesSome};
-ghost use Rattle.desk.specs.PlayAnswer.{AreHeld, KeptBy};
-ghost use Rattle.desk.specs.DropAnswer.{AreTakenFrom, IsDropAnswer, IsFolderFailure, IsFolderTold, IsOpenDropAnswer, answer_name};
+ghost use Rattle.desk.specs.Left.{IsLeft, LeavesSome};
+ghost use Rattle.desk.specs.DropAnswer.{AreTakenFrom, IsFolderEnd, IsFolderFailure, IsFolderTold, answer_name};
 
 use crate::folders::{BEHIND, Found, put_answer, read_folder, try_folder};
 use crate::status::{Failure, Status, tell_failure};
-use crate::store::{FileRegister, close_behind, open, tables_of, tell_unopened};
 use crate::teller::{Tally, Teller, Watch};
 use desk_book::{Desk, Fault, Outbox};
 use desk_drop::{DropFile, DropReply, take};
-use desk_index::IndexedRegister;
-use desk_mirror::MirroredRegister;
 use desk_register::Register;
 use desk_rules::Reply;
 use desk_streams::Sink;
-use sql_register::SqlRegister;
-use sqlite::{Alter, Connection, Error, Files, Start};
-use sqlite_disk::Disk;
 use std::alloc::{AllocError, Global};
 use std::io;
 use std::rt::HostRuntime;
 
 /// The folders of a call: the one whose files are taken, and the one of the answers.
 #[derive(Clone, Copy)]
-struct Folders<'a> {
-    from: &'a str,
-    to: &'a str,
+pub struct Folders<'a> {
+    pub from: &'a str,
+    pub to: &'a str,
 }
 
 /// The file of an answer.
@@ -46,44 +35,24 @@ struct AnswerFile {
     text: Vec<u8>,
 }
 
-/// Takes the files of a folder on the desk of a file, which is made where there is none, writes the answers into another folder,
-/// and closes it. It is done where each answer is written, whatever it is; nothing is printed then. `fault io` tells that a
-/// folder failed, `fault 60` that memory is wanting; a file that is not opened, or not closed, is its fault. What was
-/// accepted stands.
-pub fn answer_drop<S: Start, W: Sink>(
+/// Takes the files of a folder on a desk that is open, and writes the answers into another folder. It is done where each answer is
+/// written, whatever it is; nothing is told then. `fault io` tells that a folder failed, `fault 60` that memory is wanting. What
+/// was accepted stands.
+pub fn take_folder<D: Register + Drop, W: Sink>(
     rt: &HostRuntime,
-    path: &str,
-    start: S,
-    from: &str,
-    to: &str,
-    writer: &mut W,
-) -> io::Result<Status>
-    ensures told { IfOk result (λ status. IsDropAnswer status (Appends (W.contents writer.old) (W.contents writer.new))) }
-    ensures failed { OnErr result (W.may_fail ≡ true) }
-{
-    match open(rt, path, start) {
-        Ok(both) => drop_opened(rt, path, both, Folders { from, to }, writer).0,
-        Err(failure) => tell_unopened(failure, writer),
-    }
-}
-
-/// The same on the desk of a file that was opened. Its files are handed back, where they could be closed.
-fn drop_opened<D: Disk + Drop, W: Sink>(
-    rt: &HostRuntime,
-    path: &str,
-    both: FileRegister<D>,
+    desk: &mut Desk<D>,
+    teller: &mut Teller<'_>,
     folders: Folders<'_>,
     writer: &mut W,
-) -> (io::Result<Status>, Result<Files<D>, Error>)
-    requires { IsReadyFor MOST_ENTRIES (view_of_both both) }
-    ensures told { IfOk result.0 (λ status. IsOpenDropAnswer (is_ok result.1) status (Appends (W.contents writer.old) (W.contents writer.new))) }
-    ensures left { (books : Books) → KeptBy (view_of_both both) books → LeavesSome MOST_ENTRIES books (AreLeft D.Disk result.1) }
-    ensures failed { OnErr result.0 (W.may_fail ≡ true) }
+) -> io::Result<Status>
+    requires { desk.old.is_closed ≡ false }
+    ensures told { IfOk result (λ status. IsFolderEnd status (Appends (W.contents writer.old) (W.contents writer.new))) }
+    ensures left { IfHolds D.view desk.old desk.new (λ books. LeavesSome (D.view desk.old.register).room books (IsLeft desk.new.is_closed (D.view desk.new.register))) }
+    ensures later { IsLater (D.view desk.old.register) (D.view desk.new.register) }
+    ensures failed { OnErr result (W.may_fail ≡ true) }
 {
-    let mut teller = Teller::new(rt, path);
-    let (done, conn) = drop_on_both(rt, both, &mut teller, folders);
-    let taken = tell_done(done, writer);
-    close_behind(rt, &teller, taken, path, conn, writer)
+    let done = drop_on(rt, desk, teller, folders);
+    tell_done(done, writer)
 }
 
 /// Tells nothing of a folder whose answers are written, or why they are not.
@@ -97,39 +66,7 @@ fn tell_done<W: Sink>(done: Result<(), Failure>, writer: &mut W) -> io::Result<S
     }
 }
 
-/// Takes a folder over tables with a register in memory beside them, of which the connection is given back.
-fn drop_on_both<S: Alter + Drop>(
-    rt: &HostRuntime,
-    both: MirroredRegister<IndexedRegister, SqlRegister<S>>,
-    teller: &mut Teller<'_>,
-    folders: Folders<'_>,
-) -> (Result<(), Failure>, Connection<S>)
-    requires { IsReadyFor MOST_ENTRIES (view_of_both both) }
-    ensures failure { IfErr result.0 IsFolderFailure }
-    ensures left { (books : Books) → KeptBy (view_of_both both) books → LeavesSome MOST_ENTRIES books (AreSaid (state S.Store result.1)) }
-{
-    let (done, desk) = drop_over(rt, both, teller, folders);
-    (done, tables_of(desk))
-}
-
-/// Takes a folder on a desk over a register; the desk is given back.
-fn drop_over<D: Register + Drop>(
-    rt: &HostRuntime,
-    register: D,
-    teller: &mut Teller<'_>,
-    folders: Folders<'_>,
-) -> (Result<(), Failure>, Desk<D>)
-    requires { IsReady false (D.view register) }
-    ensures failure { IfErr result.0 IsFolderFailure }
-    ensures left { (books : Books) → AreHeld (D.view register) (D.view result.1.register) books → LeavesSome (D.view register).room books (IsLeft result.1.is_closed (D.view result.1.register)) }
-    ensures room { (D.view result.1.register).room ≡ (D.view register).room }
-{
-    let mut desk = Desk::new(register);
-    let done = drop_on(rt, &mut desk, teller, folders);
-    (done, desk)
-}
-
-/// The same on a desk that is open.
+/// Takes a folder on a desk that is open.
 fn drop_on<D: Register + Drop>(
     rt: &HostRuntime,
     desk: &mut Desk<D>,

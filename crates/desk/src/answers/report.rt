@@ -1,5 +1,5 @@
 //! `desk report` and `desk journal`.
-ghost use Rattle.std.specs.Prelude.{◌≡◌, true, false, is_ok, Err, IfErr, IfOk, OnErr, unwrap_or};
+ghost use Rattle.std.specs.Prelude.{◌≡◌, true, false, Err, IfErr, IfOk, OnErr, unwrap_or};
 ghost use Rattle.std.specs.Io.KnownBytes.{Appends};
 ghost use Rattle.desk_rules.specs.Books.{Books};
 ghost use Rattle.desk_rules.specs.declared.limits.TheConstants.{MOST_ENTRIES};
@@ -12,13 +12,12 @@ ghost use Rattle.desk_opening.specs.Opened.{IsReadyFor, view_of_both};
 ghost use Rattle.desk_register.specs.View.{IfTrusted};
 ghost use Rattle.desk_register.specs.declared.register.Stage.TheVariants.{Idle};
 ghost use Rattle.sqlite.specs.Held.{state};
-ghost use Rattle.desk.specs.Left.{FilesSay, TablesSay};
+ghost use Rattle.desk.specs.Left.{TablesSay};
 ghost use Rattle.desk.specs.PlayAnswer.{KeptBy};
-ghost use Rattle.desk.specs.OverviewAnswer.{IsAfterScript, IsBrokenOffAs, IsFileOverviewAnswer, IsOpenOverviewAnswer, IsOverviewAnswer, IsOverviewEnd, IsOverviewFrom, IsShownText, MayPlayNone, failure_of_played, line_end};
+ghost use Rattle.desk.specs.OverviewAnswer.{IsAfterScript, IsBrokenOffAs, IsOverviewAnswer, IsOverviewEnd, IsOverviewFrom, IsShownText, MayPlayNone, failure_of_played, line_end};
 
 use crate::status::{Failure, Status, tell_failure};
-use crate::store::{FileRegister, close_behind, connection_of, open_there, tell_unopened};
-use crate::teller::Teller;
+use crate::store::connection_of;
 use desk_book::{Desk, PlayFault};
 use desk_holdings::WalkFault;
 use desk_index::IndexedRegister;
@@ -31,11 +30,9 @@ use desk_rules::MOST_ENTRIES;
 use desk_streams::{Sink, Source};
 use report_rows::Format;
 use sql_register::SqlRegister;
-use sqlite::{Alter, Connection, Error, Files, Start};
-use sqlite_disk::Disk;
+use sqlite::{Alter, Connection};
 use std::alloc::Global;
 use std::io;
-use std::rt::HostRuntime;
 
 /// What is shown of a desk.
 #[derive(Clone, Copy)]
@@ -87,46 +84,8 @@ fn failure_of(fault: PlayFault) -> Failure
     }
 }
 
-/// Prints what is to be shown of the desk of a file, which is there, and closes it. What is told is as in `answer_overview`; a file that is
-/// not opened, or not closed, is its fault.
-pub fn answer_overview_on<S: Start, W: Sink>(
-    rt: &HostRuntime,
-    path: &str,
-    start: S,
-    shown: Shown,
-    format: Format,
-    writer: &mut W,
-) -> io::Result<Status>
-    ensures told { IfOk result (λ status. IsFileOverviewAnswer shown format status (Appends (W.contents writer.old) (W.contents writer.new))) }
-    ensures failed { OnErr result (W.may_fail ≡ true) }
-{
-    match open_there(rt, path, start) {
-        Ok(both) => overview_opened(rt, path, both, shown, format, writer).0,
-        Err(failure) => tell_unopened(failure, writer),
-    }
-}
-
-/// The same of the desk of a file that was opened. Its files are handed back, where they could be closed.
-fn overview_opened<D: Disk + Drop, W: Sink>(
-    rt: &HostRuntime,
-    path: &str,
-    both: FileRegister<D>,
-    shown: Shown,
-    format: Format,
-    writer: &mut W,
-) -> (io::Result<Status>, Result<Files<D>, Error>)
-    requires { IsReadyFor MOST_ENTRIES (view_of_both both) }
-    ensures told { (books : Books) → KeptBy (view_of_both both) books
-        → IfOk result.0 (λ status. IsOpenOverviewAnswer (is_ok result.1) shown format books status (Appends (W.contents writer.old) (W.contents writer.new))) }
-    ensures left { (books : Books) → KeptBy (view_of_both both) books → IfOk result.1 (λ files. FilesSay D.Disk files books) }
-    ensures failed { OnErr result.0 (W.may_fail ≡ true) }
-{
-    let (shown, conn) = overview_on_both(rt.alloc(), both, shown, format, writer);
-    close_behind(rt, &Teller::new(rt, path), shown, path, conn, writer)
-}
-
-/// The same over tables with a register in memory beside them, of which the connection is given back.
-fn overview_on_both<S: Alter + Drop, W: Sink>(
+/// Prints what is to be shown of tables with a register in memory beside them, of which the connection is given back.
+pub fn show_on_both<S: Alter + Drop, W: Sink>(
     alloc: Global,
     both: MirroredRegister<IndexedRegister, SqlRegister<S>>,
     shown: Shown,

@@ -1,34 +1,24 @@
 //! `desk serve`.
-ghost use Rattle.std.specs.Prelude.{◌≡◌, ◌⊎◌, true, false, is_ok, None, IfOk, OnErr, OnOk};
+ghost use Rattle.std.specs.Prelude.{◌≡◌, ◌⊎◌, true, false, None, IfOk, OnErr, OnOk};
 ghost use Rattle.std.specs.Io.KnownBytes.{Appends};
-ghost use Rattle.sqlite.specs.Held.{state};
 ghost use Rattle.desk_rules.specs.Books.{Books};
 ghost use Rattle.desk_rules.specs.declared.limits.TheConstants.{MOST_ENTRIES};
 ghost use Rattle.desk_register.specs.View.{IsLater};
-ghost use Rattle.desk_book.specs.Held.{Holds, IsReady};
+ghost use Rattle.desk_book.specs.Held.{Holds};
 ghost use Rattle.desk_http.specs.Served.{Serves};
-ghost use Rattle.desk_opening.specs.Opened.{IsReadyFor, view_of_both};
-ghost use Rattle.desk.specs.Left.{AreLeft, AreSaid, LeavesSome};
-ghost use Rattle.desk.specs.PlayAnswer.{KeptBy};
-ghost use Rattle.desk.specs.ServeAnswer.{HoldsOn, IsFileServeAnswer, IsOpenServeAnswer, IsServeAnswer, listening_line};
+ghost use Rattle.desk.specs.ServeAnswer.{HoldsOn, IsServeAnswer, listening_line};
 
 use crate::status::{Failure, Status, tell_failure};
-use crate::store::{FileRegister, close_behind, open, tables_of, tell_unopened};
-use crate::teller::{Nobody, Teller, Watch};
+use crate::teller::{Nobody, Watch};
 use desk_book::{CHUNK, Desk};
 use desk_http::{Routes, serve_one};
 use desk_index::IndexedRegister;
-use desk_mirror::MirroredRegister;
 use desk_register::Register;
 use desk_rules::MOST_ENTRIES;
 use desk_streams::Sink;
-use sql_register::SqlRegister;
-use sqlite::{Alter, Connection, Error, Files, Start};
-use sqlite_disk::Disk;
 use std::alloc::Global;
 use std::io::{self, Read};
 use std::net::{Ipv4Addr, Net, Shutdown, TcpListener, TcpStream};
-use std::rt::HostRuntime;
 use std::time::Duration;
 
 /// So many seconds may a read, or a write, of a connection wait for its client.
@@ -53,95 +43,12 @@ pub fn answer_serve<N: Net<Listener = TcpListener, Stream = TcpStream>, W: Sink>
     ensures told { IfOk result (λ status. IsServeAnswer port status (Appends (W.contents writer.old) (W.contents writer.new))) }
     ensures failed { OnErr result (W.may_fail ≡ true) }
 {
-    let register = IndexedRegister::new(alloc, MOST_ENTRIES);
-    serve_over(net, alloc, port, count, register, &mut Nobody, writer).0
-}
-
-/// The same on the desk of a file, which is made where there is none. It is opened before it is told where it listens, and closed
-/// at the end; a file that is not opened, or not closed, is its fault. Where the desk is closed, standard error says so.
-pub fn answer_serve_on<S: Start, W: Sink>(
-    rt: &HostRuntime,
-    path: &str,
-    start: S,
-    port: u16,
-    count: u32,
-    writer: &mut W,
-) -> io::Result<Status>
-    ensures told { IfOk result (λ status. IsFileServeAnswer port status (Appends (W.contents writer.old) (W.contents writer.new))) }
-    ensures failed { OnErr result (W.may_fail ≡ true) }
-{
-    match open(rt, path, start) {
-        Ok(both) => serve_opened(rt, path, both, port, count, writer).0,
-        Err(failure) => tell_unopened(failure, writer),
-    }
-}
-
-/// The same on the desk of a file that was opened. Its files are handed back, where they could be closed.
-fn serve_opened<D: Disk + Drop, W: Sink>(
-    rt: &HostRuntime,
-    path: &str,
-    both: FileRegister<D>,
-    port: u16,
-    count: u32,
-    writer: &mut W,
-) -> (io::Result<Status>, Result<Files<D>, Error>)
-    requires { IsReadyFor MOST_ENTRIES (view_of_both both) }
-    ensures told { IfOk result.0 (λ status. IsOpenServeAnswer (is_ok result.1) port status (Appends (W.contents writer.old) (W.contents writer.new))) }
-    ensures answered { IfOk result.0 (λ status. IsFileServeAnswer port status (Appends (W.contents writer.old) (W.contents writer.new))) }
-    ensures left { (books : Books) → KeptBy (view_of_both both) books → LeavesSome MOST_ENTRIES books (AreLeft D.Disk result.1) }
-    ensures failed { OnErr result.0 (W.may_fail ≡ true) }
-{
-    let mut teller = Teller::new(rt, path);
-    let (served, conn) = serve_on_both(rt, port, count, both, &mut teller, writer);
-    close_behind(rt, &teller, served, path, conn, writer)
-}
-
-/// The same over tables with a register in memory beside them, of which the connection is given back.
-fn serve_on_both<S: Alter + Drop, P: Watch, W: Sink>(
-    rt: &HostRuntime,
-    port: u16,
-    count: u32,
-    both: MirroredRegister<IndexedRegister, SqlRegister<S>>,
-    watch: &mut P,
-    writer: &mut W,
-) -> (io::Result<Status>, Connection<S>)
-    requires { IsReadyFor MOST_ENTRIES (view_of_both both) }
-    ensures told { IfOk result.0 (λ status. IsServeAnswer port status (Appends (W.contents writer.old) (W.contents writer.new))) }
-    ensures left { (books : Books) → KeptBy (view_of_both both) books → LeavesSome MOST_ENTRIES books (AreSaid (state S.Store result.1)) }
-    ensures failed { OnErr result.0 (W.may_fail ≡ true) }
-{
-    let (told, desk) = serve_over(rt, rt.alloc(), port, count, both, watch, writer);
-    (told, tables_of(desk))
-}
-
-/// Serves so many connections on a desk over a register, once it has told where it listens; the desk is given back.
-fn serve_over<
-    N: Net<Listener = TcpListener, Stream = TcpStream>,
-    D: Register + Drop,
-    P: Watch,
-    W: Sink,
->(
-    net: &N,
-    alloc: Global,
-    port: u16,
-    count: u32,
-    register: D,
-    watch: &mut P,
-    writer: &mut W,
-) -> (io::Result<Status>, Desk<D>)
-    requires { IsReady false (D.view register) }
-    ensures told { IfOk result.0 (λ status. IsServeAnswer port status (Appends (W.contents writer.old) (W.contents writer.new))) }
-    ensures keeps { (D.view result.1.register).is_honest → HoldsOn false (D.view register) result.1.is_closed (D.view result.1.register) }
-    ensures room { (D.view result.1.register).room ≡ (D.view register).room }
-    ensures failed { OnErr result.0 (W.may_fail ≡ true) }
-{
-    let mut desk = Desk::new(register);
-    let told = serve_desk(net, alloc, port, count, &mut desk, watch, writer);
-    (told, desk)
+    let mut desk = Desk::new(IndexedRegister::new(alloc, MOST_ENTRIES));
+    serve_desk(net, alloc, port, count, &mut desk, &mut Nobody, writer)
 }
 
 /// Serves so many connections on a desk, once it has told where it listens.
-fn serve_desk<
+pub fn serve_desk<
     N: Net<Listener = TcpListener, Stream = TcpStream>,
     D: Register + Drop,
     P: Watch,

@@ -1,12 +1,8 @@
-use Rattle.std.proofs.Common.{refl, Some, None, []}
+use Rattle.std.proofs.Common.{refl}
 use Rattle.std.specs.Io.KnownBytes.{Appends}
 use Rattle.desk.proofs.RunLemmas.{told_of, told_unread}
-use Rattle.desk.specs.DropAnswer.{IsDropAnswer}
 use Rattle.desk.specs.ExplainAnswer.{IsExplainAnswer}
-use Rattle.desk.specs.OverviewAnswer.{IsFileOverviewAnswer}
-use Rattle.desk.specs.ReportAnswer.{IsReportAnswer, asked_for}
-use Rattle.desk.specs.ServeAnswer.{IsFileServeAnswer}
-use Rattle.desk_words.specs.Words.{explain, folder, holdings, journal, report, serve, sums}
+use Rattle.desk_words.specs.Words.{explain}
 use Rattle.desk.specs.declared.answers.report.Shown.TheVariants as shown
 use Rattle.desk_words.specs.declared.calls.Call.TheVariants as call
 use Rattle.desk.proofs.run.answer.Goals as goal
@@ -29,61 +25,47 @@ returns-in-Explain-clause-told g c =
     told_of c.answer_explain.result (g.R.Read.remaining c.args.reader.now) _ g.R.Source.may_fail P c.args.call (call.Explain c.in-Explain.topic) c.in-Explain.is
     (told_unread c.answer_explain.result (g.R.Read.remaining c.args.reader.now) _ g.R.Source.may_fail P (explain c.in-Explain.topic) (λ status. IsExplainAnswer c.in-Explain.topic status P) refl c.answer_explain.ensures.told (λ status unread t. (unread, t)))
 
-pub returns-in-Holdings-clause-told : goal.returns-in-Holdings-clause-told
-returns-in-Holdings-clause-told g c =
-    let P = (Appends (g.W.Write.contents c.args.writer.now) (g.W.Write.contents c.answer_report.new.writer)) in
-    let owner = c.in-Holdings.owner in
-    let account = c.in-Holdings.account.now in
-    told_of c.answer_report.result (g.R.Read.remaining c.args.reader.now) _ g.R.Source.may_fail P c.args.call (call.Holdings c.in-Holdings.db owner c.in-Holdings.account) c.in-Holdings.is
-    (told_unread c.answer_report.result (g.R.Read.remaining c.args.reader.now) _ g.R.Source.may_fail P (holdings c.in-Holdings.db.now owner account) (λ status. IsReportAnswer (asked_for (Some owner) account) status P) refl
-    (rw c.as_bytes-in-Holdings.ensures.value at c.answer_report.ensures.told) (λ status unread t. (unread, t)))
-
-pub returns-in-Sums-clause-told : goal.returns-in-Sums-clause-told
-returns-in-Sums-clause-told g c =
-    let P = (Appends (g.W.Write.contents c.args.writer.now) (g.W.Write.contents c.answer_report-in-Sums.new.writer)) in
-    told_of c.answer_report-in-Sums.result (g.R.Read.remaining c.args.reader.now) _ g.R.Source.may_fail P c.args.call (call.Sums c.in-Sums.db) c.in-Sums.is
-    (told_unread c.answer_report-in-Sums.result (g.R.Read.remaining c.args.reader.now) _ g.R.Source.may_fail P (sums c.in-Sums.db.now) (λ status. IsReportAnswer (asked_for None []) status P) refl c.answer_report-in-Sums.ensures.told (λ status unread t. (unread, t)))
-
-pub returns-in-Folder-clause-told : goal.returns-in-Folder-clause-told
-returns-in-Folder-clause-told g c =
-    let P = (Appends (g.W.Write.contents c.args.writer.now) (g.W.Write.contents c.answer_drop.new.writer)) in
-    told_of c.answer_drop.result (g.R.Read.remaining c.args.reader.now) _ g.R.Source.may_fail P c.args.call (call.Folder c.in-Folder.db c.in-Folder.from c.in-Folder.to) c.in-Folder.is
-    (told_unread c.answer_drop.result (g.R.Read.remaining c.args.reader.now) _ g.R.Source.may_fail P (folder c.in-Folder.db.now c.in-Folder.from.now c.in-Folder.to.now) (λ status. IsDropAnswer status P) refl c.answer_drop.ensures.told
-    (λ status unread t. (unread, t)))
-
 pub returns-in-Report-clause-told : goal.returns-in-Report-clause-told
 returns-in-Report-clause-told g c =
     told_of c.answer_overview.result (g.R.Read.remaining c.args.reader.now) _ g.R.Source.may_fail (Appends (g.W.Write.contents c.args.writer.now) (g.W.Write.contents c.answer_overview.new.writer)) c.args.call (call.Report c.in-Report.parts c.in-Report.format) c.in-Report.is
     c.answer_overview.ensures.told
-
-pub returns-in-ReportOn-clause-told : goal.returns-in-ReportOn-clause-told
-returns-in-ReportOn-clause-told g c =
-    let P = (Appends (g.W.Write.contents c.args.writer.now) (g.W.Write.contents c.answer_overview_on.new.writer)) in
-    let parts = c.in-ReportOn.parts in
-    let format = c.in-ReportOn.format in
-    told_of c.answer_overview_on.result (g.R.Read.remaining c.args.reader.now) _ g.R.Source.may_fail P c.args.call (call.ReportOn c.in-ReportOn.db parts format) c.in-ReportOn.is
-    (told_unread c.answer_overview_on.result (g.R.Read.remaining c.args.reader.now) _ g.R.Source.may_fail P (report (Some c.in-ReportOn.db.now) parts format) (λ status. IsFileOverviewAnswer (shown.Report parts) format status P) refl c.answer_overview_on.ensures.told
-    (λ status unread t. (unread, t)))
 
 pub returns-in-Journal-clause-told : goal.returns-in-Journal-clause-told
 returns-in-Journal-clause-told g c =
     told_of c.answer_overview-in-Journal.result (g.R.Read.remaining c.args.reader.now) _ g.R.Source.may_fail (Appends (g.W.Write.contents c.args.writer.now) (g.W.Write.contents c.answer_overview-in-Journal.new.writer)) c.args.call (call.Journal c.in-Journal.from c.in-Journal.format) c.in-Journal.is
     c.answer_overview-in-Journal.ensures.told
 
-pub returns-in-JournalOn-clause-told : goal.returns-in-JournalOn-clause-told
-returns-in-JournalOn-clause-told g c =
-    let P = (Appends (g.W.Write.contents c.args.writer.now) (g.W.Write.contents c.answer_overview_on-in-JournalOn.new.writer)) in
-    let from = c.in-JournalOn.from in
-    let format = c.in-JournalOn.format in
-    told_of c.answer_overview_on-in-JournalOn.result (g.R.Read.remaining c.args.reader.now) _ g.R.Source.may_fail P c.args.call (call.JournalOn c.in-JournalOn.db from format) c.in-JournalOn.is
-    (told_unread c.answer_overview_on-in-JournalOn.result (g.R.Read.remaining c.args.reader.now) _ g.R.Source.may_fail P (journal (Some c.in-JournalOn.db.now) from format) (λ status. IsFileOverviewAnswer (shown.Journal from) format status P) refl c.answer_overview_on-in-JournalOn.ensures.told
-    (λ status unread t. (unread, t)))
+pub returns-in-PlayOn-clause-told : goal.returns-in-PlayOn-clause-told
+returns-in-PlayOn-clause-told g c =
+    told_of c.over_file.result (g.R.Read.remaining c.args.reader.now) _ g.R.Source.may_fail (Appends (g.W.Write.contents c.args.writer.now) (g.W.Write.contents c.over_file.new.writer)) c.args.call (call.PlayOn c.in-PlayOn.db) c.in-PlayOn.is
+    c.over_file.ensures.told
 
 pub returns-in-ServeOn-clause-told : goal.returns-in-ServeOn-clause-told
 returns-in-ServeOn-clause-told g c =
-    let P = (Appends (g.W.Write.contents c.args.writer.now) (g.W.Write.contents c.answer_serve_on.new.writer)) in
-    let port = c.in-ServeOn.port in
-    let count = c.in-ServeOn.count in
-    told_of c.answer_serve_on.result (g.R.Read.remaining c.args.reader.now) _ g.R.Source.may_fail P c.args.call (call.ServeOn c.in-ServeOn.db port count) c.in-ServeOn.is
-    (told_unread c.answer_serve_on.result (g.R.Read.remaining c.args.reader.now) _ g.R.Source.may_fail P (serve (Some c.in-ServeOn.db.now) port count) (λ status. IsFileServeAnswer port status P) refl c.answer_serve_on.ensures.told
-    (λ status unread t. (unread, t)))
+    told_of c.over_file-in-ServeOn.result (g.R.Read.remaining c.args.reader.now) _ g.R.Source.may_fail (Appends (g.W.Write.contents c.args.writer.now) (g.W.Write.contents c.over_file-in-ServeOn.new.writer)) c.args.call (call.ServeOn c.in-ServeOn.db c.in-ServeOn.port c.in-ServeOn.count) c.in-ServeOn.is
+    c.over_file-in-ServeOn.ensures.told
+
+pub returns-in-Holdings-clause-told : goal.returns-in-Holdings-clause-told
+returns-in-Holdings-clause-told g c =
+    told_of c.over_file-in-Holdings.result (g.R.Read.remaining c.args.reader.now) _ g.R.Source.may_fail (Appends (g.W.Write.contents c.args.writer.now) (g.W.Write.contents c.over_file-in-Holdings.new.writer)) c.args.call (call.Holdings c.in-Holdings.db c.in-Holdings.owner c.in-Holdings.account) c.in-Holdings.is
+    (rw c.as_bytes-in-Holdings.ensures.value at c.over_file-in-Holdings.ensures.told)
+
+pub returns-in-Sums-clause-told : goal.returns-in-Sums-clause-told
+returns-in-Sums-clause-told g c =
+    told_of c.over_file-in-Sums.result (g.R.Read.remaining c.args.reader.now) _ g.R.Source.may_fail (Appends (g.W.Write.contents c.args.writer.now) (g.W.Write.contents c.over_file-in-Sums.new.writer)) c.args.call (call.Sums c.in-Sums.db) c.in-Sums.is
+    c.over_file-in-Sums.ensures.told
+
+pub returns-in-Folder-clause-told : goal.returns-in-Folder-clause-told
+returns-in-Folder-clause-told g c =
+    told_of c.over_file-in-Folder.result (g.R.Read.remaining c.args.reader.now) _ g.R.Source.may_fail (Appends (g.W.Write.contents c.args.writer.now) (g.W.Write.contents c.over_file-in-Folder.new.writer)) c.args.call (call.Folder c.in-Folder.db c.in-Folder.from c.in-Folder.to) c.in-Folder.is
+    c.over_file-in-Folder.ensures.told
+
+pub returns-in-ReportOn-clause-told : goal.returns-in-ReportOn-clause-told
+returns-in-ReportOn-clause-told g c =
+    told_of c.over_file-in-ReportOn.result (g.R.Read.remaining c.args.reader.now) _ g.R.Source.may_fail (Appends (g.W.Write.contents c.args.writer.now) (g.W.Write.contents c.over_file-in-ReportOn.new.writer)) c.args.call (call.ReportOn c.in-ReportOn.db c.in-ReportOn.parts c.in-ReportOn.format) c.in-ReportOn.is
+    c.over_file-in-ReportOn.ensures.told
+
+pub returns-in-JournalOn-clause-told : goal.returns-in-JournalOn-clause-told
+returns-in-JournalOn-clause-told g c =
+    told_of c.over_file-in-JournalOn.result (g.R.Read.remaining c.args.reader.now) _ g.R.Source.may_fail (Appends (g.W.Write.contents c.args.writer.now) (g.W.Write.contents c.over_file-in-JournalOn.new.writer)) c.args.call (call.JournalOn c.in-JournalOn.db c.in-JournalOn.from c.in-JournalOn.format) c.in-JournalOn.is
+    c.over_file-in-JournalOn.ensures.told

@@ -1,7 +1,7 @@
 use Rattle.std.proofs.Common.{sym, subst}
 use Rattle.desk_rules.specs.declared.limits.TheConstants.{MOST_ENTRIES}
 use Rattle.desk_book.specs.Held.{KeepsFormed}
-use Rattle.desk.proofs.answers.report.overview_on_both.Goals as goal
+use Rattle.desk.proofs.answers.report.show_on_both.Goals as goal
 
 pub returns-clause-told : goal.returns-clause-told
 returns-clause-told g c = λ books keeps. c.tell_overview-told.ensures.told books tt c.requires.room keeps

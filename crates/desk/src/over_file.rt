@@ -1,0 +1,174 @@
+//! What is done over the desk of a file, which is opened before it, and closed behind it.
+ghost use Rattle.std.specs.Prelude.{◌≡◌, true, false, is_ok, IfErr, IfOk, OnErr};
+ghost use Rattle.std.specs.Io.KnownBytes.{Appends};
+ghost use Rattle.sqlite.specs.Files.{over_files};
+ghost use Rattle.sqlite.specs.Held.{state};
+ghost use Rattle.sqlite_wal.specs.Files.{image_at};
+ghost use Rattle.desk_rules.specs.Books.{Books};
+ghost use Rattle.desk_rules.specs.declared.limits.TheConstants.{MOST_ENTRIES};
+ghost use Rattle.desk_opening.specs.Opened.{IsOpened, IsReadyFor, view_of_both};
+ghost use Rattle.desk.specs.Left.{AreLeft, AreSaid, IsFoundIn, IsLeft};
+ghost use Rattle.desk.specs.OverFile.{IsAsked, IsDone, IsFileAnswer, IsOpenAnswer, LeavesFiles};
+ghost use Rattle.desk.specs.PlayAnswer.{AreHeld, KeptBy};
+ghost use Rattle.desk.specs.Status.{IsOpeningFailure};
+
+use crate::answers::{
+    Folders, Shown, play_desk, report_desk, serve_desk, show_on_both, take_folder,
+};
+use crate::status::{Failure, Status};
+use crate::store::{FileRegister, close_behind, open, open_there, tables_of, tell_unopened};
+use crate::teller::{Teller, Watch};
+use desk_book::Desk;
+use desk_codes::Bic;
+use desk_index::IndexedRegister;
+use desk_mirror::MirroredRegister;
+use desk_register::Register;
+use desk_streams::{Sink, Source};
+use report_rows::Format;
+use sql_register::SqlRegister;
+use sqlite::{Alter, Connection, Error, FileFrom, Files, Start};
+use sqlite_disk::Disk;
+use std::io;
+use std::rt::HostRuntime;
+
+/// What is done over the desk of a file.
+#[derive(Clone, Copy)]
+pub enum Job<'a> {
+    /// It is asked
+    Ask(Ask<'a>),
+    /// This is shown of it
+    Show(Shown, Format),
+}
+
+/// What a desk is asked.
+#[derive(Clone, Copy)]
+pub enum Ask<'a> {
+    /// What the lines of a script ask
+    Play,
+    /// What so many connections ask at a port of 127.0.0.1
+    Serve(u16, u32),
+    /// What the files of a folder ask
+    Take(Folders<'a>),
+    /// What an account of a participant holds, or the totals where none is named
+    Tell(Option<Bic>, &'a [u8]),
+}
+
+/// Opens the desk of a file, does a job over it, and closes it. What is told is what the job tells by itself; a file that is not
+/// opened, or not closed, is its fault. Where the desk was closed, standard error says so.
+pub fn over_file<S: Start, R: Source, W: Sink>(
+    rt: &HostRuntime,
+    path: &str,
+    start: S,
+    job: &Job<'_>,
+    reader: &mut R,
+    writer: &mut W,
+) -> io::Result<Status>
+    ensures told { IfOk result (λ status. IsFileAnswer job.now (R.remaining reader.old) (reader.new ≡ reader.old) R.may_fail status (Appends (W.contents writer.old) (W.contents writer.new))) }
+    ensures failed { OnErr result (W.may_fail ≡ true) }
+{
+    match open_for(rt, path, start, job) {
+        Ok(both) => over_opened(rt, path, both, job, reader, writer).0,
+        Err(failure) => tell_unopened(failure, writer),
+    }
+}
+
+/// Opens the desk of a file. One that is told of is there; else it is made where there is none.
+fn open_for<S: Start>(
+    rt: &HostRuntime,
+    path: &str,
+    start: S,
+    job: &Job<'_>,
+) -> Result<FileRegister<FileFrom<S>>, Failure>
+    ensures opened { IfOk result (IsOpened over_files MOST_ENTRIES) }
+    ensures which { IfOk result (IsFoundIn (image_at S.Start)) }
+    ensures failure { IfErr result IsOpeningFailure }
+{
+    match job {
+        Job::Ask(Ask::Tell(..)) | Job::Show(..) => open_there(rt, path, start),
+        Job::Ask(_) => open(rt, path, start),
+    }
+}
+
+/// The job over a file that was opened. Its files are handed back, where they could be closed.
+fn over_opened<D: Disk + Drop, R: Source, W: Sink>(
+    rt: &HostRuntime,
+    path: &str,
+    both: FileRegister<D>,
+    job: &Job<'_>,
+    reader: &mut R,
+    writer: &mut W,
+) -> (io::Result<Status>, Result<Files<D>, Error>)
+    requires { IsReadyFor MOST_ENTRIES (view_of_both both) }
+    ensures told { (books : Books) → KeptBy (view_of_both both) books
+        → IfOk result.0 (λ status. IsOpenAnswer job.now (is_ok result.1) (AreLeft D.Disk result.1) books (R.remaining reader.old) (reader.new ≡ reader.old) R.may_fail status (Appends (W.contents writer.old) (W.contents writer.new))) }
+    ensures answered { IfOk result.0 (λ status. IsFileAnswer job.now (R.remaining reader.old) (reader.new ≡ reader.old) R.may_fail status (Appends (W.contents writer.old) (W.contents writer.new))) }
+    ensures left { (books : Books) → KeptBy (view_of_both both) books → LeavesFiles D.Disk job.now result.0 result.1 books (R.remaining reader.old) }
+    ensures failed { OnErr result.0 (W.may_fail ≡ true) }
+{
+    let mut teller = Teller::new(rt, path);
+    let (told, conn) = over_both(rt, both, job, &mut teller, reader, writer);
+    close_behind(rt, &teller, told, path, conn, writer)
+}
+
+/// The job over tables with a register in memory beside them, of which the connection is given back.
+fn over_both<S: Alter + Drop, R: Source, W: Sink>(
+    rt: &HostRuntime,
+    both: MirroredRegister<IndexedRegister, SqlRegister<S>>,
+    job: &Job<'_>,
+    teller: &mut Teller<'_>,
+    reader: &mut R,
+    writer: &mut W,
+) -> (io::Result<Status>, Connection<S>)
+    requires { IsReadyFor MOST_ENTRIES (view_of_both both) }
+    ensures done { IsDone job.now (KeptBy (view_of_both both)) (AreSaid (state S.Store result.1)) (R.remaining reader.old) (reader.new ≡ reader.old) R.may_fail result.0 (Appends (W.contents writer.old) (W.contents writer.new)) }
+    ensures failed { OnErr result.0 (W.may_fail ≡ true) }
+{
+    match job {
+        Job::Ask(ask) => ask_on_both(rt, both, ask, teller, reader, writer),
+        Job::Show(shown, format) => show_on_both(rt.alloc(), both, *shown, *format, writer),
+    }
+}
+
+/// Asks the desk over such tables.
+fn ask_on_both<S: Alter + Drop, R: Source, W: Sink>(
+    rt: &HostRuntime,
+    both: MirroredRegister<IndexedRegister, SqlRegister<S>>,
+    ask: &Ask<'_>,
+    teller: &mut Teller<'_>,
+    reader: &mut R,
+    writer: &mut W,
+) -> (io::Result<Status>, Connection<S>)
+    requires { IsReadyFor MOST_ENTRIES (view_of_both both) }
+    ensures asked { IsAsked ask.now MOST_ENTRIES (KeptBy (view_of_both both)) (AreSaid (state S.Store result.1)) (R.remaining reader.old) (reader.new ≡ reader.old) R.may_fail result.0 (Appends (W.contents writer.old) (W.contents writer.new)) }
+    ensures failed { OnErr result.0 (W.may_fail ≡ true) }
+{
+    let mut desk = Desk::new(both);
+    let told = ask_desk(rt, &mut desk, ask, teller, reader, writer);
+    (told, tables_of(desk))
+}
+
+/// Asks a desk that is open.
+fn ask_desk<D: Register + Drop, R: Source, W: Sink>(
+    rt: &HostRuntime,
+    desk: &mut Desk<D>,
+    ask: &Ask<'_>,
+    teller: &mut Teller<'_>,
+    reader: &mut R,
+    writer: &mut W,
+) -> io::Result<Status>
+    requires { desk.old.is_closed ≡ false }
+    ensures asked { IsAsked ask.now (D.view desk.old.register).room (AreHeld (D.view desk.old.register) (D.view desk.new.register)) (IsLeft desk.new.is_closed (D.view desk.new.register)) (R.remaining reader.old) (reader.new ≡ reader.old) R.may_fail result (Appends (W.contents writer.old) (W.contents writer.new)) }
+    ensures room { (D.view desk.new.register).room ≡ (D.view desk.old.register).room }
+    ensures failed { OnErr result (W.may_fail ≡ true) }
+{
+    match ask {
+        Ask::Play => {
+            let told = play_desk(rt.alloc(), desk, reader, writer);
+            teller.look(desk.is_closed());
+            told
+        }
+        Ask::Serve(port, count) => serve_desk(rt, rt.alloc(), *port, *count, desk, teller, writer),
+        Ask::Take(folders) => take_folder(rt, desk, teller, *folders, writer),
+        Ask::Tell(owner, account) => report_desk(rt.alloc(), desk, *owner, account, writer),
+    }
+}
