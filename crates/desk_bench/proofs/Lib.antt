@@ -1,1 +1,2 @@
+mod LedgerLemmas
 mod ShortNumbers

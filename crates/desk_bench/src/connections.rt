@@ -2,10 +2,10 @@
 
 use crate::failure::Failure;
 use crate::over_index::new_desk;
+use crate::streams::{FailingSink, FailingSource};
 use desk_book::{Desk, PIECE};
 use desk_http::{HttpFault, LONGEST_REQUEST, Routes, connection, serve_one};
 use desk_index::IndexedRegister;
-use desk_samples::streams::{FailingSink, FailingSource};
 use std::alloc::Global;
 use std::rt::Files;
 use std::{fs, io};
@@ -106,9 +106,10 @@ impl Exchange<'_> {
             counts.count(self.passes(alloc, Way::FailedRead { piece, read })?);
         }
         for write in 1..writes.saturating_add(1) {
-            for is_full in [false, true] {
-                counts.count(self.passes(alloc, Way::FailedWrite { write, is_full })?);
-            }
+            let is_full = false;
+            counts.count(self.passes(alloc, Way::FailedWrite { write, is_full })?);
+            let is_full = true;
+            counts.count(self.passes(alloc, Way::FailedWrite { write, is_full })?);
         }
         Ok(counts)
     }

@@ -1,9 +1,9 @@
 //! Why a work came to no end.
 
 use desk_book::{Fault as DeskFault, PlayFault, ToFault};
+use desk_codes::CodeFault;
 use desk_opening::OpenFault;
 use desk_register::Fault;
-use desk_samples::entries::EntryFault;
 use sqlite::{Error, ErrorCode};
 use std::alloc::{AllocError, AllocFailed};
 use std::io;
@@ -87,12 +87,9 @@ impl From<ToFault> for Failure {
     }
 }
 
-impl From<EntryFault> for Failure {
-    fn from(fault: EntryFault) -> Failure {
-        match fault {
-            EntryFault::Memory => Failure::Memory,
-            _ => Failure::Form,
-        }
+impl From<CodeFault> for Failure {
+    fn from(_fault: CodeFault) -> Failure {
+        Failure::Form
     }
 }
 

@@ -38,11 +38,13 @@ mod damaged;
 mod digits;
 mod failure;
 mod figures;
+mod ledger;
 mod market;
 mod opening;
 mod over_index;
 mod registers;
 mod reports;
+mod streams;
 mod tables;
 mod work;
 

@@ -9,7 +9,6 @@ use crate::failure::Failure;
 use desk_codes::{AccountId, Bic, Ccy, Day, Isin, Reference};
 use desk_msg::{CancelOrder, Cash, Instruction, Kind, Mt, SettlementType};
 use desk_rules::{Entry, Movement, Payment};
-use desk_samples::entries::{EntryFault, SHARE, account, bic, isin};
 
 /// How many entries `Market::opening` has.
 pub const OPENING: u32 = 5;
@@ -110,11 +109,16 @@ pub struct Market {
     settlement: SettlementType,
 }
 
-fn make_party(party: &str, name: &str) -> Result<Party, EntryFault> {
+fn make_party(party: &[u8], name: &[u8]) -> Result<Party, Failure> {
     Ok(Party {
-        bic: bic(party)?,
-        account: account(name)?,
+        bic: Bic::parse(party)?,
+        account: AccountId::read(name).ok_or(Failure::Form)?,
     })
+}
+
+/// The day that eight digits spell.
+pub fn day(digits: &[u8; 8]) -> Result<Day, Failure> {
+    Day::read(digits).ok_or(Failure::Form)
 }
 
 /// A reference of its own for each number.
@@ -127,10 +131,10 @@ pub fn reference(number: u32) -> Result<Reference, Failure> {
 impl Market {
     pub fn new() -> Result<Market, Failure> {
         Ok(Market {
-            deliverer: make_party("ALPHDEFF", "A-1")?,
-            receiver: make_party("BETADEFF", "B-1")?,
-            isin: isin(SHARE)?,
-            place: bic("DESKDEFF")?,
+            deliverer: make_party(b"ALPHDEFF", b"A-1")?,
+            receiver: make_party(b"BETADEFF", b"B-1")?,
+            isin: Isin::parse(b"DE0007164600")?,
+            place: Bic::parse(b"DESKDEFF")?,
             settlement: SettlementType::read(b"TRAD").ok_or(Failure::Form)?,
         })
     }

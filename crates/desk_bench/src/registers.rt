@@ -3,15 +3,14 @@
 mod shown;
 
 use crate::failure::Failure;
-use crate::market::{Lot, Market, OPENING, Side, reference};
+use crate::ledger::{Entered, Ledger};
+use crate::market::{Lot, Market, OPENING, Side, day, reference};
 use crate::registers::shown::shown;
 use desk_codes::{Day, Reference};
 use desk_index::IndexedRegister;
 use desk_lists::ListRegister;
 use desk_register::MemoryRegister;
 use desk_rules::{Entry, RunRule};
-use desk_samples::entries::day;
-use desk_samples::ledger::{Entered, Ledger};
 use std::alloc::Global;
 
 /// Where a register in memory keeps its entries.

@@ -76,6 +76,46 @@ pub enum Call {
     Message(MessageCall),
 }
 
+/// Each by its name.
+const CALLS: [(&str, Call); 24] = [
+    ("balance", Call::Amount(AmountCall::Balance)),
+    ("cash", Call::Amount(AmountCall::Cash)),
+    ("security", Call::Amount(AmountCall::Security)),
+    ("currency", Call::Amount(AmountCall::Currency)),
+    ("next_holding", Call::Amount(AmountCall::NextHolding)),
+    ("entry_count", Call::Entry(EntryCall::EntryCount)),
+    ("entry_at", Call::Entry(EntryCall::EntryAt)),
+    ("reply_at", Call::Entry(EntryCall::ReplyAt)),
+    (
+        "number_of_operator",
+        Call::Finding(FindingCall::NumberOfOperator),
+    ),
+    (
+        "number_of_participant",
+        Call::Finding(FindingCall::NumberOfParticipant),
+    ),
+    ("is_participant", Call::Finding(FindingCall::IsParticipant)),
+    ("owner_of", Call::Finding(FindingCall::OwnerOf)),
+    ("kind_of", Call::Finding(FindingCall::KindOf)),
+    ("first_security", Call::Finding(FindingCall::FirstSecurity)),
+    ("security_after", Call::Finding(FindingCall::SecurityAfter)),
+    ("last_run", Call::Finding(FindingCall::LastRun)),
+    ("standing", Call::Instruction(InstructionCall::Standing)),
+    ("next_due", Call::Instruction(InstructionCall::NextDue)),
+    (
+        "first_unmatched",
+        Call::Instruction(InstructionCall::FirstUnmatched),
+    ),
+    ("sent_at", Call::Message(MessageCall::SentAt)),
+    (
+        "confirmation_of",
+        Call::Message(MessageCall::ConfirmationOf),
+    ),
+    ("sent_count", Call::Message(MessageCall::SentCount)),
+    ("last_place", Call::Message(MessageCall::LastPlace)),
+    ("version", Call::Message(MessageCall::Version)),
+];
+
 /// Whether something is found.
 fn found<T: Drop>(answer: Result<Option<T>, Error>) -> Result<bool, Error> {
     match answer {
@@ -116,20 +156,6 @@ impl EntryCall {
 }
 
 impl FindingCall {
-    fn read(name: &str) -> Option<FindingCall> {
-        Some(match name {
-            "number_of_operator" => FindingCall::NumberOfOperator,
-            "number_of_participant" => FindingCall::NumberOfParticipant,
-            "is_participant" => FindingCall::IsParticipant,
-            "owner_of" => FindingCall::OwnerOf,
-            "kind_of" => FindingCall::KindOf,
-            "first_security" => FindingCall::FirstSecurity,
-            "security_after" => FindingCall::SecurityAfter,
-            "last_run" => FindingCall::LastRun,
-            _ => return None,
-        })
-    }
-
     fn answer<S: Alter>(self, conn: &mut Connection<S>, keys: &Keys) -> Result<bool, Error> {
         let participant = Sender::Participant(keys.bic);
         match self {
@@ -183,25 +209,12 @@ impl MessageCall {
 impl Call {
     /// The call of a name; None where there is no such call.
     pub fn read(name: &str) -> Option<Call> {
-        Some(match name {
-            "balance" => Call::Amount(AmountCall::Balance),
-            "cash" => Call::Amount(AmountCall::Cash),
-            "security" => Call::Amount(AmountCall::Security),
-            "currency" => Call::Amount(AmountCall::Currency),
-            "next_holding" => Call::Amount(AmountCall::NextHolding),
-            "entry_count" => Call::Entry(EntryCall::EntryCount),
-            "entry_at" => Call::Entry(EntryCall::EntryAt),
-            "reply_at" => Call::Entry(EntryCall::ReplyAt),
-            "standing" => Call::Instruction(InstructionCall::Standing),
-            "next_due" => Call::Instruction(InstructionCall::NextDue),
-            "first_unmatched" => Call::Instruction(InstructionCall::FirstUnmatched),
-            "sent_at" => Call::Message(MessageCall::SentAt),
-            "confirmation_of" => Call::Message(MessageCall::ConfirmationOf),
-            "sent_count" => Call::Message(MessageCall::SentCount),
-            "last_place" => Call::Message(MessageCall::LastPlace),
-            "version" => Call::Message(MessageCall::Version),
-            _ => Call::Finding(FindingCall::read(name)?),
-        })
+        for (own, call) in &CALLS {
+            if *own == name {
+                return Some(*call);
+            }
+        }
+        None
     }
 
     /// Whether it finds something.

@@ -1,12 +1,11 @@
 //! A mixed day: entries taken into a register, with no message or script around it, and sums asked for in between.
 
 use crate::failure::Failure;
-use crate::market::{Lot, Market, OPENING, Side, reference};
+use crate::ledger::{Entered, Ledger};
+use crate::market::{Lot, Market, OPENING, Side, day, reference};
 use desk_codes::{Ccy, Day, Reference};
 use desk_register::MemoryRegister;
 use desk_rules::{Entry, MOST_ENTRIES, RunRule};
-use desk_samples::entries::day;
-use desk_samples::ledger::{Entered, Ledger};
 use std::alloc::Global;
 
 /// Of so many entries the last is a run.

@@ -1,11 +1,11 @@
 //! What a register shows, as text.
 
 use crate::failure::Failure;
+use crate::ledger::Ledger;
+use crate::market::day;
 use desk_codes::{AccountId, Bic, Ccy, Isin};
 use desk_register::MemoryRegister;
 use desk_rules::Entry;
-use desk_samples::entries::day;
-use desk_samples::ledger::Ledger;
 use std::alloc::Global;
 use std::fmt::Write;
 

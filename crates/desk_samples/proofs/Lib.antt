@@ -1,2 +1,0 @@
-pub mod LedgerLemmas
-pub mod MessageLemmas

@@ -1,4 +1,0 @@
-pub mod Entries
-pub mod Instructed
-pub mod Ledger
-pub mod Memory
