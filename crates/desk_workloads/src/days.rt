@@ -48,8 +48,8 @@ pub fn play_days(
     size: Size,
     digest: &mut Digest,
 ) -> Result<(), Failure> {
-    for depository in [SMALL, LARGE] {
-        let mut day = Day::new(alloc, depository, Draw::new(seed, round))?;
+    for depository in &[SMALL, LARGE] {
+        let mut day = Day::new(alloc, *depository, Draw::new(seed, round))?;
         let mut desk = new_desk(alloc);
         play_day(alloc, &mut desk, &mut day, size.of(60_000), digest)?;
     }

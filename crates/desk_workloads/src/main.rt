@@ -55,32 +55,27 @@ enum Kind {
     Commands,
 }
 
-/// All of them.
-const KINDS: [Kind; 8] = [
-    Kind::Day,
-    Kind::Tables,
-    Kind::File,
-    Kind::Runs,
-    Kind::Reports,
-    Kind::Messages,
-    Kind::Replay,
-    Kind::Commands,
+/// Each by its name.
+const KINDS: [(&str, Kind); 8] = [
+    ("day", Kind::Day),
+    ("tables", Kind::Tables),
+    ("file", Kind::File),
+    ("runs", Kind::Runs),
+    ("reports", Kind::Reports),
+    ("messages", Kind::Messages),
+    ("replay", Kind::Replay),
+    ("commands", Kind::Commands),
 ];
 
 impl Kind {
     /// The kind of a name; None where there is no such kind.
     fn read(name: &str) -> Option<Kind> {
-        match name {
-            "day" => Some(Kind::Day),
-            "tables" => Some(Kind::Tables),
-            "file" => Some(Kind::File),
-            "runs" => Some(Kind::Runs),
-            "reports" => Some(Kind::Reports),
-            "messages" => Some(Kind::Messages),
-            "replay" => Some(Kind::Replay),
-            "commands" => Some(Kind::Commands),
-            _ => None,
+        for (own, kind) in &KINDS {
+            if *own == name {
+                return Some(*kind);
+            }
         }
+        None
     }
 
     /// Does a round of it.
@@ -133,7 +128,7 @@ fn answer(rt: &HostRuntime) -> Result<u8, Failure> {
 fn is_done(alloc: Global, words: &[String], digest: &mut Digest) -> Result<bool, Failure> {
     match words {
         [_, word] if word.as_str() == "trial" => {
-            for kind in KINDS {
+            for (_, kind) in &KINDS {
                 kind.work(alloc, 0, 0, Size::Trial, digest)?;
             }
             Ok(true)

@@ -5,7 +5,7 @@ use crate::failure::Failure;
 use itoa::Buffer;
 
 /// A side of a trade.
-#[derive(Clone, Copy, PartialEq, Eq)]
+#[derive(Clone, Copy)]
 pub enum Side {
     Deliverer,
     Receiver,
