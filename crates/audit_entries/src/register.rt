@@ -22,7 +22,7 @@ use sqlite::{Alter, Connection, Error};
 use std::alloc::Global;
 
 /// What was read of the table `register`.
-#[derive(Clone, Copy, Debug, PartialEq, Eq)]
+#[derive(Clone, Copy)]
 pub enum Reading {
     /// Each row is that of an entry that was accepted in its turn, with the reply that it got.
     Whole,
@@ -32,7 +32,7 @@ pub enum Reading {
 }
 
 /// What the row of a number came to.
-#[derive(Clone, Copy, Debug, PartialEq, Eq)]
+#[derive(Clone, Copy)]
 pub enum Step {
     /// Its entry is taken in.
     Taken,

@@ -6,7 +6,7 @@ use desk_register::Fault;
 use sqlite::Error;
 
 /// Why an audit gave no answer. (That a table says something else is an answer.)
-#[derive(Debug, Drop)]
+#[derive(Drop)]
 pub enum AuditFault {
     /// The register in memory gave none.
     Register(Fault),

@@ -11,7 +11,7 @@ use std::marker::Model;
 const MOST_DIGITS: usize = 20;
 
 /// The shortest text that spells a value in minor units, as `write_number` writes it, which takes no memory.
-#[derive(Clone, Copy, Debug)]
+#[derive(Clone, Copy)]
 pub struct NumberText {
     text: ShortText<24>,
 }

@@ -5,7 +5,7 @@ ghost use Rattle.desk_rules.specs.declared.limits.TheConstants.{MOST_ENTRIES};
 use desk_rules::{Reply, State};
 
 /// What came of an accepted entry.
-#[derive(Clone, Copy, Debug, PartialEq, Eq)]
+#[derive(Clone, Copy, Debug)]
 pub struct Applied {
     /// Its number, from 1
     pub number: u64,

@@ -17,7 +17,7 @@ use desk_rules::{Entry, Pair, Reply, State};
 use std::alloc::Global;
 
 /// What the request to cancel an instruction calls off.
-#[derive(Clone, Copy, Debug, PartialEq, Eq)]
+#[derive(Clone, Copy)]
 pub enum CallsOff {
     /// The unmatched instruction of this number
     Alone(u64),

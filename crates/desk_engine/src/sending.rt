@@ -95,7 +95,7 @@ fn confirm_both<R: Register>(
 }
 
 /// The numbers of a pair's instructions, by which side each is.
-#[derive(Clone, Copy, Debug, PartialEq, Eq)]
+#[derive(Clone, Copy)]
 struct Sides {
     deliverer: u64,
     receiver: u64,

@@ -20,7 +20,7 @@ use desk_rules::{Entry, Place, Reply, RunRule};
 use std::alloc::Global;
 
 /// A due pair that a run came to, and whether it settled.
-#[derive(Clone, Copy, Debug, PartialEq, Eq)]
+#[derive(Clone, Copy)]
 pub struct Taken {
     pub place: Place,
     pub settles: bool,
@@ -135,7 +135,7 @@ fn take_past_short<R: Register>(
 }
 
 /// What a pass over the due pairs came to, or the passes of a run so far.
-#[derive(Clone, Copy, Debug, PartialEq, Eq)]
+#[derive(Clone, Copy)]
 pub struct Passed {
     /// How many pairs settled
     pub settled: u64,
@@ -200,7 +200,7 @@ impl Passed {
 }
 
 /// What the passes of a run came to.
-#[derive(Clone, Copy, Debug, PartialEq, Eq)]
+#[derive(Clone, Copy)]
 pub struct Ran {
     /// How many pairs settled
     pub settled: u64,

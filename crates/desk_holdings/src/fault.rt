@@ -4,7 +4,7 @@ use desk_msg::SinkFault;
 use desk_register::Fault;
 
 /// Why a walk broke off.
-#[derive(Clone, Copy, Debug, PartialEq, Eq)]
+#[derive(Clone, Copy)]
 pub enum WalkFault {
     /// The sink did not take a row.
     Sink(SinkFault),

@@ -16,7 +16,7 @@ use httparse::spans::{HeaderSpan, RequestSpans};
 use std::str;
 
 /// What a head calls for: a question, and how many bytes of body follow, which are the text that it is asked with.
-#[derive(Clone, Copy, Debug, PartialEq, Eq)]
+#[derive(Clone, Copy)]
 pub struct Call {
     pub question: Question,
     pub length: usize,

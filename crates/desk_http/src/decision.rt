@@ -13,7 +13,7 @@ use httparse::Status;
 use httparse::spans::{EMPTY_HEADER_SPAN, parse_request};
 
 /// What the bytes read so far say of the stream that they begin.
-#[derive(Clone, Copy, Debug, PartialEq, Eq)]
+#[derive(Clone, Copy)]
 pub enum Decision {
     /// They ask this, with the body that begins at this place.
     Asks(Call, usize),

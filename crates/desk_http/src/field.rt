@@ -12,7 +12,7 @@ use desk_text::LONGEST_TEXT;
 use httparse::spans::HeaderSpan;
 
 /// The values of the fields of one name.
-#[derive(Clone, Copy, Debug, PartialEq, Eq)]
+#[derive(Clone, Copy)]
 enum Values<'a> {
     Absent,
     One(&'a [u8]),

@@ -10,7 +10,7 @@ use matchit::{InsertError, Router};
 use std::alloc::{AllocError, Global};
 
 /// A path of the desk, with its parts as they stand in a target: they may name no party, type or number.
-#[derive(Clone, Copy, Debug, PartialEq, Eq)]
+#[derive(Clone, Copy)]
 pub enum Path<'a> {
     /// `/in/{bic}/{mt}`
     Message(&'a [u8], &'a [u8]),
@@ -27,7 +27,7 @@ pub enum Path<'a> {
 }
 
 /// What the router keeps of a path.
-#[derive(Clone, Copy, Debug, PartialEq, Eq)]
+#[derive(Clone, Copy)]
 enum Route {
     Message,
     Operator,

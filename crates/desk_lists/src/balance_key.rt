@@ -4,7 +4,7 @@ use desk_codes::{AccountId, Bic, Ccy, Isin};
 
 /// What an amount is of. In the order of the keys the positions of an account stand together, in the order of their
 /// ISINs.
-#[derive(Clone, Copy, Debug, PartialEq, Eq, PartialOrd, Ord)]
+#[derive(Clone, Copy, PartialEq, Eq, PartialOrd, Ord)]
 pub enum BalanceKey {
     /// A security on an account
     Position { account: AccountId, isin: Isin },

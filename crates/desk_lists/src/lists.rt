@@ -8,7 +8,7 @@ use desk_rules::{Kept, Sent, Standing};
 use std::collections::BTreeMap;
 
 /// A change of the lists, with what is needed to undo it.
-#[derive(Clone, Copy, Debug)]
+#[derive(Clone, Copy)]
 pub enum Change {
     /// An entry was added.
     Appended,

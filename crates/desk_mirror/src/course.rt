@@ -6,7 +6,7 @@ use desk_register::Fault;
 use std::alloc::AllocError;
 
 /// How far a group of changes has come.
-#[derive(Clone, Copy, Debug)]
+#[derive(Clone, Copy)]
 pub enum Phase {
     /// No `begin` is open.
     Idle,
@@ -19,7 +19,7 @@ pub enum Phase {
 }
 
 /// How a register that is two fares: its phase, and how many of its answers named the device.
-#[derive(Clone, Copy, Debug)]
+#[derive(Clone, Copy)]
 pub struct Course {
     pub(crate) phase: Phase,
     /// It stops at the greatest number

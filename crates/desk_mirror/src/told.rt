@@ -14,7 +14,7 @@ use desk_rules::{Entry, Instructed, Lack};
 use std::alloc::Global;
 
 /// A pair, with the numbers of its two instructions and what they say.
-#[derive(Clone, Copy, Debug, PartialEq, Eq)]
+#[derive(Clone, Copy)]
 pub struct KnownPair {
     /// Of the earlier instruction
     pub mate: u64,

@@ -102,7 +102,7 @@ impl SettlementType {
 
 /// An amount of money above 0, in minor units, whose written form has at most 15 characters (ISO 15022,
 /// format 15d).
-#[derive(Clone, Copy, Debug, PartialEq, Eq)]
+#[derive(Clone, Copy, Debug)]
 pub struct Cash {
     pub ccy: Ccy,
     pub amount: u64,
@@ -112,7 +112,7 @@ pub struct Cash {
 
 /// An instruction to receive or deliver securities, free or against payment: a new MT540, MT541, MT542 or
 /// MT543. `cash` is there exactly against payment.
-#[derive(Clone, Copy, Debug, PartialEq, Eq)]
+#[derive(Clone, Copy, Debug)]
 pub struct Instruction {
     /// The message's type, MT540 to MT543
     pub mt: Mt,
@@ -144,7 +144,7 @@ pub struct Instruction {
 }
 
 /// A request to cancel the sender's own instruction of the same type (function CANC).
-#[derive(Clone, Copy, Debug, PartialEq, Eq)]
+#[derive(Clone, Copy, Debug)]
 pub struct CancelOrder {
     pub mt: Mt,
     /// The sender's reference (20C SEME)
@@ -155,7 +155,7 @@ pub struct CancelOrder {
 }
 
 /// What a message of a participant says.
-#[derive(Clone, Copy, Debug, PartialEq, Eq)]
+#[derive(Clone, Copy)]
 pub enum Message {
     New(Instruction),
     Cancel(CancelOrder),

@@ -8,7 +8,7 @@ use desk_register::Fault;
 use sqlite::{Error, ErrorCode};
 
 /// In what a database differs from those of the desk. Of several differences one is told.
-#[derive(Clone, Copy, Debug, PartialEq, Eq)]
+#[derive(Clone, Copy, Debug)]
 pub enum Difference {
     /// It is no database, or a damaged one.
     NoDatabase,
@@ -22,7 +22,7 @@ pub enum Difference {
 }
 
 /// Why a database is not opened.
-#[derive(Clone, Copy, Debug, PartialEq, Eq)]
+#[derive(Clone, Copy, Debug)]
 pub enum OpenFault {
     /// It is none of the desk's, since it differs so (50).
     NotOurFile(Difference),

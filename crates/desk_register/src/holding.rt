@@ -3,7 +3,7 @@
 use desk_codes::Isin;
 
 /// A security, and how much of it an account holds.
-#[derive(Clone, Copy, Debug, PartialEq, Eq)]
+#[derive(Clone, Copy, Debug)]
 pub struct Holding {
     pub isin: Isin,
     pub quantity: u64,

@@ -3,7 +3,7 @@
 use desk_rules::Lack;
 
 /// How a pair fared in a run.
-#[derive(Clone, Copy, Debug, PartialEq, Eq)]
+#[derive(Clone, Copy)]
 pub enum Outcome {
     Settled,
     Lacks(Lack),

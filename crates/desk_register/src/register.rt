@@ -23,7 +23,7 @@ use std::alloc::{AllocError, Global};
 pub const MOST_FAILURES: u64 = u64::MAX;
 
 /// Whether a `begin` is open, and whether a call within it has failed.
-#[derive(Clone, Copy, Debug, PartialEq, Eq)]
+#[derive(Clone, Copy)]
 pub enum Stage {
     /// No `begin` is open.
     Idle,
@@ -34,7 +34,7 @@ pub enum Stage {
 }
 
 /// Why a call gives no answer.
-#[derive(Clone, Copy, Debug, PartialEq, Eq)]
+#[derive(Clone, Copy, Debug)]
 pub enum Fault {
     /// 60: want of memory
     Memory,

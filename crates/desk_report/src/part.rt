@@ -4,7 +4,7 @@ ghost use Rattle.desk_report.specs.Report.{is_asked, name_of_part};
 ghost use Rattle.desk_report.specs.Written.{label_of};
 
 /// A part of a report.
-#[derive(Clone, Copy, Debug, PartialEq, Eq)]
+#[derive(Clone, Copy)]
 pub enum Part {
     /// What each account holds
     Accounts,
@@ -47,7 +47,7 @@ impl Part {
 }
 
 /// Which parts of a report are asked for.
-#[derive(Clone, Copy, Debug, PartialEq, Eq)]
+#[derive(Clone, Copy)]
 pub struct Parts {
     pub pending: bool,
     pub unmatched: bool,

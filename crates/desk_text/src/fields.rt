@@ -9,7 +9,7 @@ pub const USUAL_DEPTH: usize = 2;
 pub const USUAL_LINES: usize = 1;
 
 /// A field. Its parts are slices of the text that was read.
-#[derive(Debug, Drop)]
+#[derive(Drop)]
 pub struct Field<'a> {
     /// The names of the sequences that it stands in, the outermost first.
     pub path: SmallVec<&'a [u8], USUAL_DEPTH>,
@@ -22,7 +22,7 @@ pub struct Field<'a> {
 }
 
 /// A block that was read.
-#[derive(Debug, Drop)]
+#[derive(Drop)]
 pub struct Block<'a> {
     /// Its fields, in order.
     pub fields: Vec<Field<'a>>,

@@ -9,7 +9,7 @@ ghost use Rattle.desk_text.specs.Seen.{sign_seen};
 use crate::spelling::{is_further_line, is_name, is_printable_line, is_tag, split_feed};
 
 /// What a line after the first is by itself.
-#[derive(Clone, Copy, Debug)]
+#[derive(Clone, Copy)]
 pub enum Line<'a> {
     /// `:16R:` and a name.
     Opening(&'a [u8]),

@@ -5,7 +5,7 @@ use desk_msg::Reason;
 use desk_rules::Entry;
 
 /// A message that the desk sent, as its addressee asks for it.
-#[derive(Clone, Copy, Debug, PartialEq, Eq)]
+#[derive(Clone, Copy)]
 pub struct MessageKey {
     /// The message's type: 548, or 544 to 547
     pub mt: u16,
@@ -16,7 +16,7 @@ pub struct MessageKey {
 }
 
 /// How an accepted entry fares by now.
-#[derive(Clone, Copy, Debug, PartialEq, Eq)]
+#[derive(Clone, Copy)]
 pub enum Outcome {
     /// A command of the operator that is no run: it is booked
     Booked,
@@ -57,7 +57,7 @@ pub enum Outcome {
 }
 
 /// An accepted entry, and how it fares by now.
-#[derive(Clone, Copy, Debug, PartialEq, Eq)]
+#[derive(Clone, Copy)]
 pub struct JournalRow {
     pub number: u64,
     pub entry: Entry,

@@ -14,7 +14,7 @@ use desk_rules::{Entry, Instructed, Place, Standing, State};
 use std::alloc::Global;
 
 /// An instruction of a pair.
-#[derive(Clone, Copy, Debug, PartialEq, Eq)]
+#[derive(Clone, Copy)]
 pub struct Leg {
     pub number: u64,
     pub instructed: Instructed,
@@ -22,7 +22,7 @@ pub struct Leg {
 }
 
 /// A matched pair that waits.
-#[derive(Clone, Copy, Debug, PartialEq, Eq)]
+#[derive(Clone, Copy)]
 pub struct WaitingPair {
     pub reason: Reason,
     pub later: Instructed,

@@ -4,7 +4,7 @@ use desk_codes::{AccountId, Bic, Ccy};
 use desk_msg::StatementRow;
 
 /// A security that an account holds; or that it holds none.
-#[derive(Clone, Copy, Debug, PartialEq, Eq)]
+#[derive(Clone, Copy)]
 pub struct AccountRow {
     pub account: AccountId,
     /// The participant whose account it is
@@ -14,7 +14,7 @@ pub struct AccountRow {
 }
 
 /// A currency of which a participant has some.
-#[derive(Clone, Copy, Debug, PartialEq, Eq)]
+#[derive(Clone, Copy)]
 pub struct CashRow {
     pub bic: Bic,
     pub ccy: Ccy,

@@ -1,7 +1,7 @@
 //! How a report is written.
 
 /// How a report is written.
-#[derive(Clone, Copy, Debug, PartialEq, Eq)]
+#[derive(Clone, Copy)]
 pub enum Format {
     /// For people: lines of aligned text
     Text,

@@ -4,7 +4,7 @@ use desk_codes::{AccountId, Bic, Day, Isin, Reference};
 use desk_msg::{Cash, Kind, Reason};
 
 /// One side of a matched pair.
-#[derive(Clone, Copy, Debug, PartialEq, Eq)]
+#[derive(Clone, Copy)]
 pub struct Side {
     /// The number of its instruction
     pub number: u64,
@@ -18,7 +18,7 @@ pub struct Side {
 }
 
 /// A matched pair that waits for its settlement. Its number is the greater one of its sides'.
-#[derive(Clone, Copy, Debug, PartialEq, Eq)]
+#[derive(Clone, Copy)]
 pub struct PendingPair {
     /// The settlement day
     pub day: Day,

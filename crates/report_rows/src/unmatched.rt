@@ -4,7 +4,7 @@ use desk_codes::Reference;
 use desk_rules::Instructed;
 
 /// In what two instructions differ that are of opposite sides, of one security, and name each other's senders.
-#[derive(Clone, Copy, Debug, PartialEq, Eq)]
+#[derive(Clone, Copy)]
 pub struct Differences {
     /// How the quantity counts: units, or face amount
     pub kind: bool,
@@ -20,7 +20,7 @@ pub struct Differences {
 }
 
 /// The unmatched instruction that comes nearest to being another's opposite.
-#[derive(Clone, Copy, Debug, PartialEq, Eq)]
+#[derive(Clone, Copy)]
 pub struct Nearest {
     pub number: u64,
     pub reference: Reference,
@@ -28,7 +28,7 @@ pub struct Nearest {
 }
 
 /// An instruction that is not matched.
-#[derive(Clone, Copy, Debug, PartialEq, Eq)]
+#[derive(Clone, Copy)]
 pub struct UnmatchedInstruction {
     pub number: u64,
     pub instructed: Instructed,

@@ -9,7 +9,7 @@ use desk_rules::Instructed;
 use report_rows::{Differences, Nearest};
 
 /// What instructions that are near to one have in common, as they have it.
-#[derive(Clone, Copy, Debug, PartialEq, Eq, PartialOrd, Ord)]
+#[derive(Clone, Copy, PartialEq, Eq, PartialOrd, Ord)]
 pub struct NearKey {
     pub isin: Isin,
     pub sender: Bic,

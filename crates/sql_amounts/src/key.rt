@@ -5,7 +5,7 @@ ghost use Rattle.sql_amounts.specs.Keys.{ledger_of, texts_of};
 use desk_codes::{AccountId, Bic, Ccy, Isin};
 
 /// A table of amounts.
-#[derive(Clone, Copy, Debug, PartialEq, Eq)]
+#[derive(Clone, Copy)]
 pub enum Ledger {
     /// What accounts hold of securities.
     Balance,
@@ -16,7 +16,7 @@ pub enum Ledger {
 }
 
 /// What an amount is recorded under: quantities by the security's unit, cash in the currency's minor unit.
-#[derive(Clone, Copy, Debug, PartialEq, Eq)]
+#[derive(Clone, Copy)]
 pub enum AmountKey {
     /// What the account holds of the security.
     Balance(AccountId, Isin),

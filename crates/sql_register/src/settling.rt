@@ -183,7 +183,7 @@ fn free<S: Alter>(
 }
 
 /// A pair, by the numbers of its two instructions.
-#[derive(Clone, Copy, Debug, PartialEq, Eq)]
+#[derive(Clone, Copy)]
 pub struct FoundPair {
     /// Of the earlier instruction
     mate: u64,

@@ -5,7 +5,7 @@ ghost use Rattle.desk_book.specs.WrittenTo.{reply_with};
 use desk_rules::{Reply, Text};
 
 /// The head of an answer whose text is written straight to a writer.
-#[derive(Clone, Copy, Debug, PartialEq, Eq)]
+#[derive(Clone, Copy)]
 pub struct Head {
     /// 200 where what was asked is answered, 422 where it is refused
     pub status: u16,

@@ -21,7 +21,7 @@ use desk_streams::Sink;
 use std::alloc::Global;
 
 /// How it ended that an answer was written.
-#[derive(Clone, Copy, Debug, PartialEq, Eq)]
+#[derive(Clone, Copy)]
 pub struct Written {
     pub result: Result<Head, ToFault>,
     /// Whether the register is lost: it cannot be shown that it holds what it held
@@ -29,7 +29,7 @@ pub struct Written {
 }
 
 /// What is told row by row.
-#[derive(Clone, Copy, Debug, PartialEq, Eq)]
+#[derive(Clone, Copy)]
 pub enum Report {
     /// What this participant's account holds; None for a text that names no account
     Holdings(Bic, Option<AccountId>),

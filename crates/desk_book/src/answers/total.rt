@@ -12,7 +12,7 @@ use desk_msg::SinkFault;
 use desk_streams::Sink;
 
 /// The total of a currency, in minor units.
-#[derive(Clone, Copy, Debug, PartialEq, Eq)]
+#[derive(Clone, Copy)]
 pub struct CashTotal {
     pub ccy: Ccy,
     /// What the participants hold together
@@ -22,7 +22,7 @@ pub struct CashTotal {
 }
 
 /// The total of a security, in units or by face amount.
-#[derive(Clone, Copy, Debug, PartialEq, Eq)]
+#[derive(Clone, Copy)]
 pub struct SecurityTotal {
     pub isin: Isin,
     /// What the accounts hold together

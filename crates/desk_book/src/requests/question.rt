@@ -8,7 +8,7 @@ use desk_msg::Mt;
 
 /// The type of a message that a participant sends (ISO 15022, category 5): it instructs the desk, or cancels what it
 /// instructed.
-#[derive(Clone, Copy, Debug, PartialEq, Eq)]
+#[derive(Clone, Copy)]
 pub enum InstructionType {
     /// Receive free
     Mt540,
@@ -50,7 +50,7 @@ impl InstructionType {
 }
 
 /// What is asked: what a line of a script, or a path, names. Most questions are asked with a text.
-#[derive(Clone, Copy, Debug, PartialEq, Eq)]
+#[derive(Clone, Copy)]
 pub enum Question {
     /// To take a participant's message in: its sender and its type. The text is its block 4
     Message(Bic, InstructionType),
@@ -87,7 +87,7 @@ impl Question {
 
 /// A request to the desk: a question, and the text that it is asked with, as it came and not yet read. Where it is asked
 /// with none the text is not looked at.
-#[derive(Clone, Copy, Debug, PartialEq, Eq)]
+#[derive(Clone, Copy)]
 pub struct Request<'a> {
     pub question: Question,
     pub text: &'a [u8],

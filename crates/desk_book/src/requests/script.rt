@@ -15,7 +15,7 @@ use memchr::memchr;
 const COUNTED: usize = LONGEST_TEXT + 1;
 
 /// An item of a script.
-#[derive(Clone, Copy, Debug, PartialEq, Eq)]
+#[derive(Clone, Copy)]
 pub enum Item<'a> {
     /// What the desk is asked
     Ask(Request<'a>),

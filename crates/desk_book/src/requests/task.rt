@@ -12,7 +12,7 @@ use desk_rules::{Entry, Reply, Text};
 use std::alloc::{AllocError, Global};
 
 /// What a request is read as.
-#[derive(Debug, Drop)]
+#[derive(Drop)]
 pub enum Task {
     /// A command to decide on: an operator's, or a participant's message
     Decide(Entry),

@@ -7,7 +7,7 @@ use desk_msg::{Cash, Kind};
 use desk_rules::Instructed;
 
 /// What two opposite instructions have in common, as one of them has it.
-#[derive(Clone, Copy, Debug, PartialEq, Eq, PartialOrd, Ord)]
+#[derive(Clone, Copy, PartialEq, Eq, PartialOrd, Ord)]
 pub struct MatchKey {
     pub quantity: u64,
     /// 0 without cash

@@ -6,7 +6,7 @@ use desk_codes::Bic;
 use desk_rules::Sent;
 
 /// What a sent message is besides its text.
-#[derive(Clone, Copy, Debug)]
+#[derive(Clone, Copy)]
 pub struct Heading {
     pub bic: Bic,
     pub mt: u16,

@@ -8,7 +8,7 @@ use desk_msg::Cash;
 use desk_rules::Entry;
 
 /// What has to change before a pair that is short can fare otherwise.
-#[derive(Clone, Copy, Debug, PartialEq, Eq, PartialOrd, Ord)]
+#[derive(Clone, Copy, PartialEq, Eq, PartialOrd, Ord)]
 pub enum Want {
     /// That an account holds more of a security
     MoreHeld { account: AccountId, isin: Isin },

@@ -15,7 +15,7 @@ use desk_codes::{AccountId, Ccy, Day, Isin, Reference};
 use desk_text::{Block, Field};
 
 /// What a confirmation says of a settlement. `cash` is there exactly against payment.
-#[derive(Clone, Copy, Debug, PartialEq, Eq)]
+#[derive(Clone, Copy)]
 pub struct Confirmed {
     /// The reference of the instruction that was settled (20C RELA)
     pub related: Reference,

@@ -3,7 +3,7 @@ use crate::instruction::Kind;
 use desk_codes::Isin;
 
 /// How much of a security a statement tells, and how it is counted.
-#[derive(Clone, Copy, Debug, PartialEq, Eq)]
+#[derive(Clone, Copy)]
 pub struct StatementRow {
     pub isin: Isin,
     pub kind: Kind,
@@ -11,7 +11,7 @@ pub struct StatementRow {
 }
 
 /// Why a row was not taken.
-#[derive(Clone, Copy, Debug, PartialEq, Eq)]
+#[derive(Clone, Copy)]
 pub enum SinkFault {
     /// What it was to be written to failed.
     Write,

@@ -16,7 +16,7 @@ use desk_codes::Reference;
 use std::alloc::{AllocError, Global};
 
 /// Which number the reference of one of the desk's own texts has.
-#[derive(Clone, Copy, Debug, PartialEq, Eq)]
+#[derive(Clone, Copy)]
 pub enum Own {
     /// An answer: S and how many entries were accepted by then.
     Answer(u64),
@@ -36,7 +36,7 @@ pub enum Reason {
 }
 
 /// What a status advice says.
-#[derive(Clone, Copy, Debug, PartialEq, Eq)]
+#[derive(Clone, Copy)]
 pub enum Case {
     /// An instruction that no other matches yet
     Unmatched,

@@ -70,14 +70,14 @@ impl Reply {
 }
 
 /// An accepted entry, and the reply that it got.
-#[derive(Debug, Drop)]
+#[derive(Drop)]
 pub struct Kept {
     pub entry: Entry,
     pub reply: Reply,
 }
 
 /// Something to be told of an instruction: that it was paired, or that a run settled it.
-#[derive(Clone, Copy, Debug, PartialEq, Eq)]
+#[derive(Clone, Copy)]
 pub struct Notice {
     /// The number of the instruction
     pub about: u64,

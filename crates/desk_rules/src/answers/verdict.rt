@@ -3,7 +3,7 @@ ghost use Rattle.std.specs.Prelude.{◌≡◌, ◌≤◌};
 ghost use Rattle.desk_rules.specs.Refusals.{number_of_refusal};
 
 /// Why an entry is refused.
-#[derive(Clone, Copy, Debug, PartialEq, Eq)]
+#[derive(Clone, Copy, Debug)]
 pub enum Refusal {
     /// The sender of a message is no participant.
     SenderUnknown,
@@ -79,7 +79,7 @@ impl Refusal {
 }
 
 /// What the desk decides.
-#[derive(Clone, Copy, Debug, PartialEq, Eq)]
+#[derive(Clone, Copy)]
 pub enum Verdict {
     Accept,
     /// The entry of that number is the same command: it is answered again, and nothing changes.

@@ -6,7 +6,7 @@ use desk_codes::{AccountId, Bic, Ccy, Day, Isin, Reference};
 use desk_msg::{CancelOrder, Cash, Instruction, Kind, Mt};
 
 /// Who a command is from. All commands of the operator share one sender.
-#[derive(Clone, Copy, Debug, PartialEq, Eq)]
+#[derive(Clone, Copy)]
 pub enum Sender {
     Operator,
     /// A participant, by its BIC
@@ -14,14 +14,14 @@ pub enum Sender {
 }
 
 /// An instruction, and the participant that sent it.
-#[derive(Clone, Copy, Debug, PartialEq, Eq)]
+#[derive(Clone, Copy)]
 pub struct Instructed {
     pub sender: Bic,
     pub instruction: Instruction,
 }
 
 /// So much of a security put on an account, or taken off it.
-#[derive(Clone, Copy, Debug, PartialEq, Eq)]
+#[derive(Clone, Copy, Debug)]
 pub struct Movement {
     pub reference: Reference,
     pub account: AccountId,
@@ -33,7 +33,7 @@ pub struct Movement {
 }
 
 /// So much cash paid in by a participant, or paid out to it.
-#[derive(Clone, Copy, Debug, PartialEq, Eq)]
+#[derive(Clone, Copy, Debug)]
 pub struct Payment {
     pub reference: Reference,
     pub bic: Bic,
@@ -45,7 +45,7 @@ pub struct Payment {
 }
 
 /// How often a run goes over the due pairs.
-#[derive(Clone, Copy, Debug, PartialEq, Eq)]
+#[derive(Clone, Copy, Debug)]
 pub enum RunRule {
     /// Once
     OnePass,
@@ -54,7 +54,7 @@ pub enum RunRule {
 }
 
 /// A command, to be decided on or accepted: of the operator, or a message of a participant.
-#[derive(Clone, Copy, Debug, PartialEq, Eq)]
+#[derive(Clone, Copy, Debug)]
 pub enum Entry {
     /// A new participant
     Participant {

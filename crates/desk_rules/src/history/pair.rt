@@ -27,7 +27,7 @@ pub struct Place {
 }
 
 /// What an uncovered pair lacks.
-#[derive(Clone, Copy, Debug, PartialEq, Eq)]
+#[derive(Clone, Copy)]
 pub enum Lack {
     /// The deliverer holds too little of the security (reason LACK).
     Securities,

@@ -15,7 +15,7 @@ pub enum State {
 }
 
 /// Where an entry stands: its mate, its state, and whether its cancellation was requested.
-#[derive(Clone, Copy, Debug, PartialEq, Eq)]
+#[derive(Clone, Copy, Debug)]
 pub struct Standing {
     /// The number of the other instruction of its pair
     pub mate: Option<u64>,
