@@ -1,8 +1,9 @@
 //! The settlement desk as a program: what its words ask for, printed.
 //!
 //! It stands at the edge: what is answered comes from the crates below, whose contracts say what it is. `answers` has the answer
-//! of each subcommand, `findings` what `desk check` finds in a script, `store` opens and closes the file of a desk, of which
-//! `teller` tells people, `status` says how a run ends, and `run` joins them. Begin with `run.rt`.
+//! of each subcommand, `findings` what `desk check` finds in a script, `folders` reads and writes the folders of `desk drop`.
+//! `over_file` does a job over the file of a desk, which `store` opens and closes, and of which `teller` tells people. `status` says
+//! how a run ends, and `run` joins them. Begin with `run.rt`.
 #![tactic(auto)]
 
 mod answers;
