@@ -15,7 +15,8 @@ use Rattle.sql_standings.specs.Due.{AreDue, is_due_in}
 use Rattle.sql_standings.specs.Standings.{AreStandings, standing_in}
 use Rattle.sql_standings.specs.Unmatched.{AreUnmatched}
 use Rattle.sql_tables.specs.Schema.{desk_schema}
-use Rattle.sql_register.specs.Holds.{outstanding_in, paid_in_table, unmatched_of}
+use Rattle.desk_rules.specs.Unmatched.{unmatched_in}
+use Rattle.sql_register.specs.Holds.{outstanding_in, paid_in_table}
 
 -- each table says, by itself, what a content does
 pub record HasParts (db : Database) (content : Content) : Type 0 where
@@ -23,7 +24,7 @@ pub record HasParts (db : Database) (content : Content) : Type 0 where
   pub entries : AreEntries db content.register
   pub standings : AreStandings db
   pub standing : (n : ℕ) → standing_in db n ≡ content.standing n
-  pub unmatched : AreUnmatched db (unmatched_of content)
+  pub unmatched : AreUnmatched db (unmatched_in content)
   pub due_rows : AreDue db
   pub due : (place : Place) → is_due_in db place ≡ true → IsMatchedPair content place
   pub due_all : (place : Place) → IsMatchedPair content place → is_due_in db place ≡ true

@@ -33,7 +33,7 @@ use Rattle.sql_tables.specs.Queries.{plain}
 use Rattle.sql_tables.proofs.QueryLemmas.{plain_rows, all_kept}
 use Rattle.sql_opening.specs.Forms.{AreAllFormed, HasForm}
 use Rattle.sql_opening.specs.Order.{AreInOrder}
-use Rattle.sql_register.specs.Holds.{if_unmatched, unmatched_of}
+use Rattle.desk_rules.specs.Unmatched.{if_unmatched, unmatched_in}
 use Rattle.sql_standings.specs.Key.{key_of}
 use Rattle.sql_standings.specs.Unmatched.{stored, AreUnmatched, IsNumbered as HasNumber}
 use Rattle.audit_rows.specs.Whole.{shown_by, IsWhole}
@@ -112,21 +112,21 @@ none_beyond content m out = ap (λ (o : Option Instructed). option_map key_of o)
 numbered : IsNumbered unmatched_table 9
 numbered = record { key = refl; last = refl; size = refl }
 
-pub has_all : (db : Database) (content : Content) (rows : List Row) → AreInOrder desk_schema db.trees → AreAllFormed db.trees → IsPermutation (map (shown_by 9) (db.trees 9)) rows → NotesAll content rows → AreUnmatched db (unmatched_of content)
+pub has_all : (db : Database) (content : Content) (rows : List Row) → AreInOrder desk_schema db.trees → AreAllFormed db.trees → IsPermutation (map (shown_by 9) (db.trees 9)) rows → NotesAll content rows → AreUnmatched db (unmatched_in content)
 has_all db content rows order formed shown all =
     let n = length content.register in
     let made = numbered_from (wanted content) 0 n in
     let up = (order unmatched_table (inr (inr (inr (inr (inr (inl refl))))))).0 in
     let wholes = all_weaker (HasForm unmatched_table) (IsWhole 9) (whole unmatched_table 9 numbered) (db.trees 9) formed.1.1.1.1.1.0.each in
     let made_whole = each_row (wanted content) (IsWhole 9) 0 n (λ m values low high is.
-    let it = key_is (unmatched_of content m) values is in record { number = Int (pos m); values = values; is = refl; size = ap length it.1 }) in
+    let it = key_is (unmatched_in content m) values is in record { number = Int (pos m); values = values; is = refl; size = ap length it.1 }) in
     let is : db.trees 9 ≡ made = is_computed 9 (db.trees 9) made rows up (rises (wanted content) 0 n) wholes made_whole shown all.noted in
     record {
       rising = up;
       numbered = subst (AllByRecursion HasNumber) (sym is) (each_row (wanted content) HasNumber 0 n (λ m values low high at. (m, refl)));
-      each = λ m. ap (λ rs. find (has_rowid (pos m)) rs) is ∙ find_row (wanted content) n (none_beyond content) m ∙ twice m (unmatched_of content m);
+      each = λ m. ap (λ rs. find (has_rowid (pos m)) rs) is ∙ find_row (wanted content) n (none_beyond content) m ∙ twice m (unmatched_in content m);
     }
 
 pub answered : (db : Database) (content : Content) (rows given : List Row) → IsPermutation (map (shown_by 9) (db.trees 9)) rows → given ≡ rows → (noted : Bool) → (IsTrue noted → NotesAll content given)
-    → AreInOrder desk_schema db.trees → AreAllFormed db.trees → IsTrue noted → AreUnmatched db (unmatched_of content)
+    → AreInOrder desk_schema db.trees → AreAllFormed db.trees → IsTrue noted → AreUnmatched db (unmatched_in content)
 answered db content rows given shown same noted notes order formed all = has_all db content rows order formed shown (subst (NotesAll content) same (notes all))

@@ -2,13 +2,13 @@
 use Rattle.std.specs.Prelude.{◌≡◌, ℕ, ◌<◌, ◌^◌, List, map, length, Option, option_map}
 use Rattle.sqlite.specs.Order.{Row}
 use Rattle.desk_rules.specs.Content.{Content}
-use Rattle.sql_register.specs.Holds.{unmatched_of}
+use Rattle.desk_rules.specs.Unmatched.{unmatched_in}
 use Rattle.sql_standings.specs.Key.{key_of}
 use Rattle.audit_rows.specs.Whole.{shown_by}
 use Rattle.audit_rows.specs.Numbered.{numbered_from}
 
 abbrev pub wanted : Content → ℕ → Option Row
-wanted content n = option_map key_of (unmatched_of content n)
+wanted content n = option_map key_of (unmatched_in content n)
 
 -- the rows show what is unmatched of the first numbers, and nothing else
 abbrev pub AreNoted : Content → ℕ → List Row → Type 0

@@ -4,7 +4,7 @@ ghost use Rattle.std.specs.List.Sorted.{IsPermutation};
 ghost use Rattle.sqlite.specs.Values.{bound};
 ghost use Rattle.sqlite.specs.declared.types.Value.TheVariants.{Int};
 ghost use Rattle.desk_register.specs.View.{IfTrusted, IsRead};
-ghost use Rattle.sql_register.specs.Holds.{unmatched_of};
+ghost use Rattle.desk_rules.specs.Unmatched.{unmatched_in};
 ghost use Rattle.sql_standings.specs.Key.{key_of};
 ghost use Rattle.sql_standings.specs.Unmatched.{AreUnmatched};
 ghost use Rattle.sql_tables.specs.Calls.{Looks, Soundly, tables};
@@ -92,7 +92,7 @@ fn unmatched_at<R: Register>(
     number: u64,
 ) -> Result<Option<Instructed>, Fault>
     requires stage { (R.view register.old).stage ≡ Stage.Idle }
-    ensures value { IfTrusted (R.view register.old) (R.view register.new) (IfOk result (λ found. found ≡ unmatched_of (R.view register.old).content number)) }
+    ensures value { IfTrusted (R.view register.old) (R.view register.new) (IfOk result (λ found. found ≡ unmatched_in (R.view register.old).content number)) }
     ensures read { IsRead result (R.view register.old) (R.view register.new) }
     ensures in_memory { R.in_memory ≡ true → IsOk result }
 {
@@ -163,7 +163,7 @@ pub fn has_unmatched<S: Alter, R: Register>(
     requires stage { (R.view register.old).stage ≡ Stage.Idle }
     ensures has { Soundly S.Store conn.old conn.new (IfTrusted (R.view register.old) (R.view register.new)
         (AreInOrder desk_schema (tables S.Store conn.old).trees → AreAllFormed (tables S.Store conn.old).trees
-        → IfOk result (λ all. IsTrue all → AreUnmatched (tables S.Store conn.old) (unmatched_of (R.view register.old).content)))) }
+        → IfOk result (λ all. IsTrue all → AreUnmatched (tables S.Store conn.old) (unmatched_in (R.view register.old).content)))) }
     ensures look { Audits S.Store conn.old conn.new result }
     ensures read { Consults result (R.view register.old) (R.view register.new) }
     ensures in_memory { R.in_memory ≡ true → IsOk (of_register result) }

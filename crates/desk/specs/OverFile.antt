@@ -11,7 +11,7 @@ use Rattle.desk.specs.OverviewAnswer.{IsFileOverviewAnswer, IsOpenOverviewAnswer
 use Rattle.desk.specs.PlayAnswer.{IsFilePlayAnswer, IsOpenPlayAnswer, IsPlayedAnyhow, PlaysFrom}
 use Rattle.desk.specs.ReportAnswer.{IsOpenReportAnswer, IsReportAnswer, LeavesBooks, ReportsFrom, asked_for}
 use Rattle.desk.specs.ServeAnswer.{IsFileServeAnswer, IsOpenServeAnswer, IsServeAnswer}
-use Rattle.desk.specs.declared.answers.shown.Shown.{Shown}
+use Rattle.desk.specs.declared.answers.report.Shown.{Shown}
 use Rattle.desk.specs.declared.over_file.Ask.{Ask}
 use Rattle.desk.specs.declared.over_file.Ask.TheVariants.{Play, Serve, Take, Tell}
 use Rattle.desk.specs.declared.over_file.Job.{Job}

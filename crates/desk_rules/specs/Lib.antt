@@ -15,6 +15,7 @@ pub mod Sent
 pub mod Questions
 pub mod WellFormed
 pub mod Content
+pub mod Unmatched
 pub mod Tables
 pub mod Confirmations
 pub mod BothLegs

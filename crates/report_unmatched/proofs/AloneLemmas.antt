@@ -21,7 +21,7 @@ use Rattle.desk_rules.proofs.Deciding.{mate_or_none}
 use Rattle.desk_rules.proofs.FinalStates.{requested-front}
 use Rattle.desk_rules.proofs.PairingLaws.{never_own, opposite_back}
 use Rattle.desk_rules.proofs.StandsLemmas.{is_stands}
-use Rattle.report_unmatched.specs.Unmatched.{if_unmatched, unmatched_at}
+use Rattle.desk_rules.specs.Unmatched.{if_unmatched, unmatched_in}
 
 pub unmatched_state : (state : State) (found : Option Instructed) (one : Instructed) → if_unmatched state found ≡ Some one → state ≡ Unmatched
 unmatched_state Unmatched found one is = refl
@@ -38,7 +38,7 @@ unmatched_found Cancelled found one is = absurd (cc)
 unmatched_found Settled found one is = absurd (cc)
 
 module _ (books : Books) (content : Content) (are : AreTables books content) where
-  module _ (n : ℕ) (one : Instructed) (is : unmatched_at content n ≡ Some one) where
+  module _ (n : ℕ) (one : Instructed) (is : unmatched_in content n ≡ Some one) where
     pub in_history : instruction_at books.history n ≡ Some one
     in_history = ap (λ h. instruction_at h n) (sym are.history) ∙ unmatched_found (content.standing n).state (instruction_at (history_of content) n) one is
 
@@ -48,7 +48,7 @@ module _ (books : Books) (content : Content) (are : AreTables books content) whe
         let state : (standing_of books n).state ≡ Unmatched = ap (λ s. s.state) (sym (are.standings.each n)) ∙ unmatched_state (content.standing n).state (instruction_at (history_of content) n) one is in
         subst (λ s. StandsSo books n (standing_of books n).mate s) state (is_stands books are.are n (Some one) in_history).so
 
-  module _ (a b : ℕ) (one other : Instructed) (earlier : unmatched_at content a ≡ Some one) (later : unmatched_at content b ≡ Some other) where
+  module _ (a b : ℕ) (one other : Instructed) (earlier : unmatched_in content a ≡ Some one) (later : unmatched_in content b ≡ Some other) where
     is_candidate : a < b → AreOpposite one other → IsCandidate books.history (pairs_below b books.pairs) b a
     is_candidate lt opposite = record {
       earlier = lt;
@@ -67,10 +67,10 @@ module _ (books : Books) (content : Content) (are : AreTables books content) whe
     ]
 
   -- in whatever order they came
-  pub never_opposite : (a b : ℕ) (one other : Instructed) → unmatched_at content a ≡ Some one → unmatched_at content b ≡ Some other → AreOpposite one other → ⊥
+  pub never_opposite : (a b : ℕ) (one other : Instructed) → unmatched_in content a ≡ Some one → unmatched_in content b ≡ Some other → AreOpposite one other → ⊥
   never_opposite a b one other at_a at_b opposite = elim (cases_order a b) [
     | inl same ↦
-        let both : Some one ≡ Some other = sym at_a ∙ ap (unmatched_at content) same ∙ at_b in
+        let both : Some one ≡ Some other = sym at_a ∙ ap (unmatched_in content) same ∙ at_b in
         let it : one ≡ other = cc in
         never_own other (subst (λ z. AreOpposite z other) it opposite)
     | inr apart ↦ elim apart [

@@ -20,7 +20,8 @@ use Rattle.desk_rules.proofs.SameContent.{cash_same}
 use Rattle.desk_register.proofs.CaseLemmas.{by_bool, same_bytes}
 use Rattle.report_rows.specs.declared.unmatched.Nearest.{Nearest}
 use Rattle.report_rows.specs.declared.unmatched.UnmatchedInstruction.{UnmatchedInstruction}
-use Rattle.report_unmatched.specs.Unmatched.{amounts_differ, currencies_differ, differ, differences_of, any_differs, is_near, is_some_near, nearest_number, nearest_of, nearest_told, numbers_of, row_of, unmatched_at, unmatched_of, unmatched_row}
+use Rattle.desk_rules.specs.Unmatched.{unmatched_in}
+use Rattle.report_unmatched.specs.Unmatched.{amounts_differ, currencies_differ, differ, differences_of, any_differs, is_near, is_some_near, nearest_number, nearest_of, nearest_told, numbers_of, row_of, unmatched_of, unmatched_row}
 use Rattle.report_unmatched.proofs.AloneLemmas.{never_opposite}
 use Rattle.report_unmatched.proofs.NearestLemmas.{found_holds}
 
@@ -95,17 +96,17 @@ opposite_so one other near same =
 record IsRowOf (content : Content) (row : UnmatchedInstruction) : Type 0 where
   number : ℕ
   one : Instructed
-  at : unmatched_at content number ≡ Some one
+  at : unmatched_in content number ≡ Some one
   is : row ≡ row_of content number one
 
-row_parts : (content : Content) (row : UnmatchedInstruction) (n : ℕ) (found : Option Instructed) → unmatched_at content n ≡ found → option_map (row_of content n) found ≡ Some row → IsRowOf content row
+row_parts : (content : Content) (row : UnmatchedInstruction) (n : ℕ) (found : Option Instructed) → unmatched_in content n ≡ found → option_map (row_of content n) found ≡ Some row → IsRowOf content row
 row_parts content row n None at is = absurd (cc)
 row_parts content row n (Some one) at is = (let same : row_of content n one ≡ row = cc in record { number = n; one = one; at = at; is = sym same })
 
 listed_row : (content : Content) (row : UnmatchedInstruction) (n : ℕ) (found : Option UnmatchedInstruction) (rest : List UnmatchedInstruction) → unmatched_row content n ≡ found → In (cons_option found rest) row → (In rest row → IsRowOf content row)
     → IsRowOf content row
 listed_row content row n None rest at i later = later i
-listed_row content row n (Some first) rest at (inl same) later = row_parts content row n (unmatched_at content n) refl (at ∙ ap Some same)
+listed_row content row n (Some first) rest at (inl same) later = row_parts content row n (unmatched_in content n) refl (at ∙ ap Some same)
 listed_row content row n (Some first) rest at (inr i) later = later i
 
 row_in : (content : Content) (row : UnmatchedInstruction) (ns : List ℕ) → In (filter_map (unmatched_row content) ns) row → IsRowOf content row
@@ -116,29 +117,29 @@ record IsNearestOf (content : Content) (one : Instructed) (nearest : Nearest) : 
   number : ℕ
   other : Instructed
   found : nearest_number content one ≡ Some number
-  at : unmatched_at content number ≡ Some other
+  at : unmatched_in content number ≡ Some other
   is : nearest ≡ nearest_told one number other
 
 nearest_parts : (content : Content) (one : Instructed) (nearest : Nearest) (number : Option ℕ) → nearest_number content one ≡ number
-    → option_and_then (λ n. option_map (nearest_told one n) (unmatched_at content n)) number ≡ Some nearest → IsNearestOf content one nearest
+    → option_and_then (λ n. option_map (nearest_told one n) (unmatched_in content n)) number ≡ Some nearest → IsNearestOf content one nearest
 nearest_parts content one nearest None found is = absurd (cc)
-nearest_parts content one nearest (Some n) found is = by (unmatched_at content n) refl is
+nearest_parts content one nearest (Some n) found is = by (unmatched_in content n) refl is
   where
-    by : (o : Option Instructed) → unmatched_at content n ≡ o → option_map (nearest_told one n) o ≡ Some nearest → IsNearestOf content one nearest
+    by : (o : Option Instructed) → unmatched_in content n ≡ o → option_map (nearest_told one n) o ≡ Some nearest → IsNearestOf content one nearest
     by None at told = absurd (cc)
     by (Some other) at told = (let same : nearest_told one n other ≡ nearest = cc in record { number = n; other = other; found = found; at = at; is = sym same })
 
 -- The nearest differs in something.
 
 module _ (books : Books) (content : Content) (are : AreTables books content) where
-  told_differs : (n : ℕ) (one : Instructed) (nearest : Nearest) → unmatched_at content n ≡ Some one → IsNearestOf content one nearest → any_differs nearest.differs ≡ true
+  told_differs : (n : ℕ) (one : Instructed) (nearest : Nearest) → unmatched_in content n ≡ Some one → IsNearestOf content one nearest → any_differs nearest.differs ≡ true
   told_differs n one nearest at told = by_bool (any_differs nearest.differs) (λ yes. yes) (λ same.
-      let near = found_holds (λ k. is_some_near one (unmatched_at content k)) (numbers_of content) told.number told.found in
+      let near = found_holds (λ k. is_some_near one (unmatched_in content k)) (numbers_of content) told.number told.found in
       let is_so : is_near one told.other ≡ true = subst (λ o. is_some_near one o ≡ true) told.at near in
       let none : any_differs (differences_of one told.other) ≡ false = subst (λ (z : Nearest). any_differs z.differs ≡ false) told.is same in
       absurd (never_opposite books content are n told.number one told.other at told.at (opposite_so one told.other is_so none)))
 
-  if_told : (n : ℕ) (one : Instructed) (nearest : Option Nearest) → unmatched_at content n ≡ Some one → nearest_of content one ≡ nearest → IfSome nearest (λ z. IsTrue (any_differs z.differs))
+  if_told : (n : ℕ) (one : Instructed) (nearest : Option Nearest) → unmatched_in content n ≡ Some one → nearest_of content one ≡ nearest → IfSome nearest (λ z. IsTrue (any_differs z.differs))
   if_told n one None at is = tt
   if_told n one (Some nearest) at is = told_differs n one nearest at (nearest_parts content one nearest (nearest_number content one) refl is)
 

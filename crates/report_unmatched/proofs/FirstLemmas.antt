@@ -18,7 +18,8 @@ use Rattle.desk_holdings.proofs.ReadingLemmas.{read_on}
 use Rattle.report_unmatched.specs.declared.near.NearKey.{NearKey}
 use Rattle.report_unmatched.specs.NearKeys.{key_of, near_cmp, near_key}
 use Rattle.report_unmatched.specs.FirstNumbers.{AreFirst, IsNoted, has_key}
-use Rattle.report_unmatched.specs.Unmatched.{is_some_near, nearest_number, numbers_of, unmatched_at}
+use Rattle.desk_rules.specs.Unmatched.{unmatched_in}
+use Rattle.report_unmatched.specs.Unmatched.{is_some_near, nearest_number, numbers_of}
 use Rattle.report_unmatched.proofs.NearLemmas.{near_by_key}
 
 -- no unmatched instruction has a number up to 0
@@ -29,7 +30,7 @@ one_found : (test : ℕ → Bool) (n : ℕ) → find test (n ∷ []) ≡ then_so
 one_found test n = by_bool (test n) (λ here. rw here refl) (λ other. rw other refl)
 
 -- the number of an unmatched instruction was put at its key
-pub noted_one : (content : Content) (number : ℕ) (old new : BTreeMap NearKey ℕ) (one : Instructed) (key : NearKey) → unmatched_at content number ≡ Some one → key ≡ key_of one
+pub noted_one : (content : Content) (number : ℕ) (old new : BTreeMap NearKey ℕ) (one : Instructed) (key : NearKey) → unmatched_in content number ≡ Some one → key ≡ key_of one
     → ((q : NearKey) → get near_cmp new q ≡ option_or (get near_cmp old q) (then_some (is_eq (near_cmp key q)) number)) → IsNoted content number old new
 noted_one content number old new one key is same put = record {
   each = λ q.
@@ -42,7 +43,7 @@ noted_one content number old new one key is same put = record {
 first_more : (content : Content) (upto : ℕ) (old new : BTreeMap NearKey ℕ) → AreFirst old content upto → IsNoted content (upto + 1) old new → AreFirst new content (upto + 1)
 first_more content upto old new first noted = record {
   each = λ key.
-      let test : ℕ → Bool = λ n. has_key key (unmatched_at content n) in
+      let test : ℕ → Bool = λ n. has_key key (unmatched_in content n) in
       let next : 1 + upto ≡ upto + 1 = omega arith in
       let longer = find-append test (range_with_len 1 upto) ((1 + upto) ∷ []) in
       noted.each key
@@ -84,4 +85,4 @@ find_same p q (n ∷ ns) same = rw (same n, find_same p q ns same) refl
 pub found_nearest : (content : Content) (numbers : BTreeMap NearKey ℕ) (one : Instructed) → AreFirst numbers content (length content.register) → get near_cmp numbers (near_key one) ≡ nearest_number content one
 found_nearest content numbers one first =
     first.each (near_key one)
-    ∙ find_same (λ n. has_key (near_key one) (unmatched_at content n)) (λ n. is_some_near one (unmatched_at content n)) (numbers_of content) (λ n. some_near one (unmatched_at content n))
+    ∙ find_same (λ n. has_key (near_key one) (unmatched_in content n)) (λ n. is_some_near one (unmatched_in content n)) (numbers_of content) (λ n. some_near one (unmatched_in content n))

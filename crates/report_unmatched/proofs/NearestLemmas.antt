@@ -13,7 +13,8 @@ use Rattle.report_rows.specs.declared.unmatched.Nearest.{Nearest}
 use Rattle.report_unmatched.specs.declared.near.NearKey.{NearKey}
 use Rattle.report_unmatched.specs.NearKeys.{near_cmp, near_key}
 use Rattle.report_unmatched.specs.FirstNumbers.{AreFirst}
-use Rattle.report_unmatched.specs.Unmatched.{if_unmatched, is_some_near, nearest_number, nearest_of, nearest_told, numbers_of, unmatched_at}
+use Rattle.desk_rules.specs.Unmatched.{if_unmatched, unmatched_in}
+use Rattle.report_unmatched.specs.Unmatched.{is_some_near, nearest_number, nearest_of, nearest_told, numbers_of}
 use Rattle.report_unmatched.proofs.FirstLemmas.{found_nearest}
 
 pub found_holds : (test : ℕ → Bool) (ns : List ℕ) (n : ℕ) → find test ns ≡ Some n → test n ≡ true
@@ -43,7 +44,7 @@ none_unmatched Settled found is = refl
 
 module _ (content : Content) (numbers : BTreeMap NearKey ℕ) (one : Instructed) (first : AreFirst numbers content (length content.register)) where
   abbrev told_at : ℕ → Option Nearest
-  told_at n = option_map (nearest_told one n) (unmatched_at content n)
+  told_at n = option_map (nearest_told one n) (unmatched_in content n)
 
   pub nearest_none : get near_cmp numbers (near_key one) ≡ None → None ≡ nearest_of content one
   nearest_none none = sym (ap (option_and_then told_at) (sym (found_nearest content numbers one first) ∙ none))
@@ -52,8 +53,8 @@ module _ (content : Content) (numbers : BTreeMap NearKey ℕ) (one : Instructed)
     is_found : nearest_number content one ≡ Some n
     is_found = sym (found_nearest content numbers one first) ∙ noted
 
-    is_there : is_some_near one (unmatched_at content n) ≡ true
-    is_there = found_holds (λ k. is_some_near one (unmatched_at content k)) (numbers_of content) n is_found
+    is_there : is_some_near one (unmatched_in content n) ≡ true
+    is_there = found_holds (λ k. is_some_near one (unmatched_in content k)) (numbers_of content) n is_found
 
     pub nearest_known : (other : Instructed) → instruction_at (history_of content) n ≡ Some other → Some (nearest_told one n other) ≡ nearest_of content one
     nearest_known other known =
@@ -61,4 +62,4 @@ module _ (content : Content) (numbers : BTreeMap NearKey ℕ) (one : Instructed)
         sym (ap (option_and_then told_at) is_found ∙ ap (option_map (nearest_told one n)) is)
 
     pub nearest_there : instruction_at (history_of content) n ≡ None → ⊥
-    nearest_there none = none_near one (unmatched_at content n) (none_unmatched (content.standing n).state (instruction_at (history_of content) n) none) is_there
+    nearest_there none = none_near one (unmatched_in content n) (none_unmatched (content.standing n).state (instruction_at (history_of content) n) none) is_there

@@ -9,7 +9,7 @@ use Rattle.desk_rules.specs.declared.history.entry.Instructed.{Instructed}
 use Rattle.desk_rules.specs.Content.{Content}
 use Rattle.report_unmatched.specs.declared.near.NearKey.{NearKey}
 use Rattle.report_unmatched.specs.NearKeys.{key_of, near_cmp}
-use Rattle.report_unmatched.specs.Unmatched.{unmatched_at}
+use Rattle.desk_rules.specs.Unmatched.{unmatched_in}
 
 -- there is an instruction, and it has a key
 abbrev pub has_key : NearKey → Option Instructed → Bool
@@ -18,7 +18,7 @@ has_key key (Some one) = is_eq (near_cmp (key_of one) key)
 
 -- the least number, up to one, of an unmatched instruction with a key
 abbrev pub first_with : Content → ℕ → NearKey → Option ℕ
-first_with content upto key = find (λ n. has_key key (unmatched_at content n)) (range_with_len 1 upto)
+first_with content upto key = find (λ n. has_key key (unmatched_in content n)) (range_with_len 1 upto)
 
 -- the numbers are those, for each key
 pub record AreFirst (numbers : BTreeMap NearKey ℕ) (content : Content) (upto : ℕ) : Type 0 where
@@ -26,4 +26,4 @@ pub record AreFirst (numbers : BTreeMap NearKey ℕ) (content : Content) (upto :
 
 -- a number was put at its instruction's key, where there was none; that of no unmatched instruction was not
 pub record IsNoted (content : Content) (number : ℕ) (old new : BTreeMap NearKey ℕ) : Type 0 where
-  pub each : (key : NearKey) → get near_cmp new key ≡ option_or (get near_cmp old key) (then_some (has_key key (unmatched_at content number)) number)
+  pub each : (key : NearKey) → get near_cmp new key ≡ option_or (get near_cmp old key) (then_some (has_key key (unmatched_in content number)) number)

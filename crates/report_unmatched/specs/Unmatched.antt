@@ -4,30 +4,19 @@ use Rattle.std.specs.List.{filter_map, find, range_with_len}
 use Rattle.desk_msg.specs.declared.instruction.Cash.{Cash}
 use Rattle.desk_msg.specs.MessageType.{is_delivery, is_against_payment}
 use Rattle.desk_rules.specs.declared.history.entry.Instructed.{Instructed}
-use Rattle.desk_rules.specs.declared.history.standing.State.{State}
-use Rattle.desk_rules.specs.declared.history.standing.State.TheVariants.{Unmatched}
 use Rattle.desk_rules.specs.Balances.{same_ccy}
-use Rattle.desk_rules.specs.Content.{Content, history_of}
+use Rattle.desk_rules.specs.Content.{Content}
 use Rattle.desk_rules.specs.Facts.{is_of_kind}
-use Rattle.desk_rules.specs.History.{instruction_at}
 use Rattle.desk_book.specs.Sums.{rows_text}
 use Rattle.report_rows.specs.RowData.{unmatched_data}
 use Rattle.report_rows.specs.declared.unmatched.Differences.{Differences}
 use Rattle.report_rows.specs.declared.unmatched.Nearest.{Nearest}
 use Rattle.report_rows.specs.declared.unmatched.UnmatchedInstruction.{UnmatchedInstruction}
+use Rattle.desk_rules.specs.Unmatched.{unmatched_in}
 
 -- the numbers of the entries, from 1 on
 abbrev pub numbers_of : Content → List ℕ
 numbers_of content = range_with_len 1 (length content.register)
-
--- an instruction, where it stands unmatched
-abbrev pub if_unmatched : State → Option Instructed → Option Instructed
-if_unmatched Unmatched found = found
-if_unmatched state found = None
-
--- the unmatched instruction of a number; none where the entry is no instruction, or stands otherwise
-abbrev pub unmatched_at : Content → ℕ → Option Instructed
-unmatched_at content n = if_unmatched (content.standing n).state (instruction_at (history_of content) n)
 
 -- one of two holds, and the other does not
 abbrev pub differ : Bool → Bool → Bool
@@ -74,7 +63,7 @@ is_some_near one (Some other) = is_near one other
 
 -- the least number of an unmatched instruction that is near to one
 abbrev pub nearest_number : Content → Instructed → Option ℕ
-nearest_number content one = find (λ n. is_some_near one (unmatched_at content n)) (numbers_of content)
+nearest_number content one = find (λ n. is_some_near one (unmatched_in content n)) (numbers_of content)
 
 -- what is told of the instruction of a number that is nearest to one
 abbrev pub nearest_told : Instructed → ℕ → Instructed → Nearest
@@ -82,7 +71,7 @@ nearest_told one n other = record { number = n; reference = other.instruction.re
 
 -- the nearest to an instruction; none where there is none
 abbrev pub nearest_of : Content → Instructed → Option Nearest
-nearest_of content one = option_and_then (λ n. option_map (nearest_told one n) (unmatched_at content n)) (nearest_number content one)
+nearest_of content one = option_and_then (λ n. option_map (nearest_told one n) (unmatched_in content n)) (nearest_number content one)
 
 -- the row of an unmatched instruction
 abbrev pub row_of : Content → ℕ → Instructed → UnmatchedInstruction
@@ -90,7 +79,7 @@ row_of content n one = record { number = n; instructed = one; nearest = nearest_
 
 -- the row of a number; none where no unmatched instruction has it
 abbrev pub unmatched_row : Content → ℕ → Option UnmatchedInstruction
-unmatched_row content n = option_map (row_of content n) (unmatched_at content n)
+unmatched_row content n = option_map (row_of content n) (unmatched_in content n)
 
 -- the rows of all unmatched instructions, in the order of their numbers
 abbrev pub unmatched_of : Content → List UnmatchedInstruction

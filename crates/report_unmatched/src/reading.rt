@@ -3,7 +3,7 @@ ghost use Rattle.std.specs.Prelude.{◌≡◌, true, IfOk, IsOk};
 ghost use Rattle.desk_rules.specs.Content.{history_of};
 ghost use Rattle.desk_rules.specs.History.{instruction_at};
 ghost use Rattle.desk_register.specs.View.{IfTrusted, IsRead};
-ghost use Rattle.report_unmatched.specs.Unmatched.{unmatched_at};
+ghost use Rattle.desk_rules.specs.Unmatched.{unmatched_in};
 
 use desk_register::{Fault, Register, Stage};
 use desk_rules::{Instructed, State};
@@ -33,7 +33,7 @@ pub fn unmatched<R: Register>(
     number: u64,
 ) -> Result<Option<Instructed>, Fault>
     requires stage { (R.view register.old).stage ≡ Stage.Idle }
-    ensures found { IfTrusted (R.view register.old) (R.view register.new) (IfOk result (λ found. found ≡ unmatched_at (R.view register.old).content number)) }
+    ensures found { IfTrusted (R.view register.old) (R.view register.new) (IfOk result (λ found. found ≡ unmatched_in (R.view register.old).content number)) }
     ensures read { IsRead result (R.view register.old) (R.view register.new) }
     ensures in_memory { R.in_memory ≡ true → IsOk result }
 {

@@ -22,7 +22,8 @@ use Rattle.sql_standings.specs.Standings.{AreStandings, StandingsChanged, standi
 use Rattle.sql_tables.specs.Schema.{desk_schema}
 use Rattle.sql_standings.proofs.UnmatchedLaws.{noted_same, same_unmatched}
 use Rattle.sql_register.specs.Content.{content_in}
-use Rattle.sql_register.specs.Holds.{Becomes, IsDesk, unmatched_of}
+use Rattle.desk_rules.specs.Unmatched.{unmatched_in}
+use Rattle.sql_register.specs.Holds.{Becomes, IsDesk}
 use Rattle.sql_register.proofs.AppendedAmounts.{cash_same, securities_same, totals_of}
 use Rattle.sql_register.proofs.AppendedContent.{takes_entry}
 use Rattle.sql_register.proofs.AppendedHistory.{stands_same, unmatched_same}
@@ -78,8 +79,8 @@ module _ (old d1 : Database) (sender : List ℕ) (order : CancelOrder) (reply : 
               ∙ ap (λ s. with_request (Some k) s) (same_standing_in d1 old row.standings)
               ∙ ap (λ o. with_request o before.standing) (sym asked)
               ∙ (λ j n. stands_same before entry reply desk.instructions refl n j);
-          unmatched = noted_same new (unmatched_of before) (unmatched_of (appended entry reply before)) (unmatched_same before entry reply refl)
-              (same_unmatched old new (unmatched_of before) (sym (unmatched_spared d1 new 8 9 stood.others (inr (omega arith)) ∙ row.unmatched)) desk.unmatched);
+          unmatched = noted_same new (unmatched_in before) (unmatched_in (appended entry reply before)) (unmatched_same before entry reply refl)
+              (same_unmatched old new (unmatched_in before) (sym (unmatched_spared d1 new 8 9 stood.others (inr (omega arith)) ∙ row.unmatched)) desk.unmatched);
           due = due_spared d1 new 8 9 stood.others (inr (omega arith)) ∙ row.due;
           messages = sent_spared d1 new 8 9 stood.others (inr (omega arith)) ∙ row.messages;
         })

@@ -14,7 +14,8 @@ use Rattle.sql_standings.specs.Standings.{AreStandings, standing_in}
 use Rattle.sql_tables.specs.Schema.{desk_schema}
 use Rattle.sql_standings.specs.Unmatched.{AreUnmatched}
 use Rattle.sql_register.specs.Content.{content_in}
-use Rattle.sql_register.specs.Holds.{Becomes, IsDesk, Keeps, unmatched_of}
+use Rattle.desk_rules.specs.Unmatched.{unmatched_in}
+use Rattle.sql_register.specs.Holds.{Becomes, IsDesk, Keeps}
 use Rattle.sql_register.specs.RowsSaid.{kept_in, sent_in}
 use Rattle.sql_register.proofs.AppendedHistory.{instructions_more, pair_after, pair_before}
 use Rattle.sql_register.proofs.AppendedTotals.{TotalsMore, registered_more, totals_more}
@@ -33,7 +34,7 @@ pub record TakesEntry (old new : Database) (entry : Entry) (reply : Reply) : Typ
   pub named : (account : List ℕ) → positions_after entry (content_in old).position account [] ≡ 0
   pub standings : AreStandings new
   pub standing_is : standing_in new ≡ (appended entry reply (content_in old)).standing
-  pub unmatched : AreUnmatched new (unmatched_of (appended entry reply (content_in old)))
+  pub unmatched : AreUnmatched new (unmatched_in (appended entry reply (content_in old)))
   pub due : new.trees 10 ≡ old.trees 10
   pub messages : new.trees 11 ≡ old.trees 11
 

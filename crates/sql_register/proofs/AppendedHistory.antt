@@ -23,7 +23,7 @@ use Rattle.desk_register.specs.Changes.{appended, first_standing, requested_by, 
 use Rattle.desk_register.specs.Looked.{IsMatchedPair}
 use Rattle.desk_register.proofs.AddsUpLemmas.{longer}
 use Rattle.desk_register.proofs.CaseLemmas.{by_bool}
-use Rattle.sql_register.specs.Holds.{if_unmatched, unmatched_of}
+use Rattle.desk_rules.specs.Unmatched.{if_unmatched, unmatched_in}
 
 -- ---- the instruction whose cancellation is requested
 
@@ -135,24 +135,24 @@ module _ (content : Content) (e : Entry) (reply : Reply) where
   stands_front n apart = ap (λ b. cond b (first_standing e) (noted n)) apart
 
   -- what is unmatched
-  pub unmatched_last : (n : ℕ) → (n == last) ≡ true → unmatched_of after n ≡ if_unmatched (first_standing e).state (instructed e)
+  pub unmatched_last : (n : ℕ) → (n == last) ≡ true → unmatched_in after n ≡ if_unmatched (first_standing e).state (instructed e)
   unmatched_last n here =
       ap (λ (s : Standing). if_unmatched s.state (instruction_at (history_of after) n)) (stands_last n here)
       ∙ ap (if_unmatched (first_standing e).state) (ap (instruction_at (history_of after)) (eqb-true n last here) ∙ at_last)
 
-  pub unmatched_front : (n : ℕ) → (n == last) ≡ false → unmatched_of after n ≡ unmatched_of content n
+  pub unmatched_front : (n : ℕ) → (n == last) ≡ false → unmatched_in after n ≡ unmatched_in content n
   unmatched_front n apart =
       ap (λ (s : Standing). if_unmatched s.state (instruction_at (history_of after) n)) (stands_front n apart)
       ∙ ap (λ s. if_unmatched s (instruction_at (history_of after) n)) (noted_part content.standing (λ s. s.state) (λ s. refl) (requested_by h e) n)
       ∙ ap (if_unmatched (content.standing n).state) (at_front n apart)
 
-  pub none_unmatched : unmatched_of content last ≡ None
+  pub none_unmatched : unmatched_in content last ≡ None
   none_unmatched = ap (if_unmatched (content.standing last).state) none_last ∙ no_unmatched (content.standing last).state
 
   -- nothing more is unmatched, where the entry instructs nothing
-  pub unmatched_same : if_unmatched (first_standing e).state (instructed e) ≡ None → (n : ℕ) → unmatched_of content n ≡ unmatched_of after n
+  pub unmatched_same : if_unmatched (first_standing e).state (instructed e) ≡ None → (n : ℕ) → unmatched_in content n ≡ unmatched_in after n
   unmatched_same none n = elim (cases_Bool (n == last)) [
-    | inl here ↦ ap (unmatched_of content) (eqb-true n last here) ∙ none_unmatched ∙ sym (unmatched_last n here ∙ none)
+    | inl here ↦ ap (unmatched_in content) (eqb-true n last here) ∙ none_unmatched ∙ sym (unmatched_last n here ∙ none)
     | inr apart ↦ sym (unmatched_front n apart)
   ]
 

@@ -17,7 +17,8 @@ use Rattle.sql_tables.specs.Schema.{desk_schema}
 use Rattle.sql_standings.specs.Unmatched.{Notes, noting}
 use Rattle.sql_standings.proofs.UnmatchedLaws.{noted_same, same_unmatched}
 use Rattle.sql_register.specs.Content.{content_in}
-use Rattle.sql_register.specs.Holds.{Becomes, IsDesk, unmatched_of}
+use Rattle.desk_rules.specs.Unmatched.{unmatched_in}
+use Rattle.sql_register.specs.Holds.{Becomes, IsDesk}
 use Rattle.sql_register.proofs.AppendedAmounts.{cash_same, securities_same, totals_of}
 use Rattle.sql_register.proofs.AppendedContent.{takes_entry}
 use Rattle.sql_register.proofs.AppendedHistory.{unmatched_front, unmatched_last}
@@ -35,10 +36,10 @@ module _ (old d1 : Database) (i : Instructed) (reply : Reply) (room : ℕ) (desk
   abbrev last : ℕ
   last = length before.register + 1
 
-  noted_last : (n : ℕ) → noting (unmatched_of before) last i n ≡ unmatched_of (appended entry reply before) n
+  noted_last : (n : ℕ) → noting (unmatched_in before) last i n ≡ unmatched_in (appended entry reply before) n
   noted_last n = elim (cases_Bool (n == last)) [
-    | inl here ↦ ap (λ b. cond b (Some i) (unmatched_of before n)) here ∙ sym (unmatched_last before entry reply n here)
-    | inr apart ↦ ap (λ b. cond b (Some i) (unmatched_of before n)) apart ∙ sym (unmatched_front before entry reply n apart)
+    | inl here ↦ ap (λ b. cond b (Some i) (unmatched_in before n)) here ∙ sym (unmatched_last before entry reply n here)
+    | inr apart ↦ ap (λ b. cond b (Some i) (unmatched_in before n)) apart ∙ sym (unmatched_front before entry reply n apart)
   ]
 
   module _ (can : CanAppend room entry reply before) (added : EntryAdded old d1 before.register entry reply) where
@@ -66,8 +67,8 @@ module _ (old d1 : Database) (i : Instructed) (reply : Reply) (room : ℕ) (desk
           standing_is =
               sym (same_standing_in d2 new (sym (state_spared d2 new 9 10 noted.spares (inl (omega arith))))) ∙ stood.standings_are
               ∙ ap (λ s. standing_at s last fresh_standing) (same_standing_in d1 old row.standings);
-          unmatched = noted_same new (noting (unmatched_of before) last i) (unmatched_of (appended entry reply before)) noted_last
-              (noted.notes (unmatched_of before) (same_unmatched old d2 (unmatched_of before) (sym (unmatched_spared d1 d2 8 9 stood.others (inr (omega arith)) ∙ row.unmatched)) desk.unmatched)).1;
+          unmatched = noted_same new (noting (unmatched_in before) last i) (unmatched_in (appended entry reply before)) noted_last
+              (noted.notes (unmatched_in before) (same_unmatched old d2 (unmatched_in before) (sym (unmatched_spared d1 d2 8 9 stood.others (inr (omega arith)) ∙ row.unmatched)) desk.unmatched)).1;
           due = due_spared d2 new 9 10 noted.spares (inr (omega arith)) ∙ due_spared d1 d2 8 9 stood.others (inr (omega arith)) ∙ row.due;
           messages = sent_spared d2 new 9 10 noted.spares (inr (omega arith)) ∙ sent_spared d1 d2 8 9 stood.others (inr (omega arith)) ∙ row.messages;
         })

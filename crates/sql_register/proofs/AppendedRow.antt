@@ -15,7 +15,8 @@ use Rattle.sql_tables.specs.Schema.{desk_schema}
 use Rattle.sql_standings.proofs.UnmatchedLaws.{noted_same, same_unmatched}
 use Rattle.sql_register.specs.Appending.{IsAlone}
 use Rattle.sql_register.specs.Content.{content_in}
-use Rattle.sql_register.specs.Holds.{Becomes, IsDesk, if_unmatched, unmatched_of}
+use Rattle.desk_rules.specs.Unmatched.{if_unmatched, unmatched_in}
+use Rattle.sql_register.specs.Holds.{Becomes, IsDesk}
 use Rattle.sql_register.proofs.AppendedAmounts.{CashMoves, SecuritiesMove, alone_no_cash, alone_no_securities, cash_same, securities_same, totals_of}
 use Rattle.sql_register.proofs.AppendedContent.{takes_entry}
 use Rattle.sql_register.proofs.AppendedHistory.{stands_same, unmatched_same}
@@ -62,7 +63,7 @@ row_becomes old new e reply room desk nowhere can schema entries amounts securit
       named = securities.named;
       standings = same_standings old new (sym same.standings) desk.standings;
       standing_is = same_standing_in new old same.standings ∙ (λ k n. (noted n ∙ stands_same before e reply desk.instructions nowhere.nothing n) k);
-      unmatched = noted_same new (unmatched_of before) (unmatched_of (appended e reply before)) (unmatched_same before e reply nowhere.unmatched) (same_unmatched old new (unmatched_of before) (sym same.unmatched) desk.unmatched);
+      unmatched = noted_same new (unmatched_in before) (unmatched_in (appended e reply before)) (unmatched_same before e reply nowhere.unmatched) (same_unmatched old new (unmatched_in before) (sym same.unmatched) desk.unmatched);
       due = same.due;
       messages = same.messages;
     })

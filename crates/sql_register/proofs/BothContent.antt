@@ -23,7 +23,8 @@ use Rattle.sql_tables.specs.Schema.{desk_schema}
 use Rattle.sql_standings.specs.Unmatched.{AreUnmatched, Forgets, forgetting}
 use Rattle.sql_standings.proofs.UnmatchedLaws.{same_unmatched}
 use Rattle.sql_register.specs.Content.{content_in}
-use Rattle.sql_register.specs.Holds.{Becomes, IsDesk, if_unmatched, unmatched_of}
+use Rattle.desk_rules.specs.Unmatched.{if_unmatched, unmatched_in}
+use Rattle.sql_register.specs.Holds.{Becomes, IsDesk}
 use Rattle.sql_register.specs.Pairs.{ForgetsBoth, StandBoth}
 use Rattle.sql_register.proofs.FrameLemmas.{balance_spared, cash_spared, total_spared, register_spared, state_spared, unmatched_spared, due_spared, sent_spared}
 use Rattle.sql_register.proofs.StandingContent.{pair_at, pair_still, standing_so, standings_alone}
@@ -114,15 +115,15 @@ module _ (content : Content) (m n : ℕ) (can : CanPair content m n) where
       let out = no_instruction_else content m n can.earlier can.later k can.is_earlier can.is_later none in
       other_stands content.standing m n can.two (Matched Future) k out.0 out.1 ∙ all k none
 
-  pair_forgotten : (k : ℕ) → forgetting (forgetting (unmatched_of content) m) n k ≡ unmatched_of (standing_so content matched) k
+  pair_forgotten : (k : ℕ) → forgetting (forgetting (unmatched_in content) m) n k ≡ unmatched_in (standing_so content matched) k
   pair_forgotten k = which k m n
-      (λ e. subst (λ j. forgetting (forgetting (unmatched_of content) m) n j ≡ unmatched_of (standing_so content matched) j) (sym e)
-      (ap (λ b. cond b None (forgetting (unmatched_of content) m m)) (apart_false m n (λ t. omega (arith, t, can.two))) ∙ ap (λ b. cond b None (unmatched_of content m)) (eq-eqb m m refl)
+      (λ e. subst (λ j. forgetting (forgetting (unmatched_in content) m) n j ≡ unmatched_in (standing_so content matched) j) (sym e)
+      (ap (λ b. cond b None (forgetting (unmatched_in content) m m)) (apart_false m n (λ t. omega (arith, t, can.two))) ∙ ap (λ b. cond b None (unmatched_in content m)) (eq-eqb m m refl)
       ∙ sym (ap (λ (s : Standing). if_unmatched s.state (instruction_at (history_of content) m)) (earlier_stands content.standing m n can.two (Matched Future)))))
-      (λ e. subst (λ j. forgetting (forgetting (unmatched_of content) m) n j ≡ unmatched_of (standing_so content matched) j) (sym e)
-      (ap (λ b. cond b None (forgetting (unmatched_of content) m n)) (eq-eqb n n refl)
+      (λ e. subst (λ j. forgetting (forgetting (unmatched_in content) m) n j ≡ unmatched_in (standing_so content matched) j) (sym e)
+      (ap (λ b. cond b None (forgetting (unmatched_in content) m n)) (eq-eqb n n refl)
       ∙ sym (ap (λ (s : Standing). if_unmatched s.state (instruction_at (history_of content) n)) (later_stands content.standing m n can.two (Matched Future)))))
-      (λ not_m not_n. ap (λ b. cond b None (forgetting (unmatched_of content) m k)) (apart_false k n not_n) ∙ ap (λ b. cond b None (unmatched_of content k)) (apart_false k m not_m)
+      (λ not_m not_n. ap (λ b. cond b None (forgetting (unmatched_in content) m k)) (apart_false k n not_n) ∙ ap (λ b. cond b None (unmatched_in content k)) (apart_false k m not_m)
       ∙ sym (ap (λ (s : Standing). if_unmatched s.state (instruction_at (history_of content) k)) (other_stands content.standing m n can.two (Matched Future) k not_m not_n)))
 
   -- the new pair
@@ -183,9 +184,9 @@ pairs old s2 s3 new m n desk can schema stood forgot noted =
       standings = same_standings s2 new (sym states) stood.kept;
       standing_is = sym (same_standing_in s2 new (sym states)) ∙ stood.standings_are;
       instructions = pair_instructions content m n can desk.instructions;
-      unmatched = same_unmatched s3 new (unmatched_of (standing_so content f)) (sym (unmatched_spared s3 new 10 11 noted.others (inl (omega arith))))
+      unmatched = same_unmatched s3 new (unmatched_in (standing_so content f)) (sym (unmatched_spared s3 new 10 11 noted.others (inl (omega arith))))
           (subst (AreUnmatched s3) (λ j k. pair_forgotten content m n can k j)
-          (forgot.forgets (unmatched_of content) (same_unmatched old s2 (unmatched_of content) (sym (unmatched_spared old s2 8 9 stood.others (inr (omega arith)))) desk.unmatched)));
+          (forgot.forgets (unmatched_in content) (same_unmatched old s2 (unmatched_in content) (sym (unmatched_spared old s2 8 9 stood.others (inr (omega arith)))) desk.unmatched)));
       due_rows = noted.kept;
       due = λ place is. pair_due content m n can (is_due_in s3) (λ p it. desk.due p (subst (λ g. g p ≡ true) dues it)) place (subst (λ g. g place ≡ true) noted.due_are is);
       due_all = λ place pair. subst (λ g. g place ≡ true) (sym noted.due_are) (pair_due_all content m n can (is_due_in s3) (λ p it. subst (λ g. g p ≡ true) (sym dues) (desk.due_all p it)) place pair);

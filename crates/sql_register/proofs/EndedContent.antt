@@ -21,7 +21,8 @@ use Rattle.sql_tables.specs.Schema.{desk_schema}
 use Rattle.sql_standings.specs.Unmatched.{AreUnmatched}
 use Rattle.sql_standings.proofs.UnmatchedLaws.{same_unmatched}
 use Rattle.sql_register.specs.Content.{content_in}
-use Rattle.sql_register.specs.Holds.{Becomes, IsDesk, if_unmatched, unmatched_of}
+use Rattle.desk_rules.specs.Unmatched.{if_unmatched, unmatched_in}
+use Rattle.sql_register.specs.Holds.{Becomes, IsDesk}
 use Rattle.sql_register.specs.Pairs.{StandBoth}
 use Rattle.sql_register.proofs.FrameLemmas.{balance_spared, cash_spared, total_spared, register_spared, state_spared, unmatched_spared, due_spared, sent_spared}
 use Rattle.sql_register.proofs.StandingContent.{pair_at, pair_still, standing_so, standings_alone}
@@ -58,12 +59,12 @@ module _ (content : Content) (m n : ℕ) (earlier later : Instructed) (can : IsM
       (λ e. let t = sym can.pair.is_later ∙ ap (instruction_at (history_of content)) (sym e) ∙ none in cc)
       ∙ all k none
 
-  still_unmatched : IsPaired state → (k : ℕ) → unmatched_of content k ≡ unmatched_of (standing_so content stood) k
+  still_unmatched : IsPaired state → (k : ℕ) → unmatched_in content k ≡ unmatched_in (standing_so content stood) k
   still_unmatched paired k = which k m n
-      (λ e. subst (λ j. unmatched_of content j ≡ unmatched_of (standing_so content stood) j) (sym e)
+      (λ e. subst (λ j. unmatched_in content j ≡ unmatched_in (standing_so content stood) j) (sym e)
       (ap (λ s. if_unmatched s (instruction_at (history_of content) m)) can.earlier_matched
       ∙ sym (ap (λ (s : Standing). if_unmatched s.state (instruction_at (history_of content) m)) (earlier_stands content.standing m n can.two state) ∙ paired (instruction_at (history_of content) m))))
-      (λ e. subst (λ j. unmatched_of content j ≡ unmatched_of (standing_so content stood) j) (sym e)
+      (λ e. subst (λ j. unmatched_in content j ≡ unmatched_in (standing_so content stood) j) (sym e)
       (ap (λ s. if_unmatched s (instruction_at (history_of content) n)) can.later_matched
       ∙ sym (ap (λ (s : Standing). if_unmatched s.state (instruction_at (history_of content) n)) (later_stands content.standing m n can.two state) ∙ paired (instruction_at (history_of content) n))))
       (λ not_m not_n. sym (ap (λ (s : Standing). if_unmatched s.state (instruction_at (history_of content) k)) (other_stands content.standing m n can.two state k not_m not_n)))
@@ -150,9 +151,9 @@ module _ (old s2 new : Database) (m n : ℕ) (earlier later : Instructed) (desk 
   dues : is_due_in s2 ≡ is_due_in old
   dues = same_due_in s2 old (due_spared old s2 8 9 stand.others (inr (omega arith)))
 
-  still_noted : AreUnmatched s2 (unmatched_of (standing_so content f))
+  still_noted : AreUnmatched s2 (unmatched_in (standing_so content f))
   still_noted = subst (AreUnmatched s2) (λ j k. still_unmatched content m n earlier later can state paired k j)
-      (same_unmatched old s2 (unmatched_of content) (sym (unmatched_spared old s2 8 9 stand.others (inr (omega arith)))) desk.unmatched)
+      (same_unmatched old s2 (unmatched_in content) (sym (unmatched_spared old s2 8 9 stand.others (inr (omega arith)))) desk.unmatched)
 
   pub ends_pair : IsOver state → DueChanged s2 new (due_at (is_due_in s2) (record { day = number_of later.instruction.day; number = n }) false) → Becomes new (standing_so (content_in old) (standing_both (content_in old).standing m n state))
   ends_pair over noted = standings_alone old new f desk (record {
@@ -165,7 +166,7 @@ module _ (old s2 new : Database) (m n : ℕ) (earlier later : Instructed) (desk 
     standings = same_standings s2 new (sym (state_spared s2 new 10 11 noted.others (inl (omega arith)))) stand.kept;
     standing_is = sym (same_standing_in s2 new (sym (state_spared s2 new 10 11 noted.others (inl (omega arith))))) ∙ stand.standings_are;
     instructions = still_instructions content m n earlier later can state desk.instructions;
-    unmatched = same_unmatched s2 new (unmatched_of (standing_so content f)) (sym (unmatched_spared s2 new 10 11 noted.others (inl (omega arith)))) still_noted;
+    unmatched = same_unmatched s2 new (unmatched_in (standing_so content f)) (sym (unmatched_spared s2 new 10 11 noted.others (inl (omega arith)))) still_noted;
     due_rows = noted.kept;
     due = λ place is. ended_due content m n earlier later can state (is_due_in s2) (λ p it. desk.due p (subst (λ g. g p ≡ true) dues it)) place (subst (λ g. g place ≡ true) noted.due_are is);
     due_all = λ place pair. subst (λ g. g place ≡ true) (sym noted.due_are)

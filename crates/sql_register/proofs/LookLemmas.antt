@@ -13,7 +13,8 @@ use Rattle.desk_rules.specs.declared.history.pair.Place.{Place}
 use Rattle.sql_standings.specs.Due.{IsDueBy, IsNextDue}
 use Rattle.sql_standings.specs.Unmatched.{FindsFirst, IsFirstNoted, IsOppositeNoted}
 use Rattle.sql_register.specs.Content.{content_in}
-use Rattle.sql_register.specs.Holds.{IsDesk, holding_found, if_unmatched, unmatched_of}
+use Rattle.desk_rules.specs.Unmatched.{if_unmatched, unmatched_in}
+use Rattle.sql_register.specs.Holds.{IsDesk, holding_found}
 
 -- ---- what is unmatched
 
@@ -24,24 +25,24 @@ unmatched_parts (Matched reason) found i is = absurd (cc)
 unmatched_parts Cancelled found i is = absurd (cc)
 unmatched_parts Settled found i is = absurd (cc)
 
-at_from_noted : (content : Content) (i : Instructed) (n : ℕ) → IsOppositeNoted (unmatched_of content) i n → IsOppositeAt content i n
+at_from_noted : (content : Content) (i : Instructed) (n : ℕ) → IsOppositeNoted (unmatched_in content) i n → IsOppositeAt content i n
 at_from_noted content i n noted =
     let parts = unmatched_parts (content.standing n).state (instruction_at (history_of content) n) noted.other noted.is_other in
     record { other = noted.other; is_other = parts.1; opposite = noted.opposite; unmatched = parts.0 }
 
-noted_from_at : (content : Content) (i : Instructed) (n : ℕ) → IsOppositeAt content i n → IsOppositeNoted (unmatched_of content) i n
+noted_from_at : (content : Content) (i : Instructed) (n : ℕ) → IsOppositeAt content i n → IsOppositeNoted (unmatched_in content) i n
 noted_from_at content i n at = record {
   other = at.other;
   is_other = ap (λ s. if_unmatched s (instruction_at (history_of content) n)) at.unmatched ∙ at.is_other;
   opposite = at.opposite;
 }
 
-first_noted : (content : Content) (i : Instructed) (found : Option ℕ) → IsFirstNoted (unmatched_of content) i found → IsFirstOpposite content i found
+first_noted : (content : Content) (i : Instructed) (found : Option ℕ) → IsFirstNoted (unmatched_in content) i found → IsFirstOpposite content i found
 first_noted content i None none = λ n at. none n (noted_from_at content i n at)
 first_noted content i (Some n) first = (at_from_noted content i n first.0, λ k low at. first.1 k low (noted_from_at content i k at))
 
 pub finds_opposite : (db : Database) (i : Instructed) (found : Option ℕ) → IsDesk db → FindsFirst db i found → IsFirstOpposite (content_in db) i found
-finds_opposite db i found desk finds = first_noted (content_in db) i found (finds (unmatched_of (content_in db)) desk.unmatched)
+finds_opposite db i found desk finds = first_noted (content_in db) i found (finds (unmatched_in (content_in db)) desk.unmatched)
 
 -- ---- holdings
 

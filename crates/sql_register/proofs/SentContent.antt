@@ -14,7 +14,8 @@ use Rattle.sql_standings.proofs.DueLemmas.{same_due, same_due_in}
 use Rattle.sql_standings.proofs.StandingLemmas.{same_standings, same_standing_in}
 use Rattle.sql_standings.proofs.UnmatchedLaws.{same_unmatched}
 use Rattle.sql_register.specs.Content.{content_in}
-use Rattle.sql_register.specs.Holds.{Becomes, IsDesk, Keeps, unmatched_of}
+use Rattle.desk_rules.specs.Unmatched.{unmatched_in}
+use Rattle.sql_register.specs.Holds.{Becomes, IsDesk, Keeps}
 use Rattle.sql_register.specs.RowsSaid.{kept_in, sent_in}
 use Rattle.sql_register.proofs.FrameLemmas.{balance_spared, cash_spared, total_spared, register_spared, state_spared, unmatched_spared, due_spared}
 use Rattle.sql_register.proofs.ContentLemmas.{by_parts, same_cash, same_pair, same_positions, same_sums, same_total_parts, same_totals}
@@ -60,7 +61,7 @@ module _ (old new : Database) (message : Sent) (desk : IsDesk old) (adds : Adds 
     entries = same_entries old new (content_in old).register register_kept desk.entries;
     standings = same_standings old new (sym state_kept) desk.standings;
     instructions = desk.instructions;
-    unmatched = same_unmatched old new (unmatched_of (content_in old)) (sym unmatched_kept) desk.unmatched;
+    unmatched = same_unmatched old new (unmatched_in (content_in old)) (sym unmatched_kept) desk.unmatched;
     due_rows = same_due old new (sym due_kept) desk.due_rows;
     due = λ place is. same_pair (content_in old) (with_sent message (content_in old)) refl refl place (desk.due place (subst (λ f. f place ≡ true) (same_due_in new old due_kept) is));
     due_all = λ place pair. subst (λ f. f place ≡ true) (sym (same_due_in new old due_kept)) (desk.due_all place (same_pair (with_sent message (content_in old)) (content_in old) refl refl place pair));

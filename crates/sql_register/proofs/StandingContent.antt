@@ -21,7 +21,8 @@ use Rattle.sql_tables.specs.Schema.{desk_schema}
 use Rattle.sql_standings.specs.Unmatched.{AreUnmatched, Forgets, forgetting}
 use Rattle.sql_standings.proofs.UnmatchedLaws.{same_unmatched}
 use Rattle.sql_register.specs.Content.{content_in}
-use Rattle.sql_register.specs.Holds.{Becomes, IsDesk, Keeps, if_unmatched, unmatched_of}
+use Rattle.desk_rules.specs.Unmatched.{if_unmatched, unmatched_in}
+use Rattle.sql_register.specs.Holds.{Becomes, IsDesk, Keeps}
 use Rattle.sql_register.specs.RowsSaid.{kept_in, sent_in}
 use Rattle.sql_register.proofs.FrameLemmas.{balance_spared, cash_spared, total_spared, register_spared, state_spared, unmatched_spared, due_spared, sent_spared}
 use Rattle.sql_register.proofs.ContentLemmas.{by_parts, same_cash, same_positions, same_sums, same_total_parts, same_totals}
@@ -41,7 +42,7 @@ pub record StandsSo (old new : Database) (standing : ℕ → Standing) : Type 0 
   pub standings : AreStandings new
   pub standing_is : standing_in new ≡ standing
   pub instructions : (n : ℕ) → instruction_at (history_of (content_in old)) n ≡ None → standing n ≡ no_standing
-  pub unmatched : AreUnmatched new (unmatched_of (standing_so (content_in old) standing))
+  pub unmatched : AreUnmatched new (unmatched_in (standing_so (content_in old) standing))
   pub due_rows : AreDue new
   pub due : (place : Place) → is_due_in new place ≡ true → IsMatchedPair (standing_so (content_in old) standing) place
   pub due_all : (place : Place) → IsMatchedPair (standing_so (content_in old) standing) place → is_due_in new place ≡ true
@@ -113,10 +114,10 @@ module _ (content : Content) (n : ℕ) (can : CanCancel content n) where
   abbrev after : ℕ → Standing
   after = standing_at content.standing n gone
 
-  forgotten : (k : ℕ) → forgetting (unmatched_of content) n k ≡ unmatched_of (standing_so content after) k
+  forgotten : (k : ℕ) → forgetting (unmatched_in content) n k ≡ unmatched_in (standing_so content after) k
   forgotten k = elim (cases_Bool (k == n)) [
-    | inl here ↦ ap (λ b. cond b None (unmatched_of content k)) here ∙ sym (ap (λ (s : Standing). if_unmatched s.state (instruction_at (history_of content) k)) (ap (λ b. cond b gone (content.standing k)) here))
-    | inr apart ↦ ap (λ b. cond b None (unmatched_of content k)) apart ∙ sym (ap (λ (s : Standing). if_unmatched s.state (instruction_at (history_of content) k)) (ap (λ b. cond b gone (content.standing k)) apart))
+    | inl here ↦ ap (λ b. cond b None (unmatched_in content k)) here ∙ sym (ap (λ (s : Standing). if_unmatched s.state (instruction_at (history_of content) k)) (ap (λ b. cond b gone (content.standing k)) here))
+    | inr apart ↦ ap (λ b. cond b None (unmatched_in content k)) apart ∙ sym (ap (λ (s : Standing). if_unmatched s.state (instruction_at (history_of content) k)) (ap (λ b. cond b gone (content.standing k)) apart))
   ]
 
   instructions_still : ((k : ℕ) → instruction_at (history_of content) k ≡ None → content.standing k ≡ no_standing) → (k : ℕ) → instruction_at (history_of content) k ≡ None → after k ≡ no_standing
@@ -153,7 +154,7 @@ cancels old mid new n desk can schema stood forgot =
       standing_is = sym (same_standing_in mid new (sym (state_spared mid new 9 10 forgot.spares (inl (omega arith))))) ∙ stood.standings_are;
       instructions = instructions_still content n can desk.instructions;
       unmatched = subst (AreUnmatched new) (λ j k. forgotten content n can k j)
-          (forgot.forgets (unmatched_of content) (same_unmatched old mid (unmatched_of content) (sym (unmatched_spared old mid 8 9 stood.others (inr (omega arith)))) desk.unmatched));
+          (forgot.forgets (unmatched_in content) (same_unmatched old mid (unmatched_in content) (sym (unmatched_spared old mid 8 9 stood.others (inr (omega arith)))) desk.unmatched));
       due_rows = same_due old new (sym due_same) desk.due_rows;
       due = λ place is. pair_after content n can place (desk.due place (subst (λ g. g place ≡ true) (same_due_in new old due_same) is));
       due_all = λ place pair. subst (λ g. g place ≡ true) (sym (same_due_in new old due_same)) (desk.due_all place (pair_before content n can place pair));

@@ -23,7 +23,8 @@ use Rattle.sql_standings.proofs.StandingLemmas.{same_standings, same_standing_in
 use Rattle.sql_tables.specs.Schema.{desk_schema}
 use Rattle.sql_standings.proofs.UnmatchedLaws.{same_unmatched}
 use Rattle.sql_register.specs.Content.{content_in}
-use Rattle.sql_register.specs.Holds.{AreTotals, Becomes, IsDesk, Keeps, outstanding_in, paid_in_table, unmatched_of}
+use Rattle.desk_rules.specs.Unmatched.{unmatched_in}
+use Rattle.sql_register.specs.Holds.{AreTotals, Becomes, IsDesk, Keeps, outstanding_in, paid_in_table}
 use Rattle.desk_register.specs.RegisteredOnce.{AreRegisteredOnce, IsOfRegistered, is_account}
 use Rattle.sql_register.specs.RowsSaid.{kept_in, sent_in}
 use Rattle.sql_register.specs.Settling.{AmountsSo, Fares, cash_then, positions_then}
@@ -169,7 +170,7 @@ module _ (old new : Database) (position : Positions) (cash : CashBalances) (desk
     entries = same_entries old new (content_in old).register register_kept desk.entries;
     standings = same_standings old new (sym state_kept) desk.standings;
     instructions = desk.instructions;
-    unmatched = same_unmatched old new (unmatched_of (content_in old)) (sym unmatched_kept) desk.unmatched;
+    unmatched = same_unmatched old new (unmatched_in (content_in old)) (sym unmatched_kept) desk.unmatched;
     due_rows = same_due old new (sym due_kept) desk.due_rows;
     due = λ place is. same_pair (content_in old) (balances_so (content_in old) position cash) refl refl place (desk.due place (subst (λ f. f place ≡ true) (same_due_in new old due_kept) is));
     due_all = λ place pair. subst (λ f. f place ≡ true) (sym (same_due_in new old due_kept)) (desk.due_all place (same_pair (balances_so (content_in old) position cash) (content_in old) refl refl place pair));

@@ -3,9 +3,6 @@ use Rattle.std.specs.Prelude.{◌≡◌, ℕ, ◌+◌, true, false, [], codes, L
 use Rattle.sqlite.specs.Effect.{Database}
 use Rattle.desk_codes.specs.declared.currency.Ccy.{Ccy}
 use Rattle.desk_codes.specs.Currency.{letters_of}
-use Rattle.desk_rules.specs.declared.history.entry.Instructed.{Instructed}
-use Rattle.desk_rules.specs.declared.history.standing.State.{State}
-use Rattle.desk_rules.specs.declared.history.standing.State.TheVariants.{Unmatched}
 use Rattle.desk_rules.specs.declared.history.pair.Place.{Place}
 use Rattle.desk_rules.specs.Balances.{issued, paid_in, paid_out, redeemed}
 use Rattle.desk_rules.specs.Content.{Content, history_of}
@@ -24,14 +21,7 @@ use Rattle.sql_standings.specs.Unmatched.{AreUnmatched}
 use Rattle.sql_tables.specs.Schema.{desk_schema}
 use Rattle.sql_register.specs.Content.{content_in}
 use Rattle.desk_register.specs.RegisteredOnce.{AreRegisteredOnce}
-
--- the instruction of a number, where it is unmatched
-abbrev pub if_unmatched : State → Option Instructed → Option Instructed
-if_unmatched Unmatched instructed = instructed
-if_unmatched state instructed = None
-
-abbrev pub unmatched_of : Content → ℕ → Option Instructed
-unmatched_of content n = if_unmatched (content.standing n).state (instruction_at (history_of content) n)
+use Rattle.desk_rules.specs.Unmatched.{unmatched_in}
 
 -- what is outstanding of a security, and what is paid of a currency, as the table of totals says it
 abbrev pub outstanding_in : Database → List ℕ → ℕ
@@ -59,7 +49,7 @@ pub record Keeps (db : Database) (content : Content) : Type 0 where
   pub entries : AreEntries db content.register
   pub standings : AreStandings db
   pub instructions : (n : ℕ) → instruction_at (history_of content) n ≡ None → content.standing n ≡ no_standing
-  pub unmatched : AreUnmatched db (unmatched_of content)
+  pub unmatched : AreUnmatched db (unmatched_in content)
   pub due_rows : AreDue db
   pub due : (place : Place) → is_due_in db place ≡ true → IsMatchedPair content place
   pub due_all : (place : Place) → IsMatchedPair content place → is_due_in db place ≡ true

@@ -3,7 +3,7 @@ use Rattle.sqlite.specs.Effect.{Database}
 use Rattle.sqlite.specs.Held.{state}
 use Rattle.sqlite.specs.State.{HasCleanDisk}
 use Rattle.desk_rules.specs.Content.{Content}
-use Rattle.sql_register.specs.Holds.{unmatched_of}
+use Rattle.desk_rules.specs.Unmatched.{unmatched_in}
 use Rattle.sql_sent.specs.Messages.{AreSent}
 use Rattle.sql_standings.specs.Unmatched.{AreUnmatched}
 use Rattle.audit_amounts.specs.Said.{HasAmounts}
@@ -52,7 +52,7 @@ returns-clause-says g c = λ clean5 is_open has honest5 sure order formed held n
     let it : IsAccepted s0.now v0.room v0.content = record { order = order; formed = formed; held = held } in
     record {
       standings = e1.says clean1 is_open has honest1 sure order formed (stands_within v0.room v0.content held) c.if-not-branch.false;
-      unmatched = moved s0 s1 s2 v0 v1 v2 (λ (d : Database) (x : Content). AreUnmatched d (unmatched_of x)) e1.look e1.read e2.look.later e2.read.later
+      unmatched = moved s0 s1 s2 v0 v1 v2 (λ (d : Database) (x : Content). AreUnmatched d (unmatched_in x)) e1.look e1.read e2.look.later e2.read.later
           (λ clean is_open has honest sure it. e2.has clean is_open has honest sure it.order it.formed c.if-not-branch-2.false) clean2 is_open has honest2 sure it;
       due = moved s0 s2 s3 v0 v2 v3 SaysDue l2 r2 e3.look.later e3.read.later
           (λ clean is_open has honest sure it. e3.says clean is_open has honest sure it.order it.formed c.if-not-branch-3.false) clean3 is_open has honest3 sure it;

@@ -1,7 +1,7 @@
 use Rattle.std.proofs.Common.{◌≡◌, ◌+◌, ◌∙◌, ap, subst, sym, refl, take, length, arith}
 use Rattle.std.proofs.lemmas.Bool.{eqb-true, ltb-true}
 use Rattle.desk_rules.specs.Content.{Content}
-use Rattle.sql_register.specs.Holds.{unmatched_of}
+use Rattle.desk_rules.specs.Unmatched.{unmatched_in}
 use Rattle.desk_register.proofs.ReadLemmas.{read_more}
 use Rattle.audit_standings.specs.Unmatched.{AreNoted}
 use Rattle.audit_standings.proofs.UnmatchedRows.{noted_all, noted_none, noted_row}
@@ -25,7 +25,7 @@ loop-before-preserved g c =
       noted = λ honest sure.
           let honest1 = r.read.later.honest honest in
           let so = i.noted honest1 sure in
-          let is : c.in_ok-instructed.field-0 ≡ unmatched_of v0.content (k + 1) = r.value honest (i.read.ok.sure honest1 sure) ∙ ap (λ (x : Content). unmatched_of x (k + 1)) (i.read.same honest1 sure) in
+          let is : c.in_ok-instructed.field-0 ≡ unmatched_in v0.content (k + 1) = r.value honest (i.read.ok.sure honest1 sure) ∙ ap (λ (x : Content). unmatched_in x (k + 1)) (i.read.same honest1 sure) in
           elim c.match-branch-2.branch [
             | in-Some+in-Some-get+else-not-is_row w ↦ (let low = ltb-true c.loop-before.at (length c.args.rows.now) (sym w.in-Some-get.ensures.lookup.0) in
                 subst (λ n. AreNoted v0.content (k + 1) (take n c.args.rows.now)) (sym w.at-is)
