@@ -144,6 +144,7 @@ fn ask_on_both<S: Alter + Drop, R: Source, W: Sink>(
 {
     let mut desk = Desk::new(both);
     let told = ask_desk(rt, &mut desk, ask, teller, reader, writer);
+    teller.look(desk.is_closed());
     (told, tables_of(desk))
 }
 
@@ -162,11 +163,7 @@ fn ask_desk<D: Register + Drop, R: Source, W: Sink>(
     ensures failed { OnErr result (W.may_fail ≡ true) }
 {
     match ask {
-        Ask::Play => {
-            let told = play_desk(rt.alloc(), desk, reader, writer);
-            teller.look(desk.is_closed());
-            told
-        }
+        Ask::Play => play_desk(rt.alloc(), desk, reader, writer),
         Ask::Serve(port, count) => serve_desk(rt, rt.alloc(), *port, *count, desk, teller, writer),
         Ask::Take(folders) => take_folder(rt, desk, teller, *folders, writer),
         Ask::Tell(owner, account) => report_desk(rt.alloc(), desk, *owner, account, writer),

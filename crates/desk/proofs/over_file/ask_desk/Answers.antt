@@ -10,11 +10,11 @@ pub returns-in-Play-clause-asked : goal.returns-in-Play-clause-asked
 returns-in-Play-clause-asked g c =
     let view = g.D.Register.view in
     let old = c.args.desk.now in
-    let now = c.play_desk-told.new.desk in
-    let U : Type 0 = c.play_desk-told.new.reader ≡ c.args.reader.now in
-    let P = Appends (g.W.Write.contents c.args.writer.now) (g.W.Write.contents c.play_desk-told.new.writer) in
-    asked_as (g.R.Read.remaining c.args.reader.now) U g.R.Source.may_fail c.play_desk-told.result P (view old.register).room (AreHeld (view old.register) (view now.register)) (IsLeft now.is_closed (view now.register)) c.args.ask.now ask.Play c.in-Play.is
-    c.play_desk-told.ensures.played
+    let now = c.play_desk.new.desk in
+    let U : Type 0 = c.play_desk.new.reader ≡ c.args.reader.now in
+    let P = Appends (g.W.Write.contents c.args.writer.now) (g.W.Write.contents c.play_desk.new.writer) in
+    asked_as (g.R.Read.remaining c.args.reader.now) U g.R.Source.may_fail c.play_desk.result P (view old.register).room (AreHeld (view old.register) (view now.register)) (IsLeft now.is_closed (view now.register)) c.args.ask.now ask.Play c.in-Play.is
+    c.play_desk.ensures.played
 
 pub returns-in-Serve-clause-asked : goal.returns-in-Serve-clause-asked
 returns-in-Serve-clause-asked g c =
