@@ -11,8 +11,7 @@ ghost use Rattle.audit_entries.specs.Found.{IsFormed, IsFound, IsShownAs};
 ghost use Rattle.audit_entries.specs.Rows.{shown, shown_kept};
 
 use audit_rows::same_row;
-use desk_readable::well_formed;
-use desk_rules::{Entry, Kept, Reply};
+use desk_rules::{Entry, Kept, Reply, well_formed};
 use sql_entries::{entry_in, reply_in, row_values};
 use sql_tables::statement::query;
 use sql_tables::values::integer;

@@ -36,3 +36,8 @@ pub mod FinalStates
 pub mod Requests
 pub mod AskedAlone
 pub mod KnownNumbers
+pub mod SmallNumbers
+pub mod PartLemmas
+pub mod InstructionFields
+pub mod CancellationFields
+pub mod Readable

@@ -14,6 +14,7 @@ pub mod Reply
 pub mod Sent
 pub mod Questions
 pub mod WellFormed
+pub mod Spelt
 pub mod Content
 pub mod Unmatched
 pub mod Tables

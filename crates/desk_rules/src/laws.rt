@@ -11,9 +11,12 @@ ghost use Rattle.desk_rules.specs.Questions.{confirmation_of, confirms_it, sent_
 ghost use Rattle.desk_rules.specs.Tables.{AreTables};
 ghost use Rattle.desk_rules.specs.Content.{Content, IsSameContent, history_of};
 ghost use Rattle.desk_rules.specs.Confirmations.{AccountFor, Confirmation, SayConfirmations};
-ghost use Rattle.desk_rules.specs.WellFormed.{AreWellFormed};
+ghost use Rattle.desk_rules.specs.WellFormed.{AreWellFormed, IsReadable, IsWellFormed};
+ghost use Rattle.desk_rules.specs.Spelt.{IsInstructionSpelt, IsSpelt};
+ghost use Rattle.desk_codes.specs.Reference.{IsReference};
 ghost use Rattle.desk_msg.specs.declared.instruction.CancelOrder.{CancelOrder};
 ghost use Rattle.desk_msg.specs.declared.instruction.Instruction.{Instruction};
+ghost use Rattle.desk_msg.specs.declared.instruction.Message.TheVariants as Message;
 ghost use Rattle.desk_rules.specs.declared.answers.reply.Reply.{Reply};
 ghost use Rattle.desk_rules.specs.declared.answers.reply.Sent.{Sent};
 ghost use Rattle.desk_rules.specs.declared.history.standing.State.TheVariants as State;
@@ -255,4 +258,12 @@ pub fn known_numbers()
     ensures replies { (books after : Books) (entry : Entry) (verdict : Verdict) (reply : Reply) → IsReply books entry verdict after reply
         → (reply.status ≡ 200) ⊎ ((reply.status ≡ 422) × TellsRefusal books entry reply) }
     ensures one_meaning { (a b : Refusal) → number_of_refusal a ≡ number_of_refusal b → a ≡ b }
+{}
+
+/// An entry is well formed exactly where its texts are codes: some message's fields read as an instruction exactly where
+/// its texts are codes, and as a cancellation exactly where its two references are.
+pub fn spelt_are_well_formed()
+    ensures entries { (entry : Entry) → IsSpelt entry ↔ IsWellFormed entry }
+    ensures instructions { (i : Instruction) → IsInstructionSpelt i ↔ IsReadable i.mt (Message.New i) }
+    ensures cancellations { (order : CancelOrder) → IsReference order.reference × IsReference order.previous ↔ IsReadable order.mt (Message.Cancel order) }
 {}

@@ -22,7 +22,7 @@ use Rattle.desk_msg.specs.MessageType.{digits_of_type, is_instruction}
 use Rattle.desk_msg.specs.declared.mt.Mt.{Mt}
 use Rattle.desk_msg.specs.declared.mt.Mt.TheVariants.{Mt540, Mt541, Mt542, Mt543, Mt544, Mt545, Mt546, Mt547}
 use Rattle.desk_codes.specs.Bic.{IsBic, ReadsBic, party_of}
-use Rattle.desk_readable.proofs.PartLemmas.{bic_itself}
+use Rattle.desk_rules.proofs.PartLemmas.{bic_itself}
 use Rattle.desk_codes.specs.Characters.{IsCodeChar}
 use Rattle.desk_words.proofs.JournalWords.{enters_journal, takes_journal}
 use Rattle.desk_words.proofs.NumberWords.{IsTaken, no_sign, number_taken}

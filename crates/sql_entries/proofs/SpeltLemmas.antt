@@ -14,7 +14,7 @@ use Rattle.desk_rules.specs.declared.history.entry.Entry.{Entry}
 use Rattle.desk_rules.specs.declared.history.entry.Entry.TheVariants.{Participant, Account, Instruct, Cancel}
 use Rattle.sql_entries.specs.Columns.{kind_number}
 use Rattle.sql_entries.specs.Reading.{Says, SaysCash}
-use Rattle.desk_readable.specs.Spelt.{IsSpelt}
+use Rattle.desk_rules.specs.Spelt.{IsSpelt}
 use Rattle.sql_entries.specs.declared.places.TheConstants.{MT}
 use Rattle.sql_tables.proofs.ColumnLemmas.{count, one_type, some_letters, words}
 

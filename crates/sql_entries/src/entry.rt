@@ -14,7 +14,7 @@ ghost use Rattle.desk_rules.specs.declared.history.entry.Payment.{Payment as Pai
 ghost use Rattle.desk_rules.specs.declared.history.entry.RunRule.{RunRule as Rule};
 ghost use Rattle.sql_entries.specs.Columns.{kind_number, number_of_rule};
 ghost use Rattle.sql_entries.specs.Reading.{Says, SaysMovement, SaysOf, SaysPayment};
-ghost use Rattle.desk_readable.specs.Spelt.{IsMovementSpelt, IsPaymentSpelt, IsSpelt};
+ghost use Rattle.desk_rules.specs.Spelt.{IsMovementSpelt, IsPaymentSpelt, IsSpelt};
 
 use crate::instruction::{instruction_in, type_in};
 use crate::kind;

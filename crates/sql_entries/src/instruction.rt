@@ -9,7 +9,7 @@ ghost use Rattle.desk_msg.specs.declared.instruction.Cash.{Cash as Amount};
 ghost use Rattle.desk_msg.specs.declared.instruction.Instruction.{Instruction as Said};
 ghost use Rattle.desk_msg.specs.declared.mt.Mt.{Mt as MessageType};
 ghost use Rattle.sql_entries.specs.Reading.{SaysCash, SaysInstruction};
-ghost use Rattle.desk_readable.specs.Spelt.{IsInstructionSpelt};
+ghost use Rattle.desk_rules.specs.Spelt.{IsInstructionSpelt};
 
 use crate::places::{
     ACCOUNT, AMOUNT, BIC, CURRENCY, DAY, ISIN, MT, PLACE, QUANTITY, REFERENCE, SETTLEMENT, UNIT,

@@ -11,10 +11,10 @@ use Rattle.desk_rules.specs.declared.history.entry.Entry.{Entry}
 use Rattle.desk_rules.specs.declared.history.entry.Entry.TheVariants.{Participant, Account, Security, Issue, Redeem, PayIn, PayOut, Instruct, Cancel, Run}
 use Rattle.desk_rules.specs.WellFormed.{IsReadable, IsWellFormed}
 use Rattle.desk_rules.proofs.WellFormedLemmas.{spelled_bic}
-use Rattle.desk_readable.specs.Spelt.{IsInstructionSpelt, IsSpelt}
-use Rattle.desk_readable.proofs.CancellationFields.{readable_cancellation, cancellation_spelt}
-use Rattle.desk_readable.proofs.InstructionFields.{instructing_fields, function_given, seme_given, date_given, security_given, quantity_given, safe_given, setr_given, pset_given, party_given, payment_given}
-use Rattle.desk_readable.proofs.PartLemmas.{number_itself, cash_itself}
+use Rattle.desk_rules.specs.Spelt.{IsInstructionSpelt, IsSpelt}
+use Rattle.desk_rules.proofs.CancellationFields.{readable_cancellation, cancellation_spelt}
+use Rattle.desk_rules.proofs.InstructionFields.{instructing_fields, function_given, seme_given, date_given, security_given, quantity_given, safe_given, setr_given, pset_given, party_given, payment_given}
+use Rattle.desk_rules.proofs.PartLemmas.{number_itself, cash_itself}
 
 -- some fields read as an instruction whose texts are codes
 pub readable_instruction : (i : Instruction) → IsInstructionSpelt i → IsReadable i.mt (New i)

@@ -1,10 +1,10 @@
 //! That an entry is well formed, of any value of its type: each of its texts is a code, which has its form by its type.
 ghost use Rattle.desk_codes.specs.Reference.{IsReference};
 ghost use Rattle.desk_rules.specs.WellFormed.{IsWellFormed};
-ghost use Rattle.desk_readable.specs.Spelt.{IsInstructionSpelt, IsMovementSpelt, IsPaymentSpelt, IsSpelt};
+ghost use Rattle.desk_rules.specs.Spelt.{IsInstructionSpelt, IsMovementSpelt, IsPaymentSpelt, IsSpelt};
 
+use crate::history::entry::{Entry, Movement, Payment};
 use desk_msg::{CancelOrder, Instruction};
-use desk_rules::{Entry, Movement, Payment};
 
 /// The texts of a movement are codes.
 fn spelt_movement(movement: &Movement)

@@ -1,6 +1,6 @@
-use Rattle.desk_readable.proofs.CancellationFields.{readable_cancellation, cancellation_spelt}
-use Rattle.desk_readable.proofs.Readable.{readable_instruction, instruction_spelt, spelt_formed, formed_spelt}
-use Rattle.desk_readable.proofs.laws.spelt_are_well_formed.Goals as goal
+use Rattle.desk_rules.proofs.CancellationFields.{readable_cancellation, cancellation_spelt}
+use Rattle.desk_rules.proofs.Readable.{readable_instruction, instruction_spelt, spelt_formed, formed_spelt}
+use Rattle.desk_rules.proofs.laws.spelt_are_well_formed.Goals as goal
 
 pub returns-clause-entries : goal.returns-clause-entries
 returns-clause-entries c = λ entry. (spelt_formed entry, formed_spelt entry)

@@ -13,7 +13,7 @@ use Rattle.desk_msg.specs.declared.instruction.Cash.{Cash}
 use Rattle.desk_msg.specs.Profile.{IsCode}
 use Rattle.desk_msg.proofs.FormLemmas.{few_decimals}
 use Rattle.desk_msg.proofs.ConfirmationLaws.{IsReadCash, short_number}
-use Rattle.desk_readable.proofs.SmallNumbers.{short_is_small}
+use Rattle.desk_rules.proofs.SmallNumbers.{short_is_small}
 
 letters : (a b c d : ℕ) → IsCodeChar a → IsCodeChar b → IsCodeChar c → IsCodeChar d → IsCode 4 (a ∷ b ∷ c ∷ d ∷ [])
 letters a b c d h i j k = (refl, All-cons IsCodeChar a (b ∷ c ∷ d ∷ []) h (All-cons IsCodeChar b (c ∷ d ∷ []) i (All-cons IsCodeChar c (d ∷ []) j (All-cons IsCodeChar d [] k (All-nil IsCodeChar)))))

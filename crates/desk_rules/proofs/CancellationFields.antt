@@ -8,7 +8,7 @@ use Rattle.desk_msg.specs.Profile.{text_said, function_row, seme_row, prev_row}
 use Rattle.desk_msg.specs.Reads.{Gives}
 use Rattle.desk_msg.proofs.ConfirmedFields.{at, general, linked}
 use Rattle.desk_rules.specs.WellFormed.{IsReadable}
-use Rattle.desk_readable.proofs.PartLemmas.{canc_code}
+use Rattle.desk_rules.proofs.PartLemmas.{canc_code}
 
 cancelling_fields : CancelOrder → List Found
 cancelling_fields order =

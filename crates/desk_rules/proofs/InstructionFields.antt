@@ -18,7 +18,7 @@ use Rattle.desk_msg.specs.Profile.{Said, IsCode, code_of_kind, function_row, sem
 use Rattle.desk_msg.specs.Reads.{belonging, Gives, GiveAll, cash_said, instruction_said}
 use Rattle.desk_msg.proofs.ConfirmationLaws.{IsReadCash}
 use Rattle.desk_msg.proofs.ConfirmedFields.{at, general, traded, booked, details, parties, amounts}
-use Rattle.desk_readable.proofs.PartLemmas.{newm_code, bic_itself}
+use Rattle.desk_rules.proofs.PartLemmas.{newm_code, bic_itself}
 
 -- each field
 abbrev seme : Instruction → Found

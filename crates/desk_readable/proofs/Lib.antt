@@ -1,5 +1,0 @@
-pub mod SmallNumbers
-pub mod PartLemmas
-pub mod InstructionFields
-pub mod CancellationFields
-pub mod Readable
