@@ -21,7 +21,7 @@ use Rattle.desk_index.specs.declared.indexed_register.IndexedRegister.{IndexedRe
 use Rattle.desk_mirror.specs.Both.{Both}
 use Rattle.desk_opening.specs.Opened.{view_of_both}
 use Rattle.desk_book.specs.Held.{Holds, IsReady, KeepsFormed}
-use Rattle.desk_holdings.specs.Ends.{HaveRead}
+use Rattle.desk_register.specs.Ends.{HaveRead}
 use Rattle.desk.specs.Closed.{AreClosed}
 use Rattle.desk.specs.Left.{AreLeft, AreSaid, IsLeft, LeavesSome, PassesOn, TablesSay}
 use Rattle.desk.specs.PlayAnswer.{KeptBy}

@@ -9,8 +9,8 @@ use Rattle.desk_rules.specs.declared.limits.TheConstants.{MOST_ENTRIES}
 use Rattle.desk_register.specs.View.{View}
 use Rattle.desk_register.specs.declared.register.TheConstants.{MOST_FAILURES}
 use Rattle.desk_engine.specs.Applied.{Keeps, no_books}
-use Rattle.desk_holdings.specs.declared.fault.WalkFault.{WalkFault}
-use Rattle.desk_holdings.specs.declared.fault.WalkFault.TheVariants as walks
+use Rattle.desk_register.specs.declared.fault.WalkFault.{WalkFault}
+use Rattle.desk_register.specs.declared.fault.WalkFault.TheVariants as walks
 use Rattle.desk_msg.specs.declared.writing.statement_row.SinkFault.TheVariants as sinks
 use Rattle.desk_book.proofs.RunLemmas.{none_failed, open_all_along}
 use Rattle.desk_book.specs.declared.limits.TheConstants.{LONGEST_SCRIPT}

@@ -14,8 +14,8 @@ use Rattle.desk_engine.specs.Applied.{Keeps}
 use Rattle.desk_engine.proofs.AcceptingLemmas.{entries_within}
 use Rattle.desk_engine.proofs.TablesLemmas.{length_is}
 use Rattle.desk_holdings.proofs.RegisteredLemmas.{holds_registered}
-use Rattle.desk_holdings.specs.declared.fault.WalkFault.{WalkFault}
-use Rattle.desk_holdings.specs.declared.fault.WalkFault.TheVariants as walks
+use Rattle.desk_register.specs.declared.fault.WalkFault.{WalkFault}
+use Rattle.desk_register.specs.declared.fault.WalkFault.TheVariants as walks
 use Rattle.desk_holdings.specs.Holdings.{AreHoldings, HoldsRegistered, IsRow}
 use Rattle.desk_holdings.specs.Statement.{IsStatementDay, IsTold, Writes as WritesStatementOf, WritesFront as WritesFrontOf, WritesStatement}
 use Rattle.desk_book.specs.RowByRow.{told_of_walk}

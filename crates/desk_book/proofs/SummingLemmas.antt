@@ -15,11 +15,11 @@ use Rattle.desk_register.specs.declared.register.Fault.TheVariants as faults
 use Rattle.desk_register.specs.Looked.{IsSecurityAfter}
 use Rattle.desk_register.specs.View.{HasRead, IsLater, IsRead, View}
 use Rattle.desk_engine.specs.Applied.{Keeps}
-use Rattle.desk_holdings.specs.declared.fault.WalkFault.{WalkFault}
-use Rattle.desk_holdings.specs.declared.fault.WalkFault.TheVariants as walks
-use Rattle.desk_holdings.specs.Ends.{HaveRead, broken_off}
+use Rattle.desk_register.specs.declared.fault.WalkFault.{WalkFault}
+use Rattle.desk_register.specs.declared.fault.WalkFault.TheVariants as walks
+use Rattle.desk_register.specs.Ends.{HaveRead, broken_off}
 use Rattle.desk_register.proofs.ReadLemmas.{held_so, kept_so, read_more, read_none}
-use Rattle.desk_holdings.proofs.ReadingLemmas.{read_on}
+use Rattle.desk_register.proofs.ReadingLemmas.{read_on}
 use Rattle.desk_book.specs.Answered.{IsToldSums}
 use Rattle.desk_book.specs.RowByRow.{IsCashText, IsSecuritiesText, WritesCurrency, WritesSecurity, WritesSome, WritesText, WritesTotal, WritesWhole, told_of_walk}
 use Rattle.desk_book.specs.Sums.{cash_data, rows_text, security_data, sums_text}

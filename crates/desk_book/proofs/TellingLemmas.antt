@@ -9,11 +9,11 @@ use Rattle.desk_register.specs.declared.register.Fault.{Fault}
 use Rattle.desk_register.specs.declared.register.Fault.TheVariants as faults
 use Rattle.desk_register.specs.View.{HasRead, IfTrusted, IsLater, View}
 use Rattle.desk_engine.specs.Applied.{Keeps}
-use Rattle.desk_holdings.specs.declared.fault.WalkFault.{WalkFault}
-use Rattle.desk_holdings.specs.declared.fault.WalkFault.TheVariants as walks
-use Rattle.desk_holdings.specs.Ends.{HaveRead, at_register, broken_off}
+use Rattle.desk_register.specs.declared.fault.WalkFault.{WalkFault}
+use Rattle.desk_register.specs.declared.fault.WalkFault.TheVariants as walks
+use Rattle.desk_register.specs.Ends.{HaveRead, at_register, broken_off}
 use Rattle.desk_register.proofs.ReadLemmas.{held_so}
-use Rattle.desk_holdings.proofs.ReadingLemmas.{broke_off, read_on, read_so}
+use Rattle.desk_register.proofs.ReadingLemmas.{broke_off, read_on, read_so}
 use Rattle.desk_codes.specs.Account.{IsAccount}
 use Rattle.desk_book.specs.Answered.{Step}
 use Rattle.desk_book.specs.declared.requests.question.Question.TheVariants as questions

@@ -12,8 +12,8 @@ use Rattle.desk_register.specs.declared.register.Fault.{Fault}
 use Rattle.desk_register.specs.declared.register.Stage.TheVariants.{Idle}
 use Rattle.desk_register.specs.View.{View, IfCounted, IfTrusted, IsLater}
 use Rattle.desk_engine.specs.Accepting.{Shows}
-use Rattle.desk_holdings.specs.declared.fault.WalkFault.{WalkFault}
-use Rattle.desk_holdings.specs.declared.fault.WalkFault.TheVariants as walks
+use Rattle.desk_register.specs.declared.fault.WalkFault.{WalkFault}
+use Rattle.desk_register.specs.declared.fault.WalkFault.TheVariants as walks
 use Rattle.desk_book.specs.Answered.{IsAnswer}
 use Rattle.desk_book.specs.Sums.{cash_data, rows_text, security_data}
 use Rattle.desk_book.specs.Totals.{AreCashTotals, AreTotals, IsCashTotal, IsTotal}

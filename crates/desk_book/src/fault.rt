@@ -2,9 +2,9 @@
 ghost use Rattle.std.specs.Prelude.{◌≡◌};
 ghost use Rattle.desk_book.specs.WrittenAnswers.{status_of_fault, text_of_fault};
 
-use desk_holdings::WalkFault;
 use desk_msg::SinkFault;
 use desk_register::Fault as RegisterFault;
+use desk_register::WalkFault;
 use thiserror::Error;
 
 /// Why a request has no answer. Its number is 60, 61 or 62.

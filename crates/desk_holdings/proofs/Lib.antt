@@ -2,7 +2,6 @@ pub mod AboveLemmas
 pub mod GatheringLemmas
 pub mod OneStatement
 pub mod OneDay
-pub mod ReadingLemmas
 pub mod RegisteredLemmas
 pub mod StatementLemmas
 pub mod WalkingLemmas

@@ -20,36 +20,16 @@ use Rattle.desk_register.specs.declared.register.Fault.TheVariants as faults
 use Rattle.desk_register.specs.declared.register.Stage.TheVariants.{Idle}
 use Rattle.desk_register.specs.View.{HasRead, IfRead, IfTrusted, IsLater, IsRead, View}
 use Rattle.desk_register.proofs.ViewLemmas.{idle_goes}
-use Rattle.desk_holdings.specs.Ends.{HaveRead, at_register}
 use Rattle.desk_holdings.specs.Holdings.{AreFirstHoldings, AreHoldings}
 use Rattle.desk_holdings.specs.Statement.{IsFront, IsStatementDay, IsTold, Writes, WritesFront}
 use Rattle.desk_holdings.specs.Taking.{Took, TookFirst, TookHoldings, TookUpTo}
-use Rattle.desk_holdings.specs.declared.fault.WalkFault.{WalkFault}
-use Rattle.desk_holdings.specs.declared.fault.WalkFault.TheVariants.{Sink, Memory, Storage}
+use Rattle.desk_register.specs.declared.fault.WalkFault.{WalkFault}
+use Rattle.desk_register.specs.declared.fault.WalkFault.TheVariants.{Sink, Memory, Storage}
 use Rattle.desk_register.proofs.ReadLemmas.{held_so, read_more, read_one}
-use Rattle.desk_holdings.proofs.ReadingLemmas.{broke_off, read_on, read_so}
 
 -- after the first two calls
 pub read_two : {X Y : Type 0} (x : X) (y : Y) (v0 v1 v2 : View) → IsRead {X = X} (Ok x) v0 v1 → IsRead {X = Y} (Ok y) v1 v2 → HasRead v0 v2
 read_two x y v0 v1 v2 first second = read_more y v0 v1 v2 (read_one x v0 v1 first) second
-
--- and after a walk that broke off
-abbrev Ended : Type 0
-Ended = Result (Unit {0}) WalkFault
-
-broken_walk : (fault : WalkFault) (v0 v v1 : View) → HasRead v0 v → HaveRead (at_register {X = Unit {0}} (Err fault)) v v1 → HaveRead (at_register {X = Unit {0}} (Err fault)) v0 v1
-broken_walk (Sink fault) v0 v v1 h r = read_so v0 v1 (read_on v0 v h tt v1 r) tt
-broken_walk Memory v0 v v1 h r = broke_off v0 v h faults.Memory v1 r
-broken_walk Storage v0 v v1 h r = broke_off v0 v h faults.Storage v1 r
-
-pub walk_broke_off : (fault : WalkFault) (r : Ended) (v0 v v1 : View) → IsErrAnd r (λ broken. broken ≡ fault) → HasRead v0 v → HaveRead (at_register {X = Unit {0}} (Err fault)) v v1 → HaveRead (at_register r) v0 v1
-walk_broke_off fault (Ok x) v0 v v1 is h read = absurd is
-walk_broke_off fault (Err broken) v0 v v1 is h read = subst (λ z. HaveRead (at_register {X = Unit {0}} (Err z)) v0 v1) (sym is) (broken_walk fault v0 v v1 h read)
-
--- where the sink failed, each call of the register went well
-pub sink_broke_off : (fault : SinkFault) (r : Ended) (v0 v : View) → IsErrAnd r (λ broken. broken ≡ Sink fault) → HasRead v0 v → HaveRead (at_register r) v0 v
-sink_broke_off fault (Ok x) v0 v is h = absurd is
-sink_broke_off fault (Err broken) v0 v is h = subst (λ z. HaveRead (at_register {X = Unit {0}} (Err z)) v0 v) (sym is) (read_so v0 v h tt)
 
 -- the first rows are written in a front of the statement of all
 regrouped : (a b c d : List ℕ) → (a ++ b) ++ (c ++ d) ≡ (a ++ (b ++ c)) ++ d
@@ -127,7 +107,7 @@ module _ (account : List ℕ) (v0 v1 : View) (before : Option (List ℕ)) where
   so_written Memory after front = front (λ is. (let clash : Memory ≡ Sink sink_faults.Write = is in absurd (cc)))
   so_written Storage after front = front (λ is. (let clash : Storage ≡ Sink sink_faults.Write = is in absurd (cc)))
 
-  pub written_by_break : (fault : WalkFault) (r : Ended) (after : Option (List ℕ)) → IsErrAnd r (λ broken. broken ≡ fault) → (fault ≢ Sink sink_faults.Write → WritesFront account v0 v1 before after) → Writes account r v0 v1 before after
+  pub written_by_break : (fault : WalkFault) (r : Result (Unit {0}) WalkFault) (after : Option (List ℕ)) → IsErrAnd r (λ broken. broken ≡ fault) → (fault ≢ Sink sink_faults.Write → WritesFront account v0 v1 before after) → Writes account r v0 v1 before after
   written_by_break fault (Ok x) after is front = absurd is
   written_by_break fault (Err broken) after is front = subst (λ z. Writes {X = Unit {0}} account (Err z) v0 v1 before after) (sym is) (so_written fault after front)
 

@@ -13,15 +13,15 @@ use Rattle.desk_register.specs.declared.register.Fault.TheVariants as faults
 use Rattle.desk_register.specs.View.{HasRead, IsLater, View}
 use Rattle.desk_register.specs.Looked.{IsHoldingAfter}
 use Rattle.desk_register.specs.declared.holding.Holding.{Holding}
-use Rattle.desk_holdings.specs.Ends.{HaveRead, broken_off}
+use Rattle.desk_register.specs.Ends.{HaveRead, broken_off}
 use Rattle.desk_holdings.specs.Holdings.{HoldsRegistered}
 use Rattle.desk_holdings.specs.Taking.{Took, TookFirst, TookHoldings, TookUpTo}
 use Rattle.desk_holdings.specs.Walking.{IsNextRow}
-use Rattle.desk_holdings.specs.declared.fault.WalkFault.{WalkFault}
-use Rattle.desk_holdings.specs.declared.fault.WalkFault.TheVariants.{Sink}
+use Rattle.desk_register.specs.declared.fault.WalkFault.{WalkFault}
+use Rattle.desk_register.specs.declared.fault.WalkFault.TheVariants.{Sink}
 use Rattle.desk_holdings.proofs.GatheringLemmas.{Gathered, gathered_all, gathered_first, gathers_none, gathers_one, none_further}
 use Rattle.desk_register.proofs.ReadLemmas.{held_so}
-use Rattle.desk_holdings.proofs.ReadingLemmas.{read_on}
+use Rattle.desk_register.proofs.ReadingLemmas.{read_on}
 
 module _ {S : Type 0} (took : S → StatementRow → S → Type 0) (account : List ℕ) where
   -- The walk, after so many rows.

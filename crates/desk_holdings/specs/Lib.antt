@@ -1,4 +1,3 @@
-pub mod Ends
 pub mod Holdings
 pub mod Statement
 pub mod Taking

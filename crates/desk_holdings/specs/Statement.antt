@@ -10,8 +10,8 @@ use Rattle.desk_rules.specs.Content.{history_of}
 use Rattle.desk_rules.specs.Facts.{last_run}
 use Rattle.desk_register.specs.View.{View, IfTrusted}
 use Rattle.desk_holdings.specs.Holdings.{AreHoldings}
-use Rattle.desk_holdings.specs.declared.fault.WalkFault.{WalkFault}
-use Rattle.desk_holdings.specs.declared.fault.WalkFault.TheVariants.{Sink}
+use Rattle.desk_register.specs.declared.fault.WalkFault.{WalkFault}
+use Rattle.desk_register.specs.declared.fault.WalkFault.TheVariants.{Sink}
 
 -- the day of a statement: that of the last run, or 1 January 1970 before any
 abbrev pub IsStatementDay : Option ℕ → List ℕ → Type 0

@@ -5,8 +5,8 @@ use Rattle.desk_msg.specs.declared.writing.statement_row.StatementRow.{Statement
 use Rattle.desk_msg.specs.TookRows.{TookAll}
 use Rattle.desk_register.specs.View.{View, IfTrusted}
 use Rattle.desk_holdings.specs.Holdings.{AreFirstHoldings, AreHoldings}
-use Rattle.desk_holdings.specs.declared.fault.WalkFault.{WalkFault}
-use Rattle.desk_holdings.specs.declared.fault.WalkFault.TheVariants.{Sink}
+use Rattle.desk_register.specs.declared.fault.WalkFault.{WalkFault}
+use Rattle.desk_register.specs.declared.fault.WalkFault.TheVariants.{Sink}
 
 -- Rows were taken; where the register's answers are to be trusted, they are the account's holdings.
 pub record TookHoldings {S : Type 0} (took : S → StatementRow → S → Type 0) (account : List ℕ) (old new : View) (before after : S) : Type 0 where

@@ -7,16 +7,14 @@
 //! of accepted entries, and `one_statement` says that an account has one list of such rows. `write_statement` writes each row
 //! as soon as it is read, of the day that `one_statement_day` says there is one of.
 //!
-//! Begin with specs/Holdings.antt (which rows are an account's holdings), then specs/Taking.antt (what a sink took),
-//! specs/Statement.antt (what a statement tells) and specs/Ends.antt (how the register ends).
+//! Begin with specs/Holdings.antt (which rows are an account's holdings), then specs/Taking.antt (what a sink took) and
+//! specs/Statement.antt (what a statement tells).
 #![tactic(auto)]
 
-mod fault;
 mod laws;
 mod statement;
 mod walk;
 
-pub use fault::WalkFault;
 pub use laws::{holds_registered, one_statement, one_statement_day};
 pub use statement::write_statement;
 pub use walk::holdings_rows;

@@ -3,15 +3,14 @@ ghost use Rattle.std.specs.Prelude.{◌≡◌, ◌≢◌, true, codes, Err, IfOk
 ghost use Rattle.desk_rules.specs.Content.{history_of};
 ghost use Rattle.desk_rules.specs.Facts.{last_run};
 ghost use Rattle.desk_register.specs.View.{IfRead, IfTrusted, IsRead};
-ghost use Rattle.desk_holdings.specs.Ends.{HaveRead, at_register};
+ghost use Rattle.desk_register.specs.Ends.{HaveRead, at_register};
 ghost use Rattle.desk_holdings.specs.Holdings.{HoldsRegistered};
 ghost use Rattle.desk_holdings.specs.Statement.{IsStatementDay, Writes};
 
-use crate::fault::WalkFault;
 use crate::walk::holdings_rows;
 use desk_codes::{AccountId, Day};
 use desk_msg::{HoldingsWriter, SinkFault};
-use desk_register::{Fault, Register, Stage};
+use desk_register::{Fault, Register, Stage, WalkFault};
 use desk_streams::Sink;
 use std::alloc::Global;
 

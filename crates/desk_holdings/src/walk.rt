@@ -1,15 +1,14 @@
 //! The walk over an account's holdings.
 ghost use Rattle.std.specs.Prelude.{◌≡◌, ◌≢◌, true, Err, IfOk};
 ghost use Rattle.desk_register.specs.View.{IfTrusted};
-ghost use Rattle.desk_holdings.specs.Ends.{HaveRead, at_register};
+ghost use Rattle.desk_register.specs.Ends.{HaveRead, at_register};
 ghost use Rattle.desk_holdings.specs.Holdings.{HoldsRegistered};
 ghost use Rattle.desk_holdings.specs.Taking.{Took};
 ghost use Rattle.desk_holdings.specs.Walking.{IsNextRow};
 
-use crate::fault::WalkFault;
 use desk_codes::{AccountId, Isin};
 use desk_msg::{RowSink, SinkFault, StatementRow};
-use desk_register::{Fault, Register, Stage, is_above};
+use desk_register::{Fault, Register, Stage, WalkFault, is_above};
 use std::alloc::Global;
 
 /// The row of an account's first holding above a security, or above none; None where there is none. A store that answers

@@ -18,10 +18,10 @@ use Rattle.desk_rules.proofs.HistoryLemmas.{slice_get-some}
 use Rattle.desk_rules.proofs.OneContent.{one_books}
 use Rattle.desk_rules.proofs.SentNumbers.{all_known, sent_length, sent_numbered}
 use Rattle.desk_register.specs.View.{HasRead, View}
-use Rattle.desk_holdings.specs.declared.fault.WalkFault.{WalkFault}
-use Rattle.desk_holdings.specs.Ends.{HaveRead}
+use Rattle.desk_register.specs.declared.fault.WalkFault.{WalkFault}
+use Rattle.desk_register.specs.Ends.{HaveRead}
 use Rattle.desk_register.proofs.ReadLemmas.{kept_so}
-use Rattle.desk_holdings.proofs.ReadingLemmas.{read_on}
+use Rattle.desk_register.proofs.ReadingLemmas.{read_on}
 use Rattle.journal_rows.specs.declared.journal.MessageKey.{MessageKey}
 use Rattle.desk_journal.specs.Counting.{AreCounted, AreKeyed, CountsMore, IsNoticeAt, bic_cmp}
 use Rattle.desk_journal.specs.Messages.{keys_after, keys_of}

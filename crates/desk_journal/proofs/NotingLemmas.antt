@@ -20,11 +20,11 @@ use Rattle.desk_rules.proofs.SentFronts.{flat-append, range-append}
 use Rattle.desk_register.specs.Looked.{reply_at}
 use Rattle.desk_register.specs.declared.register.Fault.TheVariants as faults
 use Rattle.desk_register.specs.View.{HasRead, View}
-use Rattle.desk_holdings.specs.declared.fault.WalkFault.{WalkFault}
-use Rattle.desk_holdings.specs.declared.fault.WalkFault.TheVariants as walks
-use Rattle.desk_holdings.specs.Ends.{HaveRead, at_register}
+use Rattle.desk_register.specs.declared.fault.WalkFault.{WalkFault}
+use Rattle.desk_register.specs.declared.fault.WalkFault.TheVariants as walks
+use Rattle.desk_register.specs.Ends.{HaveRead, at_register}
 use Rattle.desk_register.proofs.ReadLemmas.{kept_so}
-use Rattle.desk_holdings.proofs.ReadingLemmas.{broke_off, read_on, read_so}
+use Rattle.desk_register.proofs.ReadingLemmas.{broke_off, read_on, read_so}
 use Rattle.desk_journal.specs.Messages.{sent_upto}
 use Rattle.desk_journal.specs.Runs.{left_waiting}
 use Rattle.desk_journal.specs.Sending.{HoldsRun, blank, told_upto}

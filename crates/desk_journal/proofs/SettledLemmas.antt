@@ -25,9 +25,9 @@ use Rattle.desk_register.specs.declared.register.Stage.TheVariants.{Idle}
 use Rattle.desk_register.specs.Looked.{confirmation_in}
 use Rattle.desk_register.specs.View.{HasRead, IfRead, IsRead, View}
 use Rattle.desk_register.proofs.ViewLemmas.{idle_goes}
-use Rattle.desk_holdings.specs.Ends.{HaveRead}
+use Rattle.desk_register.specs.Ends.{HaveRead}
 use Rattle.desk_register.proofs.ReadLemmas.{held_so, kept_so, read_one}
-use Rattle.desk_holdings.proofs.ReadingLemmas.{broke_off, read_on}
+use Rattle.desk_register.proofs.ReadingLemmas.{broke_off, read_on}
 use Rattle.desk_journal.specs.Sending.{HoldsBooks, IsConfirmedAt, IsPlaceOf, blank, known_upto}
 use Rattle.desk_journal.proofs.PlaceLemmas.{all_known_upto, confirmed_at, nothing_more, settled_in_is, settled_one, unsettled_other, unsettled_state}
 

@@ -4,8 +4,8 @@ use Rattle.std.specs.Io.KnownBytes.{Appends}
 use Rattle.serde_json.specs.Data.{Data}
 use Rattle.serde_json.specs.Written.{comma_if, compact_text}
 use Rattle.desk_msg.specs.declared.writing.statement_row.SinkFault.TheVariants.{Write}
-use Rattle.desk_holdings.specs.declared.fault.WalkFault.{WalkFault}
-use Rattle.desk_holdings.specs.declared.fault.WalkFault.TheVariants.{Sink}
+use Rattle.desk_register.specs.declared.fault.WalkFault.{WalkFault}
+use Rattle.desk_register.specs.declared.fault.WalkFault.TheVariants.{Sink}
 use Rattle.desk_rules.specs.Books.{Books}
 use Rattle.desk_book.specs.Sums.{rows_text}
 use Rattle.desk_journal.specs.Journal.{data_of, journal_of}

@@ -7,16 +7,15 @@ ghost use Rattle.desk_rules.specs.History.{instruction_at};
 ghost use Rattle.desk_rules.specs.Sent.{notices_of};
 ghost use Rattle.desk_rules.specs.Tables.{AreTables};
 ghost use Rattle.desk_register.specs.View.{IfTrusted};
-ghost use Rattle.desk_holdings.specs.Ends.{HaveRead, at_register};
+ghost use Rattle.desk_register.specs.Ends.{HaveRead, at_register};
 ghost use Rattle.desk_journal.specs.Counting.{AreKeyed, CountsMore, IsNoticeAt};
 ghost use Rattle.desk_journal.specs.Messages.{keys_of};
 ghost use Rattle.desk_journal.specs.Sending.{HoldNotices, HoldsBooks, HoldsInstruction, type_told};
 
 use crate::sending::add;
 use desk_codes::Bic;
-use desk_holdings::WalkFault;
 use desk_msg::{Mt, SinkFault};
-use desk_register::{Fault, Register, Stage};
+use desk_register::{Fault, Register, Stage, WalkFault};
 use desk_rules::{Instructed, Notice};
 use journal_rows::MessageKey;
 use std::alloc::{AllocError, Global};

@@ -8,7 +8,7 @@ ghost use Rattle.desk_rules.specs.Tables.{AreTables};
 ghost use Rattle.desk_rules.specs.declared.history.standing.State.TheVariants.{Settled};
 ghost use Rattle.desk_rules.specs.Verdict.{named_by};
 ghost use Rattle.desk_register.specs.View.{IfTrusted};
-ghost use Rattle.desk_holdings.specs.Ends.{HaveRead};
+ghost use Rattle.desk_register.specs.Ends.{HaveRead};
 ghost use Rattle.desk_journal.specs.Outcomes.{cancel_outcome, instructed_outcome, outcome_of, state_if};
 ghost use Rattle.desk_journal.specs.Runs.{settled_in};
 ghost use Rattle.desk_journal.specs.Sending.{HoldsBooks, HoldsEntry};

@@ -4,7 +4,7 @@ ghost use Rattle.desk_rules.specs.Books.{Books};
 ghost use Rattle.desk_rules.specs.Settlement.{settled_count};
 ghost use Rattle.desk_rules.specs.Tables.{AreTables};
 ghost use Rattle.desk_register.specs.View.{IfTrusted};
-ghost use Rattle.desk_holdings.specs.Ends.{HaveRead};
+ghost use Rattle.desk_register.specs.Ends.{HaveRead};
 ghost use Rattle.desk_journal.specs.Runs.{day_of_number, day_of_run, left_waiting};
 ghost use Rattle.desk_journal.specs.Sending.{HoldsRun};
 

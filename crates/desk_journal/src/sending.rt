@@ -8,14 +8,13 @@ ghost use Rattle.desk_rules.specs.Books.{Books};
 ghost use Rattle.desk_rules.specs.Sent.{notices_of, told_by};
 ghost use Rattle.desk_rules.specs.Tables.{AreTables};
 ghost use Rattle.desk_register.specs.View.{IfTrusted};
-ghost use Rattle.desk_holdings.specs.Ends.{HaveRead, at_register};
+ghost use Rattle.desk_register.specs.Ends.{HaveRead, at_register};
 ghost use Rattle.desk_journal.specs.Messages.{sent_upto};
 ghost use Rattle.desk_journal.specs.Sending.{HoldsBooks, HoldsEntry, IsPlaceOf, advice_if, blank, known_upto, told_upto};
 
 use crate::runs::counts_of_run;
-use desk_holdings::WalkFault;
 use desk_msg::SinkFault;
-use desk_register::{Fault, Register, Stage};
+use desk_register::{Fault, Register, Stage, WalkFault};
 use desk_rules::{Entry, Notice, State};
 use journal_rows::MessageKey;
 use journal_texts::message_number;

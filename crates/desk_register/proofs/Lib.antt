@@ -2,6 +2,8 @@ pub mod AddsUpLemmas
 pub mod CaseLemmas
 pub mod OnceLemmas
 pub mod ReadLemmas
+pub mod ReadingLemmas
+pub mod BrokenWalks
 pub mod RegisteredLemmas
 pub mod ShortLemmas
 pub mod StandingLemmas

@@ -2,6 +2,7 @@ pub mod AddsUp
 pub mod Changes
 pub mod Checked
 pub mod Device
+pub mod Ends
 pub mod Looked
 pub mod Registered
 pub mod RegisteredOnce

@@ -11,8 +11,8 @@ use Rattle.serde_json.specs.Written.{comma_if, compact_text}
 use Rattle.desk_rules.specs.Books.{Books}
 use Rattle.desk_rules.specs.Content.{Content}
 use Rattle.desk_register.specs.View.{HasRead, IfTrusted, IsLater, View}
-use Rattle.desk_holdings.specs.Ends.{HaveRead}
-use Rattle.desk_holdings.proofs.ReadingLemmas.{read_on}
+use Rattle.desk_register.specs.Ends.{HaveRead}
+use Rattle.desk_register.proofs.ReadingLemmas.{read_on}
 use Rattle.desk_register.proofs.ReadLemmas.{read_none}
 use Rattle.desk_book.proofs.TellingLemmas.{known_of}
 use Rattle.report_rows.proofs.NumberedLemmas.{handed_on}
@@ -38,8 +38,8 @@ use Rattle.desk_report.specs.declared.part.Part.{Part}
 use Rattle.desk_report.specs.declared.part.Part.TheVariants.{Accounts, Cash, Pending, Sums, Unmatched}
 use Rattle.desk_report.proofs.MemberLemmas.{Begun, begun_more, begun_nothing, closed_members}
 use Rattle.desk_msg.specs.declared.writing.statement_row.SinkFault.TheVariants as sinks
-use Rattle.desk_holdings.specs.declared.fault.WalkFault.{WalkFault}
-use Rattle.desk_holdings.specs.declared.fault.WalkFault.TheVariants as walks
+use Rattle.desk_register.specs.declared.fault.WalkFault.{WalkFault}
+use Rattle.desk_register.specs.declared.fault.WalkFault.TheVariants as walks
 
 -- rows of which each part's text is
 pub accounts_rows : (books : Books) (content : Content) (text : List ℕ) → IsAccountsText content text → AreRowsOf books content Accounts text

@@ -1,12 +1,11 @@
 //! The totals in lines of aligned text, for people. (As JSON `desk_book` writes them.)
 ghost use Rattle.std.specs.Prelude.{◌≡◌, ◌≢◌, true, Err};
-ghost use Rattle.desk_holdings.specs.Ends.{HaveRead, at_register};
+ghost use Rattle.desk_register.specs.Ends.{HaveRead, at_register};
 
 use desk_book::{CashTotal, SecurityTotal};
 use desk_codes::{Ccy, Isin};
-use desk_holdings::WalkFault;
 use desk_msg::SinkFault;
-use desk_register::{Register, Stage};
+use desk_register::{Register, Stage, WalkFault};
 use desk_streams::Sink;
 use report_rows::{write_cash_total, write_security_total};
 use std::alloc::Global;

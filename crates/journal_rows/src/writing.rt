@@ -1,6 +1,6 @@
 //! Rows on their way to a writer.
 ghost use Rattle.std.specs.Prelude.{◌≡◌, true, Ok, Err};
-ghost use Rattle.desk_holdings.specs.Ends.{at_register};
+ghost use Rattle.desk_register.specs.Ends.{at_register};
 ghost use Rattle.report_rows.specs.RowWritten.{WritesRow};
 ghost use Rattle.journal_rows.specs.JournalData.{journal_data};
 
@@ -8,8 +8,8 @@ use crate::journal::{JournalRow, MessageKey};
 use crate::json::journal_json;
 use crate::text::journal_text;
 use desk_book::{write_row, write_text};
-use desk_holdings::WalkFault;
 use desk_msg::SinkFault;
+use desk_register::WalkFault;
 use desk_streams::Sink;
 use report_rows::Format;
 use std::alloc::Global;

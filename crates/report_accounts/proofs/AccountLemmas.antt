@@ -10,8 +10,8 @@ use Rattle.desk_rules.specs.declared.history.entry.Entry.TheVariants.{Participan
 use Rattle.desk_rules.specs.Content.{Content, history_of}
 use Rattle.desk_rules.specs.Books.{Books}
 use Rattle.desk_msg.specs.declared.writing.statement_row.SinkFault.TheVariants as sinks
-use Rattle.desk_holdings.specs.declared.fault.WalkFault.{WalkFault}
-use Rattle.desk_holdings.specs.declared.fault.WalkFault.TheVariants as walks
+use Rattle.desk_register.specs.declared.fault.WalkFault.{WalkFault}
+use Rattle.desk_register.specs.declared.fault.WalkFault.TheVariants as walks
 use Rattle.desk_holdings.proofs.GatheringLemmas.{holdings_exist}
 use Rattle.desk_holdings.proofs.OneStatement.{one_list}
 use Rattle.desk_holdings.proofs.RegisteredLemmas.{holds_registered}

@@ -8,7 +8,7 @@ use Rattle.desk_codes.specs.declared.currency.Ccy.TheVariants.{Chf, Eur, Gbp, Jp
 use Rattle.desk_rules.specs.declared.history.entry.Entry.{Entry}
 use Rattle.desk_rules.specs.declared.history.entry.Entry.TheVariants.{Participant, Account, Security, Issue, Redeem, PayIn, PayOut, Instruct, Cancel, Run}
 use Rattle.desk_rules.specs.Content.{Content}
-use Rattle.desk_holdings.specs.declared.fault.WalkFault.{WalkFault}
+use Rattle.desk_register.specs.declared.fault.WalkFault.{WalkFault}
 use Rattle.report_rows.specs.declared.balances.CashRow.{CashRow}
 use Rattle.report_rows.specs.RowData.{cash_data}
 use Rattle.report_accounts.specs.Cash.{balance_row, balance_rows, cash_rows, currencies}

@@ -4,10 +4,10 @@ use Rattle.std.specs.Prelude.{Result, Ok, Err}
 use Rattle.std.specs.Result.{IsErrAnd}
 use Rattle.desk_register.specs.declared.register.Fault.TheVariants as faults
 use Rattle.desk_register.specs.View.{HasRead, View}
-use Rattle.desk_holdings.specs.declared.fault.WalkFault.{WalkFault}
-use Rattle.desk_holdings.specs.declared.fault.WalkFault.TheVariants as walks
-use Rattle.desk_holdings.specs.Ends.{HaveRead, at_register}
-use Rattle.desk_holdings.proofs.ReadingLemmas.{broke_off, read_on, read_so}
+use Rattle.desk_register.specs.declared.fault.WalkFault.{WalkFault}
+use Rattle.desk_register.specs.declared.fault.WalkFault.TheVariants as walks
+use Rattle.desk_register.specs.Ends.{HaveRead, at_register}
+use Rattle.desk_register.proofs.ReadingLemmas.{broke_off, read_on, read_so}
 
 -- what was read is read whatever was to be made of it
 walk_failed : (X Y : Type 0) (fault : WalkFault) (v0 v1 v2 : View) → HasRead v0 v1 → HaveRead (at_register {X = X} (Err fault)) v1 v2 → HaveRead (at_register {X = Y} (Err fault)) v0 v2

@@ -7,8 +7,8 @@ use Rattle.desk_msg.specs.declared.writing.statement_row.StatementRow.{Statement
 use Rattle.desk_msg.specs.TookRows.{TookAll}
 use Rattle.desk_register.specs.View.{View}
 use Rattle.desk_register.specs.declared.register.Fault.{Fault}
-use Rattle.desk_holdings.specs.declared.fault.WalkFault.{WalkFault}
-use Rattle.desk_holdings.specs.Ends.{broken_off}
+use Rattle.desk_register.specs.declared.fault.WalkFault.{WalkFault}
+use Rattle.desk_register.specs.Ends.{broken_off}
 use Rattle.desk_holdings.specs.Holdings.{AreHoldings}
 use Rattle.desk_holdings.specs.Taking.{TookFirst, TookHoldings, TookUpTo}
 use Rattle.desk_holdings.proofs.OneStatement.{one_list}

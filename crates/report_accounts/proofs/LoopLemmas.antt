@@ -9,10 +9,10 @@ use Rattle.desk_rules.specs.declared.history.entry.Entry.{Entry}
 use Rattle.desk_rules.specs.History.{entry_at}
 use Rattle.desk_rules.specs.Content.{Content, history_of}
 use Rattle.desk_register.specs.View.{HasRead, IsLater, View}
-use Rattle.desk_holdings.specs.declared.fault.WalkFault.{WalkFault}
-use Rattle.desk_holdings.specs.Ends.{HaveRead}
+use Rattle.desk_register.specs.declared.fault.WalkFault.{WalkFault}
+use Rattle.desk_register.specs.Ends.{HaveRead}
 use Rattle.desk_register.proofs.ReadLemmas.{held_so}
-use Rattle.desk_holdings.proofs.ReadingLemmas.{read_on}
+use Rattle.desk_register.proofs.ReadingLemmas.{read_on}
 use Rattle.desk_book.specs.RowByRow.{WritesText, WritesWhole}
 use Rattle.report_accounts.specs.Writing.{IsRows, WritesRows, rows_at, rows_if}
 use Rattle.report_accounts.proofs.RowsLemmas.{RowsWritten, all_written, broke_in, handed_on, none_written, rows_ended, whole_of, written_then}

@@ -4,7 +4,7 @@ use Rattle.serde_json.specs.Data.{Data}
 use Rattle.desk_msg.specs.declared.writing.statement_row.StatementRow.{StatementRow}
 use Rattle.desk_rules.specs.declared.history.entry.Entry.{Entry}
 use Rattle.desk_rules.specs.History.{entry_at}
-use Rattle.desk_holdings.specs.declared.fault.WalkFault.{WalkFault}
+use Rattle.desk_register.specs.declared.fault.WalkFault.{WalkFault}
 use Rattle.desk_book.specs.RowByRow.{WritesText}
 use Rattle.desk_book.specs.Sums.{rows_text}
 use Rattle.report_rows.specs.RowData.{account_data}

@@ -3,7 +3,7 @@ ghost use Rattle.std.specs.Prelude.{◌≡◌, ◌≢◌, ◌∷◌, [], true, f
 ghost use Rattle.desk_rules.specs.Content.{history_of};
 ghost use Rattle.desk_rules.specs.History.{entry_at};
 ghost use Rattle.desk_register.specs.View.{IfTrusted};
-ghost use Rattle.desk_holdings.specs.Ends.{HaveRead, at_register};
+ghost use Rattle.desk_register.specs.Ends.{HaveRead, at_register};
 ghost use Rattle.desk_book.specs.Held.{IsReady};
 ghost use Rattle.desk_book.specs.RowByRow.{WritesText};
 ghost use Rattle.report_rows.specs.RowData.{cash_data};
@@ -12,9 +12,8 @@ ghost use Rattle.report_accounts.specs.Writing.{WritesRows, rows_at};
 
 use crate::entries::entry_of;
 use desk_codes::{Bic, Ccy};
-use desk_holdings::WalkFault;
 use desk_msg::SinkFault;
-use desk_register::{Register, Stage};
+use desk_register::{Register, Stage, WalkFault};
 use desk_rules::Entry;
 use desk_streams::Sink;
 use report_rows::{CashRow, Format, write_cash_row};

@@ -3,7 +3,7 @@ ghost use Rattle.std.specs.Prelude.{◌≡◌, ◌≢◌, true, is_some, Some, E
 ghost use Rattle.desk_rules.specs.Content.{history_of};
 ghost use Rattle.desk_rules.specs.History.{entry_at};
 ghost use Rattle.desk_register.specs.View.{IfTrusted};
-ghost use Rattle.desk_holdings.specs.Ends.{HaveRead};
+ghost use Rattle.desk_register.specs.Ends.{HaveRead};
 
 use desk_register::{Fault, Register, Stage};
 use desk_rules::Entry;

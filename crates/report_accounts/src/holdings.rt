@@ -2,7 +2,7 @@
 ghost use Rattle.std.specs.Prelude.{◌≡◌, ◌≢◌, true, false, Err, IfOk, List, map};
 ghost use Rattle.desk_msg.specs.declared.writing.statement_row.StatementRow.{StatementRow};
 ghost use Rattle.desk_register.specs.View.{IfTrusted};
-ghost use Rattle.desk_holdings.specs.Ends.{HaveRead, at_register};
+ghost use Rattle.desk_register.specs.Ends.{HaveRead, at_register};
 ghost use Rattle.desk_holdings.specs.Holdings.{AreHoldings, HoldsRegistered};
 ghost use Rattle.desk_holdings.specs.Walking.{IsNextRow};
 ghost use Rattle.report_rows.specs.RowData.{account_data};
@@ -10,9 +10,8 @@ ghost use Rattle.report_accounts.specs.Accounts.{holding_row};
 ghost use Rattle.report_accounts.specs.Writing.{WritesHoldings};
 
 use desk_codes::{AccountId, Bic, Isin};
-use desk_holdings::WalkFault;
 use desk_msg::{SinkFault, StatementRow};
-use desk_register::{Fault, Register, Stage, is_above};
+use desk_register::{Fault, Register, Stage, WalkFault, is_above};
 use desk_streams::Sink;
 use report_rows::{AccountRow, Format, write_account_row};
 use std::alloc::Global;

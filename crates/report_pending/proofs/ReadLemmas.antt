@@ -8,9 +8,9 @@ use Rattle.desk_rules.specs.declared.history.standing.State.TheVariants.{Matched
 use Rattle.desk_rules.specs.Balances.{delivering, receiving}
 use Rattle.desk_rules.specs.Content.{Content}
 use Rattle.desk_register.specs.View.{View}
-use Rattle.desk_holdings.specs.Ends.{HaveRead}
+use Rattle.desk_register.specs.Ends.{HaveRead}
 use Rattle.desk_register.proofs.ReadLemmas.{held_so}
-use Rattle.desk_holdings.proofs.ReadingLemmas.{have_read}
+use Rattle.desk_register.proofs.ReadingLemmas.{have_read}
 use Rattle.report_rows.specs.declared.pending.PendingPair.{PendingPair}
 use Rattle.report_pending.specs.declared.pair.Leg.{Leg}
 use Rattle.report_pending.specs.declared.pair.WaitingPair.{WaitingPair}

@@ -11,11 +11,11 @@ use Rattle.desk_register.specs.declared.register.Fault.{Fault}
 use Rattle.desk_register.specs.declared.register.Fault.TheVariants as faults
 use Rattle.desk_register.specs.Looked.{IsMatchedPair}
 use Rattle.desk_register.specs.View.{HasRead, IsLater, IsRead, View}
-use Rattle.desk_holdings.specs.declared.fault.WalkFault.{WalkFault}
-use Rattle.desk_holdings.specs.declared.fault.WalkFault.TheVariants as walks
-use Rattle.desk_holdings.specs.Ends.{HaveRead, broken_off}
+use Rattle.desk_register.specs.declared.fault.WalkFault.{WalkFault}
+use Rattle.desk_register.specs.declared.fault.WalkFault.TheVariants as walks
+use Rattle.desk_register.specs.Ends.{HaveRead, broken_off}
 use Rattle.desk_register.proofs.ReadLemmas.{held_so, kept_so, read_more}
-use Rattle.desk_holdings.proofs.ReadingLemmas.{read_on}
+use Rattle.desk_register.proofs.ReadingLemmas.{read_on}
 use Rattle.desk_book.specs.Held.{IsReady}
 use Rattle.desk_book.specs.RowByRow.{WritesSome, WritesText, WritesWhole}
 use Rattle.desk_book.specs.Sums.{rows_text}

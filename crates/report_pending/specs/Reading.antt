@@ -13,8 +13,8 @@ use Rattle.desk_rules.specs.History.{instruction_at}
 use Rattle.desk_rules.specs.Opposite.{AreOpposite}
 use Rattle.desk_rules.specs.Settlement.{is_before, is_past}
 use Rattle.desk_register.specs.Looked.{IsMatchedPair}
-use Rattle.desk_holdings.specs.declared.fault.WalkFault.{WalkFault}
-use Rattle.desk_holdings.specs.declared.fault.WalkFault.TheVariants.{Sink}
+use Rattle.desk_register.specs.declared.fault.WalkFault.{WalkFault}
+use Rattle.desk_register.specs.declared.fault.WalkFault.TheVariants.{Sink}
 use Rattle.report_rows.specs.declared.pending.PendingPair.{PendingPair}
 use Rattle.report_rows.specs.declared.pending.Side.{Side}
 use Rattle.report_rows.specs.RowData.{pending_data}

@@ -5,7 +5,7 @@ ghost use Rattle.desk_rules.specs.Balances.{delivering, receiving};
 ghost use Rattle.desk_rules.specs.Content.{history_of};
 ghost use Rattle.desk_rules.specs.History.{instructed, instruction_at};
 ghost use Rattle.desk_register.specs.View.{IfTrusted};
-ghost use Rattle.desk_holdings.specs.Ends.{HaveRead};
+ghost use Rattle.desk_register.specs.Ends.{HaveRead};
 ghost use Rattle.report_pending.specs.Reading.{IsLeg, IsPair, IsWaitingPair};
 
 use desk_msg::Reason;

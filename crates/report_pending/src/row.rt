@@ -1,7 +1,7 @@
 //! The row of a pair that waits.
 ghost use Rattle.std.specs.Prelude.{◌≡◌, ◌≢◌, true, Err, IfOk};
 ghost use Rattle.desk_register.specs.View.{IfTrusted};
-ghost use Rattle.desk_holdings.specs.Ends.{HaveRead};
+ghost use Rattle.desk_register.specs.Ends.{HaveRead};
 ghost use Rattle.report_pending.specs.Pending.{IsPendingRow, cash_lacking, lacking_of, securities_lacking};
 ghost use Rattle.report_pending.specs.Reading.{IsWaitingPair, row_with, side_with};
 

@@ -1,7 +1,7 @@
 //! The walk over the pairs that wait.
 ghost use Rattle.std.specs.Prelude.{◌≡◌, ◌≢◌, true, false, codes, Err, IfOk, IsOk};
 ghost use Rattle.desk_register.specs.View.{IfTrusted, IsRead};
-ghost use Rattle.desk_holdings.specs.Ends.{HaveRead, at_register};
+ghost use Rattle.desk_register.specs.Ends.{HaveRead, at_register};
 ghost use Rattle.desk_book.specs.Held.{IsReady};
 ghost use Rattle.desk_book.specs.RowByRow.{WritesText};
 ghost use Rattle.report_pending.specs.Pending.{IsPendingText};
@@ -9,9 +9,8 @@ ghost use Rattle.report_pending.specs.Reading.{AreDated, IsPairAfter, IsWaitingP
 
 use crate::row::pending_pair;
 use desk_codes::Day;
-use desk_holdings::WalkFault;
 use desk_msg::SinkFault;
-use desk_register::{Fault, Register, Stage};
+use desk_register::{Fault, Register, Stage, WalkFault};
 use desk_rules::Place;
 use desk_streams::Sink;
 use report_rows::{Format, write_pending_pair};

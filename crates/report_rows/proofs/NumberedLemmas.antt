@@ -8,8 +8,8 @@ use Rattle.serde_json.specs.Written.{comma_if, compact_text}
 use Rattle.desk_msg.specs.declared.writing.statement_row.SinkFault.TheVariants as sinks
 use Rattle.desk_rules.specs.Content.{Content}
 use Rattle.desk_register.specs.View.{HasRead, View}
-use Rattle.desk_holdings.specs.declared.fault.WalkFault.{WalkFault}
-use Rattle.desk_holdings.specs.declared.fault.WalkFault.TheVariants as walks
+use Rattle.desk_register.specs.declared.fault.WalkFault.{WalkFault}
+use Rattle.desk_register.specs.declared.fault.WalkFault.TheVariants as walks
 use Rattle.desk_book.specs.RowByRow.{WritesSome, WritesText, WritesWhole}
 use Rattle.desk_book.specs.Sums.{rows_text}
 use Rattle.desk_book.proofs.RowLemmas.{Begun, appended, appends_nothing, begun_more, begun_nothing, begun_whole}

@@ -3,7 +3,7 @@ ghost use Rattle.std.specs.Prelude.{◌≡◌, true, false, Ok, Err, IfOk, strin
 ghost use Rattle.serde_json.specs.Data.{Data};
 ghost use Rattle.serde_json.specs.View.{view};
 ghost use Rattle.serde_json.specs.Written.{compact_text, has_float};
-ghost use Rattle.desk_holdings.specs.Ends.{at_register};
+ghost use Rattle.desk_register.specs.Ends.{at_register};
 ghost use Rattle.report_rows.specs.RowData.{account_data, cash_data, pending_data, unmatched_data};
 ghost use Rattle.report_rows.specs.RowWritten.{WritesRow};
 
@@ -16,8 +16,8 @@ use crate::text::{
 };
 use crate::unmatched::UnmatchedInstruction;
 use desk_book::{CashTotal, SecurityTotal, write_row, write_text};
-use desk_holdings::WalkFault;
 use desk_msg::SinkFault;
+use desk_register::WalkFault;
 use desk_streams::Sink;
 use serde_json::Value;
 use std::alloc::{AllocError, Global};

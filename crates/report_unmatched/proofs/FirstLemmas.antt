@@ -12,9 +12,9 @@ use Rattle.desk_rules.specs.declared.history.entry.Instructed.{Instructed}
 use Rattle.desk_rules.proofs.SentFronts.{range-append}
 use Rattle.desk_register.specs.View.{HasRead, View}
 use Rattle.desk_register.proofs.CaseLemmas.{by_bool}
-use Rattle.desk_holdings.specs.Ends.{HaveRead}
+use Rattle.desk_register.specs.Ends.{HaveRead}
 use Rattle.desk_register.proofs.ReadLemmas.{held_so, read_none}
-use Rattle.desk_holdings.proofs.ReadingLemmas.{read_on}
+use Rattle.desk_register.proofs.ReadingLemmas.{read_on}
 use Rattle.report_unmatched.specs.declared.near.NearKey.{NearKey}
 use Rattle.report_unmatched.specs.NearKeys.{key_of, near_cmp, near_key}
 use Rattle.report_unmatched.specs.FirstNumbers.{AreFirst, IsNoted, has_key}

@@ -10,11 +10,11 @@ use Rattle.desk_rules.proofs.SentFronts.{range-append}
 use Rattle.desk_register.specs.declared.register.Fault.{Fault}
 use Rattle.desk_register.specs.declared.register.Fault.TheVariants as faults
 use Rattle.desk_register.specs.View.{View, IsLater}
-use Rattle.desk_holdings.specs.declared.fault.WalkFault.{WalkFault}
-use Rattle.desk_holdings.specs.declared.fault.WalkFault.TheVariants as walks
-use Rattle.desk_holdings.specs.Ends.{HaveRead, broken_off}
+use Rattle.desk_register.specs.declared.fault.WalkFault.{WalkFault}
+use Rattle.desk_register.specs.declared.fault.WalkFault.TheVariants as walks
+use Rattle.desk_register.specs.Ends.{HaveRead, broken_off}
 use Rattle.desk_register.proofs.ReadLemmas.{held_so, read_none}
-use Rattle.desk_holdings.proofs.ReadingLemmas.{read_on}
+use Rattle.desk_register.proofs.ReadingLemmas.{read_on}
 use Rattle.desk_book.specs.RowByRow.{WritesSome, WritesText, WritesWhole}
 use Rattle.desk_book.specs.Sums.{rows_text}
 use Rattle.report_rows.specs.RowData.{unmatched_data}

@@ -3,8 +3,8 @@ use Rattle.std.specs.Prelude.{◌≡◌, ℕ, Bool, true, List, ◌++◌, Option
 use Rattle.std.specs.Io.KnownBytes.{Appends}
 use Rattle.serde_json.specs.Written.{comma_if, compact_text}
 use Rattle.desk_msg.specs.declared.writing.statement_row.SinkFault.TheVariants.{Write}
-use Rattle.desk_holdings.specs.declared.fault.WalkFault.{WalkFault}
-use Rattle.desk_holdings.specs.declared.fault.WalkFault.TheVariants.{Sink}
+use Rattle.desk_register.specs.declared.fault.WalkFault.{WalkFault}
+use Rattle.desk_register.specs.declared.fault.WalkFault.TheVariants.{Sink}
 use Rattle.report_rows.specs.RowData.{unmatched_data}
 use Rattle.report_rows.specs.declared.unmatched.UnmatchedInstruction.{UnmatchedInstruction}
 

@@ -5,14 +5,13 @@ ghost use Rattle.std.specs.BTreeMap.{get, IsEmpty};
 ghost use Rattle.std.specs.Option.{option_or};
 ghost use Rattle.std.specs.Ordering.{is_eq};
 ghost use Rattle.desk_register.specs.View.{IfTrusted};
-ghost use Rattle.desk_holdings.specs.Ends.{HaveRead, at_register};
+ghost use Rattle.desk_register.specs.Ends.{HaveRead, at_register};
 ghost use Rattle.report_unmatched.specs.FirstNumbers.{AreFirst, IsNoted};
 
 use crate::near::{NearKey, key_of};
 use crate::reading::unmatched;
-use desk_holdings::WalkFault;
 use desk_msg::SinkFault;
-use desk_register::{Register, Stage};
+use desk_register::{Register, Stage, WalkFault};
 use std::alloc::{AllocError, Global};
 use std::collections::BTreeMap;
 

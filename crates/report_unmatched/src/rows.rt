@@ -1,7 +1,7 @@
 //! The row of an unmatched instruction.
 ghost use Rattle.std.specs.Prelude.{◌≡◌, ◌≢◌, true, Err, IfOk, length};
 ghost use Rattle.desk_register.specs.View.{IfTrusted};
-ghost use Rattle.desk_holdings.specs.Ends.{HaveRead, at_register};
+ghost use Rattle.desk_register.specs.Ends.{HaveRead, at_register};
 ghost use Rattle.report_unmatched.specs.FirstNumbers.{AreFirst};
 ghost use Rattle.report_unmatched.specs.Unmatched.{nearest_of, unmatched_row};
 

@@ -2,7 +2,7 @@
 ghost use Rattle.std.specs.Prelude.{◌≡◌, true, false, Err};
 ghost use Rattle.desk_rules.specs.Books.{Books};
 ghost use Rattle.desk_register.specs.View.{IfTrusted};
-ghost use Rattle.desk_holdings.specs.Ends.{HaveRead, at_register};
+ghost use Rattle.desk_register.specs.Ends.{HaveRead, at_register};
 ghost use Rattle.desk_engine.specs.Applied.{Keeps};
 ghost use Rattle.desk_book.specs.Held.{IsReady};
 ghost use Rattle.desk_book.specs.RowByRow.{EndsWriting, IsReported, Leaves, Shown, told_of_walk};
@@ -14,9 +14,8 @@ use crate::answers::summing::write_sums;
 use crate::fault::ToFault;
 use desk_codes::{AccountId, Bic};
 use desk_engine::{Failure, recover};
-use desk_holdings::WalkFault;
 use desk_msg::SinkFault;
-use desk_register::{Fault, Register, Stage};
+use desk_register::{Fault, Register, Stage, WalkFault};
 use desk_streams::Sink;
 use std::alloc::Global;
 

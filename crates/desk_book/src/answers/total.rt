@@ -7,8 +7,8 @@ ghost use Rattle.desk_book.specs.Sums.{cash_data, security_data};
 use crate::streams::backward::{number_before, text_before};
 use crate::streams::writing::write_row;
 use desk_codes::{Ccy, Isin};
-use desk_holdings::WalkFault;
 use desk_msg::SinkFault;
+use desk_register::WalkFault;
 use desk_streams::Sink;
 
 /// The total of a currency, in minor units.

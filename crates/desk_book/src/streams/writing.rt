@@ -3,8 +3,8 @@ ghost use Rattle.std.specs.Prelude.{◌≡◌, ◌++◌, true, IfErr, OnErr, OnO
 ghost use Rattle.std.specs.Io.KnownBytes.{Appends};
 ghost use Rattle.serde_json.specs.Written.{comma_if};
 
-use desk_holdings::WalkFault;
 use desk_msg::SinkFault;
+use desk_register::WalkFault;
 use desk_streams::Sink;
 
 /// Writes a text.

@@ -2,9 +2,10 @@ use Rattle.std.proofs.Common.{◌≡◌, Err, ap, min, rules, subst, sym, ◌∙
 use Rattle.desk_msg.proofs.TakenRows.{all_taken, rows_written}
 use Rattle.desk_holdings.specs.Statement.{WritesFront, WritesStatement}
 use Rattle.desk_msg.specs.HoldingsPieces.{TakesRow}
-use Rattle.desk_holdings.proofs.StatementLemmas.{HasAnswered, front_written, read_two, sink_broke_off, told_so, took_unless, took_whole, walk_broke_off, wanted_memory, written_by_break}
-use Rattle.desk_holdings.proofs.ReadingLemmas.{read_on}
-use Rattle.desk_holdings.specs.declared.fault.WalkFault.TheVariants.{Sink}
+use Rattle.desk_holdings.proofs.StatementLemmas.{HasAnswered, front_written, read_two, told_so, took_unless, took_whole, wanted_memory, written_by_break}
+use Rattle.desk_register.proofs.BrokenWalks.{sink_broke_off, walk_broke_off}
+use Rattle.desk_register.proofs.ReadingLemmas.{read_on}
+use Rattle.desk_register.specs.declared.fault.WalkFault.TheVariants.{Sink}
 use Rattle.desk_holdings.proofs.statement.write_statement.Goals as goal
 
 pub returns-in_err-holdings_rows-clause-read : goal.returns-in_err-holdings_rows-clause-read

@@ -2,7 +2,7 @@
 use Rattle.std.proofs.Common.{◌≤◌, Err, ap, ◌∙◌, arith}
 use Rattle.desk_register.proofs.ViewLemmas.{idle_goes}
 use Rattle.desk_register.proofs.ReadLemmas.{read_more, read_one}
-use Rattle.desk_holdings.proofs.ReadingLemmas.{gives_up}
+use Rattle.desk_register.proofs.ReadingLemmas.{gives_up}
 use Rattle.desk_holdings.proofs.WalkingLemmas.{none_taken, took_by_fault, took_by_sink, walking_begins, walking_breaks, walking_ends, walking_goes_on, walking_hands_over, walking_is_over}
 use Rattle.desk_holdings.proofs.walk.holdings_rows.Goals as goal
 

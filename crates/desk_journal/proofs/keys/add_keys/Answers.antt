@@ -1,5 +1,5 @@
 use Rattle.std.proofs.Common.{arith}
-use Rattle.desk_holdings.proofs.StatementLemmas.{walk_broke_off}
+use Rattle.desk_register.proofs.BrokenWalks.{walk_broke_off}
 use Rattle.desk_journal.proofs.KeyLemmas.{keying_ends, keying_goes_on, keying_known}
 use Rattle.desk_journal.proofs.keys.add_keys.Goals as goal
 

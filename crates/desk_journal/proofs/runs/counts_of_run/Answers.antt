@@ -2,7 +2,7 @@
 use Rattle.std.proofs.Common.{sym, ◌∙◌}
 use Rattle.desk_register.proofs.ViewLemmas.{idle_goes}
 use Rattle.desk_register.proofs.ReadLemmas.{read_one}
-use Rattle.desk_holdings.proofs.ReadingLemmas.{gives_up}
+use Rattle.desk_register.proofs.ReadingLemmas.{gives_up}
 use Rattle.desk_journal.proofs.NotingLemmas.{counts_found, counts_there}
 use Rattle.desk_journal.proofs.runs.counts_of_run.Goals as goal
 

@@ -1,5 +1,5 @@
 use Rattle.std.proofs.Common.{rules, ◌≡◌, length}
-use Rattle.desk_holdings.proofs.ReadingLemmas.{read_on}
+use Rattle.desk_register.proofs.ReadingLemmas.{read_on}
 use Rattle.desk_journal.proofs.NotingLemmas.{list_broke, noting_goes_on, walk_broke}
 use Rattle.desk_journal.proofs.sending.note_entries.Goals as goal
 

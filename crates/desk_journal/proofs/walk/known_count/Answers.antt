@@ -2,7 +2,7 @@ use Rattle.std.proofs.Common.{◌≡◌, ◌≢◌, refl, sym, ◌∙◌, arith}
 use Rattle.std.proofs.lemmas.Bool.{ltb-true}
 use Rattle.desk_register.specs.declared.register.Stage.TheVariants.{Failed, Idle}
 use Rattle.desk_register.proofs.ReadLemmas.{read_one}
-use Rattle.desk_holdings.proofs.ReadingLemmas.{gives_up}
+use Rattle.desk_register.proofs.ReadingLemmas.{gives_up}
 use Rattle.desk_journal.proofs.KnownLemmas.{within_room}
 use Rattle.desk_journal.proofs.walk.known_count.Goals as goal
 

@@ -1,6 +1,6 @@
 -- The holdings, or that there are none.
 use Rattle.std.proofs.Common.{Bool}
-use Rattle.desk_holdings.proofs.ReadingLemmas.{read_on}
+use Rattle.desk_register.proofs.ReadingLemmas.{read_on}
 use Rattle.desk_register.proofs.ReadLemmas.{read_none}
 use Rattle.report_accounts.proofs.AccountLemmas.{account_broke, account_ended, account_written}
 use Rattle.report_accounts.proofs.EndLemmas.{row_then, walk_broke}

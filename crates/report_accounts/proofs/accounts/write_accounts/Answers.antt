@@ -4,7 +4,7 @@ use Rattle.std.specs.Prelude.{flat_map}
 use Rattle.desk_rules.specs.Content.{history_of}
 use Rattle.desk_register.proofs.ViewLemmas.{idle_goes}
 use Rattle.desk_register.proofs.ReadLemmas.{kept_so, read_one}
-use Rattle.desk_holdings.specs.declared.fault.WalkFault.TheVariants.{Memory}
+use Rattle.desk_register.specs.declared.fault.WalkFault.TheVariants.{Memory}
 use Rattle.report_rows.specs.declared.format.Format.TheVariants.{Json}
 use Rattle.report_rows.specs.RowData.{account_data}
 use Rattle.report_accounts.specs.Accounts.{AreHeld, HoldRegistered, IsAccountsText, account_rows}

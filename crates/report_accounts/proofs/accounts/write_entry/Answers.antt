@@ -4,7 +4,7 @@ use Rattle.desk_rules.specs.Content.{history_of}
 use Rattle.desk_rules.specs.declared.history.entry.Entry.TheVariants.{Account}
 use Rattle.desk_holdings.specs.Holdings.{AreHoldings, HoldsRegistered}
 use Rattle.desk_register.proofs.ReadLemmas.{kept_so, read_none}
-use Rattle.desk_holdings.proofs.ReadingLemmas.{read_on}
+use Rattle.desk_register.proofs.ReadingLemmas.{read_on}
 use Rattle.report_rows.specs.RowData.{account_data}
 use Rattle.report_accounts.specs.Accounts.{account_rows, rows_of}
 use Rattle.report_accounts.specs.Writing.{IsRows, rows_at}

@@ -2,7 +2,7 @@
 use Rattle.std.proofs.Common.{Some, ap, ◌∙◌, subst}
 use Rattle.desk_rules.specs.Content.{Content, history_of}
 use Rattle.desk_rules.specs.declared.history.entry.Entry.TheVariants.{Participant}
-use Rattle.desk_holdings.proofs.ReadingLemmas.{read_on}
+use Rattle.desk_register.proofs.ReadingLemmas.{read_on}
 use Rattle.desk_register.proofs.ReadLemmas.{read_none}
 use Rattle.report_rows.specs.RowData.{cash_data}
 use Rattle.report_accounts.specs.Cash.{balance_rows, cash_rows, currencies}

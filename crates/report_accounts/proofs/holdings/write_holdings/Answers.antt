@@ -2,7 +2,7 @@
 use Rattle.std.proofs.Common.{◌≡◌, ◌≤◌, false, is_some, refl, ◌∙◌, arith}
 use Rattle.desk_register.proofs.ViewLemmas.{idle_goes}
 use Rattle.desk_register.proofs.ReadLemmas.{read_more, read_one}
-use Rattle.desk_holdings.proofs.ReadingLemmas.{gives_up, read_on}
+use Rattle.desk_register.proofs.ReadingLemmas.{gives_up, read_on}
 use Rattle.desk_holdings.proofs.WalkingLemmas.{none_taken, walking_begins, walking_breaks, walking_ends, walking_goes_on, walking_hands_over, walking_is_over}
 use Rattle.report_rows.specs.declared.format.Format.TheVariants.{Json}
 use Rattle.report_accounts.proofs.EndLemmas.{row_broke}

@@ -2,7 +2,7 @@
 use Rattle.std.proofs.Common.{◌≤◌, arith, refl}
 use Rattle.desk_register.proofs.ViewLemmas.{idle_goes}
 use Rattle.desk_register.proofs.ReadLemmas.{read_more, read_one}
-use Rattle.desk_holdings.proofs.ReadingLemmas.{gives_up}
+use Rattle.desk_register.proofs.ReadingLemmas.{gives_up}
 use Rattle.desk_book.proofs.SummingLemmas.{register_failed}
 use Rattle.desk_book.proofs.TellingLemmas.{walk_broke}
 use Rattle.report_pending.proofs.WalkLemmas.{is_known, listing_begins, listing_breaks, listing_ends, listing_fails, listing_goes_on, listing_is_over, nothing_listed, still_dated, tells_pairs}

@@ -1,7 +1,7 @@
 use Rattle.std.proofs.Common.{ap, sym, Some, ◌∙◌}
 use Rattle.std.specs.BTreeMap.{get}
 use Rattle.desk_register.proofs.ReadLemmas.{read_one}
-use Rattle.desk_holdings.proofs.ReadingLemmas.{gives_up}
+use Rattle.desk_register.proofs.ReadingLemmas.{gives_up}
 use Rattle.report_unmatched.specs.NearKeys.{near_cmp}
 use Rattle.report_unmatched.proofs.NearestLemmas.{nearest_known, nearest_none, nearest_there}
 use Rattle.report_unmatched.proofs.rows.nearest.Goals as goal

@@ -1,7 +1,7 @@
 -- The currencies between the first part and the middle one, and the securities between that and the last one.
 use Rattle.std.proofs.Common.{Err}
 use Rattle.desk_register.specs.View.{HasRead}
-use Rattle.desk_holdings.proofs.ReadingLemmas.{read_on}
+use Rattle.desk_register.proofs.ReadingLemmas.{read_on}
 use Rattle.desk_book.specs.RowByRow.{IsSecuritiesText, WritesText, WritesWhole}
 use Rattle.desk_register.proofs.ReadLemmas.{read_none}
 use Rattle.desk_book.proofs.SummingLemmas.{broke_in_cash, broke_in_securities, sums_whole}

@@ -3,8 +3,8 @@ use Rattle.std.specs.Prelude.{◌≡◌, ◌<◌, Result, Ok, Err, OnErr, OnOk}
 use Rattle.desk_register.specs.declared.register.Fault.{Fault}
 use Rattle.desk_register.specs.declared.register.Fault.TheVariants as faults
 use Rattle.desk_register.specs.View.{View, Falls, IfCounted, IfTrusted, IsLater, Stays}
-use Rattle.desk_holdings.specs.declared.fault.WalkFault.{WalkFault}
-use Rattle.desk_holdings.specs.declared.fault.WalkFault.TheVariants.{Sink, Memory, Storage}
+use Rattle.desk_register.specs.declared.fault.WalkFault.{WalkFault}
+use Rattle.desk_register.specs.declared.fault.WalkFault.TheVariants.{Sink, Memory, Storage}
 
 -- The device is blamed where it failed in the calls, and nowhere else: the count of its failures has grown after a storage
 -- fault, and is as it was after want of memory. A store that did not show what it holds is given up as one that failed, where

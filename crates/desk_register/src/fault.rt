@@ -1,7 +1,7 @@
 //! Why a walk broke off.
 
+use crate::register::Fault;
 use desk_msg::SinkFault;
-use desk_register::Fault;
 
 /// Why a walk broke off.
 #[derive(Clone, Copy)]
@@ -16,7 +16,7 @@ pub enum WalkFault {
 
 impl From<Fault> for WalkFault {
     ghost use Rattle.std.specs.Prelude.{◌≡◌};
-    ghost use Rattle.desk_holdings.specs.Ends.{broken_off};
+    ghost use Rattle.desk_register.specs.Ends.{broken_off};
 
     ghost from_gives = { λ fault broken. broken ≡ broken_off fault };
 
@@ -30,7 +30,7 @@ impl From<Fault> for WalkFault {
 
 impl From<SinkFault> for WalkFault {
     ghost use Rattle.std.specs.Prelude.{◌≡◌};
-    ghost use Rattle.desk_holdings.specs.declared.fault.WalkFault.TheVariants.{Sink};
+    ghost use Rattle.desk_register.specs.declared.fault.WalkFault.TheVariants.{Sink};
 
     ghost from_gives = { λ fault broken. broken ≡ Sink fault };
 

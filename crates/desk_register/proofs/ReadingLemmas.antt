@@ -9,7 +9,7 @@ use Rattle.desk_register.specs.View.{View, Blames, HasRead, IsLater, IsRead, fal
 use Rattle.desk_register.proofs.ReadLemmas.{falls_read, read_then}
 use Rattle.desk_register.proofs.ViewLemmas.{later_then}
 use Rattle.desk_register.proofs.ViewLemmas.{blames_none as none_blamed}
-use Rattle.desk_holdings.specs.Ends.{BlamesCalls, HaveRead}
+use Rattle.desk_register.specs.Ends.{BlamesCalls, HaveRead}
 
 -- what a fault is does not look at what would have been answered without it
 abbrev Same : (X : Type 0) → Result X Fault → Result X Fault → Type 0
