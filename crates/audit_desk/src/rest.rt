@@ -13,8 +13,7 @@ use audit_amounts::has_amounts;
 use audit_rows::AuditFault;
 use audit_sent::has_sent;
 use audit_standings::{has_due, has_standings, has_unmatched};
-use desk_index::Messages;
-use desk_register::Stage;
+use desk_register::{Messages, Stage};
 use sqlite::{Alter, Connection};
 use std::alloc::Global;
 

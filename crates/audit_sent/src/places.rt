@@ -7,8 +7,7 @@ ghost use Rattle.desk_register.specs.View.{IfTrusted, IsRead};
 ghost use Rattle.audit_sent.specs.Placed.{count_of, ArePlaces, IsPlaced};
 
 use desk_codes::Bic;
-use desk_index::Messages;
-use desk_register::{Fault, Stage};
+use desk_register::{Fault, Messages, Stage};
 use desk_rules::Sent;
 use std::alloc::{AllocError, Global};
 use std::collections::BTreeMap;

@@ -29,4 +29,3 @@ mod sums;
 mod tidying;
 
 pub use indexed_register::IndexedRegister;
-pub use numbered::Messages;
