@@ -18,8 +18,9 @@ use Rattle.desk_register.specs.declared.outcome.Outcome.TheVariants.{Lacks, Sett
 use Rattle.desk_register.specs.declared.register.Fault.{Fault}
 use Rattle.desk_register.specs.declared.register.Fault.TheVariants.{Memory, Storage}
 use Rattle.desk_register.specs.View.{View, IsChange}
-use Rattle.desk_mirror.specs.declared.told.KnownPair.{KnownPair}
-use Rattle.desk_mirror.specs.Told.{IsDone, IsKnownAt, waiting}
+use Rattle.desk_register.specs.declared.told.KnownPair.{KnownPair}
+use Rattle.desk_mirror.specs.Told.{IsDone}
+use Rattle.desk_register.specs.Told.{IsKnownAt, waiting}
 use Rattle.desk_mirror.proofs.ChangeLemmas.{error_is}
 use Rattle.desk_mirror.proofs.TriedLemmas.{one_trial, some_is}
 

@@ -22,8 +22,8 @@ use Rattle.desk_mirror.specs.Mirrored.{AreMirrored, stage_of}
 use Rattle.desk_mirror.specs.Waiting.{BothWait, IsInVain}
 use Rattle.desk_mirror.proofs.ChangeLemmas.{begun_at, change_keeps, ok_phase}
 use Rattle.desk_mirror.proofs.ReadLemmas.{stays_at}
-use Rattle.desk_mirror.specs.declared.told.KnownPair.{KnownPair}
-use Rattle.desk_mirror.specs.Told.{IsKnownAt}
+use Rattle.desk_register.specs.declared.told.KnownPair.{KnownPair}
+use Rattle.desk_register.specs.Told.{IsKnownAt}
 use Rattle.desk_mirror.proofs.ToldLemmas.{known_before}
 use Rattle.desk_mirror.proofs.TriedLemmas.{both_follow, some_is}
 

@@ -3,11 +3,11 @@
 use crate::copies::copy_of;
 use crate::course::Phase;
 use crate::mirrored_register::MirroredRegister;
-use crate::told::{ToldRegister, follow, known_pair};
+use crate::told::{follow, known_pair};
 use crate::waiting::{is_in_vain, reason_of_pair};
 use desk_codes::{AccountId, Bic, Ccy, Day, Isin, Reference};
 use desk_msg::{Instruction, Kind};
-use desk_register::{Fault, Holding, MemoryRegister, Outcome, Register};
+use desk_register::{Fault, Holding, MemoryRegister, Outcome, Register, ToldRegister};
 use desk_rules::{Entry, Place, Reply, Sender, Sent, Standing};
 use std::alloc::Global;
 

@@ -14,4 +14,3 @@ mod told;
 mod waiting;
 
 pub use mirrored_register::MirroredRegister;
-pub use told::{KnownPair, ToldRegister};

@@ -7,8 +7,7 @@ ghost use Rattle.desk_mirror.specs.Both.{HasSame, shown};
 ghost use Rattle.desk_mirror.specs.Mirrored.{HasSameMark};
 
 use crate::course::{Course, Phase};
-use crate::told::ToldRegister;
-use desk_register::{Fault, MemoryRegister, Register};
+use desk_register::{Fault, MemoryRegister, Register, ToldRegister};
 use desk_rules::{Entry, Reply};
 use std::alloc::Global;
 use std::marker::Model;

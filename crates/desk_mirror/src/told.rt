@@ -1,46 +1,18 @@
 //! What the tables are told: of a pair that was tried in memory, they look nothing up again.
-ghost use Rattle.std.specs.Prelude.{◌≡◌, Some, option_and_then, IfOk, IfSome, OnOk};
+ghost use Rattle.std.specs.Prelude.{◌≡◌, Some, option_and_then, IfSome, OnOk};
 ghost use Rattle.desk_codes.specs.Number.{number_of};
 ghost use Rattle.desk_register.specs.declared.register.Stage.TheVariants.{Begun};
 ghost use Rattle.desk_register.specs.View.{HasRead, IfRead, IfTrusted, IsChange};
-ghost use Rattle.desk_register.specs.Changes.{CanCancelPair, CanSettle, TriesPair};
+ghost use Rattle.desk_register.specs.Changes.{CanSettle, TriesPair};
 ghost use Rattle.desk_rules.specs.History.{instructed, instruction_at};
 ghost use Rattle.desk_rules.specs.Content.{Content, history_of};
-ghost use Rattle.desk_mirror.specs.Told.{IsDone, IsKnownAt, waiting};
+ghost use Rattle.desk_mirror.specs.Told.{IsDone};
+ghost use Rattle.desk_register.specs.Told.{IsKnownAt};
 
 use desk_codes::Day;
-use desk_register::{Fault, MemoryRegister, Outcome, Register};
-use desk_rules::{Entry, Instructed, Lack};
+use desk_register::{Fault, KnownPair, MemoryRegister, Outcome, ToldRegister};
+use desk_rules::{Entry, Instructed};
 use std::alloc::Global;
-
-/// A pair, with the numbers of its two instructions and what they say.
-#[derive(Clone, Copy)]
-pub struct KnownPair {
-    /// Of the earlier instruction
-    pub mate: u64,
-    /// Of the later one, which is the pair's
-    pub number: u64,
-    pub earlier: Instructed,
-    pub later: Instructed,
-}
-
-/// A register that is told what another, which holds the same, knows of a pair: it looks nothing of that up.
-pub trait ToldRegister: Register {
-    /// Lets both instructions of a matched pair, by their numbers, wait for what it lacks. They keep their mates.
-    fn wait_for(&mut self, alloc: Global, earlier: u64, later: u64, lack: Lack) -> Result<(), Fault>
-        requires stage { (Self.view self.old).stage ≡ Begun }
-        requires fits { IfTrusted (Self.view self.old) (Self.view self.old) (CanCancelPair (Self.view self.old).content earlier later) }
-        ensures waits { IfTrusted (Self.view self.old) (Self.view self.new) (OnOk result ((Self.view self.new).content ≡ waiting earlier later lack (Self.view self.old).content)) }
-        ensures change { IsChange result (Self.view self.old) (Self.view self.new) };
-
-    /// Tries a matched pair as `settle_pair` does.
-    fn settle_told(&mut self, alloc: Global, pair: &KnownPair, day: Day) -> Result<Outcome, Fault>
-        requires stage { (Self.view self.old).stage ≡ Begun }
-        requires fits { IfTrusted (Self.view self.old) (Self.view self.old) (CanSettle (Self.view self.old).content pair.now.number (number_of day)) }
-        requires known { IfTrusted (Self.view self.old) (Self.view self.old) (IsKnownAt (Self.view self.old).content pair.now.number pair.now) }
-        ensures settled { IfTrusted (Self.view self.old) (Self.view self.new) (IfOk result (λ outcome. TriesPair (Self.view self.old).content pair.now.number outcome (Self.view self.new).content)) }
-        ensures change { IsChange result (Self.view self.old) (Self.view self.new) };
-}
 
 /// What an entry instructs; None where there is none, or one that instructs nothing.
 fn instructed_by(entry: Option<Entry>) -> Option<Instructed>

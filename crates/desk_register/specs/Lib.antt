@@ -7,4 +7,5 @@ pub mod Looked
 pub mod Registered
 pub mod RegisteredOnce
 pub mod Short
+pub mod Told
 pub mod View

@@ -1,10 +1,11 @@
 //! The register: the law by which every store of the desk is judged.
 //!
-//! `Register` in `register.rt` is the law, `MemoryRegister` in `memory.rt` that of the stores in memory, and `Messages` in
-//! `messages.rt` that of those that find what they sent by its number. What their
-//! clauses speak of stands in specs/: View.antt says how a call changes a register, Changes.antt what its calls make of the
-//! content, Looked.antt what its look-ups find there, Short.antt which pairs stay short, and Device.antt when there is nothing
-//! that could fail, Ends.antt how a walk over a register ends, which may break off by a `WalkFault` (`fault.rt`); the content is that of specs/Content.antt in `desk_rules`. Begin with `register.rt`, then specs/View.antt.
+//! `Register` in `register.rt` is the law, `MemoryRegister` in `memory.rt` that of the stores in memory, `Messages` in
+//! `messages.rt` that of those that find what they sent by its number, and `ToldRegister` in `told.rt` that of those that are
+//! told what is known of a pair. What their clauses speak of stands in specs/: View.antt says how a call changes a register,
+//! Changes.antt what its calls make of the content, Looked.antt what its look-ups find there, Short.antt which pairs stay
+//! short, Ends.antt how a walk over a register ends, which may break off (`fault.rt`), and Device.antt when there is nothing
+//! that could fail; the content is that of specs/Content.antt in `desk_rules`. Begin with `register.rt`, then specs/View.antt.
 #![tactic(auto)]
 
 mod fault;
@@ -15,6 +16,7 @@ mod order;
 mod outcome;
 mod places;
 mod register;
+mod told;
 
 pub use fault::WalkFault;
 pub use holding::Holding;
@@ -24,3 +26,4 @@ pub use order::{is_above, is_less};
 pub use outcome::Outcome;
 pub use places::{is_before, is_past};
 pub use register::{Fault, MOST_FAILURES, Register, Stage};
+pub use told::{KnownPair, ToldRegister};

@@ -4,7 +4,7 @@ use Rattle.sqlite.specs.Effect.{Database}
 use Rattle.sqlite.specs.State.{State}
 use Rattle.sqlite.specs.declared.error.Error.{Error}
 use Rattle.desk_codes.specs.Number.{number_of}
-use Rattle.desk_mirror.specs.Told.{waiting}
+use Rattle.desk_register.specs.Told.{waiting}
 use Rattle.desk_msg.specs.declared.writing.status.Reason.TheVariants.{Future, Lack as LackOfUnits, Money as LackOfMoney}
 use Rattle.desk_register.specs.Changes.{CanCancelPair, CanPair, pair_cancelled, paired}
 use Rattle.desk_register.specs.declared.outcome.Outcome.TheVariants.{Lacks}

@@ -1,7 +1,7 @@
 use Rattle.std.proofs.Common.{subst}
 use Rattle.std.specs.Prelude.{IfSome}
 use Rattle.desk_codes.specs.Number.{number_of}
-use Rattle.desk_mirror.specs.Told.{IsKnownAt}
+use Rattle.desk_register.specs.Told.{IsKnownAt}
 use Rattle.desk_mirror.proofs.ToldLemmas.{can_wait}
 use Rattle.desk_mirror.proofs.told.follow.Goals as goal
 

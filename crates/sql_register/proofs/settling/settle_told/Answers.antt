@@ -3,8 +3,8 @@ use Rattle.sqlite.specs.Held.{state}
 use Rattle.desk_register.specs.Changes.{CanSettle, IsPairAt, TriesPair}
 use Rattle.desk_rules.specs.Content.{Content, history_of}
 use Rattle.desk_rules.specs.History.{instruction_at}
-use Rattle.desk_mirror.specs.declared.told.KnownPair.{KnownPair}
-use Rattle.desk_mirror.specs.Told.{IsKnownAt}
+use Rattle.desk_register.specs.declared.told.KnownPair.{KnownPair}
+use Rattle.desk_register.specs.Told.{IsKnownAt}
 use Rattle.sql_register.specs.Content.{content_in}
 use Rattle.sql_register.specs.Holds.{IsDesk}
 use Rattle.sql_register.specs.declared.settling.FoundPair.{FoundPair}

@@ -2,7 +2,7 @@ use Rattle.std.proofs.Common.{ap, ◌∙◌, subst, sym, IsTrue}
 use Rattle.sqlite.specs.Held.{state}
 use Rattle.sqlite.specs.State.{HasCleanDisk}
 use Rattle.desk_codes.specs.Number.{number_of}
-use Rattle.desk_mirror.specs.Told.{IsKnownAt}
+use Rattle.desk_register.specs.Told.{IsKnownAt}
 use Rattle.desk_register.specs.Changes.{CanSettle}
 use Rattle.sql_register.specs.Content.{content_in}
 use Rattle.sql_register.specs.Holds.{IsDesk}
