@@ -4,7 +4,7 @@ use Rattle.sqlite.specs.Effect.{Database}
 use Rattle.sqlite.specs.State.{State, HasCleanDisk}
 use Rattle.desk_rules.specs.Content.{Content}
 use Rattle.desk_register.specs.View.{HasRead, IfTrusted, IsLater, View}
-use Rattle.desk_replay.specs.KeptHistory.{HoldsKept}
+use Rattle.desk_engine.specs.KeptHistory.{HoldsKept}
 use Rattle.sql_tables.specs.Ends.{HasLooked, IfSound, IsSame}
 use Rattle.sql_tables.specs.Ends.{IsLater as IsLaterState}
 use Rattle.sql_tables.specs.Schema.{desk_schema}

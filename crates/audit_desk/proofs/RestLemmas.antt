@@ -9,7 +9,7 @@ use Rattle.desk_rules.specs.declared.answers.reply.Kept.{Kept}
 use Rattle.desk_rules.specs.Content.{Content, history_of}
 use Rattle.desk_rules.specs.History.{instructed, instruction_at}
 use Rattle.desk_rules.specs.WellFormed.{AreWellFormed}
-use Rattle.desk_replay.specs.KeptHistory.{HoldsKept}
+use Rattle.desk_engine.specs.KeptHistory.{HoldsKept}
 use Rattle.sql_amounts.specs.declared.key.AmountKey.TheVariants as keys
 use Rattle.sql_tables.specs.Schema.{desk_schema}
 use Rattle.sql_tables.specs.Version.{HasVersion}

@@ -3,7 +3,7 @@ use Rattle.std.specs.Prelude.{ℕ, Some}
 use Rattle.sqlite.specs.Effect.{Database}
 use Rattle.desk_rules.specs.Content.{Content, history_of}
 use Rattle.desk_rules.specs.WellFormed.{AreWellFormed}
-use Rattle.desk_replay.specs.KeptHistory.{HoldsKept}
+use Rattle.desk_engine.specs.KeptHistory.{HoldsKept}
 use Rattle.desk_rules.specs.Unmatched.{unmatched_in}
 use Rattle.sql_register.specs.Holds.{Becomes}
 use Rattle.sql_sent.specs.Messages.{AreSent}

@@ -1,7 +1,7 @@
 //! The tables that a register in memory says whole: all but `version` and `register`.
 ghost use Rattle.std.specs.Prelude.{◌≡◌, None, IfOk};
 ghost use Rattle.desk_register.specs.View.{IfTrusted};
-ghost use Rattle.desk_replay.specs.KeptHistory.{HoldsKept};
+ghost use Rattle.desk_engine.specs.KeptHistory.{HoldsKept};
 ghost use Rattle.sql_tables.specs.Calls.{Soundly, tables};
 ghost use Rattle.sql_tables.specs.Schema.{desk_schema};
 ghost use Rattle.sql_opening.specs.Forms.{AreAllFormed};

@@ -9,7 +9,7 @@ use Rattle.desk_rules.specs.Content.{Content, history_of}
 use Rattle.desk_rules.specs.WellFormed.{AreWellFormed, IsWellFormed}
 use Rattle.desk_rules.proofs.HistoryLemmas.{slice_get-end, slice_get-front}
 use Rattle.desk_rules.proofs.WellFormedLemmas.{formed_none, formed_push}
-use Rattle.desk_replay.specs.KeptHistory.{HoldsKept}
+use Rattle.desk_engine.specs.KeptHistory.{HoldsKept}
 use Rattle.sql_tables.specs.Schema.{desk_schema, register_table}
 use Rattle.sql_opening.specs.Forms.{AreAllFormed}
 use Rattle.sql_opening.specs.Order.{AreInOrder}

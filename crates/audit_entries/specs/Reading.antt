@@ -5,7 +5,7 @@ use Rattle.sqlite.specs.Order.{Row}
 use Rattle.desk_rules.specs.declared.answers.reply.Kept.{Kept}
 use Rattle.desk_rules.specs.Content.{Content, history_of}
 use Rattle.desk_rules.specs.WellFormed.{AreWellFormed, IsWellFormed}
-use Rattle.desk_replay.specs.KeptHistory.{HoldsKept}
+use Rattle.desk_engine.specs.KeptHistory.{HoldsKept}
 use Rattle.sql_entries.specs.Entries.{values_of, AreEntries}
 use Rattle.audit_rows.specs.ByNumber.{HasEach, HasOne}
 use Rattle.audit_entries.specs.Rows.{wanted}

@@ -3,7 +3,7 @@ ghost use Rattle.std.specs.Prelude.{◌≡◌, ◌<◌, ◌^◌, [], true, IfOk,
 ghost use Rattle.std.specs.List.{AllByRecursion};
 ghost use Rattle.desk_engine.specs.Accepting.{IsDone};
 ghost use Rattle.desk_register.specs.View.{IfTrusted, IsLater};
-ghost use Rattle.desk_replay.specs.KeptHistory.{HoldsKept};
+ghost use Rattle.desk_engine.specs.KeptHistory.{HoldsKept};
 ghost use Rattle.sql_tables.specs.Calls.{Looks, Soundly, tables};
 ghost use Rattle.sql_tables.specs.Schema.{desk_schema, register_table};
 ghost use Rattle.sql_opening.specs.Forms.{AreAllFormed, HasForm};

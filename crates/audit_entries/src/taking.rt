@@ -5,13 +5,12 @@ ghost use Rattle.desk_register.specs.declared.register.Fault.{Fault};
 ghost use Rattle.desk_register.specs.View.{IfTrusted, IsLater};
 ghost use Rattle.desk_engine.specs.Accepting.{IsDone};
 ghost use Rattle.desk_engine.specs.declared.accepting.Failure.TheVariants.{Undone};
-ghost use Rattle.desk_replay.specs.KeptHistory.{HoldsKept, KeepsSome};
-ghost use Rattle.desk_replay.specs.Taken.{IsNext};
+ghost use Rattle.desk_engine.specs.KeptHistory.{HoldsKept, KeepsSome};
+ghost use Rattle.desk_engine.specs.Taken.{IsNext};
 ghost use Rattle.audit_entries.specs.Taking.{BlamesTaking};
 
-use desk_engine::Failure;
+use desk_engine::{Failure, take_kept};
 use desk_register::{Fault, Register, Stage};
-use desk_replay::take_kept;
 use desk_rules::Kept;
 use std::alloc::Global;
 

@@ -23,3 +23,5 @@ mod StepLaws
 mod StepLemmas
 mod WaitingLemmas
 mod WithinLimits
+pub mod KeptHistoryLemmas
+mod TakenLemmas

@@ -3,8 +3,11 @@ pub mod Applied
 pub mod Cancelling
 pub mod Deciding
 pub mod Decision
+pub mod KeptHistory
 pub mod Pass
+pub mod Replayed
 pub mod Sending
 pub mod Sound
 pub mod Steps
 pub mod Tables
+pub mod Taken

@@ -5,6 +5,12 @@
 //! pairs it, `cancelling.rt` cancels what it calls off, `settlement_run.rt` settles in a run, `sending.rt` sends what is
 //! told of pairs and settlements, and `replies.rt` writes the replies. specs/Applied.antt says what a register keeps of a
 //! history, and what an accepted entry leaves behind. Begin with it, then `decision.rt` and `accepting.rt`.
+//!
+//! What a register kept is taken in once more, entry by entry, with the reply that was kept of each. `take_kept`, in
+//! `taking.rt`, is one step: the entry is decided on, taken in where it is accepted, and the reply that it gets is compared
+//! with the kept one (`same.rt`). `replay`, in `replaying.rt`, takes a list from its first entry on: it answers true exactly
+//! where the list is one that a desk can have kept, and then the register holds it, with all that follows from it.
+//! specs/KeptHistory.antt says what a desk can have kept, and when a register holds it.
 #![tactic(auto)]
 
 mod accepting;
@@ -16,14 +22,22 @@ mod checks;
 mod decision;
 mod laws;
 mod naming;
+mod replaying;
 mod replies;
+mod same;
 mod sending;
 mod settlement_run;
+mod taking;
 
 pub use accepting::{Failure, accept, recover};
 pub use applied::{Accepted, Applied};
 pub use checks::refuse;
 pub use decision::{decide, is_from_stranger};
-pub use laws::{empty_keeps, positions_add_up, sound};
+pub use laws::{
+    empty_holds, empty_keeps, held_can_be_kept, held_is_sound, kept_fronts, positions_add_up, sound,
+};
 pub use naming::instruction_named;
+pub use replaying::replay;
 pub use replies::refused_reply;
+pub use same::same_reply;
+pub use taking::take_kept;

@@ -9,7 +9,7 @@ use Rattle.desk_index.specs.declared.indexed_register.IndexedRegister.{IndexedRe
 use Rattle.desk_mirror.specs.Both.{Both}
 use Rattle.desk_register.specs.Changes.{empty_content}
 use Rattle.desk_register.specs.declared.register.Stage.TheVariants.{Idle}
-use Rattle.desk_replay.proofs.KeptLemmas.{holds_none}
+use Rattle.desk_engine.proofs.KeptHistoryLemmas.{holds_none}
 use Rattle.desk_rules.specs.Content.{Content}
 use Rattle.audit_desk.specs.Audited.{IsAudited}
 use Rattle.audit_entries.specs.Reading.{HoldsFormed}

@@ -1,7 +1,7 @@
 //! A history that was kept, taken in once more.
 ghost use Rattle.std.specs.Prelude.{◌≡◌};
 ghost use Rattle.desk_register.specs.View.{IfTrusted};
-ghost use Rattle.desk_replay.specs.KeptHistory.{HoldsKept};
+ghost use Rattle.desk_engine.specs.KeptHistory.{HoldsKept};
 
 use crate::day::{Day, Depository};
 use crate::days::{new_desk, play_day};
@@ -9,9 +9,9 @@ use crate::digest::Digest;
 use crate::draw::Draw;
 use crate::failure::Failure;
 use crate::size::Size;
+use desk_engine::replay;
 use desk_index::IndexedRegister;
 use desk_register::Register;
-use desk_replay::replay;
 use desk_rules::{Kept, MOST_ENTRIES};
 use std::alloc::Global;
 

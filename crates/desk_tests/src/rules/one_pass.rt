@@ -2,9 +2,9 @@
 //! say, so its reply to the run shows that these say what is told of one pass here.
 use crate::rules::chain::{UNITS, played};
 use desk_codes::{Day, Reference};
+use desk_engine::replay;
 use desk_lists::ListRegister;
 use desk_register::Register;
-use desk_replay::replay;
 use desk_rules::{Entry, Kept, MOST_ENTRIES, Reply, RunRule, Text};
 use std::alloc::Global;
 use std::test::Fail;

@@ -2,7 +2,7 @@ use Rattle.std.proofs.Common.{◌≡◌, ◌∙◌, arith, subst, sym, IsTrue}
 use Rattle.sqlite.specs.Held.{Held, state}
 use Rattle.sqlite.specs.State.{HasCleanDisk}
 use Rattle.desk_index.specs.IndexView.{view_of_index}
-use Rattle.desk_replay.proofs.KeptLemmas.{holds_none}
+use Rattle.desk_engine.proofs.KeptHistoryLemmas.{holds_none}
 use Rattle.audit_desk.specs.Audited.{IsAudited}
 use Rattle.audit_entries.specs.Reading.{HoldsFormed}
 use Rattle.sql_register.specs.Content.{content_in}

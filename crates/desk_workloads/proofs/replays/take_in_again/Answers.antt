@@ -1,4 +1,4 @@
-use Rattle.desk_replay.proofs.KeptLemmas.{holds_none}
+use Rattle.desk_engine.proofs.KeptHistoryLemmas.{holds_none}
 use Rattle.desk_workloads.proofs.replays.take_in_again.Goals as goal
 
 pub replay-requires-clause-empty : goal.replay-requires-clause-empty

@@ -1,4 +1,4 @@
-use Rattle.desk_replay.proofs.KeptLemmas.{holds_none}
+use Rattle.desk_engine.proofs.KeptHistoryLemmas.{holds_none}
 use Rattle.desk_tests.proofs.rules.one_pass.is_taken_in.Goals as goal
 
 pub replay-requires-clause-empty : goal.replay-requires-clause-empty

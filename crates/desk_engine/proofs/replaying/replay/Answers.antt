@@ -1,8 +1,8 @@
 use Rattle.std.proofs.Common.{◌≡◌, length, refl, subst, sym, take}
 use Rattle.std.proofs.lemmas.Option.{slice_get_read}
-use Rattle.desk_replay.specs.KeptHistory.{HoldsKept}
-use Rattle.desk_replay.proofs.StepLemmas.{exact_never, never_kept}
-use Rattle.desk_replay.proofs.replaying.replay.Goals as goal
+use Rattle.desk_engine.specs.KeptHistory.{HoldsKept}
+use Rattle.desk_engine.proofs.TakenLemmas.{exact_never, never_kept}
+use Rattle.desk_engine.proofs.replaying.replay.Goals as goal
 
 pub returns-then-not-branch-clause-exact : goal.returns-then-not-branch-clause-exact
 returns-then-not-branch-clause-exact g c honest sure =

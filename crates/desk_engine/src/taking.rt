@@ -5,11 +5,12 @@ ghost use Rattle.desk_rules.specs.declared.answers.reply.Kept.{Kept};
 ghost use Rattle.desk_register.specs.View.{IfTrusted, IsLater};
 ghost use Rattle.desk_engine.specs.Accepting.{BlamesStep, IsDone, IsLeft};
 ghost use Rattle.desk_engine.specs.Applied.{CanApply, Keeps};
-ghost use Rattle.desk_replay.specs.KeptHistory.{HoldsKept, KeepsSome};
-ghost use Rattle.desk_replay.specs.Taken.{IsCompared, IsDecided, IsNext};
+ghost use Rattle.desk_engine.specs.KeptHistory.{HoldsKept, KeepsSome};
+ghost use Rattle.desk_engine.specs.Taken.{IsCompared, IsDecided, IsNext};
 
+use crate::accepting::{Failure, accept, recover};
+use crate::decision::decide;
 use crate::same::is_reply;
-use desk_engine::{Failure, accept, decide, recover};
 use desk_register::{Register, Stage};
 use desk_rules::{Entry, Kept, Reply, Verdict};
 use std::alloc::Global;

@@ -1,6 +1,6 @@
 use Rattle.desk_register.proofs.ViewLemmas.{idle_goes}
-use Rattle.desk_replay.proofs.StepLemmas.{refused, repeated}
-use Rattle.desk_replay.proofs.taking.take_in.Goals as goal
+use Rattle.desk_engine.proofs.TakenLemmas.{refused, repeated}
+use Rattle.desk_engine.proofs.taking.take_in.Goals as goal
 
 pub returns-in-Ok-Repeat-clause-decided : goal.returns-in-Ok-Repeat-clause-decided
 returns-in-Ok-Repeat-clause-decided g c books honest sure keeps =

@@ -2,11 +2,11 @@
 ghost use Rattle.std.specs.Prelude.{◌≡◌, ◌≢◌, ◌↔◌, true, [], IfErr, IfOk, IsTrue, OnOk};
 ghost use Rattle.desk_register.specs.View.{IfTrusted, IsLater};
 ghost use Rattle.desk_engine.specs.Accepting.{BlamesStep, IsDone};
-ghost use Rattle.desk_replay.specs.KeptHistory.{CanBeKept, HoldsKept};
-ghost use Rattle.desk_replay.specs.Replayed.{BreaksOff};
+ghost use Rattle.desk_engine.specs.KeptHistory.{CanBeKept, HoldsKept};
+ghost use Rattle.desk_engine.specs.Replayed.{BreaksOff};
 
+use crate::accepting::Failure;
 use crate::taking::take_kept;
-use desk_engine::Failure;
 use desk_register::{Register, Stage};
 use desk_rules::Kept;
 use std::alloc::Global;

@@ -1,8 +1,8 @@
 use Rattle.std.proofs.Common.{take}
 use Rattle.desk_register.specs.View.{IfTrusted, IsLater}
 use Rattle.desk_engine.specs.Accepting.{IsDone}
-use Rattle.desk_replay.specs.KeptHistory.{HoldsKept}
-use Rattle.desk_replay.proofs.replaying.replay.Given as goal
+use Rattle.desk_engine.specs.KeptHistory.{HoldsKept}
+use Rattle.desk_engine.proofs.replaying.replay.Given as goal
 
 -- the entries so far are held
 abbrev pub invariant-loop-one : goal.invariant-loop-one

@@ -9,7 +9,7 @@ use Rattle.desk_rules.specs.Content.{Content}
 use Rattle.desk_rules.specs.Reply.{reply_to}
 use Rattle.desk_rules.specs.Verdict.{IsVerdict}
 use Rattle.desk_engine.specs.Applied.{Keeps}
-use Rattle.desk_replay.specs.KeptHistory.{CanBeKept, HoldsKept}
+use Rattle.desk_engine.specs.KeptHistory.{CanBeKept, HoldsKept}
 
 -- the entry is accepted, and kept as the last one of longer books, with this reply
 pub record IsTakenIn (limit : ℕ) (books : Books) (entry : Entry) (reply : Reply) (new : Content) : Type 0 where

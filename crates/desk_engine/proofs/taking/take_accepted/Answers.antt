@@ -1,5 +1,5 @@
-use Rattle.desk_replay.proofs.StepLemmas.{taken_in}
-use Rattle.desk_replay.proofs.taking.take_accepted.Goals as goal
+use Rattle.desk_engine.proofs.TakenLemmas.{taken_in}
+use Rattle.desk_engine.proofs.taking.take_accepted.Goals as goal
 
 pub returns-in-Ok-clause-decided : goal.returns-in-Ok-clause-decided
 returns-in-Ok-clause-decided g c books honest sure keeps =

@@ -22,8 +22,8 @@ use Rattle.desk_engine.specs.Applied.{Keeps, no_books}
 use Rattle.desk_engine.proofs.KeptLemmas.{empty_kept}
 use Rattle.desk_engine.proofs.SoundLemmas.{kept_is_sound}
 use Rattle.desk_engine.specs.Sound.{IsSound}
-use Rattle.desk_replay.specs.KeptHistory.{CanBeKept, HoldsKept, entries_of}
-use Rattle.desk_replay.specs.Taken.{IsCompared, IsDecided, IsNext}
+use Rattle.desk_engine.specs.KeptHistory.{CanBeKept, HoldsKept, entries_of}
+use Rattle.desk_engine.specs.Taken.{IsCompared, IsDecided, IsNext}
 
 -- what holds nothing
 pub holds_none : (limit : ℕ) (content : Content) → content ≡ empty_content → HoldsKept limit [] content

@@ -1,5 +1,5 @@
-use Rattle.desk_replay.proofs.KeptLemmas.{next}
-use Rattle.desk_replay.proofs.taking.take_kept.Goals as goal
+use Rattle.desk_engine.proofs.KeptHistoryLemmas.{next}
+use Rattle.desk_engine.proofs.taking.take_kept.Goals as goal
 
 pub returns-clause-next : goal.returns-clause-next
 returns-clause-next g c before honest sure held =

@@ -6,7 +6,7 @@ use Rattle.desk_register.specs.View.{View, IfTrusted}
 use Rattle.desk_engine.specs.declared.accepting.Failure.{Failure}
 use Rattle.desk_engine.specs.declared.accepting.Failure.TheVariants.{Undone, Lost}
 use Rattle.desk_rules.specs.Content.{Content}
-use Rattle.desk_replay.specs.KeptHistory.{HoldsKept}
+use Rattle.desk_engine.specs.KeptHistory.{HoldsKept}
 
 -- so many first entries are held, and no others
 pub record HoldsFirst (limit : ℕ) (kept : List Kept) (content : Content) : Type 0 where

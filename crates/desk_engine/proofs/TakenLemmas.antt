@@ -14,9 +14,9 @@ use Rattle.desk_rules.proofs.HistoryLemmas.{before-all, entry_at-end}
 use Rattle.desk_rules.proofs.OneVerdict.{one_verdict}
 use Rattle.desk_engine.specs.Applied.{HasApplied, Keeps}
 use Rattle.desk_engine.specs.declared.applied.Accepted.{Accepted}
-use Rattle.desk_replay.specs.KeptHistory.{CanBeKept}
-use Rattle.desk_replay.specs.Taken.{IsNext, IsTakenIn}
-use Rattle.desk_replay.proofs.KeptLemmas.{front}
+use Rattle.desk_engine.specs.KeptHistory.{CanBeKept}
+use Rattle.desk_engine.specs.Taken.{IsNext, IsTakenIn}
+use Rattle.desk_engine.proofs.KeptHistoryLemmas.{front}
 
 -- what was applied is taken in, and was accepted
 pub taken_in : (limit : ℕ) (books : Books) (entry : Entry) (accepted : Accepted) (old new : Content) → Keeps limit books old → HasApplied limit books entry accepted new

@@ -1,3 +1,0 @@
-pub mod KeptHistory
-pub mod Replayed
-pub mod Taken
