@@ -9,7 +9,8 @@ use Rattle.desk_book.specs.Answered.{AnsweredInTurn}
 use Rattle.desk_book.specs.DeskValue.{DeskValue}
 use Rattle.desk_book.specs.Headline.{Headline}
 use Rattle.desk_rules.specs.declared.limits.TheConstants.{MOST_ENTRIES}
-use Rattle.desk_book.specs.Held.{Holds, KeepsFormed}
+use Rattle.desk_book.specs.Held.{Holds}
+use Rattle.desk_engine.specs.Ready.{KeepsFormed}
 use Rattle.desk_drop.specs.declared.file.DropReply.{DropReply}
 use Rattle.desk_drop.specs.Folder.{File, IsOnlyFolder, Item}
 use Rattle.desk_drop.specs.Taken.{AreAnswered, HasTaken, answers_in, asked_in}

@@ -20,7 +20,8 @@ use Rattle.sql_register.specs.Kept.{IsKept, Kept}
 use Rattle.desk_index.specs.declared.indexed_register.IndexedRegister.{IndexedRegister}
 use Rattle.desk_mirror.specs.Both.{Both}
 use Rattle.desk_opening.specs.Opened.{view_of_both}
-use Rattle.desk_book.specs.Held.{Holds, IsReady, KeepsFormed}
+use Rattle.desk_book.specs.Held.{Holds}
+use Rattle.desk_engine.specs.Ready.{IsReady, KeepsFormed}
 use Rattle.desk_register.specs.Ends.{HaveRead}
 use Rattle.desk.specs.Closed.{AreClosed}
 use Rattle.desk.specs.Left.{AreLeft, AreSaid, IsLeft, LeavesSome, PassesOn, TablesSay}

@@ -9,7 +9,7 @@ use Rattle.desk_rules.specs.declared.limits.TheConstants.{MOST_ENTRIES}
 use Rattle.desk_register.specs.View.{View}
 use Rattle.desk_book.specs.Answered.{AnsweredInTurn}
 use Rattle.desk_book.specs.DeskValue.{DeskValue}
-use Rattle.desk_book.specs.Held.{KeepsFormed}
+use Rattle.desk_engine.specs.Ready.{KeepsFormed}
 use Rattle.desk_opening.specs.Opened.{IsReadyFor}
 use Rattle.desk.specs.DropAnswer as drops
 use Rattle.desk.specs.Left.{AreLeft, IsLeft, LeavesSome, PassesOn}

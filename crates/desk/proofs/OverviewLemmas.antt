@@ -18,7 +18,8 @@ use Rattle.desk_book.specs.declared.fault.InputFault.TheVariants as inputs
 use Rattle.desk_book.specs.declared.fault.PlayFault.{PlayFault}
 use Rattle.desk_book.specs.declared.fault.PlayFault.TheVariants as plays
 use Rattle.desk_book.specs.Answered.{AnsweredInTurn}
-use Rattle.desk_book.specs.Held.{Holds, IsReady, KeepsFormed}
+use Rattle.desk_book.specs.Held.{Holds}
+use Rattle.desk_engine.specs.Ready.{IsReady, KeepsFormed}
 use Rattle.desk_book.specs.Played.{PlaysScript, asked_in}
 use Rattle.desk_book.specs.RowByRow.{WritesText}
 use Rattle.report_rows.specs.declared.format.Format.{Format}

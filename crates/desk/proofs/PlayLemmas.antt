@@ -20,7 +20,8 @@ use Rattle.desk_book.specs.declared.fault.Fault.TheVariants as faults
 use Rattle.desk_book.specs.Answered.{AnsweredInTurn, says_closed}
 use Rattle.desk_book.specs.DeskValue.{DeskValue}
 use Rattle.desk_book.specs.Headline.{Headline}
-use Rattle.desk_book.specs.Held.{Holds, KeepsFormed}
+use Rattle.desk_book.specs.Held.{Holds}
+use Rattle.desk_engine.specs.Ready.{KeepsFormed}
 use Rattle.desk_book.specs.Played.{PlaysFront, PlaysScript, answers_text, asked_in}
 use Rattle.desk_book.specs.declared.fault.InputFault.{InputFault}
 use Rattle.desk_book.specs.declared.fault.InputFault.TheVariants.{Memory, ReadFailed, TooLong}

@@ -10,7 +10,8 @@ use Rattle.desk_rules.specs.Books.{Books}
 use Rattle.desk_rules.specs.declared.limits.TheConstants.{MOST_ENTRIES}
 use Rattle.desk_book.specs.Asked.{Asked}
 use Rattle.desk_book.specs.DeskValue.{DeskValue}
-use Rattle.desk_book.specs.Held.{Holds, KeepsFormed}
+use Rattle.desk_book.specs.Held.{Holds}
+use Rattle.desk_engine.specs.Ready.{KeepsFormed}
 use Rattle.desk_book.specs.WrittenTo.{StaysOpen, WritesAsked, reply_with}
 use Rattle.desk_book.specs.declared.answers.head.Head.{Head}
 use Rattle.desk_book.specs.declared.fault.ToFault.{ToFault}

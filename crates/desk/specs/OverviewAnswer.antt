@@ -15,7 +15,7 @@ use Rattle.desk_book.specs.declared.fault.PlayFault.{PlayFault}
 use Rattle.desk_book.specs.declared.fault.PlayFault.TheVariants as plays
 use Rattle.desk_book.specs.declared.limits.TheConstants.{LONGEST_SCRIPT}
 use Rattle.desk_book.specs.Answered.{AnsweredInTurn}
-use Rattle.desk_book.specs.Held.{IsReady, KeepsFormed}
+use Rattle.desk_engine.specs.Ready.{IsReady, KeepsFormed}
 use Rattle.desk_book.specs.Played.{asked_in}
 use Rattle.desk_book.specs.Script.{Item, Script}
 use Rattle.report_rows.specs.declared.format.Format.{Format}

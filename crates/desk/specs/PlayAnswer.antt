@@ -14,7 +14,7 @@ use Rattle.desk_book.specs.declared.fault.PlayFault.{PlayFault}
 use Rattle.desk_book.specs.declared.fault.PlayFault.TheVariants as plays
 use Rattle.desk_book.specs.Answered.{AnsweredInTurn}
 use Rattle.desk_book.specs.Headline.{Headline}
-use Rattle.desk_book.specs.Held.{KeepsFormed}
+use Rattle.desk_engine.specs.Ready.{KeepsFormed}
 use Rattle.desk_book.specs.Played.{answers_text, asked_in}
 use Rattle.desk_book.specs.Script.{Item, Script}
 use Rattle.desk.specs.Input.{Came, MayGiveNone, failure_of}

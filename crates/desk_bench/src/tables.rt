@@ -2,7 +2,7 @@
 
 ghost use Rattle.std.specs.Prelude.{false};
 ghost use Rattle.sqlite.specs.Held.{state};
-ghost use Rattle.desk_book.specs.Held.{IsReady};
+ghost use Rattle.desk_engine.specs.Ready.{IsReady};
 ghost use Rattle.desk_opening.specs.Opened.{view_of_both};
 ghost use Rattle.sql_register.specs.Kept.{shown};
 

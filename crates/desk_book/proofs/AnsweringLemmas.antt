@@ -31,7 +31,7 @@ use Rattle.desk_book.specs.declared.fault.Fault.{Fault}
 use Rattle.desk_book.specs.declared.answers.total.CashTotal.{CashTotal}
 use Rattle.desk_book.specs.declared.answers.total.SecurityTotal.{SecurityTotal}
 use Rattle.desk_book.specs.Answered.{IsToldSums, says_closed}
-use Rattle.desk_book.specs.Held.{IsReady, KeepsFormed}
+use Rattle.desk_engine.specs.Ready.{IsReady, KeepsFormed}
 use Rattle.desk_book.specs.Answering.{Answers, Decides, Ends, IsPut}
 use Rattle.desk_book.specs.declared.requests.task.Task.{Task}
 use Rattle.desk_book.specs.declared.requests.task.Task.TheVariants.{Decide}

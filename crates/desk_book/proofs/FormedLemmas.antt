@@ -19,7 +19,7 @@ use Rattle.desk_register.specs.Changes.{empty_content}
 use Rattle.desk_engine.specs.Applied.{no_books}
 use Rattle.desk_engine.proofs.KeptLemmas.{empty_kept}
 use Rattle.desk_book.specs.Answered.{Grows}
-use Rattle.desk_book.specs.Held.{KeepsFormed}
+use Rattle.desk_engine.specs.Ready.{KeepsFormed}
 use Rattle.desk_book.specs.declared.requests.question.Question.{Question}
 use Rattle.desk_book.specs.declared.requests.question.Question.TheVariants as questions
 use Rattle.desk_book.specs.Asked.{Asked, mt_of}

@@ -5,7 +5,8 @@ use Rattle.desk_rules.specs.Content.{Content}
 use Rattle.desk_engine.proofs.SoundLemmas.{kept_is_sound}
 use Rattle.desk_register.specs.View.{View}
 use Rattle.desk_book.specs.Headline.{Headline, KeepsPromise}
-use Rattle.desk_book.specs.Held.{Holds, KeepsFormed}
+use Rattle.desk_book.specs.Held.{Holds}
+use Rattle.desk_engine.specs.Ready.{KeepsFormed}
 
 pub headline : (limit : ℕ) (books : Books) (content : Content) → KeepsFormed limit books content → Headline limit books content
 headline limit books content keeps = record {

@@ -18,7 +18,8 @@ use Rattle.desk_codes.specs.Account.{IsAccount}
 use Rattle.desk_book.specs.Answered.{Step}
 use Rattle.desk_book.specs.declared.requests.question.Question.TheVariants as questions
 use Rattle.desk_book.specs.Asked.{asked_with}
-use Rattle.desk_book.specs.Held.{Holds, KeepsFormed}
+use Rattle.desk_book.specs.Held.{Holds}
+use Rattle.desk_engine.specs.Ready.{KeepsFormed}
 use Rattle.desk_book.specs.RowByRow.{EndsWriting, IsReported, told_of_walk}
 use Rattle.desk_book.specs.Task.{IsHoldingsTask}
 use Rattle.desk_book.specs.WrittenTo.{Writes, WritesAsked}

@@ -6,7 +6,8 @@ ghost use Rattle.desk_book.specs.Answered.{ActsOnce, AnsweredInTurn, AreBlamed, 
 ghost use Rattle.desk_book.specs.declared.requests.question.Question.TheVariants as questions;
 ghost use Rattle.desk_book.specs.Asked.{asked_by, asked_with};
 ghost use Rattle.desk_book.specs.Headline.{KeepsPromise};
-ghost use Rattle.desk_book.specs.Held.{Holds, IfHolds, IsReady, Steps};
+ghost use Rattle.desk_book.specs.Held.{Holds, IfHolds, Steps};
+ghost use Rattle.desk_engine.specs.Ready.{IsReady};
 ghost use Rattle.desk_book.specs.Left.{AnswersRequest, EndsReport, LeavesDesk};
 ghost use Rattle.desk_book.specs.Answering.{IsPerformed};
 ghost use Rattle.desk_book.specs.RowByRow.{IsReported};
@@ -37,7 +38,7 @@ pub struct Desk<R: Register> {
 
 impl<R: Register> Model for Desk<R> {
     ghost use Rattle.desk_book.specs.DeskValue.{DeskValue, desk_code};
-    ghost use Rattle.desk_book.specs.Held.{IsReady};
+    ghost use Rattle.desk_engine.specs.Ready.{IsReady};
 
     ghost Value = { DeskValue R };
 

@@ -26,7 +26,7 @@ ghost use Rattle.desk_book.specs.declared.answers.total.SecurityTotal.{SecurityT
 ghost use Rattle.desk_rules.specs.Content.{Content};
 ghost use Rattle.desk_rules.specs.Questions.{sent_reply, status_reply};
 ghost use Rattle.desk_book.specs.Headline.{Headline};
-ghost use Rattle.desk_book.specs.Held.{KeepsFormed};
+ghost use Rattle.desk_engine.specs.Ready.{KeepsFormed};
 ghost use Rattle.desk_book.specs.declared.requests.question.Question.TheVariants.{Holdings, Sent, Status, Sums};
 ghost use Rattle.desk_book.specs.Asked.{Asked, asked_with};
 ghost use Rattle.desk_book.specs.Statement.{TellsHoldings};

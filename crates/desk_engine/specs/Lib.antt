@@ -5,6 +5,7 @@ pub mod Deciding
 pub mod Decision
 pub mod KeptHistory
 pub mod Pass
+pub mod Ready
 pub mod Replayed
 pub mod Sending
 pub mod Sound

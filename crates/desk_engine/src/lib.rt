@@ -4,7 +4,8 @@
 //! one is taken in: begun, taken into the tables by `applying.rt`, and committed or taken back. `adding.rt` adds it and
 //! pairs it, `cancelling.rt` cancels what it calls off, `settlement_run.rt` settles in a run, `sending.rt` sends what is
 //! told of pairs and settlements, and `replies.rt` writes the replies. specs/Applied.antt says what a register keeps of a
-//! history, and what an accepted entry leaves behind. Begin with it, then `decision.rt` and `accepting.rt`.
+//! history, and what an accepted entry leaves behind. Begin with it, then `decision.rt` and `accepting.rt`; specs/Ready.antt
+//! says what an open desk's register keeps.
 //!
 //! What a register kept is taken in once more, entry by entry, with the reply that was kept of each. `take_kept`, in
 //! `taking.rt`, is one step: the entry is decided on, taken in where it is accepted, and the reply that it gets is compared

@@ -11,7 +11,7 @@ use Rattle.desk_rules.proofs.SentNumbers.{sent_few}
 use Rattle.desk_register.specs.View.{View}
 use Rattle.desk_engine.proofs.AcceptingLemmas.{entries_within}
 use Rattle.desk_register.specs.Ends.{HaveRead}
-use Rattle.desk_book.specs.Held.{IsReady}
+use Rattle.desk_engine.specs.Ready.{IsReady}
 use Rattle.desk_journal.specs.Sending.{HoldsBooks}
 
 -- a history has as many entries as the tables

@@ -5,7 +5,7 @@ ghost use Rattle.desk_rules.specs.Books.{AreBooks, Books};
 ghost use Rattle.desk_rules.specs.Tables.{AreTables};
 ghost use Rattle.desk_register.specs.View.{IfTrusted};
 ghost use Rattle.desk_register.specs.Ends.{HaveRead, at_register};
-ghost use Rattle.desk_book.specs.Held.{IsReady};
+ghost use Rattle.desk_engine.specs.Ready.{IsReady};
 ghost use Rattle.desk_book.specs.RowByRow.{WritesText};
 ghost use Rattle.desk_rules.specs.declared.limits.TheConstants.{MOST_ENTRIES};
 ghost use Rattle.desk_engine.specs.Applied.{Keeps};

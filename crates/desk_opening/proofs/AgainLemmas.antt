@@ -13,7 +13,7 @@ use Rattle.sqlite_wal.specs.Recovery.{Image}
 use Rattle.desk_rules.specs.Books.{Books}
 use Rattle.desk_rules.specs.Content.{Content}
 use Rattle.desk_rules.specs.declared.limits.TheConstants.{MOST_ENTRIES}
-use Rattle.desk_book.specs.Held.{KeepsFormed}
+use Rattle.desk_engine.specs.Ready.{KeepsFormed}
 use Rattle.sql_register.specs.Content.{content_in}
 use Rattle.sql_tables.specs.Schema.{desk_schema, no_schema}
 use Rattle.desk_opening.specs.Opened.{FindsIn}

@@ -12,7 +12,7 @@ use Rattle.desk_rules.specs.Content.{Content}
 use Rattle.desk_register.specs.Changes.{empty_content}
 use Rattle.desk_register.specs.View.{View}
 use Rattle.desk_register.specs.declared.register.Stage.TheVariants.{Idle}
-use Rattle.desk_book.specs.Held.{IsReady}
+use Rattle.desk_engine.specs.Ready.{IsReady}
 use Rattle.desk_index.specs.IndexView.{view_of_index}
 use Rattle.desk_index.specs.declared.indexed_register.IndexedRegister.{IndexedRegister}
 use Rattle.desk_mirror.specs.Both.{Both, shown}

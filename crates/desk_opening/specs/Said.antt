@@ -3,7 +3,7 @@ use Rattle.sqlite.specs.Effect.{Database, IsDatabase}
 use Rattle.desk_rules.specs.Books.{Books}
 use Rattle.desk_rules.specs.Content.{Content}
 use Rattle.desk_rules.specs.declared.limits.TheConstants.{MOST_ENTRIES}
-use Rattle.desk_book.specs.Held.{KeepsFormed}
+use Rattle.desk_engine.specs.Ready.{KeepsFormed}
 use Rattle.sql_register.specs.Holds.{Becomes}
 
 -- It is the desk's tables, and what they say is what a desk with these books keeps.

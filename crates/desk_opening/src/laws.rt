@@ -4,7 +4,7 @@ ghost use Rattle.sqlite.specs.Effect.{Database};
 ghost use Rattle.sqlite.specs.Held.{state};
 ghost use Rattle.sqlite.specs.State.{IsLive};
 ghost use Rattle.sqlite_wal.specs.Recovery.{Image};
-ghost use Rattle.desk_book.specs.Held.{KeepsFormed};
+ghost use Rattle.desk_engine.specs.Ready.{KeepsFormed};
 ghost use Rattle.desk_rules.specs.Books.{Books};
 ghost use Rattle.desk_rules.specs.Content.{Content};
 ghost use Rattle.desk_rules.specs.declared.limits.TheConstants.{MOST_ENTRIES};

@@ -17,7 +17,7 @@ use Rattle.desk_register.proofs.ReadLemmas.{read_none}
 use Rattle.desk_book.proofs.TellingLemmas.{known_of}
 use Rattle.report_rows.proofs.NumberedLemmas.{handed_on}
 use Rattle.desk_engine.specs.Applied.{Keeps}
-use Rattle.desk_book.specs.Held.{IsReady}
+use Rattle.desk_engine.specs.Ready.{IsReady}
 use Rattle.desk_book.specs.RowByRow.{WritesSome, WritesText, WritesWhole}
 use Rattle.desk_book.specs.Sums.{sums_data}
 use Rattle.desk_book.proofs.AnsweringLemmas.{sums_told}

@@ -8,7 +8,7 @@ use Rattle.desk_register.specs.View.{HasRead, View}
 use Rattle.desk_rules.specs.Content.{Content}
 use Rattle.desk_register.specs.declared.fault.WalkFault.{WalkFault}
 use Rattle.desk_register.specs.declared.fault.WalkFault.TheVariants as walks
-use Rattle.desk_book.specs.Held.{IsReady, KeepsFormed}
+use Rattle.desk_engine.specs.Ready.{IsReady, KeepsFormed}
 use Rattle.desk_book.specs.RowByRow.{WritesSome, WritesText, WritesWhole}
 use Rattle.desk_book.proofs.RowLemmas.{appended}
 

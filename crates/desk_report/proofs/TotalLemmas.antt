@@ -12,7 +12,7 @@ use Rattle.desk_engine.specs.Applied.{Keeps}
 use Rattle.desk_register.specs.declared.fault.WalkFault.{WalkFault}
 use Rattle.desk_register.specs.declared.fault.WalkFault.TheVariants as walks
 use Rattle.desk_book.specs.Answered.{IsToldSums}
-use Rattle.desk_book.specs.Held.{IsReady}
+use Rattle.desk_engine.specs.Ready.{IsReady}
 use Rattle.desk_book.specs.RowByRow.{WritesSome, WritesText, WritesWhole, told_of_walk}
 use Rattle.desk_book.specs.Sums.{sums_data}
 use Rattle.desk_book.specs.WrittenTo.{Writes, reply_with}

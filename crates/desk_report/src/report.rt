@@ -6,7 +6,7 @@ ghost use Rattle.desk_rules.specs.Books.{Books};
 ghost use Rattle.desk_register.specs.View.{IfTrusted};
 ghost use Rattle.desk_engine.specs.Applied.{Keeps};
 ghost use Rattle.desk_register.specs.Ends.{HaveRead, at_register};
-ghost use Rattle.desk_book.specs.Held.{IsReady};
+ghost use Rattle.desk_engine.specs.Ready.{IsReady};
 ghost use Rattle.desk_book.specs.RowByRow.{WritesText};
 ghost use Rattle.desk_report.specs.Report.{IsReportText};
 ghost use Rattle.desk_report.specs.Written.{AreMembersText, AreRowsOf, IsMemberText, IsPartText, label_of};

@@ -15,7 +15,7 @@ use Rattle.desk_register.specs.declared.fault.WalkFault.TheVariants as walks
 use Rattle.desk_holdings.proofs.GatheringLemmas.{holdings_exist}
 use Rattle.desk_holdings.proofs.OneStatement.{one_list}
 use Rattle.desk_holdings.proofs.RegisteredLemmas.{holds_registered}
-use Rattle.desk_book.specs.Held.{KeepsFormed}
+use Rattle.desk_engine.specs.Ready.{KeepsFormed}
 use Rattle.desk_book.specs.RowByRow.{WritesSome, WritesText, WritesWhole}
 use Rattle.desk_book.specs.Sums.{rows_text}
 use Rattle.report_rows.specs.declared.balances.AccountRow.{AccountRow}

@@ -6,7 +6,7 @@ ghost use Rattle.desk_rules.specs.History.{entry_at};
 ghost use Rattle.desk_register.specs.View.{IfTrusted};
 ghost use Rattle.desk_register.specs.Ends.{HaveRead, at_register};
 ghost use Rattle.desk_holdings.specs.Holdings.{AreHoldings, HoldsRegistered};
-ghost use Rattle.desk_book.specs.Held.{IsReady};
+ghost use Rattle.desk_engine.specs.Ready.{IsReady};
 ghost use Rattle.desk_book.specs.RowByRow.{WritesText};
 ghost use Rattle.report_rows.specs.RowData.{account_data};
 ghost use Rattle.report_accounts.specs.Accounts.{AreHeld, HoldRegistered, IsAccountsText, account_rows, rows_of};

@@ -4,7 +4,7 @@ ghost use Rattle.desk_rules.specs.Content.{history_of};
 ghost use Rattle.desk_rules.specs.History.{entry_at};
 ghost use Rattle.desk_register.specs.View.{IfTrusted};
 ghost use Rattle.desk_register.specs.Ends.{HaveRead, at_register};
-ghost use Rattle.desk_book.specs.Held.{IsReady};
+ghost use Rattle.desk_engine.specs.Ready.{IsReady};
 ghost use Rattle.desk_book.specs.RowByRow.{WritesText};
 ghost use Rattle.report_rows.specs.RowData.{cash_data};
 ghost use Rattle.report_accounts.specs.Cash.{IsCashText, balance_rows, cash_rows, currencies};

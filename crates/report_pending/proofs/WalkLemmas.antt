@@ -16,7 +16,7 @@ use Rattle.desk_register.specs.declared.fault.WalkFault.TheVariants as walks
 use Rattle.desk_register.specs.Ends.{HaveRead, broken_off}
 use Rattle.desk_register.proofs.ReadLemmas.{held_so, kept_so, read_more}
 use Rattle.desk_register.proofs.ReadingLemmas.{read_on}
-use Rattle.desk_book.specs.Held.{IsReady}
+use Rattle.desk_engine.specs.Ready.{IsReady}
 use Rattle.desk_book.specs.RowByRow.{WritesSome, WritesText, WritesWhole}
 use Rattle.desk_book.specs.Sums.{rows_text}
 use Rattle.desk_book.proofs.RowLemmas.{Begun, appended, appends_nothing, begun_more, begun_nothing, begun_whole}

@@ -2,7 +2,7 @@
 ghost use Rattle.std.specs.Prelude.{◌≡◌, ◌≢◌, true, false, codes, Err, IfOk, IsOk};
 ghost use Rattle.desk_register.specs.View.{IfTrusted, IsRead};
 ghost use Rattle.desk_register.specs.Ends.{HaveRead, at_register};
-ghost use Rattle.desk_book.specs.Held.{IsReady};
+ghost use Rattle.desk_engine.specs.Ready.{IsReady};
 ghost use Rattle.desk_book.specs.RowByRow.{WritesText};
 ghost use Rattle.report_pending.specs.Pending.{IsPendingText};
 ghost use Rattle.report_pending.specs.Reading.{AreDated, IsPairAfter, IsWaitingPair, WritesPair};

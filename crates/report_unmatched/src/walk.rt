@@ -3,7 +3,7 @@ ghost use Rattle.std.specs.Prelude.{◌≡◌, ◌≢◌, true, false, Err, leng
 ghost use Rattle.std.specs.BTreeMap.{IsEmpty};
 ghost use Rattle.desk_register.specs.View.{IfTrusted};
 ghost use Rattle.desk_register.specs.Ends.{HaveRead, at_register};
-ghost use Rattle.desk_book.specs.Held.{IsReady};
+ghost use Rattle.desk_engine.specs.Ready.{IsReady};
 ghost use Rattle.desk_book.specs.RowByRow.{WritesText};
 ghost use Rattle.report_unmatched.specs.FirstNumbers.{AreFirst};
 ghost use Rattle.report_unmatched.specs.Unmatched.{IsUnmatchedText, unmatched_row};

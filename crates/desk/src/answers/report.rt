@@ -5,7 +5,7 @@ ghost use Rattle.desk_rules.specs.Books.{Books};
 ghost use Rattle.desk_rules.specs.declared.limits.TheConstants.{MOST_ENTRIES};
 ghost use Rattle.desk_engine.specs.Applied.{Keeps};
 ghost use Rattle.desk_register.specs.Ends.{HaveRead, at_register};
-ghost use Rattle.desk_book.specs.Held.{IsReady, KeepsFormed};
+ghost use Rattle.desk_engine.specs.Ready.{IsReady, KeepsFormed};
 ghost use Rattle.desk_book.specs.RowByRow.{WritesText};
 ghost use Rattle.desk_index.specs.IndexView.{view_of_index};
 ghost use Rattle.desk_opening.specs.Opened.{IsReadyFor, view_of_both};

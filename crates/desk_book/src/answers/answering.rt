@@ -9,7 +9,7 @@ ghost use Rattle.desk_rules.specs.Questions.{sent_reply};
 ghost use Rattle.desk_book.specs.Answered.{says_closed, status_answer};
 ghost use Rattle.desk_book.specs.RowByRow.{IsReported, answer_in_memory};
 ghost use Rattle.desk_book.specs.Task.{IsFormed};
-ghost use Rattle.desk_book.specs.Held.{IsReady, KeepsFormed};
+ghost use Rattle.desk_engine.specs.Ready.{IsReady, KeepsFormed};
 ghost use Rattle.desk_book.specs.Answering.{Answers, Decides, Ends, IsPut, AnswersFault, fault_of_register, fault_of_failure};
 
 use crate::answers::questions::{sent_message, status};

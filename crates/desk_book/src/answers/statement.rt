@@ -7,7 +7,7 @@ ghost use Rattle.desk_rules.specs.Facts.{is_owner, owner_of};
 ghost use Rattle.desk_register.specs.View.{IfTrusted, IsRead};
 ghost use Rattle.desk_register.specs.Ends.{HaveRead, at_register};
 ghost use Rattle.desk_engine.specs.Applied.{Keeps};
-ghost use Rattle.desk_book.specs.Held.{IsReady};
+ghost use Rattle.desk_engine.specs.Ready.{IsReady};
 ghost use Rattle.desk_book.specs.RowByRow.{told_of_walk};
 ghost use Rattle.desk_book.specs.Statement.{IsStatement, TellsHoldings, TellsOwner};
 ghost use Rattle.desk_book.specs.WrittenTo.{Writes};

@@ -4,7 +4,7 @@ ghost use Rattle.desk_rules.specs.Books.{Books};
 ghost use Rattle.desk_register.specs.View.{IfTrusted};
 ghost use Rattle.desk_register.specs.Ends.{HaveRead, at_register};
 ghost use Rattle.desk_engine.specs.Applied.{Keeps};
-ghost use Rattle.desk_book.specs.Held.{IsReady};
+ghost use Rattle.desk_engine.specs.Ready.{IsReady};
 ghost use Rattle.desk_book.specs.RowByRow.{EndsWriting, IsReported, Leaves, Shown, told_of_walk};
 ghost use Rattle.desk_book.specs.WrittenTo.{Writes};
 

@@ -3,7 +3,7 @@ use Rattle.desk_index.specs.IndexView.{view_of_index}
 use Rattle.desk_index.specs.declared.indexed_register.IndexedRegister.{IndexedRegister}
 use Rattle.desk_engine.specs.Applied.{no_books}
 use Rattle.desk_book.proofs.FormedLemmas.{empty_formed}
-use Rattle.desk_book.specs.Held.{IsReady}
+use Rattle.desk_engine.specs.Ready.{IsReady}
 use Rattle.desk.specs.OverviewAnswer.{IsAfterScript}
 use Rattle.desk.proofs.OverviewLemmas.{after_script, none_played}
 use Rattle.desk.proofs.PlayLemmas.{limit_is, new_keeps}
