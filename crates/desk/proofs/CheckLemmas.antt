@@ -3,8 +3,8 @@ use Rattle.std.proofs.Common.{◌≡◌, ◌∙◌, ◌<◌, ℕ, Bool, true, Li
 use Rattle.std.specs.Prelude.{Result, Ok, Err, IfOk, IfSome}
 use Rattle.std.specs.Result.{result_ok}
 use Rattle.std.specs.Io.KnownBytes.{Appends}
-use Rattle.desk_book.specs.declared.fault.InputFault.{InputFault}
-use Rattle.desk_book.specs.declared.fault.InputFault.TheVariants.{Memory, ReadFailed, TooLong}
+use Rattle.desk_streams.specs.declared.fault.InputFault.{InputFault}
+use Rattle.desk_streams.specs.declared.fault.InputFault.TheVariants.{Memory, ReadFailed, TooLong}
 use Rattle.desk_book.specs.declared.limits.TheConstants.{LONGEST_SCRIPT}
 use Rattle.desk.specs.CheckAnswer.{AreFound, IsCheckAnswer, IsFindingsAnswer, status_of_findings, told_findings, told_no_script, told_script}
 use Rattle.desk.specs.Finding.{Found, findings_in, report_text}

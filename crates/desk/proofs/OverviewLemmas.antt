@@ -14,7 +14,7 @@ use Rattle.desk_register.specs.declared.fault.WalkFault.TheVariants as walks
 use Rattle.desk_msg.specs.declared.writing.statement_row.SinkFault.TheVariants as sinks
 use Rattle.desk_book.proofs.RunLemmas.{none_failed, open_all_along}
 use Rattle.desk_book.specs.declared.limits.TheConstants.{LONGEST_SCRIPT}
-use Rattle.desk_book.specs.declared.fault.InputFault.TheVariants as inputs
+use Rattle.desk_streams.specs.declared.fault.InputFault.TheVariants as inputs
 use Rattle.desk_book.specs.declared.fault.PlayFault.{PlayFault}
 use Rattle.desk_book.specs.declared.fault.PlayFault.TheVariants as plays
 use Rattle.desk_book.specs.Answered.{AnsweredInTurn}

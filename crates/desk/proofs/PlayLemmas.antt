@@ -23,8 +23,8 @@ use Rattle.desk_book.specs.Headline.{Headline}
 use Rattle.desk_book.specs.Held.{Holds}
 use Rattle.desk_engine.specs.Ready.{KeepsFormed}
 use Rattle.desk_book.specs.Played.{PlaysFront, PlaysScript, answers_text, asked_in}
-use Rattle.desk_book.specs.declared.fault.InputFault.{InputFault}
-use Rattle.desk_book.specs.declared.fault.InputFault.TheVariants.{Memory, ReadFailed, TooLong}
+use Rattle.desk_streams.specs.declared.fault.InputFault.{InputFault}
+use Rattle.desk_streams.specs.declared.fault.InputFault.TheVariants.{Memory, ReadFailed, TooLong}
 use Rattle.desk_book.specs.declared.fault.PlayFault.{PlayFault}
 use Rattle.desk_book.specs.declared.fault.PlayFault.TheVariants as plays
 use Rattle.desk.specs.Input.{MayGiveNone, failure_of}

@@ -1,6 +1,6 @@
 -- What `desk check` answers.
 use Rattle.std.specs.Prelude.{◌≡◌, ◌≤◌, ℕ, Bool, List, [], length, Option}
-use Rattle.desk_book.specs.declared.fault.InputFault.{InputFault}
+use Rattle.desk_streams.specs.declared.fault.InputFault.{InputFault}
 use Rattle.desk_book.specs.declared.limits.TheConstants.{LONGEST_SCRIPT}
 use Rattle.desk.specs.Finding.{Found, findings_in, report_text}
 use Rattle.desk.specs.Input.{Came, MayGiveNone, failure_of}

@@ -9,7 +9,7 @@ use Rattle.desk_register.specs.View.{View}
 use Rattle.desk_engine.specs.Applied.{no_books}
 use Rattle.desk_book.specs.declared.fault.Fault.{Fault}
 use Rattle.desk_book.specs.declared.fault.Fault.TheVariants as desk_fault
-use Rattle.desk_book.specs.declared.fault.InputFault.{InputFault}
+use Rattle.desk_streams.specs.declared.fault.InputFault.{InputFault}
 use Rattle.desk_book.specs.declared.fault.PlayFault.{PlayFault}
 use Rattle.desk_book.specs.declared.fault.PlayFault.TheVariants as plays
 use Rattle.desk_book.specs.Answered.{AnsweredInTurn}

@@ -5,9 +5,9 @@ ghost use Rattle.std.specs.Process.{exit_status};
 ghost use Rattle.desk_words.specs.Causes.{TellsCause};
 ghost use Rattle.desk.specs.Status.{IsFailureTold, failure_line, status_number};
 
-use desk_book::{InputFault, ToFault};
+use desk_book::ToFault;
 use desk_opening::OpenFault;
-use desk_streams::Sink;
+use desk_streams::{InputFault, Sink};
 use std::io;
 use std::process::ExitCode;
 

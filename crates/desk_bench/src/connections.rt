@@ -3,9 +3,10 @@
 use crate::failure::Failure;
 use crate::over_index::new_desk;
 use crate::streams::{FailingSink, FailingSource};
-use desk_book::{Desk, PIECE};
+use desk_book::Desk;
 use desk_http::{HttpFault, LONGEST_REQUEST, Routes, connection, serve_one};
 use desk_index::IndexedRegister;
+use desk_streams::PIECE;
 use std::alloc::Global;
 use std::rt::Files;
 use std::{fs, io};

@@ -1,6 +1,5 @@
 pub mod HeadlineLemmas
 pub mod RunLemmas
-pub mod OutboxLemmas
 mod PlayLemmas
 pub mod FormedLemmas
 pub mod AnsweringLemmas

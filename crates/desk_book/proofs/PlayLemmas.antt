@@ -22,7 +22,7 @@ use Rattle.desk_book.specs.declared.requests.script.Item.TheVariants.{Ask, BadLi
 use Rattle.desk_book.specs.WrittenAnswers.{written_bad_line}
 use Rattle.desk_book.proofs.HeadlineLemmas.{promised}
 use Rattle.desk_book.proofs.LeftLemmas.{says_so}
-use Rattle.desk_book.proofs.OutboxLemmas.{all_written}
+use Rattle.desk_streams.proofs.OutboxLemmas.{all_written}
 use Rattle.desk_book.proofs.RunLemmas.{blamed_one, blamed_then, run_then}
 
 -- One item.

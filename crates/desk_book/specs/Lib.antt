@@ -20,6 +20,5 @@ pub mod Statement
 pub mod Sums
 pub mod Task
 pub mod Totals
-pub mod Waiting
 pub mod WrittenAnswers
 pub mod WrittenTo

@@ -3,8 +3,8 @@ ghost use Rattle.std.specs.Prelude.{◌≡◌};
 ghost use Rattle.desk_book.specs.WrittenAnswers.{status_of_fault, text_of_fault};
 
 use desk_msg::SinkFault;
-use desk_register::Fault as RegisterFault;
-use desk_register::WalkFault;
+use desk_register::{Fault as RegisterFault, WalkFault};
+use desk_streams::InputFault;
 use thiserror::Error;
 
 /// Why a request has no answer. Its number is 60, 61 or 62.
@@ -86,20 +86,6 @@ impl From<WalkFault> for ToFault {
             WalkFault::Storage => ToFault::Storage,
         }
     }
-}
-
-/// Why a reader gave no text.
-#[derive(Clone, Copy, Debug, PartialEq, Eq, Error)]
-pub enum InputFault {
-    /// There was no room for the text; nothing was read.
-    #[error("out of memory")]
-    Memory,
-    /// The reader failed. An interrupted read counts as failed.
-    #[error("reading failed")]
-    ReadFailed,
-    /// The reader has more bytes than the longest text.
-    #[error("the text is too long")]
-    TooLong,
 }
 
 /// Why a script was not played to its end.

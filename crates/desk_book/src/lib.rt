@@ -17,25 +17,23 @@ mod laws;
 mod limits;
 mod playing;
 mod requests;
-mod streams;
 
 pub use answers::head::Head;
+pub use answers::outgoing::{add_answer, add_fault};
 pub use answers::summing::write_sums;
 pub use answers::total::{CashTotal, SecurityTotal};
+pub use answers::writing::{write_row, write_text};
 pub use desk::Desk;
-pub use fault::{Fault, InputFault, PlayFault, ToFault};
+pub use fault::{Fault, PlayFault, ToFault};
 pub use laws::{
     accepted_again, accepted_stays, changes_are_confirmed, closed_for_good, headline,
     known_replies, one_command, one_reply, one_script, one_task, questions_answered,
     reads_well_formed, repeats_act_once, sums_agree,
 };
-pub use limits::{LONGEST_LINE, LONGEST_NUMBER, LONGEST_SCRIPT, MOST_DIGITS, PIECE};
+pub use limits::{LONGEST_LINE, LONGEST_NUMBER, LONGEST_SCRIPT, MOST_DIGITS};
 pub use requests::command::read_command;
 pub use requests::form::{count_of, number_of, party};
 pub use requests::line::{first_line, has_body, is_skipped, is_stop, said_by};
 pub use requests::question::{InstructionType, Question, Request};
 pub use requests::script::{Item, first_item, item_count};
 pub use requests::task::{Task, task_of};
-pub use streams::outbox::Outbox;
-pub use streams::reading::{CHUNK, read_more, read_whole};
-pub use streams::writing::{write_row, write_text};

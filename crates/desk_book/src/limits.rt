@@ -3,9 +3,6 @@
 /// The most bytes of a script.
 pub const LONGEST_SCRIPT: usize = 16_777_216;
 
-/// So many bytes of answers are written at once.
-pub const PIECE: usize = 8192;
-
 /// The most bytes of a line outside bodies.
 pub const LONGEST_LINE: usize = 1024;
 

@@ -8,16 +8,15 @@ ghost use Rattle.desk_book.specs.Left.{LeavesDesk};
 ghost use Rattle.desk_book.specs.Played.{HasPlayed, PlaysFront, PlaysScript};
 ghost use Rattle.desk_book.specs.Items.{PlaysItem};
 ghost use Rattle.desk_book.specs.Script.{item_of};
-ghost use Rattle.desk_book.specs.Waiting.{HasRoom, waits};
+ghost use Rattle.desk_streams.specs.Waiting.{HasRoom, waits};
 
+use crate::answers::outgoing::{add_answer, add_bad_line, add_fault};
 use crate::desk::Desk;
 use crate::fault::PlayFault;
 use crate::limits::LONGEST_SCRIPT;
 use crate::requests::script::{Item, first_item};
-use crate::streams::outbox::Outbox;
-use crate::streams::reading::read_whole;
 use desk_register::Register;
-use desk_streams::{Sink, Source};
+use desk_streams::{Outbox, Sink, Source, read_whole};
 use std::alloc::Global;
 use std::io;
 
@@ -99,10 +98,16 @@ impl<R: Register> Desk<R> {
     {
         match item {
             Item::Ask(request) => match self.ask(alloc, request) {
-                Ok(reply) => outbox.answer(writer, reply.status, reply.mt, reply.text.as_bytes()),
-                Err(fault) => outbox.fault(writer, fault),
+                Ok(reply) => add_answer(
+                    outbox,
+                    writer,
+                    reply.status,
+                    reply.mt,
+                    reply.text.as_bytes(),
+                ),
+                Err(fault) => add_fault(outbox, writer, fault),
             },
-            Item::BadLine => outbox.bad_line(writer),
+            Item::BadLine => add_bad_line(outbox, writer),
         }
     }
 }

@@ -4,7 +4,7 @@ use Rattle.std.specs.Io.KnownBytes.{Appends, append_known}
 use Rattle.std.proofs.KnownBytes.{Appends-trans}
 use Rattle.std.proofs.lemmas.Bool.Decides.{nat_tests}
 use Rattle.http.specs.StatusCode.{IsStatusCode, reason_phrase}
-use Rattle.desk_book.proofs.OutboxLemmas.{all_written}
+use Rattle.desk_streams.proofs.OutboxLemmas.{all_written}
 use Rattle.desk_http.specs.Response.{phrase}
 
 pub phrase_is : (status : ℕ) → IsStatusCode status → unwrap_or (reason_phrase status) [] ≡ phrase status

@@ -9,8 +9,7 @@ use crate::decision::{Decision, decide};
 use crate::limits::LONGEST_REQUEST;
 use crate::refusal::Refusal;
 use crate::route::Routes;
-use desk_book::{CHUNK, read_more};
-use desk_streams::Source;
+use desk_streams::{CHUNK, Source, read_more};
 use std::io;
 
 /// A call, and the place in what was read where its body begins.

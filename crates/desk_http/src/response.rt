@@ -2,11 +2,10 @@
 ghost use Rattle.std.specs.Prelude.{◌≡◌, [], true, OnErr, OnOk, unwrap_or};
 ghost use Rattle.std.specs.Io.KnownBytes.{Appends, append_known};
 ghost use Rattle.http.specs.StatusCode.{reason_phrase};
-ghost use Rattle.desk_book.specs.Waiting.{HasRoom, waits};
+ghost use Rattle.desk_streams.specs.Waiting.{HasRoom, waits};
 ghost use Rattle.desk_http.specs.Response.{phrase, response, response_head, status_lines, type_line};
 
-use desk_book::Outbox;
-use desk_streams::Sink;
+use desk_streams::{Outbox, Sink};
 use http::StatusCode;
 use std::io;
 

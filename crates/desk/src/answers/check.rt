@@ -9,8 +9,8 @@ ghost use Rattle.desk.specs.Told.{told_in as all_told};
 use super::play::answer_play;
 use crate::findings::{Finding, findings_in, tell_findings, told_in};
 use crate::status::{Failure, Status, tell_failure};
-use desk_book::{LONGEST_SCRIPT, read_whole};
-use desk_streams::{Sink, Source};
+use desk_book::LONGEST_SCRIPT;
+use desk_streams::{Sink, Source, read_whole};
 use std::alloc::Global;
 use std::io;
 

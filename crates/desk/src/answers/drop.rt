@@ -12,11 +12,11 @@ ghost use Rattle.desk.specs.DropAnswer.{AreTakenFrom, IsFolderEnd, IsFolderFailu
 use crate::folders::{BEHIND, Found, put_answer, read_folder, try_folder};
 use crate::status::{Failure, Status, tell_failure};
 use crate::teller::{Tally, Teller, Watch};
-use desk_book::{Desk, Fault, Outbox};
+use desk_book::{Desk, Fault, add_answer, add_fault};
 use desk_drop::{DropFile, DropReply, take};
 use desk_register::Register;
 use desk_rules::Reply;
-use desk_streams::Sink;
+use desk_streams::{Outbox, Sink};
 use std::alloc::{AllocError, Global};
 use std::io;
 use std::rt::HostRuntime;
@@ -184,8 +184,14 @@ fn answer_bytes(alloc: Global, answer: &Result<Reply, Fault>) -> io::Result<Vec<
     let mut text = Vec::new(alloc);
     let mut outbox = Outbox::new(alloc)?;
     match answer {
-        Ok(reply) => outbox.answer(&mut text, reply.status, reply.mt, reply.text.as_bytes())?,
-        Err(fault) => outbox.fault(&mut text, *fault)?,
+        Ok(reply) => add_answer(
+            &mut outbox,
+            &mut text,
+            reply.status,
+            reply.mt,
+            reply.text.as_bytes(),
+        )?,
+        Err(fault) => add_fault(&mut outbox, &mut text, *fault)?,
     }
     outbox.finish(&mut text)?;
     Ok(text)

@@ -6,9 +6,8 @@ ghost use Rattle.desk_msg.specs.Refused.{refusal_line};
 ghost use Rattle.desk.specs.ReadAnswer.{IsReadAnswer, IsRefusalTold, IsTextAnswer};
 
 use crate::status::{Failure, Status, tell_failure};
-use desk_book::{InputFault, read_whole};
 use desk_msg::{MsgFault, Mt, ReadFault, TextRefusal, fields_text, read_instruction_text};
-use desk_streams::{Sink, Source};
+use desk_streams::{InputFault, Sink, Source, read_whole};
 use desk_text::LONGEST_TEXT;
 use std::alloc::Global;
 use std::io;

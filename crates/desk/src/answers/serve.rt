@@ -10,12 +10,12 @@ ghost use Rattle.desk.specs.ServeAnswer.{HoldsOn, IsServeAnswer, listening_line}
 
 use crate::status::{Failure, Status, tell_failure};
 use crate::teller::{Nobody, Watch};
-use desk_book::{CHUNK, Desk};
+use desk_book::Desk;
 use desk_http::{Routes, serve_one};
 use desk_index::IndexedRegister;
 use desk_register::Register;
 use desk_rules::MOST_ENTRIES;
-use desk_streams::Sink;
+use desk_streams::{CHUNK, Sink};
 use std::alloc::Global;
 use std::io::{self, Read};
 use std::net::{Ipv4Addr, Net, Shutdown, TcpListener, TcpStream};

@@ -13,7 +13,7 @@ ghost use Rattle.desk_book.specs.Statement.{IsStatement, TellsHoldings, TellsOwn
 ghost use Rattle.desk_book.specs.WrittenTo.{Writes};
 
 use crate::answers::head::Head;
-use crate::streams::writing::write_text;
+use crate::answers::writing::write_text;
 use desk_codes::{AccountId, Bic};
 use desk_holdings::write_statement;
 use desk_msg::SinkFault;

@@ -13,7 +13,7 @@ ghost use Rattle.desk_book.specs.WrittenTo.{Writes};
 
 use crate::answers::head::Head;
 use crate::answers::total::{CashTotal, SecurityTotal, write_cash_row, write_security_row};
-use crate::streams::writing::write_text;
+use crate::answers::writing::write_text;
 use desk_codes::{Ccy, Isin};
 use desk_msg::SinkFault;
 use desk_register::{Fault, Register, Stage, WalkFault};

@@ -4,12 +4,11 @@ ghost use Rattle.std.specs.Io.KnownBytes.{Appends};
 ghost use Rattle.serde_json.specs.Written.{comma_if, compact_text};
 ghost use Rattle.desk_book.specs.Sums.{cash_data, security_data};
 
-use crate::streams::backward::{number_before, text_before};
-use crate::streams::writing::write_row;
+use crate::answers::writing::write_row;
 use desk_codes::{Ccy, Isin};
 use desk_msg::SinkFault;
 use desk_register::WalkFault;
-use desk_streams::Sink;
+use desk_streams::{Sink, number_before, text_before};
 
 /// The total of a currency, in minor units.
 #[derive(Clone, Copy)]

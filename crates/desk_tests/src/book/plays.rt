@@ -7,6 +7,7 @@ use desk_book::*;
 use desk_lists::ListRegister;
 use desk_register::Register;
 use desk_rules::MOST_ENTRIES;
+use desk_streams::{CHUNK, PIECE};
 use std::alloc::Global;
 use std::test::Fail;
 

@@ -1,4 +1,5 @@
 use Rattle.std.specs.Io.KnownBytes.{append_known}
+use Rattle.desk_streams.specs.Waiting.{waits}
 use Rattle.desk_book.specs.Script.{item_of}
 use Rattle.desk_book.proofs.LeftLemmas.{leaves_all, leaves_on}
 use Rattle.desk_book.proofs.PlayLemmas.{finished, front_and_one, front_played, more_so_far, none_so_far, script_played}
@@ -10,7 +11,7 @@ items-init g c =
     record {
       left = leaves_all g.R.Register.view g.R.Register.in_memory c.args.self.now;
       room = c.requires.room;
-      played = λ books honest holds. none_so_far c.args.self.now.is_closed books c.args.script.now (append_known (g.O.Write.contents c.args.writer.now) c.args.outbox.now.waiting.items) v0 holds;
+      played = λ books honest holds. none_so_far c.args.self.now.is_closed books c.args.script.now (append_known (g.O.Write.contents c.args.writer.now) (waits c.args.outbox.now)) v0 holds;
     }
 
 pub items-preserved : goal.items-preserved
@@ -26,7 +27,7 @@ items-preserved g c =
       played = λ books honest holds.
           let s = i.played books (a.left.later.honest honest) holds in
           more_so_far v0 v1 v2 c.args.self.now.is_closed c.items.self.is_closed c.answer_item.new.self.is_closed books c.args.script.now c.items.rest.now c.in-Some.after.now
-          (append_known (g.O.Write.contents c.args.writer.now) c.args.outbox.now.waiting.items) (append_known (g.O.Write.contents c.items.writer) c.items.outbox.waiting.items) (append_known (g.O.Write.contents c.answer_item.new.writer) c.answer_item.new.outbox.waiting.items) (item_of c.in-Some.item) i.left.later a.left.later s c.in-Some.ensures.first
+          (append_known (g.O.Write.contents c.args.writer.now) (waits c.args.outbox.now)) (append_known (g.O.Write.contents c.items.writer) (waits c.items.outbox)) (append_known (g.O.Write.contents c.answer_item.new.writer) (waits c.answer_item.new.outbox)) (item_of c.in-Some.item) i.left.later a.left.later s c.in-Some.ensures.first
           (a.played s.played.last honest s.played.holds);
     }
 
@@ -37,17 +38,17 @@ returns-in_err-answer_item-clause-front g c = λ books honest holds.
     let s = i.played books (a.left.later.honest honest) holds in
     front_and_one (g.R.Register.view c.args.self.now.register) (g.R.Register.view c.items.self.register) (g.R.Register.view c.answer_item.new.self.register)
     c.args.self.now.is_closed c.items.self.is_closed c.answer_item.new.self.is_closed books c.args.script.now c.items.rest.now c.in-Some.after.now
-    (append_known (g.O.Write.contents c.args.writer.now) c.args.outbox.now.waiting.items) (append_known (g.O.Write.contents c.items.writer) c.items.outbox.waiting.items) (item_of c.in-Some.item) i.left.later a.left.later s c.in-Some.ensures.first (a.front s.played.last honest s.played.holds)
+    (append_known (g.O.Write.contents c.args.writer.now) (waits c.args.outbox.now)) (append_known (g.O.Write.contents c.items.writer) (waits c.items.outbox)) (item_of c.in-Some.item) i.left.later a.left.later s c.in-Some.ensures.first (a.front s.played.last honest s.played.holds)
 
 pub returns-clause-played : goal.returns-clause-played
 returns-clause-played g c = λ books honest holds.
     finished c.finish.result c.args.self.now.is_closed c.items.self.is_closed books c.args.script.now (g.O.Write.contents c.args.writer.now) (g.O.Write.contents c.items.writer) (g.O.Write.contents c.finish.new.writer)
-    c.items.outbox.waiting.items (g.R.Register.view c.args.self.now.register) (g.R.Register.view c.items.self.register) c.requires.empty
-    (script_played c.args.self.now.is_closed c.items.self.is_closed books c.args.script.now c.items.rest.now (append_known (g.O.Write.contents c.args.writer.now) c.args.outbox.now.waiting.items) (append_known (g.O.Write.contents c.items.writer) c.items.outbox.waiting.items)
+    (waits c.items.outbox) (g.R.Register.view c.args.self.now.register) (g.R.Register.view c.items.self.register) c.requires.empty
+    (script_played c.args.self.now.is_closed c.items.self.is_closed books c.args.script.now c.items.rest.now (append_known (g.O.Write.contents c.args.writer.now) (waits c.args.outbox.now)) (append_known (g.O.Write.contents c.items.writer) (waits c.items.outbox))
     (g.R.Register.view c.args.self.now.register) (g.R.Register.view c.items.self.register) (c.items.invariant.played books honest holds) c.in_default.ensures.none)
     c.finish.ensures.written
 
 pub returns-clause-front : goal.returns-clause-front
 returns-clause-front g c = λ books honest holds.
-    front_played c.args.self.now.is_closed c.items.self.is_closed books c.args.script.now c.items.rest.now (append_known (g.O.Write.contents c.args.writer.now) c.args.outbox.now.waiting.items) (append_known (g.O.Write.contents c.items.writer) c.items.outbox.waiting.items)
+    front_played c.args.self.now.is_closed c.items.self.is_closed books c.args.script.now c.items.rest.now (append_known (g.O.Write.contents c.args.writer.now) (waits c.args.outbox.now)) (append_known (g.O.Write.contents c.items.writer) (waits c.items.outbox))
     (g.R.Register.view c.args.self.now.register) (g.R.Register.view c.items.self.register) (c.items.invariant.played books honest holds)

@@ -1,7 +1,7 @@
 use Rattle.std.proofs.Common.{◌<◌, ◌≤◌, length}
 use Rattle.std.specs.Prelude.{vec_capacity, vec_len}
-use Rattle.desk_book.proofs.OutboxLemmas.{IsAddedTo}
-use Rattle.desk_book.proofs.streams.outbox.add.Given as goal
+use Rattle.desk_streams.proofs.OutboxLemmas.{IsAddedTo}
+use Rattle.desk_streams.proofs.outbox.add.Given as goal
 
 abbrev pub invariant-pieces : goal.invariant-pieces
 invariant-pieces g l = record {

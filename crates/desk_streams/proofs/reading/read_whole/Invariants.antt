@@ -1,6 +1,6 @@
 use Rattle.std.proofs.Common.{◌≤◌, ◌+◌, ◌-◌, vec_len, vec_capacity}
 use Rattle.std.specs.Io.KnownBytes.{Consumes}
-use Rattle.desk_book.proofs.streams.reading.read_whole.Given as goal
+use Rattle.desk_streams.proofs.reading.read_whole.Given as goal
 
 -- what was read is what the reader has lost
 abbrev pub invariant-reads : goal.invariant-reads

@@ -1,7 +1,7 @@
 -- A number below 2 ^ 64 has 20 digits at most.
 use Rattle.std.proofs.Common.{ℕ, ◌≤◌, ◌<◌, ◌^◌, decimal, length, arith}
 use Rattle.std.proofs.lemmas.Fmt.{length-decimal-le}
-use Rattle.desk_book.proofs.streams.backward.number_before.Goals as goal
+use Rattle.desk_streams.proofs.backward.number_before.Goals as goal
 
 few : (n : ℕ) → n < 2 ^ 64 → length (decimal n) ≤ 20
 few n fits = length-decimal-le 20 n (omega arith) (omega arith) fits

@@ -1,7 +1,7 @@
 -- Bytes that wait to be written.
 use Rattle.std.specs.Prelude.{◌<◌, ◌≤◌, ℕ, List, vec_capacity, vec_len}
-use Rattle.desk_book.specs.declared.streams.outbox.Outbox.{Outbox}
-use Rattle.desk_book.specs.declared.limits.TheConstants.{PIECE}
+use Rattle.desk_streams.specs.declared.outbox.Outbox.{Outbox}
+use Rattle.desk_streams.specs.declared.outbox.TheConstants.{PIECE}
 
 -- what waits
 abbrev pub waits : Outbox → List ℕ

@@ -3,13 +3,15 @@ ghost use Rattle.std.specs.Prelude.{◌≡◌, ℕ, ◌<◌, ◌≤◌, ◌+◌,
 ghost use Rattle.std.specs.Io.KnownBytes.{Consumes, Keeps, IsAtEnd};
 
 use crate::fault::InputFault;
-use crate::limits::LONGEST_SCRIPT;
-use desk_streams::Source;
+use crate::source::Source;
 use std::alloc::Global;
 use std::io;
 
 /// So many bytes are asked for in one read.
 pub const CHUNK: usize = 4096;
+
+/// So many bytes are read whole, at most.
+pub const LONGEST_READ: usize = 16_777_216;
 
 /// All that the reader gives, which may be so many bytes at most. The room is taken before the first read, and one
 /// byte at most is read past the longest text. Each read but the last gives a byte or more. A reader that cannot fail
@@ -19,7 +21,7 @@ pub fn read_whole<R: Source>(
     reader: &mut R,
     longest: usize,
 ) -> Result<Vec<u8>, InputFault>
-    requires { longest ≤ LONGEST_SCRIPT }
+    requires { longest ≤ LONGEST_READ }
     ensures whole { IfOk result (λ text. IfSome (R.remaining reader.old) (λ input. text.items ≡ input)) }
     ensures fits { IfOk result (λ text. vec_len text ≤ longest) }
     ensures taken { (taken : List ℕ) × Consumes (R.remaining reader.old) (R.remaining reader.new) taken × (length taken ≤ longest + 1) }

@@ -1,8 +1,8 @@
 -- A piece is full, and was written.
 use Rattle.std.proofs.Common.{◌≡◌, ◌-◌, ◌++◌, rules}
 use Rattle.std.specs.Prelude.{take}
-use Rattle.desk_book.proofs.OutboxLemmas.{piece_added}
-use Rattle.desk_book.proofs.streams.outbox.add.Goals as goal
+use Rattle.desk_streams.proofs.OutboxLemmas.{piece_added}
+use Rattle.desk_streams.proofs.outbox.add.Goals as goal
 
 pub pieces-preserved : goal.pieces-preserved
 pieces-preserved g c =

@@ -1,5 +1,0 @@
-//! Texts from a reader and to a writer.
-pub mod backward;
-pub mod outbox;
-pub mod reading;
-pub mod writing;
