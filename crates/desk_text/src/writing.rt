@@ -150,13 +150,6 @@ impl BlockWriter {
         }
     }
 
-    /// How many sequences are open.
-    pub fn depth(&self) -> usize
-        ensures { result ≡ length self.now.names }
-    {
-        self.names.len()
-    }
-
     /// Opens a sequence of this name. At most 16 may be open.
     pub fn open(&mut self, name: &[u8]) -> Result<(), AllocError>
         requires name { IsTrue (is_name name.now) }

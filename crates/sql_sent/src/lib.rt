@@ -10,4 +10,4 @@ mod counting;
 mod messages;
 mod reading;
 
-pub use messages::{add_sent, add_sent_after, confirmation_of, last_place, sent_at, sent_count};
+pub use messages::{add_sent_after, confirmation_of, last_place, sent_at, sent_count};

@@ -94,16 +94,6 @@ pub fn add_sent_after<S: Alter>(
     Ok(place)
 }
 
-/// Adds a message to those that were sent. Where a number would pass 2^63 - 1, it is refused as an overflow.
-pub fn add_sent<S: Alter>(conn: &mut Connection<S>, message: &Sent) -> Result<(), Error>
-    ensures added { Soundly S.Store conn.old conn.new ((messages : List Message) → AreSent (tables S.Store conn.old) messages → OnOk result (Adds (tables S.Store conn.old) (tables S.Store conn.new) messages message.now)) }
-    ensures write { Writes S.Store conn.old conn.new result }
-{
-    let count = sent_count(conn)?;
-    add_sent_after(conn, count, None, message)?;
-    Ok(())
-}
-
 fn last_in(rows: &[Row]) -> Result<u64, Error>
     ensures { (last : ℕ) → IsLast rows.now last → result ≡ Ok last }
 {
