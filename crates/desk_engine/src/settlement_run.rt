@@ -15,7 +15,7 @@ ghost use Rattle.desk_rules.specs.Books.{Books};
 
 use crate::sending::confirm_settlement;
 use desk_codes::{Day, Reference};
-use desk_register::{Fault, Outcome, Register, Stage, is_past};
+use desk_register::{Fault, Outcome, Register, Stage};
 use desk_rules::{Entry, Place, Reply, RunRule};
 use std::alloc::Global;
 
@@ -93,7 +93,7 @@ fn take_next<R: Register>(
     match register.due_pair_after(alloc, day, place)? {
         None => Ok(None),
         Some(next) => {
-            if !is_past(&place, &next) {
+            if !next.is_past(&place) {
                 return Err(Fault::Storage);
             }
             let settles = settles(alloc, register, next, day)?;
@@ -122,7 +122,7 @@ fn take_past_short<R: Register>(
     match register.pair_to_try_after(alloc, day, place)? {
         None => Ok(None),
         Some(next) => {
-            if !is_past(&place, &next) {
+            if !next.is_past(&place) {
                 return Err(Fault::Storage);
             }
             let outcome = try_pair(alloc, register, next.number, day)?;

@@ -14,7 +14,6 @@ mod memory;
 mod messages;
 mod order;
 mod outcome;
-mod places;
 mod register;
 mod told;
 
@@ -24,6 +23,5 @@ pub use memory::MemoryRegister;
 pub use messages::Messages;
 pub use order::{is_above, is_less};
 pub use outcome::Outcome;
-pub use places::{is_before, is_past};
 pub use register::{Fault, MOST_FAILURES, Register, Stage};
 pub use told::{KnownPair, ToldRegister};

@@ -1,8 +1,18 @@
 -- The order of places, in words of numbers.
+use Rattle.std.specs.Prelude.{ℕ, ◌||◌}
+use Rattle.std.specs.Ordering.{is_lt, nat_cmp, ordering_then}
 use Rattle.std.proofs.Common.{◌≡◌, ◌<◌, ◌⊎◌, inl, inr, true, false, ◌&&◌, ◌==◌, nat_lt, arith}
 use Rattle.std.proofs.lemmas.Bool.{false_from_ne_true, ltb-true, lt-ltb, eqb-true, eq-eqb, and_parts, and_from, or_cases, or_left, or_right}
 use Rattle.desk_rules.specs.declared.history.pair.Place.{Place}
+use Rattle.desk_rules.specs.Places.{place_cmp}
 use Rattle.desk_rules.specs.Settlement.{is_before}
+
+by_numbers : (a b i j : ℕ) → is_lt (ordering_then (nat_cmp a b) (nat_cmp i j)) ≡ (nat_lt a b || (a == b && nat_lt i j))
+by_numbers a b i j = grind arith
+
+-- one place is less than another where a run takes it before
+pub by_order : (a b : Place) → is_lt (place_cmp a b) ≡ is_before a b
+by_order a b = by_numbers a.day b.day a.number b.number
 
 pub before_true : (p q : Place) → is_before p q ≡ true → (p.day < q.day) ⊎ ((p.day ≡ q.day) × (p.number < q.number))
 before_true p q e = elim (or_cases (nat_lt p.day q.day) (p.day == q.day && nat_lt p.number q.number) e) [

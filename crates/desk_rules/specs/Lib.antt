@@ -6,6 +6,7 @@ pub mod Pairing
 pub mod Balances
 pub mod Covered
 pub mod Settlement
+pub mod Places
 pub mod Books
 pub mod Standing
 pub mod Refusals

@@ -1,5 +1,6 @@
 //! Laws of the definitions, each the contract of a function with an empty body.
 ghost use Rattle.std.specs.Prelude.{◌≡◌, ◌≢◌, ◌⊎◌, ◌<◌, ◌≤◌, ◌↔◌, true, false, ℕ, ◌+◌, ◌*◌, List, [], ◌∷◌, ◌++◌, length, Contains, sum_by, count_by, if◌then◌else◌, slice_get, Some};
+ghost use Rattle.std.specs.Ordering.{is_lt};
 ghost use Rattle.desk_codes.specs.declared.currency.Ccy.{Ccy};
 ghost use Rattle.desk_rules.specs.History.{Instructed, before, entry_at, instruction_at};
 ghost use Rattle.desk_rules.specs.Cancelled.{IsRequestFor, is_cancel_requested, is_cancelled_pair};
@@ -29,13 +30,15 @@ ghost use Rattle.desk_rules.specs.Facts.{accounts_of, participants_of};
 ghost use Rattle.desk_rules.specs.Laws.{AreNonNegative, AreSameButCancellations, CallOffTheSame, TellsNotice};
 ghost use Rattle.desk_rules.specs.declared.limits.TheConstants.{MOST_ENTRIES, MOST_SENT};
 ghost use Rattle.desk_rules.specs.Opposite.{AreOpposite};
+ghost use Rattle.desk_rules.specs.Places.{place_cmp};
 ghost use Rattle.desk_rules.specs.Pairing.{IsPairing, IsSide, mate_of};
 ghost use Rattle.desk_rules.specs.Covered.{is_covered};
-ghost use Rattle.desk_rules.specs.Settlement.{is_due, pass_begins, IsUnsettled, IsSettlement, settled_before, passes_of, settled_count};
+ghost use Rattle.desk_rules.specs.Settlement.{is_before, is_due, pass_begins, IsUnsettled, IsSettlement, settled_before, passes_of, settled_count};
 ghost use Rattle.desk_rules.specs.declared.history.entry.Entry.TheVariants as Entry;
 ghost use Rattle.desk_rules.specs.declared.history.entry.RunRule.TheVariants.{Passes};
 ghost use Rattle.desk_rules.specs.declared.history.entry.Entry.{Entry};
 ghost use Rattle.desk_rules.specs.declared.history.pair.Pair.{Pair};
+ghost use Rattle.desk_rules.specs.declared.history.pair.Place.{Place};
 ghost use Rattle.desk_rules.specs.declared.history.pair.Settled.{Settled};
 ghost use Rattle.desk_rules.specs.declared.answers.verdict.Verdict.{Verdict};
 ghost use Rattle.desk_rules.specs.declared.answers.verdict.Verdict.TheVariants.{Accept, Repeat};
@@ -56,6 +59,12 @@ pub fn one_pairing()
 pub fn one_pair_each()
     ensures { (history : List Entry) (pairs : List Pair) (p q : Pair) (k : ℕ) → IsPairing history pairs
         → Contains pairs p → Contains pairs q → IsSide p k → IsSide q k → p ≡ q }
+{}
+
+/// Places are ordered as a run takes pairs: one is less than another where it is on an earlier day, or of a lower number on the
+/// day.
+pub fn places_in_order()
+    ensures { (a b : Place) → is_lt (place_cmp a b) ≡ is_before a b }
 {}
 
 /// A history has exactly one settlement.

@@ -34,7 +34,7 @@ pub use laws::{
     accepted_fronts, accepted_once, adds_up, both_legs, cancelled_for_good, cancelled_once,
     confirmed_changes, fronts, known_numbers, never_negative, nothing_else_changes, nothing_left,
     one_content, one_pair_each, one_pairing, one_settlement, one_verdict, opposites,
-    requested_alone, sent_for_good, sent_in_order, settled_is_confirmed, settles_once,
-    spelt_are_well_formed, stands_as_accepted,
+    places_in_order, requested_alone, sent_for_good, sent_in_order, settled_is_confirmed,
+    settles_once, spelt_are_well_formed, stands_as_accepted,
 };
 pub use limits::{MOST_ENTRIES, MOST_PAID, MOST_QUANTITY, MOST_SENT, SENT_A_PAIR};

@@ -7,7 +7,6 @@ ghost use Rattle.desk_lists.specs.Search.{sooner_of};
 
 use crate::lists::Lists;
 use crate::looking::by_number::{kept_instruction, standing};
-use desk_register::{is_before, is_past};
 use desk_rules::{Place, State};
 
 /// The place of a number's matched pair, where it is due by a day and above a place.
@@ -28,13 +27,14 @@ pub fn due_place(lists: &Lists, number: u64, day: u64, above: &Option<Place>) ->
     if mate >= number || place.day > day {
         return None;
     }
-    if !is_past(above, &place) {
+    if !place.is_past(above) {
         return None;
     }
     Some(place)
 }
 
 /// The sooner of two places, where there are two.
+#[tactic(auto, using(desk_rules::proofs::PlaceLemmas::by_order))]
 fn sooner(best: Option<Place>, candidate: Option<Place>) -> Option<Place>
     ensures { result ≡ sooner_of best candidate }
 {
@@ -44,7 +44,7 @@ fn sooner(best: Option<Place>, candidate: Option<Place>) -> Option<Place>
     let Some(second) = candidate else {
         return Some(first);
     };
-    if is_before(&second, &first) {
+    if second < first {
         return Some(second);
     }
     Some(first)

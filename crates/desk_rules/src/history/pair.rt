@@ -1,4 +1,6 @@
 //! Pairs of opposite instructions, and their settlement.
+ghost use Rattle.std.specs.Prelude.{◌≡◌};
+ghost use Rattle.desk_rules.specs.Settlement.{is_past};
 
 /// Two opposite instructions by their entry numbers. The pair's number is that of the later entry.
 #[derive(Clone, Copy, Debug, PartialEq, Eq)]
@@ -18,12 +20,25 @@ pub struct Settled {
 }
 
 /// A place in the order in which a run takes pairs: by settlement day, then by number.
-#[derive(Clone, Copy, Debug, PartialEq, Eq)]
+#[derive(Clone, Copy, Debug, PartialEq, Eq, PartialOrd, Ord)]
 pub struct Place {
     /// The settlement day, as the number YYYYMMDD
     pub day: u64,
     /// The pair's number, that of its later instruction
     pub number: u64,
+}
+
+impl Place {
+    /// Whether it is past another place, or past none.
+    #[tactic(auto, using(crate::proofs::PlaceLemmas::by_order))]
+    pub fn is_past(&self, last: &Option<Place>) -> bool
+        ensures { result ≡ is_past last.now self.now }
+    {
+        match last {
+            None => true,
+            Some(last) => last < self,
+        }
+    }
 }
 
 /// What an uncovered pair lacks.
