@@ -17,22 +17,27 @@ use Rattle.desk_rules.specs.Content.{Content}
 use Rattle.desk_rules.specs.Settlement.{is_before, is_past}
 use Rattle.desk_rules.proofs.PlaceLemmas.{before_never, before_true}
 use Rattle.desk_register.specs.Looked.{IsDue, IsDuePairAfter}
-use Rattle.desk_index.specs.DuePlaces.{HasDue, IsDueAt, IsDueOf, IsFirstDueOf, beginning, place_cmp}
+use Rattle.desk_index.specs.NumbersByKey.{numbered_cmp}
+use Rattle.desk_index.specs.DuePlaces.{HasDue, IsDueAt, IsDueOf, IsFirstDueOf, beginning, place_at}
+use Rattle.desk_rules.specs.Places.{place_cmp}
 use Rattle.desk_register.proofs.CaseLemmas.{by_bool}
 
 -- whether places have this one
-abbrev pub has : ℕ × ℕ → List (ℕ × ℕ) → Bool
+abbrev pub has : Place → List Place → Bool
 has q places = list_any (is_at (place_cmp q)) places
 
-exact_place : CmpEqualImpliesEq place_cmp
-exact_place = exact_pairs nat_cmp nat_cmp exact_unsigned exact_unsigned
+exact_numbers : CmpEqualImpliesEq (numbered_cmp nat_cmp)
+exact_numbers = exact_pairs nat_cmp nat_cmp exact_unsigned exact_unsigned
+
+exact_place : (q k : Place) → place_cmp q k ≡ Equal → q ≡ k
+exact_place q k e = ap (λ (z : ℕ × ℕ). place_at z.0 z.1) (exact_numbers (q.day, q.number) (k.day, k.number) e)
 
 equal_if : (o : Ordering) → is_eq o ≡ true → o ≡ Equal
 equal_if Less e = cc
 equal_if Equal e = refl
 equal_if Greater e = cc
 
-pub same_place : (q k : ℕ × ℕ) → is_at (place_cmp q) k ≡ true → q ≡ k
+pub same_place : (q k : Place) → is_at (place_cmp q) k ≡ true → q ≡ k
 same_place q k e = exact_place q k (equal_if (place_cmp q k) e)
 
 any_filter : {K : Type 0} (t p : K → Bool) (ks : List K) → ((k : K) → t k ≡ true → p k ≡ true) → list_any t ks ≡ true → list_any t (filter p ks) ≡ true
@@ -56,76 +61,74 @@ pub not_above : (a b i j : ℕ) → is_gt (ordering_then (nat_cmp a b) (nat_cmp 
 not_above a b i j e (inl lt) = grind arith
 not_above a b i j e (inr later) = let same = later.0 in let lt = later.1 in grind arith
 
-below_from_less : (p q : Place) → place_cmp (p.day, p.number) (q.day, q.number) ≡ Less → is_before q p ≡ false
+below_from_less : (p q : Place) → place_cmp p q ≡ Less → is_before q p ≡ false
 below_from_less p q e = false_from_ne_true (is_before q p) (λ before. not_below p.day q.day p.number q.number e (before_true q p before))
 
 up_to : (a b i j : ℕ) → (a < b) ⊎ ((a ≡ b) × (i < j)) → ordering_then (nat_cmp a b) (nat_cmp i j) ≡ Less
 up_to a b i j (inl lt) = grind arith
 up_to a b i j (inr later) = let e = later.0 in let lt = later.1 in grind arith
 
-pub behind_beginning : (above : Option Place) (p : Place) → 0 < p.number → is_past above p ≡ true → place_cmp (beginning above) (p.day, p.number) ≡ Less
-behind_beginning None p some up = grind arith
+from_nought : (b j : ℕ) → 0 < j → ordering_then (nat_cmp 0 b) (nat_cmp 0 j) ≡ Less
+from_nought b j some = grind arith
+
+pub behind_beginning : (above : Option Place) (p : Place) → 0 < p.number → is_past above p ≡ true → place_cmp (beginning above) p ≡ Less
+behind_beginning None p some up = from_nought p.day p.number some
 behind_beginning (Some a) p some up = up_to a.day p.day a.number p.number (before_true a p up)
 
-in_range : (a k : ℕ × ℕ) → place_cmp a k ≡ Less → range_contains place_cmp (Excluded a) Unbounded k ≡ true
+in_range : (a k : Place) → place_cmp a k ≡ Less → range_contains place_cmp (Excluded a) Unbounded k ≡ true
 in_range a k e = rw e refl
 
 -- all due pairs stand behind the beginning
-pub all_behind_beginning : (places : BTreeSet (ℕ × ℕ)) (content : Content) (day : ℕ) (above : Option Place) (s : List (ℕ × ℕ))
-    → s ≡ keys_between place_cmp (Excluded (beginning above)) Unbounded places → (p : Place) → IsDueOf places content day above p → has (p.day, p.number) s ≡ true
+pub all_behind_beginning : (places : BTreeSet Place) (content : Content) (day : ℕ) (above : Option Place) (s : List Place)
+    → s ≡ keys_between place_cmp (Excluded (beginning above)) Unbounded places → (p : Place) → IsDueOf places content day above p → has p s ≡ true
 all_behind_beginning places content day above s is p d =
-    let q : ℕ × ℕ = (p.day, p.number) in
     let pair = d.due.pair in
     let less = pair.is_earlier in
-    rw is (any_filter (is_at (place_cmp q)) (range_contains place_cmp (Excluded (beginning above)) Unbounded) places.keys
-    (λ k e. in_range (beginning above) k (subst (λ z. place_cmp (beginning above) z ≡ Less) (same_place q k e) (behind_beginning above p (omega arith) d.due.above)))
+    rw is (any_filter (is_at (place_cmp p)) (range_contains place_cmp (Excluded (beginning above)) Unbounded) places.keys
+    (λ k e. in_range (beginning above) k (subst (λ z. place_cmp (beginning above) z ≡ Less) (same_place p k e) (behind_beginning above p (omega arith) d.due.above)))
     d.there)
 
 -- a place is the first of some, or stands behind it
-pub first_or_behind : {G : Type 0} (q x : ℕ × ℕ) (s t : List (ℕ × ℕ)) → s ≡ x ∷ t → has q s ≡ true → (q ≡ x → G) → (has q t ≡ true → G) → G
+pub first_or_behind : {G : Type 0} (q x : Place) (s t : List Place) → s ≡ x ∷ t → has q s ≡ true → (q ≡ x → G) → (has q t ≡ true → G) → G
 first_or_behind q x s t is there first behind =
     let both : has q (x ∷ t) ≡ true = rw is at there in
     by_bool (is_at (place_cmp q) x) (λ here. first (same_place q x here)) (λ other. behind (rw other at both))
 
-less_than : (x q : ℕ × ℕ) (t : List (ℕ × ℕ)) → AllByRecursion (λ y. place_cmp x y ≡ Less) t → has q t ≡ true → place_cmp x q ≡ Less
+less_than : (x q : Place) (t : List Place) → AllByRecursion (λ y. place_cmp x y ≡ Less) t → has q t ≡ true → place_cmp x q ≡ Less
 less_than x q [] all there = absurd (cc)
 less_than x q (y ∷ t) all there = by_bool (is_at (place_cmp q) y)
     (λ here. subst (λ z. place_cmp x z ≡ Less) (sym (same_place q y here)) all.0)
     (λ other. less_than x q t all.1 (rw other at there))
 
-pub behind_first : (x q : ℕ × ℕ) (s t : List (ℕ × ℕ)) → s ≡ x ∷ t → IsStrictlySortedBy place_cmp s → has q t ≡ true → place_cmp x q ≡ Less
+pub behind_first : (x q : Place) (s t : List Place) → s ≡ x ∷ t → IsStrictlySortedBy place_cmp s → has q t ≡ true → place_cmp x q ≡ Less
 behind_first x q s t is sorted there = less_than x q t (sorted_head place_cmp x t (subst (IsStrictlySortedBy place_cmp) is sorted)) there
 
-pub sorted_behind : (x : ℕ × ℕ) (s t : List (ℕ × ℕ)) → s ≡ x ∷ t → IsStrictlySortedBy place_cmp s → IsStrictlySortedBy place_cmp t
+pub sorted_behind : (x : Place) (s t : List Place) → s ≡ x ∷ t → IsStrictlySortedBy place_cmp s → IsStrictlySortedBy place_cmp t
 sorted_behind x s t is sorted = sorted_tail place_cmp x t (subst (IsStrictlySortedBy place_cmp) is sorted)
 
-module _ (places : BTreeSet (ℕ × ℕ)) (content : Content) (day : ℕ) (above : Option Place) (x : ℕ × ℕ) (s t : List (ℕ × ℕ)) (is : s ≡ x ∷ t)
-    (left : (p : Place) → IsDueOf places content day above p → has (p.day, p.number) s ≡ true) (sorted : IsStrictlySortedBy place_cmp s) where
+module _ (places : BTreeSet Place) (content : Content) (day : ℕ) (above : Option Place) (x : Place) (s t : List Place) (is : s ≡ x ∷ t)
+    (left : (p : Place) → IsDueOf places content day above p → has p s ≡ true) (sorted : IsStrictlySortedBy place_cmp s) where
   -- past the day there is none
-  pub none_past_day : day < x.0 → (p : Place) → IsDueOf places content day above p → ⊥
-  none_past_day past p due = first_or_behind (p.day, p.number) x s t is (left p due)
-      (λ first. let same : p.day ≡ x.0 = ap (λ z. z.0) first in let by = due.due.by in omega arith)
-      (λ there. let order = not_less_days x.0 p.day x.1 p.number (behind_first x (p.day, p.number) s t is sorted there) in let by = due.due.by in omega arith)
+  pub none_past_day : day < x.day → (p : Place) → IsDueOf places content day above p → ⊥
+  none_past_day past p due = first_or_behind p x s t is (left p due)
+      (λ first. let same : p.day ≡ x.day = ap (λ z. z.day) first in let by = due.due.by in omega arith)
+      (λ there. let order = not_less_days x.day p.day x.number p.number (behind_first x p s t is sorted there) in let by = due.due.by in omega arith)
 
   -- the first that is due is the first of all
   pub first_is_due : (d : Place) → IsDueAt content day above x (Some d) → IsFirstDueOf places content day above (Some d)
   first_is_due d found = (
     found.0,
-    λ q due. first_or_behind (q.day, q.number) x s t is (left q due)
-        (λ first. let same = first ∙ sym found.1 in before_never q d (ap (λ z. z.0) same) (ap (λ z. z.1) same))
-        (λ there. below_from_less d q (subst (λ z. place_cmp z (q.day, q.number) ≡ Less) (sym found.1) (behind_first x (q.day, q.number) s t is sorted there))),
+    λ q due. first_or_behind q x s t is (left q due)
+        (λ first. let same = first ∙ sym found.1 in before_never q d (ap (λ z. z.day) same) (ap (λ z. z.number) same))
+        (λ there. below_from_less d q (subst (λ z. place_cmp z q ≡ Less) (sym found.1) (behind_first x q s t is sorted there))),
   )
 
   -- where the first is not due, all stand behind it
-  pub all_behind : IsDueAt content day above x None → (p : Place) → IsDueOf places content day above p → has (p.day, p.number) t ≡ true
-  all_behind none p due = first_or_behind (p.day, p.number) x s t is (left p due)
-      (λ first. let days : p.day ≡ x.0 = ap (λ z. z.0) first in let numbers : p.number ≡ x.1 = ap (λ z. z.1) first in
-      let same : p ≡ record { day = x.0; number = x.1 } = (λ k. record { day = days k; number = numbers k }) in
-      absurd (none (subst (IsDue content day above) same due.due)))
-      (λ there. there)
+  pub all_behind : IsDueAt content day above x None → (p : Place) → IsDueOf places content day above p → has p t ≡ true
+  all_behind none p due = first_or_behind p x s t is (left p due) (λ first. absurd (none (subst (IsDue content day above) first due.due))) (λ there. there)
 
 -- Where all due pairs are among the places, the first of these is the first of all.
-pub first_of_all : (places : BTreeSet (ℕ × ℕ)) (content : Content) (day : ℕ) (above : Option Place) (found : Option Place) → HasDue places content
+pub first_of_all : (places : BTreeSet Place) (content : Content) (day : ℕ) (above : Option Place) (found : Option Place) → HasDue places content
     → IsFirstDueOf places content day above found → IsDuePairAfter content day above found
 first_of_all places content day above None all first = λ p due. first p (record { due = due; there = all.each p due.pair })
 first_of_all places content day above (Some d) all first = (first.0, λ q due. first.1 q (record { due = due; there = all.each q due.pair }))

@@ -19,6 +19,7 @@ use Rattle.desk_lists.specs.declared.changing.transfer.Transfer.{Transfer}
 use Rattle.desk_lists.specs.declared.list_register.ListRegister.{ListRegister}
 use Rattle.desk_lists.specs.ListView.{view_of_lists}
 use Rattle.desk_lists.specs.Transfers.{IsTransferAt, transfer_of}
+use Rattle.desk_index.specs.DuePlaces.{place_at}
 use Rattle.desk_index.specs.Shortages.{Brings, HoldsShort, IsBroughtIfAny, IsNotedTried, KnowsShort, PutsIn, TakesOut}
 use Rattle.desk_index.specs.Wants.{woken_by}
 use Rattle.desk_index.specs.declared.short.shortages.Shortages.{Shortages}
@@ -67,7 +68,7 @@ short_changed (Err f) s old new content stage made err knows = short_failed s ne
 
 -- What is known of the contents that the calls make.
 
-pub knows_paired : (s s' : Shortages) (content : Content) (m n : ℕ) → CanPair content m n → (s'.is_known ≡ true → (later : Instructed) → instruction_at (history_of content) n ≡ Some later → PutsIn (number_of later.instruction.day, n) s s')
+pub knows_paired : (s s' : Shortages) (content : Content) (m n : ℕ) → CanPair content m n → (s'.is_known ≡ true → (later : Instructed) → instruction_at (history_of content) n ≡ Some later → PutsIn (place_at (number_of later.instruction.day) n) s s')
     → KnowsShort s content → KnowsShort s' (paired m n content)
 knows_paired s s' content m n can puts knows = known_or_not s' (paired m n content) (λ known.
     after_made s s' content (paired m n content) m n Future can.later can.two refl can.is_later can.earlier_unmatched can.later_unmatched (puts known can.later can.is_later) knows)
@@ -85,7 +86,7 @@ its_transfer content n m earlier later pair = record {
 }
 
 pub knows_pair_cancelled : (s s' : Shortages) (content : Content) (m n : ℕ) → CanCancelPair content m n
-    → (s'.is_known ≡ true → (earlier later : Instructed) → instruction_at (history_of content) m ≡ Some earlier → instruction_at (history_of content) n ≡ Some later → TakesOut (transfer_of earlier later) (number_of later.instruction.day, n) s s')
+    → (s'.is_known ≡ true → (earlier later : Instructed) → instruction_at (history_of content) m ≡ Some earlier → instruction_at (history_of content) n ≡ Some later → TakesOut (transfer_of earlier later) (place_at (number_of later.instruction.day) n) s s')
     → KnowsShort s content → KnowsShort s' (pair_cancelled m n content)
 knows_pair_cancelled s s' content m n can out knows = known_or_not s' (pair_cancelled m n content) (λ known.
     let new = pair_cancelled m n content in
@@ -115,5 +116,5 @@ has_tried old new n m day t outcome moves can tries =
     (tries.earlier, tries.later, subst (λ k. IsTried old k n tries.earlier tries.later outcome new) (sym same) tried)
 
 pub knows_tried : (s s' : Shortages) (old new : Content) (n m : ℕ) (t : Transfer) (outcome : Outcome) (earlier later : Instructed) → IsTransferAt old n m t → IsTried old m n earlier later outcome new
-    → (s'.is_known ≡ true → IsNotedTried outcome t (number_of t.day, n) s s') → KnowsShort s old → KnowsShort s' new
+    → (s'.is_known ≡ true → IsNotedTried outcome t (place_at (number_of t.day) n) s s') → KnowsShort s old → KnowsShort s' new
 knows_tried s s' old new n m t outcome earlier later moves tried noted knows = known_or_not s' new (λ known. after_tried s s' old new m n earlier later t moves knows outcome tried (noted known))

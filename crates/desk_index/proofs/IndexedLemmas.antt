@@ -15,6 +15,7 @@ use Rattle.desk_rules.specs.declared.answers.reply.Reply.{Reply}
 use Rattle.desk_rules.specs.declared.answers.reply.Sent.{Sent}
 use Rattle.desk_rules.specs.declared.history.standing.State.{State}
 use Rattle.desk_rules.specs.declared.history.standing.State.TheVariants.{Cancelled, Unmatched, Matched, Settled}
+use Rattle.desk_rules.specs.declared.history.pair.Place.{Place}
 use Rattle.desk_rules.specs.History.{instructed, instruction_at}
 use Rattle.desk_lists.specs.declared.list_register.ListRegister.{ListRegister}
 use Rattle.desk_register.specs.declared.register.Fault.{Fault}
@@ -31,7 +32,8 @@ use Rattle.desk_register.specs.declared.outcome.Outcome.TheVariants.{Lacks}
 use Rattle.desk_register.specs.Changes.{CanSettle, TriesPair, TriesSides, appended, cancelled, first_standing, pair_cancelled, paired, requested_by, requests_noted, standing_at, standing_both, with_request, with_sent}
 use Rattle.desk_rules.specs.Content.{Content, history_of}
 use Rattle.desk_register.specs.Looked.{IsMatchedPair}
-use Rattle.desk_index.specs.DuePlaces.{HasDue, HoldsDue, PlacedAt, place_cmp}
+use Rattle.desk_index.specs.DuePlaces.{HasDue, HoldsDue, PlacedAt, place_at}
+use Rattle.desk_rules.specs.Places.{place_cmp}
 use Rattle.desk_index.specs.Indexed.{HoldsOn, IsIndexed}
 use Rattle.desk_index.specs.Known.{AreKnown}
 use Rattle.desk_lists.specs.ListView.{view_of_lists}
@@ -66,7 +68,7 @@ pub append_nothing : {X : Type 0} (xs : List X) → xs ++ [] ≡ xs
 append_nothing [] = refl
 append_nothing (x ∷ xs) = ap (λ z. x ∷ z) (append_nothing xs)
 
-module _ (known : Known) (numbers : BTreeSet (MatchKey × ℕ)) (places : BTreeSet (ℕ × ℕ)) (noted : List Entry) (old new : View) (indexed : IsIndexed old known numbers places noted) where
+module _ (known : Known) (numbers : BTreeSet (MatchKey × ℕ)) (places : BTreeSet Place) (noted : List Entry) (old new : View) (indexed : IsIndexed old known numbers places noted) where
   -- after a call that failed
   pub fell : new.stage ≡ fallen old.stage → new.mark ≡ old.mark → (old.stage ≡ Idle → new.content ≡ old.content) → IsIndexed new known numbers places noted
   fell stage mark content = record {
@@ -112,7 +114,7 @@ module _ (known : Known) (numbers : BTreeSet (MatchKey × ℕ)) (places : BTreeS
   kept_keys stage content = subst (AreKnown known) (sym (ap history_of content ∙ indexed.grown (begun_is_not_failed old.stage stage))) indexed.keyed
 
 -- with no `begin` open, by what is held alone
-pub idle_indexed : (known : Known) (numbers : BTreeSet (MatchKey × ℕ)) (places : BTreeSet (ℕ × ℕ)) (noted : List Entry) (new : View) → new.mark ≡ new.content → noted ≡ []
+pub idle_indexed : (known : Known) (numbers : BTreeSet (MatchKey × ℕ)) (places : BTreeSet Place) (noted : List Entry) (new : View) → new.mark ≡ new.content → noted ≡ []
     → AreKnown known (history_of new.content) → HasOpen numbers new.content → HasDue places new.content → IsIndexed new known numbers places noted
 idle_indexed known numbers places noted new mark none keyed open_ones due_ones =
     let same : history_of new.mark ++ noted ≡ history_of new.content = ap (λ m. history_of m ++ noted) mark ∙ ap (λ z. history_of new.content ++ z) none ∙ append_nothing (history_of new.content) in
@@ -128,7 +130,7 @@ idle_indexed known numbers places noted new mark none keyed open_ones due_ones =
 
 -- By a call's result.
 
-module _ (known : Known) (numbers : BTreeSet (MatchKey × ℕ)) (places : BTreeSet (ℕ × ℕ)) (noted : List Entry) (old new : View) (honest : new.is_honest) (was_sure : old.is_sure) (sure : new.is_sure) where
+module _ (known : Known) (numbers : BTreeSet (MatchKey × ℕ)) (places : BTreeSet Place) (noted : List Entry) (old new : View) (honest : new.is_honest) (was_sure : old.is_sure) (sure : new.is_sure) where
   pub after_begin : {T : Type 0} (r : Result T Fault) → old.stage ≡ Idle → OnOk r (Begins old new) → OnErr r (Falls old new) → IsIndexed old known numbers places noted → IsIndexed new known numbers places noted
   after_begin (Ok x) idle ok err indexed = begun known numbers places noted old new indexed idle ok.stage (ok.mark honest was_sure) (ok.content honest was_sure)
   after_begin (Err f) idle ok err indexed = fell known numbers places noted old new indexed err.stage (err.mark honest sure) (err.content honest sure)
@@ -142,11 +144,11 @@ module _ (known : Known) (numbers : BTreeSet (MatchKey × ℕ)) (places : BTreeS
   after_read (Err f) same ok err indexed = after_fall err indexed
 
 -- what is known is of what is held, where no call has failed
-pub now_known : (known : Known) (numbers : BTreeSet (MatchKey × ℕ)) (places : BTreeSet (ℕ × ℕ)) (noted : List Entry) (view : View) → view.stage ≢ Failed → IsIndexed view known numbers places noted → AreKnown known (history_of view.content)
+pub now_known : (known : Known) (numbers : BTreeSet (MatchKey × ℕ)) (places : BTreeSet Place) (noted : List Entry) (view : View) → view.stage ≢ Failed → IsIndexed view known numbers places noted → AreKnown known (history_of view.content)
 now_known known numbers places noted view up indexed = subst (AreKnown known) (sym (indexed.grown up)) indexed.keyed
 
 -- a reading call keeps the look-ups
-pub read_keeps : {T : Type 0} (r : Result T Fault) (known : Known) (numbers : BTreeSet (MatchKey × ℕ)) (places : BTreeSet (ℕ × ℕ)) (noted : List Entry) (old new : ListRegister)
+pub read_keeps : {T : Type 0} (r : Result T Fault) (known : Known) (numbers : BTreeSet (MatchKey × ℕ)) (places : BTreeSet Place) (noted : List Entry) (old new : ListRegister)
     → IsRead r (view_of_lists old) (view_of_lists new) → IsIndexed (view_of_lists old) known numbers places noted → IsIndexed (view_of_lists new) known numbers places noted
 read_keeps r known numbers places noted old new read = after_read known numbers places noted (view_of_lists old) (view_of_lists new) tt tt tt r read.same read.ok read.err
 
@@ -155,8 +157,8 @@ read_keeps r known numbers places noted old new read = after_read known numbers 
 found_more : (old new : BTreeSet (MatchKey × ℕ)) (content : Content) → HoldsOpen old new → HasOpen old content → HasOpen new content
 found_more old new content all has = record { each = λ n i is unmatched. all (key_of i, n) (has.each n i is unmatched) }
 
-due_more : (old new : BTreeSet (ℕ × ℕ)) (content : Content) → HoldsDue old new → HasDue old content → HasDue new content
-due_more old new content all has = record { each = λ p pair. all (p.day, p.number) (has.each p pair) }
+due_more : (old new : BTreeSet Place) (content : Content) → HoldsDue old new → HasDue old content → HasDue new content
+due_more old new content all has = record { each = λ p pair. all p (has.each p pair) }
 
 at_end_of : (h : List Entry) (e : Entry) → slice_get (h ++ e ∷ []) (length h) ≡ Some e
 at_end_of [] e = refl
@@ -242,7 +244,7 @@ module _ (entry : Entry) (reply : Reply) (content : Content) (n : ℕ) (is : n �
     ];
   }
 
-  due_appended : (places : BTreeSet (ℕ × ℕ)) → HasDue places content → HasDue places (appended entry reply content)
+  due_appended : (places : BTreeSet Place) → HasDue places content → HasDue places (appended entry reply content)
   due_appended places has = record {
     each = λ p pair. elim (cases_eq p.number n) [
       | inl here ↦
@@ -297,13 +299,13 @@ module _ (old new : Content) (m n : ℕ) (s : State) (two : m < n) (apart : s �
     ];
   }
 
-  pub due_restood : (places : BTreeSet (ℕ × ℕ)) → HasDue places old → PlacedAt places (instruction_at (history_of old) n) n → HasDue places new
+  pub due_restood : (places : BTreeSet Place) → HasDue places old → PlacedAt places (instruction_at (history_of old) n) n → HasDue places new
   due_restood places has placed = record {
     each = λ p pair. elim (cases_eq p.number n) [
       | inl here ↦
           let at : instruction_at (history_of old) n ≡ Some pair.later = ap (λ h. instruction_at h n) (sym history_same) ∙ ap (instruction_at (history_of new)) (sym here) ∙ pair.is_later in
-          let there : contains place_cmp places (number_of pair.later.instruction.day, n) ≡ true = subst (λ o. PlacedAt places o n) at placed in
-          subst (λ d. contains place_cmp places (d, p.number) ≡ true) pair.day (subst (λ k. contains place_cmp places (number_of pair.later.instruction.day, k) ≡ true) (sym here) there)
+          let there : contains place_cmp places (place_at (number_of pair.later.instruction.day) n) ≡ true = subst (λ o. PlacedAt places o n) at placed in
+          subst (λ d. contains place_cmp places (place_at d p.number) ≡ true) pair.day (subst (λ k. contains place_cmp places (place_at (number_of pair.later.instruction.day) k) ≡ true) (sym here) there)
       | inr not_n ↦ elim (cases_eq p.number m) [
         | inl here ↦
             let mates : Some n ≡ Some pair.mate = sym (ap (λ z. z.mate) (ap new.standing here ∙ at_earlier)) ∙ pair.has_mate in
@@ -328,7 +330,7 @@ module _ (old new : Content) (m n : ℕ) (s : State) (two : m < n) (apart : s �
 
 -- The calls that change.
 
-pub after_append : {T : Type 0} (r : Result T Fault) (known known' : Known) (numbers numbers' : BTreeSet (MatchKey × ℕ)) (places : BTreeSet (ℕ × ℕ)) (noted noted' : List Entry) (old new : View) (n : ℕ) (entry : Entry) (reply : Reply)
+pub after_append : {T : Type 0} (r : Result T Fault) (known known' : Known) (numbers numbers' : BTreeSet (MatchKey × ℕ)) (places : BTreeSet Place) (noted noted' : List Entry) (old new : View) (n : ℕ) (entry : Entry) (reply : Reply)
     → new.is_honest → old.is_sure → new.is_sure → old.stage ≡ Begun → n ≡ length old.content.register + 1 → IsIndexed old known numbers places noted
     → HoldsOpen numbers numbers' → OpensAt numbers' (instructed entry) n → noted' ≡ noted ++ entry ∷ []
     → ((history : List Entry) → AreKnown known history → n ≡ length history + 1 → AreKnown known' (history ++ entry ∷ []))
@@ -378,12 +380,12 @@ after_append r known known' numbers numbers' places noted noted' old new n entry
         }
 
 -- the number of one entry more
-pub next_count : (known : Known) (numbers : BTreeSet (MatchKey × ℕ)) (places : BTreeSet (ℕ × ℕ)) (noted : List Entry) (view : View) (n : ℕ) → view.stage ≡ Begun → n ≡ length view.content.register → IsIndexed view known numbers places noted
+pub next_count : (known : Known) (numbers : BTreeSet (MatchKey × ℕ)) (places : BTreeSet Place) (noted : List Entry) (view : View) (n : ℕ) → view.stage ≡ Begun → n ≡ length view.content.register → IsIndexed view known numbers places noted
     → n + 1 ≡ length (history_of view.mark ++ noted) + 1
 next_count known numbers places noted view n stage is indexed = ap (λ z. z + 1) (is ∙ sym (size_of view.content) ∙ ap length (indexed.grown (begun_is_not_failed view.stage stage)))
 
 -- a failure before the call: what was found is found
-pub after_failure : (known known' : Known) (numbers numbers' : BTreeSet (MatchKey × ℕ)) (places places' : BTreeSet (ℕ × ℕ)) (noted noted' : List Entry) (old new : View) → IsIndexed old known numbers places noted
+pub after_failure : (known known' : Known) (numbers numbers' : BTreeSet (MatchKey × ℕ)) (places places' : BTreeSet Place) (noted noted' : List Entry) (old new : View) → IsIndexed old known numbers places noted
     → new.stage ≡ Failed → new.mark ≡ old.mark → HoldsOpen numbers numbers' → HoldsDue places places' → noted' ≡ noted → (AreKnown known (history_of old.mark ++ noted) → AreKnown known' (history_of old.mark ++ noted))
     → IsIndexed new known' numbers' places' noted'
 after_failure known known' numbers numbers' places places' noted noted' old new indexed failed mark all_open all_due same keyed = record {
@@ -397,7 +399,7 @@ after_failure known known' numbers numbers' places places' noted noted' old new 
 }
 
 -- two instructions came to stand otherwise
-pub after_standing : (known : Known) (numbers : BTreeSet (MatchKey × ℕ)) (places places' : BTreeSet (ℕ × ℕ)) (noted : List Entry) (old new : View) (m n : ℕ) (s : State)
+pub after_standing : (known : Known) (numbers : BTreeSet (MatchKey × ℕ)) (places places' : BTreeSet Place) (noted : List Entry) (old new : View) (m n : ℕ) (s : State)
     → new.is_honest → old.is_sure → old.stage ≡ Begun → IsIndexed old known numbers places noted → Stays old new → m < n → s ≢ Unmatched
     → HoldsDue places places' → PlacedAt places' (instruction_at (history_of old.content) n) n → new.content.register ≡ old.content.register → new.content.standing ≡ standing_both old.content.standing m n s
     → IsIndexed new known numbers places' noted
@@ -415,7 +417,7 @@ after_standing known numbers places places' noted old new m n s honest was_sure 
     }
 
 -- the call failed
-pub after_fault : (known : Known) (numbers : BTreeSet (MatchKey × ℕ)) (places places' : BTreeSet (ℕ × ℕ)) (noted : List Entry) (old new : View) → new.is_honest → new.is_sure → old.stage ≡ Begun → IsIndexed old known numbers places noted
+pub after_fault : (known : Known) (numbers : BTreeSet (MatchKey × ℕ)) (places places' : BTreeSet Place) (noted : List Entry) (old new : View) → new.is_honest → new.is_sure → old.stage ≡ Begun → IsIndexed old known numbers places noted
     → HoldsDue places places' → Falls old new → IsIndexed new known numbers places' noted
 after_fault known numbers places places' noted old new honest sure stage indexed all falls =
     after_failure known known numbers numbers places places' noted noted old new indexed (falls.stage ∙ ap fallen stage) (falls.mark honest sure) (λ q there. there) all refl (λ k. k)
@@ -430,7 +432,7 @@ pub where_it_went : {T E : Type 0} {P : Type 0} (r : Result T E) → false ≡ i
 where_it_went (Ok x) e p = p
 where_it_went (Err f) e p = absurd (cc)
 
-module _ (known : Known) (numbers : BTreeSet (MatchKey × ℕ)) (places places' : BTreeSet (ℕ × ℕ)) (noted : List Entry) (old new : View) (honest : new.is_honest) (was_sure : old.is_sure) (sure : new.is_sure)
+module _ (known : Known) (numbers : BTreeSet (MatchKey × ℕ)) (places places' : BTreeSet Place) (noted : List Entry) (old new : View) (honest : new.is_honest) (was_sure : old.is_sure) (sure : new.is_sure)
     (stage : old.stage ≡ Begun) (indexed : IsIndexed old known numbers places noted) (all : HoldsDue places places') where
   pub after_pair : {T : Type 0} (r : Result T Fault) (m n : ℕ) → m < n → PlacedAt places' (instruction_at (history_of old.content) n) n
       → (new.is_honest → old.is_sure → OnOk r (new.content ≡ paired m n old.content)) → OnOk r (Stays old new) → OnErr r (Falls old new) → IsIndexed new known numbers places' noted
@@ -462,7 +464,7 @@ module _ (known : Known) (numbers : BTreeSet (MatchKey × ℕ)) (places places' 
         matched = can.later_matched;
         day = refl;
       } in
-      subst (λ o. PlacedAt places' o n) (sym can.pair.is_later) (all (day, n) ((indexed.due_now (begun_is_not_failed old.stage stage)).each (record { day = day; number = n }) pair))
+      subst (λ o. PlacedAt places' o n) (sym can.pair.is_later) (all (place_at day n) ((indexed.due_now (begun_is_not_failed old.stage stage)).each (record { day = day; number = n }) pair))
 
   pub after_settle : (r : Result Outcome Fault) (n : ℕ) {day : ℕ} → CanSettle old.content n day
       → (new.is_honest → old.is_sure → IfOk r (λ outcome. TriesPair old.content n outcome new.content)) → OnOk r (Stays old new) → OnErr r (Falls old new) → IsIndexed new known numbers places' noted
@@ -475,7 +477,7 @@ module _ (known : Known) (numbers : BTreeSet (MatchKey × ℕ)) (places places' 
   after_settle (Err f) n can settles ok err = after_fault known numbers places places' noted old new honest sure stage indexed all err
 
 -- what was added since `begin` is tidied
-pub retidied : (known : Known) (numbers numbers' : BTreeSet (MatchKey × ℕ)) (places places' : BTreeSet (ℕ × ℕ)) (noted : List Entry) (count : ℕ) (view : View) → view.stage ≢ Failed → count ≡ length noted
+pub retidied : (known : Known) (numbers numbers' : BTreeSet (MatchKey × ℕ)) (places places' : BTreeSet Place) (noted : List Entry) (count : ℕ) (view : View) → view.stage ≢ Failed → count ≡ length noted
     → HoldsOn (HasOpen numbers) (HasOpen numbers') view.content count → HoldsOn (HasDue places) (HasDue places') view.content count → IsIndexed view known numbers places noted → IsIndexed view known numbers' places' noted
 retidied known numbers numbers' places places' noted count view apart is open_on due_on indexed =
     let whole = ap length (indexed.grown apart) in
@@ -508,7 +510,7 @@ open_fewer old new numbers fewer has = record {
   each = λ k i at unmatched. has.each k i (ap (λ r. instruction_at (map (λ (x : Kept). x.entry) r) k) (sym fewer.register) ∙ at) (fewer.unmatched k unmatched);
 }
 
-due_fewer : (old new : Content) (places : BTreeSet (ℕ × ℕ)) → StandsFewer old new → HasDue places old → HasDue places new
+due_fewer : (old new : Content) (places : BTreeSet Place) → StandsFewer old new → HasDue places old → HasDue places new
 due_fewer old new places fewer has = record {
   each = λ p pair.
       let was = fewer.matched p.number pair.mate pair.reason pair.has_mate pair.matched in
@@ -561,7 +563,7 @@ pair_fewer m n old =
           a.1 was.0 was.1;
     }
 
-module _ (known : Known) (numbers : BTreeSet (MatchKey × ℕ)) (places : BTreeSet (ℕ × ℕ)) (noted : List Entry) (held new : ListRegister) (stage : (view_of_lists held).stage ≡ Begun) (indexed : IsIndexed (view_of_lists held) known numbers places noted) where
+module _ (known : Known) (numbers : BTreeSet (MatchKey × ℕ)) (places : BTreeSet Place) (noted : List Entry) (held new : ListRegister) (stage : (view_of_lists held).stage ≡ Begun) (indexed : IsIndexed (view_of_lists held) known numbers places noted) where
   fewer_keeps : StandsFewer (view_of_lists held).content (view_of_lists new).content → Stays (view_of_lists held) (view_of_lists new) → IsIndexed (view_of_lists new) known numbers places noted
   fewer_keeps fewer ok =
       let old = view_of_lists held in

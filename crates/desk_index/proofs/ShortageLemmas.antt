@@ -33,7 +33,8 @@ use Rattle.desk_register.specs.Short.{LacksNow, StaysShort}
 use Rattle.desk_register.proofs.CaseLemmas.{by_bool, same_bytes}
 use Rattle.desk_lists.specs.declared.changing.transfer.Transfer.{Transfer}
 use Rattle.desk_lists.specs.Transfers.{IsTransferAt, transfer_of}
-use Rattle.desk_index.specs.DuePlaces.{place_cmp, place_of}
+use Rattle.desk_index.specs.DuePlaces.{place_at}
+use Rattle.desk_rules.specs.Places.{place_cmp}
 use Rattle.desk_index.specs.Shortages.{Agrees, Brings, IsBrought, IsBroughtIfAny, IsNotedLack, IsNotedSettled, IsNotedTried, IsUncovered, KeepsOthers, KnowsAt, KnowsShort, LetsGo, PutsIn, StandsShort, TakesOut, is_to_try}
 use Rattle.desk_index.specs.Wants.{AreWaiting, IsAsked, IsWantOf, cash_want, is_waiting, less_given, more_taken, want_cmp, woken_by}
 use Rattle.desk_index.specs.declared.short.shortages.Shortages.{Shortages}
@@ -75,9 +76,9 @@ lacks_of content earlier later Money pays uncovered = (
 )
 
 pub short_of_noted : (s : Shortages) (content : Content) → KnowsShort s content → ((want : Want) → contains want_cmp s.brought want ≡ false) → s.is_known ≡ true
-    → (p : Place) → IsMatchedPair content p → is_to_try s.to_try (p.day, p.number) ≡ false → StaysShort content p.number
+    → (p : Place) → IsMatchedPair content p → is_to_try s.to_try p ≡ false → StaysShort content p.number
 short_of_noted s content knows none known p pair out =
-    let here = knows.each (p.day, p.number) in
+    let here = knows.each p in
     let noted = here.noted known pair out in
     let n = noted.short in
     record {
@@ -124,7 +125,7 @@ pays_of content earlier later Money lacks e = some_of_lack content.cash (receivi
 
 -- Places.
 
-pub matched_of_stand : (content : Content) (at : ℕ × ℕ) (short : StandsShort content at.1) → number_of short.later.instruction.day ≡ at.0 → IsMatchedPair content (place_of at)
+pub matched_of_stand : (content : Content) (at : Place) (short : StandsShort content at.number) → number_of short.later.instruction.day ≡ at.day → IsMatchedPair content at
 matched_of_stand content at short day = record {
   later = short.later;
   mate = short.mate;
@@ -174,7 +175,7 @@ same_known old new register k = ap (λ r. instruction_at (map (λ kept. kept.ent
 module _ (s s' : Shortages) (old new : Content) (known : s'.is_known ≡ true → s.is_known ≡ true)
     (brought : (want : Want) → contains want_cmp s.brought want ≡ true → contains want_cmp s'.brought want ≡ true)
     (instructions : (k : ℕ) (i : Instructed) → instruction_at (history_of old) k ≡ Some i → instruction_at (history_of new) k ≡ Some i)
-    (not_come : (want : Want) (amount : ℕ) (at : ℕ × ℕ) → is_waiting s'.waits want amount at ≡ true → contains want_cmp s'.brought want ≡ false → HasNotCome old new want) where
+    (not_come : (want : Want) (amount : ℕ) (at : Place) → is_waiting s'.waits want amount at ≡ true → contains want_cmp s'.brought want ≡ false → HasNotCome old new want) where
   abbrev stands_on : (k : ℕ) (short : StandsShort old k) → AreAlike (new.standing k) (old.standing k) → AreAlike (new.standing short.mate) (old.standing short.mate) → StandsShort new k
   stands_on k short here there = record {
     mate = short.mate;
@@ -193,21 +194,21 @@ module _ (s s' : Shortages) (old new : Content) (known : s'.is_known ≡ true �
   not_brought want apart = false_from_ne_true (contains want_cmp s.brought want) (λ there. let kept = brought want there in let bad = sym kept ∙ apart in cc)
 
   -- what is known of a place is known still, where both instructions of its pair stand as before
-  pub carried : (at : ℕ × ℕ) → Agrees s s' at → KnowsAt s old at → instruction_at (history_of new) at.1 ≡ instruction_at (history_of old) at.1 → AreAlike (new.standing at.1) (old.standing at.1)
-      → ((short : StandsShort old at.1) → AreAlike (new.standing short.mate) (old.standing short.mate)) → KnowsAt s' new at
+  pub carried : (at : Place) → Agrees s s' at → KnowsAt s old at → instruction_at (history_of new) at.number ≡ instruction_at (history_of old) at.number → AreAlike (new.standing at.number) (old.standing at.number)
+      → ((short : StandsShort old at.number) → AreAlike (new.standing short.mate) (old.standing short.mate)) → KnowsAt s' new at
   carried at agrees knows same alike mates = record {
     noted = λ is pair out.
-        let was = knows.noted (known is) (matched_before old new (place_of at) pair same alike) (sym agrees.to_try ∙ out) in
-        record { short = stands_on at.1 was.short alike (mates was.short); waiting = record { each = λ want amount wanted. agrees.waits want amount ∙ was.waiting.each want amount wanted } };
-    tried = λ is. matched_after old new (place_of at) (knows.tried (sym agrees.to_try ∙ is)) same alike;
+        let was = knows.noted (known is) (matched_before old new at pair same alike) (sym agrees.to_try ∙ out) in
+        record { short = stands_on at.number was.short alike (mates was.short); waiting = record { each = λ want amount wanted. agrees.waits want amount ∙ was.waiting.each want amount wanted } };
+    tried = λ is. matched_after old new at (knows.tried (sym agrees.to_try ∙ is)) same alike;
     waits = λ want amount is.
         let was = knows.waits want amount (sym (agrees.waits want amount) ∙ is) in
-        record { short = stands_on at.1 was.short alike (mates was.short); day = was.day; wanted = was.wanted; out = agrees.to_try ∙ was.out };
+        record { short = stands_on at.number was.short alike (mates was.short); day = was.day; wanted = was.wanted; out = agrees.to_try ∙ was.out };
     uncovered = λ want amount is apart. uncovered_still old new want amount (not_come want amount at is apart) (knows.uncovered want amount (sym (agrees.waits want amount) ∙ is) (not_brought want apart));
   }
 
   -- of a place where no pair was matched, and none is, nothing is known
-  pub empty : (at : ℕ × ℕ) → Agrees s s' at → KnowsAt s old at → (IsMatchedPair old (place_of at) → ⊥) → (IsMatchedPair new (place_of at) → ⊥) → KnowsAt s' new at
+  pub empty : (at : Place) → Agrees s s' at → KnowsAt s old at → (IsMatchedPair old at → ⊥) → (IsMatchedPair new at → ⊥) → KnowsAt s' new at
   empty at agrees knows was is = record {
     noted = λ known pair out. absurd (is pair);
     tried = λ there. absurd (was (knows.tried (sym agrees.to_try ∙ there)));
@@ -215,7 +216,7 @@ module _ (s s' : Shortages) (old new : Content) (known : s'.is_known ≡ true �
     uncovered = λ want amount there apart. let w = knows.waits want amount (sym (agrees.waits want amount) ∙ there) in absurd (was (matched_of_stand old at w.short w.day));
   }
 
-agrees_here : (s : Shortages) (at : ℕ × ℕ) → Agrees s s at
+agrees_here : (s : Shortages) (at : Place) → Agrees s s at
 agrees_here s at = record { to_try = refl; waits = λ want amount. refl }
 
 -- Where nothing is known nothing is kept.
@@ -242,7 +243,7 @@ after_nothing s old new register standing position cash knows =
     let alike = λ (k : ℕ). alike_at (new.standing k) (old.standing k) (ap (λ f. f k) standing) in
     record {
       each = λ at. carried s s old new (λ known. known) (λ want there. there) (λ k i is. same_known old new register k ∙ is) (λ want amount q is apart. same_not_come old new position cash want)
-          at (agrees_here s at) (knows.each at) (same_known old new register at.1) (alike at.1) (λ short. alike short.mate);
+          at (agrees_here s at) (knows.each at) (same_known old new register at.number) (alike at.number) (λ short. alike short.mate);
     }
 
 -- What an entry brings about, and what a settlement does.
@@ -354,13 +355,13 @@ settlement_brings old new t position cash (MoreCash b c) more less paid =
     subst (λ z. z ≤ old.cash b c) (ap (λ f. f b c) (sym cash)) (paid_no_more old.cash t.receiver t.deliverer b c t.cash paid)
 
 -- what is brought is nothing that is waited for and not brought
-not_this : (s : Shortages) (this want : Want) (amount : ℕ) (at : ℕ × ℕ) → IsBrought s this → is_waiting s.waits want amount at ≡ true → contains want_cmp s.brought want ≡ false → this ≡ want → ⊥
+not_this : (s : Shortages) (this want : Want) (amount : ℕ) (at : Place) → IsBrought s this → is_waiting s.waits want amount at ≡ true → contains want_cmp s.brought want ≡ false → this ≡ want → ⊥
 not_this s this want amount at brought is apart same =
     let there = brought.each amount at (subst (λ z. is_waiting s.waits z amount at ≡ true) (sym same) is) in
     let bad = sym (subst (λ z. contains want_cmp s.brought z ≡ true) same there) ∙ apart in
     cc
 
-not_any : (s : Shortages) (any : Option Want) (want : Want) (amount : ℕ) (at : ℕ × ℕ) → IsBroughtIfAny s any → is_waiting s.waits want amount at ≡ true → contains want_cmp s.brought want ≡ false → any ≡ Some want → ⊥
+not_any : (s : Shortages) (any : Option Want) (want : Want) (amount : ℕ) (at : Place) → IsBroughtIfAny s any → is_waiting s.waits want amount at ≡ true → contains want_cmp s.brought want ≡ false → any ≡ Some want → ⊥
 not_any s None want amount at brought is apart same = cc
 not_any s (Some this) want amount at brought is apart same = not_this s this want amount at brought is apart (let one : this ≡ want = cc in one)
 
@@ -395,46 +396,46 @@ earlier_none content m n p two has_mate here pair =
     omega arith
 
 -- a matched pair of a number stands at one place
-pub one_place : (content : Content) (n : ℕ) (later : Instructed) (at : ℕ × ℕ) → instruction_at (history_of content) n ≡ Some later → at.1 ≡ n → is_eq (place_cmp (number_of later.instruction.day, n) at) ≡ false → IsMatchedPair content (place_of at) → ⊥
+pub one_place : (content : Content) (n : ℕ) (later : Instructed) (at : Place) → instruction_at (history_of content) n ≡ Some later → at.number ≡ n → is_eq (place_cmp (place_at (number_of later.instruction.day) n) at) ≡ false → IsMatchedPair content at → ⊥
 one_place content n later at is here apart pair =
     let laters : Some pair.later ≡ Some later = sym pair.is_later ∙ ap (instruction_at (history_of content)) here ∙ is in
     let same : pair.later ≡ later = cc in
-    let day : number_of later.instruction.day ≡ at.0 = ap (λ i. number_of i.instruction.day) (sym same) ∙ pair.day in
-    let one : (number_of later.instruction.day, n) ≡ at = λ k. (day k, sym here k) in
+    let day : number_of later.instruction.day ≡ at.day = ap (λ i. number_of i.instruction.day) (sym same) ∙ pair.day in
+    let one : (place_at (number_of later.instruction.day) n) ≡ at = λ k. record { day = day k; number = sym here k } in
     let bad = sym (subst (λ z. is_eq (place_cmp z at) ≡ true) (sym one) (equal_place at)) ∙ apart in
     cc
 
 module _ (s s' : Shortages) (old new : Content) (m n : ℕ) (state : State) (later : Instructed) (two : m < n) (apart : state ≢ Unmatched) (same : new.register ≡ old.register)
     (stand : new.standing ≡ standing_both old.standing m n state) (is_later : instruction_at (history_of old) n ≡ Some later) (free : AreFree old m n)
-    (none_earlier : (p : Place) → p.number ≡ m → IsMatchedPair old p → ⊥) (keeps : KeepsOthers (number_of later.instruction.day, n) s s')
-    (not_come : (want : Want) (amount : ℕ) (at : ℕ × ℕ) → is_waiting s'.waits want amount at ≡ true → contains want_cmp s'.brought want ≡ false → HasNotCome old new want) (knows : KnowsShort s old) where
+    (none_earlier : (p : Place) → p.number ≡ m → IsMatchedPair old p → ⊥) (keeps : KeepsOthers (place_at (number_of later.instruction.day) n) s s')
+    (not_come : (want : Want) (amount : ℕ) (at : Place) → is_waiting s'.waits want amount at ≡ true → contains want_cmp s'.brought want ≡ false → HasNotCome old new want) (knows : KnowsShort s old) where
   instruction_same : (k : ℕ) → instruction_at (history_of new) k ≡ instruction_at (history_of old) k
   instruction_same k = ap (λ h. instruction_at h k) (history_same old new m n state two apart same stand)
 
-  others_on : (at : ℕ × ℕ) → is_eq (place_cmp (number_of later.instruction.day, n) at) ≡ false → KnowsAt s' new at
+  others_on : (at : Place) → is_eq (place_cmp (place_at (number_of later.instruction.day) n) at) ≡ false → KnowsAt s' new at
   others_on at other =
       let instructions : (k : ℕ) (i : Instructed) → instruction_at (history_of old) k ≡ Some i → instruction_at (history_of new) k ≡ Some i = λ k i is. instruction_same k ∙ is in
       let stands = λ (k : ℕ) (not_n : k ≢ n) (not_m : k ≢ m). alike_at (new.standing k) (old.standing k) (at_other old new m n state two apart same stand k not_n not_m) in
-      elim (cases_eq at.1 n) [
+      elim (cases_eq at.number n) [
         | inl here ↦
             empty s s' old new keeps.known keeps.brought instructions not_come at (keeps.others at other) (knows.each at) (one_place old n later at is_later here other)
             (one_place new n later at (instruction_same n ∙ is_later) here other)
-        | inr not_n ↦ elim (cases_eq at.1 m) [
+        | inr not_n ↦ elim (cases_eq at.number m) [
           | inl here ↦
-              empty s s' old new keeps.known keeps.brought instructions not_come at (keeps.others at other) (knows.each at) (none_earlier (place_of at) here)
-              (earlier_none new m n (place_of at) two (ap (λ z. z.mate) (at_earlier old new m n state two apart same stand)) here)
+              empty s s' old new keeps.known keeps.brought instructions not_come at (keeps.others at other) (knows.each at) (none_earlier at here)
+              (earlier_none new m n at two (ap (λ z. z.mate) (at_earlier old new m n state two apart same stand)) here)
           | inr not_m ↦
-              carried s s' old new keeps.known keeps.brought instructions not_come at (keeps.others at other) (knows.each at) (instruction_same at.1) (stands at.1 not_n not_m)
-              (λ short. let mates = free at.1 short not_n not_m in stands short.mate mates.0 mates.1)
+              carried s s' old new keeps.known keeps.brought instructions not_come at (keeps.others at other) (knows.each at) (instruction_same at.number) (stands at.number not_n not_m)
+              (λ short. let mates = free at.number short not_n not_m in stands short.mate mates.0 mates.1)
         ]
       ]
 
   -- what is known of their own place was seen
-  pub two_stand : KnowsAt s' new (number_of later.instruction.day, n) → KnowsShort s' new
-  two_stand here = record { each = λ at. by_place (number_of later.instruction.day, n) at (λ same. subst (KnowsAt s' new) same here) (others_on at) }
+  pub two_stand : KnowsAt s' new (place_at (number_of later.instruction.day) n) → KnowsShort s' new
+  two_stand here = record { each = λ at. by_place (place_at (number_of later.instruction.day) n) at (λ same. subst (KnowsAt s' new) same here) (others_on at) }
 
   -- the pair is matched no more
-  pub none_there : ((reason : Reason) → state ≢ Matched reason) → IsMatchedPair new (place_of (number_of later.instruction.day, n)) → ⊥
+  pub none_there : ((reason : Reason) → state ≢ Matched reason) → IsMatchedPair new (place_at (number_of later.instruction.day) n) → ⊥
   none_there ended pair = ended pair.reason (sym (ap (λ z. z.state) (at_later old new m n state two apart same stand)) ∙ pair.matched)
 
 -- One pair moves one thing.
@@ -445,8 +446,8 @@ one_transfer content n mate t moves short =
     moves.moves short.earlier short.later (ap (instruction_at (history_of content)) one ∙ short.pair.is_earlier) short.pair.is_later
 
 -- a pair that was taken out waits for nothing
-let_go : (s s' : Shortages) (content : Content) (n mate : ℕ) (t : Transfer) (day : ℕ) → IsTransferAt content n mate t → LetsGo t (day, n) s s' → KnowsAt s content (day, n)
-    → (want : Want) (amount : ℕ) → is_waiting s'.waits want amount (day, n) ≡ true → ⊥
+let_go : (s s' : Shortages) (content : Content) (n mate : ℕ) (t : Transfer) (day : ℕ) → IsTransferAt content n mate t → LetsGo t (place_at day n) s s' → KnowsAt s content (place_at day n)
+    → (want : Want) (amount : ℕ) → is_waiting s'.waits want amount (place_at day n) ≡ true → ⊥
 let_go s s' content n mate t day moves gone knows want amount is =
     let was = knows.waits want amount (gone.fewer want amount is) in
     let wanted : IsWantOf t was.short.lack want amount = subst (λ z. IsWantOf z was.short.lack want amount) (sym (one_transfer content n mate t moves was.short)) was.wanted in
@@ -457,12 +458,12 @@ let_go s s' content n mate t day moves gone knows want amount is =
 -- A pair that ends, and was taken out.
 module _ (s s' : Shortages) (old new : Content) (m n : ℕ) (state : State) (later : Instructed) (t : Transfer) (two : m < n) (apart : state ≢ Unmatched) (ended : (reason : Reason) → state ≢ Matched reason)
     (same : new.register ≡ old.register) (stand : new.standing ≡ standing_both old.standing m n state) (is_later : instruction_at (history_of old) n ≡ Some later)
-    (n_has : (old.standing n).mate ≡ Some m) (m_has : (old.standing m).mate ≡ Some n) (moves : IsTransferAt old n m t) (out : TakesOut t (number_of later.instruction.day, n) s s')
-    (not_come : (want : Want) (amount : ℕ) (at : ℕ × ℕ) → is_waiting s'.waits want amount at ≡ true → contains want_cmp s'.brought want ≡ false → HasNotCome old new want) (knows : KnowsShort s old) where
+    (n_has : (old.standing n).mate ≡ Some m) (m_has : (old.standing m).mate ≡ Some n) (moves : IsTransferAt old n m t) (out : TakesOut t (place_at (number_of later.instruction.day) n) s s')
+    (not_come : (want : Want) (amount : ℕ) (at : Place) → is_waiting s'.waits want amount at ≡ true → contains want_cmp s'.brought want ≡ false → HasNotCome old new want) (knows : KnowsShort s old) where
   pub after_end : KnowsShort s' new
   after_end =
       let day = number_of later.instruction.day in
-      let none = let_go s s' old n m t day moves out.gone (knows.each (day, n)) in
+      let none = let_go s s' old n m t day moves out.gone (knows.each (place_at day n)) in
       two_stand s s' old new m n state later two apart same stand is_later (mated_free old m n n_has m_has) (λ p here. earlier_none old m n p two m_has here) out.keeps not_come knows
       (record {
         noted = λ known pair is. absurd (none_there s s' old new m n state later two apart same stand is_later (mated_free old m n n_has m_has) (λ p here. earlier_none old m n p two m_has here) out.keeps not_come knows ended pair);
@@ -473,16 +474,16 @@ module _ (s s' : Shortages) (old new : Content) (m n : ℕ) (state : State) (lat
 
 -- A pair that is made is to be tried.
 pub after_made : (s s' : Shortages) (old new : Content) (m n : ℕ) (reason : Reason) (later : Instructed) → m < n → new ≡ record old { standing = standing_both old.standing m n (Matched reason) } → instruction_at (history_of old) n ≡ Some later
-    → (old.standing m).state ≡ Unmatched → (old.standing n).state ≡ Unmatched → PutsIn (number_of later.instruction.day, n) s s' → KnowsShort s old → KnowsShort s' new
+    → (old.standing m).state ≡ Unmatched → (old.standing n).state ≡ Unmatched → PutsIn (place_at (number_of later.instruction.day) n) s s' → KnowsShort s old → KnowsShort s' new
 after_made s s' old new m n reason later two is is_later m_is n_is puts knows =
     let state : State = Matched reason in
     let register : new.register ≡ old.register = ap (λ c. c.register) is in
     let stand : new.standing ≡ standing_both old.standing m n state = ap (λ c. c.standing) is in
     let day = number_of later.instruction.day in
     let at_n = at_later old new m n state two (λ e. cc) register stand in
-    let none : (want : Want) (amount : ℕ) → is_waiting s'.waits want amount (day, n) ≡ true → ⊥ = λ want amount there.
-    let was = (knows.each (day, n)).waits want amount (sym (puts.waits want amount) ∙ there) in
-    unmatched_none old n (place_of (day, n)) n_is refl (matched_of_stand old (day, n) was.short was.day)
+    let none : (want : Want) (amount : ℕ) → is_waiting s'.waits want amount (place_at day n) ≡ true → ⊥ = λ want amount there.
+    let was = (knows.each (place_at day n)).waits want amount (sym (puts.waits want amount) ∙ there) in
+    unmatched_none old n (place_at day n) n_is refl (matched_of_stand old (place_at day n) was.short was.day)
     in
     two_stand s s' old new m n state later two (λ e. cc) register stand is_later (unmatched_free old m n m_is n_is) (λ p here. unmatched_none old m p m_is here) puts.keeps
     (λ want amount at waiting unbrought. same_not_come old new (ap (λ c. c.position) is) (ap (λ c. c.cash) is) want) knows
@@ -528,7 +529,7 @@ module _ (s s' : Shortages) (old new : Content) (m n : ℕ) (earlier later : Ins
   own : (outcome : Outcome) → IsTried old m n earlier later outcome new → t ≡ transfer_of earlier later
   own outcome tried = moves.moves earlier later tried.pair.is_earlier tried.pair.is_later
 
-  after_settled : IsTried old m n earlier later outcomes.Settled new → IsNotedSettled t (number_of later.instruction.day, n) s s' → KnowsShort s' new
+  after_settled : IsTried old m n earlier later outcomes.Settled new → IsNotedSettled t (place_at (number_of later.instruction.day) n) s s' → KnowsShort s' new
   after_settled tried noted =
       let is = tried.ends.2 in
       let same = own outcomes.Settled tried in
@@ -540,7 +541,7 @@ module _ (s s' : Shortages) (old new : Content) (m n : ℕ) (earlier later : Ins
       (not_any s' (cash_want t.deliverer t.cash) want amount at noted.more_paid waiting unbrought))
       knows
 
-  after_lack : (lack : Lack) → IsTried old m n earlier later (Lacks lack) new → IsNotedLack t lack (number_of later.instruction.day, n) s s' → KnowsShort s' new
+  after_lack : (lack : Lack) → IsTried old m n earlier later (Lacks lack) new → IsNotedLack t lack (place_at (number_of later.instruction.day) n) s s' → KnowsShort s' new
   after_lack lack tried noted =
       let parts = lacked old n m earlier later lack new tried.ends in
       let is = parts.1 in
@@ -563,12 +564,12 @@ module _ (s s' : Shortages) (old new : Content) (m n : ℕ) (earlier later : Ins
         later_waits = ap (λ z. z.state) at_n;
         pays = pays_of old earlier later lack parts.0;
       } in
-      let here = knows.each (day, n) in
+      let here = knows.each (place_at day n) in
       -- what it waits for, if it is not to be tried
-      let waits_for : (want : Want) (amount : ℕ) → is_waiting s'.waits want amount (day, n) ≡ true → (is_to_try s'.to_try (day, n) ≡ false) × IsWantOf (transfer_of earlier later) lack want amount = λ want amount waiting.
-      by_bool (is_to_try s'.to_try (day, n)) (λ there. absurd (let_go s s' old n m t day moves (noted.stays there) here want amount waiting)) (λ out. (
+      let waits_for : (want : Want) (amount : ℕ) → is_waiting s'.waits want amount (place_at day n) ≡ true → (is_to_try s'.to_try (place_at day n) ≡ false) × IsWantOf (transfer_of earlier later) lack want amount = λ want amount waiting.
+      by_bool (is_to_try s'.to_try (place_at day n)) (λ there. absurd (let_go s s' old n m t day moves (noted.stays there) here want amount waiting)) (λ out. (
         out,
-        by_bool (is_waiting s.waits want amount (day, n)) (λ before. let was = here.waits want amount before in let bad = sym was.out ∙ noted.was out in absurd (cc))
+        by_bool (is_waiting s.waits want amount (place_at day n)) (λ before. let was = here.waits want amount before in let bad = sym was.out ∙ noted.was out in absurd (cc))
             (λ before. subst (λ z. IsWantOf z lack want amount) same (noted.only out want amount waiting before)),
       ))
       in
@@ -577,25 +578,25 @@ module _ (s s' : Shortages) (old new : Content) (m n : ℕ) (earlier later : Ins
       (record {
         noted = λ known pair out. record {
           short = short;
-          waiting = subst (λ z. AreWaiting s'.waits z lack (day, n)) same (noted.waiting out);
+          waiting = subst (λ z. AreWaiting s'.waits z lack (place_at day n)) same (noted.waiting out);
         };
-        tried = λ there. matched_of_stand new (day, n) short refl;
+        tried = λ there. matched_of_stand new (place_at day n) short refl;
         waits = λ want amount waiting. let w = waits_for want amount waiting in record { short = short; day = refl; wanted = w.1; out = w.0 };
         uncovered = λ want amount waiting unbrought.
             let w = waits_for want amount waiting in
             uncovered_of new earlier later lack (lacks_same old new earlier later lack (ap (λ c. c.position) is) (ap (λ c. c.cash) is) parts.0) want amount w.1;
       })
 
-  by_outcome : (outcome : Outcome) → IsTried old m n earlier later outcome new → IsNotedTried outcome t (number_of later.instruction.day, n) s s' → KnowsShort s' new
+  by_outcome : (outcome : Outcome) → IsTried old m n earlier later outcome new → IsNotedTried outcome t (place_at (number_of later.instruction.day) n) s s' → KnowsShort s' new
   by_outcome outcomes.Settled tried noted = after_settled tried noted
   by_outcome (Lacks lack) tried noted = after_lack lack tried noted
 
-  pub after_tried : (outcome : Outcome) → IsTried old m n earlier later outcome new → IsNotedTried outcome t (number_of t.day, n) s s' → KnowsShort s' new
-  after_tried outcome tried noted = by_outcome outcome tried (subst (λ z. IsNotedTried outcome t (number_of z, n) s s') (ap (λ z. z.day) (own outcome tried)) noted)
+  pub after_tried : (outcome : Outcome) → IsTried old m n earlier later outcome new → IsNotedTried outcome t (place_at (number_of t.day) n) s s' → KnowsShort s' new
+  after_tried outcome tried noted = by_outcome outcome tried (subst (λ z. IsNotedTried outcome t (place_at (number_of z) n) s s') (ap (λ z. z.day) (own outcome tried)) noted)
 
 -- One entry more.
 
-agrees_brought : (s s' : Shortages) → Brings s s' → (at : ℕ × ℕ) → Agrees s s' at
+agrees_brought : (s s' : Shortages) → Brings s s' → (at : Place) → Agrees s s' at
 agrees_brought s s' brings at = record { to_try = ap (λ z. is_to_try z at) brings.to_try; waits = λ want amount. ap (λ z. is_waiting z want amount at) brings.waits }
 
 module _ (entry : Entry) (reply : Reply) (content : Content) where
@@ -633,14 +634,14 @@ after_appended s s' entry reply content brings brought knows = record {
   each = λ at.
       let new = appended entry reply content in
       let instructions : (k : ℕ) (i : Instructed) → instruction_at (history_of content) k ≡ Some i → instruction_at (history_of new) k ≡ Some i = λ k i is. instruction_still entry reply content k (below_next entry reply content k i is) ∙ is in
-      let not_come : (want : Want) (amount : ℕ) (q : ℕ × ℕ) → is_waiting s'.waits want amount q ≡ true → contains want_cmp s'.brought want ≡ false → HasNotCome content new want = λ want amount q is unbrought.
+      let not_come : (want : Want) (amount : ℕ) (q : Place) → is_waiting s'.waits want amount q ≡ true → contains want_cmp s'.brought want ≡ false → HasNotCome content new want = λ want amount q is unbrought.
       entry_brings entry reply content want (not_any s' (woken_by entry) want amount q brought is unbrought)
       in
       let known : s'.is_known ≡ true → s.is_known ≡ true = λ is. sym brings.known ∙ is in
-      elim (cases_eq at.1 (next entry reply content)) [
-        | inl here ↦ empty s s' content new known brings.more instructions not_come at (agrees_brought s s' brings at) (knows.each at) (λ pair. below_next entry reply content at.1 pair.later pair.is_later here) (none_at_next entry reply content (place_of at) here)
+      elim (cases_eq at.number (next entry reply content)) [
+        | inl here ↦ empty s s' content new known brings.more instructions not_come at (agrees_brought s s' brings at) (knows.each at) (λ pair. below_next entry reply content at.number pair.later pair.is_later here) (none_at_next entry reply content at here)
         | inr apart ↦
-            carried s s' content new known brings.more instructions not_come at (agrees_brought s s' brings at) (knows.each at) (instruction_still entry reply content at.1 apart) (stands_still entry reply content at.1 apart)
+            carried s s' content new known brings.more instructions not_come at (agrees_brought s s' brings at) (knows.each at) (instruction_still entry reply content at.number apart) (stands_still entry reply content at.number apart)
             (λ short. stands_still entry reply content short.mate (below_next entry reply content short.mate short.earlier short.pair.is_earlier))
       ];
 }
@@ -666,11 +667,11 @@ module _ (n : ℕ) (content : Content) (unmatched : (content.standing n).state �
   after_cancelled s knows = record {
     each = λ at.
         let new = cancelled n content in
-        let not_come : (want : Want) (amount : ℕ) (q : ℕ × ℕ) → is_waiting s.waits want amount q ≡ true → contains want_cmp s.brought want ≡ false → HasNotCome content new want = λ want amount q is unbrought. same_not_come content new refl refl want in
-        elim (cases_eq at.1 n) [
-          | inl here ↦ empty s s content new (λ known. known) (λ want there. there) (λ k i is. is) not_come at (agrees_here s at) (knows.each at) (unmatched_none content n (place_of at) unmatched here) (none_cancelled (place_of at) here)
+        let not_come : (want : Want) (amount : ℕ) (q : Place) → is_waiting s.waits want amount q ≡ true → contains want_cmp s.brought want ≡ false → HasNotCome content new want = λ want amount q is unbrought. same_not_come content new refl refl want in
+        elim (cases_eq at.number n) [
+          | inl here ↦ empty s s content new (λ known. known) (λ want there. there) (λ k i is. is) not_come at (agrees_here s at) (knows.each at) (unmatched_none content n at unmatched here) (none_cancelled at here)
           | inr apart ↦
-              carried s s content new (λ known. known) (λ want there. there) (λ k i is. is) not_come at (agrees_here s at) (knows.each at) refl (stands_cancelled at.1 apart)
-              (λ short. stands_cancelled short.mate (unmatched_apart content n at.1 short unmatched))
+              carried s s content new (λ known. known) (λ want there. there) (λ k i is. is) not_come at (agrees_here s at) (knows.each at) refl (stands_cancelled at.number apart)
+              (λ short. stands_cancelled short.mate (unmatched_apart content n at.number short unmatched))
         ];
   }

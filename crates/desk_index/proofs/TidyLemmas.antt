@@ -7,11 +7,13 @@ use Rattle.std.specs.BTreeSet.{BTreeSet, contains}
 use Rattle.desk_msg.specs.declared.writing.status.Reason.{Reason}
 use Rattle.desk_rules.specs.declared.history.entry.Instructed.{Instructed}
 use Rattle.desk_rules.specs.declared.history.standing.State.TheVariants.{Matched, Unmatched}
+use Rattle.desk_rules.specs.declared.history.pair.Place.{Place}
 use Rattle.desk_rules.specs.History.{instruction_at}
 use Rattle.desk_rules.proofs.HistoryLemmas.{instruction_at-known}
 use Rattle.std.proofs.lemmas.List.{length-map}
 use Rattle.desk_rules.specs.Content.{Content, history_of}
-use Rattle.desk_index.specs.DuePlaces.{HasDue, place_cmp}
+use Rattle.desk_index.specs.DuePlaces.{HasDue, place_at}
+use Rattle.desk_rules.specs.Places.{place_cmp}
 use Rattle.desk_index.specs.NumbersByKey.{numbered_cmp}
 use Rattle.desk_index.specs.Open.{HasOpen, key_of, match_cmp}
 use Rattle.desk_index.specs.declared.pairs.match_key.MatchKey.{MatchKey}
@@ -33,11 +35,11 @@ open_without old new content key n matched rest has = record {
   each = λ m i is unmatched. rest (key_of i, m) (other_numbered match_cmp key (key_of i) n m (λ same. matched (ap (λ k. (content.standing k).state) same ∙ unmatched))) ∙ has.each m i is unmatched;
 }
 
-pub due_without : (old new : BTreeSet (ℕ × ℕ)) (content : Content) (day n : ℕ) → ((reason : Reason) → (content.standing n).state ≡ Matched reason → ⊥)
-    → ((q : ℕ × ℕ) → is_eq (place_cmp (day, n) q) ≡ false → contains place_cmp new q ≡ contains place_cmp old q)
+pub due_without : (old new : BTreeSet Place) (content : Content) (day n : ℕ) → ((reason : Reason) → (content.standing n).state ≡ Matched reason → ⊥)
+    → ((q : Place) → is_eq (place_cmp (place_at day n) q) ≡ false → contains place_cmp new q ≡ contains place_cmp old q)
     → HasDue old content → HasDue new content
 due_without old new content day n settled rest has = record {
-  each = λ p pair. rest (p.day, p.number) (other_numbered nat_cmp day p.day n p.number (λ same. settled pair.reason (ap (λ k. (content.standing k).state) same ∙ pair.matched))) ∙ has.each p pair;
+  each = λ p pair. rest p (other_numbered nat_cmp day p.day n p.number (λ same. settled pair.reason (ap (λ k. (content.standing k).state) same ∙ pair.matched))) ∙ has.each p pair;
 }
 
 -- a content with fewer entries has no instruction of the number
@@ -55,8 +57,8 @@ open_without_later old new key n rest mark fewer has = record {
   each = λ m i is unmatched. rest (key_of i, m) (other_numbered match_cmp key (key_of i) n m (known_below mark n m i fewer is)) ∙ has.each m i is unmatched;
 }
 
-pub due_without_later : (old new : BTreeSet (ℕ × ℕ)) (day n : ℕ) → ((q : ℕ × ℕ) → is_eq (place_cmp (day, n) q) ≡ false → contains place_cmp new q ≡ contains place_cmp old q)
+pub due_without_later : (old new : BTreeSet Place) (day n : ℕ) → ((q : Place) → is_eq (place_cmp (place_at day n) q) ≡ false → contains place_cmp new q ≡ contains place_cmp old q)
     → (mark : Content) → length mark.register < n → HasDue old mark → HasDue new mark
 due_without_later old new day n rest mark fewer has = record {
-  each = λ p pair. rest (p.day, p.number) (other_numbered nat_cmp day p.day n p.number (known_below mark n p.number pair.later fewer pair.is_later)) ∙ has.each p pair;
+  each = λ p pair. rest p (other_numbered nat_cmp day p.day n p.number (known_below mark n p.number pair.later fewer pair.is_later)) ∙ has.each p pair;
 }

@@ -11,7 +11,8 @@ use Rattle.desk_rules.specs.Settlement.{is_before, is_past}
 use Rattle.desk_rules.proofs.PlaceLemmas.{before_day, before_number, before_true}
 use Rattle.desk_register.specs.Looked.{IsDue}
 use Rattle.desk_register.specs.Short.{IsToTryAfter, StaysShort}
-use Rattle.desk_index.specs.DuePlaces.{beginning, place_cmp, place_of}
+use Rattle.desk_index.specs.DuePlaces.{beginning, place_at}
+use Rattle.desk_rules.specs.Places.{place_cmp}
 use Rattle.desk_index.specs.Shortages.{KnowsShort, is_to_try}
 use Rattle.desk_index.specs.Wants.{want_cmp}
 use Rattle.desk_index.specs.declared.short.shortages.Shortages.{Shortages}
@@ -21,7 +22,7 @@ use Rattle.desk_index.proofs.ShortageLemmas.{short_of_noted}
 
 -- Where all others stay short, the first of those to be tried has none but these before it.
 
-past_beginning : (above : Option Place) (day number : ℕ) → place_cmp (beginning above) (day, number) ≡ Less → is_past above (record { day = day; number = number }) ≡ true
+past_beginning : (above : Option Place) (day number : ℕ) → place_cmp (beginning above) (place_at day number) ≡ Less → is_past above (record { day = day; number = number }) ≡ true
 past_beginning None day number e = refl
 past_beginning (Some a) day number e = by_parts a (record { day = day; number = number }) (apart_days a.day day a.number number e)
   where
@@ -33,24 +34,24 @@ past_beginning (Some a) day number e = by_parts a (record { day = day; number = 
     by_parts a p (inr both) = before_number a p both.0 both.1
 
 module _ (s : Shortages) (content : Content) (day : ℕ) (above : Option Place) (known : s.is_known ≡ true) (none : (want : Want) → contains want_cmp s.brought want ≡ false) (knows : KnowsShort s content) where
-  short_unless : (q : Place) → IsDue content day above q → (is_to_try s.to_try (q.day, q.number) ≡ true → ⊥) → StaysShort content q.number
-  short_unless q due tried = short_of_noted s content knows none known q due.pair (false_from_ne_true (is_to_try s.to_try (q.day, q.number)) tried)
+  short_unless : (q : Place) → IsDue content day above q → (is_to_try s.to_try q ≡ true → ⊥) → StaysShort content q.number
+  short_unless q due tried = short_of_noted s content knows none known q due.pair (false_from_ne_true (is_to_try s.to_try q) tried)
 
-  behind : (q : Place) → IsDue content day above q → place_cmp (beginning above) (q.day, q.number) ≡ Less
+  behind : (q : Place) → IsDue content day above q → place_cmp (beginning above) q ≡ Less
   behind q due = let pair = due.pair in let less = pair.is_earlier in behind_beginning above q (omega arith) due.above
 
-  pub none_to_try : ((q : ℕ × ℕ) → place_cmp (beginning above) q ≡ Less → is_to_try s.to_try q ≡ false) → IsToTryAfter content day above None
-  none_to_try out q due = short_unless q due (λ there. let bad = sym there ∙ out (q.day, q.number) (behind q due) in cc)
+  pub none_to_try : ((q : Place) → place_cmp (beginning above) q ≡ Less → is_to_try s.to_try q ≡ false) → IsToTryAfter content day above None
+  none_to_try out q due = short_unless q due (λ there. let bad = sym there ∙ out q (behind q due) in cc)
 
-  module _ (k : ℕ × ℕ) (least : (q : ℕ × ℕ) → place_cmp (beginning above) q ≡ Less → is_to_try s.to_try q ≡ true → IsLeBy place_cmp k q) where
-    pub past_all : day < k.0 → IsToTryAfter content day above None
+  module _ (k : Place) (least : (q : Place) → place_cmp (beginning above) q ≡ Less → is_to_try s.to_try q ≡ true → IsLeBy place_cmp k q) where
+    pub past_all : day < k.day → IsToTryAfter content day above None
     past_all late q due = short_unless q due (λ there.
-        let order = not_gt_days k.0 q.day k.1 q.number (least (q.day, q.number) (behind q due) there) in
+        let order = not_gt_days k.day q.day k.number q.number (least q (behind q due) there) in
         let by = due.by in
         omega arith)
 
-    pub first_of_tried : k.0 ≤ day → place_cmp (beginning above) k ≡ Less → is_to_try s.to_try k ≡ true → IsToTryAfter content day above (Some (place_of k))
+    pub first_of_tried : k.day ≤ day → place_cmp (beginning above) k ≡ Less → is_to_try s.to_try k ≡ true → IsToTryAfter content day above (Some k)
     first_of_tried in_time low there = (
-      record { pair = (knows.each k).tried there; by = in_time; above = past_beginning above k.0 k.1 low },
-      λ q due before. short_unless q due (λ tried. not_above k.0 q.day k.1 q.number (least (q.day, q.number) (behind q due) tried) (before_true q (place_of k) before)),
+      record { pair = (knows.each k).tried there; by = in_time; above = past_beginning above k.day k.number low },
+      λ q due before. short_unless q due (λ tried. not_above k.day q.day k.number q.number (least q (behind q due) tried) (before_true q k before)),
     )

@@ -11,13 +11,15 @@ use Rattle.desk_rules.specs.declared.history.entry.Instructed.{Instructed}
 use Rattle.desk_rules.specs.declared.history.pair.Lack.{Lack}
 use Rattle.desk_rules.specs.declared.history.pair.Lack.TheVariants.{Securities, Money}
 use Rattle.desk_rules.specs.declared.history.standing.State.TheVariants.{Matched}
+use Rattle.desk_rules.specs.declared.history.pair.Place.{Place}
 use Rattle.desk_rules.specs.Content.{Content}
 use Rattle.desk_rules.specs.History.{instruction_at}
 use Rattle.desk_rules.specs.Standing.{reason_of_lack}
 use Rattle.desk_register.specs.Changes.{empty_content}
 use Rattle.desk_lists.specs.declared.changing.transfer.Transfer.{Transfer}
 use Rattle.desk_lists.specs.Transfers.{IsTransferAt, transfer_of}
-use Rattle.desk_index.specs.DuePlaces.{AreMatched, HasDue, place_cmp, place_of}
+use Rattle.desk_index.specs.DuePlaces.{AreMatched, HasDue, place_at}
+use Rattle.desk_rules.specs.Places.{place_cmp}
 use Rattle.desk_index.specs.Shortages.{Brings, IsBrought, IsBroughtIfAny, IsNotedLack, IsNotedSettled, IsUncovered, KnowsAt, KnowsShort, PutsIn, TakesOut, is_to_try}
 use Rattle.desk_index.specs.Wants.{AreWaiting, FewerWait, IsWantOf, KeepsOtherWaits, Waits, cash_want, is_waiting, less_given, more_taken, want_cmp}
 use Rattle.desk_index.specs.declared.short.shortages.Shortages.{Shortages}
@@ -27,17 +29,17 @@ use Rattle.desk_index.proofs.ShortageLemmas.{carried, matched_of_stand, one_tran
 use Rattle.desk_index.proofs.WantOrder.{by_want}
 
 -- A place that is to be tried again.
-module _ (s s' : Shortages) (content : Content) (here : ℕ × ℕ) (want : Want) (amount : ℕ) (t : Transfer) (mate : ℕ) (lack : Lack) (knows : KnowsShort s content) (waiting : is_waiting s.waits want amount here ≡ true)
-    (moves : IsTransferAt content here.1 mate t) (told : (l : Lack) → (content.standing here.1).state ≡ Matched (reason_of_lack (Some l)) → lack ≡ l) where
+module _ (s s' : Shortages) (content : Content) (here : Place) (want : Want) (amount : ℕ) (t : Transfer) (mate : ℕ) (lack : Lack) (knows : KnowsShort s content) (waiting : is_waiting s.waits want amount here ≡ true)
+    (moves : IsTransferAt content here.number mate t) (told : (l : Lack) → (content.standing here.number).state ≡ Matched (reason_of_lack (Some l)) → lack ≡ l) where
   its_want : (want : Want) (amount : ℕ) → is_waiting s.waits want amount here ≡ true → IsWantOf t lack want amount
   its_want want amount is =
       let w = (knows.each here).waits want amount is in
-      subst (λ z. IsWantOf z lack want amount) (sym (one_transfer content here.1 mate t moves w.short)) (subst (λ l. IsWantOf (transfer_of w.short.earlier w.short.later) l want amount) (sym (told w.short.lack w.short.later_waits)) w.wanted)
+      subst (λ z. IsWantOf z lack want amount) (sym (one_transfer content here.number mate t moves w.short)) (subst (λ l. IsWantOf (transfer_of w.short.earlier w.short.later) l want amount) (sym (told w.short.lack w.short.later_waits)) w.wanted)
 
   pub this_want : IsWantOf t lack want amount
   this_want = its_want want amount waiting
 
-  pub wakes_place : (s'.is_known ≡ true → s.is_known ≡ true) → s'.brought ≡ s.brought → is_to_try s'.to_try here ≡ true → ((q : ℕ × ℕ) → is_eq (place_cmp here q) ≡ false → is_to_try s'.to_try q ≡ is_to_try s.to_try q)
+  pub wakes_place : (s'.is_known ≡ true → s.is_known ≡ true) → s'.brought ≡ s.brought → is_to_try s'.to_try here ≡ true → ((q : Place) → is_eq (place_cmp here q) ≡ false → is_to_try s'.to_try q ≡ is_to_try s.to_try q)
       → KeepsOtherWaits here s.waits s'.waits → FewerWait s.waits s'.waits → ((want : Want) (amount : ℕ) → IsWantOf t lack want amount → is_waiting s'.waits want amount here ≡ false) → KnowsShort s' content
   wakes_place known brought there others other_waits fewer gone =
       let none : (want : Want) (amount : ℕ) → is_waiting s'.waits want amount here ≡ true → ⊥ = λ want amount is. let bad = sym is ∙ gone want amount (its_want want amount (fewer.each want amount here is)) in cc in
@@ -57,7 +59,7 @@ module _ (s s' : Shortages) (content : Content) (here : ℕ × ℕ) (want : Want
 -- What was brought is taken up, once all that wait for it are uncovered.
 pub taken_up : (s s' : Shortages) (content : Content) (want : Want) → s'.is_known ≡ s.is_known → s'.to_try ≡ s.to_try → s'.waits ≡ s.waits
     → ((q : Want) → is_eq (want_cmp want q) ≡ false → contains want_cmp s'.brought q ≡ contains want_cmp s.brought q)
-    → ((amount : ℕ) (at : ℕ × ℕ) → is_waiting s.waits want amount at ≡ true → IsUncovered content want amount) → KnowsShort s content → KnowsShort s' content
+    → ((amount : ℕ) (at : Place) → is_waiting s.waits want amount at ≡ true → IsUncovered content want amount) → KnowsShort s content → KnowsShort s' content
 taken_up s s' content want known to_try waits others uncovered knows = record {
   each = λ at.
       let here = knows.each at in
@@ -90,13 +92,13 @@ known_alike s s' content known to_try waits brought knows = record {
 
 -- Those that are left wait for more than there is, or for as much as there is less than.
 
-pub more_than : (waits : Waits) (want : Want) (most found : ℕ) → most < found → ((n : ℕ) (at : ℕ × ℕ) → is_waiting waits want n at ≡ true → found ≤ n) → (amount : ℕ) (at : ℕ × ℕ) → is_waiting waits want amount at ≡ true → most < amount
+pub more_than : (waits : Waits) (want : Want) (most found : ℕ) → most < found → ((n : ℕ) (at : Place) → is_waiting waits want n at ≡ true → found ≤ n) → (amount : ℕ) (at : Place) → is_waiting waits want amount at ≡ true → most < amount
 more_than waits want most found less least amount at is = let more = least amount at is in omega arith
 
-pub none_left : (waits : Waits) (want : Want) (most : ℕ) → ((n : ℕ) (at : ℕ × ℕ) → is_waiting waits want n at ≡ false) → (amount : ℕ) (at : ℕ × ℕ) → is_waiting waits want amount at ≡ true → most < amount
+pub none_left : (waits : Waits) (want : Want) (most : ℕ) → ((n : ℕ) (at : Place) → is_waiting waits want n at ≡ false) → (amount : ℕ) (at : Place) → is_waiting waits want amount at ≡ true → most < amount
 none_left waits want most none amount at is = let bad = sym is ∙ none amount at in absurd (cc)
 
-pub no_more_than : (waits : Waits) (want : Want) (most : ℕ) → ((n : ℕ) (at : ℕ × ℕ) → most < n → is_waiting waits want n at ≡ false) → (amount : ℕ) (at : ℕ × ℕ) → is_waiting waits want amount at ≡ true → amount ≤ most
+pub no_more_than : (waits : Waits) (want : Want) (most : ℕ) → ((n : ℕ) (at : Place) → most < n → is_waiting waits want n at ≡ false) → (amount : ℕ) (at : Place) → is_waiting waits want amount at ≡ true → amount ≤ most
 no_more_than waits want most none amount at is = elim (cases_lt most amount) [ inl lt ↦ (let bad = sym is ∙ none amount at lt in absurd (cc)) | inr ge ↦ ge ]
 
 -- All matched pairs are to be tried.
@@ -105,13 +107,13 @@ pub nothing_touched : (touched : List ℕ) → length touched ≡ 0 → touched 
 nothing_touched [] e = refl
 nothing_touched (n ∷ touched) e = absurd (omega arith)
 
-pub learned : (s s' : Shortages) (matched : BTreeSet (ℕ × ℕ)) (touched : List ℕ) (content : Content) → s.is_known ≡ false → s'.waits ≡ s.waits → ((q : ℕ × ℕ) → is_to_try s'.to_try q ≡ contains place_cmp matched q)
+pub learned : (s s' : Shortages) (matched : BTreeSet Place) (touched : List ℕ) (content : Content) → s.is_known ≡ false → s'.waits ≡ s.waits → ((q : Place) → is_to_try s'.to_try q ≡ contains place_cmp matched q)
     → touched ≡ [] → HasDue matched content → AreMatched matched content touched → KnowsShort s' content
 learned s s' matched touched content unknown waits all none due only = record {
   each = λ at.
       let none_waits : (want : Want) (amount : ℕ) → is_waiting s'.waits want amount at ≡ false = λ want amount. rw (waits, s.none_waits unknown) refl in
       record {
-        noted = λ known pair out. let bad = sym (all at ∙ due.each (place_of at) pair) ∙ out in absurd (cc);
+        noted = λ known pair out. let bad = sym (all at ∙ due.each at pair) ∙ out in absurd (cc);
         tried = λ is. only.each at (sym (all at) ∙ is) (rw none refl);
         waits = λ want amount is. let bad = sym is ∙ none_waits want amount in absurd (cc);
         uncovered = λ want amount is unbrought. let bad = sym is ∙ none_waits want amount in absurd (cc);
@@ -120,8 +122,8 @@ learned s s' matched touched content unknown waits all none due only = record {
 
 -- A place that is put in, and one that is taken out.
 
-pub puts_in : (s s' : Shortages) (here : ℕ × ℕ) → (s'.is_known ≡ true → s.is_known ≡ true) → s'.waits ≡ s.waits → s'.brought ≡ s.brought → is_to_try s'.to_try here ≡ true
-    → ((q : ℕ × ℕ) → is_eq (place_cmp here q) ≡ false → is_to_try s'.to_try q ≡ is_to_try s.to_try q) → PutsIn here s s'
+pub puts_in : (s s' : Shortages) (here : Place) → (s'.is_known ≡ true → s.is_known ≡ true) → s'.waits ≡ s.waits → s'.brought ≡ s.brought → is_to_try s'.to_try here ≡ true
+    → ((q : Place) → is_eq (place_cmp here q) ≡ false → is_to_try s'.to_try q ≡ is_to_try s.to_try q) → PutsIn here s s'
 puts_in s s' here known waits brought there others = record {
   keeps = record {
     known = known;
@@ -132,14 +134,14 @@ puts_in s s' here known waits brought there others = record {
   waits = λ want amount. ap (λ z. is_waiting z want amount here) waits;
 }
 
-pub put_at : (s s' : Shortages) (number d e : ℕ) → d ≡ e → PutsIn (d, number) s s' → PutsIn (e, number) s s'
-put_at s s' number d e same puts = subst (λ z. PutsIn (z, number) s s') same puts
+pub put_at : (s s' : Shortages) (number d e : ℕ) → d ≡ e → PutsIn (place_at d number) s s' → PutsIn (place_at e number) s s'
+put_at s s' number d e same puts = subst (λ z. PutsIn (place_at z number) s s') same puts
 
 pub day_of_later : (history : List Entry) (n : ℕ) (day : Day) (later : Instructed) → Some day ≡ option_map (λ i. i.instruction.day) (instruction_at history n) → instruction_at history n ≡ Some later → day ≡ later.instruction.day
 day_of_later history n day later is at = let both : Some day ≡ Some later.instruction.day = is ∙ ap (option_map (λ i. i.instruction.day)) at in cc
 
-pub takes_out : (s s' : Shortages) (t : Transfer) (here : ℕ × ℕ) (mid : Waits) → (s'.is_known ≡ true → s.is_known ≡ true) → s'.brought ≡ s.brought → is_to_try s'.to_try here ≡ false
-    → ((q : ℕ × ℕ) → is_eq (place_cmp here q) ≡ false → is_to_try s'.to_try q ≡ is_to_try s.to_try q) → KeepsOtherWaits here s.waits mid → KeepsOtherWaits here mid s'.waits → FewerWait s.waits mid → FewerWait mid s'.waits
+pub takes_out : (s s' : Shortages) (t : Transfer) (here : Place) (mid : Waits) → (s'.is_known ≡ true → s.is_known ≡ true) → s'.brought ≡ s.brought → is_to_try s'.to_try here ≡ false
+    → ((q : Place) → is_eq (place_cmp here q) ≡ false → is_to_try s'.to_try q ≡ is_to_try s.to_try q) → KeepsOtherWaits here s.waits mid → KeepsOtherWaits here mid s'.waits → FewerWait s.waits mid → FewerWait mid s'.waits
     → ((want : Want) (amount : ℕ) → IsWantOf t Securities want amount → is_waiting mid want amount here ≡ false) → ((want : Want) (amount : ℕ) → IsWantOf t Money want amount → is_waiting s'.waits want amount here ≡ false) → TakesOut t here s s'
 takes_out s s' t here mid known brought out others first second fewer_mid fewer_new securities money = record {
   keeps = record {
@@ -157,8 +159,8 @@ takes_out s s' t here mid known brought out others first second fewer_mid fewer_
 
 -- What a pair lacks that was tried: it was known to stay short, or it is tried again, or it waits.
 
-pub lacks_otherwise : (s mid out s' : Shortages) (t : Transfer) (lack : Lack) (here : ℕ × ℕ) → (s'.is_known ≡ true → s.is_known ≡ true) → ((q : ℕ × ℕ) → is_to_try mid.to_try q ≡ is_to_try s.to_try q) → mid.waits ≡ s.waits → mid.brought ≡ s.brought
-    → TakesOut t here mid out → s'.waits ≡ out.waits → s'.brought ≡ out.brought → is_to_try s'.to_try here ≡ true → ((q : ℕ × ℕ) → is_eq (place_cmp here q) ≡ false → is_to_try s'.to_try q ≡ is_to_try out.to_try q) → IsNotedLack t lack here s s'
+pub lacks_otherwise : (s mid out s' : Shortages) (t : Transfer) (lack : Lack) (here : Place) → (s'.is_known ≡ true → s.is_known ≡ true) → ((q : Place) → is_to_try mid.to_try q ≡ is_to_try s.to_try q) → mid.waits ≡ s.waits → mid.brought ≡ s.brought
+    → TakesOut t here mid out → s'.waits ≡ out.waits → s'.brought ≡ out.brought → is_to_try s'.to_try here ≡ true → ((q : Place) → is_eq (place_cmp here q) ≡ false → is_to_try s'.to_try q ≡ is_to_try out.to_try q) → IsNotedLack t lack here s s'
 lacks_otherwise s mid out s' t lack here known same waits brought taken then_waits then_brought there others = record {
   keeps = record {
     known = known;
@@ -179,7 +181,7 @@ lacks_otherwise s mid out s' t lack here known same waits brought taken then_wai
   was = λ is. let bad = sym there ∙ is in absurd (cc);
 }
 
-pub lacks_still : (s s' : Shortages) (t : Transfer) (lack : Lack) (here : ℕ × ℕ) → (s'.is_known ≡ true → s.is_known ≡ true) → ((q : ℕ × ℕ) → is_to_try s'.to_try q ≡ is_to_try s.to_try q) → s'.waits ≡ s.waits → s'.brought ≡ s.brought
+pub lacks_still : (s s' : Shortages) (t : Transfer) (lack : Lack) (here : Place) → (s'.is_known ≡ true → s.is_known ≡ true) → ((q : Place) → is_to_try s'.to_try q ≡ is_to_try s.to_try q) → s'.waits ≡ s.waits → s'.brought ≡ s.brought
     → is_to_try s.to_try here ≡ true → IsNotedLack t lack here s s'
 lacks_still s s' t lack here known same waits brought there = record {
   keeps = record {
@@ -196,8 +198,8 @@ lacks_still s s' t lack here known same waits brought there = record {
   was = λ is. let bad = sym (same here ∙ there) ∙ is in absurd (cc);
 }
 
-pub lacks_and_waits : (s s' : Shortages) (mid : BTreeMap (ℕ × ℕ) ℕ) (t : Transfer) (lack : Lack) (here : ℕ × ℕ) → (s'.is_known ≡ true → s.is_known ≡ true) → ((q : ℕ × ℕ) → is_to_try mid q ≡ is_to_try s.to_try q) → s'.brought ≡ s.brought
-    → is_to_try s.to_try here ≡ true → is_to_try s'.to_try here ≡ false → ((q : ℕ × ℕ) → is_eq (place_cmp here q) ≡ false → is_to_try s'.to_try q ≡ is_to_try mid q)
+pub lacks_and_waits : (s s' : Shortages) (mid : BTreeMap Place ℕ) (t : Transfer) (lack : Lack) (here : Place) → (s'.is_known ≡ true → s.is_known ≡ true) → ((q : Place) → is_to_try mid q ≡ is_to_try s.to_try q) → s'.brought ≡ s.brought
+    → is_to_try s.to_try here ≡ true → is_to_try s'.to_try here ≡ false → ((q : Place) → is_eq (place_cmp here q) ≡ false → is_to_try s'.to_try q ≡ is_to_try mid q)
     → KeepsOtherWaits here s.waits s'.waits → AreWaiting s'.waits t lack here → ((want : Want) (amount : ℕ) → is_waiting s'.waits want amount here ≡ true → is_waiting s.waits want amount here ≡ false → IsWantOf t lack want amount) → IsNotedLack t lack here s s'
 lacks_and_waits s s' mid t lack here known same brought was out others other_waits waiting only = record {
   keeps = record {
@@ -212,7 +214,7 @@ lacks_and_waits s s' mid t lack here known same brought was out others other_wai
 }
 
 -- A pair that settled, once what it brings was put down.
-pub settles_and_brings : (s out one two s' : Shortages) (t : Transfer) (here : ℕ × ℕ) → TakesOut t here s out → Brings out one → IsBrought one (more_taken t) → Brings one two → IsBrought two (less_given t) → Brings two s'
+pub settles_and_brings : (s out one two s' : Shortages) (t : Transfer) (here : Place) → TakesOut t here s out → Brings out one → IsBrought one (more_taken t) → Brings one two → IsBrought two (less_given t) → Brings two s'
     → IsBroughtIfAny s' (cash_want t.deliverer t.cash) → IsNotedSettled t here s s'
 settles_and_brings s out one two s' t here taken first more second less third paid =
     let to_try : s'.to_try ≡ out.to_try = third.to_try ∙ second.to_try ∙ first.to_try in
@@ -252,7 +254,7 @@ none_in_none s none_tried none_waits = record {
       let tried : is_to_try s.to_try at ≡ false = rw none_tried refl in
       let waits : (want : Want) (amount : ℕ) → is_waiting s.waits want amount at ≡ false = λ want amount. rw none_waits refl in
       record {
-        noted = λ known pair out. absurd (none_before_first at.1 pair.is_later);
+        noted = λ known pair out. absurd (none_before_first at.number pair.is_later);
         tried = λ is. let bad = sym is ∙ tried in absurd (cc);
         waits = λ want amount is. let bad = sym is ∙ waits want amount in absurd (cc);
         uncovered = λ want amount is unbrought. let bad = sym is ∙ waits want amount in absurd (cc);

@@ -9,9 +9,10 @@ use Rattle.desk_codes.specs.declared.currency.Ccy.{Ccy}
 use Rattle.desk_msg.specs.declared.instruction.Cash.{Cash}
 use Rattle.desk_rules.specs.declared.history.pair.Lack.{Lack}
 use Rattle.desk_rules.specs.declared.history.pair.Lack.TheVariants.{Securities, Money}
+use Rattle.desk_rules.specs.declared.history.pair.Place.{Place}
 use Rattle.desk_register.proofs.CaseLemmas.{by_bool}
 use Rattle.desk_lists.specs.declared.changing.transfer.Transfer.{Transfer}
-use Rattle.desk_index.specs.DuePlaces.{place_cmp}
+use Rattle.desk_rules.specs.Places.{place_cmp}
 use Rattle.desk_index.specs.Wants.{AreWaiting, FewerWait, IsAsked, IsWantOf, KeepsOtherWaits, NoneWaits, Waits, amount_cmp, how_many, is_waiting, less_given, more_given, want_cmp}
 use Rattle.desk_index.specs.declared.short.wants.Want.{Want}
 use Rattle.desk_index.specs.declared.short.wants.Want.TheVariants.{MoreHeld, LessHeld, MoreCash}
@@ -20,32 +21,32 @@ use Rattle.desk_index.proofs.TidyLemmas.{no_second}
 use Rattle.desk_index.proofs.WantOrder.{exact_want}
 
 -- one place that waits for so much of one want is another
-abbrev pub is_same : Want → ℕ → ℕ × ℕ → Want → ℕ → ℕ × ℕ → Bool
+abbrev pub is_same : Want → ℕ → Place → Want → ℕ → Place → Bool
 is_same want amount here w a q = is_eq (want_cmp want w) && is_eq (amount_cmp (amount, here) (a, q))
 
 -- all but one wait as before
-abbrev pub KeepsOtherKeys : Want → ℕ → ℕ × ℕ → Waits → Waits → Type 0
-KeepsOtherKeys want amount here old new = (w : Want) (a : ℕ) (q : ℕ × ℕ) → is_same want amount here w a q ≡ false → is_waiting new w a q ≡ is_waiting old w a q
+abbrev pub KeepsOtherKeys : Want → ℕ → Place → Waits → Waits → Type 0
+KeepsOtherKeys want amount here old new = (w : Want) (a : ℕ) (q : Place) → is_same want amount here w a q ≡ false → is_waiting new w a q ≡ is_waiting old w a q
 
-other_place : (want w : Want) (amount a : ℕ) (here at : ℕ × ℕ) → is_eq (place_cmp here at) ≡ false → is_same want amount here w a at ≡ false
+other_place : (want w : Want) (amount a : ℕ) (here at : Place) → is_eq (place_cmp here at) ≡ false → is_same want amount here w a at ≡ false
 other_place want w amount a here at apart =
     no_second (is_eq (want_cmp want w)) (is_eq (amount_cmp (amount, here) (a, at)))
     (sym (tied_then (nat_cmp amount a) (place_cmp here at)) ∙ no_second (is_eq (nat_cmp amount a)) (is_eq (place_cmp here at)) apart)
 
-pub others_wait : (old new : Waits) (want : Want) (amount : ℕ) (here : ℕ × ℕ) → KeepsOtherKeys want amount here old new → KeepsOtherWaits here old new
+pub others_wait : (old new : Waits) (want : Want) (amount : ℕ) (here : Place) → KeepsOtherKeys want amount here old new → KeepsOtherWaits here old new
 others_wait old new want amount here others = record { each = λ w a at apart. others w a at (other_place want w amount a here at apart) }
 
-pub others_both : (here : ℕ × ℕ) (old mid new : Waits) → KeepsOtherWaits here old mid → KeepsOtherWaits here mid new → KeepsOtherWaits here old new
+pub others_both : (here : Place) (old mid new : Waits) → KeepsOtherWaits here old mid → KeepsOtherWaits here mid new → KeepsOtherWaits here old new
 others_both here old mid new first second = record { each = λ w a at apart. second.each w a at apart ∙ first.each w a at apart }
 
-one_key : (want w : Want) (amount a : ℕ) (here at : ℕ × ℕ) → is_same want amount here w a at ≡ true → (want ≡ w) × (amount ≡ a)
+one_key : (want w : Want) (amount a : ℕ) (here at : Place) → is_same want amount here w a at ≡ true → (want ≡ w) × (amount ≡ a)
 one_key want w amount a here at tied =
     let both = and_parts (is_eq (want_cmp want w)) (is_eq (amount_cmp (amount, here) (a, at))) tied in
     let parts = and_parts (is_eq (nat_cmp amount a)) (is_eq (place_cmp here at)) (tied_then (nat_cmp amount a) (place_cmp here at) ∙ both.1) in
     (exact_want want w (equal_if (want_cmp want w) both.0), exact_unsigned amount a (equal_if (nat_cmp amount a) parts.0))
 
 -- what waits now and did not is what was put in
-pub was_put : (old new : Waits) (want : Want) (amount : ℕ) (here : ℕ × ℕ) → KeepsOtherKeys want amount here old new → (w : Want) (a : ℕ) → is_waiting new w a here ≡ true → is_waiting old w a here ≡ false → (want ≡ w) × (amount ≡ a)
+pub was_put : (old new : Waits) (want : Want) (amount : ℕ) (here : Place) → KeepsOtherKeys want amount here old new → (w : Want) (a : ℕ) → is_waiting new w a here ≡ true → is_waiting old w a here ≡ false → (want ≡ w) × (amount ≡ a)
 was_put old new want amount here others w a is was = by_bool (is_same want amount here w a here)
     (λ tied. one_key want w amount a here here tied)
     (λ apart. let bad = sym is ∙ others w a here apart ∙ was in absurd (cc))
@@ -75,7 +76,7 @@ wants_less t = (refl, refl, refl, refl)
 pub wants_cash : (t : Transfer) (c : Cash) → t.cash ≡ Some c → IsWantOf t Money (MoreCash t.receiver c.ccy) c.amount
 wants_cash t c is = (refl, refl, subst (λ z. IsAsked z c.ccy c.amount) (sym is) (refl, refl))
 
-at_key : (waits : Waits) (here : ℕ × ℕ) (b : Bool) (want w : Want) (amount a : ℕ) → want ≡ w → amount ≡ a → is_waiting waits want amount here ≡ b → is_waiting waits w a here ≡ b
+at_key : (waits : Waits) (here : Place) (b : Bool) (want w : Want) (amount a : ℕ) → want ≡ w → amount ≡ a → is_waiting waits want amount here ≡ b → is_waiting waits w a here ≡ b
 at_key waits here b want w amount a same much is = subst (λ z. is_waiting waits z a here ≡ b) same (subst (λ n. is_waiting waits want n here ≡ b) much is)
 
 of_key : (t : Transfer) (lack : Lack) (want w : Want) (amount a : ℕ) → want ≡ w → amount ≡ a → IsWantOf t lack want amount → IsWantOf t lack w a
@@ -86,7 +87,7 @@ one_cash t c d first second = let both : Some c ≡ Some d = sym first ∙ secon
 
 -- Wants that are put in.
 
-module _ (t : Transfer) (here : ℕ × ℕ) where
+module _ (t : Transfer) (here : Place) where
   pub put_securities : (new : Waits) → is_waiting new (more_given t) t.quantity here ≡ true → AreWaiting new t Securities here
   put_securities new there = record { each = λ w a is. by_securities t w a is (λ same much. at_key new here true (more_given t) w t.quantity a same much there) }
 
@@ -102,7 +103,7 @@ module _ (t : Transfer) (here : ℕ × ℕ) where
   }
 
   module _ (c : Cash) (paid : t.cash ≡ Some c) where
-    pub put_money : (mid new : Waits) → is_waiting mid (less_given t) t.quantity here ≡ true → ((w : Want) (a : ℕ) (q : ℕ × ℕ) → is_waiting mid w a q ≡ true → is_waiting new w a q ≡ true)
+    pub put_money : (mid new : Waits) → is_waiting mid (less_given t) t.quantity here ≡ true → ((w : Want) (a : ℕ) (q : Place) → is_waiting mid w a q ≡ true → is_waiting new w a q ≡ true)
         → is_waiting new (MoreCash t.receiver c.ccy) c.amount here ≡ true → AreWaiting new t Money here
     put_money mid new less all more = record {
       each = λ w a is. by_money t w a is (λ same much. at_key new here true (less_given t) w t.quantity a same much (all (less_given t) t.quantity here less)) (λ d own same much.
@@ -118,7 +119,7 @@ module _ (t : Transfer) (here : ℕ × ℕ) where
 
 -- Wants that are taken out.
 
-pub fewer_wait : (old new : Waits) → ((w : Want) (a : ℕ) (q : ℕ × ℕ) → is_waiting old w a q ≡ false → is_waiting new w a q ≡ false) → ((w : Want) → how_many new w ≤ how_many old w) → FewerWait old new
+pub fewer_wait : (old new : Waits) → ((w : Want) (a : ℕ) (q : Place) → is_waiting old w a q ≡ false → is_waiting new w a q ≡ false) → ((w : Want) → how_many new w ≤ how_many old w) → FewerWait old new
 fewer_wait old new all most = record {
   each = λ w a at is. by_bool (is_waiting old w a at) (λ there. there) (λ none. let bad = sym is ∙ all w a at none in absurd (cc));
   len = most;
@@ -127,7 +128,7 @@ fewer_wait old new all most = record {
 pub fewer_both : (old mid new : Waits) → FewerWait old mid → FewerWait mid new → FewerWait old new
 fewer_both old mid new first second = record { each = λ w a at is. first.each w a at (second.each w a at is); len = λ w. let a = first.len w in let b = second.len w in omega arith }
 
-module _ (t : Transfer) (here : ℕ × ℕ) where
+module _ (t : Transfer) (here : Place) where
   pub gone_securities : (new : Waits) → is_waiting new (more_given t) t.quantity here ≡ false → (w : Want) (a : ℕ) → IsWantOf t Securities w a → is_waiting new w a here ≡ false
   gone_securities new gone w a is = by_securities t w a is (λ same much. at_key new here false (more_given t) w t.quantity a same much gone)
 
@@ -141,7 +142,7 @@ module _ (t : Transfer) (here : ℕ × ℕ) where
   less_free old new free fewer w a is there = by_money t w a is (λ same much. subst (λ z. how_many new z < how_many old z) same (fewer (at_key old here true w (less_given t) a t.quantity (sym same) (sym much) there))) (λ c paid same much. let bad = sym free ∙ paid in absurd (cc))
 
   module _ (c : Cash) (paid : t.cash ≡ Some c) where
-    pub gone_money : (mid new : Waits) → is_waiting mid (less_given t) t.quantity here ≡ false → ((w : Want) (a : ℕ) (q : ℕ × ℕ) → is_waiting mid w a q ≡ false → is_waiting new w a q ≡ false)
+    pub gone_money : (mid new : Waits) → is_waiting mid (less_given t) t.quantity here ≡ false → ((w : Want) (a : ℕ) (q : Place) → is_waiting mid w a q ≡ false → is_waiting new w a q ≡ false)
         → is_waiting new (MoreCash t.receiver c.ccy) c.amount here ≡ false → (w : Want) (a : ℕ) → IsWantOf t Money w a → is_waiting new w a here ≡ false
     gone_money mid new less all more w a is = by_money t w a is
         (λ same much. at_key new here false (less_given t) w t.quantity a same much (all (less_given t) t.quantity here less))
@@ -166,16 +167,16 @@ module _ (t : Transfer) (here : ℕ × ℕ) where
         subst (λ z. how_many new z < how_many old z) (ap (λ z. MoreCash t.receiver z.ccy) (sym one) ∙ same) (omega arith))
 
 -- where none is found none waits
-pub none_found : {X : Type 0} (waits : Waits) (want : Want) (found : Option X) → is_some found ≡ false → IfNone found ((amount : ℕ) (at : ℕ × ℕ) → is_waiting waits want amount at ≡ false) → NoneWaits waits want
+pub none_found : {X : Type 0} (waits : Waits) (want : Want) (found : Option X) → is_some found ≡ false → IfNone found ((amount : ℕ) (at : Place) → is_waiting waits want amount at ≡ false) → NoneWaits waits want
 none_found waits want None none out = record { each = out }
 none_found waits want (Some x) none out = absurd (cc)
 
 -- By the result of the last call.
-pub put_all : {E : Type 0} (r : Result (Unit {0}) E) (t : Transfer) (here : ℕ × ℕ) (new : Waits) → OnOk r (is_waiting new (more_given t) t.quantity here ≡ true) → OnOk r (AreWaiting new t Securities here)
+pub put_all : {E : Type 0} (r : Result (Unit {0}) E) (t : Transfer) (here : Place) (new : Waits) → OnOk r (is_waiting new (more_given t) t.quantity here ≡ true) → OnOk r (AreWaiting new t Securities here)
 put_all (Ok x) t here new there = put_securities t here new there
 put_all (Err e) t here new there = tt
 
-pub put_money_all : {E : Type 0} (r : Result (Unit {0}) E) (t : Transfer) (here : ℕ × ℕ) (c : Cash) → t.cash ≡ Some c → (mid new : Waits) → is_waiting mid (less_given t) t.quantity here ≡ true
-    → ((w : Want) (a : ℕ) (q : ℕ × ℕ) → is_waiting mid w a q ≡ true → is_waiting new w a q ≡ true) → OnOk r (is_waiting new (MoreCash t.receiver c.ccy) c.amount here ≡ true) → OnOk r (AreWaiting new t Money here)
+pub put_money_all : {E : Type 0} (r : Result (Unit {0}) E) (t : Transfer) (here : Place) (c : Cash) → t.cash ≡ Some c → (mid new : Waits) → is_waiting mid (less_given t) t.quantity here ≡ true
+    → ((w : Want) (a : ℕ) (q : Place) → is_waiting mid w a q ≡ true → is_waiting new w a q ≡ true) → OnOk r (is_waiting new (MoreCash t.receiver c.ccy) c.amount here ≡ true) → OnOk r (AreWaiting new t Money here)
 put_money_all (Ok x) t here c paid mid new less all more = put_money t here c paid mid new less all more
 put_money_all (Err e) t here c paid mid new less all more = tt

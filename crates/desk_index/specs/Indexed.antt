@@ -2,6 +2,7 @@
 use Rattle.std.specs.Prelude.{◌≡◌, ◌≢◌, ℕ, ◌+◌, List, [], ◌++◌, length}
 use Rattle.std.specs.BTreeSet.{BTreeSet}
 use Rattle.desk_rules.specs.declared.history.entry.Entry.{Entry}
+use Rattle.desk_rules.specs.declared.history.pair.Place.{Place}
 use Rattle.desk_register.specs.declared.register.Stage.TheVariants.{Idle, Failed}
 use Rattle.desk_index.specs.declared.entries.known.Known.{Known}
 use Rattle.desk_index.specs.declared.pairs.match_key.MatchKey.{MatchKey}
@@ -13,7 +14,7 @@ use Rattle.desk_register.specs.View.{View}
 
 -- What is found by the look-ups is found in what is held, and in what `back` goes back to. After a call that failed nothing
 -- is said of what is held.
-pub record IsIndexed (view : View) (known : Known) (open_numbers : BTreeSet (MatchKey × ℕ)) (due_places : BTreeSet (ℕ × ℕ)) (noted : List Entry) : Type 0 where
+pub record IsIndexed (view : View) (known : Known) (open_numbers : BTreeSet (MatchKey × ℕ)) (due_places : BTreeSet Place) (noted : List Entry) : Type 0 where
   pub idle : view.stage ≡ Idle → noted ≡ []
   pub keyed : AreKnown known (history_of view.mark ++ noted)
   pub grown : view.stage ≢ Failed → history_of view.content ≡ history_of view.mark ++ noted

@@ -142,5 +142,5 @@ uncovered_prop content (MoreCash bic ccy) amount = hlevel props
 pub holds_short_prop : (view : View) (shortages : Shortages) → IsProp (HoldsShort view shortages)
 holds_short_prop view shortages = hlevel (props, stands_prop, matched_prop, want_prop, uncovered_prop)
 
-pub holds_matched_prop : (view : View) (places : BTreeSet (ℕ × ℕ)) (noted : List Entry) (touched : List ℕ) → IsProp (HoldsMatched view places noted touched)
+pub holds_matched_prop : (view : View) (places : BTreeSet Place) (noted : List Entry) (touched : List ℕ) → IsProp (HoldsMatched view places noted touched)
 holds_matched_prop view places noted touched = hlevel (props, matched_prop)

@@ -8,6 +8,7 @@ use Rattle.desk_rules.specs.declared.history.entry.Instructed.{Instructed}
 use Rattle.desk_rules.specs.declared.history.pair.Lack.{Lack}
 use Rattle.desk_rules.specs.declared.history.pair.Lack.TheVariants.{Money}
 use Rattle.desk_rules.specs.declared.history.standing.State.TheVariants.{Matched}
+use Rattle.desk_rules.specs.declared.history.pair.Place.{Place}
 use Rattle.desk_rules.specs.Content.{Content}
 use Rattle.desk_rules.specs.Standing.{reason_of_lack}
 use Rattle.desk_register.specs.declared.outcome.Outcome.{Outcome}
@@ -18,14 +19,14 @@ use Rattle.desk_register.specs.Looked.{IsMatchedPair}
 use Rattle.desk_register.specs.View.{View}
 use Rattle.desk_lists.specs.declared.changing.transfer.Transfer.{Transfer}
 use Rattle.desk_lists.specs.Transfers.{transfer_of}
-use Rattle.desk_index.specs.DuePlaces.{place_cmp, place_of}
+use Rattle.desk_rules.specs.Places.{place_cmp}
 use Rattle.desk_index.specs.Wants.{AreWaiting, IsWantOf, Waits, cash_want, is_waiting, less_given, more_taken, want_cmp}
 use Rattle.desk_index.specs.declared.short.shortages.Shortages.{Shortages}
 use Rattle.desk_index.specs.declared.short.wants.Want.{Want}
 use Rattle.desk_index.specs.declared.short.wants.Want.TheVariants.{MoreHeld, LessHeld, MoreCash}
 
 -- a place is to be tried
-abbrev pub is_to_try : BTreeMap (ℕ × ℕ) ℕ → ℕ × ℕ → Bool
+abbrev pub is_to_try : BTreeMap Place ℕ → Place → Bool
 is_to_try counts at = is_some (get place_cmp counts at)
 
 -- A matched pair, by the number of its later instruction, of which both are said to lack this; it may have come since. Where
@@ -43,14 +44,14 @@ pub record StandsShort (content : Content) (n : ℕ) : Type 0 where
   pub pays : lack ≡ Money → is_some later.instruction.cash ≡ true
 
 -- the pair of a place stands short, and its place waits for all that the pair waits for
-pub record IsNoted (waits : Waits) (content : Content) (at : ℕ × ℕ) : Type 0 where
-  pub short : StandsShort content at.1
+pub record IsNoted (waits : Waits) (content : Content) (at : Place) : Type 0 where
+  pub short : StandsShort content at.number
   pub waiting : AreWaiting waits (transfer_of short.earlier short.later) short.lack at
 
 -- the pair of a place, which is not to be tried, stands short and waits for so much of this
-pub record IsWaitOf (to_try : BTreeMap (ℕ × ℕ) ℕ) (content : Content) (want : Want) (amount : ℕ) (at : ℕ × ℕ) : Type 0 where
-  pub short : StandsShort content at.1
-  pub day : number_of short.later.instruction.day ≡ at.0
+pub record IsWaitOf (to_try : BTreeMap Place ℕ) (content : Content) (want : Want) (amount : ℕ) (at : Place) : Type 0 where
+  pub short : StandsShort content at.number
+  pub day : number_of short.later.instruction.day ≡ at.day
   pub wanted : IsWantOf (transfer_of short.earlier short.later) short.lack want amount
   pub out : is_to_try to_try at ≡ false
 
@@ -62,51 +63,51 @@ IsUncovered content (MoreCash bic ccy) amount = content.cash bic ccy < amount
 
 -- What is known of a place. A matched pair is to be tried, or noted; what is to be tried is a matched pair, and what waits is
 -- one that stands short. What it waits for has not come, unless it was brought and is not taken up.
-pub record KnowsAt (s : Shortages) (content : Content) (at : ℕ × ℕ) : Type 0 where
-  pub noted : s.is_known ≡ true → IsMatchedPair content (place_of at) → is_to_try s.to_try at ≡ false → IsNoted s.waits content at
-  pub tried : is_to_try s.to_try at ≡ true → IsMatchedPair content (place_of at)
+pub record KnowsAt (s : Shortages) (content : Content) (at : Place) : Type 0 where
+  pub noted : s.is_known ≡ true → IsMatchedPair content at → is_to_try s.to_try at ≡ false → IsNoted s.waits content at
+  pub tried : is_to_try s.to_try at ≡ true → IsMatchedPair content at
   pub waits : (want : Want) (amount : ℕ) → is_waiting s.waits want amount at ≡ true → IsWaitOf s.to_try content want amount at
   pub uncovered : (want : Want) (amount : ℕ) → is_waiting s.waits want amount at ≡ true → contains want_cmp s.brought want ≡ false → IsUncovered content want amount
 
 -- of all places
 pub record KnowsShort (s : Shortages) (content : Content) : Type 0 where
-  pub each : (at : ℕ × ℕ) → KnowsAt s content at
+  pub each : (at : Place) → KnowsAt s content at
 
 -- of what is held; after a call that failed nothing is said
 pub record HoldsShort (view : View) (s : Shortages) : Type 0 where
   pub now : view.stage ≢ Failed → KnowsShort s view.content
 
 -- a place is to be tried as before, and waits as before
-pub record Agrees (old new : Shortages) (at : ℕ × ℕ) : Type 0 where
+pub record Agrees (old new : Shortages) (at : Place) : Type 0 where
   pub to_try : is_to_try new.to_try at ≡ is_to_try old.to_try at
   pub waits : (want : Want) (amount : ℕ) → is_waiting new.waits want amount at ≡ is_waiting old.waits want amount at
 
 -- what is known of other places is known as before; more may have been brought
-pub record KeepsOthers (here : ℕ × ℕ) (old new : Shortages) : Type 0 where
+pub record KeepsOthers (here : Place) (old new : Shortages) : Type 0 where
   pub known : new.is_known ≡ true → old.is_known ≡ true
-  pub others : (at : ℕ × ℕ) → is_eq (place_cmp here at) ≡ false → Agrees old new at
+  pub others : (at : Place) → is_eq (place_cmp here at) ≡ false → Agrees old new at
   pub brought : (want : Want) → contains want_cmp old.brought want ≡ true → contains want_cmp new.brought want ≡ true
 
 -- the place of a pair waits for no more than before; if it was not to be tried, for nothing that the pair may wait for
-pub record LetsGo (t : Transfer) (here : ℕ × ℕ) (old new : Shortages) : Type 0 where
+pub record LetsGo (t : Transfer) (here : Place) (old new : Shortages) : Type 0 where
   pub fewer : (want : Want) (amount : ℕ) → is_waiting new.waits want amount here ≡ true → is_waiting old.waits want amount here ≡ true
   pub none : is_to_try old.to_try here ≡ false → (lack : Lack) (want : Want) (amount : ℕ) → IsWantOf t lack want amount → is_waiting new.waits want amount here ≡ false
 
 -- the pair of a place is known no more
-pub record TakesOut (t : Transfer) (here : ℕ × ℕ) (old new : Shortages) : Type 0 where
+pub record TakesOut (t : Transfer) (here : Place) (old new : Shortages) : Type 0 where
   pub keeps : KeepsOthers here old new
   pub out : is_to_try new.to_try here ≡ false
   pub gone : LetsGo t here old new
 
 -- a place is to be tried, and waits as before
-pub record PutsIn (here : ℕ × ℕ) (old new : Shortages) : Type 0 where
+pub record PutsIn (here : Place) (old new : Shortages) : Type 0 where
   pub keeps : KeepsOthers here old new
   pub there : is_to_try new.to_try here ≡ true
   pub waits : (want : Want) (amount : ℕ) → is_waiting new.waits want amount here ≡ is_waiting old.waits want amount here
 
 -- who waits for this is known to be brought it
 pub record IsBrought (s : Shortages) (want : Want) : Type 0 where
-  pub each : (amount : ℕ) (at : ℕ × ℕ) → is_waiting s.waits want amount at ≡ true → contains want_cmp s.brought want ≡ true
+  pub each : (amount : ℕ) (at : Place) → is_waiting s.waits want amount at ≡ true → contains want_cmp s.brought want ≡ true
 
 abbrev pub IsBroughtIfAny : Shortages → Option Want → Type 0
 IsBroughtIfAny s None = Unit {0}
@@ -120,14 +121,14 @@ pub record Brings (old new : Shortages) : Type 0 where
   pub more : (want : Want) → contains want_cmp old.brought want ≡ true → contains want_cmp new.brought want ≡ true
 
 -- a pair settled
-pub record IsNotedSettled (t : Transfer) (here : ℕ × ℕ) (old new : Shortages) : Type 0 where
+pub record IsNotedSettled (t : Transfer) (here : Place) (old new : Shortages) : Type 0 where
   pub taken : TakesOut t here old new
   pub more_taken : IsBrought new (more_taken t)
   pub less_given : IsBrought new (less_given t)
   pub more_paid : IsBroughtIfAny new (cash_want t.deliverer t.cash)
 
 -- a pair lacks something: it is to be tried still, or else waits for what it lacks and for nothing else
-pub record IsNotedLack (t : Transfer) (lack : Lack) (here : ℕ × ℕ) (old new : Shortages) : Type 0 where
+pub record IsNotedLack (t : Transfer) (lack : Lack) (here : Place) (old new : Shortages) : Type 0 where
   pub keeps : KeepsOthers here old new
   pub stays : is_to_try new.to_try here ≡ true → LetsGo t here old new
   pub waiting : is_to_try new.to_try here ≡ false → AreWaiting new.waits t lack here
@@ -135,6 +136,6 @@ pub record IsNotedLack (t : Transfer) (lack : Lack) (here : ℕ × ℕ) (old new
   pub was : is_to_try new.to_try here ≡ false → is_to_try old.to_try here ≡ true
 
 -- how a pair fared
-abbrev pub IsNotedTried : Outcome → Transfer → ℕ × ℕ → Shortages → Shortages → Type 0
+abbrev pub IsNotedTried : Outcome → Transfer → Place → Shortages → Shortages → Type 0
 IsNotedTried Settled t here old new = IsNotedSettled t here old new
 IsNotedTried (Lacks lack) t here old new = IsNotedLack t lack here old new

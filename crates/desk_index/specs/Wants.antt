@@ -10,8 +10,9 @@ use Rattle.desk_rules.specs.declared.history.entry.Entry.{Entry}
 use Rattle.desk_rules.specs.declared.history.entry.Entry.TheVariants.{Issue, Redeem, PayIn}
 use Rattle.desk_rules.specs.declared.history.pair.Lack.{Lack}
 use Rattle.desk_rules.specs.declared.history.pair.Lack.TheVariants.{Securities, Money}
+use Rattle.desk_rules.specs.declared.history.pair.Place.{Place}
 use Rattle.desk_lists.specs.declared.changing.transfer.Transfer.{Transfer}
-use Rattle.desk_index.specs.DuePlaces.{place_cmp}
+use Rattle.desk_rules.specs.Places.{place_cmp}
 use Rattle.desk_index.specs.PlacesByKey.{placed_cmp}
 use Rattle.desk_index.specs.declared.short.wants.Want.{Want}
 use Rattle.desk_index.specs.declared.short.wants.Want.TheVariants.{MoreHeld, LessHeld, MoreCash}
@@ -55,22 +56,22 @@ woken_by entry = None
 abbrev pub want_cmp : Want → Want → Ordering
 want_cmp = (want_ord.ghosts).cmp
 
-abbrev pub amount_cmp : ℕ × (ℕ × ℕ) → ℕ × (ℕ × ℕ) → Ordering
+abbrev pub amount_cmp : ℕ × Place → ℕ × Place → Ordering
 amount_cmp = placed_cmp nat_cmp
 
 -- The places that wait, behind how much they wait for, under what they wait for. A place waits for so much of this, and so many
 -- wait for it.
 abbrev pub Waits : Type 0
-Waits = BTreeMap Want (BTreeSet (ℕ × (ℕ × ℕ)))
+Waits = BTreeMap Want (BTreeSet (ℕ × Place))
 
-abbrev pub is_among : Option (BTreeSet (ℕ × (ℕ × ℕ))) → ℕ → ℕ × ℕ → Bool
+abbrev pub is_among : Option (BTreeSet (ℕ × Place)) → ℕ → Place → Bool
 is_among None amount at = false
 is_among (Some places) amount at = contains amount_cmp places (amount, at)
 
-abbrev pub is_waiting : Waits → Want → ℕ → ℕ × ℕ → Bool
+abbrev pub is_waiting : Waits → Want → ℕ → Place → Bool
 is_waiting waits want amount at = is_among (get want_cmp waits want) amount at
 
-abbrev pub how_many_of : Option (BTreeSet (ℕ × (ℕ × ℕ))) → ℕ
+abbrev pub how_many_of : Option (BTreeSet (ℕ × Place)) → ℕ
 how_many_of None = 0
 how_many_of (Some places) = btree_set_len places
 
@@ -78,18 +79,18 @@ abbrev pub how_many : Waits → Want → ℕ
 how_many waits want = how_many_of (get want_cmp waits want)
 
 -- the place of a pair waits for all that the pair waits for
-pub record AreWaiting (waits : Waits) (t : Transfer) (lack : Lack) (at : ℕ × ℕ) : Type 0 where
+pub record AreWaiting (waits : Waits) (t : Transfer) (lack : Lack) (at : Place) : Type 0 where
   pub each : (want : Want) (amount : ℕ) → IsWantOf t lack want amount → is_waiting waits want amount at ≡ true
 
 -- no place waits for this
 pub record NoneWaits (waits : Waits) (want : Want) : Type 0 where
-  pub each : (amount : ℕ) (at : ℕ × ℕ) → is_waiting waits want amount at ≡ false
+  pub each : (amount : ℕ) (at : Place) → is_waiting waits want amount at ≡ false
 
 -- other places wait as before
-pub record KeepsOtherWaits (here : ℕ × ℕ) (old new : Waits) : Type 0 where
-  pub each : (want : Want) (amount : ℕ) (at : ℕ × ℕ) → is_eq (place_cmp here at) ≡ false → is_waiting new want amount at ≡ is_waiting old want amount at
+pub record KeepsOtherWaits (here : Place) (old new : Waits) : Type 0 where
+  pub each : (want : Want) (amount : ℕ) (at : Place) → is_eq (place_cmp here at) ≡ false → is_waiting new want amount at ≡ is_waiting old want amount at
 
 -- what waits has waited
 pub record FewerWait (old new : Waits) : Type 0 where
-  pub each : (want : Want) (amount : ℕ) (at : ℕ × ℕ) → is_waiting new want amount at ≡ true → is_waiting old want amount at ≡ true
+  pub each : (want : Want) (amount : ℕ) (at : Place) → is_waiting new want amount at ≡ true → is_waiting old want amount at ≡ true
   pub len : (want : Want) → how_many new want ≤ how_many old want

@@ -17,7 +17,7 @@ use crate::sent::messages::Messages;
 use crate::short::shortages::Shortages;
 use crate::sums::Sums;
 use desk_lists::ListRegister;
-use desk_rules::Entry;
+use desk_rules::{Entry, Place};
 use std::collections::BTreeSet;
 
 /// A register in lists, with look-ups beside them: what it holds is what the lists hold. Contracts see it by
@@ -31,7 +31,7 @@ pub struct IndexedRegister {
     /// The unmatched instructions by their match keys, and some that are matched since `begin` or were taken back
     pub(crate) unmatched: BTreeSet<(MatchKey, u64)>,
     /// The matched pairs by their days and numbers, and some that are settled or cancelled since `begin`
-    pub(crate) matched: BTreeSet<(u64, u64)>,
+    pub(crate) matched: BTreeSet<Place>,
     /// What was added since `begin`
     pub(crate) noted: Vec<Entry>,
     /// The numbers that came to stand otherwise since `begin`

@@ -3,11 +3,13 @@ ghost use Rattle.std.specs.Prelude.{◌≡◌, ◌≢◌, ◌+◌, ◌≤◌, �
 ghost use Rattle.std.specs.BTreeSet.{contains};
 ghost use Rattle.std.specs.Vec.{vec_capacity, vec_len};
 ghost use Rattle.desk_rules.specs.declared.history.entry.Entry.{Entry as EntryValue};
+ghost use Rattle.desk_rules.specs.declared.history.pair.Place.{Place};
 ghost use Rattle.desk_rules.specs.History.{instructed, instruction_at};
 ghost use Rattle.desk_rules.specs.Content.{Content, history_of};
 ghost use Rattle.desk_lists.specs.ListView.{view_of_lists};
 ghost use Rattle.desk_index.specs.declared.sent.heading.Heading.{Heading as HeadingValue};
-ghost use Rattle.desk_index.specs.DuePlaces.{AreMatched, ArePlaced, HoldsDue, PlacedAt, place_cmp};
+ghost use Rattle.desk_index.specs.DuePlaces.{AreMatched, ArePlaced, HoldsDue, PlacedAt};
+ghost use Rattle.desk_rules.specs.Places.{place_cmp};
 ghost use Rattle.desk_index.specs.Known.{AreKnown};
 ghost use Rattle.desk_index.specs.Messages.{AreMessagesOf};
 ghost use Rattle.desk_index.specs.Open.{HoldsOpen, OpensAt};
@@ -20,7 +22,7 @@ use crate::sent::heading::Heading;
 use crate::sent::messages::Messages;
 use desk_lists::ListRegister;
 use desk_register::Outcome;
-use desk_rules::{Entry, Instructed};
+use desk_rules::{Entry, Instructed, Place};
 use std::alloc::AllocError;
 use std::collections::BTreeSet;
 
@@ -76,7 +78,7 @@ pub fn note_entry(
 /// Notes a pair by the numbers of its two instructions, and by its place.
 pub fn note_pair(
     held: &ListRegister,
-    places: &mut BTreeSet<(u64, u64)>,
+    places: &mut BTreeSet<Place>,
     touched: &mut Vec<u64>,
     earlier: u64,
     later: u64,
@@ -123,16 +125,22 @@ fn push_both(touched: &mut Vec<u64>, earlier: u64, later: u64)
 /// Notes a pair by its place, where its number is an instruction's.
 fn place_instruction(
     held: &ListRegister,
-    places: &mut BTreeSet<(u64, u64)>,
+    places: &mut BTreeSet<Place>,
     number: u64,
 ) -> Result<(), AllocError>
     ensures all { HoldsDue places.old places.new }
     ensures opened { OnOk result (PlacedAt places.new (instruction_at (history_of (view_of_lists held.now).content) number) number) }
     ensures placed { ArePlaced places.old (history_of (view_of_lists held.now).content) → ArePlaced places.new (history_of (view_of_lists held.now).content) }
-    ensures others { (q : ℕ × ℕ) → q.1 ≢ number → contains place_cmp places.new q ≡ contains place_cmp places.old q }
+    ensures others { (q : Place) → q.number ≢ number → contains place_cmp places.new q ≡ contains place_cmp places.old q }
 {
     match held.day_of(number) {
-        Some(day) => put_key(places, (day.yyyymmdd(), number)),
+        Some(day) => put_key(
+            places,
+            Place {
+                day: day.yyyymmdd(),
+                number,
+            },
+        ),
         None => Ok(()),
     }
 }

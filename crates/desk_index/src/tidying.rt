@@ -2,11 +2,13 @@
 ghost use Rattle.std.specs.Prelude.{◌≡◌, ℕ, ◌+◌, ◌++◌, [], ◌∷◌, List, length, true, false, ◌<◌, ◌≤◌, ◌^◌};
 ghost use Rattle.std.specs.BTreeSet.{contains};
 ghost use Rattle.desk_rules.specs.declared.history.entry.Entry.{Entry as EntryValue};
+ghost use Rattle.desk_rules.specs.declared.history.pair.Place.{Place};
 ghost use Rattle.desk_rules.specs.Content.{Content, history_of};
 ghost use Rattle.desk_register.specs.Looked.{IsMatchedPair};
 ghost use Rattle.desk_lists.specs.ListView.{view_of_lists};
 ghost use Rattle.desk_index.specs.declared.sent.heading.Heading.{Heading as HeadingValue};
-ghost use Rattle.desk_index.specs.DuePlaces.{AreMatched, ArePlaced, FewerDue, HasDue, place_cmp, place_of};
+ghost use Rattle.desk_index.specs.DuePlaces.{AreMatched, ArePlaced, FewerDue, HasDue};
+ghost use Rattle.desk_rules.specs.Places.{place_cmp};
 ghost use Rattle.desk_index.specs.Indexed.{HoldsOn};
 ghost use Rattle.desk_index.specs.Known.{AreKnown};
 ghost use Rattle.desk_index.specs.Messages.{AreMessagesOf};
@@ -19,13 +21,13 @@ use crate::sent::heading::Heading;
 use crate::sent::messages::Messages;
 use desk_lists::{ListRegister, Tried};
 use desk_register::Outcome;
-use desk_rules::{Entry, State};
+use desk_rules::{Entry, Place, State};
 use std::collections::BTreeSet;
 
 /// Forgets all entries that were noted, behind so many others, and the places of pairs with their numbers.
 pub fn forget_all(
     known: &mut Known,
-    places: &mut BTreeSet<(u64, u64)>,
+    places: &mut BTreeSet<Place>,
     noted: &mut Vec<Entry>,
     count: u64,
 )
@@ -44,13 +46,19 @@ pub fn forget_all(
 }
 
 /// Takes out the place of a pair whose later instruction is an entry of this number.
-fn forget_place(places: &mut BTreeSet<(u64, u64)>, entry: &Entry, number: u64)
+fn forget_place(places: &mut BTreeSet<Place>, entry: &Entry, number: u64)
     ensures due { (mark : Content) → length mark.register < number → HasDue places.old mark → HasDue places.new mark }
     ensures placed { (history : List EntryValue) → number ≡ length history + 1 → ArePlaced places.old (history ++ entry.now ∷ []) → ArePlaced places.new history }
     ensures fewer { FewerDue places.old places.new }
 {
     if let Entry::Instruct { instruction, .. } = entry {
-        drop_key(places, (instruction.day.yyyymmdd(), number));
+        drop_key(
+            places,
+            Place {
+                day: instruction.day.yyyymmdd(),
+                number,
+            },
+        );
     }
 }
 
@@ -79,17 +87,23 @@ fn tidy_open(held: &ListRegister, numbers: &mut BTreeSet<(MatchKey, u64)>, numbe
 }
 
 /// Takes out a pair that is matched no more.
-fn tidy_due(held: &ListRegister, places: &mut BTreeSet<(u64, u64)>, number: u64)
+fn tidy_due(held: &ListRegister, places: &mut BTreeSet<Place>, number: u64)
     ensures now { HasDue places.old (view_of_lists held.now).content → HasDue places.new (view_of_lists held.now).content }
     ensures others { (mark : Content) → length mark.register < number → HasDue places.old mark → HasDue places.new mark }
     ensures fewer { FewerDue places.old places.new }
-    ensures only { ArePlaced places.old (history_of (view_of_lists held.now).content) → (q : ℕ × ℕ) → q.1 ≡ number → contains place_cmp places.new q ≡ true → IsMatchedPair (view_of_lists held.now).content (place_of q) }
+    ensures only { ArePlaced places.old (history_of (view_of_lists held.now).content) → (q : Place) → q.number ≡ number → contains place_cmp places.new q ≡ true → IsMatchedPair (view_of_lists held.now).content q }
 {
     if held.due_place(number, u64::MAX, &None).is_some() {
         return;
     }
     if let Some(day) = held.day_of(number) {
-        drop_key(places, (day.yyyymmdd(), number));
+        drop_key(
+            places,
+            Place {
+                day: day.yyyymmdd(),
+                number,
+            },
+        );
     }
 }
 
@@ -117,7 +131,7 @@ fn tidy_new_open(
 }
 
 /// Takes out a pair that is settled, where it was made since `begin`.
-fn tidy_new_due(held: &ListRegister, places: &mut BTreeSet<(u64, u64)>, noted: usize, number: u64)
+fn tidy_new_due(held: &ListRegister, places: &mut BTreeSet<Place>, noted: usize, number: u64)
     ensures due { HoldsOn (HasDue places.old) (HasDue places.new) (view_of_lists held.now).content noted }
     ensures fewer { FewerDue places.old places.new }
 {
@@ -130,7 +144,7 @@ fn tidy_new_due(held: &ListRegister, places: &mut BTreeSet<(u64, u64)>, noted: u
 pub fn tidy_new(
     held: &ListRegister,
     numbers: &mut BTreeSet<(MatchKey, u64)>,
-    places: &mut BTreeSet<(u64, u64)>,
+    places: &mut BTreeSet<Place>,
     noted: usize,
     earlier: u64,
     later: u64,
@@ -148,7 +162,7 @@ pub fn tidy_new(
 pub fn tidy_settled(
     held: &ListRegister,
     numbers: &mut BTreeSet<(MatchKey, u64)>,
-    places: &mut BTreeSet<(u64, u64)>,
+    places: &mut BTreeSet<Place>,
     noted: usize,
     number: u64,
     tried: &Tried,
@@ -166,7 +180,7 @@ pub fn tidy_settled(
 pub fn tidy_all(
     held: &ListRegister,
     numbers: &mut BTreeSet<(MatchKey, u64)>,
-    places: &mut BTreeSet<(u64, u64)>,
+    places: &mut BTreeSet<Place>,
     touched: &mut Vec<u64>,
 )
     ensures unmatched { HasOpen numbers.old (view_of_lists held.now).content → HasOpen numbers.new (view_of_lists held.now).content }

@@ -1,11 +1,13 @@
 //! The matched pairs by their settlement days and numbers.
 ghost use Rattle.std.specs.Prelude.{◌≡◌, ℕ, [], true, false, OnOk};
 ghost use Rattle.std.specs.BTreeSet.{contains};
+ghost use Rattle.desk_rules.specs.declared.history.pair.Place.{Place};
 ghost use Rattle.desk_rules.specs.Content.{Content};
 ghost use Rattle.desk_register.specs.Looked.{IsDuePairAfter};
 ghost use Rattle.desk_register.specs.Short.{IsToTryAfter};
 ghost use Rattle.desk_lists.specs.ListView.{view_of_lists};
-ghost use Rattle.desk_index.specs.DuePlaces.{HasDue, IsDueAt, IsFirstDueOf, beginning, place_cmp};
+ghost use Rattle.desk_index.specs.DuePlaces.{HasDue, IsDueAt, IsFirstDueOf, beginning};
+ghost use Rattle.desk_rules.specs.Places.{place_cmp};
 ghost use Rattle.desk_index.specs.Shortages.{KnowsShort, is_to_try};
 ghost use Rattle.desk_index.specs.Wants.{want_cmp};
 ghost use Rattle.desk_index.specs.declared.short.wants.Want.{Want as WantValue};
@@ -19,37 +21,37 @@ use std::collections::{BTreeMap, BTreeSet};
 use std::ops::Bound;
 
 /// The pair that stands at a place, where it is due by a day and above a place.
-fn due_at(held: &ListRegister, at: (u64, u64), day: u64, above: &Option<Place>) -> Option<Place>
+fn due_at(held: &ListRegister, at: Place, day: u64, above: &Option<Place>) -> Option<Place>
     ensures { IsDueAt (view_of_lists held.now).content day above.now at result }
 {
-    let place = held.due_place(at.1, day, above)?;
-    if place.day != at.0 {
+    let place = held.due_place(at.number, day, above)?;
+    if place.day != at.day {
         return None;
     }
     Some(place)
 }
 
 /// The place behind which to begin, to find what is above one.
-fn beginning(above: &Option<Place>) -> (u64, u64)
+fn beginning(above: &Option<Place>) -> Place
     ensures { result ≡ beginning above.now }
 {
     match above {
-        Some(place) => (place.day, place.number),
-        None => (0, 0),
+        Some(place) => *place,
+        None => Place { day: 0, number: 0 },
     }
 }
 
 /// The first place of a matched pair among some that is due by a day, above a place.
 fn first_due_of(
     held: &ListRegister,
-    places: &BTreeSet<(u64, u64)>,
+    places: &BTreeSet<Place>,
     day: u64,
     above: &Option<Place>,
 ) -> Option<Place>
     ensures { IsFirstDueOf places.now (view_of_lists held.now).content day above.now result }
 {
     for place in places.range((Bound::Excluded(beginning(above)), Bound::Unbounded)) {
-        if place.0 > day {
+        if place.day > day {
             return None;
         }
         if let Some(due) = due_at(held, *place, day, above) {
@@ -62,7 +64,7 @@ fn first_due_of(
 /// The first place of a matched pair that is due by a day, above a place.
 pub fn first_due(
     held: &ListRegister,
-    places: &BTreeSet<(u64, u64)>,
+    places: &BTreeSet<Place>,
     day: u64,
     above: &Option<Place>,
 ) -> Option<Place>
@@ -79,24 +81,21 @@ pub fn first_to_try(shortages: &Shortages, day: u64, above: &Option<Place>) -> O
     requires none { (want : WantValue) → contains want_cmp shortages.now.brought want ≡ false }
     ensures { (content : Content) → KnowsShort shortages.now content → IsToTryAfter content day above.now result }
 {
-    let (day_of_pair, number) = first_behind(&shortages.to_try, beginning(above))?;
-    if day_of_pair > day {
+    let place = first_behind(&shortages.to_try, beginning(above))?;
+    if place.day > day {
         return None;
     }
-    Some(Place {
-        day: day_of_pair,
-        number,
-    })
+    Some(place)
 }
 
 /// Begins to count down tries of each of some pairs, where none are counted.
 pub fn begin_each(
-    counts: &mut BTreeMap<(u64, u64), u64>,
-    places: &BTreeSet<(u64, u64)>,
+    counts: &mut BTreeMap<Place, u64>,
+    places: &BTreeSet<Place>,
     tries: u64,
 ) -> Result<(), AllocError>
     requires { counts.old.entries ≡ [] }
-    ensures { OnOk result ((q : ℕ × ℕ) → is_to_try counts.new q ≡ contains place_cmp places.now q) }
+    ensures { OnOk result ((q : Place) → is_to_try counts.new q ≡ contains place_cmp places.now q) }
 {
     for place in places {
         begin_count(counts, *place, tries)?;

@@ -10,6 +10,7 @@ ghost use Rattle.desk_codes.specs.Number.{number_of};
 ghost use Rattle.desk_rules.specs.declared.history.entry.Instructed.{Instructed as InstructedValue};
 ghost use Rattle.desk_rules.specs.declared.history.pair.Lack.{Lack as LackValue};
 ghost use Rattle.desk_rules.specs.declared.history.standing.State.TheVariants.{Matched};
+ghost use Rattle.desk_rules.specs.declared.history.pair.Place.{Place};
 ghost use Rattle.desk_rules.specs.Content.{Content, history_of};
 ghost use Rattle.desk_rules.specs.History.{instruction_at};
 ghost use Rattle.desk_rules.specs.Standing.{reason_of_lack};
@@ -17,7 +18,7 @@ ghost use Rattle.desk_register.specs.Changes.{empty_content};
 ghost use Rattle.desk_lists.specs.ListView.{view_of_lists};
 ghost use Rattle.desk_lists.specs.Transfers.{transfer_of};
 ghost use Rattle.desk_index.specs.declared.short.wants.Want.{Want as WantValue};
-ghost use Rattle.desk_index.specs.DuePlaces.{AreMatched, HasDue};
+ghost use Rattle.desk_index.specs.DuePlaces.{AreMatched, HasDue, place_at};
 ghost use Rattle.desk_index.specs.Shortages.{Brings, IsBrought, IsBroughtIfAny, IsNotedLack, IsNotedSettled, IsNotedTried, IsUncovered, KnowsShort, PutsIn, TakesOut, is_to_try};
 ghost use Rattle.desk_index.specs.Wants.{how_many, is_waiting, want_cmp, woken_by};
 
@@ -87,7 +88,7 @@ impl Shortages {
 
     /// Begins anew where nothing is known: every matched pair is to be tried. That is done where nothing stands otherwise than
     /// at `begin`, and as many pairs were tried since all was forgotten as there are, so that the tries have paid for it.
-    fn learn(&mut self, matched: &BTreeSet<(u64, u64)>, touched: &Vec<u64>)
+    fn learn(&mut self, matched: &BTreeSet<Place>, touched: &Vec<u64>)
         ensures { (content : Content) → HasDue matched.now content → AreMatched matched.now content touched.now.items → KnowsShort self.old content → KnowsShort self.new content }
     {
         if self.is_known || !touched.is_empty() || self.tries < matched.len() as u64 {
@@ -103,12 +104,7 @@ impl Shortages {
 
     /// Begins anew where nothing is known, as far as that is paid for, and takes up what was brought: who waits for what has come
     /// is to be tried again.
-    pub fn catch_up(
-        &mut self,
-        held: &ListRegister,
-        matched: &BTreeSet<(u64, u64)>,
-        touched: &Vec<u64>,
-    )
+    pub fn catch_up(&mut self, held: &ListRegister, matched: &BTreeSet<Place>, touched: &Vec<u64>)
         requires due { HasDue matched.now (view_of_lists held.now).content }
         requires only { AreMatched matched.now (view_of_lists held.now).content touched.now.items }
         requires knows { KnowsShort self.old (view_of_lists held.now).content }
@@ -126,10 +122,10 @@ impl Shortages {
 
     /// Whether the pair of a place, if a matched one stands there, is known to stay short: then a try is saved.
     pub fn passes_over(&mut self, place: &Place) -> bool
-        ensures short { result ≡ true → (self.old.is_known ≡ true) × (is_to_try self.old.to_try (place.now.day, place.now.number) ≡ false) }
+        ensures short { result ≡ true → (self.old.is_known ≡ true) × (is_to_try self.old.to_try place.now ≡ false) }
         ensures knows { (content : Content) → KnowsShort self.old content → KnowsShort self.new content }
     {
-        let is_short = self.is_known && !self.to_try.contains_key(&(place.day, place.number));
+        let is_short = self.is_known && !self.to_try.contains_key(place);
         self.saved = self.saved.saturating_add(u64::from(is_short));
         is_short
     }
@@ -144,13 +140,16 @@ impl Shortages {
     /// Notes a pair that is made, by the number of its later instruction: it is to be tried.
     pub fn note_made(&mut self, held: &ListRegister, number: u64)
         ensures { self.new.is_known ≡ true → (later : InstructedValue) → instruction_at (history_of (view_of_lists held.now).content) number ≡ Some later
-            → PutsIn (number_of later.instruction.day, number) self.old self.new }
+            → PutsIn (place_at (number_of later.instruction.day) number) self.old self.new }
     {
         if !self.is_known {
             return;
         }
         if let Some(day) = held.day_of(number) {
-            let place = (day.yyyymmdd(), number);
+            let place = Place {
+                day: day.yyyymmdd(),
+                number,
+            };
             if begin_count(&mut self.to_try, place, self.tries_of_a_note).is_err() {
                 self.forget();
             }
@@ -159,13 +158,16 @@ impl Shortages {
 
     /// Notes how the pair of a number fared that was tried.
     pub fn note_tried(&mut self, alloc: Global, number: u64, tried: &Tried)
-        ensures { self.new.is_known ≡ true → IsNotedTried tried.now.outcome tried.now.transfer (number_of tried.now.transfer.day, number) self.old self.new }
+        ensures { self.new.is_known ≡ true → IsNotedTried tried.now.outcome tried.now.transfer (place_at (number_of tried.now.transfer.day) number) self.old self.new }
     {
         if !self.is_known {
             self.tries = self.tries.saturating_add(1);
             return;
         }
-        let place = (tried.transfer.day.yyyymmdd(), number);
+        let place = Place {
+            day: tried.transfer.day.yyyymmdd(),
+            number,
+        };
         match tried.outcome {
             Outcome::Settled => self.note_settled(&tried.transfer, place),
             Outcome::Lacks(lack) => {
@@ -180,17 +182,23 @@ impl Shortages {
     pub fn note_cancelled(&mut self, held: &ListRegister, mate: u64, number: u64)
         requires { (first second : InstructedValue) × (instruction_at (history_of (view_of_lists held.now).content) mate ≡ Some first) × (instruction_at (history_of (view_of_lists held.now).content) number ≡ Some second) }
         ensures { self.new.is_known ≡ true → (earlier later : InstructedValue) → instruction_at (history_of (view_of_lists held.now).content) mate ≡ Some earlier → instruction_at (history_of (view_of_lists held.now).content) number ≡ Some later
-            → TakesOut (transfer_of earlier later) (number_of later.instruction.day, number) self.old self.new }
+            → TakesOut (transfer_of earlier later) (place_at (number_of later.instruction.day) number) self.old self.new }
     {
         if !self.is_known {
             return;
         }
         let transfer = held.transfer_of(mate, number);
-        self.take_out(&transfer, (transfer.day.yyyymmdd(), number));
+        self.take_out(
+            &transfer,
+            Place {
+                day: transfer.day.yyyymmdd(),
+                number,
+            },
+        );
     }
 
     /// Notes that the pair of a place settled.
-    fn note_settled(&mut self, transfer: &Transfer, place: (u64, u64))
+    fn note_settled(&mut self, transfer: &Transfer, place: Place)
         requires { self.old.is_known ≡ true }
         ensures { self.new.is_known ≡ true → IsNotedSettled transfer.now place self.old self.new }
     {
@@ -205,7 +213,7 @@ impl Shortages {
         &mut self,
         alloc: Global,
         transfer: &Transfer,
-        place: (u64, u64),
+        place: Place,
         lack: Lack,
     ) -> Result<(), AllocError>
         requires { self.old.is_known ≡ true }
@@ -227,7 +235,7 @@ impl Shortages {
     }
 
     /// Takes out the pair of a place. No memory is taken.
-    fn take_out(&mut self, transfer: &Transfer, place: (u64, u64))
+    fn take_out(&mut self, transfer: &Transfer, place: Place)
         requires { self.old.is_known ≡ true }
         ensures known { self.new.is_known ≡ true }
         ensures out { TakesOut transfer.now place self.old self.new }
@@ -284,7 +292,7 @@ impl Shortages {
         ensures known { self.new.is_known ≡ true }
         ensures knows { OnOk result (KnowsShort self.new (view_of_lists held.now).content) }
         ensures brought { self.new.brought ≡ self.old.brought }
-        ensures uncovered { OnOk result ((amount : ℕ) (at : ℕ × ℕ) → is_waiting self.new.waits want.now amount at ≡ true → IsUncovered (view_of_lists held.now).content want.now amount) }
+        ensures uncovered { OnOk result ((amount : ℕ) (at : Place) → is_waiting self.new.waits want.now amount at ≡ true → IsUncovered (view_of_lists held.now).content want.now amount) }
     {
         match want {
             Want::MoreHeld { account, isin } => {
@@ -304,13 +312,13 @@ impl Shortages {
         ensures known { self.new.is_known ≡ true }
         ensures knows { OnOk result (KnowsShort self.new (view_of_lists held.now).content) }
         ensures brought { self.new.brought ≡ self.old.brought }
-        ensures more { OnOk result ((amount : ℕ) (at : ℕ × ℕ) → is_waiting self.new.waits want.now amount at ≡ true → most < amount) }
+        ensures more { OnOk result ((amount : ℕ) (at : Place) → is_waiting self.new.waits want.now amount at ≡ true → most < amount) }
     {
-        while let Some((amount, (day, number))) = first_wait(&self.waits, want) {
+        while let Some((amount, place)) = first_wait(&self.waits, want) {
             if most < amount {
                 return Ok(());
             }
-            self.wake_place(held, want, amount, (day, number))?;
+            self.wake_place(held, want, amount, place)?;
         }
         Ok(())
     }
@@ -322,10 +330,10 @@ impl Shortages {
         ensures known { self.new.is_known ≡ true }
         ensures knows { OnOk result (KnowsShort self.new (view_of_lists held.now).content) }
         ensures brought { self.new.brought ≡ self.old.brought }
-        ensures less { OnOk result ((amount : ℕ) (at : ℕ × ℕ) → is_waiting self.new.waits want.now amount at ≡ true → amount ≤ most) }
+        ensures less { OnOk result ((amount : ℕ) (at : Place) → is_waiting self.new.waits want.now amount at ≡ true → amount ≤ most) }
     {
-        while let Some((amount, (day, number))) = wait_above(&self.waits, want, most) {
-            self.wake_place(held, want, amount, (day, number))?;
+        while let Some((amount, place)) = wait_above(&self.waits, want, most) {
+            self.wake_place(held, want, amount, place)?;
         }
         Ok(())
     }
@@ -336,7 +344,7 @@ impl Shortages {
         held: &ListRegister,
         want: &Want,
         amount: u64,
-        place: (u64, u64),
+        place: Place,
     ) -> Result<(), AllocError>
         requires known { self.old.is_known ≡ true }
         requires knows { KnowsShort self.old (view_of_lists held.now).content }
@@ -346,8 +354,8 @@ impl Shortages {
         ensures brought { self.new.brought ≡ self.old.brought }
         ensures fewer { OnOk result (how_many self.new.waits want.now < how_many self.old.waits want.now) }
     {
-        let standing = held.standing_at(place.1);
-        let transfer = held.transfer_of(standing.mate.unwrap(), place.1);
+        let standing = held.standing_at(place.number);
+        let transfer = held.transfer_of(standing.mate.unwrap(), place.number);
         let tries = tries_once_woken(&mut self.saved, self.tries_of_a_note);
         begin_count(&mut self.to_try, place, tries)?;
         drop_wants(&mut self.waits, &transfer, lack_told(&standing), place);

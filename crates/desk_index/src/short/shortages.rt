@@ -3,6 +3,7 @@ ghost use Rattle.std.specs.Prelude.{◌≡◌, false, []};
 
 use crate::short::waits::Waits;
 use crate::short::wants::Want;
+use desk_rules::Place;
 use std::collections::{BTreeMap, BTreeSet};
 
 /// Which matched pairs are known to stay short: all but those that are to be tried. Where memory is wanting what is known is
@@ -12,7 +13,7 @@ pub struct Shortages {
     /// Where it is false nothing is known of any pair
     pub is_known: bool,
     /// The pairs that are to be tried, by their days and numbers, each with how many tries in vain it takes until it is noted
-    pub to_try: BTreeMap<(u64, u64), u64>,
+    pub to_try: BTreeMap<Place, u64>,
     /// What each of the others waits for
     pub waits: Waits,
     /// What came that some wait for, and was not taken up

@@ -6,7 +6,7 @@ ghost use Rattle.desk_index.specs.Wants.{AreWaiting, FewerWait, KeepsOtherWaits,
 use crate::short::waits::{Waits, drop_wait, first_wait, put_wait};
 use crate::short::wants::{Want, less_given, more_given};
 use desk_lists::Transfer;
-use desk_rules::Lack;
+use desk_rules::{Lack, Place};
 use std::alloc::{AllocError, Global};
 
 /// Lets the place of a pair wait for what would end a lack.
@@ -15,7 +15,7 @@ pub fn put_wants(
     alloc: Global,
     transfer: &Transfer,
     lack: Lack,
-    place: (u64, u64),
+    place: Place,
 ) -> Result<(), AllocError>
     ensures others { KeepsOtherWaits place waits.old waits.new }
     ensures waiting { OnOk result (AreWaiting waits.new transfer.now lack place) }
@@ -44,7 +44,7 @@ pub fn put_wants(
 }
 
 /// Takes out all that the place of a pair waits for by a lack. No memory is taken.
-pub fn drop_wants(waits: &mut Waits, transfer: &Transfer, lack: Lack, place: (u64, u64))
+pub fn drop_wants(waits: &mut Waits, transfer: &Transfer, lack: Lack, place: Place)
     ensures others { KeepsOtherWaits place waits.old waits.new }
     ensures gone { (want : WantValue) (amount : ℕ) → IsWantOf transfer.now lack want amount → is_waiting waits.new want amount place ≡ false }
     ensures fewer { FewerWait waits.old waits.new }

@@ -2,7 +2,8 @@ use Rattle.std.proofs.Common.{◌∙◌}
 use Rattle.std.specs.declared.ops.Bound.TheVariants.{Excluded, Unbounded}
 use Rattle.std.proofs.lemmas.List.Kept.{IsStrictlySortedBy-filter}
 use Rattle.std.specs.BTreeMap.Range.{range_contains}
-use Rattle.desk_index.specs.DuePlaces.{place_cmp, beginning}
+use Rattle.desk_index.specs.DuePlaces.{beginning}
+use Rattle.desk_rules.specs.Places.{place_cmp}
 use Rattle.desk_lists.specs.ListView.{view_of_lists}
 use Rattle.desk_index.proofs.DueLemmas.{all_behind, all_behind_beginning, first_is_due, none_past_day, sorted_behind}
 use Rattle.desk_index.proofs.pairs.due_places.first_due_of.Goals as goal
