@@ -10,3 +10,4 @@ pub mod BicLemmas
 pub mod IsinLemmas
 pub mod DayLemmas
 pub mod SpellingLaws
+pub mod CurrencyLemmas

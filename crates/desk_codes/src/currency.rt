@@ -1,7 +1,7 @@
 //! The currencies in which the desk settles (ISO 4217).
 ghost use Rattle.std.specs.Prelude.{◌≡◌, ◌↔◌, ◌≤◌, IfSome, IfNone};
 ghost use Rattle.desk_codes.specs.declared.currency.Ccy.{Ccy};
-ghost use Rattle.desk_codes.specs.Currency.{letters_of, decimals_of};
+ghost use Rattle.desk_codes.specs.Currency.{ccy_of, letters_of, decimals_of};
 
 /// A currency of the desk (ISO 4217), in the order of the letters.
 #[derive(Clone, Copy, Debug, PartialEq, Eq, PartialOrd, Ord)]
@@ -20,11 +20,15 @@ pub enum Ccy {
     Usd,
 }
 
+/// Each currency, in the order of the letters.
+pub const CURRENCIES: [Ccy; 6] = [Ccy::Chf, Ccy::Eur, Ccy::Gbp, Ccy::Jpy, Ccy::Kwd, Ccy::Usd];
+
 impl Ccy {
     /// The currency of three capital letters; None for any other text.
     pub fn parse(text: &[u8]) -> Option<Ccy>
         ensures found { IfSome result (λ ccy. letters_of ccy ≡ text.now) }
         ensures none { IfNone result ((ccy : Ccy) → ¬ (letters_of ccy ≡ text.now)) }
+        ensures by_list { result ≡ ccy_of text.now }
     {
         match text {
             b"CHF" => Some(Ccy::Chf),
