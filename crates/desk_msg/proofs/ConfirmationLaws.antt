@@ -11,6 +11,7 @@ use Rattle.desk_codes.specs.Account.{IsAccount}
 use Rattle.desk_codes.specs.CheckDigit.{IsIsin}
 use Rattle.desk_codes.specs.Bic.{IsBic}
 use Rattle.desk_codes.proofs.BicLemmas.{shape_codes}
+use Rattle.desk_codes.proofs.CurrencyLemmas.{few_decimals}
 use Rattle.desk_codes.proofs.WrittenSpells.{written_spells}
 use Rattle.desk_text.specs.BlockGrammar.{is_printable}
 use Rattle.desk_text.specs.Fields.{Found, IsBlock}
@@ -33,7 +34,7 @@ use Rattle.desk_msg.specs.Reads.{ReadsFields, Gives, GiveAll, cash_said, instruc
 use Rattle.desk_msg.specs.ConfirmationText.{confirmation, confirmation_parts, confirming_type}
 use Rattle.desk_msg.specs.Confirms.{Confirms, confirmed_of, paid_row, paid_by, paid_said}
 use Rattle.desk_msg.proofs.PrintableLemmas.{digits-printable, printable_text}
-use Rattle.desk_msg.proofs.ConfirmedTexts.{code_text, day_text, isin_text, party_text, number_back, number_text, few_decimals, amount_printable}
+use Rattle.desk_msg.proofs.ConfirmedTexts.{code_text, day_text, isin_text, party_text, number_back, number_text, amount_printable}
 use Rattle.desk_msg.proofs.ConfirmationLemmas.{ArePrintable, IsPrintedCash, quantity_first, party_first, confirmation_right}
 use Rattle.desk_msg.proofs.ConfirmedFields.{said_fields, written_are, same_with, amount_text, paid_in, one_paid, party_value, function_given, rela_given, eset_given, security_given, settled_given, safe_given, paid_given}
 

@@ -1,15 +1,16 @@
 -- The texts of an instruction that was read are printable, and its numbers are read back.
-use Rattle.std.proofs.Common.{◌≡◌, ℕ, ◌<◌, ◌≤◌, ◌-◌, ◌%◌, ◌^◌, Bool, true, false, if◌then◌else◌, List, [], ◌∷◌, ◌++◌, length, sym, ◌∙◌, ap, inl, inr, All, take, drop, Ok, subst, arith, get_or, length-append, lit≤}
+use Rattle.std.proofs.Common.{◌≡◌, ℕ, ◌<◌, ◌≤◌, ◌-◌, ◌%◌, ◌^◌, ◌&&◌, Bool, true, false, if◌then◌else◌, List, [], ◌∷◌, ◌++◌, length, sym, ◌∙◌, ap, inl, inr, All, take, drop, Ok, subst, arith, get_or, length-append, lit≤, refl}
 use Rattle.std.specs.List.{list_all}
 use Rattle.std.proofs.lemmas.List.Elements.{All-weaker, All-take, All-append, All-cons, All-nil}
+use Rattle.std.proofs.lemmas.List.Folds.{list_all-append}
 use Rattle.std.proofs.lemmas.List.{drop_all}
 use Rattle.std.proofs.lemmas.Nat.{mod_below}
 use Rattle.std.proofs.Math.Seq.{drop-cons}
 use Rattle.desk_codes.specs.Characters.{IsPrintable, IsCodeChar, IsDigit}
 use Rattle.desk_codes.specs.Number.{written_number, ReadsNumber, SpellsNumber}
-use Rattle.desk_codes.specs.Currency.{letters_of, decimals_of}
+use Rattle.desk_codes.specs.Currency.{letters_of}
 use Rattle.desk_codes.specs.declared.currency.Ccy.{Ccy}
-use Rattle.desk_codes.specs.declared.currency.Ccy.TheVariants.{Chf, Eur, Gbp, Jpy, Kwd, Usd}
+use Rattle.desk_codes.proofs.CurrencyLemmas.{agree}
 use Rattle.desk_codes.specs.Day.{IsDay}
 use Rattle.desk_codes.specs.CheckDigit.{IsIsin, check_of, weighed_sum, expanded}
 use Rattle.desk_codes.specs.Bic.{ReadsBic, party_of}
@@ -75,18 +76,8 @@ spelled_text value d s =
 pub number_text : (value d : ℕ) → ReadsNumber (written_number value d) d (Ok value) → list_all is_printable (written_number value d) ≡ true
 number_text value d reads = spelled_text value d reads.0
 
-pub few_decimals : (ccy : Ccy) → decimals_of ccy ≤ 3
-few_decimals Chf = lit≤ tt
-few_decimals Eur = lit≤ tt
-few_decimals Gbp = lit≤ tt
-few_decimals Jpy = lit≤ tt
-few_decimals Kwd = lit≤ tt
-few_decimals Usd = lit≤ tt
+letters_printable : (ccy : Ccy) → list_all is_printable (letters_of ccy) ≡ true
+letters_printable = agree (λ ccy. list_all is_printable (letters_of ccy)) (λ ccy. true) refl
 
 pub amount_printable : (ccy : Ccy) (number : List ℕ) → list_all is_printable number ≡ true → list_all is_printable (letters_of ccy ++ number) ≡ true
-amount_printable Chf number p = p
-amount_printable Eur number p = p
-amount_printable Gbp number p = p
-amount_printable Jpy number p = p
-amount_printable Kwd number p = p
-amount_printable Usd number p = p
+amount_printable ccy number p = list_all-append is_printable (letters_of ccy) number ∙ ap (λ b. b && list_all is_printable number) (letters_printable ccy) ∙ p

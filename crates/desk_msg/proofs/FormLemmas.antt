@@ -7,7 +7,7 @@ use Rattle.desk_codes.specs.declared.number.NumberFault.{NumberFault}
 use Rattle.desk_codes.specs.declared.number.NumberFault.TheVariants.{Shape, TooLong, Decimals, Zero}
 use Rattle.desk_codes.specs.Currency.{letters_of, decimals_of}
 use Rattle.desk_codes.specs.declared.currency.Ccy.{Ccy}
-use Rattle.desk_codes.specs.declared.currency.Ccy.TheVariants.{Chf, Eur, Gbp, Jpy, Kwd, Usd}
+use Rattle.desk_codes.proofs.CurrencyLemmas.{known_by_letters, three_letters}
 use Rattle.desk_codes.proofs.NumberLemmas.{one_shape, digits_no_comma}
 use Rattle.desk_codes.proofs.SpellingLaws.{one_value_each, written_shortest}
 use Rattle.desk_codes.specs.Day.{IsDay}
@@ -44,42 +44,10 @@ pub written_fits : (text : List ℕ) (d value : ℕ) → value < 2 ^ 64 → d �
 written_fits text d value small few read =
     let shorter : length (written_number value d) ≤ length text = written_shortest text value d small few read.0 in omega (arith, shorter, read.1)
 
--- a currency is known by its first letter
-ccy_of : ℕ → Ccy
-ccy_of c = if c == 67 then Chf else if c == 69 then Eur else if c == 71 then Gbp else if c == 74 then Jpy else if c == 75 then Kwd else Usd
-
-ccy_again : (ccy : Ccy) → ccy_of (get_or (letters_of ccy) 0 0) ≡ ccy
-unfolding ccy_of
-ccy_again Chf = refl
-ccy_again Eur = refl
-ccy_again Gbp = refl
-ccy_again Jpy = refl
-ccy_again Kwd = refl
-ccy_again Usd = refl
-
-pub one_ccy : (a b : Ccy) → letters_of a ≡ letters_of b → a ≡ b
-one_ccy a b e = sym (ccy_again a) ∙ ap (λ letters. ccy_of (get_or letters 0 0)) e ∙ ccy_again b
-
-three_letters : (ccy : Ccy) → length (letters_of ccy) ≡ 3
-three_letters Chf = refl
-three_letters Eur = refl
-three_letters Gbp = refl
-three_letters Jpy = refl
-three_letters Kwd = refl
-three_letters Usd = refl
-
-pub few_decimals : (ccy : Ccy) → decimals_of ccy ≤ 3
-few_decimals Chf = omega arith
-few_decimals Eur = omega arith
-few_decimals Gbp = omega arith
-few_decimals Jpy = omega arith
-few_decimals Kwd = omega arith
-few_decimals Usd = omega arith
-
 -- an amount is of one currency and has one number
 pub one_amount_text : (a b : Ccy) (m n : List ℕ) → letters_of a ++ m ≡ letters_of b ++ n → (a ≡ b) × (m ≡ n)
 one_amount_text a b m n e =
-    let parts = one_cut (letters_of a) (letters_of b) m n (three_letters a ∙ sym (three_letters b)) e in (one_ccy a b parts.0, parts.1)
+    let parts = one_cut (letters_of a) (letters_of b) m n (three_letters a ∙ sym (three_letters b)) e in (known_by_letters a b parts.0, parts.1)
 
 -- where the number of an amount has a fault, the text is no amount
 pub amount_excludes : (text number : List ℕ) (ccy : Ccy) (fault : NumberFault) → text ≡ letters_of ccy ++ number → ReadsNumber number (decimals_of ccy) (Err fault) → (y : Ccy × ℕ) → IsAmountText text y.0 y.1 → ⊥

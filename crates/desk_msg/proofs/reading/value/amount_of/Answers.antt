@@ -1,7 +1,8 @@
 use Rattle.std.proofs.Common.{◌++◌, ◌<◌, ◌^◌, ap, sym, ◌∙◌, subst, ℕ, Ok, Err, arith}
 use Rattle.desk_codes.specs.Number.{ReadsNumber}
 use Rattle.desk_codes.specs.Currency.{decimals_of}
-use Rattle.desk_msg.proofs.FormLemmas.{written_fits, amount_excludes, few_decimals}
+use Rattle.desk_codes.proofs.CurrencyLemmas.{few_decimals}
+use Rattle.desk_msg.proofs.FormLemmas.{written_fits, amount_excludes}
 use Rattle.desk_msg.proofs.reading.value.amount_of.Goals as goal
 
 pub invariant_of-result : goal.invariant_of-result
