@@ -3,7 +3,7 @@ use Rattle.std.proofs.Common.{◌≡◌, ◌≢◌, ℕ, zero, suc, ◌<◌, ◌
 use Rattle.std.proofs.lemmas.Bool.{cases_Bool, cases_lt, cases_eq, both_ways, false≢true}
 use Rattle.std.proofs.lemmas.Slice.Eq.{bytes_eq-Decides}
 use Rattle.desk_codes.specs.declared.currency.Ccy.{Ccy}
-use Rattle.desk_codes.specs.declared.currency.Ccy.TheVariants.{Chf, Eur, Gbp, Jpy, Kwd, Usd}
+use Rattle.desk_codes.proofs.CurrencyLemmas.{known_by_letters}
 use Rattle.desk_codes.specs.Currency.{letters_of}
 use Rattle.desk_msg.specs.declared.instruction.Kind.{Kind}
 use Rattle.desk_msg.specs.declared.instruction.Kind.TheVariants.{Unit as Units, FaceAmount}
@@ -51,42 +51,7 @@ either_Kind Units FaceAmount = inr (λ e. cc)
 either_Kind FaceAmount Units = inr (λ e. cc)
 
 pub same_ccy-true : (a b : Ccy) → same_ccy a b ≡ true → a ≡ b
-same_ccy-true Chf Chf e = refl
-same_ccy-true Chf Eur e = absurd (false≢true e)
-same_ccy-true Chf Gbp e = absurd (false≢true e)
-same_ccy-true Chf Jpy e = absurd (false≢true e)
-same_ccy-true Chf Kwd e = absurd (false≢true e)
-same_ccy-true Chf Usd e = absurd (false≢true e)
-same_ccy-true Eur Chf e = absurd (false≢true e)
-same_ccy-true Eur Eur e = refl
-same_ccy-true Eur Gbp e = absurd (false≢true e)
-same_ccy-true Eur Jpy e = absurd (false≢true e)
-same_ccy-true Eur Kwd e = absurd (false≢true e)
-same_ccy-true Eur Usd e = absurd (false≢true e)
-same_ccy-true Gbp Chf e = absurd (false≢true e)
-same_ccy-true Gbp Eur e = absurd (false≢true e)
-same_ccy-true Gbp Gbp e = refl
-same_ccy-true Gbp Jpy e = absurd (false≢true e)
-same_ccy-true Gbp Kwd e = absurd (false≢true e)
-same_ccy-true Gbp Usd e = absurd (false≢true e)
-same_ccy-true Jpy Chf e = absurd (false≢true e)
-same_ccy-true Jpy Eur e = absurd (false≢true e)
-same_ccy-true Jpy Gbp e = absurd (false≢true e)
-same_ccy-true Jpy Jpy e = refl
-same_ccy-true Jpy Kwd e = absurd (false≢true e)
-same_ccy-true Jpy Usd e = absurd (false≢true e)
-same_ccy-true Kwd Chf e = absurd (false≢true e)
-same_ccy-true Kwd Eur e = absurd (false≢true e)
-same_ccy-true Kwd Gbp e = absurd (false≢true e)
-same_ccy-true Kwd Jpy e = absurd (false≢true e)
-same_ccy-true Kwd Kwd e = refl
-same_ccy-true Kwd Usd e = absurd (false≢true e)
-same_ccy-true Usd Chf e = absurd (false≢true e)
-same_ccy-true Usd Eur e = absurd (false≢true e)
-same_ccy-true Usd Gbp e = absurd (false≢true e)
-same_ccy-true Usd Jpy e = absurd (false≢true e)
-same_ccy-true Usd Kwd e = absurd (false≢true e)
-same_ccy-true Usd Usd e = refl
+same_ccy-true a b e = let d = bytes_eq-Decides (letters_of a) (letters_of b) in known_by_letters a b (d.0 e)
 
 pub same_ccy-refl : (a : Ccy) → same_ccy a a ≡ true
 same_ccy-refl a = let d = bytes_eq-Decides (letters_of a) (letters_of a) in d.1 refl

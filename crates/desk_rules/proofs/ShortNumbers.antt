@@ -1,10 +1,10 @@
 -- A number whose written form has at most 15 characters is small.
-use Rattle.std.proofs.Common.{◌≡◌, ℕ, ◌+◌, ◌*◌, ◌/◌, ◌%◌, ◌^◌, ◌<◌, ◌≤◌, [], ◌∷◌, ◌++◌, length, refl, arith, length-append, add-one}
+use Rattle.std.proofs.Common.{◌≡◌, ℕ, zero, suc, ◌+◌, ◌*◌, ◌/◌, ◌%◌, ◌^◌, ◌<◌, ◌≤◌, [], ◌∷◌, ◌++◌, length, refl, arith, length-append, add-one}
 use Rattle.std.specs.Fmt.{decimal}
 use Rattle.std.proofs.lemmas.Fmt.{decimal_by_steps}
 use Rattle.std.proofs.Math.Nat.{pow-succ', pow-le-pow_right}
 use Rattle.desk_codes.specs.declared.currency.Ccy.{Ccy}
-use Rattle.desk_codes.specs.declared.currency.Ccy.TheVariants.{Chf, Eur, Gbp, Jpy, Kwd, Usd}
+use Rattle.desk_codes.proofs.CurrencyLemmas.{few_decimals}
 use Rattle.desk_codes.specs.Currency.{decimals_of}
 use Rattle.desk_codes.specs.Number.{written_number, fraction}
 
@@ -27,6 +27,11 @@ short_whole v small short =
     let lt : v / 10 ^ 0 < 10 ^ 14 = whole_bound (v / 10 ^ 0) 14 (omega arith) (whole_digits v 0 short) in
     omega arith
 
+short_tenths : (v : ℕ) → v < 2 ^ 64 → length (written_number v 1) ≤ 15 → v ≤ 10 ^ 18
+short_tenths v small short =
+    let lt : v / 10 ^ 1 < 10 ^ 14 = whole_bound (v / 10 ^ 1) 14 (omega arith) (whole_digits v 1 short) in
+    omega arith
+
 short_cents : (v : ℕ) → v < 2 ^ 64 → length (written_number v 2) ≤ 15 → v ≤ 10 ^ 18
 short_cents v small short =
     let lt : v / 10 ^ 2 < 10 ^ 14 = whole_bound (v / 10 ^ 2) 14 (omega arith) (whole_digits v 2 short) in
@@ -40,10 +45,12 @@ short_thousandths v small short =
 pub short_quantity : (v : ℕ) → v < 2 ^ 64 → length (written_number v 0) ≤ 15 → v ≤ 10 ^ 18
 short_quantity = short_whole
 
+short_number : (d : ℕ) (v : ℕ) → d ≤ 3 → v < 2 ^ 64 → length (written_number v d) ≤ 15 → v ≤ 10 ^ 18
+short_number zero v few small short = short_whole v small short
+short_number (suc zero) v few small short = short_tenths v small short
+short_number (suc (suc zero)) v few small short = short_cents v small short
+short_number (suc (suc (suc zero))) v few small short = short_thousandths v small short
+short_number (suc (suc (suc (suc d)))) v few small short = absurd (omega arith)
+
 pub short_amount : (ccy : Ccy) (v : ℕ) → v < 2 ^ 64 → length (written_number v (decimals_of ccy)) ≤ 15 → v ≤ 10 ^ 18
-short_amount Chf v small short = short_cents v small short
-short_amount Eur v small short = short_cents v small short
-short_amount Gbp v small short = short_cents v small short
-short_amount Jpy v small short = short_whole v small short
-short_amount Kwd v small short = short_thousandths v small short
-short_amount Usd v small short = short_cents v small short
+short_amount ccy v small short = short_number (decimals_of ccy) v (few_decimals ccy) small short
