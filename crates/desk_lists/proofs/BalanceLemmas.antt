@@ -8,8 +8,7 @@ use Rattle.std.proofs.lemmas.Bool.Decides.{nat_tests}
 use Rattle.std.proofs.lemmas.Map.Text.{is_eq-slice_cmp}
 use Rattle.std.specs.declared.cmp.Ordering.{Ordering}
 use Rattle.desk_codes.specs.declared.currency.Ccy.{Ccy}
-use Rattle.desk_codes.specs.declared.currency.Ccy.TheVariants.{Chf, Eur, Gbp, Jpy, Kwd, Usd}
-use Rattle.desk_codes.specs.contracts.currency.CcyOrd.TheImpl as ccy_ord
+use Rattle.desk_codes.proofs.CurrencyLemmas.{ccy_cmp, tied_by_letters}
 use Rattle.desk_codes.specs.Currency.{letters_of}
 use Rattle.desk_rules.specs.Balances.{same_ccy}
 use Rattle.desk_rules.proofs.Deciding.{same_ccy-true}
@@ -44,33 +43,11 @@ key_refl (Paid ccy) = bytes_refl (letters_of ccy)
 
 -- The order of the keys ties exactly those that are one.
 
-abbrev ccy_cmp : Ccy → Ccy → Ordering
-ccy_cmp = (ccy_ord.ghosts).cmp
-
-by_ccy : (P : Ccy → Type 0) → P Chf → P Eur → P Gbp → P Jpy → P Kwd → P Usd → (c : Ccy) → P c
-by_ccy P chf eur gbp jpy kwd usd Chf = chf
-by_ccy P chf eur gbp jpy kwd usd Eur = eur
-by_ccy P chf eur gbp jpy kwd usd Gbp = gbp
-by_ccy P chf eur gbp jpy kwd usd Jpy = jpy
-by_ccy P chf eur gbp jpy kwd usd Kwd = kwd
-by_ccy P chf eur gbp jpy kwd usd Usd = usd
-
-pub tied_ccy : (a b : Ccy) → is_eq (ccy_cmp a b) ≡ same_ccy a b
-tied_ccy a b =
-    by_ccy (λ x. (y : Ccy) → is_eq (ccy_cmp x y) ≡ same_ccy x y)
-    (by_ccy (λ y. is_eq (ccy_cmp Chf y) ≡ same_ccy Chf y) refl refl refl refl refl refl)
-    (by_ccy (λ y. is_eq (ccy_cmp Eur y) ≡ same_ccy Eur y) refl refl refl refl refl refl)
-    (by_ccy (λ y. is_eq (ccy_cmp Gbp y) ≡ same_ccy Gbp y) refl refl refl refl refl refl)
-    (by_ccy (λ y. is_eq (ccy_cmp Jpy y) ≡ same_ccy Jpy y) refl refl refl refl refl refl)
-    (by_ccy (λ y. is_eq (ccy_cmp Kwd y) ≡ same_ccy Kwd y) refl refl refl refl refl refl)
-    (by_ccy (λ y. is_eq (ccy_cmp Usd y) ≡ same_ccy Usd y) refl refl refl refl refl refl)
-    a b
-
 pub tied_keys : (a b : BalanceKey) → is_eq (balance_cmp a b) ≡ is_key a b
 tied_keys (Position account isin) (Position a i) = sym (tied_then (text_cmp account a) (text_cmp isin i)) ∙ (λ k. is_eq-slice_cmp account a k && is_eq-slice_cmp isin i k)
 tied_keys (Outstanding isin) (Outstanding i) = is_eq-slice_cmp isin i
-tied_keys (Cash bic ccy) (Cash b c) = sym (tied_then (text_cmp bic b) (ccy_cmp ccy c)) ∙ (λ k. is_eq-slice_cmp bic b k && tied_ccy ccy c k)
-tied_keys (Paid ccy) (Paid c) = tied_ccy ccy c
+tied_keys (Cash bic ccy) (Cash b c) = sym (tied_then (text_cmp bic b) (ccy_cmp ccy c)) ∙ (λ k. is_eq-slice_cmp bic b k && tied_by_letters ccy c k)
+tied_keys (Paid ccy) (Paid c) = tied_by_letters ccy c
 tied_keys (Position account isin) (Outstanding i) = refl
 tied_keys (Position account isin) (Cash b c) = refl
 tied_keys (Position account isin) (Paid c) = refl
