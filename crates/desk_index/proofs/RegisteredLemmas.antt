@@ -8,7 +8,7 @@ use Rattle.std.proofs.lemmas.List.{append-nil, map-append}
 use Rattle.std.proofs.lemmas.List.Elements.{filter_map-append}
 use Rattle.std.proofs.lemmas.Map.Text.{is_eq-slice_cmp}
 use Rattle.desk_codes.specs.declared.currency.Ccy.{Ccy}
-use Rattle.desk_codes.specs.declared.currency.Ccy.TheVariants.{Chf, Eur, Gbp, Jpy, Kwd, Usd}
+use Rattle.desk_codes.proofs.CurrencyLemmas.{tied_by_letters}
 use Rattle.desk_codes.specs.Number.{number_of}
 use Rattle.desk_msg.specs.declared.instruction.Kind.{Kind}
 use Rattle.desk_rules.specs.Balances.{same_ccy}
@@ -27,42 +27,7 @@ use Rattle.desk_index.proofs.FirstLemmas.{first_forgotten, first_kept, first_not
 
 -- two currencies are one where they tie in their order
 ccy_test : (a b : Ccy) → same_ccy a b ≡ is_eq (ccy_cmp a b)
-ccy_test Chf Chf = refl
-ccy_test Chf Eur = refl
-ccy_test Chf Gbp = refl
-ccy_test Chf Jpy = refl
-ccy_test Chf Kwd = refl
-ccy_test Chf Usd = refl
-ccy_test Eur Chf = refl
-ccy_test Eur Eur = refl
-ccy_test Eur Gbp = refl
-ccy_test Eur Jpy = refl
-ccy_test Eur Kwd = refl
-ccy_test Eur Usd = refl
-ccy_test Gbp Chf = refl
-ccy_test Gbp Eur = refl
-ccy_test Gbp Gbp = refl
-ccy_test Gbp Jpy = refl
-ccy_test Gbp Kwd = refl
-ccy_test Gbp Usd = refl
-ccy_test Jpy Chf = refl
-ccy_test Jpy Eur = refl
-ccy_test Jpy Gbp = refl
-ccy_test Jpy Jpy = refl
-ccy_test Jpy Kwd = refl
-ccy_test Jpy Usd = refl
-ccy_test Kwd Chf = refl
-ccy_test Kwd Eur = refl
-ccy_test Kwd Gbp = refl
-ccy_test Kwd Jpy = refl
-ccy_test Kwd Kwd = refl
-ccy_test Kwd Usd = refl
-ccy_test Usd Chf = refl
-ccy_test Usd Eur = refl
-ccy_test Usd Gbp = refl
-ccy_test Usd Jpy = refl
-ccy_test Usd Kwd = refl
-ccy_test Usd Usd = refl
+ccy_test a b = sym (tied_by_letters a b)
 
 -- what one entry more says
 

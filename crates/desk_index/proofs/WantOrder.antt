@@ -6,14 +6,14 @@ use Rattle.std.proofs.lemmas.Map.Lookups.{CmpEqualImpliesEq, exact_bytes, exact_
 use Rattle.desk_codes.specs.contracts.currency.CcyOrd.TheImpl as ccy_ord
 use Rattle.desk_rules.proofs.Deciding.{same_ccy-true}
 use Rattle.desk_register.proofs.CaseLemmas.{by_bool}
-use Rattle.desk_lists.proofs.BalanceLemmas.{tied_ccy}
+use Rattle.desk_codes.proofs.CurrencyLemmas.{tied_by_letters}
 use Rattle.desk_index.specs.Wants.{want_cmp}
 use Rattle.desk_index.specs.declared.short.wants.Want.{Want}
 use Rattle.desk_index.specs.declared.short.wants.Want.TheVariants.{MoreHeld, LessHeld, MoreCash}
 use Rattle.desk_index.proofs.PlaceCases.{equal_if}
 
 exact_ccy : CmpEqualImpliesEq (ccy_ord.ghosts).cmp
-exact_ccy a b e = same_ccy-true a b (sym (tied_ccy a b) ∙ ap is_eq e)
+exact_ccy a b e = same_ccy-true a b (sym (tied_by_letters a b) ∙ ap is_eq e)
 
 pub exact_want : CmpEqualImpliesEq want_cmp
 exact_want (MoreHeld a i) (MoreHeld b j) e = ap (λ z. MoreHeld z.0 z.1) (exact_pairs (slice_cmp nat_cmp) (slice_cmp nat_cmp) exact_bytes exact_bytes (a, i) (b, j) e)
