@@ -11,7 +11,7 @@ use Rattle.desk_codes.specs.Currency.{decimals_of}
 use Rattle.desk_codes.proofs.BicLemmas.{own_branch, same_bytes}
 use Rattle.desk_msg.specs.declared.instruction.Cash.{Cash}
 use Rattle.desk_msg.specs.Profile.{IsCode}
-use Rattle.desk_msg.proofs.FormLemmas.{few_decimals}
+use Rattle.desk_codes.proofs.CurrencyLemmas.{few_decimals}
 use Rattle.desk_msg.proofs.ConfirmationLaws.{IsReadCash, short_number}
 use Rattle.desk_rules.proofs.SmallNumbers.{short_is_small}
 
