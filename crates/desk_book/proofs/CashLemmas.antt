@@ -1,14 +1,15 @@
 -- The currencies that were paid in, gathered one by one in the order of their letters.
-use Rattle.std.proofs.Common.{◌≡◌, inl, inr, ℕ, zero, suc, ◌+◌, ◌<◌, ◌≤◌, true, false, List, [], ◌∷◌, ◌++◌, Contains, AllPairs, Some, None, cond, eqb, get_or, refl, sym, ap, ◌∙◌, subst, arith, append_assoc, append-nil}
+use Rattle.std.proofs.Common.{◌≡◌, inl, inr, ℕ, zero, suc, ◌+◌, ◌<◌, ◌≤◌, true, false, List, [], ◌∷◌, ◌++◌, length, Contains, AllPairs, Some, None, get_or, refl, sym, ap, ◌∙◌, subst, arith, append_assoc, append-nil}
 use Rattle.std.specs.List.{list_any}
-use Rattle.std.specs.Prelude.{slice_index_or}
 use Rattle.std.proofs.lemmas.Bool.{cases_Bool, cases_lt, or_cases, or_parts}
 use Rattle.std.proofs.lemmas.List.Elements.{Contains-get_or, Contains-append_left, Contains-push, Contains-push_cases}
 use Rattle.std.proofs.lemmas.List.Quantifiers.{all_pairs_push}
 use Rattle.std.proofs.lemmas.List.Sums.{sum_by-cons}
-use Rattle.desk_codes.specs.Currency.{letters_of}
+use Rattle.desk_codes.specs.Currency.{letters_of, place_of}
 use Rattle.desk_codes.specs.declared.currency.Ccy.{Ccy}
-use Rattle.desk_codes.specs.declared.currency.Ccy.TheVariants.{Chf, Eur, Gbp, Jpy, Kwd, Usd}
+use Rattle.desk_codes.specs.declared.currency.Ccy.TheVariants.{Chf}
+use Rattle.desk_codes.specs.declared.currency.TheConstants.{CURRENCIES}
+use Rattle.desk_codes.proofs.CurrencyLemmas.{below_all, less_before, same_place, stands_at}
 use Rattle.desk_rules.specs.declared.history.entry.Entry.{Entry}
 use Rattle.desk_rules.specs.declared.history.entry.Entry.TheVariants.{PayIn}
 use Rattle.desk_rules.specs.Balances.{paid_in, paid_in_by, paid_out, payment_in, same_ccy}
@@ -21,79 +22,6 @@ use Rattle.desk_engine.proofs.HeldLemmas.{held_cash_adds_up}
 use Rattle.desk_book.specs.declared.answers.total.CashTotal.{CashTotal}
 use Rattle.desk_book.specs.Totals.{AreCashTotals, IsCashTotal, TotalsCash}
 use Rattle.desk_book.proofs.ListedLemmas.{contains_none}
-
--- The order of the currencies.
-
--- the place of a currency in the order of the letters, from 0
-abbrev pub place : Ccy → ℕ
-place Chf = 0
-place Eur = 1
-place Gbp = 2
-place Jpy = 3
-place Kwd = 4
-place Usd = 5
-
-ccy_at : ℕ → Ccy
-ccy_at k = cond (eqb k 0) Chf (cond (eqb k 1) Eur (cond (eqb k 2) Gbp (cond (eqb k 3) Jpy (cond (eqb k 4) Kwd Usd))))
-
-place_back : (ccy : Ccy) → ccy_at (place ccy) ≡ ccy
-unfolding ccy_at
-place_back Chf = refl
-place_back Eur = refl
-place_back Gbp = refl
-place_back Jpy = refl
-place_back Kwd = refl
-place_back Usd = refl
-
-place_at : (k : ℕ) → k < 6 → place (ccy_at k) ≡ k
-unfolding ccy_at
-place_at zero lt = refl
-place_at (suc zero) lt = refl
-place_at (suc (suc zero)) lt = refl
-place_at (suc (suc (suc zero))) lt = refl
-place_at (suc (suc (suc (suc zero)))) lt = refl
-place_at (suc (suc (suc (suc (suc zero))))) lt = refl
-place_at (suc (suc (suc (suc (suc (suc k)))))) lt = absurd (omega arith)
-
-same_place : (a b : Ccy) → place a ≡ place b → a ≡ b
-same_place a b e = sym (place_back a) ∙ ap ccy_at e ∙ place_back b
-
-below_six : (ccy : Ccy) → place ccy < 6
-below_six Chf = omega arith
-below_six Eur = omega arith
-below_six Gbp = omega arith
-below_six Jpy = omega arith
-below_six Kwd = omega arith
-below_six Usd = omega arith
-
--- the list of all has each at its place
-pub place_of : (k : ℕ) → k < 6 → place (slice_index_or (Chf ∷ Eur ∷ Gbp ∷ Jpy ∷ Kwd ∷ Usd ∷ []) k Chf) ≡ k
-place_of zero lt = refl
-place_of (suc zero) lt = refl
-place_of (suc (suc zero)) lt = refl
-place_of (suc (suc (suc zero))) lt = refl
-place_of (suc (suc (suc (suc zero)))) lt = refl
-place_of (suc (suc (suc (suc (suc zero))))) lt = refl
-place_of (suc (suc (suc (suc (suc (suc k)))))) lt = absurd (omega arith)
-
-in_letters : (a b : Ccy) → place a < place b → IsLess (letters_of a) (letters_of b)
-in_letters Chf Eur lt = refl
-in_letters Chf Gbp lt = refl
-in_letters Chf Jpy lt = refl
-in_letters Chf Kwd lt = refl
-in_letters Chf Usd lt = refl
-in_letters Eur Gbp lt = refl
-in_letters Eur Jpy lt = refl
-in_letters Eur Kwd lt = refl
-in_letters Eur Usd lt = refl
-in_letters Gbp Jpy lt = refl
-in_letters Gbp Kwd lt = refl
-in_letters Gbp Usd lt = refl
-in_letters Jpy Kwd lt = refl
-in_letters Jpy Usd lt = refl
-in_letters Kwd Usd lt = refl
-in_letters Usd b lt = (let most = below_six b in absurd (omega arith))
-in_letters a b lt = absurd (omega arith)
 
 -- What was paid in.
 
@@ -138,8 +66,8 @@ totals_one content ccy net held paid is = (record { known = (ccy, refl, was_paid
 -- the totals of the currencies of so many places
 pub record CashGathered (content : Content) (count : ℕ) (totals : List CashTotal) : Type 0 where
   pub each : (total : CashTotal) → Contains totals total → IsCashTotal content total
-  pub below : (total : CashTotal) → Contains totals total → place total.ccy < count
-  pub all : (ccy : Ccy) → 0 < paid_in (history_of content) ccy → place ccy < count → (total : CashTotal) × Contains totals total × (total.ccy ≡ ccy)
+  pub below : (total : CashTotal) → Contains totals total → place_of total.ccy < count
+  pub all : (ccy : Ccy) → 0 < paid_in (history_of content) ccy → place_of ccy < count → (total : CashTotal) × Contains totals total × (total.ccy ≡ ccy)
   pub in_order : AllPairs (λ a b. IsLess (letters_of a.ccy) (letters_of b.ccy)) totals
 
 pub cash_none : (content : Content) → CashGathered content 0 []
@@ -150,12 +78,12 @@ cash_none content = record {
   in_order = λ i j d lt within. absurd (omega arith);
 }
 
-module _ (content : Content) (count : ℕ) (totals : List CashTotal) (g : CashGathered content count totals) (ccy : Ccy) (at : place ccy ≡ count) where
+module _ (content : Content) (count : ℕ) (totals : List CashTotal) (g : CashGathered content count totals) (ccy : Ccy) (at : place_of ccy ≡ count) where
   pub cash_skips : paid_in (history_of content) ccy ≡ 0 → CashGathered content (count + 1) totals
   cash_skips none = record {
     each = g.each;
     below = λ total c. (let lt = g.below total c in omega arith);
-    all = λ other paid lt. elim (cases_lt (place other) count) [
+    all = λ other paid lt. elim (cases_lt (place_of other) count) [
       | inl before ↦ g.all other paid before
       | inr now ↦
           let same = same_place other ccy (omega arith) in
@@ -168,27 +96,27 @@ module _ (content : Content) (count : ℕ) (totals : List CashTotal) (g : CashGa
 
   pub cash_takes : (total : CashTotal) → IsCashTotal content total → total.ccy ≡ ccy → CashGathered content (count + 1) (totals ++ total ∷ [])
   cash_takes total is of_it =
-      let here : place total.ccy ≡ count = ap place of_it ∙ at in
+      let here : place_of total.ccy ≡ count = ap place_of of_it ∙ at in
       record {
         each = λ t c. elim (Contains-push_cases totals total t c) [ inl old ↦ g.each t old | inr new ↦ subst (λ z. IsCashTotal content z) new is ];
         below = λ t c. elim (Contains-push_cases totals total t c) [
           | inl old ↦ (let lt = g.below t old in omega arith)
-          | inr new ↦ (let same : place total.ccy ≡ place t.ccy = ap (λ z. place z.ccy) new in omega arith)
+          | inr new ↦ (let same : place_of total.ccy ≡ place_of t.ccy = ap (λ z. place_of z.ccy) new in omega arith)
         ];
-        all = λ other paid lt. elim (cases_lt (place other) count) [
+        all = λ other paid lt. elim (cases_lt (place_of other) count) [
           | inl before ↦ (let old = g.all other paid before in (old.0, Contains-append_left totals (total ∷ []) old.0 old.1, old.2))
           | inr now ↦ (total, Contains-push totals total, of_it ∙ sym (same_place other ccy (omega arith)))
         ];
         in_order = all_pairs_push (λ a b. IsLess (letters_of a.ccy) (letters_of b.ccy)) totals total g.in_order
-            (λ k d lt. (let before = g.below (get_or totals k d) (Contains-get_or totals k d lt) in in_letters (get_or totals k d).ccy total.ccy (omega arith)));
+            (λ k d lt. (let before = g.below (get_or totals k d) (Contains-get_or totals k d lt) in less_before (get_or totals k d).ccy total.ccy (omega arith)));
       }
 
 -- all of them
-pub cash_all : (content : Content) (count : ℕ) (totals : List CashTotal) → 6 ≤ count → CashGathered content count totals → AreCashTotals content totals
+pub cash_all : (content : Content) (count : ℕ) (totals : List CashTotal) → length CURRENCIES ≤ count → CashGathered content count totals → AreCashTotals content totals
 cash_all content count totals enough g = record {
   each = g.each;
   all = λ letters paid.
-      let lt = below_six paid.0 in
+      let lt = below_all paid.0 in
       let found = g.all paid.0 paid.2 (omega arith) in
       (found.0, found.1, ap letters_of found.2 ∙ paid.1);
   in_order = g.in_order;
@@ -207,17 +135,17 @@ module _ (limit : ℕ) (books : Books) (content : Content) (keeps : Keeps limit 
     net = (let P : List Entry → Type 0 = λ h. paid_out h ccy + held_cash_of content ccy ≡ paid_in h ccy in subst P (sym keeps.tables.history) (held_cash_adds_up limit books content ccy keeps));
   }
 
-  ends_here : (count : ℕ) (totals : List CashTotal) → 6 ≤ count → CashGathered content count totals → (more : List CashTotal) × AreCashTotals content (totals ++ more)
+  ends_here : (count : ℕ) (totals : List CashTotal) → length CURRENCIES ≤ count → CashGathered content count totals → (more : List CashTotal) × AreCashTotals content (totals ++ more)
   ends_here count totals enough g = ([], subst (λ z. AreCashTotals content z) (sym (append-nil totals)) (cash_all content count totals enough g))
 
-  goes_on : (turns count : ℕ) (totals : List CashTotal) → CashGathered content count totals → 6 ≤ count + turns → (more : List CashTotal) × AreCashTotals content (totals ++ more)
+  goes_on : (turns count : ℕ) (totals : List CashTotal) → CashGathered content count totals → length CURRENCIES ≤ count + turns → (more : List CashTotal) × AreCashTotals content (totals ++ more)
   unfolding total_of
   goes_on zero count totals g enough = ends_here count totals (omega arith) g
-  goes_on (suc turns) count totals g enough = elim (cases_lt count 6) [
+  goes_on (suc turns) count totals g enough = elim (cases_lt count (length CURRENCIES)) [
     | inr all ↦ ends_here count totals all g
     | inl left ↦
-        let ccy = ccy_at count in
-        let at : place ccy ≡ count = place_at count left in
+        let ccy = get_or CURRENCIES count Chf in
+        let at : place_of ccy ≡ count = stands_at count Chf left in
         elim (cases_Bool (list_any (pays_in ccy) (history_of content))) [
           | inr none ↦ goes_on turns (count + 1) totals (cash_skips content count totals g ccy at (never_paid_in (history_of content) ccy none)) (omega arith)
           | inl some ↦
@@ -228,4 +156,4 @@ module _ (limit : ℕ) (books : Books) (content : Content) (keeps : Keeps limit 
   ]
 
   pub cash_goes_on : (count : ℕ) (totals : List CashTotal) → CashGathered content count totals → (more : List CashTotal) × AreCashTotals content (totals ++ more)
-  cash_goes_on count totals g = goes_on 6 count totals g (omega arith)
+  cash_goes_on count totals g = goes_on (length CURRENCIES) count totals g (omega arith)

@@ -4,8 +4,7 @@ use Rattle.std.proofs.lemmas.Bool.{both_ways}
 use Rattle.serde_json.specs.Data.{Data}
 use Rattle.desk_codes.specs.Bic.{party_of}
 use Rattle.desk_codes.specs.Currency.{letters_of}
-use Rattle.desk_codes.specs.declared.currency.Ccy.{Ccy}
-use Rattle.desk_codes.specs.declared.currency.Ccy.TheVariants.{Chf, Eur, Gbp, Jpy, Kwd, Usd}
+use Rattle.desk_codes.proofs.CurrencyLemmas.{known_by_letters}
 use Rattle.desk_msg.specs.declared.instruction.Kind.{Kind}
 use Rattle.desk_msg.specs.declared.instruction.Kind.TheVariants.{Unit as Units, FaceAmount}
 use Rattle.desk_rules.specs.declared.history.entry.Entry.{Entry}
@@ -26,21 +25,6 @@ kind_back FaceAmount = refl
 
 same_kind : (a b : Kind) → code_of_kind a ≡ code_of_kind b → a ≡ b
 same_kind a b e = sym (kind_back a) ∙ ap kind_of e ∙ kind_back b
-
-ccy_of : List ℕ → Ccy
-ccy_of letters = let c = get_or letters 0 0 in cond (eqb c 67) Chf (cond (eqb c 69) Eur (cond (eqb c 71) Gbp (cond (eqb c 74) Jpy (cond (eqb c 75) Kwd Usd))))
-
-ccy_back : (ccy : Ccy) → ccy_of (letters_of ccy) ≡ ccy
-unfolding ccy_of
-ccy_back Chf = refl
-ccy_back Eur = refl
-ccy_back Gbp = refl
-ccy_back Jpy = refl
-ccy_back Kwd = refl
-ccy_back Usd = refl
-
-same_letters : (a b : Ccy) → letters_of a ≡ letters_of b → a ≡ b
-same_letters a b e = sym (ccy_back a) ∙ ap ccy_of e ∙ ccy_back b
 
 -- the word of an operation
 abbrev pub op_word : Entry → List ℕ
@@ -94,9 +78,9 @@ one_entry d (Issue movement) (Issue movement') h k = ap Issue (movement_same mov
 one_entry d (Issue movement) b h k = let e = other_op d (Issue movement) b h k in cc
 one_entry d (Redeem movement) (Redeem movement') h k = ap Redeem (movement_same movement movement' (found (codes "ref") movement.reference movement'.reference d _ _ h.1 k.1 refl refl) (found (codes "account") movement.account movement'.account d _ _ h.1 k.1 refl refl) (found (codes "isin") movement.isin movement'.isin d _ _ h.1 k.1 refl refl) (counted (codes "quantity") movement.quantity movement'.quantity d _ _ h.1 k.1 refl refl))
 one_entry d (Redeem movement) b h k = let e = other_op d (Redeem movement) b h k in cc
-one_entry d (PayIn payment) (PayIn payment') h k = ap PayIn (payment_same payment payment' (found (codes "ref") payment.reference payment'.reference d _ _ h.3 k.3 refl refl) (h.1.0 ∙ ap party_of (found (codes "bic") h.0 k.0 d _ _ h.3 k.3 refl refl) ∙ sym k.1.0) (same_letters payment.ccy payment'.ccy (found (codes "ccy") (letters_of payment.ccy) (letters_of payment'.ccy) d _ _ h.3 k.3 refl refl)) (counted (codes "amount") payment.amount payment'.amount d _ _ h.3 k.3 refl refl))
+one_entry d (PayIn payment) (PayIn payment') h k = ap PayIn (payment_same payment payment' (found (codes "ref") payment.reference payment'.reference d _ _ h.3 k.3 refl refl) (h.1.0 ∙ ap party_of (found (codes "bic") h.0 k.0 d _ _ h.3 k.3 refl refl) ∙ sym k.1.0) (known_by_letters payment.ccy payment'.ccy (found (codes "ccy") (letters_of payment.ccy) (letters_of payment'.ccy) d _ _ h.3 k.3 refl refl)) (counted (codes "amount") payment.amount payment'.amount d _ _ h.3 k.3 refl refl))
 one_entry d (PayIn payment) b h k = let e = other_op d (PayIn payment) b h k in cc
-one_entry d (PayOut payment) (PayOut payment') h k = ap PayOut (payment_same payment payment' (found (codes "ref") payment.reference payment'.reference d _ _ h.3 k.3 refl refl) (h.1.0 ∙ ap party_of (found (codes "bic") h.0 k.0 d _ _ h.3 k.3 refl refl) ∙ sym k.1.0) (same_letters payment.ccy payment'.ccy (found (codes "ccy") (letters_of payment.ccy) (letters_of payment'.ccy) d _ _ h.3 k.3 refl refl)) (counted (codes "amount") payment.amount payment'.amount d _ _ h.3 k.3 refl refl))
+one_entry d (PayOut payment) (PayOut payment') h k = ap PayOut (payment_same payment payment' (found (codes "ref") payment.reference payment'.reference d _ _ h.3 k.3 refl refl) (h.1.0 ∙ ap party_of (found (codes "bic") h.0 k.0 d _ _ h.3 k.3 refl refl) ∙ sym k.1.0) (known_by_letters payment.ccy payment'.ccy (found (codes "ccy") (letters_of payment.ccy) (letters_of payment'.ccy) d _ _ h.3 k.3 refl refl)) (counted (codes "amount") payment.amount payment'.amount d _ _ h.3 k.3 refl refl))
 one_entry d (PayOut payment) b h k = let e = other_op d (PayOut payment) b h k in cc
 one_entry d (Run reference day rule) (Run reference' day' rule') h k = let p : rule ≡ rule' = h.3 ∙ sym k.3 in let r = found (codes "ref") reference reference' d _ _ h.2 k.2 refl refl in let x = found (codes "day") day day' d _ _ h.2 k.2 refl refl in cc
 one_entry d (Run reference day rule) b h k = let e = other_op d (Run reference day rule) b h k in cc

@@ -1,6 +1,6 @@
 -- The abstract desk has one answer to a request.
 use Rattle.std.proofs.Common.{◌≡◌, inl, inr, suc, ℕ, ◌+◌, ◌<◌, Bool, true, false, Option, None, List, [], ◌∷◌, length, take, AllPairs, get_or, refl, sym, ◌∙◌, ap, subst, arith}
-use Rattle.std.specs.Prelude.{◌==◌, if◌then◌else◌, MatchBool, Some, sum_by, Ok}
+use Rattle.std.specs.Prelude.{MatchBool, Some, sum_by, Ok}
 use Rattle.std.proofs.lemmas.Cmp.{nat_list_cmp_total}
 use Rattle.std.specs.Ordering.{ordering_reverse}
 use Rattle.desk_rules.proofs.Decided.{In, Contains-from_In, In-from_Contains}
@@ -15,7 +15,7 @@ use Rattle.desk_rules.specs.declared.answers.reply.Reply.{Reply}
 use Rattle.desk_rules.specs.declared.answers.verdict.Verdict.{Verdict}
 use Rattle.desk_rules.specs.declared.answers.verdict.Verdict.TheVariants.{Accept, Repeat, Refuse}
 use Rattle.desk_codes.specs.declared.currency.Ccy.{Ccy}
-use Rattle.desk_codes.specs.declared.currency.Ccy.TheVariants.{Chf, Eur, Gbp, Jpy, Kwd, Usd}
+use Rattle.desk_codes.proofs.CurrencyLemmas.{known_by_letters}
 use Rattle.desk_codes.specs.Currency.{letters_of}
 use Rattle.desk_rules.specs.Balances.{cash_credits, cash_debits, issued, paid_in, paid_out, redeemed, credits, debits}
 use Rattle.desk_rules.specs.History.{entry_at}
@@ -180,22 +180,6 @@ one_sum books a b e x y =
     same_total a b e (left_of a.held b.held (out a.isin) (into a.isin) x.held (subst P (sym e) y.held))
     (right_of a.outstanding b.outstanding (redeemed books.history a.isin) (issued books.history a.isin) x.outstanding (subst Q (sym e) y.outstanding))
 
--- The currencies' letters begin with different ones.
-abbrev by_first : ℕ → Ccy
-by_first letter =
-    if letter == 67 then Chf else if letter == 69 then Eur else if letter == 71 then Gbp else if letter == 74 then Jpy else if letter == 75 then Kwd else Usd
-
-of_letters : (ccy : Ccy) → by_first (get_or (letters_of ccy) 0 0) ≡ ccy
-of_letters Chf = refl
-of_letters Eur = refl
-of_letters Gbp = refl
-of_letters Jpy = refl
-of_letters Kwd = refl
-of_letters Usd = refl
-
-one_currency : (a b : Ccy) → letters_of a ≡ letters_of b → a ≡ b
-one_currency a b e = sym (of_letters a) ∙ ap (λ letters. by_first (get_or letters 0 0)) e ∙ of_letters b
-
 abbrev as_cash : CashTotal → CashTotal
 as_cash t = t
 
@@ -207,7 +191,7 @@ same_cash a b e f g =
 
 one_cash_sum : (books : Books) (a b : CashTotal) → letters_of a.ccy ≡ letters_of b.ccy → IsCashSum books a → IsCashSum books b → a ≡ b
 one_cash_sum books a b letters x y =
-    let e : a.ccy ≡ b.ccy = one_currency a.ccy b.ccy letters in
+    let e : a.ccy ≡ b.ccy = known_by_letters a.ccy b.ccy letters in
     let out : Ccy → ℕ = λ c. sum_by (λ bic. cash_debits books.history books.settled bic c) (participants_of books.history) in
     let into : Ccy → ℕ = λ c. sum_by (λ bic. cash_credits books.history books.settled bic c) (participants_of books.history) in
     let P : Ccy → Type 0 = λ c. b.held + out c ≡ into c in

@@ -13,7 +13,7 @@ use Rattle.desk_codes.specs.CheckDigit.{IsIsin, check_of, weighed_sum, expanded}
 use Rattle.desk_codes.specs.Currency.{letters_of}
 use Rattle.desk_codes.proofs.CharacterLemmas.{All-split}
 use Rattle.desk_codes.specs.declared.currency.Ccy.{Ccy}
-use Rattle.desk_codes.specs.declared.currency.Ccy.TheVariants.{Chf, Eur, Gbp, Jpy, Kwd, Usd}
+use Rattle.desk_codes.proofs.CurrencyLemmas.{agree}
 use Rattle.desk_book.specs.declared.answers.total.CashTotal.{CashTotal}
 use Rattle.desk_book.specs.declared.answers.total.SecurityTotal.{SecurityTotal}
 use Rattle.desk_book.specs.Sums.{cash_data, security_data}
@@ -22,14 +22,12 @@ use Rattle.desk_book.specs.Sums.{cash_data, security_data}
 record IsPlain (text : List ℕ) : Type 0 where
   quoted : compact_text (string text) ≡ 34 ∷ (text ++ 34 ∷ [])
 
-letters_plain : (ccy : Ccy) → IsPlain (letters_of ccy)
+letters_quoted : (ccy : Ccy) → compact_text (string (letters_of ccy)) ≡ 34 ∷ (letters_of ccy ++ 34 ∷ [])
 unfolding serde_json_on_literals
-letters_plain Chf = record { quoted = refl }
-letters_plain Eur = record { quoted = refl }
-letters_plain Gbp = record { quoted = refl }
-letters_plain Jpy = record { quoted = refl }
-letters_plain Kwd = record { quoted = refl }
-letters_plain Usd = record { quoted = refl }
+letters_quoted = agree (λ ccy. compact_text (string (letters_of ccy))) (λ ccy. 34 ∷ (letters_of ccy ++ 34 ∷ [])) refl
+
+letters_plain : (ccy : Ccy) → IsPlain (letters_of ccy)
+letters_plain ccy = record { quoted = letters_quoted ccy }
 
 other : (c k : ℕ) → k < 48 ⊎ k ≡ 92 → IsCodeChar c → (c == k) ≡ false
 other c k outside is = grind (arith, nat_tests)

@@ -5,6 +5,8 @@ use Rattle.std.specs.Prelude.{Result, Ok, Err}
 use Rattle.std.specs.Result.{IsErrAnd}
 use Rattle.std.specs.Io.KnownBytes.{Appends}
 use Rattle.desk_codes.specs.declared.currency.Ccy.{Ccy}
+use Rattle.desk_codes.specs.declared.currency.TheConstants.{CURRENCIES}
+use Rattle.desk_codes.specs.Currency.{place_of}
 use Rattle.desk_msg.specs.declared.writing.statement_row.SinkFault.TheVariants as sinks
 use Rattle.desk_rules.specs.Books.{Books}
 use Rattle.desk_rules.specs.Content.{Content, history_of}
@@ -29,7 +31,7 @@ use Rattle.desk_book.specs.WrittenTo.{Writes, WritesAnswer, WritesFront}
 use Rattle.desk_book.specs.declared.answers.head.Head.{Head}
 use Rattle.desk_book.specs.declared.answers.total.SecurityTotal.{SecurityTotal}
 use Rattle.desk_book.proofs.AnsweringLemmas.{sums_told}
-use Rattle.desk_book.proofs.CashLemmas.{CashGathered, cash_all, cash_goes_on, cash_none, cash_skips, cash_takes, place}
+use Rattle.desk_book.proofs.CashLemmas.{CashGathered, cash_all, cash_goes_on, cash_none, cash_skips, cash_takes}
 use Rattle.desk_book.proofs.ListedLemmas.{Gathered, gathers_none, gathers_one, gathered_all, gathered_enough, totals_exist, totals_go_on}
 use Rattle.desk_book.proofs.RowLemmas.{Begun, appended, appends_nothing, begun_more, begun_nothing, begun_whole, sums_written}
 
@@ -43,7 +45,7 @@ pub record CashWritten (content : Content) (turns : ℕ) (is_later : Bool) (befo
   pub written : Appends before now text
   pub begun : Begun cash_data rows is_later text
 
-cash_whole : (content : Content) (turns : ℕ) (is_later : Bool) (before now : Option (List ℕ)) → 6 ≤ turns → CashWritten content turns is_later before now → WritesWhole (IsCashText content) before now
+cash_whole : (content : Content) (turns : ℕ) (is_later : Bool) (before now : Option (List ℕ)) → length CURRENCIES ≤ turns → CashWritten content turns is_later before now → WritesWhole (IsCashText content) before now
 cash_whole content turns is_later before now enough w = record {
   text = w.text;
   written = w.written;
@@ -62,7 +64,7 @@ cash_front limit books content turns is_later before now keeps w =
     }
 
 -- the row of one currency more, or none of it
-cash_more : (content : Content) (turns : ℕ) (was_later is_later : Bool) (before between now : Option (List ℕ)) (ccy : Ccy) → place ccy ≡ turns → CashWritten content turns was_later before between
+cash_more : (content : Content) (turns : ℕ) (was_later is_later : Bool) (before between now : Option (List ℕ)) (ccy : Ccy) → place_of ccy ≡ turns → CashWritten content turns was_later before between
     → WritesCurrency content ccy was_later (Ok is_later) between now → CashWritten content (turns + 1) is_later before now
 cash_more content turns was_later is_later before between now ccy at w (inl new) =
     let c = new.0 in
@@ -115,7 +117,7 @@ cashing_begins v0 before = record {
 }
 
 module _ (v0 v : View) (turns : ℕ) (was_later : Bool) (before between : Option (List ℕ)) (s : Cashing v0 v turns was_later before between) where
-  pub cashing_goes_on : (v1 : View) (is_later : Bool) (now : Option (List ℕ)) (ccy : Ccy) → place ccy ≡ turns → HaveRead {X = Unit {0}} (Ok tt) v v1
+  pub cashing_goes_on : (v1 : View) (is_later : Bool) (now : Option (List ℕ)) (ccy : Ccy) → place_of ccy ≡ turns → HaveRead {X = Unit {0}} (Ok tt) v v1
       → (v1.is_honest → v.is_sure → WritesCurrency v.content ccy was_later (Ok is_later) between now) → Cashing v0 v1 (turns + 1) is_later before now
   cashing_goes_on v1 is_later now ccy at read writes = record {
     read = read_on v0 v s.read tt v1 read;
@@ -133,7 +135,7 @@ module _ (v0 v : View) (turns : ℕ) (was_later : Bool) (before between : Option
       handed_on (IsCashText v0.content) fault r before now is
       (currency_broke_off v0.content v.content ccy was_later fault before between now front (writes honest (s.read.ok.sure honest_now sure)))
 
-  pub cashing_ends : 6 ≤ turns → v.is_honest → v0.is_sure → WritesWhole (IsCashText v0.content) before between
+  pub cashing_ends : length CURRENCIES ≤ turns → v.is_honest → v0.is_sure → WritesWhole (IsCashText v0.content) before between
   cashing_ends enough honest sure = cash_whole v0.content turns was_later before between enough (s.rows honest sure)
 
 -- The securities.

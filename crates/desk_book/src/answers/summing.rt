@@ -14,14 +14,11 @@ ghost use Rattle.desk_book.specs.WrittenTo.{Writes};
 use crate::answers::head::Head;
 use crate::answers::total::{CashTotal, SecurityTotal, write_cash_row, write_security_row};
 use crate::answers::writing::write_text;
-use desk_codes::{Ccy, Isin};
+use desk_codes::{CURRENCIES, Ccy, Isin};
 use desk_msg::SinkFault;
 use desk_register::{Fault, Register, Stage, WalkFault};
 use desk_streams::Sink;
 use std::alloc::Global;
-
-/// The currencies of the desk, in the order of their letters.
-const CURRENCIES: [Ccy; 6] = [Ccy::Chf, Ccy::Eur, Ccy::Gbp, Ccy::Jpy, Ccy::Kwd, Ccy::Usd];
 
 /// Writes the totals of all currencies that were paid in and of all securities, each row as soon as it is read. No row is
 /// kept. With no `begin` open.
