@@ -1,10 +1,10 @@
 -- What participants have in cash, currency by currency.
-use Rattle.std.proofs.Common.{◌≡◌, ℕ, ◌<◌, Bool, List, [], ◌∷◌, ◌++◌, length, Option, Some, refl, ap, sym, ◌∙◌, subst}
+use Rattle.std.proofs.Common.{◌≡◌, ℕ, ◌<◌, ◌≤◌, Bool, List, [], ◌∷◌, ◌++◌, length, get_or, Option, Some, refl, ap, sym, ◌∙◌, subst}
 use Rattle.std.proofs.lemmas.List.Elements.{filter_map-append}
 use Rattle.std.proofs.lemmas.Option.{slice_get-get_or}
-use Rattle.std.specs.Prelude.{Result, filter_map, flat_map, slice_get, slice_index_or}
+use Rattle.std.specs.Prelude.{Result, filter_map, flat_map, slice_get}
 use Rattle.desk_codes.specs.declared.currency.Ccy.{Ccy}
-use Rattle.desk_codes.specs.declared.currency.Ccy.TheVariants.{Chf, Eur, Gbp, Jpy, Kwd, Usd}
+use Rattle.desk_codes.specs.declared.currency.TheConstants.{CURRENCIES}
 use Rattle.desk_rules.specs.declared.history.entry.Entry.{Entry}
 use Rattle.desk_rules.specs.declared.history.entry.Entry.TheVariants.{Participant, Account, Security, Issue, Redeem, PayIn, PayOut, Instruct, Cancel, Run}
 use Rattle.desk_rules.specs.Content.{Content}
@@ -29,13 +29,13 @@ all_currencies content = currencies
 abbrev pub rows_by_currency : List ℕ → Content → Unit {0} → Ccy → List CashRow
 rows_by_currency bic content x ccy = balance_rows content bic (ccy ∷ [])
 
-pub six : length currencies ≡ 6
+pub currency_at : (k : ℕ) (d : Ccy) → k < length CURRENCIES → slice_get currencies k ≡ Some (get_or CURRENCIES k d)
 unfolding currencies
-six = refl
+currency_at k d lt = slice_get-get_or CURRENCIES k d lt
 
-pub currency_at : (k : ℕ) → k < 6 → slice_get currencies k ≡ Some (slice_index_or (Chf ∷ Eur ∷ Gbp ∷ Jpy ∷ Kwd ∷ Usd ∷ []) k Chf)
+pub all_told : (k : ℕ) → length CURRENCIES ≤ k → length currencies ≤ k
 unfolding currencies
-currency_at k lt = slice_get-get_or (Chf ∷ Eur ∷ Gbp ∷ Jpy ∷ Kwd ∷ Usd ∷ []) k Chf lt
+all_told k all = all
 
 -- what is made of each alone is made of all
 singles : {X Y : Type 0} (h : X → Option Y) (xs : List X) → flat_map (λ x. filter_map h (x ∷ [])) xs ≡ filter_map h xs
@@ -46,12 +46,12 @@ pub all_balances : (content : Content) (bic : List ℕ) → flat_map (rows_by_cu
 all_balances content bic = singles (λ ccy. balance_row bic ccy (content.cash bic ccy)) currencies
 
 -- a turn of the loop over them
-pub balance_turn : (bic : List ℕ) (content : Content) (k : ℕ) (is_later : Bool) (result : Result Bool WalkFault) (before now : Option (List ℕ)) → k < 6
-    → WritesRows cash_data (balance_rows content bic (slice_index_or (Chf ∷ Eur ∷ Gbp ∷ Jpy ∷ Kwd ∷ Usd ∷ []) k Chf ∷ [])) is_later result before now
+pub balance_turn : (bic : List ℕ) (content : Content) (k : ℕ) (d : Ccy) (is_later : Bool) (result : Result Bool WalkFault) (before now : Option (List ℕ)) → k < length CURRENCIES
+    → WritesRows cash_data (balance_rows content bic (get_or CURRENCIES k d ∷ [])) is_later result before now
     → WritesRows cash_data (rows_if (rows_by_currency bic content tt) (slice_get currencies k)) is_later result before now
-balance_turn bic content k is_later result before now lt w =
+balance_turn bic content k d is_later result before now lt w =
     let P : Option Ccy → Type 0 = λ z. WritesRows cash_data (rows_if (rows_by_currency bic content tt) z) is_later result before now in
-    subst P (sym (currency_at k lt)) w
+    subst P (sym (currency_at k d lt)) w
 
 -- what is no participant has no rows
 pub no_participant : (content : Content) (entry : Entry) → ((reference bic : List ℕ) → entry ≡ Participant reference bic → ⊥) → cash_rows content entry ≡ []

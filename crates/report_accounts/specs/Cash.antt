@@ -2,7 +2,7 @@
 -- which one has some, in the order of the letters.
 use Rattle.std.specs.Prelude.{◌≡◌, ℕ, nat_lt, false, if◌then◌else◌, List, [], ◌∷◌, map, flat_map, filter_map, Option, Some, None}
 use Rattle.desk_codes.specs.declared.currency.Ccy.{Ccy}
-use Rattle.desk_codes.specs.declared.currency.Ccy.TheVariants.{Chf, Eur, Gbp, Jpy, Kwd, Usd}
+use Rattle.desk_codes.specs.declared.currency.TheConstants.{CURRENCIES}
 use Rattle.desk_rules.specs.declared.history.entry.Entry.{Entry}
 use Rattle.desk_rules.specs.declared.history.entry.Entry.TheVariants.{Participant}
 use Rattle.desk_rules.specs.Content.{Content, history_of}
@@ -12,7 +12,7 @@ use Rattle.report_rows.specs.declared.balances.CashRow.{CashRow}
 
 -- the desk's currencies, in the order of their letters
 unfoldable pub currencies : List Ccy
-currencies = Chf ∷ Eur ∷ Gbp ∷ Jpy ∷ Kwd ∷ Usd ∷ []
+currencies = CURRENCIES
 
 -- the row of a currency, of which the participant has so much in minor units; none where it has nothing of it
 abbrev pub balance_row : List ℕ → Ccy → ℕ → Option CashRow

@@ -11,16 +11,13 @@ ghost use Rattle.report_accounts.specs.Cash.{IsCashText, balance_rows, cash_rows
 ghost use Rattle.report_accounts.specs.Writing.{WritesRows, rows_at};
 
 use crate::entries::entry_of;
-use desk_codes::{Bic, Ccy};
+use desk_codes::{Bic, CURRENCIES, Ccy};
 use desk_msg::SinkFault;
 use desk_register::{Register, Stage, WalkFault};
 use desk_rules::Entry;
 use desk_streams::Sink;
 use report_rows::{CashRow, Format, write_cash_row};
 use std::alloc::Global;
-
-/// The currencies of the desk, in the order of their letters.
-const CURRENCIES: [Ccy; 6] = [Ccy::Chf, Ccy::Eur, Ccy::Gbp, Ccy::Jpy, Ccy::Kwd, Ccy::Usd];
 
 /// Writes what each participant has in cash, in minor units: participant by participant, in the order of their registration,
 /// and each currency of which one has some, in the order of the letters. Only the rows are written, each as soon as it is

@@ -7,7 +7,7 @@ use Rattle.report_rows.specs.declared.format.Format.TheVariants.{Json}
 use Rattle.report_rows.specs.RowData.{cash_data}
 use Rattle.report_accounts.specs.Cash.{currencies}
 use Rattle.report_accounts.specs.Writing.{WritesRows}
-use Rattle.report_accounts.proofs.CashLemmas.{NoneGiven, all_balances, all_currencies, balance_turn, rows_by_currency, six}
+use Rattle.report_accounts.proofs.CashLemmas.{NoneGiven, all_balances, all_currencies, all_told, balance_turn, rows_by_currency}
 use Rattle.report_accounts.proofs.EndLemmas.{walk_broke}
 use Rattle.report_accounts.proofs.LoopLemmas.{looping_begins, looping_breaks, looping_ends, looping_goes_on}
 use Rattle.report_accounts.proofs.RowsLemmas.{rows_broke, rows_ended}
@@ -33,7 +33,7 @@ returns-in_err-is_later-clause-written g c = λ json honest sure.
     (rows_broke cash_data _ c.args.is_later fault c.from_residual.result before now c.from_residual.ensures.1
     (looping_breaks cash_data NoneGiven all_currencies (rows_by_currency c.args.bic) (c.args.format ≡ Json) v0 v c.currencies.index c.args.is_later c.currencies.is_later before between c.currencies.invariant v1 now fault
     c.from_residual.result c.from_residual.ensures.1 w.read.later
-    (λ told really known x given. balance_turn c.args.bic v.content c.currencies.index c.currencies.is_later (Err fault) between now c.currencies-test.true (w.written told really known)) json honest sure tt tt))
+    (λ told really known x given. balance_turn c.args.bic v.content c.currencies.index _ c.currencies.is_later (Err fault) between now c.currencies-test.true (w.written told really known)) json honest sure tt tt))
 
 pub returns-in_err-is_later-clause-read : goal.returns-in_err-is_later-clause-read
 returns-in_err-is_later-clause-read g c =
@@ -53,7 +53,7 @@ currencies-preserved g c =
     let w = c.in_ok-is_later.ensures in
     looping_goes_on cash_data NoneGiven all_currencies (rows_by_currency c.args.bic) (c.args.format ≡ Json) v0 v c.currencies.index c.args.is_later c.currencies.is_later before between c.currencies.invariant v1 c.in_ok-is_later.is_later now
     w.read
-    (λ told really known x given. balance_turn c.args.bic v.content c.currencies.index c.currencies.is_later (Ok c.in_ok-is_later.is_later) between now c.currencies-test.true (w.written told really known))
+    (λ told really known x given. balance_turn c.args.bic v.content c.currencies.index _ c.currencies.is_later (Ok c.in_ok-is_later.is_later) between now c.currencies-test.true (w.written told really known))
 
 pub returns-clause-written : goal.returns-clause-written
 returns-clause-written g c = λ json honest sure.
@@ -61,7 +61,7 @@ returns-clause-written g c = λ json honest sure.
     let v = g.R.Register.view c.currencies.register in
     let before = g.W.Write.contents c.args.writer.now in
     let now = g.W.Write.contents c.currencies.writer in
-    let all : length currencies ≤ c.currencies.index = (let count = six in omega arith) in
+    let all : length currencies ≤ c.currencies.index = all_told c.currencies.index (omega arith) in
     let P : List CashRow → Type 0 = λ rows. WritesRows cash_data rows c.args.is_later (Ok c.currencies.is_later) before now in
     subst P (all_balances v0.content c.args.bic)
     (rows_ended cash_data _ c.args.is_later c.currencies.is_later before now
