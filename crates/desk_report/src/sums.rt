@@ -3,15 +3,12 @@ ghost use Rattle.std.specs.Prelude.{◌≡◌, ◌≢◌, true, Err};
 ghost use Rattle.desk_register.specs.Ends.{HaveRead, at_register};
 
 use desk_book::{CashTotal, SecurityTotal};
-use desk_codes::{Ccy, Isin};
+use desk_codes::{CURRENCIES, Ccy, Isin};
 use desk_msg::SinkFault;
 use desk_register::{Register, Stage, WalkFault};
 use desk_streams::Sink;
 use report_rows::{write_cash_total, write_security_total};
 use std::alloc::Global;
-
-/// The currencies of the desk, in the order of their letters.
-const CURRENCIES: [Ccy; 6] = [Ccy::Chf, Ccy::Eur, Ccy::Gbp, Ccy::Jpy, Ccy::Kwd, Ccy::Usd];
 
 /// Writes a line for each currency that was paid in, and one for each registered security.
 ///
