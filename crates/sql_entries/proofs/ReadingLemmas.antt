@@ -4,7 +4,7 @@ use Rattle.sqlite.specs.Order.{Row, column}
 use Rattle.sqlite.specs.declared.types.Value.TheVariants.{Int}
 use Rattle.desk_msg.specs.declared.instruction.Cash.{Cash}
 use Rattle.desk_msg.specs.declared.instruction.Instruction.{Instruction}
-use Rattle.desk_msg.proofs.FormLemmas.{one_ccy}
+use Rattle.desk_codes.proofs.CurrencyLemmas.{known_by_letters}
 use Rattle.desk_rules.specs.declared.history.entry.Entry.{Entry}
 use Rattle.desk_rules.specs.declared.history.entry.Entry.TheVariants.{Participant, Account, Security, Issue, Redeem, PayIn, PayOut, Instruct, Cancel, Run}
 use Rattle.desk_rules.specs.declared.answers.reply.Kept.{Kept}
@@ -51,7 +51,7 @@ movement_back : (m n : Movement) → SaysMovement (shown_entry (Issue m)) n → 
 movement_back m n says = movement_same n m (sym (words _ _ says.reference)) (sym (words _ _ says.account)) (sym (words _ _ says.isin)) (sym (count _ _ says.quantity))
 
 payment_back : (p q : Payment) → SaysPayment (shown_entry (PayIn p)) q → q ≡ p
-payment_back p q says = payment_same q p (sym (words _ _ says.reference)) (sym (words _ _ says.bic)) (one_ccy q.ccy p.ccy (sym (words _ _ says.currency))) (sym (count _ _ says.amount))
+payment_back p q says = payment_same q p (sym (words _ _ says.reference)) (sym (words _ _ says.bic)) (known_by_letters q.ccy p.ccy (sym (words _ _ says.currency))) (sym (count _ _ says.amount))
 
 -- The row of an entry says no other entry: its columns spell each of its values in one way.
 pub reads_back : (entry read : Entry) → column (shown_entry entry) 2 ≡ Int (pos (kind_number read)) → Says (shown_entry entry) read → read ≡ entry
@@ -61,7 +61,7 @@ reads_back (Security reference isin unit) (Security r i u) kind says = let e0 = 
 reads_back (Issue m) (Issue n) kind says = ap Issue (movement_back m n says)
 reads_back (Redeem m) (Redeem n) kind says = ap Redeem (movement_same n m (sym (words _ _ says.reference)) (sym (words _ _ says.account)) (sym (words _ _ says.isin)) (sym (count _ _ says.quantity)))
 reads_back (PayIn p) (PayIn q) kind says = ap PayIn (payment_back p q says)
-reads_back (PayOut p) (PayOut q) kind says = ap PayOut (payment_same q p (sym (words _ _ says.reference)) (sym (words _ _ says.bic)) (one_ccy q.ccy p.ccy (sym (words _ _ says.currency))) (sym (count _ _ says.amount)))
+reads_back (PayOut p) (PayOut q) kind says = ap PayOut (payment_same q p (sym (words _ _ says.reference)) (sym (words _ _ says.bic)) (known_by_letters q.ccy p.ccy (sym (words _ _ says.currency))) (sym (count _ _ says.amount)))
 reads_back (Instruct sender i) (Instruct s j) kind says = let e0 = words _ _ says.0 in let e1 = instruction_back sender i j says.1 in cc
 reads_back (Cancel sender o) (Cancel s p) kind says =
     let e0 = words _ _ says.0 in
