@@ -10,10 +10,8 @@ use Rattle.sqlite.specs.declared.types.Value.{Value}
 use Rattle.sqlite.specs.declared.types.Value.TheVariants.{Int, Text as Words}
 use Rattle.sqlite.specs.Effect.{Database}
 use Rattle.sqlite.specs.Order.{Row, column}
-use Rattle.desk_codes.specs.declared.currency.Ccy.{Ccy}
-use Rattle.desk_codes.specs.Currency.{letters_of}
+use Rattle.desk_codes.proofs.CurrencyLemmas.{known_by_letters}
 use Rattle.desk_rules.specs.Content.{Content}
-use Rattle.desk_rules.proofs.Deciding.{same_ccy-true}
 use Rattle.sql_amounts.specs.declared.key.Ledger.{Ledger}
 use Rattle.sql_amounts.specs.declared.key.AmountKey.{AmountKey}
 use Rattle.sql_amounts.specs.declared.key.AmountKey.TheVariants.{Balance, Cash, Security, Currency}
@@ -70,9 +68,6 @@ table_told db content ledger rows given order formed same is all = true_table co
 
 -- ---- the keys of two texts
 
-same_letters : (a b : Ccy) → letters_of a ≡ letters_of b → a ≡ b
-same_letters a b is = same_ccy-true a b ((bytes_eq-Decides (letters_of a) (letters_of b)).1 is)
-
 no_subject : codes "security" ≡ codes "currency" → ⊥
 no_subject is = both_ways (bytes_eq (codes "security") (codes "currency")) refl ((bytes_eq-Decides (codes "security") (codes "currency")).1 is)
 
@@ -82,7 +77,7 @@ one_key (Balance x i) (Cash b c) of is = absurd (cc)
 one_key (Balance x i) (Security j) of is = absurd (cc)
 one_key (Balance x i) (Currency c) of is = absurd (cc)
 one_key (Cash b c) (Balance x i) of is = absurd (cc)
-one_key (Cash b c) (Cash d e) of is = (let p : b ≡ d = ap (λ (t : Texts). t.0) is in let q : c ≡ e = same_letters c e (ap (λ (t : Texts). t.1) is) in cc)
+one_key (Cash b c) (Cash d e) of is = (let p : b ≡ d = ap (λ (t : Texts). t.0) is in let q : c ≡ e = known_by_letters c e (ap (λ (t : Texts). t.1) is) in cc)
 one_key (Cash b c) (Security j) of is = absurd (cc)
 one_key (Cash b c) (Currency e) of is = absurd (cc)
 one_key (Security i) (Balance x j) of is = absurd (cc)
@@ -92,7 +87,7 @@ one_key (Security i) (Currency c) of is = absurd (no_subject (ap (λ (t : Texts)
 one_key (Currency c) (Balance x j) of is = absurd (cc)
 one_key (Currency c) (Cash b e) of is = absurd (cc)
 one_key (Currency c) (Security j) of is = absurd (no_subject (sym (ap (λ (t : Texts). t.0) is)))
-one_key (Currency c) (Currency e) of is = (let q : c ≡ e = same_letters c e (ap (λ (t : Texts). t.1) is) in cc)
+one_key (Currency c) (Currency e) of is = (let q : c ≡ e = known_by_letters c e (ap (λ (t : Texts). t.1) is) in cc)
 
 -- ---- what is recorded under a key is 0, or what the content has
 

@@ -1,5 +1,5 @@
 -- One step after another: what was found of the tables and of the register at a later step is so of the first.
-use Rattle.std.proofs.Common.{◌≡◌, ◌⊎◌, inl, inr, ℕ, suc, ◌+◌, ◌<◌, List, [], ◌∷◌, length, All, Bool, Option, Some, None, IfSome, IfOk, IsTrue, Result, Ok, Err, refl, sym, ap, subst, ◌∙◌, arith}
+use Rattle.std.proofs.Common.{◌≡◌, ◌⊎◌, inl, inr, ℕ, suc, ◌+◌, ◌<◌, List, [], ◌∷◌, get_or, length, All, Bool, Option, Some, None, IfSome, IfOk, IsTrue, Result, Ok, Err, refl, sym, ap, subst, ◌∙◌, arith}
 use Rattle.std.specs.List.{AllByRecursion}
 use Rattle.std.specs.Prelude.{slice_get}
 use Rattle.std.specs.Result.{IsErrAnd}
@@ -11,11 +11,13 @@ use Rattle.std.proofs.lemmas.Bool.{cases_lt}
 use Rattle.std.proofs.lemmas.Cmp.{nat_list_cmp_total}
 use Rattle.std.proofs.lemmas.List.{length-map}
 use Rattle.std.proofs.lemmas.List.Elements.{recursion_from_All}
+use Rattle.std.proofs.lemmas.Option.{slice_get-get_or}
 use Rattle.std.proofs.lemmas.Map.Text.{is_eq-slice_cmp}
 use Rattle.sqlite.specs.Effect.{Database}
 use Rattle.sqlite.specs.State.{State, HasCleanDisk}
 use Rattle.desk_codes.specs.declared.currency.Ccy.{Ccy}
-use Rattle.desk_codes.specs.declared.currency.Ccy.TheVariants.{Chf, Eur, Gbp, Jpy, Kwd, Usd}
+use Rattle.desk_codes.specs.declared.currency.TheConstants.{CURRENCIES}
+use Rattle.desk_codes.proofs.CurrencyLemmas.{by_ccy}
 use Rattle.desk_rules.specs.declared.answers.reply.Kept.{Kept}
 use Rattle.desk_rules.specs.declared.history.entry.Entry.{Entry}
 use Rattle.desk_rules.specs.Content.{Content, history_of}
@@ -139,21 +141,21 @@ module _ (db : Database) (content : Content) where
         at_number k (so.each k (omega (arith, low, size, is))));
   }
 
--- ---- the six currencies
+-- ---- the currencies
 
-abbrev of_each : (Ccy → AmountKey) → List AmountKey
-of_each key = key Chf ∷ key Eur ∷ key Gbp ∷ key Jpy ∷ key Kwd ∷ key Usd ∷ []
+-- what is so of the currencies before one of a list, and of it, is so of those up to it
+pub next_currency : (P : Ccy → Type 0) (ccys : List Ccy) (n : ℕ) (e : Ccy) → n < length ccys → ((k : ℕ) (d : Ccy) → k < n → P (get_or ccys k d)) → P (get_or ccys n e) → (k : ℕ) (d : Ccy) → k < n + 1 → P (get_or ccys k d)
+next_currency P ccys n e within before here k d low = elim (cases_lt k n) [
+  | inl first ↦ before k d first
+  | inr at ↦
+      let same : n ≡ k = omega (arith, at, low) in
+      let one : Some (get_or ccys n e) ≡ Some (get_or ccys n d) = sym (slice_get-get_or ccys n e within) ∙ slice_get-get_or ccys n d within in
+      let is : get_or ccys n e ≡ get_or ccys n d = cc in
+      subst (λ m. P (get_or ccys m d)) same (subst P is here)
+]
 
-each_currency : (P : AmountKey → Type 0) (key : Ccy → AmountKey) → All P (of_each key) → (ccy : Ccy) → P (key ccy)
-each_currency P key all ccy = each ccy (recursion_from_All P (of_each key) all)
-  where
-    each : (ccy : Ccy) → AllByRecursion P (of_each key) → P (key ccy)
-    each Chf so = so.0
-    each Eur so = so.1.0
-    each Gbp so = so.1.1.0
-    each Jpy so = so.1.1.1.0
-    each Kwd so = so.1.1.1.1.0
-    each Usd so = so.1.1.1.1.1.0
+each_currency : (P : Ccy → Type 0) → All P CURRENCIES → (ccy : Ccy) → P ccy
+each_currency P all = by_ccy P (recursion_from_All P CURRENCIES all)
 
 -- in the form of a call's answer
 module _ (db : Database) (content : Content) (r : Result Bool AuditFault) where
@@ -161,11 +163,11 @@ module _ (db : Database) (content : Content) (r : Result Bool AuditFault) where
   told then (Ok so) all = λ yes. then (all yes)
   told then (Err fault) all = tt
 
-  pub each_cash : (bic : List ℕ) → IfOk r (λ so. IsTrue so → All (IsRecorded db content) (of_each (λ ccy. Cash bic ccy))) → IfOk r (λ so. IsTrue so → IsCashRecorded db content bic)
-  each_cash bic all = told (λ here. record { each = each_currency (IsRecorded db content) (λ ccy. Cash bic ccy) here }) r all
+  pub each_cash : (bic : List ℕ) → IfOk r (λ so. IsTrue so → All (λ ccy. IsRecorded db content (Cash bic ccy)) CURRENCIES) → IfOk r (λ so. IsTrue so → IsCashRecorded db content bic)
+  each_cash bic all = told (λ here. record { each = each_currency (λ ccy. IsRecorded db content (Cash bic ccy)) here }) r all
 
-  pub each_paid : IfOk r (λ so. IsTrue so → All (IsRecorded db content) (of_each (λ ccy. Currency ccy))) → IfOk r (λ so. IsTrue so → IsPaidRecorded db content)
-  each_paid all = told (λ here. record { each = each_currency (IsRecorded db content) (λ ccy. Currency ccy) here }) r all
+  pub each_paid : IfOk r (λ so. IsTrue so → All (λ ccy. IsRecorded db content (Currency ccy)) CURRENCIES) → IfOk r (λ so. IsTrue so → IsPaidRecorded db content)
+  each_paid all = told (λ here. record { each = each_currency (λ ccy. IsRecorded db content (Currency ccy)) here }) r all
 
   pub all_three : (IsTrueTable db content ledgers.Balance) × IsTrueTable db content ledgers.Cash → IfOk r (λ so. IsTrue so → IsTrueTable db content ledgers.Total) → IfOk r (λ so. IsTrue so → AreTrueTables db content)
   all_three first last = told (λ third. record { balance = first.0; cash = first.1; total = third }) r last

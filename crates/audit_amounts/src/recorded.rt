@@ -8,7 +8,7 @@ ghost use Rattle.audit_amounts.specs.Recorded.{AreAllRecorded, AreHoldingsRecord
 
 use crate::said::is_said;
 use audit_rows::AuditFault;
-use desk_codes::{AccountId, Bic, Ccy};
+use desk_codes::{AccountId, Bic, CURRENCIES, Ccy};
 use desk_register::{Register, Stage};
 use desk_rules::{Entry, Movement};
 use sql_amounts::{AmountKey, amount};
@@ -31,27 +31,6 @@ fn is_recorded<S: Alter, R: Register>(
     let recorded = amount(conn, key)?;
     let so = is_said(alloc, register, key, recorded)?;
     Ok(so)
-}
-
-/// Whether so it is of each of some keys.
-fn are_recorded<S: Alter, R: Register>(
-    alloc: Global,
-    conn: &mut Connection<S>,
-    register: &mut R,
-    keys: &[AmountKey],
-) -> Result<bool, AuditFault>
-    requires stage { (R.view register.old).stage ≡ Stage.Idle }
-    ensures says { Soundly S.Store conn.old conn.new (IfTrusted (R.view register.old) (R.view register.new) (AreAmounts (tables S.Store conn.old)
-        → IfOk result (λ so. IsTrue so → All (IsRecorded (tables S.Store conn.old) (R.view register.old).content) keys.now))) }
-    ensures look { Audits S.Store conn.old conn.new result }
-    ensures read { Consults result (R.view register.old) (R.view register.new) }
-{
-    for key in keys {
-        if !is_recorded(alloc, conn, register, key)? {
-            return Ok(false);
-        }
-    }
-    Ok(true)
 }
 
 /// Whether so it is of all that an account holds. Of more securities than there are entries it can hold none.
@@ -87,6 +66,28 @@ fn are_holdings_recorded<S: Alter, R: Register>(
     Ok(beyond.is_none())
 }
 
+/// Whether so it is of what a participant has of each of some currencies.
+fn are_cash_recorded<S: Alter, R: Register>(
+    alloc: Global,
+    conn: &mut Connection<S>,
+    register: &mut R,
+    bic: Bic,
+    ccys: &[Ccy],
+) -> Result<bool, AuditFault>
+    requires stage { (R.view register.old).stage ≡ Stage.Idle }
+    ensures says { Soundly S.Store conn.old conn.new (IfTrusted (R.view register.old) (R.view register.new) (AreAmounts (tables S.Store conn.old)
+        → IfOk result (λ so. IsTrue so → All (λ ccy. IsRecorded (tables S.Store conn.old) (R.view register.old).content (AmountKey.Cash bic ccy)) ccys.now))) }
+    ensures look { Audits S.Store conn.old conn.new result }
+    ensures read { Consults result (R.view register.old) (R.view register.new) }
+{
+    for ccy in ccys {
+        if !is_recorded(alloc, conn, register, &AmountKey::Cash(bic, *ccy))? {
+            return Ok(false);
+        }
+    }
+    Ok(true)
+}
+
 /// Whether so it is of what a participant has of each currency.
 #[tactic(auto, using(crate::proofs::WalkLemmas::each_cash))]
 fn is_cash_recorded<S: Alter, R: Register>(
@@ -101,19 +102,28 @@ fn is_cash_recorded<S: Alter, R: Register>(
     ensures look { Audits S.Store conn.old conn.new result }
     ensures read { Consults result (R.view register.old) (R.view register.new) }
 {
-    are_recorded(
-        alloc,
-        conn,
-        register,
-        &[
-            AmountKey::Cash(bic, Ccy::Chf),
-            AmountKey::Cash(bic, Ccy::Eur),
-            AmountKey::Cash(bic, Ccy::Gbp),
-            AmountKey::Cash(bic, Ccy::Jpy),
-            AmountKey::Cash(bic, Ccy::Kwd),
-            AmountKey::Cash(bic, Ccy::Usd),
-        ],
-    )
+    are_cash_recorded(alloc, conn, register, bic, &CURRENCIES)
+}
+
+/// Whether so it is of what is paid in of each of some currencies.
+fn are_paid_recorded<S: Alter, R: Register>(
+    alloc: Global,
+    conn: &mut Connection<S>,
+    register: &mut R,
+    ccys: &[Ccy],
+) -> Result<bool, AuditFault>
+    requires stage { (R.view register.old).stage ≡ Stage.Idle }
+    ensures says { Soundly S.Store conn.old conn.new (IfTrusted (R.view register.old) (R.view register.new) (AreAmounts (tables S.Store conn.old)
+        → IfOk result (λ so. IsTrue so → All (λ ccy. IsRecorded (tables S.Store conn.old) (R.view register.old).content (AmountKey.Currency ccy)) ccys.now))) }
+    ensures look { Audits S.Store conn.old conn.new result }
+    ensures read { Consults result (R.view register.old) (R.view register.new) }
+{
+    for ccy in ccys {
+        if !is_recorded(alloc, conn, register, &AmountKey::Currency(*ccy))? {
+            return Ok(false);
+        }
+    }
+    Ok(true)
 }
 
 /// Whether so it is of what is paid in of each currency.
@@ -129,19 +139,7 @@ pub fn is_paid_recorded<S: Alter, R: Register>(
     ensures look { Audits S.Store conn.old conn.new result }
     ensures read { Consults result (R.view register.old) (R.view register.new) }
 {
-    are_recorded(
-        alloc,
-        conn,
-        register,
-        &[
-            AmountKey::Currency(Ccy::Chf),
-            AmountKey::Currency(Ccy::Eur),
-            AmountKey::Currency(Ccy::Gbp),
-            AmountKey::Currency(Ccy::Jpy),
-            AmountKey::Currency(Ccy::Kwd),
-            AmountKey::Currency(Ccy::Usd),
-        ],
-    )
+    are_paid_recorded(alloc, conn, register, &CURRENCIES)
 }
 
 /// Whether so it is of what is outstanding of the security that is moved.
