@@ -1,10 +1,9 @@
 -- The row of an entry says that entry, and the row of a message that message.
 use Rattle.std.proofs.Common.{◌≡◌, ◌⊎◌, inl, inr, refl, sym, ap, ◌∙◌, ℕ, ◌+◌, ◌<◌, ◌≤◌, List, [], ◌∷◌, map, length, is_some, Bool, true, false, Option, None, Some, arith}
 use Rattle.std.proofs.lemmas.Bool.{cases_lt}
-use Rattle.desk_codes.specs.Currency.{decimals_of, letters_of}
+use Rattle.desk_codes.specs.Currency.{decimals_of}
 use Rattle.desk_codes.specs.Number.{written_number}
-use Rattle.desk_codes.specs.declared.currency.Ccy.{Ccy}
-use Rattle.desk_codes.specs.declared.currency.Ccy.TheVariants.{Chf, Eur, Gbp, Jpy, Kwd, Usd}
+use Rattle.desk_codes.proofs.CurrencyLemmas.{found_again}
 use Rattle.desk_msg.specs.declared.instruction.CancelOrder.{CancelOrder}
 use Rattle.desk_msg.specs.declared.instruction.Cash.{Cash}
 use Rattle.desk_msg.specs.declared.instruction.Instruction.{Instruction}
@@ -26,17 +25,9 @@ use Rattle.desk_rules.proofs.SameContent.{cash_same, instruction_same, movement_
 use Rattle.sql_tables.specs.CashColumns.{amount_of, currency_of}
 use Rattle.sql_entries.specs.Columns.{number_of_rule}
 use Rattle.sql_entries.specs.Entries.{row_of, rows_from, type_value}
-use Rattle.sql_register.specs.RowsSaid.{where_so, within, same_or, movement_in, payment_in, cash_in, cash_of, ccy_of, unit_of, type_of, rule_of, type_in, instruct_in, cancel_in, entry_in, kept_in}
+use Rattle.sql_register.specs.RowsSaid.{where_so, within, same_or, movement_in, payment_in, cash_in, cash_with, cash_of, unit_of, type_of, rule_of, type_in, instruct_in, cancel_in, entry_in, kept_in}
 
 -- ---- codes
-
-ccy_again : (ccy : Ccy) → ccy_of (letters_of ccy) ≡ ccy
-ccy_again Chf = refl
-ccy_again Eur = refl
-ccy_again Gbp = refl
-ccy_again Jpy = refl
-ccy_again Kwd = refl
-ccy_again Usd = refl
 
 unit_again : (kind : Kind) → unit_of (code_of_kind kind) ≡ kind
 unit_again Units = refl
@@ -85,7 +76,7 @@ movement_again kind m =
     some_is m.quantity _ _ (kind m) m.some (λ some. within_is m.quantity _ _ _ (kind m) m.within
     (λ low. ap kind (movement_same (record { reference = m.reference; account = m.account; isin = m.isin; quantity = m.quantity; some = some; within = low }) m refl refl refl refl)))
 
-payment_again : (kind : Payment → Entry) (p : Payment) → payment_in kind p.reference p.bic p.ccy p.amount ≡ kind p
+payment_again : (kind : Payment → Entry) (p : Payment) → payment_in kind p.reference p.bic (Some p.ccy) p.amount ≡ kind p
 payment_again kind p =
     some_is p.amount _ _ (kind p) p.some (λ some. within_is p.amount _ _ _ (kind p) p.within
     (λ low. ap kind (payment_same (record { reference = p.reference; bic = p.bic; ccy = p.ccy; amount = p.amount; some = some; within = low }) p refl refl refl refl)))
@@ -95,17 +86,9 @@ cash_from_parts cash =
     some_is cash.amount _ _ (Some cash) cash.some (λ some. within_is (length (written_number cash.amount (decimals_of cash.ccy))) 15 _ _ (Some cash) cash.short
     (λ short. ap Some (cash_same (record { ccy = cash.ccy; amount = cash.amount; some = some; short = short }) cash refl refl)))
 
-lettered : (ccy : Ccy) (amount : ℕ) → cash_of (letters_of ccy) amount ≡ cash_in (ccy_of (letters_of ccy)) amount
-lettered Chf amount = refl
-lettered Eur amount = refl
-lettered Gbp amount = refl
-lettered Jpy amount = refl
-lettered Kwd amount = refl
-lettered Usd amount = refl
-
 cash_again : (cash : Option Cash) → cash_of (currency_of cash) (amount_of cash) ≡ cash
 cash_again None = refl
-cash_again (Some cash) = lettered cash.ccy cash.amount ∙ ap (λ c. cash_in c cash.amount) (ccy_again cash.ccy) ∙ cash_from_parts cash
+cash_again (Some cash) = ap (λ c. cash_with c cash.amount) (found_again cash.ccy) ∙ cash_from_parts cash
 
 instruct_again : (n : ℕ) (sender : List ℕ) (i : Instruction) (reply : Reply) → instruct_in (row_of n (Instruct sender i) reply) ≡ Instruct sender i
 instruct_again n sender i reply =
@@ -147,8 +130,8 @@ entry_again n (Account reference bic account) reply = refl
 entry_again n (Security reference isin kind) reply = ap (Security reference isin) (unit_again kind)
 entry_again n (Issue movement) reply = movement_again Issue movement
 entry_again n (Redeem movement) reply = movement_again Redeem movement
-entry_again n (PayIn payment) reply = ap (λ c. payment_in PayIn payment.reference payment.bic c payment.amount) (ccy_again payment.ccy) ∙ payment_again PayIn payment
-entry_again n (PayOut payment) reply = ap (λ c. payment_in PayOut payment.reference payment.bic c payment.amount) (ccy_again payment.ccy) ∙ payment_again PayOut payment
+entry_again n (PayIn payment) reply = ap (λ c. payment_in PayIn payment.reference payment.bic c payment.amount) (found_again payment.ccy) ∙ payment_again PayIn payment
+entry_again n (PayOut payment) reply = ap (λ c. payment_in PayOut payment.reference payment.bic c payment.amount) (found_again payment.ccy) ∙ payment_again PayOut payment
 entry_again n (Instruct sender instruction) reply = instruct_again n sender instruction reply
 entry_again n (Cancel sender order) reply = cancel_again n sender order reply
 entry_again n (Run reference day rule) reply = ap (Run reference day) (rule_again rule)

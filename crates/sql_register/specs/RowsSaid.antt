@@ -7,10 +7,9 @@ use Rattle.std.proofs.lemmas.Bool.{cases_lt}
 use Rattle.sqlite_value.specs.Order.{Row, column}
 use Rattle.sqlite.specs.declared.types.Value.{Value}
 use Rattle.sqlite.specs.declared.types.Value.TheVariants.{Int, Text as Words}
-use Rattle.desk_codes.specs.Currency.{decimals_of, letters_of}
+use Rattle.desk_codes.specs.Currency.{ccy_of, decimals_of}
 use Rattle.desk_codes.specs.Number.{written_number}
 use Rattle.desk_codes.specs.declared.currency.Ccy.{Ccy}
-use Rattle.desk_codes.specs.declared.currency.Ccy.TheVariants.{Chf, Eur, Gbp, Jpy, Kwd, Usd}
 use Rattle.desk_msg.specs.declared.instruction.Cash.{Cash}
 use Rattle.desk_msg.specs.declared.instruction.Kind.{Kind}
 use Rattle.desk_msg.specs.declared.instruction.Kind.TheVariants.{Unit as Units, FaceAmount}
@@ -54,9 +53,6 @@ type_in _ = None
 abbrev pub one_of : {X : Type 0} → X → List X → (X → Bool) → X
 one_of other all test = unwrap_or (find test all) other
 
-abbrev pub ccy_of : List ℕ → Ccy
-ccy_of letters = one_of Chf (Chf ∷ Eur ∷ Gbp ∷ Jpy ∷ Kwd ∷ Usd ∷ []) (λ ccy. bytes_eq (letters_of ccy) letters)
-
 abbrev pub unit_of : List ℕ → Kind
 unit_of code = one_of Units (Units ∷ FaceAmount ∷ []) (λ kind. bytes_eq (code_of_kind kind) code)
 
@@ -96,8 +92,9 @@ movement_in kind reference account isin quantity =
     where_so (cases_lt 0 quantity) no_entry (λ some. where_so (within quantity MOST_QUANTITY) no_entry
     (λ within. kind (record { reference = reference; account = account; isin = isin; quantity = quantity; some = some; within = within })))
 
-abbrev pub payment_in : (Payment → Entry) → List ℕ → List ℕ → Ccy → ℕ → Entry
-payment_in kind reference bic ccy amount =
+abbrev pub payment_in : (Payment → Entry) → List ℕ → List ℕ → Option Ccy → ℕ → Entry
+payment_in kind reference bic None amount = no_entry
+payment_in kind reference bic (Some ccy) amount =
     where_so (cases_lt 0 amount) no_entry (λ some. where_so (within amount MOST_PAID) no_entry
     (λ within. kind (record { reference = reference; bic = bic; ccy = ccy; amount = amount; some = some; within = within })))
 
@@ -107,9 +104,12 @@ cash_in ccy amount =
     (λ short. Some (record { ccy = ccy; amount = amount; some = some; short = short })))
 
 -- no currency, no cash
+abbrev pub cash_with : Option Ccy → ℕ → Option Cash
+cash_with None amount = None
+cash_with (Some ccy) amount = cash_in ccy amount
+
 abbrev pub cash_of : List ℕ → ℕ → Option Cash
-cash_of [] amount = None
-cash_of (letter ∷ more) amount = cash_in (ccy_of (letter ∷ more)) amount
+cash_of letters amount = cash_with (ccy_of letters) amount
 
 -- ---- rows
 
