@@ -1,7 +1,8 @@
-use Rattle.std.proofs.Common.{ℕ, ◌<◌, slice_index_or}
+use Rattle.std.proofs.Common.{ℕ, ◌<◌, get_or, slice_index_or}
 use Rattle.sqlite.specs.Held.{state}
 use Rattle.desk_codes.specs.declared.currency.Ccy.{Ccy}
 use Rattle.desk_codes.specs.declared.currency.Ccy.TheVariants.{Chf}
+use Rattle.desk_codes.specs.declared.currency.TheConstants.{CURRENCIES}
 use Rattle.desk_register.proofs.ReadLemmas.{read_more}
 use Rattle.sql_amounts.specs.declared.key.AmountKey.TheVariants.{Cash}
 use Rattle.sql_amounts.specs.Amounts.{AreAmounts}
@@ -25,7 +26,8 @@ loop-ccy-preserved g c =
     let v2 = g.R.Register.view c.is_recorded.new.register in
     let i = c.loop-ccy.invariant in
     let so = c.in_ok-is_recorded.ensures in
-    let here : Ccy = slice_index_or c.args.ccys.now c.loop-ccy.ccy-index Chf in
+    let first : Ccy = get_or CURRENCIES 0 Chf in
+    let here : Ccy = slice_index_or c.args.ccys.now c.loop-ccy.ccy-index first in
     record {
       look = look_more _ s0 s1 s2 i.look so.look;
       read = read_more _ v0 v1 v2 i.read so.read;
@@ -35,5 +37,5 @@ loop-ccy-preserved g c =
           (λ db content. AreAmounts db → IsRecorded db content (Cash c.args.bic here))
           i.said
           (λ clean is_open has honest sure amounts. so.says clean is_open has honest sure amounts c.if-not-branch.false) clean is_open has honest sure in
-          next_currency (λ ccy. IsRecorded s0.now v0.content (Cash c.args.bic ccy)) c.args.ccys.now c.loop-ccy.ccy-index Chf c.loop-ccy-test.true (both.0 amounts) (both.1 amounts);
+          next_currency (λ ccy. IsRecorded s0.now v0.content (Cash c.args.bic ccy)) c.args.ccys.now c.loop-ccy.ccy-index first c.loop-ccy-test.true (both.0 amounts) (both.1 amounts);
     }
