@@ -333,6 +333,19 @@ accepted_still v0 v1 e can same room =
 pub can_run_of : (limit : ℕ) (e : Entry) (content : Content) → CanApply limit e content → CanRun limit content
 can_run_of limit e content can = record { books = can.books; tables = tables_of limit can.books content can.keeps }
 
+-- reading leaves both as they were
+pub can_run_still : (v0 v1 : View) (e : Entry) → CanApply v0.room e v0.content → v1.content ≡ v0.content → v1.room ≡ v0.room → CanRun v1.room v1.content
+can_run_still v0 v1 e can same room =
+    let P : Content → Type 0 = λ c. CanRun v1.room c in
+    let Q : ℕ → Type 0 = λ k. CanRun k v0.content in
+    subst P (sym same) (subst Q (sym room) (can_run_of v0.room e v0.content can))
+
+pub tables_still : (v0 v1 : View) (books : Books) → Keeps v0.room books v0.content → v1.content ≡ v0.content → v1.room ≡ v0.room → Tables v1.room books v1.content
+tables_still v0 v1 books keeps same room =
+    let P : Content → Type 0 = λ c. Tables v1.room books c in
+    let Q : ℕ → Type 0 = λ k. Tables k books v0.content in
+    subst P (sym same) (subst Q (sym room) (tables_of v0.room books v0.content keeps))
+
 pub room_of : (limit : ℕ) (e : Entry) (content : Content) → CanApply limit e content → length content.register < limit
 room_of limit e content can =
     let lt = (accepted_new limit can.books e can.verdict).has_room in
@@ -442,14 +455,6 @@ run_step v0 v1 v2 v3 books reference day rule reply n a can ran kept same added 
       replied = replied after fared;
       kept = kept_last v0.content.register v3.content.register (record { entry = e; reply = reply }) a.number more (omega arith);
     }
-
-pub number_after_run : (v0 v1 : View) (e : Entry) (n : ℕ) → CanApply v0.room e v0.content → v1.room ≡ v0.room → v1.content.register ≡ v0.content.register
-    → (length v1.content.register < v1.room → n ≡ length v1.content.register + 1) → n ≡ length v0.content.register + 1
-number_after_run v0 v1 e n can room kept value =
-    let same : length v1.content.register ≡ length v0.content.register = ap length kept in
-    let lt = room_of v0.room e v0.content can in
-    let is = value (omega arith) in
-    omega arith
 
 -- the run has passed, as it must have before it is added
 pub passed_of : (v0 v1 v2 : View) (reference day : List ℕ) (rule : RunRule) (settled waiting passes : ℕ) → (can : CanApply v0.room (Run reference day rule) v0.content) → RanTo can.books (Run reference day rule) settled waiting passes v1.content

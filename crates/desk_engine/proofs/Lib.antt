@@ -7,7 +7,6 @@ mod CancelLemmas
 mod UnderwayLemmas
 mod DecisionLemmas
 mod FinishLemmas
-mod FurtherLemmas
 mod InstructLemmas
 mod KeepsLemmas
 mod PassLemmas
@@ -21,6 +20,7 @@ pub mod SoundLemmas
 pub mod RunningLemmas
 mod StepLaws
 mod StepLemmas
+mod TryingLemmas
 mod WaitingLemmas
 mod WithinLimits
 pub mod KeptHistoryLemmas

@@ -352,33 +352,11 @@ waits_rest books reference day rule pass start place tried count waiting content
     let fewer = u.fewer in
     omega arith
 
-pub ends_all : (books : Books) (reference day : List ℕ) (rule : RunRule) (pass : ℕ) (start : List Settled) (place : Option Place) (tried count waiting : ℕ) (content : Content) → AreBooks books
-    → Underway books reference day rule pass start place tried count waiting content → length books.history ≤ tried → PassEnds books (Run reference day rule) pass start count waiting content
-ends_all books reference day rule pass start place tried count waiting content are u all =
-    over books reference day rule pass start place tried count waiting content u (λ p free.
-    let i = filter-In (is_above (books.history ++ Run reference day rule ∷ []) place) books.pairs p (In-from_Contains books.pairs p free.paired) free.above in
-    let some = member_some (filter (is_above (books.history ++ Run reference day rule ∷ []) place) books.pairs) p i in
-    let left = u.left in
-    absurd (omega arith))
-
--- after as many tries as there are entries no pair is left that is due
-pub none_after_all : (limit : ℕ) (books : Books) (reference day : List ℕ) (rule : RunRule) (pass : ℕ) (start : List Settled) (place : Option Place) (tried count waiting : ℕ) (content : Content) → AreBooks books → WasAccepted limit books.history
-    → Underway books reference day rule pass start place tried count waiting content → length books.history ≤ tried → (next : Place) → IsDuePairAfter content (number_of day) place (Some next) → ⊥
-none_after_all limit books reference day rule pass start place tried count waiting content are was u all next due =
-    let g = books.history ++ Run reference day rule ∷ [] in
-    let n = next_sides limit books reference day rule pass place (start ++ u.here) content are was u.underway next due.0 in
-    let f = next_facts limit books reference day rule pass place (start ++ u.here) content are was u.underway next due n in
-    let p = n.found.waiting.pair in
-    let i = filter-In (is_above g place) books.pairs p (In-from_Contains books.pairs p f.next_is.is_open.paired) f.next_is.is_open.above in
-    let some = member_some (filter (is_above g place) books.pairs) p i in
-    let left = u.left in
-    omega arith
-
 -- A run, pass by pass.
 
 -- The run has made its passes up to one that is over: it was made again so often, so many settled in all of them, and so
 -- many in the last.
-pub record Ran (books : Books) (reference day : List ℕ) (rule : RunRule) (again settled_so waiting_so last : ℕ) (content : Content) : Type 0 where
+pub record PassesMade (books : Books) (reference day : List ℕ) (rule : RunRule) (again settled_so waiting_so last : ℕ) (content : Content) : Type 0 where
   pub pass : ℕ
   pub start : List Settled
   pub settled : List Settled
@@ -397,7 +375,7 @@ some_member : (ss : List Settled) → 0 < length ss → (s : Settled) × In ss s
 some_member [] lt = absurd (omega arith)
 some_member (s ∷ ss) lt = (s, inl refl)
 
-module _ (books : Books) (reference day : List ℕ) (rule : RunRule) (again settled_so waiting_so last : ℕ) (content : Content) (are : AreBooks books) (ran : Ran books reference day rule again settled_so waiting_so last content) where
+module _ (books : Books) (reference day : List ℕ) (rule : RunRule) (again settled_so waiting_so last : ℕ) (content : Content) (are : AreBooks books) (ran : PassesMade books reference day rule again settled_so waiting_so last content) where
   -- a further pass, where the rule allows it and the last one settled something
   pub goes_again : rule ≡ Passes → 0 < last → IsUnderway books (Run reference day rule) (ran.pass + 1) None ran.settled content
   goes_again passes some =
@@ -451,91 +429,24 @@ module _ (books : Books) (reference day : List ℕ) (rule : RunRule) (again sett
         passes = passes_is books reference day rule ran.pass ran.start ran.settled last waiting_so content are o (not_again why) ∙ ran.is_pass;
       }
 
-  -- the run cannot go on for ever: each pass but the last settles a pair
-  pub enough : length books.history ≤ again → last ≡ 0
-  enough all = elim (cases_lt 0 last) [
-    | inr none ↦ omega arith
-    | inl some ↦
-        let few = ran.over.further.few in
-        let parts : length ran.settled ≡ length books.settled + length ran.over.further.more = ap length ran.over.further.is_more ∙ length-append books.settled ran.over.further.more in
-        let pairs = pairs_few books are in
-        let total = ran.total in
-        let more = ran.many_last some in
-        absurd (omega arith)
-  ]
-
-  -- and makes fewer passes than there are entries, unless there are none
-  pub none_at_all : length books.history ≤ again → again ≡ 0
-  none_at_all all = elim (cases_lt 0 (length books.pairs)) [
-    | inl some ↦
-        let few = ran.over.further.few in
-        let parts : length ran.settled ≡ length books.settled + length ran.over.further.more = ap length ran.over.further.is_more ∙ length-append books.settled ran.over.further.more in
-        let pairs = pairs_fewer books are some in
-        let total = ran.total in
-        let many = ran.many in
-        absurd (omega arith)
-    | inr none ↦
-        let few = ran.over.further.few in
-        let parts : length ran.settled ≡ length books.settled + length ran.over.further.more = ap length ran.over.further.is_more ∙ length-append books.settled ran.over.further.more in
-        let total = ran.total in
-        let many = ran.many in
-        omega arith
-  ]
-
-  pub settled_few : settled_so ≤ length books.history
-  settled_few =
-      let few = ran.over.further.few in
-      let parts : length ran.settled ≡ length books.settled + length ran.over.further.more = ap length ran.over.further.is_more ∙ length-append books.settled ran.over.further.more in
-      let pairs = pairs_few books are in
-      let total = ran.total in
-      omega arith
-
--- the first pass is over
-pub first_over : (books : Books) (reference day : List ℕ) (rule : RunRule) (count waiting : ℕ) (content : Content) → PassEnds books (Run reference day rule) 1 books.settled count waiting content
-    → Ran books reference day rule 0 count waiting count content
-first_over books reference day rule count waiting content ends =
+-- a pass more is over
+pub pass_over : (books : Books) (reference day : List ℕ) (rule : RunRule) (before settled_so count waiting total : ℕ) (start : List Settled) (content : Content) → before ≤ settled_so → length start ≡ length books.settled + settled_so → total ≡ settled_so + count
+    → PassEnds books (Run reference day rule) (before + 1) start count waiting content → PassesMade books reference day rule before total waiting count content
+pass_over books reference day rule before settled_so count waiting total start content many so_far sum ends =
     let o = ends.over in
     let a = length-append books.settled o.further.more in
-    let b = length-append books.settled o.here in
+    let b = length-append start o.here in
     let c = ap length o.further.is_more in
     let d = ap length o.is_here in
     let e = o.counted in
     record {
-      pass = 1;
-      start = books.settled;
+      pass = before + 1;
+      start = start;
       settled = ends.settled;
       over = o;
       total = omega arith;
       is_pass = refl;
       many = omega arith;
-      many_last = λ some. some;
-      told = ends.told;
-    }
-
--- and a further one
-pub again_over : (books : Books) (reference day : List ℕ) (rule : RunRule) (again settled_so waiting_so last count waiting total : ℕ) (old new : Content) → AreBooks books
-    → (ran : Ran books reference day rule again settled_so waiting_so last old) → 0 < last → total ≡ settled_so + count
-    → PassEnds books (Run reference day rule) (ran.pass + 1) ran.settled count waiting new → Ran books reference day rule (again + 1) total waiting count new
-again_over books reference day rule again settled_so waiting_so last count waiting total old new are ran some sum ends =
-    let o = ends.over in
-    let p = ran.over in
-    let a = length-append books.settled o.further.more in
-    let b = length-append ran.settled o.here in
-    let c = ap length o.further.is_more in
-    let d = ap length o.is_here in
-    let e = o.counted in
-    let f = length-append books.settled p.further.more in
-    let g = ap length p.further.is_more in
-    let h = ran.total in
-    let m = ran.many_last some in
-    record {
-      pass = ran.pass + 1;
-      start = ran.settled;
-      settled = ends.settled;
-      over = o;
-      total = omega arith;
-      is_pass = ap (λ k. k + 1) ran.is_pass;
-      many = omega arith;
-      many_last = λ now. omega arith;
+      many_last = λ some. omega arith;
       told = ends.told;
     }

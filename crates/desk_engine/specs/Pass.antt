@@ -16,7 +16,7 @@ use Rattle.desk_rules.specs.declared.answers.verdict.Verdict.TheVariants.{Accept
 use Rattle.desk_rules.specs.History.{instruction_at}
 use Rattle.desk_rules.specs.Cancelled.{is_cancel_requested}
 use Rattle.desk_rules.specs.Covered.{lack_of}
-use Rattle.desk_rules.specs.Settlement.{passes_of, is_due, settled_before, pass_begins, settled_count, IsSettlement}
+use Rattle.desk_rules.specs.Settlement.{is_past, passes_of, is_due, settled_before, pass_begins, settled_count, IsSettlement}
 use Rattle.desk_rules.specs.Underway.{is_above}
 use Rattle.desk_rules.specs.Books.{Books, AreBooks}
 use Rattle.desk_rules.specs.Standing.{no_standing, reason_of_lack}
@@ -35,6 +35,7 @@ use Rattle.desk_register.specs.Short.{IsToTryAfter}
 use Rattle.desk_register.specs.declared.outcome.Outcome.{Outcome}
 use Rattle.desk_register.specs.declared.outcome.Outcome.TheVariants as outcomes
 use Rattle.desk_register.specs.declared.outcome.Outcome.TheVariants.{Lacks}
+use Rattle.desk_engine.specs.declared.settlement_run.Ran.{Ran}
 use Rattle.desk_engine.specs.declared.settlement_run.Taken.{Taken}
 use Rattle.desk_engine.specs.Sending.{with_both_confirmed}
 use Rattle.desk_engine.specs.Tables.{Tables}
@@ -98,15 +99,21 @@ pub record Fares (old : Content) (n : ℕ) (day : List ℕ) (settles : Bool) (ne
   pub settled : has_settled outcome ≡ settles
   pub tried : IsTried old n day outcome new
 
--- the next due pair past a place, taken; or there is none
-abbrev pub Takes : Content → List ℕ → Option Place → Option Taken → Content → Type 0
-Takes old day place None new = IsDuePairAfter old (number_of day) place None × (new ≡ old)
-Takes old day place (Some taken) new = IsDuePairAfter old (number_of day) place (Some taken.place) × Fares old taken.place.number day taken.settles new
+-- the next pair that a pass takes past a place: the first due one, or where the run goes over them again one before which
+-- all stay short
+abbrev pub IsNextPair : Bool → Content → ℕ → Option Place → Option Place → Type 0
+IsNextPair false content day place next = IsDuePairAfter content day place next
+IsNextPair true content day place next = IsToTryAfter content day place next
 
--- a due pair past a place, and past those that stay short, taken; or all stay short
-abbrev pub TakesPast : Content → List ℕ → Option Place → Option Taken → Content → Type 0
-TakesPast old day place None new = IsToTryAfter old (number_of day) place None × (new ≡ old)
-TakesPast old day place (Some taken) new = IsToTryAfter old (number_of day) place (Some taken.place) × Fares old taken.place.number day taken.settles new
+-- this pair is taken; or there is none
+abbrev pub Takes : Bool → Content → List ℕ → Option Place → Option Taken → Content → Type 0
+Takes again old day place None new = IsNextPair again old (number_of day) place None × (new ≡ old)
+Takes again old day place (Some taken) new = IsNextPair again old (number_of day) place (Some taken.place) × Fares old taken.place.number day taken.settles new
+
+-- what was taken past a place is past it
+abbrev pub IsTakenPast : Option Place → Option Taken → Type 0
+IsTakenPast place None = Unit {0}
+IsTakenPast place (Some taken) = is_past place taken.place ≡ true
 
 -- a pair can be tried: it can settle, and both parties be told
 pub record CanTry (limit : ℕ) (content : Content) (n day : ℕ) : Type 0 where
@@ -210,13 +217,18 @@ pub record IsAtPass (limit : ℕ) (books : Books) (run : Entry) (pass : ℕ) (se
   pub underway : IsUnderway books run pass None settled content
   pub told : HasToldSoFar books run settled content
 
-pub record CanPass (limit : ℕ) (day : List ℕ) (content : Content) : Type 0 where
+-- A run has made these passes, and may make one more: the register is at its beginning, with so much settled so far.
+pub record HasMade (limit : ℕ) (books : Books) (run : Entry) (ran : Ran) (settled : List Settled) (content : Content) : Type 0 where
+  pub at_pass : IsAtPass limit books run (ran.passes + 1) settled content
+  pub so_far : length settled ≡ length books.settled + ran.settled
+  pub waits : 0 < ran.passes → due_left books run settled ≡ ran.waiting
+
+pub record CanPass (limit : ℕ) (day : List ℕ) (ran : Ran) (content : Content) : Type 0 where
   pub books : Books
   pub reference : List ℕ
   pub rule : RunRule
-  pub pass : ℕ
   pub settled : List Settled
-  pub at_pass : IsAtPass limit books (Run reference day rule) pass settled content
+  pub made : HasMade limit books (Run reference day rule) ran settled content
 
 -- the pass is over, with so much settled in it, and so much that is due left
 pub record PassEnds (books : Books) (run : Entry) (pass : ℕ) (before : List Settled) (settled_so waiting_so : ℕ) (content : Content) : Type 0 where

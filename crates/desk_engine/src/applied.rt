@@ -1,5 +1,5 @@
 //! How an accepted entry fared, and its reply.
-ghost use Rattle.std.specs.Prelude.{◌≤◌};
+ghost use Rattle.std.specs.Prelude.{◌+◌, ◌≤◌};
 ghost use Rattle.desk_rules.specs.declared.limits.TheConstants.{MOST_ENTRIES};
 
 use desk_rules::{Reply, State};
@@ -15,11 +15,13 @@ pub struct Applied {
     pub settled: u64,
     /// How many pairs that were due in it are not settled; 0 unless it is a run
     pub waiting: u64,
-    /// How many passes a run made, the last one counted also where it settled nothing; 0 unless it is a run
+    /// How many passes a run made, each counted as it begins, the last one also where it settled nothing; 0 unless it is a run
     pub passes: u64,
     /// Where the instruction stands then that it asks to cancel; NoInstruction unless it is a cancellation
     pub named: State,
     ghost within: { number ≤ MOST_ENTRIES },
+    ghost few: { settled ≤ number },
+    ghost begun: { passes ≤ settled + 1 },
 }
 
 /// An accepted entry: what came of it, and its reply, as it is kept with it.

@@ -19,8 +19,9 @@ use std::alloc::Global;
 
 /// Takes an entry that `decide` accepts into the tables, with all that follows from it: an instruction is paired
 /// with its mate, a cancellation cancels its instruction, or a pair of which both sides asked, and a run settles what is
-/// covered. Answers how it fared, and its reply, of which a copy is kept with it. After a fault the tables are not known
-/// until `back`.
+/// covered. Answers how it fared, and its reply, of which a copy is kept with it. It is one step within an open `begin`, over
+/// what the register holds by then, so that several entries can be taken in and kept together. After a fault the tables are
+/// not known until `back`.
 pub fn apply<R: Register>(alloc: Global, register: &mut R, entry: Entry) -> Result<Accepted, Fault>
     requires stage { (R.view register.old).stage ≡ Stage.Begun }
     requires accepted { IfTrusted (R.view register.old) (R.view register.old) (CanApply (R.view register.old).room entry (R.view register.old).content) }
@@ -148,8 +149,8 @@ fn apply_run<R: Register>(
         → IfOk result (λ accepted. HasApplied (R.view register.old).room books (Entry.Run reference day rule) accepted (R.view register.new).content)) }
     ensures step { IsStep result (R.view register.old) (R.view register.new) }
 {
-    let made = run_passes(alloc, register, day, rule)?;
     let number = next_number(alloc, register)?;
+    let made = run_passes(alloc, register, day, rule, number)?;
     let applied = Applied {
         number,
         mate: None,

@@ -32,6 +32,7 @@ mod taking;
 
 pub use accepting::{Failure, accept, recover};
 pub use applied::{Accepted, Applied};
+pub use applying::apply;
 pub use checks::refuse;
 pub use decision::{decide, is_from_stranger};
 pub use laws::{

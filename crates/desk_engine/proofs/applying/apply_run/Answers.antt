@@ -1,37 +1,54 @@
-use Rattle.std.proofs.Common.{refl, ◌∙◌}
-use Rattle.desk_engine.proofs.AcceptingLemmas.{can_run_of, number_after_run, passed_of, run_step}
-use Rattle.desk_engine.proofs.KeepsLemmas.{tables_of}
+use Rattle.std.proofs.Common.{refl, ap, ◌∙◌}
+use Rattle.desk_rules.specs.Content.{Content}
+use Rattle.desk_engine.proofs.AcceptingLemmas.{can_run_still, number_after, passed_of, room_of, run_step, tables_still}
 use Rattle.desk_engine.proofs.applying.apply_run.Goals as goal
 
+pub run_passes-requires-clause-number : goal.run_passes-requires-clause-number
+run_passes-requires-clause-number g c = λ honest sure.
+    let r = c.in_ok-number.ensures in
+    let v0 = g.R.Register.view c.args.register.now in
+    let v1 = g.R.Register.view c.next_number.new.register in
+    let honest0 = r.read.later.honest honest in
+    let sure0 = r.read.later.sure honest sure in
+    number_after v0 v1 v1 _ c.in_ok-number.number (c.requires.accepted honest0 sure0) (r.read.same honest sure0) refl (r.value honest sure0)
+
 pub run_passes-requires-clause-tables : goal.run_passes-requires-clause-tables
-run_passes-requires-clause-tables g c = λ honest sure. let v0 = g.R.Register.view c.args.register.now in can_run_of v0.room _ v0.content (c.requires.accepted honest sure)
+run_passes-requires-clause-tables g c = λ honest sure.
+    let r = c.in_ok-number.ensures.read in
+    let honest0 = r.later.honest honest in
+    let sure0 = r.later.sure honest sure in
+    can_run_still (g.R.Register.view c.args.register.now) (g.R.Register.view c.next_number.new.register) _ (c.requires.accepted honest0 sure0) (r.same honest sure0) r.later.room
 
 pub add_run-requires-clause-passed : goal.add_run-requires-clause-passed
 add_run-requires-clause-passed g c = λ honest sure.
-    let p = c.in_ok-made.ensures in
     let r = c.in_ok-number.ensures.read in
-    let honest1 = r.later.honest honest in
-    let honest0 = p.step.later.honest honest1 in
-    let sure1 = r.later.sure honest sure in
-    let sure0 = p.step.later.sure honest1 sure1 in
+    let p = c.in_ok-made.ensures in
+    let honest1 = p.step.later.honest honest in
+    let honest0 = r.later.honest honest1 in
+    let sure1 = p.step.later.sure honest sure in
+    let sure0 = r.later.sure honest1 sure1 in
+    let v0 = g.R.Register.view c.args.register.now in
+    let v1 = g.R.Register.view c.next_number.new.register in
+    let v2 = g.R.Register.view c.run_passes.new.register in
     let can = c.requires.accepted honest0 sure0 in
-    passed_of (g.R.Register.view c.args.register.now) (g.R.Register.view c.run_passes.new.register) (g.R.Register.view c.next_number.new.register) c.args.reference c.args.day c.args.rule _ _ _ can
-    (p.ran can.books c.args.reference honest1 sure0 (tables_of (g.R.Register.view c.args.register.now).room can.books (g.R.Register.view c.args.register.now).content can.keeps)) (r.same honest sure1) (r.later.room ∙ p.step.later.room)
+    passed_of v0 v2 v2 c.args.reference c.args.day c.args.rule _ _ _ can
+    (p.ran can.books c.args.reference honest sure1 (tables_still v0 v1 can.books can.keeps (r.same honest1 sure0) r.later.room)) refl (p.step.later.room ∙ r.later.room)
 
 pub returns-clause-applied : goal.returns-clause-applied
 returns-clause-applied g c = λ books honest sure keeps.
-    let p = c.in_ok-made.ensures in
     let r = c.in_ok-number.ensures in
+    let p = c.in_ok-made.ensures in
     let add = c.in_ok-add_run.ensures in
     let honest2 = add.change.later.honest honest in
-    let honest1 = r.read.later.honest honest2 in
-    let honest0 = p.step.later.honest honest1 in
-    let sure1 = p.step.ok.sure honest1 sure in
-    let sure2 = r.read.ok.sure honest2 sure1 in
+    let honest1 = p.step.later.honest honest2 in
+    let honest0 = r.read.later.honest honest1 in
+    let sure1 = r.read.ok.sure honest1 sure in
+    let sure2 = p.step.ok.sure honest2 sure1 in
     let v0 = g.R.Register.view c.args.register.now in
-    let v1 = g.R.Register.view c.run_passes.new.register in
+    let v1 = g.R.Register.view c.next_number.new.register in
+    let v2 = g.R.Register.view c.run_passes.new.register in
     let can = c.requires.accepted honest0 sure in
-    let kept = p.kept honest1 sure in
-    run_step v0 v1 (g.R.Register.view c.next_number.new.register) (g.R.Register.view c.add_run.new.register) books c.args.reference c.args.day c.args.rule c.in_ok-reply.reply c.in_ok-number.number _
-    can (p.ran books c.args.reference honest1 sure (tables_of v0.room books v0.content keeps)) kept (r.read.same honest2 sure1) (rw c.in_ok-kept.ensures.reply at (add.added honest sure2))
-    (number_after_run v0 v1 _ c.in_ok-number.number can p.step.later.room kept (r.value honest2 sure1)) refl refl c.in_ok-reply.ensures.reply keeps
+    let same = r.read.same honest1 sure in
+    run_step v0 v2 v2 (g.R.Register.view c.add_run.new.register) books c.args.reference c.args.day c.args.rule c.in_ok-reply.reply c.in_ok-number.number _
+    can (p.ran books c.args.reference honest2 sure1 (tables_still v0 v1 books keeps same r.read.later.room)) (p.kept honest2 sure1 ∙ ap (λ (x : Content). x.register) same) refl (rw c.in_ok-kept.ensures.reply at (add.added honest sure2))
+    (r.value honest1 sure (room_of v0.room _ v0.content can)) refl refl c.in_ok-reply.ensures.reply keeps
