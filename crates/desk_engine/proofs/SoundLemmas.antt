@@ -4,7 +4,7 @@ use Rattle.std.specs.Prelude.{Ok, Err}
 use Rattle.desk_rules.specs.declared.history.entry.Entry.{Entry}
 use Rattle.desk_rules.specs.declared.answers.reply.Sent.{Sent}
 use Rattle.desk_rules.specs.Books.{Books}
-use Rattle.desk_rules.specs.BothLegs.{ComeInTwos, StandTogether}
+use Rattle.desk_rules.specs.BothLegs.{ComeInTwos, NeighboursAreOfOne, StandTogether}
 use Rattle.desk_rules.specs.Confirmations.{SayConfirmations}
 use Rattle.desk_rules.specs.Content.{Content}
 use Rattle.desk_rules.specs.WellFormed.{AreWellFormed, IsWellFormed}
@@ -30,6 +30,7 @@ kept_is_sound limit books content keeps formed =
     let never = never_negative limit books.history books.pairs books.settled keeps.accepted are.pairing are.settlement in
     let S : List Sent → Type 0 = λ messages. SayConfirmations messages says.0 in
     let T : List Sent → Type 0 = ComeInTwos in
+    let N : List Sent → Type 0 = λ messages. NeighboursAreOfOne books messages in
     record {
       securities_add_up = λ isin. held_adds_up limit books content isin keeps;
       cash_adds_up = λ ccy. held_cash_adds_up limit books content ccy keeps;
@@ -54,6 +55,7 @@ kept_is_sound limit books content keeps formed =
         together = λ s inside.
             let P : List Sent → Type 0 = λ messages. StandTogether books.history s messages in
             subst P (sym keeps.tables.sent) (legs.stand_together books are formed s (In-from_Contains books.settled s inside));
+        neighbours = subst N (sym keeps.tables.sent) (legs.neighbours_are_of_one books are formed);
         moves = λ s settled inside. moves books s settled are inside;
       };
       nothing_left = λ front reference day p. left.nothing_left front reference day books p are;

@@ -1,7 +1,7 @@
 -- A pass, pair by pair, and a run, pass by pass.
 use Rattle.std.proofs.Common.{◌≡◌, ◌⊎◌, inl, inr, ℕ, ◌+◌, ◌*◌, ◌<◌, ◌≤◌, Bool, true, false, List, [], ◌∷◌, ◌++◌, length, map, filter, Contains, Option, Some, None, refl, ap, sym, ◌∙◌, subst, arith, length-append, append_assoc, append-nil}
 use Rattle.std.specs.Prelude.{option_and_then}
-use Rattle.std.proofs.lemmas.Bool.{cases_Bool, cases_lt, both_ways, ltb-true, false_from_ne_true}
+use Rattle.std.proofs.lemmas.Bool.{cases_Bool, both_ways, ltb-true, false_from_ne_true}
 use Rattle.desk_codes.specs.Number.{number_of}
 use Rattle.desk_rules.specs.declared.history.entry.Entry.TheVariants.{Run}
 use Rattle.desk_rules.specs.declared.history.entry.RunRule.{RunRule}
@@ -33,7 +33,7 @@ use Rattle.desk_register.specs.Changes.{TriesPair, appended}
 use Rattle.desk_rules.specs.Sent.{date_in, sent_of}
 use Rattle.desk_register.specs.Looked.{IsDuePairAfter}
 use Rattle.desk_engine.specs.Pass.{CanTry, HasToldSoFar, IsTaken, RanTo, Tried, due_left, books_after, told_of_try, settled_of, PassesAt, PassesSo, IsUnderway, IsOver, PassEnds, is_below}
-use Rattle.desk_rules.proofs.Decided.{In, In-from_Contains, Contains-from_In, In-right, In-cases, Ordered, filter-In}
+use Rattle.desk_rules.proofs.Decided.{In, In-from_Contains, Contains-from_In, In-right, In-cases, Ordered}
 use Rattle.desk_rules.proofs.HistoryLemmas.{entry_at-end, instruction_at-front, instruction_at-known}
 use Rattle.desk_rules.proofs.PairingLemmas.{lower, decided_pairing}
 use Rattle.desk_rules.proofs.SettlementLemmas.{ordered_pairs, begins_true, begins_further}

@@ -10,7 +10,7 @@ use Rattle.desk_rules.specs.declared.history.pair.Settled.{Settled}
 use Rattle.desk_rules.specs.History.{before}
 use Rattle.desk_rules.specs.Balances.{issued, issued_by, movement_on, paid_in, paid_in_by, paid_out, paid_out_by, payment_of, redeemed, redeemed_by}
 use Rattle.desk_rules.specs.Books.{Books}
-use Rattle.desk_rules.specs.BothLegs.{ComeInTwos, Moves, StandTogether}
+use Rattle.desk_rules.specs.BothLegs.{ComeInTwos, Moves, NeighboursAreOfOne, StandTogether}
 use Rattle.desk_rules.specs.Confirmations.{Confirmation, SayConfirmations, brought, cash_brought, cash_taken, taken}
 use Rattle.desk_rules.specs.Content.{Content}
 use Rattle.desk_rules.specs.Covered.{is_covered}
@@ -32,11 +32,12 @@ pub record AreConfirmed (books : Books) (content : Content) (confirmations : Lis
       → content.cash bic ccy + (sum_by (paid_out_by (payment_of bic ccy)) books.history + cash_taken confirmations bic ccy)
       ≡ sum_by (paid_in_by (payment_of bic ccy)) books.history + cash_brought confirmations bic ccy
 
--- No leg moves alone: the confirmations come in twos, those of a settlement stand next to each other, and it moves its
--- quantity and, exactly against payment, its amount.
+-- No leg moves alone: the confirmations come in twos, those of a settlement stand next to each other, two that do are those
+-- of one settlement, and it moves its quantity and, exactly against payment, its amount.
 pub record HasBothLegs (books : Books) (content : Content) : Type 0 where
   pub in_twos : ComeInTwos content.sent
   pub together : (s : Settled) → Contains books.settled s → StandTogether books.history s content.sent
+  pub neighbours : NeighboursAreOfOne books content.sent
   pub moves : (s : Settled) (settled : List Settled) → Contains books.settled s → Moves books.history settled s
 
 pub record IsSound (books : Books) (content : Content) : Type 0 where

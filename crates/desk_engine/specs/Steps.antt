@@ -1,4 +1,4 @@
--- How a call of several steps ends. Only private contracts and proofs speak of it.
+-- How a call of several steps ends, within an open `begin`.
 use Rattle.std.specs.Prelude.{◌≡◌, ◌≢◌, ◌<◌, Result, Err, OnOk, OnErr}
 use Rattle.desk_register.specs.declared.register.Fault.{Fault}
 use Rattle.desk_register.specs.declared.register.Fault.TheVariants.{Memory, Storage}

@@ -7,4 +7,5 @@ pub mod BrokenWalks
 pub mod RegisteredLemmas
 pub mod ShortLemmas
 pub mod StandingLemmas
+pub mod SumsLemmas
 pub mod ViewLemmas

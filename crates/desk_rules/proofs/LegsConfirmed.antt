@@ -1,8 +1,8 @@
 -- The confirmations that are sent come in twos, of each settlement once.
 use Rattle.std.proofs.Common.{◌≡◌, ℕ, ◌+◌, ◌<◌, ◌≤◌, ◌⊎◌, inl, inr, Bool, true, false, ◌&&◌, cond, if◌then◌else◌, List, [], ◌∷◌, ◌++◌, length, sum_by, append_assoc, append-nil, refl, sym, ◌∙◌, ap, subst, arith, Contains, Option, Some, None}
-use Rattle.std.specs.Prelude.{◌==◌, ◌||◌, MatchBool, count_by}
+use Rattle.std.specs.Prelude.{◌==◌, ◌||◌, nat_le, MatchBool, count_by}
 use Rattle.std.specs.List.{range_with_len, flat_map, list_any}
-use Rattle.std.proofs.lemmas.Bool.{cases_Bool, eqb-true, eq-eqb, or_cases}
+use Rattle.std.proofs.lemmas.Bool.{both_ways, cases_Bool, eqb-true, eq-eqb, or_cases}
 use Rattle.std.proofs.lemmas.List.Concat.{flat_map-cons}
 use Rattle.std.proofs.lemmas.List.Sums.{sum_by-cons, sum_by-append}
 use Rattle.desk_codes.specs.Day.{IsDay}
@@ -25,7 +25,7 @@ use Rattle.desk_rules.specs.Books.{Books, AreBooks, is_settled}
 use Rattle.desk_rules.specs.Questions.{confirms_it}
 use Rattle.desk_rules.specs.Confirmations.{SaysConfirmation, confirmation_by, is_confirmation}
 use Rattle.desk_rules.specs.WellFormed.{AreWellFormed}
-use Rattle.desk_rules.specs.BothLegs.{ConfirmBothLegs, ComeInTwos, StandTogether}
+use Rattle.desk_rules.specs.BothLegs.{AreOfOne, ConfirmBothLegs, ComeInTwos, ConfirmsSettled, NeighboursAreOfOne, StandTogether, confirms_delivery, confirms_receipt}
 use Rattle.desk_rules.proofs.Decided.{In, Contains-from_In, Ordered, Ordered-from_AllPairs}
 use Rattle.desk_rules.proofs.SideLemmas.{any-In}
 use Rattle.desk_rules.proofs.BalanceLemmas.{sum_same}
@@ -50,6 +50,35 @@ two_more : (first second : Sent) (messages : List Sent) → is_confirmation firs
 two_more first second messages e legs rest =
     let P : Bool → Type 0 = λ b. MatchBool b (ConfirmBothLegs first second × ComeInTwos messages) (ComeInTwos (second ∷ messages)) in
     subst P (sym e) (legs, rest)
+
+-- Neighbours.
+
+-- any two neighbours that confirm a delivery and a receipt are those of one settlement, from the first message on
+abbrev AreOfOneEach : Books → List Sent → Type 0
+AreOfOneEach books [] = Unit {0}
+AreOfOneEach books (message ∷ []) = Unit {0}
+AreOfOneEach books (first ∷ second ∷ messages) = (confirms_delivery first ≡ true → confirms_receipt second ≡ true → AreOfOne books first second) × AreOfOneEach books (second ∷ messages)
+
+-- before what confirms no delivery nothing is said
+one_more : (books : Books) (message : Sent) (messages : List Sent) → confirms_delivery message ≡ false → AreOfOneEach books messages → AreOfOneEach books (message ∷ messages)
+one_more books message [] other rest = tt
+one_more books message (second ∷ messages) other rest = ((λ delivery receipt. absurd (both_ways (confirms_delivery message) other delivery)), rest)
+
+each_neighbours : (books : Books) (front rest : List Sent) (first second : Sent) → AreOfOneEach books (front ++ first ∷ second ∷ rest) → confirms_delivery first ≡ true → confirms_receipt second ≡ true → AreOfOne books first second
+each_neighbours books [] rest first second each = each.0
+each_neighbours books (a ∷ []) rest first second each = each_neighbours books [] rest first second each.1
+each_neighbours books (a ∷ b ∷ front) rest first second each = each_neighbours books (b ∷ front) rest first second each.1
+
+-- what confirms a receipt confirms no delivery
+receipt_alone : (mt : Mt) → is_delivery mt ≡ false → (nat_le 546 (number_of_type (confirming_type mt)) && nat_le (number_of_type (confirming_type mt)) 547) ≡ false
+receipt_alone Mt540 receives = refl
+receipt_alone Mt541 receives = refl
+receipt_alone Mt542 receives = absurd (cc)
+receipt_alone Mt543 receives = absurd (cc)
+receipt_alone Mt544 receives = refl
+receipt_alone Mt545 receives = refl
+receipt_alone Mt546 receives = absurd (cc)
+receipt_alone Mt547 receives = absurd (cc)
 
 -- the number of the type that confirms a type
 abbrev confirming_number : Bool → Bool → ℕ
@@ -152,57 +181,104 @@ module _ (books : Books) (are : AreBooks books) (formed : AreWellFormed books.hi
       ap (λ o. told_to books.history k (gone s) o ++ (told_to books.history (k + 1) (come s) (instruction_at books.history (receiver_of books.history s.pair)) ++ sent_from books.history (k + 1 + 1) later)) is.legs.delivered
       ∙ ap (λ o. first_of k s is.legs.delivery ∷ (told_to books.history (k + 1) (come s) o ++ sent_from books.history (k + 1 + 1) later)) is.legs.received
 
+  -- the two of a settlement, as they are sent
+  confirms_first : (k : ℕ) (s : Settled) (is : IsKnown books are formed s) → ConfirmsSettled books.history s.run (deliverer_of books.history s.pair) (first_of k s is.legs.delivery)
+  confirms_first k s is = record {
+    instruction = is.legs.delivery;
+    instructs = is.legs.delivered;
+    about = refl;
+    says = says k (deliverer_of books.history s.pair) s.run is.legs.delivery is.legs.delivered is.day;
+  }
+
+  confirms_second : (k : ℕ) (s : Settled) (is : IsKnown books are formed s) → ConfirmsSettled books.history s.run (receiver_of books.history s.pair) (second_of k s is.legs.receipt)
+  confirms_second k s is = record {
+    instruction = is.legs.receipt;
+    instructs = is.legs.received;
+    about = refl;
+    says = says (k + 1) (receiver_of books.history s.pair) s.run is.legs.receipt is.legs.received is.day;
+  }
+
+  -- What holds of the messages of all notices.
+
+  -- where it holds of messages, it holds with those of these notices before them
+  abbrev Keep : (List Sent → Type 0) → List Notice → Type 0
+  Keep Q ns = (k : ℕ) (later : List Notice) → ((j : ℕ) → Q (sent_from books.history j later)) → Q (sent_from books.history k (ns ++ later))
+
+  module _ (Q : List Sent → Type 0) where
+    none_keep : Keep Q []
+    none_keep k later rest = rest k
+
+    keep_joined : (a b : List Notice) → Keep Q a → Keep Q b → Keep Q (a ++ b)
+    keep_joined a b x y k later rest =
+        let P : List Notice → Type 0 = λ ns. Q (sent_from books.history k ns) in
+        subst P (sym (append_assoc a b later)) (x k (b ++ later) (λ j. y j later rest))
+
+    keep_flat : {X : Type 0} (f : X → List Notice) (xs : List X) → ((x : X) → In xs x → Keep Q (f x)) → Keep Q (flat_map f xs)
+    keep_flat f [] each = none_keep
+    keep_flat f (x ∷ xs) each =
+        let P : List Notice → Type 0 = λ ns. Keep Q ns in
+        subst P (sym (flat_map-cons f x xs)) (keep_joined (f x) (flat_map f xs) (each x (inl refl)) (keep_flat f xs (λ y i. each y (inr i))))
+
+    keep_if : (test : Bool) (ns : List Notice) → (test ≡ true → Keep Q ns) → Keep Q (if test then ns else [])
+    keep_if true ns keep = keep refl
+    keep_if false ns keep = none_keep
+
+    module _ (keep_advice : (p : Pair) → Keep Q (record { about = p.earlier; run = None } ∷ [])) (keep_both : (s : Settled) → In books.settled s → Keep Q (gone s ∷ come s ∷ [])) where
+      keep_settled : (n : ℕ) (s : Settled) → In books.settled s → Keep Q (told_of_settled books.history n s)
+      keep_settled n s member = keep_if (s.run == n) _ (λ e. at_run n (eqb-true s.run n e))
+        where
+          at_run : (m : ℕ) → s.run ≡ m → Keep Q (record { about = deliverer_of books.history s.pair; run = Some m } ∷ record { about = receiver_of books.history s.pair; run = Some m } ∷ [])
+          at_run m e = let P : ℕ → Type 0 = λ r. Keep Q (record { about = deliverer_of books.history s.pair; run = Some r } ∷ record { about = receiver_of books.history s.pair; run = Some r } ∷ []) in subst P e (keep_both s member)
+
+      keep_all : Keep Q (notices_of books)
+      keep_all = keep_flat (told_by books) (range_with_len 1 (length books.history)) (λ n i. keep_joined (flat_map (told_of_pair n) books.pairs) (flat_map (told_of_settled books.history n) books.settled)
+          (keep_flat (told_of_pair n) books.pairs (λ p j. keep_if (p.later == n) _ (λ e. keep_advice p)))
+          (keep_flat (told_of_settled books.history n) books.settled (λ s j. keep_settled n s j)))
+
+      holds_of_all : Q [] → Q (sent_of books)
+      holds_of_all none =
+          let P : List Notice → Type 0 = λ ns. Q (sent_from books.history 1 ns) in
+          subst P (append-nil (notices_of books)) (keep_all 1 [] (λ j. none))
+
   -- All messages come in twos.
 
-  -- before messages in twos, those of these notices are too
-  abbrev KeepTwos : List Notice → Type 0
-  KeepTwos ns = (k : ℕ) (later : List Notice) → ((j : ℕ) → ComeInTwos (sent_from books.history j later)) → ComeInTwos (sent_from books.history k (ns ++ later))
-
-  none_keep : KeepTwos []
-  none_keep k later rest = rest k
-
-  keep_joined : (a b : List Notice) → KeepTwos a → KeepTwos b → KeepTwos (a ++ b)
-  keep_joined a b x y k later rest =
-      let P : List Notice → Type 0 = λ ns. ComeInTwos (sent_from books.history k ns) in
-      subst P (sym (append_assoc a b later)) (x k (b ++ later) (λ j. y j later rest))
-
-  keep_flat : {X : Type 0} (f : X → List Notice) (xs : List X) → ((x : X) → In xs x → KeepTwos (f x)) → KeepTwos (flat_map f xs)
-  keep_flat f [] each = none_keep
-  keep_flat f (x ∷ xs) each =
-      let P : List Notice → Type 0 = λ ns. KeepTwos ns in
-      subst P (sym (flat_map-cons f x xs)) (keep_joined (f x) (flat_map f xs) (each x (inl refl)) (keep_flat f xs (λ y i. each y (inr i))))
-
-  keep_if : (test : Bool) (ns : List Notice) → (test ≡ true → KeepTwos ns) → KeepTwos (if test then ns else [])
-  keep_if true ns keep = keep refl
-  keep_if false ns keep = none_keep
-
-  keep_advice : (p : Pair) → KeepTwos (record { about = p.earlier; run = None } ∷ [])
-  keep_advice p k later rest = with_one (instruction_at books.history p.earlier)
+  twos_after_advice : (p : Pair) → Keep ComeInTwos (record { about = p.earlier; run = None } ∷ [])
+  twos_after_advice p k later rest = with_one (instruction_at books.history p.earlier)
     where
       with_one : (o : Option Instructed) → ComeInTwos (told_to books.history k (record { about = p.earlier; run = None }) o ++ sent_from books.history (k + 1) later)
       with_one None = rest (k + 1)
       with_one (Some i) = skipped (told books.history k p.earlier None i) (sent_from books.history (k + 1) later) refl (rest (k + 1))
 
-  keep_both : (s : Settled) → In books.settled s → KeepTwos (gone s ∷ come s ∷ [])
-  keep_both s member k later rest =
+  twos_after_both : (s : Settled) → In books.settled s → Keep ComeInTwos (gone s ∷ come s ∷ [])
+  twos_after_both s member k later rest =
       let is = known books are formed s member in
       subst ComeInTwos (sym (sent_both k s is later)) (two_more (first_of k s is.legs.delivery) (second_of k s is.legs.receipt) (sent_from books.history (k + 1 + 1) later) (confirming is.legs.delivery.instruction.mt) (confirm_both k s is) (rest (k + 1 + 1)))
 
-  keep_settled : (n : ℕ) (s : Settled) → In books.settled s → KeepTwos (told_of_settled books.history n s)
-  keep_settled n s member = keep_if (s.run == n) _ (λ e. at_run n (eqb-true s.run n e))
-    where
-      at_run : (m : ℕ) → s.run ≡ m → KeepTwos (record { about = deliverer_of books.history s.pair; run = Some m } ∷ record { about = receiver_of books.history s.pair; run = Some m } ∷ [])
-      at_run m e = let P : ℕ → Type 0 = λ r. KeepTwos (record { about = deliverer_of books.history s.pair; run = Some r } ∷ record { about = receiver_of books.history s.pair; run = Some r } ∷ []) in subst P e (keep_both s member)
-
-  keep_all : KeepTwos (notices_of books)
-  keep_all = keep_flat (told_by books) (range_with_len 1 (length books.history)) (λ n i. keep_joined (flat_map (told_of_pair n) books.pairs) (flat_map (told_of_settled books.history n) books.settled)
-      (keep_flat (told_of_pair n) books.pairs (λ p j. keep_if (p.later == n) _ (λ e. keep_advice p)))
-      (keep_flat (told_of_settled books.history n) books.settled (λ s j. keep_settled n s j)))
-
   pub in_twos : ComeInTwos (sent_of books)
-  in_twos =
-      let P : List Notice → Type 0 = λ ns. ComeInTwos (sent_from books.history 1 ns) in
-      subst P (append-nil (notices_of books)) (keep_all 1 [] (λ j. tt))
+  in_twos = holds_of_all ComeInTwos twos_after_advice twos_after_both tt
+
+  -- Neighbours are of one settlement.
+
+  one_after_advice : (p : Pair) → Keep (AreOfOneEach books) (record { about = p.earlier; run = None } ∷ [])
+  one_after_advice p k later rest = with_one (instruction_at books.history p.earlier)
+    where
+      with_one : (o : Option Instructed) → AreOfOneEach books (told_to books.history k (record { about = p.earlier; run = None }) o ++ sent_from books.history (k + 1) later)
+      with_one None = rest (k + 1)
+      with_one (Some i) = one_more books (told books.history k p.earlier None i) (sent_from books.history (k + 1) later) refl (rest (k + 1))
+
+  one_after_both : (s : Settled) → In books.settled s → Keep (AreOfOneEach books) (gone s ∷ come s ∷ [])
+  one_after_both s member k later rest =
+      let is = known books are formed s member in
+      let second = second_of k s is.legs.receipt in
+      let of_one : AreOfOne books (first_of k s is.legs.delivery) second = record { settled = s; stands = Contains-from_In books.settled s member; delivery = confirms_first k s is; receipt = confirms_second k s is } in
+      let Q : List Sent → Type 0 = λ messages. AreOfOneEach books messages in
+      subst Q (sym (sent_both k s is later))
+      ((λ delivery receipt. of_one), one_more books second (sent_from books.history (k + 1 + 1) later) (receipt_alone is.legs.receipt.instruction.mt is.legs.receives) (rest (k + 1 + 1)))
+
+  pub neighbours_are_of_one : NeighboursAreOfOne books (sent_of books)
+  neighbours_are_of_one front rest first second is =
+      let Q : List Sent → Type 0 = λ messages. AreOfOneEach books messages in
+      each_neighbours books front rest first second (subst Q is (holds_of_all Q one_after_advice one_after_both tt))
 
   -- The two of a settlement stand next to each other.
 
@@ -232,18 +308,8 @@ module _ (books : Books) (are : AreBooks books) (formed : AreWellFormed books.hi
             ∙ sent_split books.history 1 at.before (gone s ∷ come s ∷ at.after)
             ∙ ap (λ z. sent_from books.history 1 at.before ++ z) (sent_both k s is at.after);
         legs = confirm_both k s is;
-        delivery = record {
-          instruction = is.legs.delivery;
-          instructs = is.legs.delivered;
-          about = refl;
-          says = says k (deliverer_of books.history s.pair) s.run is.legs.delivery is.legs.delivered is.day;
-        };
-        receipt = record {
-          instruction = is.legs.receipt;
-          instructs = is.legs.received;
-          about = refl;
-          says = says (k + 1) (receiver_of books.history s.pair) s.run is.legs.receipt is.legs.received is.day;
-        };
+        delivery = confirms_first k s is;
+        receipt = confirms_second k s is;
       }
 
 -- Each settled instruction has one confirmation, and no other has one.

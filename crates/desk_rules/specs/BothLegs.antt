@@ -1,6 +1,6 @@
 -- The two legs of a settlement: two messages that confirm legs which fit each other, and what they move. `ComeInTwos`
 -- knows the messages' texts, types and addressees, and nothing of how they came about; what stands behind it speaks of books.
-use Rattle.std.specs.Prelude.{◌≡◌, ◌⊎◌, ℕ, ◌+◌, false, MatchBool, List, [], ◌∷◌, ◌++◌, true, length, Contains, Some, None, is_some}
+use Rattle.std.specs.Prelude.{◌≡◌, ◌⊎◌, ℕ, ◌+◌, nat_le, ◌&&◌, Bool, false, MatchBool, List, [], ◌∷◌, ◌++◌, true, length, Contains, Some, None, is_some}
 use Rattle.desk_codes.specs.declared.currency.Ccy.{Ccy}
 use Rattle.desk_msg.specs.MessageType.{is_delivery, is_against_payment}
 use Rattle.desk_rules.specs.declared.history.entry.Entry.{Entry}
@@ -54,6 +54,26 @@ pub record StandTogether (history : List Entry) (settled : Settled) (messages : 
   pub legs : ConfirmBothLegs first second
   pub delivery : ConfirmsSettled history settled.run (deliverer_of history settled.pair) first
   pub receipt : ConfirmsSettled history settled.run (receiver_of history settled.pair) second
+
+-- by its type a message confirms a delivery (546, 547), or a receipt (544, 545)
+abbrev pub confirms_delivery : Sent → Bool
+confirms_delivery message = nat_le 546 message.mt && nat_le message.mt 547
+
+abbrev pub confirms_receipt : Sent → Bool
+confirms_receipt message = nat_le 544 message.mt && nat_le message.mt 545
+
+-- Two messages confirm the two sides of one settlement that stands in the books.
+pub record AreOfOne (books : Books) (first second : Sent) : Type 0 where
+  pub settled : Settled
+  pub stands : Contains books.settled settled
+  pub delivery : ConfirmsSettled books.history settled.run (deliverer_of books.history settled.pair) first
+  pub receipt : ConfirmsSettled books.history settled.run (receiver_of books.history settled.pair) second
+
+-- Any two neighbours among these messages that confirm a delivery and a receipt are those of one settlement.
+abbrev pub NeighboursAreOfOne : Books → List Sent → Type 0
+NeighboursAreOfOne books messages =
+    (front rest : List Sent) (first second : Sent) → messages ≡ front ++ first ∷ second ∷ rest
+    → confirms_delivery first ≡ true → confirms_receipt second ≡ true → AreOfOne books first second
 
 -- What one settlement more moves. Its pair is a delivery and a receipt that are opposite, so of one quantity of one
 -- security and, exactly against payment, for one amount of one currency. (By its type, no instruction is for a

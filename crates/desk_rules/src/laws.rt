@@ -24,7 +24,7 @@ ghost use Rattle.desk_rules.specs.declared.history.standing.State.TheVariants as
 ghost use Rattle.desk_rules.specs.declared.answers.verdict.Refusal.{Refusal};
 ghost use Rattle.desk_rules.specs.Balances.{issued, redeemed, credits, debits, paid_in, paid_out, cash_credits, cash_debits};
 ghost use Rattle.desk_rules.specs.Books.{AreBooks, Books, is_settled};
-ghost use Rattle.desk_rules.specs.BothLegs.{ChangesOnly, ComeInTwos, Moves, StandTogether};
+ghost use Rattle.desk_rules.specs.BothLegs.{ChangesOnly, ComeInTwos, Moves, NeighboursAreOfOne, StandTogether};
 ghost use Rattle.desk_rules.specs.Verdict.{IsVerdict, WasAccepted, named_by};
 ghost use Rattle.desk_rules.specs.Facts.{accounts_of, participants_of};
 ghost use Rattle.desk_rules.specs.Laws.{AreNonNegative, AreSameButCancellations, CallOffTheSame, TellsNotice};
@@ -201,11 +201,13 @@ pub fn settled_is_confirmed()
 /// settled (546, against payment 547), and that its receipt did (544, against payment 545), on the same day, in the
 /// same quantity of the same security, for the same cash. They stand there exactly when their pair is settled: the two
 /// of a settled pair next to each other, to the senders of its two instructions and about these, and of an instruction
-/// one where it is settled, else none. And each settlement moves both: its quantity, and against payment its amount.
+/// one where it is settled, else none. Where a delivery's confirmation stands before a receipt's, they are those of one
+/// settlement. And each settlement moves both: its quantity, and against payment its amount.
 pub fn both_legs()
     ensures in_twos { (books : Books) → AreBooks books → AreWellFormed books.history → ComeInTwos (sent_of books) }
     ensures together { (books : Books) (s : Settled) → AreBooks books → AreWellFormed books.history → Contains books.settled s
         → StandTogether books.history s (sent_of books) }
+    ensures neighbours { (books : Books) → AreBooks books → AreWellFormed books.history → NeighboursAreOfOne books (sent_of books) }
     ensures once { (books : Books) (n : ℕ) → AreBooks books
         → count_by (confirms_it n) (sent_of books) ≡ (if is_settled books n then 1 else 0) }
     ensures moved { (books : Books) (s : Settled) (settled : List Settled) → AreBooks books → Contains books.settled s
