@@ -150,14 +150,14 @@ module _ (room : ℕ) (v0 v : View) (day : List ℕ) (rule : RunRule) (begun num
         pass_over books reference day rule ran.passes ran.settled now.last now.waiting now.settled m.0 w.content p.counted m.1.so_far settled
         (ends books reference rule m.0 honest (p.stays.sure honest1 sure) (subst Q (here ∙ sym p.later.room) m.1))
 
-    pub passing_goes_on : rule ≡ Passes → 0 < now.last → Stays v w → (w.is_honest → v.is_sure → w.content.register ≡ v.content.register) → now.settled ≤ number → Passing room v0 w day rule (begun + 1) number now
+    pub passing_goes_on : rule ≡ Passes → 0 < now.last → Stays v w → (w.is_honest → v.is_sure → w.content.register ≡ v.content.register) → now.settled < number → Passing room v0 w day rule (begun + 1) number now
     passing_goes_on again some stays kept few = record {
       stays = stays_then v0 v w p.stays p.later later stays;
       later = later_then v0 v w p.stays p.later later;
       kept = λ honest sure. (let honest1 = later.honest honest in kept honest (p.stays.sure honest1 sure) ∙ p.kept honest1 sure);
       passes = (let was = p.passes in omega arith);
       counted = (let was = p.counted in omega arith);
-      few = few;
+      few = (let less = few in omega arith);
       made = λ honest sure books reference tables.
           let all = all_made honest sure books reference tables in
           let pass : all.pass + 1 ≡ now.passes + 1 = ap (λ k. k + 1) (all.is_pass ∙ sym passes) in

@@ -149,7 +149,7 @@ module _ (room : ℕ) (v0 v : View) (day : List ℕ) (again : Bool) (place : Opt
           omega arith
 
       -- nor do more pairs settle than there are entries
-      pub trying_settles_few : number < before.settled + settled → v.is_honest → v0.is_sure → ⊥
+      pub trying_settles_few : number ≤ before.settled + settled → v.is_honest → v0.is_sure → ⊥
       trying_settles_few many honest sure =
           let honest0 = r.later.honest honest in
           let can = may honest0 sure in

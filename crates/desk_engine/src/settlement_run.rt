@@ -202,11 +202,11 @@ impl Ran {
     /// that settles more does not show what it holds: it is given up as one that failed.
     fn within(self, number: u64) -> Result<Ran, Fault>
         ensures same { IfOk result (λ ran. ran ≡ self) }
-        ensures few { IfOk result (λ ran. ran.settled ≤ number) }
+        ensures few { IfOk result (λ ran. ran.settled < number) }
         ensures storage { IfErr result (λ fault. fault ≡ Fault.Storage) }
-        ensures many { IfErr result (λ fault. number < self.settled) }
+        ensures many { IfErr result (λ fault. number ≤ self.settled) }
     {
-        if number < self.settled {
+        if number <= self.settled {
             return Err(Fault::Storage);
         }
         Ok(self)
@@ -232,7 +232,7 @@ fn run_pass<R: Register>(
     ensures kept { IfTrusted (R.view register.old) (R.view register.new) (OnOk result ((R.view register.new).content.register ≡ (R.view register.old).content.register)) }
     ensures passes { IfOk result (λ ran. ran.passes ≡ before.passes + 1) }
     ensures settled { IfOk result (λ ran. ran.settled ≡ before.settled + ran.last) }
-    ensures few { IfOk result (λ ran. ran.settled ≤ number) }
+    ensures few { IfOk result (λ ran. ran.settled < number) }
     ensures ran { (books : Books) (reference : List ℕ) (rule : RunRule) (start : List Settled) → IfTrusted (R.view register.old) (R.view register.new)
         (HasMade (R.view register.old).room books (Entry.Run reference day rule) before start (R.view register.old).content
         → IfOk result (λ ran. PassEnds books (Entry.Run reference day rule) (before.passes + 1) start ran.last ran.waiting (R.view register.new).content)) }
@@ -283,7 +283,7 @@ pub fn run_passes<R: Register>(
     requires most { number ≤ MOST_ENTRIES }
     requires tables { IfTrusted (R.view register.old) (R.view register.old) (CanRun (R.view register.old).room (R.view register.old).content) }
     ensures kept { IfTrusted (R.view register.old) (R.view register.new) (OnOk result ((R.view register.new).content.register ≡ (R.view register.old).content.register)) }
-    ensures few { IfOk result (λ ran. ran.settled ≤ number) }
+    ensures few { IfOk result (λ ran. ran.settled < number) }
     ensures passes { IfOk result (λ ran. ran.passes ≤ ran.settled + 1) }
     ensures ran { (books : Books) (reference : List ℕ) → IfTrusted (R.view register.old) (R.view register.new) (Tables (R.view register.old).room books (R.view register.old).content
         → IfOk result (λ ran. RanTo books (Entry.Run reference day rule) ran.settled ran.waiting ran.passes (R.view register.new).content)) }

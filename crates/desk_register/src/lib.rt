@@ -5,7 +5,8 @@
 //! told what is known of a pair. What their clauses speak of stands in specs/: View.antt says how a call changes a register,
 //! Changes.antt what its calls make of the content, Looked.antt what its look-ups find there, Short.antt which pairs stay
 //! short, Ends.antt how a walk over a register ends, which may break off (`fault.rt`), and Device.antt when there is nothing
-//! that could fail; `laws.rt` says that what is held adds up after each change. The content is that of specs/Content.antt in `desk_rules`. Begin with `register.rt`, then specs/View.antt.
+//! that could fail; `laws.rt` says that what is held adds up after each change. The content is that of specs/Content.antt in
+//! `desk_rules`. Begin with `register.rt`, then specs/View.antt.
 #![tactic(auto)]
 
 mod fault;

@@ -1,4 +1,4 @@
-use Rattle.std.proofs.Common.{◌≡◌, refl, ◌+◌, ◌-◌, ◌<◌, ◌≤◌, ◌∙◌, ap, arith, rules}
+use Rattle.std.proofs.Common.{◌≡◌, refl, ◌+◌, ◌-◌, ◌≤◌, ◌∙◌, ap, arith, rules}
 use Rattle.std.specs.Prelude.{Err}
 use Rattle.std.proofs.lemmas.Bool.{ltb-true}
 use Rattle.desk_register.specs.declared.register.Fault.TheVariants.{Storage}
@@ -45,7 +45,7 @@ returns-in_err-ran-in-None-clause-step g c =
     let is : c.from_residual-in_err-ran-in-None.result ≡ Err c.in_err-ran-in-None.field-0.0 = search rules in
     let all : c.over.result.settled ≡ c.begun-begun.result.settled + c.pairs.settled = ap (λ (r : Ran). r.settled) c.over.ensures in
     let before : c.begun-begun.result.settled ≡ c.args.before.settled = ap (λ (r : Ran). r.settled) c.begun-begun.ensures in
-    let many : c.args.number < c.args.before.settled + c.pairs.settled = (let m = c.in_err-ran-in-None.ensures.many in omega arith) in
+    let many : c.args.number ≤ c.args.before.settled + c.pairs.settled = (let m = c.in_err-ran-in-None.ensures.many in omega arith) in
     rw is
     (gives_up {X = Ran} c.in_err-ran-in-None.field-0.0 v0 w c.requires.stage (stays_then v0 v w i.stays i.later t.later t.ok) (later_then v0 v w i.stays i.later t.later) c.in_err-ran-in-None.ensures.storage
     (λ honest sure. trying_settles_few v0.room v0 v c.args.day _ c.pairs.place c.pairs.tried c.pairs.settled i c.args.number c.args.before refl c.requires.fits c.requires.number many (t.later.honest honest) sure))
