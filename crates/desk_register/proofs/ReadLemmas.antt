@@ -3,7 +3,7 @@ use Rattle.std.proofs.Common.{◌≡◌, refl, sym, subst, ap, ◌∙◌, Result
 use Rattle.desk_rules.specs.Content.{Content}
 use Rattle.desk_register.specs.declared.register.Fault.{Fault}
 use Rattle.desk_register.specs.declared.register.Stage.TheVariants.{Idle}
-use Rattle.desk_register.specs.View.{View, IsLater, Stays, Falls, HasRead, IsRead, fallen}
+use Rattle.desk_register.specs.View.{View, IsLater, Falls, HasRead, IsRead, fallen}
 use Rattle.desk_register.proofs.ViewLemmas.{blames_none, blames_then, later_then, same_blame, stays_then}
 
 module _ (a b c : View) (p : HasRead a b) where
