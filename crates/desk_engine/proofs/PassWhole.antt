@@ -1,6 +1,6 @@
 -- A run's pass, from its first pair to its last.
 use Rattle.std.proofs.Common.{◌≡◌, ◌⊎◌, inl, inr, ℕ, ◌+◌, ◌<◌, ◌≤◌, ◌^◌, ◌==◌, true, false, List, [], ◌∷◌, ◌++◌, length, Contains, Option, Some, None, refl, ap, sym, ◌∙◌, subst, arith, length-append, append_assoc, append-nil, lit<}
-use Rattle.std.proofs.lemmas.Bool.{cases_Bool, cases_eq, ne_eqb}
+use Rattle.std.proofs.lemmas.Bool.{cases_Bool, ne_eqb}
 use Rattle.std.proofs.lemmas.Bool.Decides.{nat_tests}
 use Rattle.desk_codes.specs.Number.{number_of}
 use Rattle.desk_codes.specs.declared.currency.Ccy.{Ccy}
@@ -18,7 +18,6 @@ use Rattle.desk_rules.specs.declared.history.pair.Place.{Place}
 use Rattle.desk_rules.specs.declared.history.pair.Settled.{Settled}
 use Rattle.desk_rules.specs.declared.history.pair.Lack.{Lack}
 use Rattle.desk_rules.specs.declared.history.pair.Lack.TheVariants.{Securities, Money as LacksMoney}
-use Rattle.desk_rules.specs.declared.history.standing.State.{State}
 use Rattle.desk_rules.specs.declared.history.standing.State.TheVariants as states
 use Rattle.desk_rules.specs.declared.history.standing.State.TheVariants.{NoInstruction, Unmatched, Matched, Cancelled}
 use Rattle.desk_rules.specs.declared.history.standing.Standing.{Standing}
