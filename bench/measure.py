@@ -138,9 +138,8 @@ TURNS = 3
 SIZES = 1_000, 10_000, 100_000
 MOST_SECONDS = 600
 
-# The stores of a register. Of the entries of a mixed day that it takes in, those of the opening; and the pairs that each
-# hundred settles, but for one more in each second.
-STORES = "lists", "index"
+# Of the entries of a mixed day that a register takes in, those of the opening; and the pairs that each hundred settles, but
+# for one more in each second.
 REGISTER_OPENING, REGISTER_PAIRS = 5, 44
 
 # They are timed so often, the least time counting, unless that takes longer than so many seconds.
@@ -480,7 +479,7 @@ def measure_store():
     alone, whose statements are asked of Python's SQLite too."""
     compare_tables()
     work = [
-        ("play over the index", played_by_desk, "desk"),
+        ("play in memory", played_by_desk, "desk"),
         ("play over a file, with memory beside it", played_in_file, "desk"),
         ("play over the tables of a file alone", played_in_tables_of_file, "desk"),
         ("its statements on a file", asked_of_sqlite, "Python's SQLite"),
@@ -589,29 +588,25 @@ def least_timed(call):
     return figure, least
 
 
-def entries_timed(program, store, size):
+def entries_timed(program, size):
     """So many entries, made and taken into a register. The start of the program isn't counted."""
     hundreds = (size - REGISTER_OPENING) // 100
     pairs = REGISTER_PAIRS * hundreds + hundreds // 2
-    _, start = least_timed(lambda: run(program, store, 0))
-    settled, seconds = least_timed(lambda: run(program, store, size))
+    _, start = least_timed(lambda: run(program, "day", 0))
+    settled, seconds = least_timed(lambda: run(program, "day", size))
     if settled != pairs:
-        sys.exit(f"register in {store}: {settled} pairs settled of {pairs}")
+        sys.exit(f"register: {settled} pairs settled of {pairs}")
     return pairs, seconds - start
 
 
 def measure_register(program):
-    """A register alone, in each store, taking in more and more entries."""
+    """The register in memory alone, taking in more and more entries."""
     print(
         "register: entries of a mixed day (half against payment, a run each hundred, in each a pair that is short, and is "
-        "then covered or cancelled) are made and taken in one by one (verdict, pairs, runs, messages, reply, tables) by a "
-        "register in lists, and by one with an index beside them; after each fourth the sums and a holding are asked for; "
-        "no script, no JSON and no message is read"
+        "then covered or cancelled) are made and taken in one by one (verdict, pairs, runs, messages, reply, tables) by the "
+        "register in memory; after each fourth the sums and a holding are asked for; no script, no JSON and no message is read"
     )
-    for store in STORES:
-        measure_growing(
-            f"register in {store} of", "entry", "entries", functools.partial(entries_timed, program, store)
-        )
+    measure_growing("register of", "entry", "entries", functools.partial(entries_timed, program))
 
 
 # How many requests are asked over HTTP, one a connection; and what the server of Python's answers to each.

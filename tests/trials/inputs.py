@@ -296,7 +296,7 @@ OF_NOTHING = {
     "refuse memory": (["script"], "1 requests are answered: status 0, []\n"),
     "refuse http": (["script"], "status 0, [b'']\n"),
     "refuse words": (["case"], "no failure led to this"),
-    "refuse register": ([], "\n0 passed, 2 failed\n"),
+    "refuse register": ([], "\n0 passed, 1 failed\n"),
     "refuse opening": (["script"], "a file is not opened: (0, b'')"),
     "refuse reports": (["/dev/null"], "the program has made no file\n"),
     "refuse disk": (["script"], "1 requests are answered: status 0, b''"),

@@ -17,7 +17,7 @@ use Rattle.desk_register.specs.declared.register.Stage.{Stage}
 use Rattle.desk_register.specs.declared.register.Stage.TheVariants.{Idle}
 use Rattle.sql_register.specs.Content.{content_in}
 use Rattle.sql_register.specs.Kept.{IsKept, Kept}
-use Rattle.desk_index.specs.declared.indexed_register.IndexedRegister.{IndexedRegister}
+use Rattle.memory_register.specs.declared.list_register.ListRegister.{ListRegister}
 use Rattle.desk_mirror.specs.Both.{Both}
 use Rattle.desk_opening.specs.Opened.{view_of_both}
 use Rattle.desk_book.specs.Held.{Holds}
@@ -41,11 +41,11 @@ tables_say s stage content books idle kept live same keeps = λ clean is_open.
     record { is = (live is_open).1; content = content; keeps = keeps; tables = record { desk = desk.committed; content_is = sym (same clean is_open ∙ ap content_in (desk.idle idle)) } }
 
 -- what is left of a desk its tables say
-pub said_left : {S : Type 0} (gives : Bool) (given held : Both IndexedRegister (Kept S)) (s : State) → held ≡ given → (view_of_both given).room ≡ MOST_ENTRIES → IsReady gives (view_of_both held)
+pub said_left : {S : Type 0} (gives : Bool) (given held : Both ListRegister (Kept S)) (s : State) → held ≡ given → (view_of_both given).room ≡ MOST_ENTRIES → IsReady gives (view_of_both held)
     → (held.stage ≡ Idle → (books : Books) → KeptBy (view_of_both held) books → TablesSay s books) → PassesOn (IsLeft gives (view_of_both given)) (AreSaid s)
 said_left {S} gives given held s is most ready say =
-    let L : Both IndexedRegister (Kept S) → Bool → Books → Type 0 = λ k is_closed books. Holds is_closed (view_of_both k) books in
-    let M : Both IndexedRegister (Kept S) → Type 0 = λ k. (view_of_both k).room ≡ MOST_ENTRIES in
+    let L : Both ListRegister (Kept S) → Bool → Books → Type 0 = λ k is_closed books. Holds is_closed (view_of_both k) books in
+    let M : Both ListRegister (Kept S) → Type 0 = λ k. (view_of_both k).room ≡ MOST_ENTRIES in
     record {
       each = λ is_closed books left stays. (let holds = subst (λ k. L k is_closed books) (sym is) left.holds in
           say (ready.stage (left.closed ∙ stays)) books (subst (λ k. KeepsFormed k books (view_of_both held).content) (subst M (sym is) most) (holds stays)));

@@ -6,9 +6,9 @@ use Rattle.std.specs.Io.KnownBytes.{Appends}
 use Rattle.desk_book.specs.declared.limits.TheConstants.{LONGEST_SCRIPT}
 use Rattle.desk_rules.specs.declared.answers.reply.Reply.{Reply}
 use Rattle.desk_rules.specs.Books.{Books}
-use Rattle.desk_index.specs.declared.indexed_register.IndexedRegister.{IndexedRegister}
+use Rattle.memory_register.specs.declared.list_register.ListRegister.{ListRegister}
 use Rattle.desk_engine.specs.Applied.{no_books}
-use Rattle.desk_index.specs.IndexView.{view_of_index}
+use Rattle.memory_register.specs.ListsView.{view_of_lists}
 use Rattle.desk_rules.specs.declared.limits.TheConstants.{MOST_ENTRIES}
 use Rattle.desk_register.specs.Changes.{empty_content}
 use Rattle.desk_register.specs.declared.register.TheConstants.{MOST_FAILURES}
@@ -215,13 +215,13 @@ module _ (limit : ℕ) (L M : Bool → Books → Type 0) (each : (is_closed : Bo
   err_part_of (Err e) part = part_of part
 
 -- a new register keeps the tables of no history, and so does what is equal to it
-pub new_keeps : (made held : IndexedRegister) → held ≡ made → (view_of_index made).content ≡ empty_content → KeepsFormed (view_of_index held).room no_books (view_of_index held).content
+pub new_keeps : (made held : ListRegister) → held ≡ made → (view_of_lists made).content ≡ empty_content → KeepsFormed (view_of_lists held).room no_books (view_of_lists held).content
 new_keeps made held same empty =
-    let P : IndexedRegister → Type 0 = λ r. KeepsFormed (view_of_index r).room no_books (view_of_index r).content in
+    let P : ListRegister → Type 0 = λ r. KeepsFormed (view_of_lists r).room no_books (view_of_lists r).content in
     subst P (sym same) (empty_formed _ _ empty)
 
-pub limit_is : (made held : IndexedRegister) → held ≡ made → (view_of_index made).room ≡ MOST_ENTRIES → (view_of_index held).room ≡ MOST_ENTRIES
-limit_is made held same limit = let P : IndexedRegister → Type 0 = λ r. (view_of_index r).room ≡ MOST_ENTRIES in subst P (sym same) limit
+pub limit_is : (made held : ListRegister) → held ≡ made → (view_of_lists made).room ≡ MOST_ENTRIES → (view_of_lists held).room ≡ MOST_ENTRIES
+limit_is made held same limit = let P : ListRegister → Type 0 = λ r. (view_of_lists r).room ≡ MOST_ENTRIES in subst P (sym same) limit
 
 -- the same over tables with a register in memory beside them
 pub plays_on_both : {E : Type 0} (v0 v1 : View) (L M : Bool → Books → Type 0) (given : Option (List ℕ)) (U : Type 0) (reads : Bool) (r : Result Status E) (P : List ℕ → Type 0) → IsReadyFor MOST_ENTRIES v0 → v1.is_honest → PlaysFrom v0.room (AreHeld v0 v1) L given U reads r P

@@ -13,8 +13,8 @@ use Rattle.sqlite_wal.specs.Recovery.{Image}
 use Rattle.desk_rules.specs.Books.{Books}
 use Rattle.desk_rules.specs.declared.answers.reply.Reply.{Reply}
 use Rattle.desk_register.specs.View.{View}
-use Rattle.desk_index.specs.IndexView.{view_of_index}
-use Rattle.desk_index.specs.declared.indexed_register.IndexedRegister.{IndexedRegister}
+use Rattle.memory_register.specs.ListsView.{view_of_lists}
+use Rattle.memory_register.specs.declared.list_register.ListRegister.{ListRegister}
 use Rattle.desk_mirror.specs.Both.{Both}
 use Rattle.sql_register.specs.Kept.{Kept}
 use Rattle.desk_book.specs.Answered.{AnsweredInTurn}
@@ -25,8 +25,8 @@ use Rattle.desk_opening.specs.Said.{SaysBooks}
 use Rattle.desk_book.specs.declared.fault.Fault.{Fault}
 
 -- What was opened is what files held that hold this, where no wrong answer of the device was taken as true.
-abbrev pub IsFoundIn : {D : Type 0} {g : Ghosts D} → Image → Both IndexedRegister (Kept (FileStore D g)) → Type 0
-IsFoundIn image both = HasCleanDisk (file_state both.tables.connection) → FindsIn image (file_state both.tables.connection).committed (view_of_index both.memory).content
+abbrev pub IsFoundIn : {D : Type 0} {g : Ghosts D} → Image → Both ListRegister (Kept (FileStore D g)) → Type 0
+IsFoundIn image both = HasCleanDisk (file_state both.tables.connection) → FindsIn image (file_state both.tables.connection).committed (view_of_lists both.memory).content
 
 -- what is committed says these books, where no wrong answer of the device was taken as true and the device has not shut the store
 abbrev pub TablesSay : State → Books → Type 0

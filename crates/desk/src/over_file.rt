@@ -20,10 +20,10 @@ use crate::store::{FileRegister, close_behind, open, open_there, tables_of, tell
 use crate::teller::{Teller, Watch};
 use desk_book::Desk;
 use desk_codes::Bic;
-use desk_index::IndexedRegister;
 use desk_mirror::MirroredRegister;
 use desk_register::Register;
 use desk_streams::{Sink, Source};
+use memory_register::ListRegister;
 use report_rows::Format;
 use sql_register::SqlRegister;
 use sqlite::{Alter, Connection, Error, FileFrom, Files, Start};
@@ -113,7 +113,7 @@ fn over_opened<D: Disk + Drop, R: Source, W: Sink>(
 /// The job over tables with a register in memory beside them, of which the connection is given back.
 fn over_both<S: Alter + Drop, R: Source, W: Sink>(
     rt: &HostRuntime,
-    both: MirroredRegister<IndexedRegister, SqlRegister<S>>,
+    both: MirroredRegister<ListRegister, SqlRegister<S>>,
     job: &Job<'_>,
     teller: &mut Teller<'_>,
     reader: &mut R,
@@ -132,7 +132,7 @@ fn over_both<S: Alter + Drop, R: Source, W: Sink>(
 /// Asks the desk over such tables.
 fn ask_on_both<S: Alter + Drop, R: Source, W: Sink>(
     rt: &HostRuntime,
-    both: MirroredRegister<IndexedRegister, SqlRegister<S>>,
+    both: MirroredRegister<ListRegister, SqlRegister<S>>,
     ask: &Ask<'_>,
     teller: &mut Teller<'_>,
     reader: &mut R,

@@ -16,11 +16,11 @@ ghost use Rattle.desk.specs.Status.{Ends, IsFailureTold, IsOpeningFailure, IsUno
 use crate::status::{Failure, Status, tell_failure};
 use crate::teller::Teller;
 use desk_book::Desk;
-use desk_index::IndexedRegister;
 use desk_mirror::MirroredRegister;
 use desk_opening::{OpenFault, is_live, open_file};
 use desk_rules::MOST_ENTRIES;
 use desk_streams::Sink;
+use memory_register::ListRegister;
 use sql_register::SqlRegister;
 use sqlite::{Alter, Connection, Error, FileFrom, FileStore, Files, Start};
 use sqlite_disk::Disk;
@@ -31,7 +31,7 @@ use std::{fs, io};
 const LONGEST_EMPTY_LOG: u64 = 64;
 
 /// A register in memory beside the tables of a file on such a disk.
-pub type FileRegister<D> = MirroredRegister<IndexedRegister, SqlRegister<FileStore<D>>>;
+pub type FileRegister<D> = MirroredRegister<ListRegister, SqlRegister<FileStore<D>>>;
 
 /// Opens the desk of a file, which is made where there is none. Why it is not opened is told on standard error too. `start` stands
 /// for what the files hold, as at `open_file`.
@@ -152,7 +152,7 @@ fn remove_log(rt: &HostRuntime, path: &str) -> io::Result<()> {
 
 /// The connection to the tables of a register that is two.
 pub fn connection_of<S: Alter + Drop>(
-    both: MirroredRegister<IndexedRegister, SqlRegister<S>>,
+    both: MirroredRegister<ListRegister, SqlRegister<S>>,
 ) -> Connection<S>
     ensures connection { result ≡ both.tables.connection }
     ensures left { both.stage ≡ Idle → (books : Books) → KeptBy (view_of_both both) books → TablesSay (state S.Store result) books }
@@ -164,7 +164,7 @@ pub fn connection_of<S: Alter + Drop>(
 
 /// The connection to the tables of a desk.
 pub fn tables_of<S: Alter + Drop>(
-    desk: Desk<MirroredRegister<IndexedRegister, SqlRegister<S>>>,
+    desk: Desk<MirroredRegister<ListRegister, SqlRegister<S>>>,
 ) -> Connection<S>
     requires { (view_of_both desk.register).room ≡ MOST_ENTRIES }
     ensures connection { result ≡ desk.register.tables.connection }

@@ -1,12 +1,12 @@
 //! What a connection sends, served in each way in which the bytes may come and go.
 
 use crate::failure::Failure;
-use crate::over_index::new_desk;
+use crate::in_memory::new_desk;
 use crate::streams::{FailingSink, FailingSource};
 use desk_book::Desk;
 use desk_http::{HttpFault, LONGEST_REQUEST, Routes, connection, serve_one};
-use desk_index::IndexedRegister;
 use desk_streams::PIECE;
+use memory_register::ListRegister;
 use std::alloc::Global;
 use std::rt::Files;
 use std::{fs, io};
@@ -124,7 +124,7 @@ impl Exchange<'_> {
     }
 
     /// A desk on which the setup was played.
-    fn desk(&self, alloc: Global) -> Result<Desk<IndexedRegister>, Failure> {
+    fn desk(&self, alloc: Global) -> Result<Desk<ListRegister>, Failure> {
         let mut desk = new_desk(alloc);
         let mut script = self.setup;
         match desk.play(alloc, &mut script, &mut io::sink()) {
@@ -162,7 +162,7 @@ impl Exchange<'_> {
     fn is_answered(
         &self,
         alloc: Global,
-        desk: &mut Desk<IndexedRegister>,
+        desk: &mut Desk<ListRegister>,
         piece: usize,
         before_cut: usize,
     ) -> Result<bool, Failure> {
@@ -184,7 +184,7 @@ impl Exchange<'_> {
     fn is_failed_read_told(
         &self,
         alloc: Global,
-        desk: &mut Desk<IndexedRegister>,
+        desk: &mut Desk<ListRegister>,
         piece: usize,
         read: usize,
     ) -> Result<bool, Failure> {
@@ -201,7 +201,7 @@ impl Exchange<'_> {
     fn is_failed_write_told(
         &self,
         alloc: Global,
-        desk: &mut Desk<IndexedRegister>,
+        desk: &mut Desk<ListRegister>,
         write: usize,
         is_full: bool,
     ) -> Result<bool, Failure> {

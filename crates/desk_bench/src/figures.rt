@@ -5,9 +5,6 @@ mod codes;
 mod mixed_day;
 
 use crate::failure::Failure;
-use crate::registers::Store;
-use desk_index::IndexedRegister;
-use desk_lists::ListRegister;
 use std::io::Read;
 
 /// A kind of the desk's work.
@@ -20,7 +17,7 @@ pub enum Kind {
     /// A text is read as a block.
     Block,
     /// A mixed day's entries are taken into a register.
-    Day(Store),
+    Day,
 }
 
 impl Kind {
@@ -30,7 +27,8 @@ impl Kind {
             "isin" => Kind::Isin,
             "number" => Kind::Number,
             "block" => Kind::Block,
-            _ => Kind::Day(Store::read(name)?),
+            "day" => Kind::Day,
+            _ => return None,
         })
     }
 }
@@ -56,7 +54,6 @@ fn figure_of(rt: &(impl Input + AllocGlobal), kind: Kind, count: u32) -> Result<
             rt.reader().read_to_end(&mut text)?;
             blocks::fields_read(rt.alloc(), &text, count)
         }
-        Kind::Day(Store::Lists) => mixed_day::pairs_settled::<ListRegister>(rt.alloc(), count)?,
-        Kind::Day(Store::Index) => mixed_day::pairs_settled::<IndexedRegister>(rt.alloc(), count)?,
+        Kind::Day => mixed_day::pairs_settled(rt.alloc(), count)?,
     })
 }

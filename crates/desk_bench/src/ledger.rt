@@ -1,13 +1,13 @@
 //! A register in memory that takes in what the desk accepts, entry by entry, as the desk does.
-ghost use Rattle.std.specs.Prelude.{◌≤◌};
-ghost use Rattle.desk_rules.specs.declared.limits.TheConstants.{MOST_ENTRIES};
+ghost use Rattle.std.specs.Prelude.{◌≡◌};
+ghost use Rattle.desk_register.specs.Changes.{empty_content};
 ghost use Rattle.desk_engine.specs.Applied.{CanApply};
 
 use desk_codes::{AccountId, Bic, Ccy, Day, Isin, Reference};
 use desk_engine::{Applied, Failure, accept, decide};
 use desk_msg::{Instruction, Kind};
-use desk_register::{Fault, Holding, MemoryRegister};
-use desk_rules::{Entry, MOST_ENTRIES, Place, Refusal, Reply, Sender, Sent, Standing, Verdict};
+use desk_register::{Fault, Holding, MemoryRegister, Stage};
+use desk_rules::{Entry, Place, Refusal, Reply, Sender, Sent, Standing, Verdict};
 use std::alloc::Global;
 use std::marker::Model;
 
@@ -41,13 +41,12 @@ pub enum Entered {
 }
 
 impl<R: MemoryRegister> Ledger<R> {
-    /// An empty one, for at most `limit` entries.
-    pub fn new(alloc: Global, limit: u64) -> Ledger<R>
-        requires { limit ≤ MOST_ENTRIES }
+    /// One over a register that holds nothing.
+    pub fn new(register: R) -> Ledger<R>
+        requires stage { (R.view register).stage ≡ Stage.Idle }
+        requires empty { (R.view register).content ≡ empty_content }
     {
-        Ledger {
-            register: R::empty(alloc, limit),
-        }
+        Ledger { register }
     }
 
     /// Takes an accepted entry in; after a fault all is taken back.

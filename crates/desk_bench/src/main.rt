@@ -38,10 +38,10 @@ mod damaged;
 mod digits;
 mod failure;
 mod figures;
+mod in_memory;
 mod ledger;
 mod market;
 mod opening;
-mod over_index;
 mod registers;
 mod reports;
 mod streams;
@@ -90,7 +90,7 @@ fn done(rt: &HostRuntime, work: Work<'_>) -> Result<bool, Failure> {
         Work::Adopt => tables::tell_adopted(rt),
         Work::Damaged { call, row, change } => damaged::tell(rt, call, row, change),
         Work::Open(path, limit) => tables::tell(rt, path, limit),
-        Work::Day(store) => registers::try_store(rt, store),
+        Work::Day => registers::try_register(rt),
         Work::Schema(path) => opening::tell_schema(rt, path),
         Work::Report(form, count) => reports::print(rt, form, count),
         Work::Figure(kind, count) => figures::print(rt, kind, count),

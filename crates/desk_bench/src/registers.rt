@@ -7,31 +7,10 @@ use crate::ledger::{Entered, Ledger};
 use crate::market::{Lot, Market, OPENING, Side, day, reference};
 use crate::registers::shown::shown;
 use desk_codes::{Day, Reference};
-use desk_index::IndexedRegister;
-use desk_lists::ListRegister;
 use desk_register::MemoryRegister;
 use desk_rules::{Entry, RunRule};
+use memory_register::ListRegister;
 use std::alloc::Global;
-
-/// Where a register in memory keeps its entries.
-#[derive(Clone, Copy)]
-pub enum Store {
-    /// In lists
-    Lists,
-    /// In lists, with the index beside them
-    Index,
-}
-
-impl Store {
-    /// The store of a name; None where there is no such store.
-    pub fn read(name: &str) -> Option<Store> {
-        match name {
-            "lists" => Some(Store::Lists),
-            "index" => Some(Store::Index),
-            _ => None,
-        }
-    }
-}
 
 /// The register holds so many entries at most.
 const ROOM: u64 = 1000;
@@ -39,17 +18,9 @@ const ROOM: u64 = 1000;
 /// How many entries the day has.
 const DAY: u32 = 33;
 
-/// Asks a register of a store the day's entries. Whether it showed the same each time.
-pub fn try_store(rt: &(impl Print + AllocGlobal), store: Store) -> Result<bool, Failure> {
-    match store {
-        Store::Lists => try_ledger::<ListRegister>(rt),
-        Store::Index => try_ledger::<IndexedRegister>(rt),
-    }
-}
-
-/// Asks a new register.
-fn try_ledger<R: MemoryRegister>(rt: &(impl Print + AllocGlobal)) -> Result<bool, Failure> {
-    let mut ledger = Ledger::<R>::new(rt.alloc(), ROOM);
+/// Asks a new register the day's entries. Whether it showed the same each time.
+pub fn try_register(rt: &(impl Print + AllocGlobal)) -> Result<bool, Failure> {
+    let mut ledger = Ledger::new(ListRegister::new(rt.alloc(), ROOM));
     try_day(rt, &mut ledger)
 }
 

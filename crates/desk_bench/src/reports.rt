@@ -2,11 +2,11 @@
 
 use crate::digits::digits;
 use crate::failure::Failure;
-use crate::over_index::new_desk;
+use crate::in_memory::new_desk;
 use desk_book::{Desk, Question};
 use desk_codes::{Bic, check_digit};
-use desk_index::IndexedRegister;
 use desk_streams::Sink;
+use memory_register::ListRegister;
 use std::alloc::Global;
 use std::io;
 
@@ -35,7 +35,7 @@ pub fn print(rt: &(impl Print + AllocGlobal), form: Form, count: u32) -> Result<
 /// Writes a line, once all is ready, and then the report.
 fn write_report<W: Sink>(
     alloc: Global,
-    desk: &mut Desk<IndexedRegister>,
+    desk: &mut Desk<ListRegister>,
     form: Form,
     count: u32,
     writer: &mut W,
@@ -60,7 +60,7 @@ fn write_report<W: Sink>(
 }
 
 /// Registers a security of its own for each number, and issues a million units of it.
-fn issue(alloc: Global, desk: &mut Desk<IndexedRegister>, number: u32) -> Result<(), Failure> {
+fn issue(alloc: Global, desk: &mut Desk<ListRegister>, number: u32) -> Result<(), Failure> {
     let mut body = *b"US000000000";
     body[2..].copy_from_slice(&digits(number));
     let check = check_digit(body).ok_or(Failure::Form)?;
@@ -76,7 +76,7 @@ fn issue(alloc: Global, desk: &mut Desk<IndexedRegister>, number: u32) -> Result
 }
 
 /// Asks for an operator's command, which is accepted.
-fn order(alloc: Global, desk: &mut Desk<IndexedRegister>, command: &[u8]) -> Result<(), Failure> {
+fn order(alloc: Global, desk: &mut Desk<ListRegister>, command: &[u8]) -> Result<(), Failure> {
     let reply = desk.ask(alloc, &Question::Operator.with(command))?;
     if reply.status == 200 {
         Ok(())

@@ -8,11 +8,11 @@ ghost use Rattle.sql_register.specs.Kept.{shown};
 
 use crate::failure::Failure;
 use desk_book::Desk;
-use desk_index::IndexedRegister;
 use desk_mirror::MirroredRegister;
 use desk_opening::{Silent, adopt, adopt_tables, open_file, open_tables};
 use desk_register::Register;
 use desk_rules::MOST_ENTRIES;
+use memory_register::ListRegister;
 use sql_register::SqlRegister;
 use sqlite::{Alter, Connection, MemStore, Unknown};
 use std::io;
@@ -49,7 +49,7 @@ fn play<D: Register + Drop>(rt: &HostRuntime, register: D) -> Result<D, Failure>
 /// The same over tables with a register in memory beside them, of which the connection is given back.
 fn play_over_both<S: Alter + Drop>(
     rt: &HostRuntime,
-    both: MirroredRegister<IndexedRegister, SqlRegister<S>>,
+    both: MirroredRegister<ListRegister, SqlRegister<S>>,
 ) -> Result<Connection<S>, Failure>
     requires { IsReady false (view_of_both both) }
 {
@@ -132,7 +132,7 @@ fn told<D: Register + Drop>(rt: &HostRuntime, register: D) -> Result<D, Failure>
 /// The same of a register that is two, of which the connection is given back.
 fn told_of_both<S: Alter + Drop>(
     rt: &HostRuntime,
-    both: MirroredRegister<IndexedRegister, SqlRegister<S>>,
+    both: MirroredRegister<ListRegister, SqlRegister<S>>,
 ) -> Result<Connection<S>, Failure>
     requires { IsReady false (view_of_both both) }
 {

@@ -2,7 +2,6 @@
 
 use crate::damaged::Call;
 use crate::figures::Kind;
-use crate::registers::Store;
 use crate::reports::Form;
 use crate::tables::Registers;
 use desk_rules::MOST_ENTRIES;
@@ -29,7 +28,7 @@ pub enum Work<'a> {
         change: Option<&'a str>,
     },
     /// A day's entries are asked of a register.
-    Day(Store),
+    Day,
     /// A file is opened, and its schema looked at.
     Schema(&'a str),
     /// A report of so many securities is written.
@@ -62,6 +61,7 @@ impl<'a> Work<'a> {
     fn of_none(kind: &'a str) -> Option<Work<'a>> {
         Some(match kind {
             "adopt" => Work::Adopt,
+            "day" => Work::Day,
             _ => Work::Play(Registers::read(kind)?, None, MOST_ENTRIES),
         })
     }
@@ -71,7 +71,6 @@ impl<'a> Work<'a> {
         Some(match kind {
             "play" | "tables" => Work::Play(Registers::read(kind)?, Some(word), MOST_ENTRIES),
             "open" => Work::Open(word, MOST_ENTRIES),
-            "day" => Work::Day(Store::read(word)?),
             "schema" => Work::Schema(word),
             "statement" => Work::Report(Form::Statement, number(word)?),
             "sums" => Work::Report(Form::Sums, number(word)?),

@@ -4,8 +4,8 @@ use Rattle.sqlite.specs.Effect.{Database}
 use Rattle.sqlite.specs.Held.{state}
 use Rattle.sqlite.specs.State.{HasCleanDisk}
 use Rattle.sqlite_trees.specs.declared.store.Store.{Ghosts}
-use Rattle.desk_index.specs.IndexView.{view_of_index}
-use Rattle.desk_index.specs.declared.indexed_register.IndexedRegister.{IndexedRegister}
+use Rattle.memory_register.specs.ListsView.{view_of_lists}
+use Rattle.memory_register.specs.declared.list_register.ListRegister.{ListRegister}
 use Rattle.desk_mirror.specs.Both.{Both}
 use Rattle.desk_register.specs.Changes.{empty_content}
 use Rattle.desk_register.specs.declared.register.Stage.TheVariants.{Idle}
@@ -32,18 +32,18 @@ nothing_audited db limit content empty becomes version =
 
 -- ---- both
 
-module _ {S : Type 0} (store : Ghosts S) (limit : ℕ) (both : Both IndexedRegister (Kept S)) (memory : IndexedRegister) (tables : Kept S) (is_memory : both.memory ≡ memory) (is_tables : both.tables ≡ tables) where
-  pub opened_as : both.stage ≡ Idle → both.failures ≡ 0 → (view_of_index memory).room ≡ limit → HoldsFormed limit (view_of_index memory).content → AreReadyTables limit tables
-      → (HasCleanDisk (state store tables.connection) → KeepAudited (state store tables.connection) limit (view_of_index memory).content) → IsOpened store limit both
+module _ {S : Type 0} (store : Ghosts S) (limit : ℕ) (both : Both ListRegister (Kept S)) (memory : ListRegister) (tables : Kept S) (is_memory : both.memory ≡ memory) (is_tables : both.tables ≡ tables) where
+  pub opened_as : both.stage ≡ Idle → both.failures ≡ 0 → (view_of_lists memory).room ≡ limit → HoldsFormed limit (view_of_lists memory).content → AreReadyTables limit tables
+      → (HasCleanDisk (state store tables.connection) → KeepAudited (state store tables.connection) limit (view_of_lists memory).content) → IsOpened store limit both
   opened_as stage failures room holds ready keep = record {
-    ready = both_ready limit both stage failures (subst (λ (m : IndexedRegister). (view_of_index m).room ≡ limit) (sym is_memory) room)
-        (subst (λ (m : IndexedRegister). HoldsFormed limit (view_of_index m).content) (sym is_memory) holds);
+    ready = both_ready limit both stage failures (subst (λ (m : ListRegister). (view_of_lists m).room ≡ limit) (sym is_memory) room)
+        (subst (λ (m : ListRegister). HoldsFormed limit (view_of_lists m).content) (sym is_memory) holds);
     tables = subst (AreReadyTables limit) (sym is_tables) ready;
-    keep = subst (λ (t : Kept S). HasCleanDisk (state store t.connection) → KeepAudited (state store t.connection) limit (view_of_index both.memory).content) (sym is_tables)
-        (λ clean. subst (λ (m : IndexedRegister). KeepAudited (state store tables.connection) limit (view_of_index m).content) (sym is_memory) (keep clean));
+    keep = subst (λ (t : Kept S). HasCleanDisk (state store t.connection) → KeepAudited (state store t.connection) limit (view_of_lists both.memory).content) (sym is_tables)
+        (λ clean. subst (λ (m : ListRegister). KeepAudited (state store tables.connection) limit (view_of_lists m).content) (sym is_memory) (keep clean));
   }
 
-  pub found_as : (db : Database) → (HasCleanDisk (state store tables.connection) → Finds db (state store tables.connection).committed (view_of_index memory).content)
-      → HasCleanDisk (state store both.tables.connection) → Finds db (state store both.tables.connection).committed (view_of_index both.memory).content
-  found_as db finds = subst (λ (t : Kept S). HasCleanDisk (state store t.connection) → Finds db (state store t.connection).committed (view_of_index both.memory).content) (sym is_tables)
-      (λ clean. subst (λ (m : IndexedRegister). Finds db (state store tables.connection).committed (view_of_index m).content) (sym is_memory) (finds clean))
+  pub found_as : (db : Database) → (HasCleanDisk (state store tables.connection) → Finds db (state store tables.connection).committed (view_of_lists memory).content)
+      → HasCleanDisk (state store both.tables.connection) → Finds db (state store both.tables.connection).committed (view_of_lists both.memory).content
+  found_as db finds = subst (λ (t : Kept S). HasCleanDisk (state store t.connection) → Finds db (state store t.connection).committed (view_of_lists both.memory).content) (sym is_tables)
+      (λ clean. subst (λ (m : ListRegister). Finds db (state store tables.connection).committed (view_of_lists m).content) (sym is_memory) (finds clean))

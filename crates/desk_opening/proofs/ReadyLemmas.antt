@@ -1,8 +1,8 @@
 -- A register that a desk can be made over.
 use Rattle.std.proofs.Common.{◌≡◌, ℕ, sym, subst}
 use Rattle.desk_engine.specs.Applied.{Keeps}
-use Rattle.desk_index.specs.IndexView.{view_of_index}
-use Rattle.desk_index.specs.declared.indexed_register.IndexedRegister.{IndexedRegister}
+use Rattle.memory_register.specs.ListsView.{view_of_lists}
+use Rattle.memory_register.specs.declared.list_register.ListRegister.{ListRegister}
 use Rattle.desk_mirror.specs.Both.{Both}
 use Rattle.desk_register.specs.View.{View}
 use Rattle.desk_register.specs.declared.register.Stage.TheVariants.{Idle}
@@ -31,6 +31,6 @@ ready limit view stage sure failures room holds = record {
 }
 
 -- memory has no device
-pub both_ready : {S : Type 0} (limit : ℕ) (both : Both IndexedRegister (Kept S)) → both.stage ≡ Idle → both.failures ≡ 0 → (view_of_index both.memory).room ≡ limit
-    → HoldsFormed limit (view_of_index both.memory).content → IsReadyFor limit (view_of_both both)
+pub both_ready : {S : Type 0} (limit : ℕ) (both : Both ListRegister (Kept S)) → both.stage ≡ Idle → both.failures ≡ 0 → (view_of_lists both.memory).room ≡ limit
+    → HoldsFormed limit (view_of_lists both.memory).content → IsReadyFor limit (view_of_both both)
 both_ready limit both stage failures room holds = ready limit (view_of_both both) stage (λ honest. tt) failures room (λ honest. holds)

@@ -5,14 +5,14 @@ use Rattle.sqlite.specs.Held.{state}
 use Rattle.sqlite.specs.State.{HasCleanDisk}
 use Rattle.sqlite_trees.specs.declared.store.Store.{Ghosts}
 use Rattle.sqlite_wal.specs.Recovery.{Image}
-use Rattle.desk_index.specs.declared.indexed_register.IndexedRegister.{IndexedRegister}
+use Rattle.memory_register.specs.declared.list_register.ListRegister.{ListRegister}
 use Rattle.desk_mirror.specs.Both.{Both}
 use Rattle.sql_register.specs.Content.{content_in}
 use Rattle.sql_register.specs.Kept.{Kept, view_of}
 use Rattle.desk_opening.specs.Opened.{Finds, FindsIn, IsReadyFor, KeepAudited}
 
 -- an opening, and what is told of it where the tables alone are kept
-abbrev pub IsAlone : {S E : Type 0} → Result (Both IndexedRegister (Kept S)) E → Result (Kept S) E → Type 0
+abbrev pub IsAlone : {S E : Type 0} → Result (Both ListRegister (Kept S)) E → Result (Kept S) E → Type 0
 IsAlone (Ok both) told = told ≡ Ok both.tables
 IsAlone (Err fault) told = told ≡ Err fault
 

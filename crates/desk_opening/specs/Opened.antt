@@ -13,8 +13,8 @@ use Rattle.desk_register.specs.Changes.{empty_content}
 use Rattle.desk_register.specs.View.{View}
 use Rattle.desk_register.specs.declared.register.Stage.TheVariants.{Idle}
 use Rattle.desk_engine.specs.Ready.{IsReady}
-use Rattle.desk_index.specs.IndexView.{view_of_index}
-use Rattle.desk_index.specs.declared.indexed_register.IndexedRegister.{IndexedRegister}
+use Rattle.memory_register.specs.ListsView.{view_of_lists}
+use Rattle.memory_register.specs.declared.list_register.ListRegister.{ListRegister}
 use Rattle.desk_mirror.specs.Both.{Both, shown}
 use Rattle.sql_opening.specs.Order.{AreInOrder}
 use Rattle.sql_register.specs.Holds.{Becomes}
@@ -56,8 +56,8 @@ pub record KeepAudited (s : State) (limit : ℕ) (content : Content) : Type 0 wh
   pub audited : IsAudited s.now limit content
 
 -- the register that is two, as contracts of `Register` see it
-abbrev pub view_of_both : {S : Type 0} → Both IndexedRegister (Kept S) → View
-view_of_both both = shown (view_of_index both.memory) both.stage both.failures
+abbrev pub view_of_both : {S : Type 0} → Both ListRegister (Kept S) → View
+view_of_both both = shown (view_of_lists both.memory) both.stage both.failures
 
 -- the tables have no `begin` open and no failure counted, and have room for so many entries
 pub record AreReadyTables {S : Type 0} (limit : ℕ) (tables : Kept S) : Type 0 where
@@ -66,10 +66,10 @@ pub record AreReadyTables {S : Type 0} (limit : ℕ) (tables : Kept S) : Type 0 
   pub room : tables.room ≡ limit
 
 -- A register that is two was opened: it is ready, and the tables say what it holds.
-pub record IsOpened {S : Type 0} (store : Ghosts S) (limit : ℕ) (both : Both IndexedRegister (Kept S)) : Type 0 where
+pub record IsOpened {S : Type 0} (store : Ghosts S) (limit : ℕ) (both : Both ListRegister (Kept S)) : Type 0 where
   pub ready : IsReadyFor limit (view_of_both both)
   pub tables : AreReadyTables limit both.tables
-  pub keep : HasCleanDisk (state store both.tables.connection) → KeepAudited (state store both.tables.connection) limit (view_of_index both.memory).content
+  pub keep : HasCleanDisk (state store both.tables.connection) → KeepAudited (state store both.tables.connection) limit (view_of_lists both.memory).content
 
 -- what is handed back has the last commit as it was, and nothing else
 pub record IsHandedBack (store : Store) (s : State) : Type 0 where

@@ -5,7 +5,7 @@ ghost use Rattle.sqlite.specs.Held.{state};
 ghost use Rattle.sqlite.specs.State.{HasCleanDisk};
 ghost use Rattle.sqlite_trees.specs.View.{IsClean};
 ghost use Rattle.sqlite_wal.specs.Files.{image_at};
-ghost use Rattle.desk_index.specs.IndexView.{view_of_index};
+ghost use Rattle.memory_register.specs.ListsView.{view_of_lists};
 ghost use Rattle.desk_rules.specs.declared.limits.TheConstants.{MOST_ENTRIES};
 ghost use Rattle.desk_opening.specs.Opened.{Finds, FindsIn, IsHandedBack, IsOpened};
 
@@ -13,8 +13,8 @@ use crate::fault::{OpenFault, fault_of, fault_of_files};
 use crate::reopening::{give_up, reopen};
 use crate::taking::take_over;
 use audit_entries::{Progress, Silent};
-use desk_index::IndexedRegister;
 use desk_mirror::MirroredRegister;
+use memory_register::ListRegister;
 use sql_opening::open_in_order;
 use sql_register::SqlRegister;
 use sqlite::{Alter, Connection, FileFrom, FileStore, Leftover, Start};
@@ -31,10 +31,10 @@ pub fn adopt<S: Alter + Drop>(
     alloc: Global,
     conn: Connection<S>,
     limit: u64,
-) -> Result<MirroredRegister<IndexedRegister, SqlRegister<S>>, (OpenFault, S)>
+) -> Result<MirroredRegister<ListRegister, SqlRegister<S>>, (OpenFault, S)>
     requires { limit ≤ MOST_ENTRIES }
     ensures opened { IfOk result (IsOpened S.Store limit) }
-    ensures which { IfOk result (λ both. HasCleanDisk (state S.Store both.tables.connection) → Finds (state S.Store conn).committed (state S.Store both.tables.connection).committed (view_of_index both.memory).content) }
+    ensures which { IfOk result (λ both. HasCleanDisk (state S.Store both.tables.connection) → Finds (state S.Store conn).committed (state S.Store both.tables.connection).committed (view_of_lists both.memory).content) }
     ensures back { IfErr result (λ e. IsClean (S.Store.view e.1) → IsTrue (S.Store.view e.1).is_open → IsHandedBack (S.Store.view e.1) (state S.Store conn)) }
 {
     let conn = match reopen(alloc, conn) {
@@ -67,10 +67,10 @@ pub fn open_file<S: Start, P: Progress>(
     start: S,
     limit: u64,
     progress: &mut P,
-) -> Result<MirroredRegister<IndexedRegister, SqlRegister<FileStore<FileFrom<S>>>>, OpenFault>
+) -> Result<MirroredRegister<ListRegister, SqlRegister<FileStore<FileFrom<S>>>>, OpenFault>
     requires { limit ≤ MOST_ENTRIES }
     ensures opened { IfOk result (IsOpened over_files limit) }
-    ensures which { IfOk result (λ both. HasCleanDisk (file_state both.tables.connection) → FindsIn (image_at S.Start) (file_state both.tables.connection).committed (view_of_index both.memory).content) }
+    ensures which { IfOk result (λ both. HasCleanDisk (file_state both.tables.connection) → FindsIn (image_at S.Start) (file_state both.tables.connection).committed (view_of_lists both.memory).content) }
 {
     let conn = match open_in_order(rt, path, start) {
         Ok(conn) => conn,

@@ -11,8 +11,8 @@ ghost use Rattle.desk_opening.specs.Opened.{IsHandedBack};
 use crate::fault::OpenFault;
 use crate::opening::{adopt, open_file};
 use audit_entries::Silent;
-use desk_index::IndexedRegister;
 use desk_mirror::MirroredRegister;
+use memory_register::ListRegister;
 use sql_register::SqlRegister;
 use sqlite::{Alter, Connection, FileFrom, FileStore, Start};
 use std::alloc::Global;
@@ -20,7 +20,7 @@ use std::rt::HostRuntime;
 
 /// The tables of what was opened, without the register in memory beside them; a fault stays.
 fn alone<S: Alter + Drop, E>(
-    opened: Result<MirroredRegister<IndexedRegister, SqlRegister<S>>, E>,
+    opened: Result<MirroredRegister<ListRegister, SqlRegister<S>>, E>,
 ) -> Result<SqlRegister<S>, E>
     ensures { IsAlone opened result }
 {

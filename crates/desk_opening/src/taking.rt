@@ -2,7 +2,7 @@
 ghost use Rattle.std.specs.Prelude.{◌≡◌, ◌≤◌, IfErr, IfOk, IsTrue};
 ghost use Rattle.sqlite.specs.Held.{state};
 ghost use Rattle.sqlite.specs.State.{HasCleanDisk};
-ghost use Rattle.desk_index.specs.IndexView.{view_of_index};
+ghost use Rattle.memory_register.specs.ListsView.{view_of_lists};
 ghost use Rattle.desk_rules.specs.declared.limits.TheConstants.{MOST_ENTRIES};
 ghost use Rattle.sql_tables.specs.Ends.{IsLater};
 ghost use Rattle.sql_tables.specs.Making.{KeepsCommitted};
@@ -13,8 +13,8 @@ use crate::fault::{Difference, OpenFault, fault_of, fault_of_audit};
 use crate::version::says_other_version;
 use audit_desk::{Audited, audit};
 use audit_entries::Progress;
-use desk_index::IndexedRegister;
 use desk_mirror::MirroredRegister;
+use memory_register::ListRegister;
 use sql_register::{SqlRegister, has_no_table};
 use sqlite::{Alter, Connection};
 use std::alloc::Global;
@@ -35,17 +35,17 @@ fn make<S: Alter + Drop>(
     alloc: Global,
     conn: Connection<S>,
     limit: u64,
-) -> Result<MirroredRegister<IndexedRegister, SqlRegister<S>>, (OpenFault, Connection<S>)>
+) -> Result<MirroredRegister<ListRegister, SqlRegister<S>>, (OpenFault, Connection<S>)>
     requires limit { limit ≤ MOST_ENTRIES }
     requires open { HasCleanDisk (state S.Store conn) → StandsOpen (state S.Store conn) }
     ensures opened { IfOk result (IsOpened S.Store limit) }
-    ensures which { IfOk result (λ both. HasCleanDisk (state S.Store both.tables.connection) → Finds (state S.Store conn).committed (state S.Store both.tables.connection).committed (view_of_index both.memory).content) }
+    ensures which { IfOk result (λ both. HasCleanDisk (state S.Store both.tables.connection) → Finds (state S.Store conn).committed (state S.Store both.tables.connection).committed (view_of_lists both.memory).content) }
     ensures later { IfOk result (λ both. IsLater (state S.Store conn) (state S.Store both.tables.connection)) }
     ensures handed { IfErr result (λ e. IsLater (state S.Store conn) (state S.Store e.1)) }
     ensures kept { IfErr result (λ e. HasCleanDisk (state S.Store e.1) → KeepsCommitted (state S.Store conn) (state S.Store e.1)) }
 {
     match SqlRegister::new(conn, limit) {
-        Ok(tables) => Ok(MirroredRegister::new(IndexedRegister::new(alloc, limit), tables)),
+        Ok(tables) => Ok(MirroredRegister::new(ListRegister::new(alloc, limit), tables)),
         Err((error, conn)) => Err((fault_of(&error), conn)),
     }
 }
@@ -56,16 +56,16 @@ fn find<S: Alter + Drop, P: Progress>(
     mut conn: Connection<S>,
     limit: u64,
     progress: &mut P,
-) -> Result<MirroredRegister<IndexedRegister, SqlRegister<S>>, (OpenFault, Connection<S>)>
+) -> Result<MirroredRegister<ListRegister, SqlRegister<S>>, (OpenFault, Connection<S>)>
     requires limit { limit ≤ MOST_ENTRIES }
     requires open { HasCleanDisk (state S.Store conn) → StandsOpen (state S.Store conn) }
     ensures opened { IfOk result (IsOpened S.Store limit) }
-    ensures which { IfOk result (λ both. HasCleanDisk (state S.Store both.tables.connection) → Finds (state S.Store conn).committed (state S.Store both.tables.connection).committed (view_of_index both.memory).content) }
+    ensures which { IfOk result (λ both. HasCleanDisk (state S.Store both.tables.connection) → Finds (state S.Store conn).committed (state S.Store both.tables.connection).committed (view_of_lists both.memory).content) }
     ensures later { IfOk result (λ both. IsLater (state S.Store conn) (state S.Store both.tables.connection)) }
     ensures handed { IfErr result (λ e. IsLater (state S.Store conn) (state S.Store e.1)) }
     ensures kept { IfErr result (λ e. HasCleanDisk (state S.Store e.1) → KeepsCommitted (state S.Store conn) (state S.Store e.1)) }
 {
-    let mut memory = IndexedRegister::new(alloc, limit);
+    let mut memory = ListRegister::new(alloc, limit);
     match audit(alloc, &mut conn, &mut memory, progress) {
         Ok(Audited::Whole) => Ok(MirroredRegister::new(memory, SqlRegister::over(conn, limit))),
         Ok(Audited::OtherTables | Audited::OtherVersion) => {
@@ -88,11 +88,11 @@ pub fn take_over<S: Alter + Drop, P: Progress>(
     conn: Connection<S>,
     limit: u64,
     progress: &mut P,
-) -> Result<MirroredRegister<IndexedRegister, SqlRegister<S>>, (OpenFault, Connection<S>)>
+) -> Result<MirroredRegister<ListRegister, SqlRegister<S>>, (OpenFault, Connection<S>)>
     requires limit { limit ≤ MOST_ENTRIES }
     requires open { HasCleanDisk (state S.Store conn) → StandsOpen (state S.Store conn) }
     ensures opened { IfOk result (IsOpened S.Store limit) }
-    ensures which { IfOk result (λ both. HasCleanDisk (state S.Store both.tables.connection) → Finds (state S.Store conn).committed (state S.Store both.tables.connection).committed (view_of_index both.memory).content) }
+    ensures which { IfOk result (λ both. HasCleanDisk (state S.Store both.tables.connection) → Finds (state S.Store conn).committed (state S.Store both.tables.connection).committed (view_of_lists both.memory).content) }
     ensures later { IfOk result (λ both. IsLater (state S.Store conn) (state S.Store both.tables.connection)) }
     ensures handed { IfErr result (λ e. IsLater (state S.Store conn) (state S.Store e.1)) }
     ensures kept { IfErr result (λ e. HasCleanDisk (state S.Store e.1) → KeepsCommitted (state S.Store conn) (state S.Store e.1)) }

@@ -3,12 +3,12 @@ ghost use Rattle.std.specs.Prelude.{◌≤◌};
 ghost use Rattle.desk_rules.specs.declared.limits.TheConstants.{MOST_ENTRIES};
 
 use desk_book::Desk;
-use desk_register::MemoryRegister;
+use memory_register::ListRegister;
 use std::alloc::Global;
 
 /// A desk that has no entry, and may hold so many.
-pub fn new_desk<R: MemoryRegister>(alloc: Global, limit: u64) -> Desk<R>
+pub fn new_desk(alloc: Global, limit: u64) -> Desk<ListRegister>
     requires { limit ≤ MOST_ENTRIES }
 {
-    Desk::new(R::empty(alloc, limit))
+    Desk::new(ListRegister::new(alloc, limit))
 }

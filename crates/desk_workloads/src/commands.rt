@@ -1,4 +1,4 @@
-//! Operator's commands of all operations in the spellings that most users write, played as scripts over the index.
+//! Operator's commands of all operations in the spellings that most users write, played as scripts in memory.
 
 use crate::codes::isin;
 use crate::day::BASES;

@@ -11,8 +11,8 @@ use crate::script::Script;
 use crate::trade::{Party, add_all};
 use desk_book::Desk;
 use desk_http::{Routes, serve_one};
-use desk_index::IndexedRegister;
 use itoa::Buffer;
+use memory_register::ListRegister;
 use std::alloc::Global;
 
 /// Who is there.
@@ -50,7 +50,7 @@ fn serve(
     alloc: Global,
     routes: &Routes,
     sent: &[u8],
-    desk: &mut Desk<IndexedRegister>,
+    desk: &mut Desk<ListRegister>,
     digest: &mut Digest,
 ) -> Result<(), Failure> {
     let mut reader = sent;
@@ -63,7 +63,7 @@ fn serve(
 /// Registers who is there.
 fn open(
     alloc: Global,
-    desk: &mut Desk<IndexedRegister>,
+    desk: &mut Desk<ListRegister>,
     base: u32,
     digest: &mut Digest,
 ) -> Result<(), Failure> {

@@ -7,9 +7,9 @@ use crate::draw::Draw;
 use crate::failure::Failure;
 use crate::size::Size;
 use desk_book::Desk;
-use desk_index::IndexedRegister;
 use desk_register::Register;
 use desk_rules::MOST_ENTRIES;
+use memory_register::ListRegister;
 use std::alloc::Global;
 
 /// So many requests a script has.
@@ -35,9 +35,9 @@ const LARGE: Depository = Depository {
     is_asked: true,
 };
 
-/// A desk over the index that has no entry.
-pub fn new_desk(alloc: Global) -> Desk<IndexedRegister> {
-    Desk::new(IndexedRegister::new(alloc, MOST_ENTRIES))
+/// A desk in memory that has no entry.
+pub fn new_desk(alloc: Global) -> Desk<ListRegister> {
+    Desk::new(ListRegister::new(alloc, MOST_ENTRIES))
 }
 
 /// Plays two days: one at a small depository, one at a large one.

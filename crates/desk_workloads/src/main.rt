@@ -3,7 +3,7 @@
 //! Each makes its input from the seed, another one in each round, and calls what the crates of the desk hand out. It prints
 //! a digest of all results and their length. bench/workloads.txt has the words that bench/run times.
 //!
-//! `day` plays days as scripts over the index, `tables` one over tables in SQL, `file` the same over a register in memory
+//! `day` plays days as scripts in memory, `tables` one over tables in SQL, `file` the same over a register in memory
 //! beside them, `runs` lets runs go over much that waits,
 //! `reports` asks for statements and totals of many securities, `messages` reads messages and serves connections,
 //! `replay` takes a kept history in once more, and `commands` plays operator's commands in several spellings.

@@ -10,9 +10,9 @@ use crate::draw::Draw;
 use crate::failure::Failure;
 use crate::size::Size;
 use desk_engine::replay;
-use desk_index::IndexedRegister;
 use desk_register::Register;
 use desk_rules::{Kept, MOST_ENTRIES};
+use memory_register::ListRegister;
 use std::alloc::Global;
 
 /// A depository of two hundred participants, with a run each 500 pairs, at which nothing is asked.
@@ -34,7 +34,7 @@ pub fn take_in_again(
     digest: &mut Digest,
 ) -> Result<(), Failure> {
     let kept = kept_of_day(alloc, seed, round, size, digest)?;
-    let mut register = IndexedRegister::new(alloc, MOST_ENTRIES);
+    let mut register = ListRegister::new(alloc, MOST_ENTRIES);
     let is_whole = replay(alloc, &mut register, &kept)?;
     digest.add_number(u64::from(is_whole));
     digest.add_number(register.count(alloc)?);
@@ -66,7 +66,7 @@ fn kept_of_day(
 /// What a register keeps of the entry of a number.
 fn kept_at(
     alloc: Global,
-    register: &mut IndexedRegister,
+    register: &mut ListRegister,
     number: u64,
 ) -> Result<Option<Kept>, Failure> {
     let entry = register.entry(alloc, number)?;

@@ -10,7 +10,7 @@ use crate::script::Script;
 use crate::size::Size;
 use crate::trade::Party;
 use desk_book::Desk;
-use desk_index::IndexedRegister;
+use memory_register::ListRegister;
 use std::alloc::Global;
 
 /// One account holds some of every security, so many others a few each.
@@ -58,7 +58,7 @@ fn drawn(draw: &mut Draw, isins: &[[u8; 12]]) -> [u8; 12] {
 /// Registers and issues all.
 fn open(
     alloc: Global,
-    desk: &mut Desk<IndexedRegister>,
+    desk: &mut Desk<ListRegister>,
     draw: &mut Draw,
     base: u32,
     isins: &[[u8; 12]],
@@ -90,7 +90,7 @@ fn open(
 /// Asks for the statement of the large account and for the totals, in turn with those of the others.
 fn ask(
     alloc: Global,
-    desk: &mut Desk<IndexedRegister>,
+    desk: &mut Desk<ListRegister>,
     draw: &mut Draw,
     base: u32,
     isins: &[[u8; 12]],

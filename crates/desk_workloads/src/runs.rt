@@ -10,7 +10,7 @@ use crate::script::Script;
 use crate::size::Size;
 use crate::trade::{Party, Side, Trade};
 use desk_book::Desk;
-use desk_index::IndexedRegister;
+use memory_register::ListRegister;
 use std::alloc::Global;
 
 /// A settlement day.
@@ -183,6 +183,6 @@ fn try_again(
         market.run()?;
     }
     market.script.sums()?;
-    let mut desk: Desk<IndexedRegister> = new_desk(alloc);
+    let mut desk: Desk<ListRegister> = new_desk(alloc);
     play(alloc, &mut desk, &text, digest)
 }

@@ -15,10 +15,10 @@ use crate::failure::Failure;
 use crate::memory_file::MemoryFile;
 use crate::size::Size;
 use desk_book::Desk;
-use desk_index::IndexedRegister;
 use desk_mirror::MirroredRegister;
 use desk_register::{Register, ToldRegister};
 use desk_rules::MOST_ENTRIES;
+use memory_register::ListRegister;
 use sql_register::SqlRegister;
 use sqlite::{Alter, Connection, Files, Options};
 use std::alloc::Global;
@@ -95,7 +95,7 @@ fn play_over_both<T: ToldRegister + Drop>(
     requires stage { (T.view tables).stage ≡ Idle }
     requires empty { IfTrusted (T.view tables) (T.view tables) ((T.view tables).content ≡ empty_content) }
 {
-    let both: MirroredRegister<IndexedRegister, T> = MirroredRegister::beside_empty(alloc, tables);
+    let both: MirroredRegister<ListRegister, T> = MirroredRegister::beside_empty(alloc, tables);
     play_over(alloc, both, day, requests, digest)
 }
 

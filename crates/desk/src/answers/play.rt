@@ -7,10 +7,10 @@ ghost use Rattle.desk.specs.PlayAnswer.{AreHeld, IsPlayAnswer, IsPlayTold, Plays
 
 use crate::status::{Failure, Status, tell_failure};
 use desk_book::{Desk, PlayFault};
-use desk_index::IndexedRegister;
 use desk_register::Register;
 use desk_rules::MOST_ENTRIES;
 use desk_streams::{Sink, Source};
+use memory_register::ListRegister;
 use std::alloc::Global;
 use std::io;
 
@@ -25,7 +25,7 @@ pub fn answer_play<R: Source, W: Sink>(
     ensures told { IfOk result (λ status. IsPlayAnswer (R.remaining reader.old) (reader.new ≡ reader.old) R.may_fail status (Appends (W.contents writer.old) (W.contents writer.new))) }
     ensures failed { OnErr result (W.may_fail ≡ true) }
 {
-    let mut desk = Desk::new(IndexedRegister::new(alloc, MOST_ENTRIES));
+    let mut desk = Desk::new(ListRegister::new(alloc, MOST_ENTRIES));
     tell_played(desk.play(alloc, reader, writer), writer)
 }
 

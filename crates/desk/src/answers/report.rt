@@ -7,7 +7,7 @@ ghost use Rattle.desk_engine.specs.Applied.{Keeps};
 ghost use Rattle.desk_register.specs.Ends.{HaveRead, at_register};
 ghost use Rattle.desk_engine.specs.Ready.{IsReady, KeepsFormed};
 ghost use Rattle.desk_book.specs.RowByRow.{WritesText};
-ghost use Rattle.desk_index.specs.IndexView.{view_of_index};
+ghost use Rattle.memory_register.specs.ListsView.{view_of_lists};
 ghost use Rattle.desk_opening.specs.Opened.{IsReadyFor, view_of_both};
 ghost use Rattle.desk_register.specs.View.{IfTrusted};
 ghost use Rattle.desk_register.specs.declared.register.Stage.TheVariants.{Idle};
@@ -19,7 +19,6 @@ ghost use Rattle.desk.specs.OverviewAnswer.{IsAfterScript, IsBrokenOffAs, IsOver
 use crate::status::{Failure, Status, tell_failure};
 use crate::store::connection_of;
 use desk_book::{Desk, PlayFault};
-use desk_index::IndexedRegister;
 use desk_journal::write_journal;
 use desk_mirror::MirroredRegister;
 use desk_msg::SinkFault;
@@ -27,6 +26,7 @@ use desk_register::{Register, WalkFault};
 use desk_report::{Parts, write_report};
 use desk_rules::MOST_ENTRIES;
 use desk_streams::{Sink, Source};
+use memory_register::ListRegister;
 use report_rows::Format;
 use sql_register::SqlRegister;
 use sqlite::{Alter, Connection};
@@ -62,11 +62,11 @@ pub fn answer_overview<R: Source, W: Sink>(
 }
 
 /// The register of a desk in memory on which a script from the reader was played.
-fn register_after<R: Source>(alloc: Global, reader: &mut R) -> Result<IndexedRegister, Failure>
-    ensures after { IfOk result (λ register. IsAfterScript (R.remaining reader.old) (view_of_index register)) }
+fn register_after<R: Source>(alloc: Global, reader: &mut R) -> Result<ListRegister, Failure>
+    ensures after { IfOk result (λ register. IsAfterScript (R.remaining reader.old) (view_of_lists register)) }
     ensures none { IfErr result (MayPlayNone (R.remaining reader.old) (reader.new ≡ reader.old) R.may_fail) }
 {
-    let mut desk = Desk::new(IndexedRegister::new(alloc, MOST_ENTRIES));
+    let mut desk = Desk::new(ListRegister::new(alloc, MOST_ENTRIES));
     match desk.play(alloc, reader, &mut io::sink()) {
         Ok(()) => Ok(desk.into_register()),
         Err(fault) => Err(failure_of(fault)),
@@ -86,7 +86,7 @@ fn failure_of(fault: PlayFault) -> Failure
 /// Prints what is to be shown of tables with a register in memory beside them, of which the connection is given back.
 pub fn show_on_both<S: Alter + Drop, W: Sink>(
     alloc: Global,
-    both: MirroredRegister<IndexedRegister, SqlRegister<S>>,
+    both: MirroredRegister<ListRegister, SqlRegister<S>>,
     shown: Shown,
     format: Format,
     writer: &mut W,

@@ -12,10 +12,10 @@ use crate::status::{Failure, Status, tell_failure};
 use crate::teller::{Nobody, Watch};
 use desk_book::Desk;
 use desk_http::{Routes, serve_one};
-use desk_index::IndexedRegister;
 use desk_register::Register;
 use desk_rules::MOST_ENTRIES;
 use desk_streams::{CHUNK, Sink};
+use memory_register::ListRegister;
 use std::alloc::Global;
 use std::io::{self, Read};
 use std::net::{Ipv4Addr, Net, Shutdown, TcpListener, TcpStream};
@@ -43,7 +43,7 @@ pub fn answer_serve<N: Net<Listener = TcpListener, Stream = TcpStream>, W: Sink>
     ensures told { IfOk result (λ status. IsServeAnswer port status (Appends (W.contents writer.old) (W.contents writer.new))) }
     ensures failed { OnErr result (W.may_fail ≡ true) }
 {
-    let mut desk = Desk::new(IndexedRegister::new(alloc, MOST_ENTRIES));
+    let mut desk = Desk::new(ListRegister::new(alloc, MOST_ENTRIES));
     serve_desk(net, alloc, port, count, &mut desk, &mut Nobody, writer)
 }
 

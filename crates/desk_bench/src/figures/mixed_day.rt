@@ -6,6 +6,7 @@ use crate::market::{Lot, Market, OPENING, Side, day, reference};
 use desk_codes::{Ccy, Day, Reference};
 use desk_register::MemoryRegister;
 use desk_rules::{Entry, MOST_ENTRIES, RunRule};
+use memory_register::ListRegister;
 use std::alloc::Global;
 
 /// Of so many entries the last is a run.
@@ -27,8 +28,8 @@ const ASKED: u32 = 4;
 /// paid in and out, an instruction that finds no other is cancelled, 45 lots are delivered and received, and a run settles
 /// all but the last one. That lacks units, which the next hundred issues, or else money, and then both sides cancel it in
 /// the next hundred. The sums and a holding are asked for in between. The number of pairs that were settled.
-pub fn pairs_settled<R: MemoryRegister>(alloc: Global, count: u32) -> Result<u64, Failure> {
-    let mut ledger = Ledger::<R>::new(alloc, MOST_ENTRIES);
+pub fn pairs_settled(alloc: Global, count: u32) -> Result<u64, Failure> {
+    let mut ledger = Ledger::new(ListRegister::new(alloc, MOST_ENTRIES));
     settle_pairs(alloc, &mut ledger, count)
 }
 

@@ -1,8 +1,8 @@
 //! A desk over plain lists: one that may hold one entry, and several requests at once.
 use crate::made::new_desk;
 use desk_book::*;
-use desk_lists::ListRegister;
 use desk_rules::Reply;
+use memory_register::ListRegister;
 use std::alloc::Global;
 use std::test::Fail;
 

@@ -4,10 +4,10 @@ ghost use Rattle.std.specs.Prelude.{◌<◌};
 use crate::book::streams::{FailingSink, FailingSource};
 use crate::made::new_desk;
 use desk_book::*;
-use desk_lists::ListRegister;
 use desk_register::Register;
 use desk_rules::MOST_ENTRIES;
 use desk_streams::{CHUNK, PIECE};
+use memory_register::ListRegister;
 use std::alloc::Global;
 use std::test::Fail;
 
@@ -46,7 +46,7 @@ fn play(
     reader: &mut FailingSource,
     writer: &mut FailingSink,
 ) -> Result<(Option<PlayFault>, u64), Fail> {
-    let mut desk: Desk<ListRegister> = new_desk(alloc, MOST_ENTRIES);
+    let mut desk = new_desk(alloc, MOST_ENTRIES);
     let fault = desk.play(alloc, reader, writer).err();
     Ok((fault, desk.into_register().count(alloc)?))
 }

@@ -1,7 +1,7 @@
 //! Two deliveries in the wrong order: BETADEFF delivers to GAMMDEFF what it gets from ALPHDEFF by the second one.
 use crate::made::new_desk;
-use desk_register::MemoryRegister;
 use desk_rules::MOST_ENTRIES;
+use memory_register::ListRegister;
 use std::alloc::Global;
 use std::io;
 use std::test::Fail;
@@ -70,7 +70,7 @@ fn instruction(alloc: Global, side: &Side) -> Result<String, Fail> {
 }
 
 /// The register of a desk that has played the opening, `before`, both deliveries and `behind`.
-pub fn played<R: MemoryRegister>(alloc: Global, before: &[u8], behind: &[u8]) -> Result<R, Fail> {
+pub fn played(alloc: Global, before: &[u8], behind: &[u8]) -> Result<ListRegister, Fail> {
     let mut script = Vec::new(alloc);
     script.extend_from_slice(OPENING)?;
     script.extend_from_slice(before)?;

@@ -3,9 +3,9 @@
 use crate::rules::chain::{UNITS, played};
 use desk_codes::{Day, Reference};
 use desk_engine::replay;
-use desk_lists::ListRegister;
 use desk_register::Register;
 use desk_rules::{Entry, Kept, MOST_ENTRIES, Reply, RunRule, Text};
+use memory_register::ListRegister;
 use std::alloc::Global;
 use std::test::Fail;
 
@@ -37,7 +37,7 @@ fn run_once(alloc: Global, text: &[u8]) -> Result<Kept, Fail> {
 
 /// Whether an empty register takes in both deliveries, and a run of one pass behind them with this reply.
 fn is_taken_in(alloc: Global, text: &[u8]) -> Result<bool, Fail> {
-    let mut played: ListRegister = played(alloc, UNITS, b"")?;
+    let mut played = played(alloc, UNITS, b"")?;
     let mut kept = Vec::new(alloc);
     for number in 1..=played.count(alloc)? {
         kept.push(kept_at(alloc, &mut played, number)?)?;

@@ -1,9 +1,9 @@
 //! Which pairs a register knows to stay short.
 use crate::rules::chain::{UNITS, played};
 use desk_codes::Day;
-use desk_index::IndexedRegister;
 use desk_register::Register;
 use desk_rules::Place;
+use memory_register::ListRegister;
 use std::alloc::Global;
 use std::test::Fail;
 
@@ -38,7 +38,7 @@ fn runs_and_units(alloc: Global) -> Result<Vec<u8>, Fail> {
 fn what_is_brought_to_one_pair_leaves_another_short(rt: HostRuntime) -> Result<(), Fail> {
     let alloc = rt.alloc();
     let by = Day::read(b"20240229").ok_or("no day")?;
-    let mut register: IndexedRegister = played(alloc, b"", &runs_and_units(alloc)?)?;
+    let mut register = played(alloc, b"", &runs_and_units(alloc)?)?;
     assert!(rt; register.pair_to_try_after(alloc, by, None)? == Some(SECOND));
     assert!(rt; register.stays_short(alloc, FIRST)?);
     assert!(rt; !register.stays_short(alloc, SECOND)?);

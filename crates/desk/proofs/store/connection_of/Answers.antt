@@ -1,6 +1,6 @@
 use Rattle.std.proofs.Common.{◌≡◌, ◌≢◌, ◌∙◌, ap, sym}
 use Rattle.sqlite.specs.Held.{state}
-use Rattle.desk_index.specs.IndexView.{view_of_index}
+use Rattle.memory_register.specs.ListsView.{view_of_lists}
 use Rattle.desk_register.specs.declared.register.Stage.TheVariants.{Failed, Idle}
 use Rattle.desk_opening.specs.Opened.{view_of_both}
 use Rattle.desk.proofs.LeftLemmas.{same_handed, tables_say}
@@ -13,5 +13,5 @@ returns-clause-left g c = λ idle books keeps.
     let store = g.S.Store in
     let content = (view_of_both c.args.both).content in
     let goes : c.args.both.stage ≢ Failed = λ failed. (let clash : Idle ≡ Failed = sym idle ∙ failed in cc) in
-    let same = same_handed store c.into_parts.result.1.connection c.into_connection-conn.result content handed.connection (λ clean is_open. sym (ap (λ m. (view_of_index m).content) parts.memory) ∙ parts.same goes clean is_open) in
+    let same = same_handed store c.into_parts.result.1.connection c.into_connection-conn.result content handed.connection (λ clean is_open. sym (ap (λ m. (view_of_lists m).content) parts.memory) ∙ parts.same goes clean is_open) in
     tables_say (state store c.into_connection-conn.result) c.into_parts.result.1.stage content books (parts.idle idle) handed.kept c.is_live.ensures same keeps

@@ -2,7 +2,7 @@ use Rattle.std.proofs.Common.{◌∙◌, ap, arith, subst}
 use Rattle.sqlite.specs.Effect.{Database}
 use Rattle.sqlite.specs.Held.{state}
 use Rattle.sqlite.specs.State.{HasCleanDisk}
-use Rattle.desk_index.specs.IndexView.{view_of_index}
+use Rattle.memory_register.specs.ListsView.{view_of_lists}
 use Rattle.desk_opening.specs.Opened.{Finds}
 use Rattle.desk_opening.proofs.opening.adopt.Goals as goal
 
@@ -10,7 +10,7 @@ pub returns-in-Ok-take_over-clause-which : goal.returns-in-Ok-take_over-clause-w
 returns-in-Ok-take_over-clause-which g c = λ clean.
     let s1 = state g.S.Store c.in-Ok.conn in
     let clean1 : HasCleanDisk s1 = omega (arith, clean, c.in-Ok-take_over.ensures.later.clean) in
-    subst (λ (d : Database). Finds d (state g.S.Store c.in-Ok-take_over.both.tables.connection).committed (view_of_index c.in-Ok-take_over.both.memory).content) (c.in-Ok.ensures.same clean1) (c.in-Ok-take_over.ensures.which clean)
+    subst (λ (d : Database). Finds d (state g.S.Store c.in-Ok-take_over.both.tables.connection).committed (view_of_lists c.in-Ok-take_over.both.memory).content) (c.in-Ok.ensures.same clean1) (c.in-Ok-take_over.ensures.which clean)
 
 pub returns-in-Err-take_over-clause-back : goal.returns-in-Err-take_over-clause-back
 returns-in-Err-take_over-clause-back g c = λ clean now.

@@ -1,7 +1,7 @@
 use Rattle.std.proofs.Common.{◌≡◌, ◌∙◌, arith, subst, sym, IsTrue}
 use Rattle.sqlite.specs.Held.{Held, state}
 use Rattle.sqlite.specs.State.{HasCleanDisk}
-use Rattle.desk_index.specs.IndexView.{view_of_index}
+use Rattle.memory_register.specs.ListsView.{view_of_lists}
 use Rattle.desk_engine.proofs.KeptHistoryLemmas.{holds_none}
 use Rattle.audit_desk.specs.Audited.{IsAudited}
 use Rattle.audit_entries.specs.Reading.{HoldsFormed}
@@ -20,7 +20,7 @@ new-requires-clause-same g c =
     let s0 = state g.S.Store c.args.conn in
     let s1 = state g.S.Store c.audit.new.conn in
     let a = c.in-Ok-Whole.ensures in
-    let content = (view_of_index c.audit.new.register).content in
+    let content = (view_of_lists c.audit.new.register).content in
     let stood : HasCleanDisk s1 → StandsOpen s0 = λ clean. c.requires.open (omega (arith, clean, a.look.later.clean)) in
     let audited : HasCleanDisk s1 → IsAudited s0.now c.args.limit content = λ clean.
     (let stands = stood clean in subst (λ r. IsAudited s0.now r content) c.new-memory.ensures.limit (a.whole clean stands.opens.is_open tt tt (order_now s0 stands) c.in-Ok-Whole.field-0-is)) in
@@ -33,7 +33,7 @@ returns-in-Ok-Whole-clause-opened g c =
     let s0 = state g.S.Store c.args.conn in
     let s1 = state g.S.Store c.audit.new.conn in
     let a = c.in-Ok-Whole.ensures in
-    let content = (view_of_index c.audit.new.register).content in
+    let content = (view_of_lists c.audit.new.register).content in
     let stood : HasCleanDisk s1 → StandsOpen s0 = λ clean. c.requires.open (omega (arith, clean, a.look.later.clean)) in
     let audited : HasCleanDisk s1 → IsAudited s0.now c.args.limit content = λ clean.
     (let stands = stood clean in subst (λ r. IsAudited s0.now r content) c.new-memory.ensures.limit (a.whole clean stands.opens.is_open tt tt (order_now s0 stands) c.in-Ok-Whole.field-0-is)) in
@@ -51,7 +51,7 @@ returns-in-Ok-Whole-clause-which g c =
     let s0 = state g.S.Store c.args.conn in
     let s1 = state g.S.Store c.audit.new.conn in
     let a = c.in-Ok-Whole.ensures in
-    let content = (view_of_index c.audit.new.register).content in
+    let content = (view_of_lists c.audit.new.register).content in
     let stood : HasCleanDisk s1 → StandsOpen s0 = λ clean. c.requires.open (omega (arith, clean, a.look.later.clean)) in
     let audited : HasCleanDisk s1 → IsAudited s0.now c.args.limit content = λ clean.
     (let stands = stood clean in subst (λ r. IsAudited s0.now r content) c.new-memory.ensures.limit (a.whole clean stands.opens.is_open tt tt (order_now s0 stands) c.in-Ok-Whole.field-0-is)) in

@@ -2,7 +2,7 @@ use Rattle.std.proofs.Common.{◌∙◌, ap, arith, inl, sym}
 use Rattle.sqlite.specs.Effect.{Database}
 use Rattle.sqlite.specs.Held.{state}
 use Rattle.sqlite.specs.State.{HasCleanDisk}
-use Rattle.desk_index.specs.IndexView.{view_of_index}
+use Rattle.memory_register.specs.ListsView.{view_of_lists}
 use Rattle.desk_opening.proofs.OpenedLemmas.{found_as, nothing_audited, nothing_held, opened_as}
 use Rattle.desk_opening.proofs.taking.make.Goals as goal
 
@@ -15,7 +15,7 @@ returns-in-Ok-clause-opened g c =
     let tables = c.in-Ok.tables in
     let both = c.new-in-Ok-2 in
     let t = c.in-Ok.ensures in
-    let content = (view_of_index memory).content in
+    let content = (view_of_lists memory).content in
     opened_as g.S.Store c.args.limit both.result memory tables both.ensures.memory both.ensures.tables both.ensures.stage both.ensures.no_failure c.new-in-Ok.ensures.limit
     (nothing_held c.args.limit content c.new-in-Ok.ensures.empty)
     (record { stage = t.stage; failures = t.no_failure; room = t.limit })

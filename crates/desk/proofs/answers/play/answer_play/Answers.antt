@@ -1,6 +1,6 @@
 use Rattle.std.proofs.Common.{◌≡◌, refl, lit<}
 use Rattle.std.specs.Io.KnownBytes.{Appends}
-use Rattle.desk_index.specs.IndexView.{view_of_index}
+use Rattle.memory_register.specs.ListsView.{view_of_lists}
 use Rattle.desk_engine.specs.Applied.{no_books}
 use Rattle.desk_book.proofs.FormedLemmas.{empty_formed}
 use Rattle.desk.specs.PlayAnswer.{IsPlayAnswer, told_no_script}
@@ -25,6 +25,6 @@ returns-clause-told g c =
     c.tell_played.result c.play.result (λ status fault may said same. told_no_script fault may said)
     (ok_then c.play.result p.played (λ played unwritten.
     where_played contents c.args.writer.now c.play.new.writer c.tell_played.new.writer (λ after. IsPlayAnswer given U g.R.Source.may_fail exit.Done (Appends (contents c.args.writer.now) after)) unwritten
-    (told given U _ _ _ c.new-desk.result.is_closed c.play.new.self.is_closed (view_of_index held) (view_of_index c.play.new.self.register) (limit_is made held same c.new.ensures.limit) p.left.later.room c.new-desk.ensures.open
+    (told given U _ _ _ c.new-desk.result.is_closed c.play.new.self.is_closed (view_of_lists held) (view_of_lists c.play.new.self.register) (limit_is made held same c.new.ensures.limit) p.left.later.room c.new-desk.ensures.open
     (p.left.in_memory refl c.new-desk.ensures.open) refl (lit< tt) tt (λ is. new_keeps made held same c.new.ensures.empty) played)))
     p.unread p.too_long p.memory c.tell_played.ensures.told

@@ -1,6 +1,6 @@
 use Rattle.std.proofs.Common.{refl, sym, subst, lit<, ap, Err}
-use Rattle.desk_index.specs.IndexView.{view_of_index}
-use Rattle.desk_index.specs.declared.indexed_register.IndexedRegister.{IndexedRegister}
+use Rattle.memory_register.specs.ListsView.{view_of_lists}
+use Rattle.memory_register.specs.declared.list_register.ListRegister.{ListRegister}
 use Rattle.desk_engine.specs.Applied.{no_books}
 use Rattle.desk_book.proofs.FormedLemmas.{empty_formed}
 use Rattle.desk_engine.specs.Ready.{IsReady}
@@ -20,9 +20,9 @@ returns-in-Ok-clause-after g c =
     let p = c.play.ensures in
     let given = g.R.Read.remaining c.args.reader.now in
     let now = c.play.new.self in
-    let ready : IsReady now.is_closed (view_of_index now.register) = subst (λ (r : IndexedRegister). IsReady now.is_closed (view_of_index r)) c.into_register.ensures.register c.into_register.ensures.ready in
-    subst (λ (r : IndexedRegister). IsAfterScript given (view_of_index r)) (sym c.into_register.ensures.register)
-    (after_script given _ _ c.new-desk.result.is_closed now.is_closed (view_of_index held) (view_of_index now.register) (limit_is made held same c.new.ensures.limit) p.left.later.room c.new-desk.ensures.open (p.left.in_memory refl c.new-desk.ensures.open) refl
+    let ready : IsReady now.is_closed (view_of_lists now.register) = subst (λ (r : ListRegister). IsReady now.is_closed (view_of_lists r)) c.into_register.ensures.register c.into_register.ensures.ready in
+    subst (λ (r : ListRegister). IsAfterScript given (view_of_lists r)) (sym c.into_register.ensures.register)
+    (after_script given _ _ c.new-desk.result.is_closed now.is_closed (view_of_lists held) (view_of_lists now.register) (limit_is made held same c.new.ensures.limit) p.left.later.room c.new-desk.ensures.open (p.left.in_memory refl c.new-desk.ensures.open) refl
     (lit< tt) tt (λ is. new_keeps made held same c.new.ensures.empty) ready c.in-Ok.ensures.played)
 
 pub returns-in-Err-clause-none : goal.returns-in-Err-clause-none

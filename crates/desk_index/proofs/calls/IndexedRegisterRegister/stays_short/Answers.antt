@@ -1,8 +1,0 @@
-use Rattle.desk_lists.specs.ListView.{view_of_lists}
-use Rattle.desk_index.proofs.ShortageLemmas.{short_of_noted}
-use Rattle.desk_index.proofs.calls.IndexedRegisterRegister.stays_short.Goals as goal
-
-pub returns-clause-value : goal.returns-clause-value
-returns-clause-value c honest sure up short pair =
-    let is = c.passes_over.ensures.short short in
-    short_of_noted c.catch_up.new.self (view_of_lists c.args.self.now.held).content c.catch_up.ensures.knows c.catch_up.ensures.none is.0 c.args.place pair is.1

@@ -1,5 +1,0 @@
-use Rattle.desk_index.proofs.AddressedLemmas.{forgotten}
-use Rattle.desk_index.proofs.sent.addressed.Addressed.forget.Goals as goal
-
-pub returns : goal.returns
-returns c headings are = forgotten c.args.self.now headings c.args.heading.now c.pop_number.new.numbers are c.pop_number.ensures

@@ -1,6 +1,0 @@
-use Rattle.std.proofs.Common.{refl}
-use Rattle.desk_index.proofs.WakeLemmas.{known_alike}
-use Rattle.desk_index.proofs.short.shortages.Shortages.passes_over.Goals as goal
-
-pub returns-clause-knows : goal.returns-clause-knows
-returns-clause-knows c = λ content knows. known_alike c.args.self.now _ content refl refl refl refl knows

@@ -1,6 +1,0 @@
-use Rattle.std.proofs.Common.{sym, ◌∙◌}
-use Rattle.desk_index.proofs.WantLemmas.{none_found}
-use Rattle.desk_index.proofs.short.waiting.is_waited_for.Goals as goal
-
-pub returns : goal.returns
-returns c = λ none. none_found c.args.waits.now c.args.want.now c.first_wait.result (sym c.is_some.ensures ∙ none) c.first_wait.ensures.none

@@ -1,6 +1,0 @@
-use Rattle.desk_lists.specs.Lists.{listed}
-use Rattle.desk_lists.proofs.RowLemmas.{are_totals}
-use Rattle.desk_lists.proofs.list_register.ListRegister.totals_from.Goals as goal
-
-pub returns-clause-totals : goal.returns-clause-totals
-returns-clause-totals c up = are_totals (listed c.args.self.now.lists) (c.args.self.now.sound up) c.totals_from.new.rows c.totals_from.result c.totals_from.ensures.outstanding

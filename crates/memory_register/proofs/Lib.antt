@@ -1,0 +1,17 @@
+mod AddressedLemmas
+mod AheadLemmas
+mod ConfirmationLemmas
+mod FirstLemmas
+mod HeldShortLemmas
+mod IndexedLemmas
+mod KeyIndexLemmas
+mod LookUpLemmas
+mod NthLemmas
+mod NumbersLemmas
+mod OnlyLemmas
+mod OpenLemmas
+mod RegisteredLemmas
+mod SecurityWalkLemmas
+mod SumsLemmas
+mod TidyLemmas
+mod ToldLemmas

@@ -1,0 +1,3 @@
+//! Look-ups of unmatched instructions.
+pub mod match_key;
+pub mod opposites;

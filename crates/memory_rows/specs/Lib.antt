@@ -1,0 +1,10 @@
+pub mod BalanceKeys
+pub mod Balanced
+pub mod FollowOn
+pub mod Lists
+pub mod Moves
+pub mod Named
+pub mod RowsView
+pub mod Shifts
+pub mod Transfers
+pub mod Walk

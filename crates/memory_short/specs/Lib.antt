@@ -1,0 +1,5 @@
+pub mod DuePlaces
+pub mod OneShortage
+pub mod PlacesByKey
+pub mod Shortages
+pub mod Wants
