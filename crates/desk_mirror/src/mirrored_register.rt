@@ -1,6 +1,6 @@
 //! A register that is two.
 ghost use Rattle.std.specs.Prelude.{◌≡◌, ◌≢◌, OnOk};
-ghost use Rattle.desk_register.specs.Changes.{CanAppend, appended, empty_content};
+ghost use Rattle.desk_register.specs.Changes.{CanAppend, appended};
 ghost use Rattle.desk_register.specs.View.{IfTrusted, IsChange};
 ghost use Rattle.desk_register.specs.declared.register.Stage.TheVariants.{Begun, Failed, Idle};
 ghost use Rattle.desk_mirror.specs.Both.{HasSame, shown};
@@ -35,19 +35,6 @@ impl<M: MemoryRegister, S: ToldRegister + Drop> Model for MirroredRegister<M, S>
 }
 
 impl<M: MemoryRegister, S: ToldRegister + Drop> MirroredRegister<M, S> {
-    /// Tables that hold nothing, and memory beside them.
-    pub fn beside_empty(alloc: Global, tables: S) -> MirroredRegister<M, S>
-        requires stage { (S.view tables).stage ≡ Idle }
-        requires empty { IfTrusted (S.view tables) (S.view tables) ((S.view tables).content ≡ empty_content) }
-        ensures tables { result.tables ≡ tables }
-        ensures empty { (M.view result.memory).content ≡ empty_content }
-        ensures stage { result.stage ≡ Idle }
-        ensures no_failure { result.failures ≡ 0 }
-    {
-        let memory = M::empty(alloc, tables.limit());
-        MirroredRegister::new(memory, tables)
-    }
-
     /// Two registers with no `begin` open that hold the same.
     pub fn new(memory: M, tables: S) -> MirroredRegister<M, S>
         requires memory { (M.view memory).stage ≡ Idle }

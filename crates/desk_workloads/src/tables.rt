@@ -95,7 +95,8 @@ fn play_over_both<T: ToldRegister + Drop>(
     requires stage { (T.view tables).stage ≡ Idle }
     requires empty { IfTrusted (T.view tables) (T.view tables) ((T.view tables).content ≡ empty_content) }
 {
-    let both: MirroredRegister<ListRegister, T> = MirroredRegister::beside_empty(alloc, tables);
+    let memory = ListRegister::new(alloc, tables.limit());
+    let both = MirroredRegister::new(memory, tables);
     play_over(alloc, both, day, requests, digest)
 }
 

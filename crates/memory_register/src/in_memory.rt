@@ -3,14 +3,9 @@ ghost use Rattle.std.specs.Prelude.{refl};
 
 use crate::list_register::ListRegister;
 use desk_register::MemoryRegister;
-use std::alloc::Global;
 
 impl MemoryRegister for ListRegister {
     ghost is_in_memory = { refl };
 
     ghost has_no_device = { λ _. record { honest = tt; sure = tt; failures = refl } };
-
-    fn empty(alloc: Global, limit: u64) -> ListRegister {
-        ListRegister::new(alloc, limit)
-    }
 }
