@@ -6,7 +6,6 @@ use Rattle.std.specs.Ordering.{is_eq}
 use Rattle.std.proofs.lemmas.Bool.{and_parts, and_from}
 use Rattle.std.proofs.lemmas.Bool.Decides.{nat_tests}
 use Rattle.std.proofs.lemmas.Map.Text.{is_eq-slice_cmp}
-use Rattle.desk_codes.specs.declared.currency.Ccy.{Ccy}
 use Rattle.desk_codes.proofs.CurrencyLemmas.{ccy_cmp, tied_by_letters}
 use Rattle.desk_codes.specs.Currency.{letters_of}
 use Rattle.desk_rules.specs.Balances.{same_ccy}
