@@ -485,15 +485,16 @@ read_fails fault v0 v1 begun r = record {
 }
 
 -- want of memory, after calls that went well, which touches nothing
+pub want_one : {X : Type 0} (fault : Fault) (v0 v1 : View) → v0.stage ≡ Begun → Stays v0 v1 → IsLater v0 v1 → fault ≡ Memory → IsStep {X = X} (Err fault) v0 v1
+want_one fault v0 v1 begun stays later is = record {
+  ok = tt;
+  err = record {
+    stage = λ idle. (let clash : Begun ≡ Idle = sym begun ∙ sym stays.stage ∙ idle in absurd (cc));
+    mark = λ honest sure. stays.mark honest (later.sure honest sure);
+  };
+  later = later;
+  blame = steps_blame fault v0 v1 (blames_memory {X = Unit {0}} fault v0 v1 is stays.failures);
+}
+
 pub want_step : {X : Type 0} (fault : Fault) (v0 v1 v2 : View) → v0.stage ≡ Begun → Stays v0 v1 → IsLater v0 v1 → Stays v1 v2 → IsLater v1 v2 → fault ≡ Memory → IsStep {X = X} (Err fault) v0 v2
-want_step fault v0 v1 v2 begun stays later more further is =
-    let all = stays_then v0 v1 v2 stays later further more in
-    record {
-      ok = tt;
-      err = record {
-        stage = λ idle. (let clash : Begun ≡ Idle = sym begun ∙ sym all.stage ∙ idle in absurd (cc));
-        mark = λ honest sure. (let whole = later_then v0 v1 v2 stays later further in all.mark honest (whole.sure honest sure));
-      };
-      later = later_then v0 v1 v2 stays later further;
-      blame = steps_blame fault v0 v2 (blames_memory {X = Unit {0}} fault v0 v2 is all.failures);
-    }
+want_step fault v0 v1 v2 begun stays later more further is = want_one fault v0 v2 begun (stays_then v0 v1 v2 stays later further more) (later_then v0 v1 v2 stays later further) is

@@ -1,6 +1,7 @@
 -- One message after the other.
 use Rattle.std.proofs.Common.{◌≡◌, ℕ, ◌+◌, ◌*◌, ◌<◌, ◌≤◌, ◌==◌, true, refl, List, ◌++◌, length, length-append, Option, Some, None, ap, sym, ◌∙◌, subst, arith}
-use Rattle.std.specs.Prelude.{Result, Ok, Err, OnOk}
+use Rattle.std.specs.Prelude.{Result, Ok, Err, IfSome, OnOk}
+use Rattle.std.proofs.lemmas.Option.{IfSome_then}
 use Rattle.desk_register.specs.declared.register.Fault.{Fault}
 use Rattle.desk_rules.specs.declared.history.entry.Instructed.{Instructed}
 use Rattle.desk_rules.specs.declared.limits.TheConstants.{SENT_A_PAIR}
@@ -11,10 +12,12 @@ use Rattle.desk_register.specs.declared.outcome.Outcome.TheVariants as outcomes
 use Rattle.desk_register.specs.declared.outcome.Outcome.TheVariants.{Lacks}
 use Rattle.desk_engine.specs.Pass.{IsTried}
 use Rattle.std.proofs.lemmas.Bool.Decides.{nat_tests}
+use Rattle.desk_register.specs.declared.told.KnownPair.{KnownPair}
+use Rattle.desk_register.specs.Told.{IsKnownAt}
 use Rattle.desk_register.specs.View.{View}
 use Rattle.desk_rules.specs.Content.{Content, history_of}
 use Rattle.desk_rules.specs.History.{instruction_at}
-use Rattle.desk_engine.specs.Sending.{confirmed_to, delivering_number, receiving_number, with_both_confirmed, with_confirmed}
+use Rattle.desk_engine.specs.Sending.{confirmed_to, with_both_confirmed, with_confirmed}
 
 one_at_most : (k about : ℕ) (o : Option Instructed) (day : List ℕ) → length (confirmed_to k about o day) ≤ 1
 one_at_most k about None day = omega arith
@@ -48,20 +51,26 @@ pub tried_settled : (old mid new : Content) (n : ℕ) (day : List ℕ) (outcome 
 tried_settled old mid new n day outcomes.Settled is t sent = record { between = mid; tried = t; told = sent t.mate t.earlier t.later (pair_still old mid n t) }
 tried_settled old mid new n day (Lacks lack) is t sent = absurd (cc)
 
--- what is confirmed is the pair of the number
-pub settlement_sent : (v0 v1 v2 new : Content) (n mate0 mate : ℕ) (standing : Standing) (found : Option Instructed) (earlier0 earlier later : Instructed) (deliverer receiver : ℕ) (day : List ℕ) (r : Result (Unit {0}) Fault)
-    → v1 ≡ v0 → v2 ≡ v1 → standing ≡ v0.standing n → standing.mate ≡ Some mate0 → found ≡ instruction_at (history_of v1) mate0 → found ≡ Some earlier0
-    → deliverer ≡ delivering_number earlier0 mate0 n → receiver ≡ receiving_number earlier0 mate0 n
-    → OnOk r (new ≡ with_confirmed receiver day (with_confirmed deliverer day v2)) → IsPairAt v0 n mate earlier later → OnOk r (new ≡ with_both_confirmed mate n earlier day v0)
-settlement_sent v0 v1 v2 new n mate0 mate standing found earlier0 earlier later deliverer receiver day (Err fault) first second stood has at is delivers receives sent pair = sent
-settlement_sent v0 v1 v2 new n mate0 mate standing found earlier0 earlier later deliverer receiver day (Ok done) first second stood has at is delivers receives sent pair =
-    let mates : Some mate0 ≡ Some mate = sym has ∙ ap (λ (s : Standing). s.mate) stood ∙ pair.has_mate in
-    let same : mate0 ≡ mate = cc in
-    let others : Some earlier0 ≡ Some earlier = sym is ∙ at ∙ ap (λ c. instruction_at (history_of c) mate0) first ∙ ap (instruction_at (history_of v0)) same ∙ pair.is_earlier in
-    let other : earlier0 ≡ earlier = cc in
-    let from : deliverer ≡ delivering_number earlier mate n = delivers ∙ ap (λ e. delivering_number e mate0 n) other ∙ ap (λ m. delivering_number earlier m n) same in
-    let to : receiver ≡ receiving_number earlier mate n = receives ∙ ap (λ e. receiving_number e mate0 n) other ∙ ap (λ m. receiving_number earlier m n) same in
-    sent
-    ∙ ap (λ k. with_confirmed k day (with_confirmed deliverer day v2)) to
-    ∙ ap (λ k. with_confirmed (receiving_number earlier mate n) day (with_confirmed k day v2)) from
-    ∙ ap (λ c. with_confirmed (receiving_number earlier mate n) day (with_confirmed (delivering_number earlier mate n) day c)) (second ∙ first)
+-- the pair of a number that was looked up
+module _ (content : Content) (n mate0 : ℕ) (standing : Standing) (first second : Option Instructed) (r : Option KnownPair) (stood : standing ≡ content.standing n) (has : standing.mate ≡ Some mate0)
+    (at_mate : first ≡ instruction_at (history_of content) mate0) (at_number : second ≡ instruction_at (history_of content) n) where
+  own_mate : Some mate0 ≡ (content.standing n).mate
+  own_mate = sym has ∙ ap (λ (s : Standing). s.mate) stood
+
+  pub pair_looked_up : (mate : ℕ) (earlier later : Instructed) → IsPairAt content n mate earlier later
+      → ((a b : Instructed) → first ≡ Some a → second ≡ Some b → r ≡ Some (record { mate = mate0; number = n; earlier = a; later = b })) → r ≡ Some (record { mate = mate; number = n; earlier = earlier; later = later })
+  pair_looked_up mate earlier later pair made =
+      let mates : Some mate0 ≡ Some mate = own_mate ∙ pair.has_mate in
+      let same : mate0 ≡ mate = cc in
+      made earlier later (at_mate ∙ ap (instruction_at (history_of content)) same ∙ pair.is_earlier) (at_number ∙ pair.is_later)
+      ∙ ap (λ m. Some (record { mate = m; number = n; earlier = earlier; later = later })) same
+
+  pub known_looked_up : IfSome r (λ p. (p.mate ≡ mate0) × (p.number ≡ n) × (first ≡ Some p.earlier) × (second ≡ Some p.later)) → IfSome r (λ p. IsKnownAt content n p)
+  known_looked_up made = IfSome_then r made (λ p same. record {
+    number = same.1;
+    is_pair = record {
+      is_later = ap (instruction_at (history_of content)) same.1 ∙ sym at_number ∙ same.3;
+      has_mate = ap (λ k. (content.standing k).mate) same.1 ∙ sym own_mate ∙ ap Some (sym same.0);
+      is_earlier = ap (instruction_at (history_of content)) same.0 ∙ sym at_mate ∙ same.2;
+    };
+  })

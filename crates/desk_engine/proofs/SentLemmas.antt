@@ -15,8 +15,8 @@ use Rattle.desk_msg.specs.MessageType.{is_delivery}
 use Rattle.desk_rules.specs.Balances.{deliverer_of, receiver_of, delivering, receiving, is_delivered_by}
 use Rattle.desk_rules.specs.Opposite.{AreOppositeAt}
 use Rattle.desk_rules.specs.Content.{Content, history_of}
-use Rattle.desk_register.specs.Changes.{delivering_side, receiving_side}
-use Rattle.desk_engine.specs.Sending.{confirmed_to, delivering_number, receiving_number, with_both_confirmed}
+use Rattle.desk_register.specs.Changes.{delivering_side, receiving_side, delivering_number, receiving_number}
+use Rattle.desk_engine.specs.Sending.{confirmed_to, with_both_confirmed}
 use Rattle.desk_rules.specs.Books.{Books, AreBooks}
 use Rattle.desk_rules.specs.Sent.{confirmed, date_in, told, told_by, told_to, told_of_pair, told_of_settled, notices_of, sent_from, sent_of}
 use Rattle.desk_rules.proofs.Decided.{In, In-from_Contains, In-push_cases}
@@ -175,7 +175,7 @@ sent_so_far_count books run more are of =
     ap length (sent_so_far books run more are of.run) ∙ omega (arith, all, size, each, two)
 
 -- the instructions of a pair's sides, by their numbers
-side_at : (h : List Entry) (m n : ℕ) (earlier later : Instructed) → instruction_at h m ≡ Some earlier → instruction_at h n ≡ Some later
+pub side_at : (h : List Entry) (m n : ℕ) (earlier later : Instructed) → instruction_at h m ≡ Some earlier → instruction_at h n ≡ Some later
     → (instruction_at h (delivering_number earlier m n) ≡ Some (delivering_side earlier later)) × (instruction_at h (receiving_number earlier m n) ≡ Some (receiving_side earlier later))
 side_at h m n earlier later first second = elim (cases_Bool (is_delivery earlier.instruction.mt)) [ inl e ↦ rw e (first, second) | inr e ↦ rw e (second, first) ]
 

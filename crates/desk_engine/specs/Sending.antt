@@ -1,12 +1,11 @@
 -- What is sent while an entry is taken in. Only private contracts speak of it.
 use Rattle.std.specs.Prelude.{ℕ, ◌+◌, List, [], ◌∷◌, ◌++◌, length, Option, Some, None}
-use Rattle.desk_msg.specs.MessageType.{is_delivery}
 use Rattle.desk_rules.specs.declared.history.entry.Instructed.{Instructed}
 use Rattle.desk_rules.specs.declared.answers.reply.Sent.{Sent}
-use Rattle.desk_rules.specs.Balances.{delivering, receiving}
 use Rattle.desk_rules.specs.Content.{Content, history_of}
 use Rattle.desk_rules.specs.History.{instruction_at}
 use Rattle.desk_rules.specs.Sent.{confirmed, told_to}
+use Rattle.desk_register.specs.Changes.{delivering_number, receiving_number}
 
 -- the content with the sender of an instruction told that it was paired; of what is no instruction nobody is told
 abbrev pub with_advised : ℕ → Content → Content
@@ -25,14 +24,6 @@ abbrev pub with_confirmed : ℕ → List ℕ → Content → Content
 with_confirmed about day content = record content {
   sent = content.sent ++ confirmed_to (length content.sent + 1) about (instruction_at (history_of content) about) day;
 }
-
--- of a pair by the numbers of its sides, the earlier instruction first: the number of the deliverer's, and of the
--- receiver's
-abbrev pub delivering_number : Instructed → ℕ → ℕ → ℕ
-delivering_number earlier m n = delivering (is_delivery earlier.instruction.mt) m n
-
-abbrev pub receiving_number : Instructed → ℕ → ℕ → ℕ
-receiving_number earlier m n = receiving (is_delivery earlier.instruction.mt) m n
 
 -- the content with the settlement of a pair on a day confirmed to both parties, to the deliverer first
 abbrev pub with_both_confirmed : ℕ → ℕ → Instructed → List ℕ → Content → Content

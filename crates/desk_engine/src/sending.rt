@@ -1,16 +1,18 @@
 //! What the desk sends while it takes an entry in: an advice to the earlier party of a pair, and a confirmation to each
 //! party of a settlement.
-ghost use Rattle.std.specs.Prelude.{◌≡◌, ◌+◌, ◌*◌, ◌<◌, ◌≤◌, length, IfOk, OnOk, Some, ℕ};
+ghost use Rattle.std.specs.Prelude.{◌≡◌, ◌+◌, ◌*◌, ◌<◌, ◌≤◌, length, IfOk, IfSome, OnOk, Some, ℕ};
 ghost use Rattle.desk_register.specs.View.{IfTrusted, IsRead};
 ghost use Rattle.desk_register.specs.Changes.{IsPairAt};
+ghost use Rattle.desk_register.specs.Told.{IsKnownAt};
+ghost use Rattle.desk_rules.specs.declared.history.entry.Instructed.{Instructed as InstructedValue};
 ghost use Rattle.desk_rules.specs.Content.{history_of};
 ghost use Rattle.desk_rules.specs.History.{instruction_at};
 ghost use Rattle.desk_rules.specs.declared.limits.TheConstants.{MOST_SENT, SENT_A_PAIR};
 ghost use Rattle.desk_engine.specs.Steps.{IsStep};
-ghost use Rattle.desk_engine.specs.Sending.{delivering_number, receiving_number, with_advised, with_both_confirmed, with_confirmed};
+ghost use Rattle.desk_engine.specs.Sending.{with_advised, with_both_confirmed, with_confirmed};
 
 use desk_codes::Day;
-use desk_register::{Fault, Register, Stage};
+use desk_register::{Fault, KnownPair, Register, Stage};
 use desk_rules::{Entry, Instructed, SENT_A_PAIR, pairing_advice, settlement_confirmation};
 use std::alloc::Global;
 
@@ -62,63 +64,80 @@ pub fn advise<R: Register>(alloc: Global, register: &mut R, about: u64) -> Resul
     register.send(alloc, message)
 }
 
-/// Confirms to the sender of an instruction, by its number, that a run of this day settled it.
-fn confirm<R: Register>(alloc: Global, register: &mut R, about: u64, day: Day) -> Result<(), Fault>
+/// The pair of a number, that of its later instruction; None where there is none.
+fn pair_of<R: Register>(
+    alloc: Global,
+    register: &mut R,
+    number: u64,
+) -> Result<Option<KnownPair>, Fault>
+    requires { (R.view register.old).stage ≡ Stage.Begun }
+    ensures found { (mate : ℕ) (earlier later : InstructedValue) → IfTrusted (R.view register.old) (R.view register.new) (IsPairAt (R.view register.old).content number mate earlier later
+        → IfOk result (λ found. found ≡ Some (record { mate = mate; number = number; earlier = earlier; later = later }))) }
+    ensures known { IfTrusted (R.view register.old) (R.view register.new) (IfOk result (λ found. IfSome found (λ pair. IsKnownAt (R.view register.old).content number pair))) }
+    ensures read { IsRead result (R.view register.old) (R.view register.new) }
+{
+    let standing = register.standing(alloc, number)?;
+    let Some(mate) = standing.mate else {
+        return Ok(None);
+    };
+    let earlier = instructed(alloc, register, mate)?;
+    let later = instructed(alloc, register, number)?;
+    Ok(pair_between(mate, number, earlier, later))
+}
+
+/// The pair of two numbers, where both are those of instructions.
+fn pair_between(
+    mate: u64,
+    number: u64,
+    earlier: Option<Instructed>,
+    later: Option<Instructed>,
+) -> Option<KnownPair>
+    ensures found { (first second : InstructedValue) → earlier ≡ Some first → later ≡ Some second → result ≡ Some (record { mate = mate; number = number; earlier = first; later = second }) }
+    ensures made { IfSome result (λ p. (p.mate ≡ mate) × (p.number ≡ number) × (earlier ≡ Some p.earlier) × (later ≡ Some p.later)) }
+{
+    Some(KnownPair {
+        mate,
+        number,
+        earlier: earlier?,
+        later: later?,
+    })
+}
+
+/// Confirms to the sender of an instruction, with its number, that a run of this day settled it.
+fn confirm<R: Register>(
+    alloc: Global,
+    register: &mut R,
+    about: u64,
+    settled: &Instructed,
+    day: Day,
+) -> Result<(), Fault>
     requires stage { (R.view register.old).stage ≡ Stage.Begun }
     requires room { IfTrusted (R.view register.old) (R.view register.old) (length (R.view register.old).content.sent < SENT_A_PAIR * (R.view register.old).room) }
-    ensures sent { IfTrusted (R.view register.old) (R.view register.new) (OnOk result ((R.view register.new).content ≡ with_confirmed about day (R.view register.old).content)) }
+    ensures sent { IfTrusted (R.view register.old) (R.view register.new) (instruction_at (history_of (R.view register.old).content) about ≡ Some settled.now
+        → OnOk result ((R.view register.new).content ≡ with_confirmed about day (R.view register.old).content)) }
     ensures step { IsStep result (R.view register.old) (R.view register.new) }
 {
-    let Some(settled) = instructed(alloc, register, about)? else {
-        return Ok(());
-    };
     let number = next_message(alloc, register)?;
-    let message = settlement_confirmation(alloc, number, about, &settled, day)?;
+    let message = settlement_confirmation(alloc, number, about, settled, day)?;
     register.send(alloc, message)
 }
 
-/// Confirms two instructions, by their numbers, in this order.
+/// Confirms both instructions of a pair, the deliverer's first.
 fn confirm_both<R: Register>(
     alloc: Global,
     register: &mut R,
-    first: u64,
-    second: u64,
+    pair: &KnownPair,
     day: Day,
 ) -> Result<(), Fault>
     requires stage { (R.view register.old).stage ≡ Stage.Begun }
     requires room { IfTrusted (R.view register.old) (R.view register.old) (length (R.view register.old).content.sent + 1 < SENT_A_PAIR * (R.view register.old).room) }
-    ensures sent { IfTrusted (R.view register.old) (R.view register.new) (OnOk result ((R.view register.new).content ≡ with_confirmed second day (with_confirmed first day (R.view register.old).content))) }
+    requires known { IfTrusted (R.view register.old) (R.view register.old) (IsPairAt (R.view register.old).content pair.now.number pair.now.mate pair.now.earlier pair.now.later) }
+    ensures sent { IfTrusted (R.view register.old) (R.view register.new) (OnOk result ((R.view register.new).content ≡ with_both_confirmed pair.now.mate pair.now.number pair.now.earlier day (R.view register.old).content)) }
     ensures step { IsStep result (R.view register.old) (R.view register.new) }
 {
-    confirm(alloc, register, first, day)?;
-    confirm(alloc, register, second, day)
-}
-
-/// The numbers of a pair's instructions, by which side each is.
-#[derive(Clone, Copy)]
-struct Sides {
-    deliverer: u64,
-    receiver: u64,
-}
-
-impl Sides {
-    /// The sides of a pair, by the numbers of its instructions, and the earlier one.
-    fn of(earlier_number: u64, later_number: u64, earlier: &Instructed) -> Sides
-        ensures deliverer { result.deliverer ≡ delivering_number earlier.now earlier_number later_number }
-        ensures receiver { result.receiver ≡ receiving_number earlier.now earlier_number later_number }
-    {
-        if earlier.instruction.mt.is_delivery() {
-            Sides {
-                deliverer: earlier_number,
-                receiver: later_number,
-            }
-        } else {
-            Sides {
-                deliverer: later_number,
-                receiver: earlier_number,
-            }
-        }
-    }
+    let (delivering, receiving) = pair.numbers();
+    confirm(alloc, register, delivering, pair.deliverer(), day)?;
+    confirm(alloc, register, receiving, pair.receiver(), day)
 }
 
 /// Confirms the settlement of a pair, by the number of its later instruction, to both parties: to the deliverer first.
@@ -130,17 +149,12 @@ pub fn confirm_settlement<R: Register>(
 ) -> Result<(), Fault>
     requires stage { (R.view register.old).stage ≡ Stage.Begun }
     requires room { IfTrusted (R.view register.old) (R.view register.old) (length (R.view register.old).content.sent + 1 < SENT_A_PAIR * (R.view register.old).room) }
-    ensures sent { (mate : ℕ) (earlier later : Instructed) → IfTrusted (R.view register.old) (R.view register.new) (IsPairAt (R.view register.old).content number mate earlier later
+    ensures sent { (mate : ℕ) (earlier later : InstructedValue) → IfTrusted (R.view register.old) (R.view register.new) (IsPairAt (R.view register.old).content number mate earlier later
         → OnOk result ((R.view register.new).content ≡ with_both_confirmed mate number earlier day (R.view register.old).content)) }
     ensures step { IsStep result (R.view register.old) (R.view register.new) }
 {
-    let standing = register.standing(alloc, number)?;
-    let Some(mate) = standing.mate else {
+    let Some(pair) = pair_of(alloc, register, number)? else {
         return Ok(());
     };
-    let Some(earlier) = instructed(alloc, register, mate)? else {
-        return Ok(());
-    };
-    let sides = Sides::of(mate, number, &earlier);
-    confirm_both(alloc, register, sides.deliverer, sides.receiver, day)
+    confirm_both(alloc, register, &pair, day)
 }

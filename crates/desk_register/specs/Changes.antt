@@ -137,6 +137,13 @@ delivering_side earlier later = delivering (is_delivery earlier.instruction.mt) 
 abbrev pub receiving_side : Instructed → Instructed → Instructed
 receiving_side earlier later = receiving (is_delivery earlier.instruction.mt) earlier later
 
+-- the number of the deliverer's instruction, of the numbers of both, the earlier one's first, and of the receiver's
+abbrev pub delivering_number : Instructed → ℕ → ℕ → ℕ
+delivering_number earlier m n = delivering (is_delivery earlier.instruction.mt) m n
+
+abbrev pub receiving_number : Instructed → ℕ → ℕ → ℕ
+receiving_number earlier m n = receiving (is_delivery earlier.instruction.mt) m n
+
 -- so much is taken off one account and put on another, or on the same
 abbrev pub delivered : Positions → List ℕ → List ℕ → List ℕ → ℕ → Positions
 delivered position from to isin quantity =

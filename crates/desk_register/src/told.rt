@@ -1,9 +1,10 @@
 //! A register that is told what is known of a pair.
 ghost use Rattle.std.specs.Prelude.{◌≡◌, IfOk, OnOk};
 ghost use Rattle.desk_codes.specs.Number.{number_of};
+ghost use Rattle.desk_msg.specs.MessageType.{is_delivery};
 ghost use Rattle.desk_register.specs.declared.register.Stage.TheVariants.{Begun};
 ghost use Rattle.desk_register.specs.View.{IfTrusted, IsChange};
-ghost use Rattle.desk_register.specs.Changes.{CanCancelPair, CanSettle, TriesPair};
+ghost use Rattle.desk_register.specs.Changes.{CanCancelPair, CanSettle, TriesPair, delivering_number, delivering_side, receiving_number, receiving_side};
 ghost use Rattle.desk_register.specs.Told.{IsKnownAt, waiting};
 
 use crate::outcome::Outcome;
@@ -21,6 +22,46 @@ pub struct KnownPair {
     pub number: u64,
     pub earlier: Instructed,
     pub later: Instructed,
+}
+
+impl KnownPair {
+    /// Whether the earlier instruction delivers; else the later one does.
+    fn earlier_delivers(&self) -> bool
+        ensures { result ≡ is_delivery self.now.earlier.instruction.mt }
+    {
+        self.earlier.instruction.mt.is_delivery()
+    }
+
+    /// The instruction that delivers.
+    pub fn deliverer(&self) -> &Instructed
+        ensures { result.now ≡ delivering_side self.now.earlier self.now.later }
+    {
+        if self.earlier_delivers() {
+            return &self.earlier;
+        }
+        &self.later
+    }
+
+    /// The instruction that receives.
+    pub fn receiver(&self) -> &Instructed
+        ensures { result.now ≡ receiving_side self.now.earlier self.now.later }
+    {
+        if self.earlier_delivers() {
+            return &self.later;
+        }
+        &self.earlier
+    }
+
+    /// The number of the deliverer's instruction, and that of the receiver's.
+    pub fn numbers(&self) -> (u64, u64)
+        ensures deliverer { result.0 ≡ delivering_number self.now.earlier self.now.mate self.now.number }
+        ensures receiver { result.1 ≡ receiving_number self.now.earlier self.now.mate self.now.number }
+    {
+        if self.earlier_delivers() {
+            return (self.mate, self.number);
+        }
+        (self.number, self.mate)
+    }
 }
 
 /// A register that is told what another, which holds the same, knows of a pair: it looks nothing of that up.

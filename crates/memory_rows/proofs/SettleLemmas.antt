@@ -6,22 +6,18 @@ use Rattle.desk_rules.specs.declared.answers.reply.Kept.{Kept}
 use Rattle.desk_rules.specs.declared.answers.reply.Sent.{Sent}
 use Rattle.desk_rules.specs.declared.history.standing.Standing.{Standing}
 use Rattle.desk_rules.specs.declared.history.entry.Instructed.{Instructed}
-use Rattle.std.specs.Prelude.{IfOk, Result}
-use Rattle.std.proofs.lemmas.Result.{IfOk-weaker}
 use Rattle.desk_rules.specs.History.{instruction_at}
 use Rattle.desk_rules.specs.Content.{CashBalances, Content, history_of}
-use Rattle.desk_rules.specs.declared.history.pair.Lack.TheVariants.{Securities, Money as LacksMoney}
 use Rattle.desk_register.specs.declared.outcome.Outcome.{Outcome}
-use Rattle.desk_register.specs.declared.outcome.Outcome.TheVariants as outcomes
-use Rattle.desk_register.specs.declared.outcome.Outcome.TheVariants.{Lacks}
+use Rattle.desk_register.specs.declared.told.KnownPair.{KnownPair}
 use Rattle.desk_register.specs.Changes.{CanSettle, IsPairAt, SidesFit, TriesPair, TriesSides, delivered, paid_over}
+use Rattle.desk_register.specs.Told.{IsKnownAt}
 use Rattle.memory_rows.specs.declared.balance_key.BalanceKey.{BalanceKey}
 use Rattle.memory_rows.specs.declared.balance_key.BalanceKey.TheVariants.{Cash, Outstanding, Paid, Position}
 use Rattle.memory_rows.specs.Lists.{Listed, TotalsAreKept, balance_in, content_in, standing_in}
 use Rattle.memory_rows.specs.BalanceKeys.{is_key}
 use Rattle.memory_rows.specs.Moves.{SameBooks, SameEntries, SameTotals, with_less, moved_between, paid_between}
-use Rattle.memory_rows.specs.declared.changing.transfer.Transfer.{Transfer}
-use Rattle.memory_rows.specs.Transfers.{TransferFits, TriesTransfer, transfer_of}
+use Rattle.memory_rows.specs.Transfers.{Transfer}
 use Rattle.memory_rows.proofs.AppendLemmas.{content_by_parts, same_balances}
 use Rattle.memory_rows.proofs.BalanceLemmas.{key_true}
 use Rattle.desk_register.proofs.CaseLemmas.{by_bool}
@@ -84,16 +80,6 @@ module _ (old stood moved new : Listed) (t : Transfer) (books : SameBooks old st
     paid = λ c. ap (λ b. b (Paid c)) pair_balances ∙ paid_stays (balance_in old) t.given t.taken t.isin t.quantity t.receiver t.deliverer t.cash c;
   }
 
--- What trying a pair does, by what it moves and by its two instructions.
-
-tries_sides : (old new : Content) (n m : ℕ) (earlier later : Instructed) (outcome : Outcome) → TriesTransfer old n m (transfer_of earlier later) outcome new → TriesSides old n m earlier later outcome new
-tries_sides old new n m earlier later outcomes.Settled ends = ends
-tries_sides old new n m earlier later (Lacks Securities) ends = ends
-tries_sides old new n m earlier later (Lacks LacksMoney) ends = ends
-
-transfer_fits : (content : Content) (earlier later : Instructed) (t : Transfer) → t ≡ transfer_of earlier later → SidesFit content earlier later → TransferFits content t
-transfer_fits content earlier later t is fits = subst (TransferFits content) (sym is) (record { securities = fits.securities; cash = fits.cash })
-
 -- The pair of a number that can settle, whose mate was found.
 
 module _ (content : Content) (n day m : ℕ) (can : CanSettle content n day) (has_mate : (content.standing n).mate ≡ Some m) where
@@ -103,23 +89,30 @@ module _ (content : Content) (n day m : ℕ) (can : CanSettle content n day) (ha
   pub known_pair : (first second : Instructed) × (instruction_at (history_of content) m ≡ Some first) × (instruction_at (history_of content) n ≡ Some second)
   known_pair = (can.earlier, can.later, found_pair.is_earlier, found_pair.is_later)
 
-  module _ (t : Transfer) (moves : (first second : Instructed) → instruction_at (history_of content) m ≡ Some first → instruction_at (history_of content) n ≡ Some second → t ≡ transfer_of first second) where
-    moved : t ≡ transfer_of can.earlier can.later
-    moved = moves can.earlier can.later found_pair.is_earlier found_pair.is_later
+  module _ (pair : KnownPair) (is : (first second : Instructed) → instruction_at (history_of content) m ≡ Some first → instruction_at (history_of content) n ≡ Some second → pair ≡ record { mate = m; number = n; earlier = first; later = second }) where
+    same_pair : pair ≡ record { mate = m; number = n; earlier = can.earlier; later = can.later }
+    same_pair = is can.earlier can.later found_pair.is_earlier found_pair.is_later
 
-    pub pair_fits : TransferFits content t
-    pair_fits = transfer_fits content can.earlier can.later t moved can.fits
+    pub pair_two : pair.mate < pair.number
+    pair_two =
+        let mates : Some can.mate ≡ Some m = sym can.pair.has_mate ∙ has_mate in
+        let same : can.mate ≡ m = cc in
+        rw same_pair (subst (λ k. k < n) same can.two)
 
-    pub tries_pair : {E : Type 0} (r : Result Outcome E) (new : Content) → IfOk r (λ outcome. TriesTransfer content n m t outcome new) → IfOk r (λ outcome. TriesPair content n outcome new)
-    tries_pair r new ends = IfOk-weaker r (λ outcome. TriesTransfer content n m t outcome new) _
-        (λ outcome tries. record {
-          mate = m;
-          earlier = can.earlier;
-          later = can.later;
-          pair = found_pair;
-          ends = tries_sides content new n m can.earlier can.later outcome (subst (λ z. TriesTransfer content n m z outcome new) moved tries);
-        })
-        ends
+    pub pair_fits : SidesFit content pair.earlier pair.later
+    pair_fits = rw same_pair can.fits
+
+    pub pair_known : IsKnownAt content n pair
+    pair_known = rw same_pair (record { number = refl; is_pair = found_pair })
+
+    pub tries_pair : (outcome : Outcome) (new : Content) → TriesSides content pair.number pair.mate pair.earlier pair.later outcome new → TriesPair content n outcome new
+    tries_pair outcome new tries = record {
+      mate = m;
+      earlier = can.earlier;
+      later = can.later;
+      pair = found_pair;
+      ends = subst (λ (p : KnownPair). TriesSides content p.number p.mate p.earlier p.later outcome new) same_pair tries;
+    }
 
 -- nothing but where entries stand has changed
 pub stood_totals : (old new : Listed) → SameBooks old new → SameTotals old new

@@ -2,8 +2,8 @@
 ghost use Rattle.std.specs.Prelude.{◌≡◌, ◌≢◌, ◌≤◌, IfOk, OnOk};
 ghost use Rattle.desk_codes.specs.Number.{number_of};
 ghost use Rattle.memory_rows.specs.RowsView.{view_of_rows};
-ghost use Rattle.memory_rows.specs.Transfers.{IsTransferAt};
 ghost use Rattle.desk_register.specs.Changes.{CanAppend, CanCancel, CanCancelPair, CanPair, CanSend, CanSettle, TriesPair, appended, cancelled, empty_content, pair_cancelled, paired, with_sent};
+ghost use Rattle.desk_register.specs.Told.{IsKnownAt};
 ghost use Rattle.desk_register.specs.View.{Begins, Commits, GoesBack, IsChange, IsLater, fallen};
 ghost use Rattle.desk_rules.specs.Content.{history_of};
 ghost use Rattle.memory_rows.specs.Named.{number_named};
@@ -12,7 +12,7 @@ use crate::changing::appending::append_entry;
 use crate::changing::changes::{keep_all, undo_all};
 use crate::changing::settling::try_settle;
 use crate::changing::standings::{cancel_both, cancel_entry, pair_entries};
-use crate::changing::transfer::Tried;
+use crate::changing::tried::Tried;
 use crate::lists::Lists;
 use crate::looking::messages::send_message;
 use crate::rows::Rows;
@@ -172,12 +172,12 @@ impl Rows {
 
     /// Tries the matched pair of a number, which is due by a day: settles it where it is covered, and moves its quantity from
     /// the deliverer's account to the receiver's, and its cash from the receiver to the deliverer; else changes the reason
-    /// alone. Hands on what it moves.
+    /// alone. Hands on the pair.
     pub fn try_pair(&mut self, number: u64, _day: Day) -> Result<Tried, Fault>
         requires stage { (view_of_rows self.old).stage ≡ Stage.Begun }
         requires fits { CanSettle (view_of_rows self.old).content number (number_of _day) }
         ensures settled { IfOk result (λ tried. TriesPair (view_of_rows self.old).content number tried.outcome (view_of_rows self.new).content) }
-        ensures moves { IfOk result (λ tried. IsTransferAt (view_of_rows self.old).content number tried.mate tried.transfer) }
+        ensures known { IfOk result (λ tried. IsKnownAt (view_of_rows self.old).content number tried.pair) }
         ensures change { IsChange result (view_of_rows self.old) (view_of_rows self.new) }
     {
         match try_settle(&mut self.lists, &mut self.changes, number) {

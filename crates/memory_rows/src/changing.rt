@@ -7,5 +7,5 @@ pub mod requests;
 pub mod settling;
 pub mod shift;
 pub mod standings;
-pub mod transfer;
+pub mod tried;
 pub mod trimming;

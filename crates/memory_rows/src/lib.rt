@@ -17,5 +17,5 @@ mod looking;
 mod reading;
 mod rows;
 
-pub use changing::transfer::{Transfer, Tried};
+pub use changing::tried::Tried;
 pub use rows::Rows;

@@ -11,19 +11,18 @@ ghost use Rattle.desk_rules.specs.Questions.{sent_at};
 ghost use Rattle.desk_register.specs.Looked.{held_cash_of, held_of, reply_at, IsDue, IsHoldingAfter, IsOppositeAt};
 ghost use Rattle.desk_register.specs.View.{Falls, IsLater, IsRead};
 ghost use Rattle.memory_rows.specs.RowsView.{view_of_rows};
-ghost use Rattle.memory_rows.specs.Transfers.{transfer_of};
 ghost use Rattle.memory_rows.specs.Walk.{AreNextHoldings, AreTotals};
 
 use crate::balance_key::BalanceKey;
 use crate::balances::balance_of;
 use crate::calls::fallen;
 use crate::changing::entries;
-use crate::changing::transfer::{Transfer, transfer_of};
+use crate::changing::tried::pair_of;
 use crate::looking::{by_number, due_pairs, messages, next_holding, opposites, totals};
 use crate::rows::Rows;
 use desk_codes::{AccountId, Bic, Ccy, Day, Isin};
 use desk_msg::Kind;
-use desk_register::{Fault, Holding, Stage};
+use desk_register::{Fault, Holding, KnownPair, Stage};
 use desk_rules::{Entry, Instructed, Place, Reply, Sent, Standing};
 use std::alloc::Global;
 
@@ -71,13 +70,13 @@ impl Rows {
         balance_of(&self.lists, &BalanceKey::Cash { bic, ccy })
     }
 
-    /// What the pair of two numbers moves. Both are those of instructions.
-    pub fn transfer_of(&self, earlier: u64, later: u64) -> Transfer
-        requires { (first second : InstructedValue) × (instruction_at (history_of (view_of_rows self.now).content) earlier ≡ Some first) × (instruction_at (history_of (view_of_rows self.now).content) later ≡ Some second) }
-        ensures { (first second : InstructedValue) → instruction_at (history_of (view_of_rows self.now).content) earlier ≡ Some first → instruction_at (history_of (view_of_rows self.now).content) later ≡ Some second
-            → result ≡ transfer_of first second }
+    /// The pair of two numbers, the earlier first. Both are those of instructions.
+    pub fn pair_of(&self, mate: u64, number: u64) -> KnownPair
+        requires { (first second : InstructedValue) × (instruction_at (history_of (view_of_rows self.now).content) mate ≡ Some first) × (instruction_at (history_of (view_of_rows self.now).content) number ≡ Some second) }
+        ensures { (first second : InstructedValue) → instruction_at (history_of (view_of_rows self.now).content) mate ≡ Some first → instruction_at (history_of (view_of_rows self.now).content) number ≡ Some second
+            → result ≡ record { mate = mate; number = number; earlier = first; later = second } }
     {
-        transfer_of(&self.lists, earlier, later)
+        pair_of(&self.lists, mate, number)
     }
 
     /// Where the entry of a number stands.

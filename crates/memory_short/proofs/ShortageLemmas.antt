@@ -31,8 +31,7 @@ use Rattle.desk_register.specs.Changes.{IsPairAt, LacksCash, TriesSides, appende
 use Rattle.desk_register.specs.Looked.{IsMatchedPair}
 use Rattle.desk_register.specs.Short.{LacksNow, StaysShort}
 use Rattle.desk_register.proofs.CaseLemmas.{by_bool, same_bytes}
-use Rattle.memory_rows.specs.declared.changing.transfer.Transfer.{Transfer}
-use Rattle.memory_rows.specs.Transfers.{IsTransferAt, transfer_of}
+use Rattle.memory_rows.specs.Transfers.{IsTransferAt, Transfer, transfer_of}
 use Rattle.memory_short.specs.DuePlaces.{place_at}
 use Rattle.desk_rules.specs.Places.{place_cmp}
 use Rattle.memory_short.specs.Shortages.{Agrees, Brings, IsBrought, IsBroughtIfAny, IsNotedLack, IsNotedSettled, IsNotedTried, IsUncovered, KeepsOthers, KnowsAt, KnowsShort, LetsGo, PutsIn, StandsShort, TakesOut, is_to_try}

@@ -16,8 +16,7 @@ use Rattle.desk_rules.specs.Content.{Content}
 use Rattle.desk_rules.specs.History.{instruction_at}
 use Rattle.desk_rules.specs.Standing.{reason_of_lack}
 use Rattle.desk_register.specs.Changes.{empty_content}
-use Rattle.memory_rows.specs.declared.changing.transfer.Transfer.{Transfer}
-use Rattle.memory_rows.specs.Transfers.{IsTransferAt, transfer_of}
+use Rattle.memory_rows.specs.Transfers.{IsTransferAt, Transfer, transfer_of}
 use Rattle.memory_short.specs.DuePlaces.{AreMatched, HasDue, place_at}
 use Rattle.desk_rules.specs.Places.{place_cmp}
 use Rattle.memory_short.specs.Shortages.{Brings, IsBrought, IsBroughtIfAny, IsNotedLack, IsNotedSettled, IsUncovered, KnowsAt, KnowsShort, PutsIn, TakesOut, is_to_try}

@@ -11,7 +11,7 @@ use Rattle.desk_rules.specs.declared.history.pair.Lack.{Lack}
 use Rattle.desk_rules.specs.declared.history.pair.Lack.TheVariants.{Securities, Money}
 use Rattle.desk_rules.specs.declared.history.pair.Place.{Place}
 use Rattle.desk_register.proofs.CaseLemmas.{by_bool}
-use Rattle.memory_rows.specs.declared.changing.transfer.Transfer.{Transfer}
+use Rattle.memory_rows.specs.Transfers.{Transfer}
 use Rattle.desk_rules.specs.Places.{place_cmp}
 use Rattle.memory_short.specs.Wants.{AreWaiting, FewerWait, IsAsked, IsWantOf, KeepsOtherWaits, NoneWaits, Waits, amount_cmp, how_many, is_waiting, less_given, more_given, want_cmp}
 use Rattle.memory_short.specs.declared.wants.Want.{Want}

@@ -19,7 +19,7 @@ use Rattle.desk_rules.specs.Standing.{reason_of_lack}
 use Rattle.desk_register.specs.Changes.{IsPairAt}
 use Rattle.desk_register.specs.Looked.{IsMatchedPair}
 use Rattle.desk_register.specs.View.{View}
-use Rattle.memory_rows.specs.declared.changing.transfer.Transfer.{Transfer}
+use Rattle.memory_rows.specs.Transfers.{Transfer}
 use Rattle.desk_codes.specs.declared.currency.Ccy.{Ccy}
 use Rattle.memory_short.specs.DuePlaces.{HoldsMatched}
 use Rattle.memory_short.specs.Shortages.{HoldsShort, IsUncovered, StandsShort}

@@ -17,8 +17,7 @@ use Rattle.desk_register.specs.declared.register.Stage.TheVariants.{Failed}
 use Rattle.desk_register.specs.Changes.{IsPairAt}
 use Rattle.desk_register.specs.Looked.{IsMatchedPair}
 use Rattle.desk_register.specs.View.{View}
-use Rattle.memory_rows.specs.declared.changing.transfer.Transfer.{Transfer}
-use Rattle.memory_rows.specs.Transfers.{transfer_of}
+use Rattle.memory_rows.specs.Transfers.{Transfer, transfer_of}
 use Rattle.desk_rules.specs.Places.{place_cmp}
 use Rattle.memory_short.specs.Wants.{AreWaiting, IsWantOf, Waits, cash_want, is_waiting, less_given, more_taken, want_cmp}
 use Rattle.memory_short.specs.declared.shortages.Shortages.{Shortages}

@@ -11,7 +11,7 @@ use Rattle.desk_rules.specs.declared.history.entry.Entry.TheVariants.{Issue, Red
 use Rattle.desk_rules.specs.declared.history.pair.Lack.{Lack}
 use Rattle.desk_rules.specs.declared.history.pair.Lack.TheVariants.{Securities, Money}
 use Rattle.desk_rules.specs.declared.history.pair.Place.{Place}
-use Rattle.memory_rows.specs.declared.changing.transfer.Transfer.{Transfer}
+use Rattle.memory_rows.specs.Transfers.{Transfer}
 use Rattle.desk_rules.specs.Places.{place_cmp}
 use Rattle.memory_short.specs.PlacesByKey.{placed_cmp}
 use Rattle.memory_short.specs.declared.wants.Want.{Want}

@@ -16,7 +16,7 @@ ghost use Rattle.desk_rules.specs.History.{instruction_at};
 ghost use Rattle.desk_rules.specs.Standing.{reason_of_lack};
 ghost use Rattle.desk_register.specs.Changes.{empty_content};
 ghost use Rattle.memory_rows.specs.RowsView.{view_of_rows};
-ghost use Rattle.memory_rows.specs.Transfers.{transfer_of};
+ghost use Rattle.memory_rows.specs.Transfers.{moved_by, transfer_of};
 ghost use Rattle.memory_short.specs.declared.wants.Want.{Want as WantValue};
 ghost use Rattle.memory_short.specs.DuePlaces.{AreMatched, HasDue, place_at};
 ghost use Rattle.memory_short.specs.Shortages.{Brings, IsBrought, IsBroughtIfAny, IsNotedLack, IsNotedSettled, IsNotedTried, IsUncovered, KnowsShort, PutsIn, TakesOut, is_to_try};
@@ -30,9 +30,9 @@ use crate::waiting::{drop_wants, is_waited_for, put_wants};
 use crate::waits::{first_wait, wait_above};
 use crate::wants::{Want, cash_want, less_given, more_taken, woken_by};
 use desk_msg::Reason;
-use desk_register::Outcome;
+use desk_register::{KnownPair, Outcome};
 use desk_rules::{Entry, Lack, Place, Standing, State};
-use memory_rows::{Rows, Transfer, Tried};
+use memory_rows::{Rows, Tried};
 use std::alloc::{AllocError, Global};
 use std::collections::{BTreeMap, BTreeSet};
 
@@ -57,6 +57,16 @@ fn tries_once_woken(saved: &mut u64) -> u64 {
     }
     *saved -= TRIES_OF_A_NOTE;
     0
+}
+
+/// The place of a pair in the order of settlement.
+fn place_of(pair: &KnownPair) -> Place
+    ensures { result ≡ place_at (number_of pair.now.later.instruction.day) pair.now.number }
+{
+    Place {
+        day: pair.later.instruction.day.yyyymmdd(),
+        number: pair.number,
+    }
 }
 
 impl Shortages {
@@ -158,22 +168,19 @@ impl Shortages {
         }
     }
 
-    /// Notes how the pair of a number fared that was tried.
-    pub fn note_tried(&mut self, alloc: Global, number: u64, tried: &Tried)
-        ensures { self.new.is_known ≡ true → IsNotedTried tried.now.outcome tried.now.transfer (place_at (number_of tried.now.transfer.day) number) self.old self.new }
+    /// Notes how a pair fared that was tried.
+    pub fn note_tried(&mut self, alloc: Global, tried: &Tried)
+        ensures { self.new.is_known ≡ true → IsNotedTried tried.now.outcome (moved_by tried.now.pair) (place_at (number_of tried.now.pair.later.instruction.day) tried.now.pair.number) self.old self.new }
     {
         if !self.is_known {
             self.tries = self.tries.saturating_add(1);
             return;
         }
-        let place = Place {
-            day: tried.transfer.day.yyyymmdd(),
-            number,
-        };
+        let place = place_of(&tried.pair);
         match tried.outcome {
-            Outcome::Settled => self.note_settled(&tried.transfer, place),
+            Outcome::Settled => self.note_settled(&tried.pair, place),
             Outcome::Lacks(lack) => {
-                if self.note_lack(alloc, &tried.transfer, place, lack).is_err() {
+                if self.note_lack(alloc, &tried.pair, place, lack).is_err() {
                     self.forget();
                 }
             }
@@ -189,64 +196,58 @@ impl Shortages {
         if !self.is_known {
             return;
         }
-        let transfer = held.transfer_of(mate, number);
-        self.take_out(
-            &transfer,
-            Place {
-                day: transfer.day.yyyymmdd(),
-                number,
-            },
-        );
+        let pair = held.pair_of(mate, number);
+        self.take_out(&pair, place_of(&pair));
     }
 
     /// Notes that the pair of a place settled.
-    fn note_settled(&mut self, transfer: &Transfer, place: Place)
+    fn note_settled(&mut self, pair: &KnownPair, place: Place)
         requires { self.old.is_known ≡ true }
-        ensures { self.new.is_known ≡ true → IsNotedSettled transfer.now place self.old self.new }
+        ensures { self.new.is_known ≡ true → IsNotedSettled (moved_by pair.now) place self.old self.new }
     {
-        self.take_out(transfer, place);
-        self.bring(&more_taken(transfer));
-        self.bring(&less_given(transfer));
-        self.bring_if_any(cash_want(transfer.deliverer, transfer.cash));
+        self.take_out(pair, place);
+        self.bring(&more_taken(pair));
+        self.bring(&less_given(pair));
+        self.bring_if_any(cash_want(pair.deliverer().sender, pair.later.instruction.cash));
     }
 
     /// Notes what the pair of a place lacks, once enough tries in vain have paid for that. Until then it stays to be tried.
     fn note_lack(
         &mut self,
         alloc: Global,
-        transfer: &Transfer,
+        pair: &KnownPair,
         place: Place,
         lack: Lack,
     ) -> Result<(), AllocError>
         requires { self.old.is_known ≡ true }
         ensures known { self.new.is_known ≡ true }
-        ensures noted { OnOk result (IsNotedLack transfer.now lack place self.old self.new) }
+        ensures noted { OnOk result (IsNotedLack (moved_by pair.now) lack place self.old self.new) }
     {
         match count_down(&mut self.to_try, place) {
             // it was known to stay short, and fared otherwise
             None => {
-                self.take_out(transfer, place);
+                self.take_out(pair, place);
                 begin_count(&mut self.to_try, place, TRIES_OF_A_NOTE)
             }
             Some(left) if 0 < left => Ok(()),
             Some(_) => {
                 end_count(&mut self.to_try, place);
-                put_wants(&mut self.waits, alloc, transfer, lack, place)
+                put_wants(&mut self.waits, alloc, pair, lack, place)
             }
         }
     }
 
     /// Takes out the pair of a place. No memory is taken.
-    fn take_out(&mut self, transfer: &Transfer, place: Place)
+    fn take_out(&mut self, pair: &KnownPair, place: Place)
         requires { self.old.is_known ≡ true }
         ensures known { self.new.is_known ≡ true }
-        ensures out { TakesOut transfer.now place self.old self.new }
+        ensures out { TakesOut (moved_by pair.now) place self.old self.new }
     {
         if end_count(&mut self.to_try, place) {
             return;
         }
-        drop_wants(&mut self.waits, transfer, Lack::Securities, place);
-        drop_wants(&mut self.waits, transfer, Lack::Money, place);
+        drop_wants(&mut self.waits, pair, Lack::Securities, place);
+        drop_wants(&mut self.waits, pair, Lack::Money, place);
     }
 
     /// Puts down that something came, where somebody waits for it.
@@ -357,10 +358,10 @@ impl Shortages {
         ensures fewer { OnOk result (how_many self.new.waits want.now < how_many self.old.waits want.now) }
     {
         let standing = held.standing_at(place.number);
-        let transfer = held.transfer_of(standing.mate.unwrap(), place.number);
+        let pair = held.pair_of(standing.mate.unwrap(), place.number);
         let tries = tries_once_woken(&mut self.saved);
         begin_count(&mut self.to_try, place, tries)?;
-        drop_wants(&mut self.waits, &transfer, lack_told(&standing), place);
+        drop_wants(&mut self.waits, &pair, lack_told(&standing), place);
         Ok(())
     }
 }

@@ -1,40 +1,38 @@
 //! The places of pairs by what they wait for, and how much of it.
 ghost use Rattle.std.specs.Prelude.{◌≡◌, ◌<◌, false, true, ℕ, OnOk};
+ghost use Rattle.memory_rows.specs.Transfers.{moved_by};
 ghost use Rattle.memory_short.specs.declared.wants.Want.{Want as WantValue};
 ghost use Rattle.memory_short.specs.Wants.{AreWaiting, FewerWait, KeepsOtherWaits, IsWantOf, NoneWaits, how_many, is_waiting};
 
 use crate::waits::{Waits, drop_wait, first_wait, put_wait};
-use crate::wants::{Want, less_given, more_given};
+use crate::wants::{Want, less_given, more_given, more_had};
+use desk_register::KnownPair;
 use desk_rules::{Lack, Place};
-use memory_rows::Transfer;
 use std::alloc::{AllocError, Global};
 
 /// Lets the place of a pair wait for what would end a lack.
 pub fn put_wants(
     waits: &mut Waits,
     alloc: Global,
-    transfer: &Transfer,
+    pair: &KnownPair,
     lack: Lack,
     place: Place,
 ) -> Result<(), AllocError>
     ensures others { KeepsOtherWaits place waits.old waits.new }
-    ensures waiting { OnOk result (AreWaiting waits.new transfer.now lack place) }
-    ensures only { (want : WantValue) (amount : ℕ) → is_waiting waits.new want amount place ≡ true → is_waiting waits.old want amount place ≡ false → IsWantOf transfer.now lack want amount }
+    ensures waiting { OnOk result (AreWaiting waits.new (moved_by pair.now) lack place) }
+    ensures only { (want : WantValue) (amount : ℕ) → is_waiting waits.new want amount place ≡ true → is_waiting waits.old want amount place ≡ false → IsWantOf (moved_by pair.now) lack want amount }
 {
     match lack {
         Lack::Securities => {
-            let more = more_given(transfer);
-            put_wait(waits, alloc, &more, transfer.quantity, place)
+            let more = more_given(pair);
+            put_wait(waits, alloc, &more, pair.later.instruction.quantity, place)
         }
         Lack::Money => {
-            let less = less_given(transfer);
-            put_wait(waits, alloc, &less, transfer.quantity, place)?;
-            match transfer.cash {
+            let less = less_given(pair);
+            put_wait(waits, alloc, &less, pair.later.instruction.quantity, place)?;
+            match pair.later.instruction.cash {
                 Some(asked) => {
-                    let more = Want::MoreCash {
-                        bic: transfer.receiver,
-                        ccy: asked.ccy,
-                    };
+                    let more = more_had(pair, asked.ccy);
                     put_wait(waits, alloc, &more, asked.amount, place)
                 }
                 None => Ok(()),
@@ -44,25 +42,22 @@ pub fn put_wants(
 }
 
 /// Takes out all that the place of a pair waits for by a lack. No memory is taken.
-pub fn drop_wants(waits: &mut Waits, transfer: &Transfer, lack: Lack, place: Place)
+pub fn drop_wants(waits: &mut Waits, pair: &KnownPair, lack: Lack, place: Place)
     ensures others { KeepsOtherWaits place waits.old waits.new }
-    ensures gone { (want : WantValue) (amount : ℕ) → IsWantOf transfer.now lack want amount → is_waiting waits.new want amount place ≡ false }
+    ensures gone { (want : WantValue) (amount : ℕ) → IsWantOf (moved_by pair.now) lack want amount → is_waiting waits.new want amount place ≡ false }
     ensures fewer { FewerWait waits.old waits.new }
-    ensures less { (want : WantValue) (amount : ℕ) → IsWantOf transfer.now lack want amount → is_waiting waits.old want amount place ≡ true → how_many waits.new want < how_many waits.old want }
+    ensures less { (want : WantValue) (amount : ℕ) → IsWantOf (moved_by pair.now) lack want amount → is_waiting waits.old want amount place ≡ true → how_many waits.new want < how_many waits.old want }
 {
     match lack {
         Lack::Securities => {
-            let more = more_given(transfer);
-            drop_wait(waits, &more, transfer.quantity, place);
+            let more = more_given(pair);
+            drop_wait(waits, &more, pair.later.instruction.quantity, place);
         }
         Lack::Money => {
-            let less = less_given(transfer);
-            drop_wait(waits, &less, transfer.quantity, place);
-            if let Some(asked) = transfer.cash {
-                let more = Want::MoreCash {
-                    bic: transfer.receiver,
-                    ccy: asked.ccy,
-                };
+            let less = less_given(pair);
+            drop_wait(waits, &less, pair.later.instruction.quantity, place);
+            if let Some(asked) = pair.later.instruction.cash {
+                let more = more_had(pair, asked.ccy);
                 drop_wait(waits, &more, asked.amount, place);
             }
         }

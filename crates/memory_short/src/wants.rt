@@ -1,11 +1,13 @@
 //! What pairs that are short wait for.
 ghost use Rattle.std.specs.Prelude.{◌≡◌};
+ghost use Rattle.memory_rows.specs.Transfers.{moved_by};
+ghost use Rattle.memory_short.specs.declared.wants.Want.TheVariants.{MoreCash};
 ghost use Rattle.memory_short.specs.Wants.{cash_want, less_given, more_given, more_taken, woken_by};
 
 use desk_codes::{AccountId, Bic, Ccy, Isin};
 use desk_msg::Cash;
+use desk_register::KnownPair;
 use desk_rules::Entry;
-use memory_rows::Transfer;
 
 /// What has to change before a pair that is short can fare otherwise.
 #[derive(Clone, Copy, PartialEq, Eq, PartialOrd, Ord)]
@@ -19,32 +21,42 @@ pub enum Want {
 }
 
 /// More on the deliverer's account.
-pub fn more_given(transfer: &Transfer) -> Want
-    ensures { result ≡ more_given transfer.now }
+pub fn more_given(pair: &KnownPair) -> Want
+    ensures { result ≡ more_given (moved_by pair.now) }
 {
     Want::MoreHeld {
-        account: transfer.given,
-        isin: transfer.isin,
+        account: pair.deliverer().instruction.account,
+        isin: pair.later.instruction.isin,
     }
 }
 
 /// Less on the deliverer's account.
-pub fn less_given(transfer: &Transfer) -> Want
-    ensures { result ≡ less_given transfer.now }
+pub fn less_given(pair: &KnownPair) -> Want
+    ensures { result ≡ less_given (moved_by pair.now) }
 {
     Want::LessHeld {
-        account: transfer.given,
-        isin: transfer.isin,
+        account: pair.deliverer().instruction.account,
+        isin: pair.later.instruction.isin,
     }
 }
 
 /// More on the receiver's account.
-pub fn more_taken(transfer: &Transfer) -> Want
-    ensures { result ≡ more_taken transfer.now }
+pub fn more_taken(pair: &KnownPair) -> Want
+    ensures { result ≡ more_taken (moved_by pair.now) }
 {
     Want::MoreHeld {
-        account: transfer.taken,
-        isin: transfer.isin,
+        account: pair.receiver().instruction.account,
+        isin: pair.later.instruction.isin,
+    }
+}
+
+/// More of a currency that the receiver has, who pays.
+pub fn more_had(pair: &KnownPair, ccy: Ccy) -> Want
+    ensures { result ≡ MoreCash (moved_by pair.now).receiver ccy }
+{
+    Want::MoreCash {
+        bic: pair.receiver().sender,
+        ccy,
     }
 }
 

@@ -1,11 +1,11 @@
 //! A matched pair is tried: it settles, or it lacks something.
-ghost use Rattle.std.specs.Prelude.{◌≡◌, ◌≢◌, ℕ, ◌+◌, ◌<◌, ◌^◌, [], true, Some, IfOk, OnOk, IsOk};
+ghost use Rattle.std.specs.Prelude.{◌≡◌, ◌≢◌, ℕ, ◌+◌, ◌<◌, ◌^◌, [], true, Some, IfOk, OnOk};
 ghost use Rattle.sqlite.specs.Held.{state};
 ghost use Rattle.desk_codes.specs.Number.{number_of};
 ghost use Rattle.sql_tables.specs.Calls.{Looks, Soundly, Writes, tables};
 ghost use Rattle.sql_tables.specs.Ends.{Stays};
 ghost use Rattle.sql_amounts.specs.Amounts.{AreAmounts};
-ghost use Rattle.desk_register.specs.Changes.{CanCancelPair, CanSettle, FitsCash, IsPairAt, SidesFit, TriesPair, delivering_side, receiving_side};
+ghost use Rattle.desk_register.specs.Changes.{CanCancelPair, CanSettle, FitsCash, IsPairAt, SidesFit, TriesPair};
 ghost use Rattle.desk_register.specs.Told.{IsKnownAt, waiting};
 ghost use Rattle.sql_standings.specs.Due.{AreDue};
 ghost use Rattle.sql_standings.specs.Standings.{AreStandings};
@@ -87,42 +87,18 @@ fn put_cash<S: Alter>(conn: &mut Connection<S>, bic: Bic, asked: Option<Cash>) -
     }
 }
 
-/// The instruction of two that delivers.
-fn delivery<'a>(earlier: &'a Instructed, later: &'a Instructed) -> &'a Instructed
-    ensures { result.now ≡ delivering_side earlier.now later.now }
-{
-    if earlier.instruction.mt.is_delivery() {
-        return earlier;
-    }
-    later
-}
-
-/// The instruction of two that receives.
-fn receipt<'a>(earlier: &'a Instructed, later: &'a Instructed) -> &'a Instructed
-    ensures { result.now ≡ receiving_side earlier.now later.now }
-{
-    if earlier.instruction.mt.is_delivery() {
-        return later;
-    }
-    earlier
-}
-
 /// Moves the quantity of a pair from its deliverer's account to its receiver's, and its cash the other way. What is lacking
 /// is asked for first, securities before money; where money is, the quantity was taken, and is not put back here.
-fn move_legs<S: Alter>(
-    conn: &mut Connection<S>,
-    earlier: &Instructed,
-    later: &Instructed,
-) -> Result<Outcome, Error>
-    ensures changed { Soundly S.Store conn.old conn.new (AreAmounts (tables S.Store conn.old) → SidesFit (content_in (tables S.Store conn.old)) earlier.now later.now
-        → IfOk result (MovesLegs (tables S.Store conn.old) (tables S.Store conn.new) earlier.now later.now)) }
+fn move_legs<S: Alter>(conn: &mut Connection<S>, pair: &KnownPair) -> Result<Outcome, Error>
+    ensures changed { Soundly S.Store conn.old conn.new (AreAmounts (tables S.Store conn.old) → SidesFit (content_in (tables S.Store conn.old)) pair.now.earlier pair.now.later
+        → IfOk result (MovesLegs (tables S.Store conn.old) (tables S.Store conn.new) pair.now.earlier pair.now.later)) }
     ensures write { Writes S.Store conn.old conn.new result }
 {
-    let from = delivery(earlier, later);
-    let to = receipt(earlier, later);
-    let isin = later.instruction.isin;
-    let quantity = later.instruction.quantity;
-    let cash = later.instruction.cash;
+    let from = pair.deliverer();
+    let to = pair.receiver();
+    let isin = pair.later.instruction.isin;
+    let quantity = pair.later.instruction.quantity;
+    let cash = pair.later.instruction.cash;
     if !take_held(conn, from.instruction.account, isin, quantity)? {
         return Ok(Outcome::Lacks(Lack::Securities));
     }
@@ -135,17 +111,13 @@ fn move_legs<S: Alter>(
 }
 
 /// Sets the savepoint of the pair, and moves both of its legs or none. The savepoint stays.
-fn move_both<S: Alter>(
-    conn: &mut Connection<S>,
-    earlier: &Instructed,
-    later: &Instructed,
-) -> Result<Outcome, Error>
-    ensures changed { Soundly S.Store conn.old conn.new (AreAmounts (tables S.Store conn.old) → SidesFit (content_in (tables S.Store conn.old)) earlier.now later.now
-        → (state S.Store conn.old).in_transaction ≡ true → (state S.Store conn.old).marks ≡ [] → IfOk result (MovesBoth (tables S.Store conn.old) (tables S.Store conn.new) earlier.now later.now)) }
+fn move_both<S: Alter>(conn: &mut Connection<S>, pair: &KnownPair) -> Result<Outcome, Error>
+    ensures changed { Soundly S.Store conn.old conn.new (AreAmounts (tables S.Store conn.old) → SidesFit (content_in (tables S.Store conn.old)) pair.now.earlier pair.now.later
+        → (state S.Store conn.old).in_transaction ≡ true → (state S.Store conn.old).marks ≡ [] → IfOk result (MovesBoth (tables S.Store conn.old) (tables S.Store conn.new) pair.now.earlier pair.now.later)) }
     ensures trial { IsTrial result (state S.Store conn.old) (state S.Store conn.new) (IsMarked (state S.Store conn.old) (state S.Store conn.new)) }
 {
     save(conn)?;
-    let outcome = move_legs(conn, earlier, later)?;
+    let outcome = move_legs(conn, pair)?;
     if matches!(outcome, Outcome::Lacks(Lack::Money)) {
         go_back(conn)?;
     }
@@ -181,20 +153,6 @@ fn free<S: Alter>(
     }
 }
 
-/// A pair, by the numbers of its two instructions.
-#[derive(Clone, Copy)]
-pub struct FoundPair {
-    /// Of the earlier instruction
-    mate: u64,
-    /// Of the later one
-    number: u64,
-    earlier: Instructed,
-    later: Instructed,
-    ghost first: { 0 < mate },
-    ghost two: { mate < number },
-    ghost small: { number < 1_000_000_000 },
-}
-
 /// The number of the mate of an instruction.
 fn mate_of<S: Alter>(conn: &mut Connection<S>, number: u64) -> Result<u64, Error>
     ensures value { Soundly S.Store conn.old conn.new (IsDesk (tables S.Store conn.old) → IfOk result (λ mate. ((content_in (tables S.Store conn.old)).standing number).mate ≡ Some mate)) }
@@ -207,31 +165,13 @@ fn mate_of<S: Alter>(conn: &mut Connection<S>, number: u64) -> Result<u64, Error
     }
 }
 
-fn pair_of(
-    mate: u64,
-    number: u64,
-    earlier: Instructed,
-    later: Instructed,
-) -> Result<FoundPair, Error>
-    ensures value { IfOk result (λ p. (p.mate ≡ mate) × (p.number ≡ number) × (p.earlier ≡ earlier) × (p.later ≡ later)) }
-    ensures all { 0 < mate → mate < number → number < 1_000_000_000 → IsOk result }
-{
-    in_order(mate, number)?;
-    Ok(FoundPair {
-        mate,
-        number,
-        earlier,
-        later,
-    })
-}
-
 /// The pair of the later instruction's number.
 fn pair_at<S: Alter>(
     conn: &mut Connection<S>,
     facts: &mut Facts,
     alloc: Global,
     number: u64,
-) -> Result<FoundPair, Error>
+) -> Result<KnownPair, Error>
     ensures value { Soundly S.Store conn.old conn.new (IsDesk (tables S.Store conn.old) → AreFactsOf facts.old (content_in (tables S.Store conn.old)).register → IfOk result (λ p. (p.number ≡ number) × IsPairAt (content_in (tables S.Store conn.old)) number p.mate p.earlier p.later)) }
     ensures noted { Soundly S.Store conn.old conn.new (IsDesk (tables S.Store conn.old) → AreFactsOf facts.old (content_in (tables S.Store conn.old)).register → OnOk result (AreFactsOf facts.new (content_in (tables S.Store conn.old)).register)) }
     ensures look { Looks S.Store conn.old conn.new result }
@@ -239,15 +179,23 @@ fn pair_at<S: Alter>(
     let later = instruction(conn, facts, alloc, number)?;
     let mate = mate_of(conn, number)?;
     let earlier = instruction(conn, facts, alloc, mate)?;
-    pair_of(mate, number, earlier, later)
+    Ok(KnownPair {
+        mate,
+        number,
+        earlier,
+        later,
+    })
 }
 
 /// Lets both instructions of a pair stand as it fared.
 fn close<S: Alter>(
     conn: &mut Connection<S>,
-    pair: &FoundPair,
+    pair: &KnownPair,
     outcome: Outcome,
 ) -> Result<(), Error>
+    requires first { 0 < pair.now.mate }
+    requires order { pair.now.mate < pair.now.number }
+    requires small { pair.now.number < 1_000_000_000 }
     ensures changed { Soundly S.Store conn.old conn.new (AreStandings (tables S.Store conn.old) → AreDue (tables S.Store conn.old)
         → OnOk result (Closes (tables S.Store conn.old) (tables S.Store conn.new) pair.now.mate pair.now.number (number_of pair.now.later.instruction.day) outcome)) }
     ensures write { Writes S.Store conn.old conn.new result }
@@ -258,14 +206,15 @@ fn close<S: Alter>(
 
 /// Tries a matched pair that was found: settles it, and moves its quantity between the accounts and its cash between the
 /// participants, where it is covered, else changes the reason alone. It works in a savepoint of its own, so it is of a
-/// transaction that has none.
-fn settle_found<S: Alter>(conn: &mut Connection<S>, pair: &FoundPair) -> Result<Outcome, Error>
+/// transaction that has none. A pair whose numbers are in no order is told as tables that have broken their word.
+fn settle_found<S: Alter>(conn: &mut Connection<S>, pair: &KnownPair) -> Result<Outcome, Error>
     ensures changed { Soundly S.Store conn.old conn.new (IsDesk (tables S.Store conn.old) → (day : ℕ) → CanSettle (content_in (tables S.Store conn.old)) pair.now.number day
         → IsPairAt (content_in (tables S.Store conn.old)) pair.now.number pair.now.mate pair.now.earlier pair.now.later
         → (state S.Store conn.old).in_transaction ≡ true → (state S.Store conn.old).marks ≡ [] → IfOk result (λ outcome. IsDesk (tables S.Store conn.new) × TriesPair (content_in (tables S.Store conn.old)) pair.now.number outcome (content_in (tables S.Store conn.new)))) }
     ensures trial { IsTrial result (state S.Store conn.old) (state S.Store conn.new) (Stays (state S.Store conn.old) (state S.Store conn.new)) }
 {
-    let outcome = move_both(conn, &pair.earlier, &pair.later)?;
+    in_order(pair.mate, pair.number)?;
+    let outcome = move_both(conn, pair)?;
     close(conn, pair, outcome)?;
     release(conn)?;
     Ok(outcome)
@@ -295,8 +244,7 @@ pub fn settle_told<S: Alter>(conn: &mut Connection<S>, told: &KnownPair) -> Resu
         → (state S.Store conn.old).in_transaction ≡ true → (state S.Store conn.old).marks ≡ [] → IfOk result (λ outcome. IsDesk (tables S.Store conn.new) × TriesPair (content_in (tables S.Store conn.old)) told.now.number outcome (content_in (tables S.Store conn.new)))) }
     ensures trial { IsTrial result (state S.Store conn.old) (state S.Store conn.new) (Stays (state S.Store conn.old) (state S.Store conn.new)) }
 {
-    let pair = pair_of(told.mate, told.number, told.earlier, told.later)?;
-    settle_found(conn, &pair)
+    settle_found(conn, told)
 }
 
 /// Lets both instructions of a matched pair, by their numbers, wait for what it lacks.

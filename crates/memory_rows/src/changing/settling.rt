@@ -1,20 +1,20 @@
 //! A pair, settled in the lists.
 ghost use Rattle.std.specs.Prelude.{◌≡◌, ◌<◌, ◌≤◌, ◌+◌, ◌^◌, ◌↔◌, ℕ, Some, None, false, length, IfOk, IsTrue, OnOk, true};
-ghost use Rattle.desk_register.specs.Changes.{CanSettle, FitsCash, HasCash, LacksCash, TriesPair, standing_both};
+ghost use Rattle.desk_register.specs.Changes.{CanSettle, FitsCash, HasCash, LacksCash, SidesFit, TriesPair, TriesSides, standing_both};
+ghost use Rattle.desk_register.specs.Told.{IsKnownAt};
 ghost use Rattle.memory_rows.specs.Balanced.{IsSound};
 ghost use Rattle.memory_rows.specs.Lists.{balance_in, content_in, listed, standing_in, undone};
-ghost use Rattle.memory_rows.specs.Transfers.{IsTransferAt, TransferFits, TriesTransfer};
 ghost use Rattle.memory_rows.specs.Moves.{with_less, with_more, SameBooks, SameEntries, SameTotals, moved_between, paid_between};
 
 use crate::balance_key::BalanceKey;
 use crate::balances::{add_to, balance_of, take_from};
 use crate::changing::standings::stand_both;
-use crate::changing::transfer::{Transfer, Tried, transfer_of};
+use crate::changing::tried::{Tried, pair_of};
 use crate::lists::{Change, Lists};
 use crate::looking::by_number::standing;
 use desk_codes::Bic;
 use desk_msg::{Cash, Reason};
-use desk_register::Outcome;
+use desk_register::{KnownPair, Outcome};
 use desk_rules::{Lack, Standing, State};
 use std::alloc::AllocError;
 
@@ -106,44 +106,45 @@ fn wait(
     stand_both(lists, changes, mate, number, State::Matched(reason))
 }
 
-/// Tries a pair by what it moves.
-fn settle_transfer(
+/// Tries a pair.
+fn settle_known(
     lists: &mut Lists,
     changes: &mut Vec<Change>,
-    number: u64,
-    mate: u64,
-    transfer: &Transfer,
+    pair: &KnownPair,
 ) -> Result<Outcome, AllocError>
-    requires some { 0 < mate }
-    requires two { mate < number }
-    requires known { number ≤ length lists.old.kept.items }
-    requires fits { TransferFits (content_in (listed lists.old)) transfer.now }
-    ensures settled { IfOk result (λ outcome. TriesTransfer (content_in (listed lists.old)) number mate transfer.now outcome (content_in (listed lists.new))) }
+    requires some { 0 < pair.now.mate }
+    requires two { pair.now.mate < pair.now.number }
+    requires known { pair.now.number ≤ length lists.old.kept.items }
+    requires fits { SidesFit (content_in (listed lists.old)) pair.now.earlier pair.now.later }
+    ensures settled { IfOk result (λ outcome. TriesSides (content_in (listed lists.old)) pair.now.number pair.now.mate pair.now.earlier pair.now.later outcome (content_in (listed lists.new))) }
     ensures rest { OnOk result (SameTotals (listed lists.old) (listed lists.new)) }
     ensures before { undone changes.new.items (listed lists.new) ≡ undone changes.old.items (listed lists.old) }
 {
-    let isin = transfer.isin;
-    let quantity = transfer.quantity;
-    let cash = transfer.cash;
+    let KnownPair { mate, number, .. } = *pair;
+    let from = pair.deliverer();
+    let to = pair.receiver();
+    let isin = pair.later.instruction.isin;
+    let quantity = pair.later.instruction.quantity;
+    let cash = pair.later.instruction.cash;
     let given = BalanceKey::Position {
-        account: transfer.given,
+        account: from.instruction.account,
         isin,
     };
     if balance_of(lists, &given) < quantity {
         wait(lists, changes, mate, number, Reason::Lack)?;
         return Ok(Outcome::Lacks(Lack::Securities));
     }
-    if lacks_cash(lists, transfer.receiver, cash) {
+    if lacks_cash(lists, to.sender, cash) {
         wait(lists, changes, mate, number, Reason::Money)?;
         return Ok(Outcome::Lacks(Lack::Money));
     }
     let taken = BalanceKey::Position {
-        account: transfer.taken,
+        account: to.instruction.account,
         isin,
     };
     stand_both(lists, changes, mate, number, State::Settled)?;
     move_between(lists, changes, given, taken, quantity)?;
-    pay(lists, changes, transfer.receiver, transfer.deliverer, cash)?;
+    pay(lists, changes, to.sender, from.sender, cash)?;
     Ok(Outcome::Settled)
 }
 
@@ -157,16 +158,12 @@ pub fn try_settle(
     requires fits { (day : ℕ) × CanSettle (content_in (listed lists.old)) number day }
     requires sound { IsSound (listed lists.old) }
     ensures settled { IfOk result (λ tried. TriesPair (content_in (listed lists.old)) number tried.outcome (content_in (listed lists.new))) }
-    ensures moves { IfOk result (λ tried. IsTransferAt (content_in (listed lists.old)) number tried.mate tried.transfer) }
+    ensures known { IfOk result (λ tried. IsKnownAt (content_in (listed lists.old)) number tried.pair) }
     ensures sound { OnOk result (IsSound (listed lists.new)) }
     ensures before { undone changes.new.items (listed lists.new) ≡ undone changes.old.items (listed lists.old) }
 {
     let mate = standing(lists, number).mate.unwrap();
-    let transfer = transfer_of(lists, mate, number);
-    let outcome = settle_transfer(lists, changes, number, mate, &transfer)?;
-    Ok(Tried {
-        mate,
-        transfer,
-        outcome,
-    })
+    let pair = pair_of(lists, mate, number);
+    let outcome = settle_known(lists, changes, &pair)?;
+    Ok(Tried { pair, outcome })
 }

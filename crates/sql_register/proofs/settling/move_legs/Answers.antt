@@ -10,14 +10,14 @@ use Rattle.sql_register.proofs.settling.move_legs.Goals as goal
 
 pub take_held-requires-clause-small : goal.take_held-requires-clause-small
 take_held-requires-clause-small g c =
-    let i = c.args.later.now.instruction in
+    let i = c.args.pair.now.later.instruction in
     let short = short_quantity i.quantity (search rules) i.short in
     let room : 10 ^ 18 < 2 ^ 63 = lit< tt in
     omega (arith, short, room)
 
 pub put_held-requires : goal.put_held-requires
 put_held-requires g c =
-    let i = c.args.later.now.instruction in
+    let i = c.args.pair.now.later.instruction in
     let short = short_quantity i.quantity (search rules) i.short in
     let room : 10 ^ 18 < 2 ^ 63 = lit< tt in
     record { small = omega (arith, short, room) }
@@ -35,17 +35,17 @@ returns-clause-changed g c clean is_open has amounts fits =
     let m1 = c.in_ok-take_held.ensures.write.ok clean1 is_open has in
     let m2 = c.in_ok-take_cash.ensures.write.ok clean2 m1.is_open m1.schema in
     let m3 = c.in_ok-put_held.ensures.write.ok clean3 m2.is_open m2.schema in
-    let earlier = c.args.earlier.now in
-    let later = c.args.later.now in
-    let from = c.delivery-from.result.now in
-    let to = c.receipt-to.result.now in
+    let earlier = c.args.pair.now.earlier in
+    let later = c.args.pair.now.later in
+    let from = c.deliverer-from.result.now in
+    let to = c.receiver-to.result.now in
     let takes = subst (λ (r : Bool). TakesHeld s0.now s1.now from.instruction.account later.instruction.isin later.instruction.quantity r) c.if-not-branch.false
     (c.in_ok-take_held.ensures.changed clean1 is_open has amounts) in
     let pays = subst (λ (r : Bool). TakesCash s1.now s2.now to.sender later.instruction.cash r) c.if-not-branch-2.false
     (c.in_ok-take_cash.ensures.changed clean2 m1.is_open m1.schema takes.1.kept) in
-    let gives = c.in_ok-put_held.ensures.changed clean3 m2.is_open m2.schema pays.1.kept (put_fits s0.now s1.now s2.now s3.now s4.now earlier later from to c.delivery-from.ensures c.receipt-to.ensures fits takes pays) in
-    let paid = c.in_ok-put_cash.ensures.changed clean m3.is_open m3.schema gives.kept (pay_fits s0.now s1.now s2.now s3.now s4.now earlier later from to c.delivery-from.ensures c.receipt-to.ensures fits takes pays gives) in
-    legs_settled s0.now s1.now s2.now s3.now s4.now earlier later from to c.delivery-from.ensures c.receipt-to.ensures takes pays gives paid
+    let gives = c.in_ok-put_held.ensures.changed clean3 m2.is_open m2.schema pays.1.kept (put_fits s0.now s1.now s2.now s3.now s4.now earlier later from to c.deliverer-from.ensures c.receiver-to.ensures fits takes pays) in
+    let paid = c.in_ok-put_cash.ensures.changed clean m3.is_open m3.schema gives.kept (pay_fits s0.now s1.now s2.now s3.now s4.now earlier later from to c.deliverer-from.ensures c.receiver-to.ensures fits takes pays gives) in
+    legs_settled s0.now s1.now s2.now s3.now s4.now earlier later from to c.deliverer-from.ensures c.receiver-to.ensures takes pays gives paid
 
 pub returns-in_err-take_cash-clause-write : goal.returns-in_err-take_cash-clause-write
 returns-in_err-take_cash-clause-write g c =

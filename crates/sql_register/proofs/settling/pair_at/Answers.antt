@@ -1,31 +1,14 @@
-use Rattle.std.proofs.Common.{◌≡◌, ◌∙◌, ap, arith, ℕ, subst, sym, Result, Ok, Err, IfOk, Some}
+use Rattle.std.proofs.Common.{◌≡◌, ◌∙◌, ap, arith, refl, subst, sym}
 use Rattle.sqlite.specs.Effect.{Database}
 use Rattle.sqlite.specs.Held.{state}
 use Rattle.sqlite.specs.State.{HasCleanDisk}
-use Rattle.sqlite.specs.declared.error.Error.{Error}
-use Rattle.desk_register.specs.Changes.{IsPairAt}
-use Rattle.desk_rules.specs.Content.{Content, history_of}
-use Rattle.desk_rules.specs.declared.history.entry.Instructed.{Instructed}
+use Rattle.desk_rules.specs.Content.{history_of}
 use Rattle.desk_rules.specs.History.{instruction_at}
 use Rattle.sql_tables.specs.Schema.{desk_schema}
 use Rattle.sql_register.specs.Content.{content_in}
 use Rattle.sql_register.specs.Facts.{AreFactsOf}
 use Rattle.sql_register.specs.Holds.{IsDesk}
-use Rattle.sql_register.specs.declared.settling.FoundPair.{FoundPair}
-use Rattle.sql_register.proofs.FactLemmas.{on_ok}
 use Rattle.sql_register.proofs.settling.pair_at.Goals as goal
-
-found : (content : Content) (mate number : ℕ) (earlier later : Instructed) (r : Result FoundPair Error) → IsPairAt content number mate earlier later
-    → IfOk r (λ p. (p.mate ≡ mate) × (p.number ≡ number) × (p.earlier ≡ earlier) × (p.later ≡ later)) → IfOk r (λ p. (p.number ≡ number) × IsPairAt content number p.mate p.earlier p.later)
-found content mate number earlier later (Ok p) is same = (
-  same.1,
-  record {
-    is_later = is.is_later ∙ ap Some (sym same.3);
-    has_mate = is.has_mate ∙ ap Some (sym same.0);
-    is_earlier = ap (instruction_at (history_of content)) same.0 ∙ is.is_earlier ∙ ap Some (sym same.2);
-  },
-)
-found content mate number earlier later (Err e) is same = tt
 
 pub returns-clause-value : goal.returns-clause-value
 returns-clause-value g c clean is_open has desk facts =
@@ -42,14 +25,14 @@ returns-clause-value g c clean is_open has desk facts =
     let same : s2.now ≡ s0.now = same2.now ∙ same1.now in
     let desk2 : IsDesk s2.now = subst IsDesk (sym same) desk in
     let noted = c.in_ok-later.ensures.noted clean1 is_open has desk facts in
-    let facts2 : AreFactsOf c.instruction.new.facts (content_in s2.now).register = subst (λ (d : Database). AreFactsOf c.instruction.new.facts (content_in d).register) (sym same) noted in
-    found (content_in s0.now) c.in_ok-mate.mate c.args.number c.in_ok-earlier.earlier c.in_ok-later.later c.pair_of.result
-    (record {
-      is_later = c.in_ok-later.ensures.value clean1 is_open has desk facts;
-      has_mate = ap (λ (d : Database). ((content_in d).standing c.args.number).mate) (sym same1.now) ∙ c.in_ok-mate.ensures.value clean2 same1.is_open has1 desk1;
-      is_earlier = ap (λ (d : Database). instruction_at (history_of (content_in d)) c.in_ok-mate.mate) (sym same) ∙ c.in_ok-earlier.ensures.value clean same2.is_open has2 desk2 facts2;
-    })
-    c.pair_of.ensures.value
+    let facts2 : AreFactsOf c.instruction.new.facts (content_in s2.now).register = subst (λ (d : Database). AreFactsOf c.instruction.new.facts (content_in d).register) (sym same) noted in (
+      refl,
+      record {
+        is_later = c.in_ok-later.ensures.value clean1 is_open has desk facts;
+        has_mate = ap (λ (d : Database). ((content_in d).standing c.args.number).mate) (sym same1.now) ∙ c.in_ok-mate.ensures.value clean2 same1.is_open has1 desk1;
+        is_earlier = ap (λ (d : Database). instruction_at (history_of (content_in d)) c.in_ok-mate.mate) (sym same) ∙ c.in_ok-earlier.ensures.value clean same2.is_open has2 desk2 facts2;
+      },
+    )
 
 pub returns-clause-noted : goal.returns-clause-noted
 returns-clause-noted g c clean is_open has desk facts =
@@ -65,4 +48,4 @@ returns-clause-noted g c clean is_open has desk facts =
     let same : s2.now ≡ s0.now = same2.now ∙ same1.now in
     let noted = c.in_ok-later.ensures.noted clean1 is_open has desk facts in
     let facts2 : AreFactsOf c.instruction.new.facts (content_in s2.now).register = subst (λ (d : Database). AreFactsOf c.instruction.new.facts (content_in d).register) (sym same) noted in
-    on_ok (AreFactsOf c.instruction-2.new.facts (content_in s0.now).register) c.pair_of.result (subst (λ (d : Database). AreFactsOf c.instruction-2.new.facts (content_in d).register) same (c.in_ok-earlier.ensures.noted clean same2.is_open has2 (subst IsDesk (sym same) desk) facts2))
+    subst (λ (d : Database). AreFactsOf c.instruction-2.new.facts (content_in d).register) same (c.in_ok-earlier.ensures.noted clean same2.is_open has2 (subst IsDesk (sym same) desk) facts2)

@@ -44,9 +44,9 @@ invariant_of-self-in-Ok c =
     let can = c.requires.fits tt tt in
     let indexed = after_settle r.known r.unmatched r.matched r.matched r.noted.items (view_of_rows r.held) held tt tt tt c.requires.stage r.indexed (λ q there. there)
     (Ok t.outcome) c.args.number can (λ honest sure. c.in-Ok.ensures.settled) change.ok change.err in
-    let tried = has_tried old held.content c.args.number t.mate (number_of c.args.day) t.transfer t.outcome c.in-Ok.ensures.moves can c.in-Ok.ensures.settled in
+    let tried = has_tried old held.content c.args.number (number_of c.args.day) t.pair t.outcome c.in-Ok.ensures.known can c.in-Ok.ensures.settled in
     let same : c.reserve.new.self.items ≡ r.touched.items = search rules in
-    let then = c.touch_settled.ensures ∙ ap (then_touched t.outcome t.mate c.args.number) same in
+    let then = c.touch_settled.ensures ∙ ap (then_touched t.outcome t.pair.mate c.args.number) same in
     record {
       indexed = retidied r.known r.unmatched c.tidy_settled.new.numbers r.matched c.tidy_settled.new.places r.noted.items c.noted_count-noted.result held
           (still_begun (view_of_rows r.held) held c.requires.stage change.ok) c.noted_count-noted.ensures c.tidy_settled.ensures.unmatched c.tidy_settled.ensures.matched indexed;
@@ -54,13 +54,13 @@ invariant_of-self-in-Ok c =
       matched_only = only_changed r.matched c.tidy_settled.new.places r.noted.items r.noted.items r.touched.items c.touch_settled.new.touched.items (view_of_rows r.held) held (change.ok.mark tt tt)
           (fewer_placed r.matched c.tidy_settled.new.places (history_of (view_of_rows r.held).mark ++ r.noted.items) c.tidy_settled.ensures.fewer r.matched_only.placed)
           (λ content only. subst (AreMatched c.tidy_settled.new.places content) (sym then)
-          (touched_then c.tidy_settled.new.places content r.touched.items c.args.number t.mate t.outcome (fewer_matched r.matched c.tidy_settled.new.places content r.touched.items c.tidy_settled.ensures.fewer only)))
+          (touched_then c.tidy_settled.new.places content r.touched.items c.args.number t.pair.mate t.outcome (fewer_matched r.matched c.tidy_settled.new.places content r.touched.items c.tidy_settled.ensures.fewer only)))
           (subst (AreMatched c.tidy_settled.new.places held.content) (sym then)
-          (only_tried c.tidy_settled.new.places r.touched.items old held.content c.args.number t.mate tried.0 tried.1 t.outcome tried.2
+          (only_tried c.tidy_settled.new.places r.touched.items old held.content c.args.number t.pair.mate tried.0 tried.1 t.outcome tried.2
           (fewer_matched r.matched c.tidy_settled.new.places old r.touched.items c.tidy_settled.ensures.fewer (r.matched_only.now (begun_is_not_failed (view_of_rows r.held).stage c.requires.stage)))))
           r.matched_only;
       shortages_known = short_of c.note_tried.new.self held held.content refl
-          (knows_tried r.shortages c.note_tried.new.self old held.content c.args.number t.mate t.transfer t.outcome tried.0 tried.1 c.in-Ok.ensures.moves tried.2 c.note_tried.ensures (known_begun r.shortages (view_of_rows r.held) c.requires.stage r.shortages_known));
+          (knows_tried r.shortages c.note_tried.new.self old held.content c.args.number t.pair t.outcome tried.0 tried.1 c.in-Ok.ensures.known tried.2 c.note_tried.ensures (known_begun r.shortages (view_of_rows r.held) c.requires.stage r.shortages_known));
       rows_ahead = nothing_ahead held c.clear.new.self c.clear.ensures;
       rows_summed = nothing_summed held c.clear-2.new.self c.clear-2.ensures.known c.clear-2.ensures.counted;
     }

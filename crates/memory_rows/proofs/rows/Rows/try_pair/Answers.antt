@@ -1,6 +1,9 @@
 use Rattle.desk_codes.specs.Number.{number_of}
-use Rattle.std.proofs.Common.{refl, ap, arith}
-use Rattle.desk_register.proofs.ViewLemmas.{begun_goes, change_ok}
+use Rattle.std.proofs.Common.{◌≡◌, ◌∙◌, refl, ap, arith, sym}
+use Rattle.desk_register.specs.View.{fallen}
+use Rattle.desk_register.specs.declared.register.Fault.TheVariants.{Memory}
+use Rattle.desk_register.specs.declared.register.Stage.TheVariants.{Begun, Idle}
+use Rattle.desk_register.proofs.ViewLemmas.{begun_goes, blames_memory, change_ok}
 use Rattle.memory_rows.specs.Lists.{content_in}
 use Rattle.memory_rows.proofs.rows.Rows.try_pair.Goals as goal
 
@@ -12,3 +15,15 @@ try_settle-requires-clause-sound c = c.args.self.now.sound (begun_goes c.args.se
 
 pub returns-in-Ok-clause-change : goal.returns-in-Ok-clause-change
 returns-in-Ok-clause-change c = change_ok c.in-Ok.tried _ _ (record { stage = refl; sure = λ h s. tt; mark = λ h s. ap content_in c.in-Ok.ensures.before; failures = λ h few. refl }) (record { honest = λ h. h; sure = λ h s. s; failures = omega arith; room = refl })
+
+pub returns-in-Err-clause-change : goal.returns-in-Err-clause-change
+returns-in-Err-clause-change c = record {
+  ok = tt;
+  err = record {
+    stage = sym (ap fallen c.requires.stage);
+    mark = λ h s. ap content_in c.in-Err.ensures.before;
+    content = λ h s idle. (let clash : Begun ≡ Idle = sym c.requires.stage ∙ idle in absurd (cc));
+  };
+  later = record { honest = λ h. h; sure = λ h s. s; failures = omega arith; room = refl };
+  blame = blames_memory Memory _ _ refl (λ honest few. refl);
+}
