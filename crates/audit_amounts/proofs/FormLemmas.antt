@@ -104,9 +104,10 @@ all_apart (x ∷ xs) all up keyed = (each_apart x xs all.0 all.1 up.0 keyed.0, a
 pub record IsFormedTable (rows : List Row) : Type 0 where
   pub formed : AllByRecursion IsFormed rows
   pub apart : IsAscending AreApart rows
+  pub order : IsTable rows
 
 both : (rows : List Row) → AllByRecursion IsFormed rows → IsTable rows → IsAscending Differ rows → IsFormedTable rows
-both rows all up keyed = record { formed = all; apart = all_apart rows all up keyed }
+both rows all up keyed = record { formed = all; apart = all_apart rows all up keyed; order = up }
 
 pub formed_table : (trees : Trees) → AreInOrder desk_schema trees → AreAllFormed trees → (ledger : Ledger) → IsFormedTable (trees (tree_of ledger))
 formed_table trees order formed Balance = both (trees 0) (balance_rows (trees 0) formed.0.each) (order balance_table (inl refl)).0 formed.0.keyed.0

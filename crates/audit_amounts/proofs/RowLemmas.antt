@@ -59,7 +59,7 @@ module _ (content : Content) (ledger : Ledger) where
   true_table db rows form same all =
       let mine = db.trees (tree_of ledger) in
       let shows = unmapped mine (recursion_from_All (ShowsTrue content ledger) (map shown mine) (All-permutation (ShowsTrue content ledger) rows (map shown mine) (IsPermutation-sym (map shown mine) rows same) all)) in
-      record { rows = record { stored = all_stored mine form.formed shows; apart = form.apart }; each = all_true mine shows }
+      record { rows = record { stored = all_stored mine form.formed shows; apart = form.apart; order = form.order }; each = all_true mine shows }
 
 -- in the form of the calls' clauses
 pub table_told : (db : Database) (content : Content) (ledger : Ledger) (rows given : List Row) → AreInOrder desk_schema db.trees → AreAllFormed db.trees → IsPermutation (map shown (db.trees (tree_of ledger))) rows → given ≡ rows

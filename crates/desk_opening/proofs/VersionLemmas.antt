@@ -77,7 +77,7 @@ module _ {X : Type 0} (items : X → List Row) (old new : State) (sql : List ℕ
 -- ---- one call after another
 
 pub spares_none : (a : State) → Spares a a
-spares_none a = record { later = record { clean = omega arith; faults = omega arith }; opened = λ clean now. now; kept = λ clean now. refl }
+spares_none a = record { later = record { clean = omega arith; faults = omega arith; limit = refl }; opened = λ clean now. now; kept = λ clean now. refl }
 
 pub spares_then : (a b c : State) → Spares a b → Spares b c → Spares a c
 spares_then a b c p q = record {

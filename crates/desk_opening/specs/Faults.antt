@@ -2,7 +2,7 @@
 use Rattle.std.specs.Prelude.{ℕ, Bool, true, false}
 use Rattle.sqlite.specs.declared.error.Error.{Error}
 use Rattle.sqlite.specs.declared.error.Error.TheVariants.{SqliteFailure}
-use Rattle.sqlite.specs.declared.error.ErrorCode.TheVariants.{DatabaseCorrupt, NotADatabase, OutOfMemory, TooBig}
+use Rattle.sqlite.specs.declared.error.ErrorCode.TheVariants.{DatabaseCorrupt, NoRowid, NotADatabase, OutOfMemory, TooBig}
 use Rattle.desk_register.specs.declared.register.Fault.{Fault}
 use Rattle.desk_register.specs.declared.register.Fault.TheVariants as register
 use Rattle.audit_rows.specs.declared.fault.AuditFault.{AuditFault}
@@ -17,10 +17,12 @@ number_of_fault OtherVersion = 51
 number_of_fault Memory = 60
 number_of_fault Storage = 61
 
--- want of memory, and a value too large, are told as that; what is no database is not ours; the device is blamed for the rest
+-- want of memory, a value too large and a table with no number left for a row are told as that; what is no database is not ours; the
+-- device is blamed for the rest
 abbrev pub fault_for : Error → OpenFault
 fault_for (SqliteFailure OutOfMemory) = Memory
 fault_for (SqliteFailure TooBig) = Memory
+fault_for (SqliteFailure NoRowid) = Memory
 fault_for (SqliteFailure NotADatabase) = NotOurFile NoDatabase
 fault_for error = Storage
 

@@ -55,6 +55,7 @@ pub fn fault_of(error: &Error) -> OpenFault
     match error {
         Error::SqliteFailure(ErrorCode::OutOfMemory) => OpenFault::Memory,
         Error::SqliteFailure(ErrorCode::TooBig) => OpenFault::Memory,
+        Error::SqliteFailure(ErrorCode::NoRowid) => OpenFault::Memory,
         Error::SqliteFailure(ErrorCode::NotADatabase) => {
             OpenFault::NotOurFile(Difference::NoDatabase)
         }

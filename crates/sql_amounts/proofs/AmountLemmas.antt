@@ -2,6 +2,7 @@
 use Rattle.std.proofs.Common.{◌≡◌, inl, inr, ℕ, ◌+◌, ◌<◌, List, [], ◌∷◌, Bool, true, false, cond, None, Some, Option, unwrap_or, sym, ap, subst, refl, ◌∙◌, arith}
 use Rattle.std.specs.List.Sorted.{IsPermutation}
 use Rattle.sqlite.specs.Effect.{Database}
+use Rattle.sqlite.specs.Tree.{IsTable}
 use Rattle.sql_amounts.specs.declared.key.Ledger.{Ledger}
 use Rattle.sql_amounts.specs.declared.key.Ledger.TheVariants.{Balance, Cash, Total}
 use Rattle.sql_amounts.specs.declared.key.AmountKey.{AmountKey}
@@ -32,8 +33,8 @@ pub same_recorded : (a b : Database) → SameAmounts a b → (ledger : Ledger) (
 same_recorded a b same ledger first second = ap (λ rows. recorded rows (first, second)) (sym (same_tree a b same ledger))
 
 -- where the tables have the rows of others in another order, they are well formed too
-pub permuted_amounts : (a b : Database) → ((ledger : Ledger) → IsPermutation (a.trees (tree_of ledger)) (b.trees (tree_of ledger))) → AreAmounts a → AreAmounts b
-permuted_amounts a b same amounts ledger = permuted_rows (a.trees (tree_of ledger)) (b.trees (tree_of ledger)) (same ledger) (amounts ledger)
+pub permuted_amounts : (a b : Database) → ((ledger : Ledger) → IsPermutation (a.trees (tree_of ledger)) (b.trees (tree_of ledger))) → ((ledger : Ledger) → IsTable (b.trees (tree_of ledger))) → AreAmounts a → AreAmounts b
+permuted_amounts a b same order amounts ledger = permuted_rows (a.trees (tree_of ledger)) (b.trees (tree_of ledger)) (same ledger) (amounts ledger) (order ledger)
 
 -- a change of later tables leaves the amounts as they are
 pub spared_amounts : (first end : ℕ) (old new : Database) → 4 < first → SparesOthers first end old new → SameAmounts old new
@@ -71,7 +72,7 @@ module _ (old mid new : Database) (key : AmountKey) (amount : ℕ) (absent : amo
 
 -- tables with no row are well formed
 pub empty_amounts : (db : Database) → ((ledger : Ledger) → db.trees (tree_of ledger) ≡ []) → AreAmounts db
-empty_amounts db none ledger = subst AreAmountRows (sym (none ledger)) (record { stored = tt; apart = tt })
+empty_amounts db none ledger = subst AreAmountRows (sym (none ledger)) (record { stored = tt; apart = tt; order = tt })
 
 -- and record nothing
 pub empty_recorded : (db : Database) → ((ledger : Ledger) → db.trees (tree_of ledger) ≡ []) → (ledger : Ledger) (first second : List ℕ) → amount_in db ledger first second ≡ None

@@ -30,5 +30,5 @@ module _ (old new : State) (has : old.now.schema ≡ desk_schema) (amounts : Are
   module _ (key : AmountKey) (d : ℕ) where
     pub inserted : amount_at old.now key ≡ None → d < 2 ^ 63 → (r : Result ℕ Error) → Executes (first_text (ledger_of key)) (of_texts (texts_of key) (Int (pos d) ∷ [])) old new r
         → OnOk r (SetsAmount old.now new.now key d)
-    inserted absent small (Ok count) h = sets_first old new key d count has amounts absent small h
+    inserted absent small (Ok count) h = sets_first old key d has amounts new count absent small h
     inserted absent small (Err e) h = tt

@@ -14,7 +14,8 @@ use Rattle.sqlite.specs.declared.types.Value.{Value}
 use Rattle.sqlite.specs.declared.types.Value.TheVariants.{Null, Int, Text as Words}
 use Rattle.sqlite.specs.Cast.{cast_row}
 use Rattle.sqlite.specs.Edit.{Edit, IsNoIndex, edit_of, edited, next_rowid, put_all, are_fresh}
-use Rattle.sqlite.specs.Effect.{Database}
+use Rattle.sqlite.specs.Effect.{Database, value_rows}
+use Rattle.sqlite.specs.Rows.{stamped}
 use Rattle.sqlite_rules.specs.Calls.{ids_of}
 use Rattle.sqlite.specs.Kind.TheVariants.{Integer, Text}
 use Rattle.sqlite.specs.Ops.{binary}
@@ -83,10 +84,10 @@ third_name Balance = codes "quantity"
 third_name Cash = codes "amount"
 third_name Total = codes "amount"
 
-abbrev table_of : Ledger → Table
+abbrev pub table_of : Ledger → Table
 table_of ledger = amount_table (name_of ledger) (tree_of ledger) (first_name ledger) (second_name ledger) (third_name ledger)
 
-table_at : (ledger : Ledger) → slice_get desk_schema.tables (place_of ledger) ≡ Some (table_of ledger)
+pub table_at : (ledger : Ledger) → slice_get desk_schema.tables (place_of ledger) ≡ Some (table_of ledger)
 table_at Balance = refl
 table_at Cash = refl
 table_at Total = refl
@@ -236,18 +237,18 @@ spares_all old new ledger left tree outside none = elim (eqb_tells tree (tree_of
 -- ---- an UPDATE
 
 -- an UPDATE of some of the columns
-abbrev update_edit : Trees → Ledger → List Row → Edit
+abbrev pub update_edit : Trees → Ledger → List Row → Edit
 update_edit db ledger rows = edit_of db (table_of ledger) (ids_of rows) Given 1 rows
 
 -- the row that UPDATE shows, as it is written
-cast_stored : (ledger : Ledger) (id : ℤ) (texts : Texts) (n : ℕ) → cast_row (table_of ledger) (Int id ∷ Words texts.0 ∷ Words texts.1 ∷ Int (pos n) ∷ []) ≡ stored id texts n
+pub cast_stored : (ledger : Ledger) (id : ℤ) (texts : Texts) (n : ℕ) → cast_row (table_of ledger) (Int id ∷ Words texts.0 ∷ Words texts.1 ∷ Int (pos n) ∷ []) ≡ stored id texts n
 cast_stored ledger id texts n = rw (cast_int id, cast_int (pos n)) refl
 
 -- what UPDATE shows of one row
-abbrev shown_row : ℤ → Texts → ℕ → Row
+abbrev pub shown_row : ℤ → Texts → ℕ → Row
 shown_row id texts n = Int id ∷ Int id ∷ Words texts.0 ∷ Words texts.1 ∷ Int (pos n) ∷ []
 
-one_edit : (db : Trees) (ledger : Ledger) (id : ℤ) (texts : Texts) (n : ℕ) → edited db (update_edit db ledger (shown_row id texts n ∷ [])) ≡ put_row (stored id texts n) (without_rowid id (db (tree_of ledger)))
+pub one_edit : (db : Trees) (ledger : Ledger) (id : ℤ) (texts : Texts) (n : ℕ) → edited db (update_edit db ledger (shown_row id texts n ∷ [])) ≡ put_row (stored id texts n) (without_rowid id (db (tree_of ledger)))
 one_edit db ledger id texts n = ap (λ r. put_row r (without_rowid id (db (tree_of ledger)))) (cast_stored ledger id texts n)
 
 module _ (old new : Database) (ledger : Ledger) (found : List Row) (count : ℕ) (counted : count ≡ length found) (up : IsEdited old new (update_edit old.trees ledger found)) where
@@ -285,7 +286,7 @@ more_row texts d row it small =
     subst (λ r. eval_all more_shown (of_texts texts (Int (pos d) ∷ []) ∷ r ∷ []) ≡ shown_row it.id it.texts (it.amount + d)) (sym it.is)
     (rw (more it.amount d small) refl)
 
-module _ (old new : State) (key : AmountKey) (d count : ℕ) (has : old.now.schema ≡ desk_schema) (amounts : AreAmounts old.now) where
+module _ (old : State) (key : AmountKey) (d : ℕ) (has : old.now.schema ≡ desk_schema) (amounts : AreAmounts old.now) where
   abbrev own : Ledger
   own = ledger_of key
 
@@ -301,111 +302,130 @@ module _ (old new : State) (key : AmountKey) (d count : ℕ) (has : old.now.sche
   all : AreAmountRows held
   all = amounts own
 
-  module _ (h : Executes (take_text own) params old new (Ok count)) where
-    taken : (found : List Row) × IsAnswer (plain (tree_of own) take_terms less_shown) (overlay old.now.trees []) params found × (count ≡ length found) × IsEdited old.now new.now (update_edit old.now.trees own found)
-    taken = updates old new has (take_text own) params count (place_of own) (table_of own) (table_at own) (take_edit own).plain h (plain (tree_of own) take_terms less_shown) (take_is own)
+  -- what UPDATE shows: no row, for this reason, or the row of the two texts with its new amount
+  abbrev pub Finds : Type 0 → (ℕ → Type 0) → (ℕ → ℕ) → List Row → Type 0
+  Finds Lacks Has change found = ((found ≡ []) × Lacks) ⊎ ((r : Row) × (it : IsStored r) × (filter (is_at texts) held ≡ r ∷ []) × Has it.amount × (found ≡ shown_row it.id it.texts (change it.amount) ∷ []))
 
-    shows : Row → Row
-    shows row = eval_all less_shown (params ∷ row ∷ [])
+  abbrev pub FindsToTake : List Row → Type 0
+  FindsToTake = Finds (IsShort (amount_at old.now key) d) (λ amount. d ≤ amount) (λ amount. amount - d)
 
-    taken_are : IsPermutation (map shows (filter (λ row. nat_le d (amount_on row)) (filter (is_at texts) held))) taken.0
+  abbrev pub FindsToPut : List Row → Type 0
+  FindsToPut = Finds (amount_at old.now key ≡ None) (λ amount. amount + d < 2 ^ 63) (λ amount. amount + d)
+
+  shows : Row → Row
+  shows row = eval_all less_shown (params ∷ row ∷ [])
+
+  module _ (found : List Row) (answer : IsAnswer (plain (tree_of own) take_terms less_shown) (overlay old.now.trees []) params found) where
+    taken_are : IsPermutation (map shows (filter (λ row. nat_le d (amount_on row)) (filter (is_at texts) held))) found
     unfolding shows
     taken_are =
-        subst (λ xs. IsPermutation (map shows xs) taken.0)
+        subst (λ xs. IsPermutation (map shows xs) found)
         (same_found IsStored (passes_all take_terms params) (λ row. is_at texts row && nat_le d (amount_on row)) held (take_test texts d) all.stored ∙ narrow (is_at texts) (λ row. nat_le d (amount_on row)) held)
-        (table_rows own take_terms less_shown old.now.trees params taken.0 taken.1)
+        (table_rows own take_terms less_shown old.now.trees params found answer)
 
-    -- nothing is taken off
-    lacks : IsShort (amount_at old.now key) d → filter (λ row. nat_le d (amount_on row)) (filter (is_at texts) held) ≡ [] → Takes old.now new.now key d (count == 1)
-    lacks short none =
-        let empty = nil_from_length taken.0 (length_permutation [] taken.0 (subst (λ xs. IsPermutation (map shows xs) taken.0) none taken_are)) in
-        let left = left_none old.now new.now own taken.0 count taken.2 taken.3 empty in
-        subst (λ n. Takes old.now new.now key d (n == 1)) (sym left.1) (short, spares_all old.now new.now own left.0)
+    finds_none : IsShort (amount_at old.now key) d → filter (λ row. nat_le d (amount_on row)) (filter (is_at texts) held) ≡ [] → FindsToTake found
+    finds_none short none = inl (nil_from_length found (length_permutation [] found (subst (λ xs. IsPermutation (map shows xs) found) none taken_are)), short)
 
-    takes_off : (r : Row) → filter (is_at texts) held ≡ r ∷ [] → d ≤ amount_on r → filter (λ row. nat_le d (amount_on row)) (filter (is_at texts) held) ≡ r ∷ [] → Takes old.now new.now key d (count == 1)
+    finds_row : (r : Row) → filter (is_at texts) held ≡ r ∷ [] → d ≤ amount_on r → filter (λ row. nat_le d (amount_on row)) (filter (is_at texts) held) ≡ r ∷ [] → FindsToTake found
     unfolding shows
-    takes_off r one enough' passes' =
+    finds_row r one enough' passes' =
         let it = found_stored texts held r all.stored one in
         let worth : amount_on r ≡ it.amount = ap amount_on it.is in
-        let found = one_permutation _ taken.0 (subst (λ xs. IsPermutation (map shows xs) taken.0) passes' taken_are) ∙ ap (λ (x : Row). x ∷ []) (less_row texts d r it (omega (arith, worth))) in
-        let left = left_one old.now new.now own taken.0 count taken.2 taken.3 it.id it.texts (it.amount - d) found in
-        let small : it.amount - d < 2 ^ 63 = omega (arith, it.small) in
-        let had_it : amount_at old.now key ≡ Some it.amount = recorded_one texts held r [] one ∙ ap Some worth in
-        let set = sets_amount old.now new.now key (it.amount - d) (set_rows held all texts r one it (it.amount - d) small) amounts left.0
-        (set_all held all texts r one it (it.amount - d) small) (set_recorded held all texts r one it (it.amount - d) small) in
-        let had_is : it.amount ≡ had old.now key = sym (ap (λ o. unwrap_or o 0) had_it) in
         let high : d ≤ it.amount = omega (arith, worth, enough') in
-        subst (λ n. Takes old.now new.now key d (n == 1)) (sym left.1) (subst (λ n. (d ≤ n) × SetsAmount old.now new.now key (n - d)) had_is (high, set))
+        inr (r, it, one, high, one_permutation _ found (subst (λ xs. IsPermutation (map shows xs) found) passes' taken_are) ∙ ap (λ (x : Row). x ∷ []) (less_row texts d r it high))
 
-    pub takes : Takes old.now new.now key d (count == 1)
-    takes = elim (once texts held all.apart) [
-      | inl none ↦ lacks (subst (λ o. IsShort o d) (sym (recorded_none texts held none)) tt) (ap (filter (λ row. nat_le d (amount_on row))) none)
+    pub take_finds : FindsToTake found
+    take_finds = elim (once texts held all.apart) [
+      | inl none ↦ finds_none (subst (λ o. IsShort o d) (sym (recorded_none texts held none)) tt) (ap (filter (λ row. nat_le d (amount_on row))) none)
       | inr one ↦ elim (cases_Bool (nat_le d (amount_on one.0))) [
-        | inl high ↦ takes_off one.0 one.1 (leb-true d (amount_on one.0) high) (ap (filter (λ row. nat_le d (amount_on row))) one.1 ∙ ap (λ b. cond b (one.0 ∷ []) []) high)
-        | inr low ↦ lacks (subst (λ o. IsShort o d) (sym (recorded_one texts held one.0 [] one.1)) (omega (arith, leb-false d (amount_on one.0) low)))
+        | inl high ↦ finds_row one.0 one.1 (leb-true d (amount_on one.0) high) (ap (filter (λ row. nat_le d (amount_on row))) one.1 ∙ ap (λ b. cond b (one.0 ∷ []) []) high)
+        | inr low ↦ finds_none (subst (λ o. IsShort o d) (sym (recorded_one texts held one.0 [] one.1)) (omega (arith, leb-false d (amount_on one.0) low)))
             (ap (filter (λ row. nat_le d (amount_on row))) one.1 ∙ ap (λ b. cond b (one.0 ∷ []) []) low)
       ]
     ]
 
-  -- ---- putting on
+  shown_more : Row → Row
+  shown_more row = eval_all more_shown (params ∷ row ∷ [])
 
-  module _ (small : had old.now key + d < 2 ^ 63) (h : Executes (put_text own) params old new (Ok count)) where
-    raised : (found : List Row) × IsAnswer (plain (tree_of own) key_terms more_shown) (overlay old.now.trees []) params found × (count ≡ length found) × IsEdited old.now new.now (update_edit old.now.trees own found)
-    raised = updates old new has (put_text own) params count (place_of own) (table_of own) (table_at own) (put_edit own).plain h (plain (tree_of own) key_terms more_shown) (put_is own)
-
-    shown_more : Row → Row
-    shown_more row = eval_all more_shown (params ∷ row ∷ [])
-
-    raised_are : IsPermutation (map shown_more (filter (is_at texts) held)) raised.0
+  module _ (small : had old.now key + d < 2 ^ 63) (found : List Row) (answer : IsAnswer (plain (tree_of own) key_terms more_shown) (overlay old.now.trees []) params found) where
+    raised_are : IsPermutation (map shown_more (filter (is_at texts) held)) found
     unfolding shown_more
     raised_are =
-        subst (λ xs. IsPermutation (map shown_more xs) raised.0) (same_found IsStored (passes_all key_terms params) (is_at texts) held (λ row it. key_test texts (Int (pos d) ∷ []) row it) all.stored)
-        (table_rows own key_terms more_shown old.now.trees params raised.0 raised.1)
+        subst (λ xs. IsPermutation (map shown_more xs) found) (same_found IsStored (passes_all key_terms params) (is_at texts) held (λ row it. key_test texts (Int (pos d) ∷ []) row it) all.stored)
+        (table_rows own key_terms more_shown old.now.trees params found answer)
 
-    -- nothing is put on
-    puts_none : filter (is_at texts) held ≡ [] → Raises old.now new.now key d (count == 1)
-    puts_none none =
-        let empty = nil_from_length raised.0 (length_permutation [] raised.0 (subst (λ xs. IsPermutation (map shown_more xs) raised.0) none raised_are)) in
-        let left = left_none old.now new.now own raised.0 count raised.2 raised.3 empty in
-        subst (λ n. Raises old.now new.now key d (n == 1)) (sym left.1) (recorded_none texts held none, spares_all old.now new.now own left.0)
-
-    puts_on : (r : Row) → filter (is_at texts) held ≡ r ∷ [] → Raises old.now new.now key d (count == 1)
+    pub put_finds : FindsToPut found
     unfolding shown_more
-    puts_on r one =
-        let it = found_stored texts held r all.stored one in
-        let worth : amount_on r ≡ it.amount = ap amount_on it.is in
-        let had_it : amount_at old.now key ≡ Some it.amount = recorded_one texts held r [] one ∙ ap Some worth in
-        let had_is : it.amount ≡ had old.now key = sym (ap (λ o. unwrap_or o 0) had_it) in
-        let fits : it.amount + d < 2 ^ 63 = omega (arith, had_is, small) in
-        let found = one_permutation _ raised.0 (subst (λ xs. IsPermutation (map shown_more xs) raised.0) one raised_are) ∙ ap (λ (x : Row). x ∷ []) (more_row texts d r it fits) in
-        let left = left_one old.now new.now own raised.0 count raised.2 raised.3 it.id it.texts (it.amount + d) found in
-        let set = sets_amount old.now new.now key (it.amount + d) (set_rows held all texts r one it (it.amount + d) fits) amounts left.0
-        (set_all held all texts r one it (it.amount + d) fits) (set_recorded held all texts r one it (it.amount + d) fits) in
-        subst (λ n. Raises old.now new.now key d (n == 1)) (sym left.1) (subst (λ n. SetsAmount old.now new.now key (n + d)) had_is set)
-
-    pub puts : Raises old.now new.now key d (count == 1)
-    puts = elim (once texts held all.apart) [
-      | inl none ↦ puts_none none
-      | inr one ↦ puts_on one.0 one.1
+    put_finds = elim (once texts held all.apart) [
+      | inl none ↦ inl (nil_from_length found (length_permutation [] found (subst (λ xs. IsPermutation (map shown_more xs) found) none raised_are)), recorded_none texts held none)
+      | inr one ↦ (
+          let it = found_stored texts held one.0 all.stored one.1 in
+          let had_is : it.amount ≡ had old.now key = sym (ap (λ o. unwrap_or o 0) (recorded_one texts held one.0 [] one.1 ∙ ap (λ row. Some (amount_on row)) it.is)) in
+          let fits : it.amount + d < 2 ^ 63 = omega (arith, had_is, small) in
+          inr (one.0, it, one.1, fits, one_permutation _ found (subst (λ xs. IsPermutation (map shown_more xs) found) one.1 raised_are) ∙ ap (λ (x : Row). x ∷ []) (more_row texts d one.0 it fits)))
     ]
+
+  -- the rows once the row has another amount
+  module _ (r : Row) (it : IsStored r) (one : filter (is_at texts) held ≡ r ∷ []) (amount : ℕ) (small : amount < 2 ^ 63) where
+    pub row_set : AreAmountRows (put_row (stored it.id it.texts amount) (without_rowid it.id held))
+    row_set = set_all held all texts r one it amount small
+
+    pub amount_set : (new : Database) → LeavesRows old.now new own (put_row (stored it.id it.texts amount) (without_rowid it.id held)) → SetsAmount old.now new key amount
+    amount_set new left = sets_amount old.now new key amount (set_rows held all texts r one it amount small) amounts left row_set (set_recorded held all texts r one it amount small)
+
+  pub had_one : (r : Row) (it : IsStored r) → filter (is_at texts) held ≡ r ∷ [] → it.amount ≡ had old.now key
+  had_one r it one = sym (ap (λ o. unwrap_or o 0) (recorded_one texts held r [] one ∙ ap (λ row. Some (amount_on row)) it.is))
 
   -- ---- the first row of a key
 
-  module _ (absent : amount_at old.now key ≡ None) (small : d < 2 ^ 63) (h : Executes (first_text own) params old new (Ok count)) where
+  pub first_news : (rows : List Row) → rows ≡ value_rows (stamped (table_of own) params) 4 1 first_terms → (edit_of old.now.trees (table_of own) [] Chosen 0 rows).news ≡ stored (next_rowid held) texts d ∷ []
+  first_news rows is = ap (λ rows. (edit_of old.now.trees (table_of own) [] Chosen 0 rows).news) is ∙ rw (cast_null, cast_int (pos d)) refl
+
+  module _ (absent : amount_at old.now key ≡ None) (small : d < 2 ^ 63) where
     none_found : filter (is_at texts) held ≡ []
     none_found = elim (once texts held all.apart) [
       | inl none ↦ none
       | inr one ↦ absurd (let e : None ≡ Some (amount_on one.0) = sym absent ∙ recorded_one texts held one.0 [] one.1 in cc)
     ]
 
-    pub sets_first : SetsAmount old.now new.now key d
-    sets_first =
-        let db = old.now.trees in
-        let table = table_of own in
-        let made = inserts old new has (first_text own) params count (place_of own) table (table_at own) (first_edit own).plain h first_terms 4 refl (first_is own) in
+    pub first_set : list_any (λ r. is_eq (value_cmp (rowid r) (Int (next_rowid held)))) held ≡ false → AreAmountRows (put_row (stored (next_rowid held) texts d) held)
+    first_set fresh = first_all held all texts none_found (next_rowid held) d small fresh
+
+  -- ---- what is done
+
+  module _ (new : State) (count : ℕ) where
+    pub takes : Executes (take_text own) params old new (Ok count) → Takes old.now new.now key d (count == 1)
+    takes h =
+        let done = updates old new has (take_text own) params count (place_of own) (table_of own) (table_at own) (take_edit own).plain h (plain (tree_of own) take_terms less_shown) (take_is own) in
+        elim (take_finds done.0 done.1) [
+          | inl lacks ↦ (
+              let left = left_none old.now new.now own done.0 count done.2 done.3 lacks.0 in
+              subst (λ n. Takes old.now new.now key d (n == 1)) (sym left.1) (lacks.1, spares_all old.now new.now own left.0))
+          | inr (r, it, one, high, found) ↦ (
+              let left = left_one old.now new.now own done.0 count done.2 done.3 it.id it.texts (it.amount - d) found in
+              let set = amount_set r it one (it.amount - d) (omega (arith, it.small)) new.now left.0 in
+              subst (λ n. Takes old.now new.now key d (n == 1)) (sym left.1) (subst (λ n. (d ≤ n) × SetsAmount old.now new.now key (n - d)) (had_one r it one) (high, set)))
+        ]
+
+    pub puts : had old.now key + d < 2 ^ 63 → Executes (put_text own) params old new (Ok count) → Raises old.now new.now key d (count == 1)
+    puts small h =
+        let done = updates old new has (put_text own) params count (place_of own) (table_of own) (table_at own) (put_edit own).plain h (plain (tree_of own) key_terms more_shown) (put_is own) in
+        elim (put_finds small done.0 done.1) [
+          | inl lacks ↦ (
+              let left = left_none old.now new.now own done.0 count done.2 done.3 lacks.0 in
+              subst (λ n. Raises old.now new.now key d (n == 1)) (sym left.1) (lacks.1, spares_all old.now new.now own left.0))
+          | inr (r, it, one, fits, found) ↦ (
+              let left = left_one old.now new.now own done.0 count done.2 done.3 it.id it.texts (it.amount + d) found in
+              let set = amount_set r it one (it.amount + d) fits new.now left.0 in
+              subst (λ n. Raises old.now new.now key d (n == 1)) (sym left.1) (subst (λ n. SetsAmount old.now new.now key (n + d)) (had_one r it one) set))
+        ]
+
+    pub sets_first : (absent : amount_at old.now key ≡ None) (small : d < 2 ^ 63) → Executes (first_text own) params old new (Ok count) → SetsAmount old.now new.now key d
+    sets_first absent small h =
+        let made = inserts old new has (first_text own) params count (place_of own) (table_of own) (table_at own) (first_edit own).plain h first_terms 4 refl (first_is own) in
         let id = next_rowid held in
-        let news : (edit_of db table [] Chosen 0 made.0).news ≡ stored id texts d ∷ [] = ap (λ rows. (edit_of db table [] Chosen 0 rows).news) made.1 ∙ rw (cast_null, cast_int (pos d)) refl in
+        let news = first_news made.0 made.1 in
         let free : not (list_any (λ r. is_eq (value_cmp (rowid r) (Int id))) held) && true ≡ true = ap (are_fresh held) (sym news) ∙ made.2.fresh in
         let fresh : list_any (λ r. is_eq (value_cmp (rowid r) (Int id))) held ≡ false = not-true _ (and_parts _ _ free).0 in
         let left : LeavesRows old.now new.now own (put_row (stored id texts d) held) = record { are = made.2.rows ∙ ap (put_all held) news; others = made.2.others } in
-        sets_amount old.now new.now key d (put_row (stored id texts d) held) amounts left (first_all held all texts none_found id d small fresh) (first_recorded_by held all texts none_found id d small fresh)
+        sets_amount old.now new.now key d (put_row (stored id texts d) held) amounts left (first_set absent small fresh) (first_recorded_by held all texts (none_found absent small) id d small fresh)

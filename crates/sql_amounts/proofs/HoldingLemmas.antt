@@ -1,5 +1,5 @@
 -- The next security that an account holds.
-use Rattle.std.proofs.Common.{◌≡◌, inl, inr, ℕ, ◌<◌, pos, nat_lt, List, [], ◌∷◌, filter, Bool, true, false, cond, ◌&&◌, Some, Option, unwrap_or, refl, sym, ap, subst, ◌∙◌, arith}
+use Rattle.std.proofs.Common.{◌≡◌, inl, inr, ℕ, ◌<◌, pos, nat_lt, List, [], ◌∷◌, filter, Bool, true, false, cond, ◌&&◌, Some, Option, Result, IsOk, unwrap_or, refl, sym, ap, subst, ◌∙◌, arith}
 use Rattle.std.specs.Str.{bytes_eq}
 use Rattle.std.specs.Cmp.Lexicographic.{slice_cmp}
 use Rattle.std.specs.Ordering.{is_gt, is_lt, nat_cmp, int_cmp, ordering_reverse}
@@ -9,6 +9,7 @@ use Rattle.std.proofs.Math.Dec.{ltb}
 use Rattle.std.proofs.lemmas.Bool.{cases_Bool, cases_lt, lt-ltb, le-ltb, ltb-true, both_ways, and_parts, and_from}
 use Rattle.std.proofs.lemmas.Cmp.{nat_list_cmp_total}
 use Rattle.std.proofs.lemmas.Slice.Eq.{bytes_eq-Decides}
+use Rattle.desk_codes.specs.CheckDigit.{IsIsin}
 use Rattle.sqlite.specs.Order.{Row, column, value_cmp}
 use Rattle.sqlite_value.proofs.OrderLemmas.{value_cmp-Text, value_cmp-Int}
 use Rattle.sqlite.specs.declared.types.Value.{Value}
@@ -27,7 +28,7 @@ use Rattle.sql_amounts.specs.declared.key.Ledger.TheVariants.{Balance}
 use Rattle.sql_amounts.specs.Keys.{Texts, same_texts}
 use Rattle.sql_amounts.specs.Statements.{next_text}
 use Rattle.sql_amounts.specs.Amounts.{AreAmounts, AreAmountRows, IsStored, amount_on, is_at, recorded, text_in, texts_in}
-use Rattle.sql_amounts.specs.Holdings.{IsHeldAbove, IsFirstAbove, IsLess, ShowsNext, held}
+use Rattle.sql_amounts.specs.Holdings.{HoldsIsins, IsHeldAbove, IsFirstAbove, IsLess, ShowsNext, held}
 use Rattle.sql_amounts.proofs.Meanings.{next_terms, next_is, next_query}
 use Rattle.sql_amounts.proofs.RowLemmas.{once, recorded_one, same_is, same_self}
 use Rattle.sql_amounts.proofs.EffectLemmas.{of_texts}
@@ -146,3 +147,9 @@ shows_next old new account above rows has amounts h =
       | inr one ↦ (let found = first_of old.now account from all one.0 one.1 one.3 in
           inr (found.0, found.1, one.2 ∙ ap (λ (v : Value). (v ∷ column one.0 3 ∷ []) ∷ []) found.2 ∙ ap (λ (v : Value). (Words found.0 ∷ v ∷ []) ∷ []) found.3, found.4))
     ]
+
+-- what the rows show reads, where what is held is of ISINs
+pub shown_reads : {X E : Type 0} (db : Database) (account : List ℕ) (above : Option (List ℕ)) (shown : List Row) (r : Result X E) → HoldsIsins db account → (shown ≡ [] → IsOk r)
+    → ((isin : List ℕ) (quantity : ℕ) → shown ≡ (Words isin ∷ Int (pos quantity) ∷ []) ∷ [] → IsIsin isin → IsOk r) → ShowsNext db account above shown → IsOk r
+shown_reads db account above shown r isins none one (inl empty) = none empty.0
+shown_reads db account above shown r isins none one (inr (isin, quantity, is, first)) = one isin quantity is (isins isin first.is_held.0)

@@ -5,3 +5,4 @@ pub mod HoldingLemmas
 pub mod AmountLemmas
 pub mod ClauseLemmas
 pub mod PermutationLemmas
+pub mod CauseLemmas

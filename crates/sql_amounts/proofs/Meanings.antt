@@ -1,6 +1,6 @@
 -- What the texts mean.
-use Rattle.std.proofs.Common.{◌≡◌, ℕ, pos, List, [], ◌∷◌, codes, refl}
-use Rattle.sqlite.specs.declared.types.Value.TheVariants.{Null, Int}
+use Rattle.std.proofs.Common.{◌≡◌, ℕ, pos, List, [], ◌∷◌, true, codes, refl}
+use Rattle.sqlite.specs.declared.types.Value.TheVariants.{Null, Int, Text as Words}
 use Rattle.sqlite.specs.Collation.TheVariants.{Binary}
 use Rattle.sqlite.specs.Term.{Term, lit, col, op2}
 use Rattle.sqlite_sql.specs.declared.ops.BinaryOp.TheVariants.{Compare, Arith}
@@ -9,11 +9,13 @@ use Rattle.sqlite_sql.specs.declared.ops.ArithOp.TheVariants.{Sub, Add}
 use Rattle.sqlite.specs.Command.TheVariants.{Select, Update, Insert}
 use Rattle.sqlite.specs.Source.TheVariants.{Values}
 use Rattle.sqlite.specs.Listing.{understood}
+use Rattle.sqlite_typing.specs.Types.{accepts_program}
 use Rattle.sqlite_tied.specs.Compute.{everything}
 use Rattle.sqlite.proofs.Callers.{command_of}
 use Rattle.sql_tables.specs.Schema.{desk_schema}
 use Rattle.sql_tables.specs.Statements.{IsEdit, IsQuery}
 use Rattle.sql_tables.specs.Queries.{plain, first_of, rising, equals}
+use Rattle.sql_tables.proofs.BlameLemmas.{IsWhole}
 use Rattle.sql_amounts.specs.declared.key.Ledger.{Ledger}
 use Rattle.sql_amounts.specs.declared.key.Ledger.TheVariants.{Balance, Cash, Total}
 use Rattle.sql_amounts.specs.Keys.{tree_of}
@@ -126,3 +128,51 @@ next_is = refl
 pub next_query : IsQuery next_text
 unfolding understood everything
 next_query = record { selects = refl; plain = (refl, refl); unlisted = refl }
+
+pub amount_whole : (ledger : Ledger) → IsWhole (amount_text ledger) 2
+unfolding understood everything
+amount_whole Balance = record { plain = (refl, refl); whole = refl; width_is = refl }
+amount_whole Cash = record { plain = (refl, refl); whole = refl; width_is = refl }
+amount_whole Total = record { plain = (refl, refl); whole = refl; width_is = refl }
+
+pub take_whole : (ledger : Ledger) → IsWhole (take_text ledger) 3
+unfolding understood everything
+take_whole Balance = record { plain = (refl, refl); whole = refl; width_is = refl }
+take_whole Cash = record { plain = (refl, refl); whole = refl; width_is = refl }
+take_whole Total = record { plain = (refl, refl); whole = refl; width_is = refl }
+
+pub put_whole : (ledger : Ledger) → IsWhole (put_text ledger) 3
+unfolding understood everything
+put_whole Balance = record { plain = (refl, refl); whole = refl; width_is = refl }
+put_whole Cash = record { plain = (refl, refl); whole = refl; width_is = refl }
+put_whole Total = record { plain = (refl, refl); whole = refl; width_is = refl }
+
+pub first_whole : (ledger : Ledger) → IsWhole (first_text ledger) 3
+unfolding understood everything
+first_whole Balance = record { plain = (refl, refl); whole = refl; width_is = refl }
+first_whole Cash = record { plain = (refl, refl); whole = refl; width_is = refl }
+first_whole Total = record { plain = (refl, refl); whole = refl; width_is = refl }
+
+pub next_whole : IsWhole next_text 2
+unfolding understood everything
+next_whole = record { plain = (refl, refl); whole = refl; width_is = refl }
+
+-- ---- the parameters are of the kinds that are compared and written
+
+pub amount_typed : (ledger : Ledger) (s t : List ℕ) → accepts_program desk_schema [] (plain (tree_of ledger) key_terms (col 1 3 ∷ [])) (Words s ∷ Words t ∷ []) ≡ true
+amount_typed Balance s t = refl
+amount_typed Cash s t = refl
+amount_typed Total s t = refl
+
+pub take_typed : (ledger : Ledger) (s t : List ℕ) (d : ℕ) → accepts_program desk_schema [] (plain (tree_of ledger) take_terms less_shown) (Words s ∷ Words t ∷ Int (pos d) ∷ []) ≡ true
+take_typed Balance s t d = refl
+take_typed Cash s t d = refl
+take_typed Total s t d = refl
+
+pub put_typed : (ledger : Ledger) (s t : List ℕ) (d : ℕ) → accepts_program desk_schema [] (plain (tree_of ledger) key_terms more_shown) (Words s ∷ Words t ∷ Int (pos d) ∷ []) ≡ true
+put_typed Balance s t d = refl
+put_typed Cash s t d = refl
+put_typed Total s t d = refl
+
+pub next_typed : (s t : List ℕ) → accepts_program desk_schema [] (first_of 0 next_terms (col 1 2 ∷ col 1 3 ∷ []) (col 1 2) rising) (Words s ∷ Words t ∷ []) ≡ true
+next_typed s t = refl

@@ -8,7 +8,7 @@ use Rattle.std.proofs.lemmas.List.Elements.{recursion_from_All, All-from_recursi
 use Rattle.std.proofs.lemmas.List.Sorted.{All-permutation, IsPermutation-sym, sum_by-IsPermutation}
 use Rattle.std.proofs.lemmas.List.Sums.{sum_by-cons}
 use Rattle.sqlite.specs.Order.{Row, value_cmp}
-use Rattle.sqlite.specs.Tree.{IsAscending, rowid}
+use Rattle.sqlite.specs.Tree.{IsAscending, IsTable, rowid}
 use Rattle.sql_amounts.specs.Keys.{Texts, same_texts}
 use Rattle.sql_amounts.specs.Amounts.{AreAmountRows, AreApart, IsStored, amount_on, is_at, recorded, texts_in}
 use Rattle.sql_tables.specs.Queries.{Among}
@@ -102,12 +102,12 @@ counted_in rows others (y ∷ ys) same once' =
     let low = once'.0 in
     (omega (arith, equal, low), counted_in rows others ys same once'.1)
 
--- of rows that are well formed a permutation is
-pub permuted_rows : (rows others : List Row) → IsPermutation rows others → AreAmountRows rows → AreAmountRows others
-permuted_rows rows others same all = record {
-  stored = all_permuted IsStored rows others same all.stored;
-  apart = apart_each others (counted_in rows others others same (all_permuted (λ r. count r rows ≤ 1) rows others same (once_each rows all.apart)));
-}
+permuted_apart : (rows others : List Row) → IsPermutation rows others → IsAscending AreApart rows → IsAscending AreApart others
+permuted_apart rows others same apart = apart_each others (counted_in rows others others same (all_permuted (λ r. count r rows ≤ 1) rows others same (once_each rows apart)))
+
+-- of rows that are well formed a permutation is, if it is in order
+pub permuted_rows : (rows others : List Row) → IsPermutation rows others → AreAmountRows rows → IsTable others → AreAmountRows others
+permuted_rows rows others same all order = record { stored = all_permuted IsStored rows others same all.stored; apart = permuted_apart rows others same all.apart; order = order }
 
 found_in : (rows others : List Row) (texts : Texts) (r : Row) → IsPermutation rows others → filter (is_at texts) rows ≡ r ∷ [] → Among (filter (is_at texts) others) r
 found_in rows others texts r same one =
@@ -118,14 +118,14 @@ found_in rows others texts r same one =
 -- and it records the same
 pub permuted_recorded : (rows others : List Row) → IsPermutation rows others → AreAmountRows rows → (texts : Texts) → recorded others texts ≡ recorded rows texts
 permuted_recorded rows others same all texts =
-    let there = permuted_rows rows others same all in
+    let there = permuted_apart rows others same all.apart in
     elim (once texts rows all.apart) [
-      | inl none ↦ elim (once texts others there.apart) [
+      | inl none ↦ elim (once texts others there) [
         | inl neither ↦ recorded_none texts others neither ∙ sym (recorded_none texts rows none)
         | inr one ↦ absurd (none_among (filter (is_at texts) rows) one.0 none (found_in others rows texts one.0 (IsPermutation-sym rows others same) one.1))
       ]
       | inr one ↦ (let found = found_in rows others texts one.0 same one.1 in
-          elim (once texts others there.apart) [
+          elim (once texts others there) [
             | inl none ↦ absurd (none_among (filter (is_at texts) others) one.0 none found)
             | inr other ↦ recorded_one texts others other.0 [] other.1 ∙ ap (λ r. Some (amount_on r)) (sym (only_one (filter (is_at texts) others) other.0 one.0 other.1 found)) ∙ sym (recorded_one texts rows one.0 [] one.1)
           ])

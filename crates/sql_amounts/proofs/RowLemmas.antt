@@ -11,8 +11,9 @@ use Rattle.sqlite.specs.Order.{Row, value_cmp}
 use Rattle.sqlite_value.proofs.OrderLemmas.{value_cmp_total}
 use Rattle.sqlite.specs.declared.types.Value.{Value}
 use Rattle.sqlite.specs.declared.types.Value.TheVariants.{Int}
-use Rattle.sqlite_trees.proofs.ListLemmas.{all-filter}
-use Rattle.sqlite.specs.Tree.{IsAscending, rowid, put_row, without_rowid, has_rowid}
+use Rattle.sqlite_trees.proofs.ListLemmas.{all-filter, ascending-filter}
+use Rattle.sqlite_trees.proofs.TreeLemmas.{IsTable-put_row}
+use Rattle.sqlite.specs.Tree.{IsAscending, IsTable, rowid, put_row, without_rowid, has_rowid}
 use Rattle.sql_amounts.specs.Keys.{Texts, same_texts}
 use Rattle.sql_amounts.specs.Amounts.{texts_in, amount_on, is_at, recorded, IsStored, AreApart, AreAmountRows, stored}
 
@@ -163,10 +164,11 @@ module _ (rest : List Row) (all : AreAmountRows rest) (new : Row) (it : IsStored
   goes = put_among new rest free
 
   pub put_rows : AreAmountRows (put_row new rest)
-  put_rows = subst AreAmountRows (sym goes.is) (record {
-    stored = all_with IsStored goes.before goes.after new it (subst (AllByRecursion IsStored) goes.whole all.stored);
-    apart = apart_with goes.before goes.after new (subst (AllByRecursion (AreApart new)) goes.whole free) (subst (IsAscending AreApart) goes.whole all.apart);
-  })
+  put_rows = record {
+    stored = subst (AllByRecursion IsStored) (sym goes.is) (all_with IsStored goes.before goes.after new it (subst (AllByRecursion IsStored) goes.whole all.stored));
+    apart = subst (IsAscending AreApart) (sym goes.is) (apart_with goes.before goes.after new (subst (AllByRecursion (AreApart new)) goes.whole free) (subst (IsAscending AreApart) goes.whole all.apart));
+    order = IsTable-put_row new rest all.order;
+  }
 
   pub put_recorded : (texts : Texts) → recorded (put_row new rest) texts ≡ first_recorded new texts (recorded rest texts)
   put_recorded texts =
@@ -253,7 +255,11 @@ module _ (rows : List Row) (all : AreAmountRows rows) (texts : Texts) (r : Row) 
   rest_is = ap (without_rowid it.id) parts.2 ∙ removed it.id parts.0 parts.1 r own_id all_parts.apart
 
   rest_all : AreAmountRows rest
-  rest_all = record { stored = all_without IsStored parts.0 parts.1 r all_parts.stored; apart = apart_without parts.0 parts.1 r all_parts.apart }
+  rest_all = record {
+    stored = all_without IsStored parts.0 parts.1 r all_parts.stored;
+    apart = apart_without parts.0 parts.1 r all_parts.apart;
+    order = subst IsTable rest_is (ascending-filter _ _ rows all.order);
+  }
 
   others : AllByRecursion (AreApart r) rest
   others = apart_others parts.0 parts.1 r all_parts.apart

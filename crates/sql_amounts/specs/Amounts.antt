@@ -5,7 +5,7 @@ use Rattle.std.specs.Ordering.{is_eq}
 use Rattle.sqlite.specs.declared.types.Value.{Value}
 use Rattle.sqlite.specs.declared.types.Value.TheVariants.{Int, Text as Words}
 use Rattle.sqlite.specs.Order.{Row, column, value_cmp}
-use Rattle.sqlite.specs.Tree.{IsAscending, rowid}
+use Rattle.sqlite.specs.Tree.{IsAscending, IsTable, rowid}
 use Rattle.sqlite.specs.Effect.{Database}
 use Rattle.sql_amounts.specs.declared.key.Ledger.{Ledger}
 use Rattle.sql_amounts.specs.declared.key.AmountKey.{AmountKey}
@@ -42,11 +42,12 @@ pub record AreApart (r s : Row) : Type 0 where
   pub texts : same_texts (texts_in r) (texts_in s) ≡ false
   pub rowids : is_eq (value_cmp (rowid r) (rowid s)) ≡ false
 
--- The rows of a table of amounts. They have no order of their own: a permutation of them is such rows too, and records the same.
+-- The rows of a table of amounts, in the order of their numbers. A permutation of them records the same.
 pub record AreAmountRows (rows : List Row) : Type 0 where
   pub stored : AllByRecursion IsStored rows
   -- each row is apart from each later one
   pub apart : IsAscending AreApart rows
+  pub order : IsTable rows
 
 abbrev pub is_at : Texts → Row → Bool
 is_at texts row = same_texts (texts_in row) texts

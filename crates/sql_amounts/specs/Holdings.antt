@@ -6,6 +6,7 @@ use Rattle.std.specs.declared.cmp.Ordering.TheVariants.{Less}
 use Rattle.sqlite.specs.declared.types.Value.TheVariants.{Int, Text as Words}
 use Rattle.sqlite.specs.Order.{Row}
 use Rattle.sqlite.specs.Effect.{Database}
+use Rattle.desk_codes.specs.CheckDigit.{IsIsin}
 use Rattle.sql_amounts.specs.declared.key.Ledger.TheVariants.{Balance}
 use Rattle.sql_amounts.specs.Amounts.{amount_in}
 
@@ -37,3 +38,7 @@ abbrev pub ShowsNext : Database → List ℕ → Option (List ℕ) → List Row 
 ShowsNext db account above rows =
     ((rows ≡ []) × IsNextHolding db account above None)
     ⊎ ((isin : List ℕ) × (quantity : ℕ) × (rows ≡ (Words isin ∷ Int (pos quantity) ∷ []) ∷ []) × IsNextHolding db account above (Some (isin, quantity)))
+
+-- each text of which the account holds some is an ISIN
+abbrev pub HoldsIsins : Database → List ℕ → Type 0
+HoldsIsins db account = (isin : List ℕ) → 0 < held db account isin → IsIsin isin

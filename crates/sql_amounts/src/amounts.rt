@@ -3,7 +3,7 @@ ghost use Rattle.std.specs.Prelude.{◌≡◌, ◌+◌, ◌<◌, ◌^◌, IfOk, 
 ghost use Rattle.sql_tables.specs.Rows.{number_rows};
 ghost use Rattle.sql_amounts.specs.Amounts.{AreAmounts, amount_at};
 ghost use Rattle.sql_amounts.specs.Changes.{Raises, SetsAmount, Takes, had};
-ghost use Rattle.sql_tables.specs.Calls.{Looks, Soundly, Writes, tables};
+ghost use Rattle.sql_tables.specs.Calls.{FailsForCause, Looks, Soundly, Writes, tables};
 
 use crate::key::AmountKey;
 use crate::statements;
@@ -17,6 +17,7 @@ use sqlite::{Alter, Connection, Error, Row};
 fn rows_of<S: Alter>(conn: &mut Connection<S>, key: &AmountKey) -> Result<Vec<Row>, Error>
     ensures value { Soundly S.Store conn.old conn.new (AreAmounts (tables S.Store conn.old) → IfOk result (λ rows. rows.items ≡ number_rows (amount_at (tables S.Store conn.old) key.now))) }
     ensures look { Looks S.Store conn.old conn.new result }
+    ensures blame { Soundly S.Store conn.old conn.new (FailsForCause S.Store conn.old conn.new result) }
 {
     let text = statements::amount_of_key(key.ledger());
     query(
@@ -31,6 +32,7 @@ fn rows_of<S: Alter>(conn: &mut Connection<S>, key: &AmountKey) -> Result<Vec<Ro
 pub fn amount<S: Alter>(conn: &mut Connection<S>, key: &AmountKey) -> Result<Option<u64>, Error>
     ensures value { Soundly S.Store conn.old conn.new (AreAmounts (tables S.Store conn.old) → IfOk result (λ r. r ≡ amount_at (tables S.Store conn.old) key.now)) }
     ensures look { Looks S.Store conn.old conn.new result }
+    ensures blame { Soundly S.Store conn.old conn.new (AreAmounts (tables S.Store conn.old) → FailsForCause S.Store conn.old conn.new result) }
 {
     let rows = rows_of(conn, key)?;
     only_number(&rows)
@@ -42,6 +44,7 @@ pub fn take<S: Alter>(conn: &mut Connection<S>, key: &AmountKey, amount: u64) ->
     requires small { amount < 2 ^ 63 }
     ensures changed { Soundly S.Store conn.old conn.new (AreAmounts (tables S.Store conn.old) → IfOk result (Takes (tables S.Store conn.old) (tables S.Store conn.new) key.now amount)) }
     ensures write { Writes S.Store conn.old conn.new result }
+    ensures blame { Soundly S.Store conn.old conn.new (AreAmounts (tables S.Store conn.old) → FailsForCause S.Store conn.old conn.new result) }
 {
     let text = statements::take_off(key.ledger());
     let count = execute(
@@ -61,6 +64,7 @@ fn raise<S: Alter>(conn: &mut Connection<S>, key: &AmountKey, amount: u64) -> Re
     requires small { amount < 2 ^ 63 }
     ensures changed { Soundly S.Store conn.old conn.new (AreAmounts (tables S.Store conn.old) → had (tables S.Store conn.old) key.now + amount < 2 ^ 63 → IfOk result (Raises (tables S.Store conn.old) (tables S.Store conn.new) key.now amount)) }
     ensures write { Writes S.Store conn.old conn.new result }
+    ensures blame { Soundly S.Store conn.old conn.new (AreAmounts (tables S.Store conn.old) → had (tables S.Store conn.old) key.now + amount < 2 ^ 63 → FailsForCause S.Store conn.old conn.new result) }
 {
     let text = statements::put_on(key.ledger());
     let raised = execute(
@@ -80,6 +84,7 @@ fn insert<S: Alter>(conn: &mut Connection<S>, key: &AmountKey, amount: u64) -> R
     requires small { amount < 2 ^ 63 }
     ensures changed { Soundly S.Store conn.old conn.new (AreAmounts (tables S.Store conn.old) → amount_at (tables S.Store conn.old) key.now ≡ None → OnOk result (SetsAmount (tables S.Store conn.old) (tables S.Store conn.new) key.now amount)) }
     ensures write { Writes S.Store conn.old conn.new result }
+    ensures blame { Soundly S.Store conn.old conn.new (AreAmounts (tables S.Store conn.old) → amount_at (tables S.Store conn.old) key.now ≡ None → FailsForCause S.Store conn.old conn.new result) }
 {
     let text = statements::first_row(key.ledger());
     execute(
@@ -99,6 +104,7 @@ pub fn put<S: Alter>(conn: &mut Connection<S>, key: &AmountKey, amount: u64) -> 
     requires small { amount < 2 ^ 63 }
     ensures changed { Soundly S.Store conn.old conn.new (AreAmounts (tables S.Store conn.old) → had (tables S.Store conn.old) key.now + amount < 2 ^ 63 → OnOk result (SetsAmount (tables S.Store conn.old) (tables S.Store conn.new) key.now (had (tables S.Store conn.old) key.now + amount))) }
     ensures write { Writes S.Store conn.old conn.new result }
+    ensures blame { Soundly S.Store conn.old conn.new (AreAmounts (tables S.Store conn.old) → had (tables S.Store conn.old) key.now + amount < 2 ^ 63 → FailsForCause S.Store conn.old conn.new result) }
 {
     if !raise(conn, key, amount)? {
         insert(conn, key, amount)?;

@@ -1,8 +1,8 @@
 //! The walk over what an account holds.
 ghost use Rattle.std.specs.Prelude.{◌≡◌, [], unwrap_or, IfOk};
 ghost use Rattle.sql_amounts.specs.Amounts.{AreAmounts};
-ghost use Rattle.sql_amounts.specs.Holdings.{IsNextHolding, ShowsNext};
-ghost use Rattle.sql_tables.specs.Calls.{Looks, Soundly, tables};
+ghost use Rattle.sql_amounts.specs.Holdings.{HoldsIsins, IsNextHolding, ShowsNext};
+ghost use Rattle.sql_tables.specs.Calls.{FailsForCause, Looks, Soundly, tables};
 
 use crate::reading::holding_shown;
 use desk_codes::{AccountId, Isin};
@@ -28,6 +28,7 @@ fn next_rows<S: Alter>(
 ) -> Result<Vec<Row>, Error>
     ensures value { Soundly S.Store conn.old conn.new (AreAmounts (tables S.Store conn.old) → IfOk result (λ rows. ShowsNext (tables S.Store conn.old) account above rows.items)) }
     ensures look { Looks S.Store conn.old conn.new result }
+    ensures blame { Soundly S.Store conn.old conn.new (FailsForCause S.Store conn.old conn.new result) }
 {
     query(
         conn,
@@ -49,6 +50,7 @@ pub fn next_holding<S: Alter>(
 ) -> Result<Option<(Isin, u64)>, Error>
     ensures value { Soundly S.Store conn.old conn.new (AreAmounts (tables S.Store conn.old) → IfOk result (IsNextHolding (tables S.Store conn.old) account above)) }
     ensures look { Looks S.Store conn.old conn.new result }
+    ensures blame { Soundly S.Store conn.old conn.new (AreAmounts (tables S.Store conn.old) → HoldsIsins (tables S.Store conn.old) account → FailsForCause S.Store conn.old conn.new result) }
 {
     let rows = next_rows(conn, account, above)?;
     holding_shown(rows.as_slice())

@@ -13,6 +13,7 @@ use sqlite::{Error, Row};
 pub(crate) fn holding_shown(rows: &[Row]) -> Result<Option<(Isin, u64)>, Error>
     ensures value { (db : Database) (account : List ℕ) (above : Option (List ℕ)) → ShowsNext db account above rows.now → IfOk result (IsNextHolding db account above) }
     ensures all { (isin : List ℕ) (quantity : ℕ) → rows.now ≡ (Words isin ∷ Int (pos quantity) ∷ []) ∷ [] → IsIsin isin → IsOk result }
+    ensures none { rows.now ≡ [] → IsOk result }
 {
     match rows.first() {
         Some(row) => Ok(Some((isin_at(row, 0)?, number_at(row, 1)?))),

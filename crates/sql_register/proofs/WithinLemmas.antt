@@ -10,7 +10,7 @@ use Rattle.sql_register.specs.Settling.{IsMarked, IsLeft, IsTrial}
 use Rattle.sql_tables.proofs.EndLemmas.{why_later}
 
 later_then : (a b c : State) → IsLater a b → IsLater b c → IsLater a c
-later_then a b c p q = record { clean = omega (arith, p.clean, q.clean); faults = omega (arith, p.faults, q.faults) }
+later_then a b c p q = record { clean = omega (arith, p.clean, q.clean); faults = omega (arith, p.faults, q.faults); limit = q.limit ∙ p.limit }
 
 left_same : (a b : State) → a.in_transaction ≡ true → a.now.schema ≡ desk_schema → IsSame a b → IsLeft a b
 left_same a b inside has same = record { is_open = same.is_open; schema = ap (λ d. d.schema) same.now ∙ has; mode = same.mode ∙ inside; committed = same.committed }

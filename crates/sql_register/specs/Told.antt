@@ -2,17 +2,19 @@
 use Rattle.std.specs.Prelude.{◌≡◌, ℕ, ◌+◌, ◌<◌, ◌≤◌, Result, Ok, Err}
 use Rattle.sqlite.specs.declared.error.Error.{Error}
 use Rattle.sqlite.specs.declared.error.Error.TheVariants.{SqliteFailure}
-use Rattle.sqlite.specs.declared.error.ErrorCode.TheVariants.{OutOfMemory, TooBig}
+use Rattle.sqlite.specs.declared.error.ErrorCode.TheVariants.{NoRowid, OutOfMemory, TooBig}
 use Rattle.desk_register.specs.View.{fallen}
 use Rattle.desk_register.specs.declared.register.Fault.{Fault}
 use Rattle.desk_register.specs.declared.register.Fault.TheVariants.{Memory, Storage}
 use Rattle.desk_register.specs.declared.register.Stage.{Stage}
 use Rattle.desk_register.specs.declared.register.TheConstants.{MOST_FAILURES}
 
--- want of memory, and a value too large, is told as that; any other failure names the device
+-- want of memory is told as that, and so is a value too large, or a table with no number left for a row; any other failure names
+-- the device
 abbrev pub fault_for : Error → Fault
 fault_for (SqliteFailure OutOfMemory) = Memory
 fault_for (SqliteFailure TooBig) = Memory
+fault_for (SqliteFailure NoRowid) = Memory
 fault_for error = Storage
 
 -- An answer tells which it was. One that names the device is counted, up to the greatest number, and no other is.

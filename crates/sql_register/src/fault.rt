@@ -45,7 +45,8 @@ impl Course {
     {
         self.known.forget();
         match error {
-            Error::SqliteFailure(ErrorCode::OutOfMemory | ErrorCode::TooBig) => Fault::Memory,
+            Error::SqliteFailure(ErrorCode::OutOfMemory | ErrorCode::TooBig | ErrorCode::NoRowid) =>
+                Fault::Memory,
             _ => {
                 self.failures = self.failures.saturating_add(1);
                 Fault::Storage

@@ -3,11 +3,11 @@ use Rattle.std.proofs.Common.{◌≡◌, inl, inr, ap, ◌∙◌, IsTrue, Result
 use Rattle.sqlite.specs.declared.error.Error.{Error}
 use Rattle.sqlite.specs.State.{State, HasCleanDisk}
 use Rattle.sql_tables.specs.Schema.{desk_schema}
-use Rattle.sql_tables.specs.Ends.{IsLater, SaysWhy, Stays, IsSame, IsUndone, FellLooking, FellWriting, IsLook, IsWrite}
-use Rattle.sql_tables.proofs.EndLemmas.{why_later}
+use Rattle.sql_tables.specs.Ends.{IfSound, ForCause, IsLater, SaysWhy, Stays, IsSame, IsUndone, FellLooking, FellWriting, IsLook, IsWrite}
+use Rattle.sql_tables.proofs.EndLemmas.{cause_onward, why_later}
 
 pub later_then : (a b c : State) → IsLater a b → IsLater b c → IsLater a c
-later_then a b c p q = record { clean = omega (arith, p.clean, q.clean); faults = omega (arith, p.faults, q.faults) }
+later_then a b c p q = record { clean = omega (arith, p.clean, q.clean); faults = omega (arith, p.faults, q.faults); limit = q.limit ∙ p.limit }
 
 pub stays_then : (a b c : State) → Stays a b → Stays b c → Stays a c
 stays_then a b c p q = record {
@@ -56,6 +56,13 @@ write_then {X = X} {Y = Y} x r a b c p q = record {
     says : (r : Result Y Error) → IfErr r (SaysWhy b c) → Stays a b → IfErr r (SaysWhy a c)
     says (Ok y) h t = tt
     says (Err e) h t = why_later a b c e p.later q.later t.mode h
+
+-- a call that went well, and one after it that fails for its cause, where what it asks of the tables holds between them
+pub caused_then : {X : Type 0} (x : X) (e : Error) (a b c : State) (P : Type 0) → IsWrite (Ok x) a b → IsLater b c → IfSound a b P → IfSound b c (P → ForCause b c e) → IfSound a c (ForCause a c e)
+caused_then x e a b c P p later fact fails clean is_open has =
+    let clean1 : HasCleanDisk b = omega (arith, clean, later.clean) in
+    let mid = p.ok clean1 is_open has in
+    cause_onward a b c e p.later later (fails clean mid.is_open mid.schema (fact clean1 is_open has))
 
 -- a look is a change of nothing
 pub look_write : {X : Type 0} (r : Result X Error) (a b : State) → IsLook r a b → IsWrite r a b

@@ -1,5 +1,5 @@
 -- How any statement ends.
-use Rattle.std.proofs.Common.{◌≡◌, ◌⊎◌, inl, inr, ℕ, ◌+◌, ◌^◌, ◌<◌, List, Ok, Err, Result, OnErr, IfErr, false, None, Some, Option, IsTrue, sym, ap, subst, ◌∙◌, arith}
+use Rattle.std.proofs.Common.{◌≡◌, ◌⊎◌, inl, inr, ℕ, ◌+◌, ◌^◌, List, Ok, Err, Result, OnErr, IfErr, false, None, Some, Option, IsTrue, sym, ap, subst, ◌∙◌, arith}
 use Rattle.std.proofs.lemmas.Bool.{both_ways, cases_Bool, cases_lt}
 use Rattle.sqlite.specs.Command.{Command}
 use Rattle.sqlite.specs.Command.TheVariants.{Select, Insert, InsertOr, Update, Delete, CreateTable, CreateIndex, DropTable, DropIndex, Begin, Commit, Rollback, Savepoint as Save, Release, RollbackTo, Nothing, CreateView, DropView, Rows}
@@ -15,7 +15,7 @@ use Rattle.sqlite_trees.specs.declared.error.StoreError.{StoreError}
 use Rattle.sqlite_trees.specs.declared.error.StoreError.TheVariants as stored
 use Rattle.sqlite.specs.State.{State, HasCause, store_error, IsUnchanged, IsRolledBack, Fails, IsNotRun, ExecutesIn, Executes, RunsAlone, RunsCommand, shows_rows, FailsToQuery, FailsToShow, Runs, Shown, ShowsRows, Survives}
 use Rattle.sql_tables.specs.Schema.{desk_schema}
-use Rattle.sql_tables.specs.Ends.{IsLater, IsWant, SaysWhy, Stays, IsSame, IsUndone, FellLooking}
+use Rattle.sql_tables.specs.Ends.{IsLater, IsCaused, SaysWhy, ForCause, Stays, IsSame, IsUndone, FellLooking}
 
 pub same_from : (old new : State) → IsUnchanged old new → IsSame old new
 same_from old new h = record { is_open = h.0.is_open; now = h.0.now_is; committed = h.0.committed_is; mode = h.0.mode; marks = h.2 }
@@ -24,7 +24,7 @@ pub undone_from : (old new : State) → IsRolledBack old new → IsUndone old ne
 undone_from old new h = record { now = λ open'. (h.undone open').0; committed = λ open'. (h.undone open').1; mode = h.autocommit; marks = h.unmarked }
 
 pub later_from : (old new : State) (P : Trees → Type 0) → Survives old new P → IsLater old new
-later_from old new P h = record { clean = h.clean; faults = h.counts }
+later_from old new P h = record { clean = h.clean; faults = h.counts; limit = h.limit }
 
 -- a state that stays as it was keeps the desk's tables
 pub stays_same : (old new : State) → old.now.schema ≡ desk_schema → IsSame old new → Stays old new
@@ -32,11 +32,7 @@ stays_same old new has h = record { is_open = h.is_open; schema = ap (λ d. d.sc
 
 -- ---- one statement
 
--- the store wanted memory, or its device failed
-abbrev GaveUp : State → State → Error → Type 0
-GaveUp old new e = IsWant e ⊎ (old.faults + 1 < 2 ^ 64 → old.faults < new.faults)
-
-caused : (old new : State) (U : Type 0) (cause : StoreError) → IsTrue old.is_open → HasCause old new U cause → GaveUp old new (store_error cause)
+caused : (old new : State) (U : Type 0) (cause : StoreError) → IsTrue old.is_open → HasCause old new U cause → IsCaused old new (store_error cause)
 caused old new U stored.OutOfMemory open' h = inl tt
 caused old new U stored.Unstorable open' h = inl tt
 caused old new U stored.Io open' h = inr (λ few. omega (arith, few, h))
@@ -45,10 +41,14 @@ caused old new U stored.Full open' h = inr (λ few. omega (arith, few, h))
 caused old new U stored.Broken open' h = absurd (both_ways _ h open')
 
 abbrev Falls : State → State → Error → Type 0
-Falls old new e = IsUnchanged old new ⊎ (IsRolledBack old new × (IsTrue old.is_open → GaveUp old new e))
+Falls old new e = IsUnchanged old new ⊎ (IsRolledBack old new × (IsTrue old.is_open → IsCaused old new e))
+
+-- the store failed, for its cause
+pub gave_up : (old new : State) (U : Type 0) (e : Error) → IsTrue old.is_open → Fails old new U e → IsCaused old new e
+gave_up old new U e open' h = subst (IsCaused old new) (sym h.1) (caused old new U h.0 open' h.2)
 
 failed : (old new : State) (U : Type 0) (e : Error) → Fails old new U e → Falls old new e
-failed old new U e h = inr (h.3, λ open'. subst (GaveUp old new) (sym h.1) (caused old new U h.0 open' h.2))
+failed old new U e h = inr (h.3, λ open'. gave_up old new U e open' h)
 
 not_run : (old new : State) (sql : List ℕ) (params : Row) (e : Error) → IsNotRun old new sql params e → Falls old new e
 unfolding IsNotRun
@@ -108,9 +108,17 @@ pub execute_why : (old new : State) (sql : List ℕ) (params : Row) (r : Result 
 execute_why old new sql params (Ok count) h open' = tt
 execute_why old new sql params (Err e) h open' = falls_why old new e (execute_falls old new sql params e h) open'
 
+-- the cause of a failure is one from an earlier state on
+pub cause_later : (a b c : State) (e : Error) → IsLater a b → IsLater b c → IsCaused b c e → IsCaused a c e
+cause_later a b c e p q (inl want) = inl want
+cause_later a b c e p q (inr more) = inr (λ few. elim (cases_lt (b.faults + 1) (2 ^ 64)) [ inl lt ↦ omega (arith, more lt, p.faults) | inr ge ↦ omega (arith, few, ge, q.faults) ])
+
 -- what is said of a failure holds from an earlier state on, in the same transaction
 pub why_later : (a b c : State) (e : Error) → IsLater a b → IsLater b c → b.in_transaction ≡ a.in_transaction → SaysWhy b c e → SaysWhy a c e
-why_later a b c e p q mode says inside out = elim (says (subst IsTrue (sym mode) inside) out) [ inl want ↦ inl want | inr more ↦ inr (λ few. elim (cases_lt (b.faults + 1) (2 ^ 64)) [ inl lt ↦ omega (arith, more lt, p.faults) | inr ge ↦ omega (arith, few, ge, q.faults) ]) ]
+why_later a b c e p q mode says inside out = cause_later a b c e p q (says (subst IsTrue (sym mode) inside) out)
+
+pub cause_onward : (a b c : State) (e : Error) → IsLater a b → IsLater b c → ForCause b c e → ForCause a c e
+cause_onward a b c e p q caused' unlimited = cause_later a b c e p q (caused' (p.limit ∙ unlimited))
 
 -- ---- no statement opens a connection that was shut
 

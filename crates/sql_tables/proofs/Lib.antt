@@ -1,3 +1,4 @@
+pub mod BlameLemmas
 pub mod CallLemmas
 pub mod ColumnLemmas
 pub mod ControlLemmas
@@ -9,5 +10,6 @@ pub mod MakingLemmas
 pub mod QueryLemmas
 pub mod ResultLemmas
 pub mod StatementLemmas
+pub mod UniqueLemmas
 pub mod ValueLemmas
 pub mod VersionLemmas

@@ -59,7 +59,7 @@ look_none x a = record {
   err = λ clean is_open has. tt;
   why = λ clean is_open has. tt;
   opened = λ clean is. is;
-  later = record { clean = omega arith; faults = omega arith };
+  later = record { clean = omega arith; faults = omega arith; limit = refl };
 }
 
 -- one look more

@@ -1,10 +1,10 @@
 -- A call on the desk's tables, as clauses name it: by the connection before and after.
-use Rattle.std.specs.Prelude.{Result}
+use Rattle.std.specs.Prelude.{Result, IfErr}
 use Rattle.sqlite_trees.specs.declared.store.Store.{Ghosts}
 use Rattle.sqlite.specs.declared.error.Error.{Error}
 use Rattle.sqlite.specs.Effect.{Database}
 use Rattle.sqlite.specs.Held.{Held, state}
-use Rattle.sql_tables.specs.Ends.{IfSound, IsLook, IsWrite}
+use Rattle.sql_tables.specs.Ends.{ForCause, IfSound, IsLook, IsWrite}
 
 module _ {S : Type 0} (store : Ghosts S) where
   -- what a connection shows
@@ -23,3 +23,7 @@ module _ {S : Type 0} (store : Ghosts S) where
     -- the call changes the tables, and ends so
     abbrev pub Writes : {X : Type 0} → Result X Error → Type 0
     Writes result = IsWrite result (state store old) (state store new)
+
+    -- the call fails only for want, or where the device fails in it
+    abbrev pub FailsForCause : {X : Type 0} → Result X Error → Type 0
+    FailsForCause result = IfErr result (ForCause (state store old) (state store new))

@@ -1,11 +1,11 @@
 -- How a call on the desk's tables ends.
-use Rattle.std.specs.Prelude.{◌≡◌, ◌⊎◌, ℕ, ◌+◌, ◌^◌, ◌≤◌, ◌<◌, [], ⊤, IsTrue, false, Result, Ok, OnOk, OnErr, IfErr}
+use Rattle.std.specs.Prelude.{◌≡◌, ◌⊎◌, ℕ, ◌+◌, ◌^◌, ◌≤◌, ◌<◌, [], ⊤, IsTrue, false, None, Result, Ok, OnOk, OnErr, IfErr}
 use Rattle.sqlite_trees.specs.View.{doubt}
 use Rattle.sqlite_rules.specs.Edit.{IsNoIndex}
 use Rattle.sqlite.specs.Effect.{Database}
 use Rattle.sqlite.specs.declared.error.Error.{Error}
 use Rattle.sqlite.specs.declared.error.Error.TheVariants.{SqliteFailure}
-use Rattle.sqlite.specs.declared.error.ErrorCode.TheVariants.{OutOfMemory, TooBig}
+use Rattle.sqlite.specs.declared.error.ErrorCode.TheVariants.{OutOfMemory, TooBig, NoRowid}
 use Rattle.sqlite.specs.State.{State, HasCleanDisk}
 use Rattle.sql_tables.specs.Schema.{desk_schema}
 
@@ -14,17 +14,19 @@ use Rattle.sql_tables.specs.Schema.{desk_schema}
 abbrev pub IfSound : State → State → Type 0 → Type 0
 IfSound old new fact = HasCleanDisk new → IsTrue old.is_open → old.now.schema ≡ desk_schema → fact
 
--- a failure that names want of memory, or a value too large
+-- a failure that names want of memory, a value too large, or a table with no number left for a row
 abbrev pub IsWant : Error → Type 0
 IsWant (SqliteFailure OutOfMemory) = Unit {0}
 IsWant (SqliteFailure TooBig) = Unit {0}
+IsWant (SqliteFailure NoRowid) = Unit {0}
 IsWant error = ⊥
 
 module _ (old new : State) where
-  -- no doubt is taken back, and no fault forgotten
+  -- no doubt is taken back, no fault forgotten, and no limit is set on the steps of a query
   pub record IsLater : Type 0 where
     pub clean : doubt old.is_clean ≤ doubt new.is_clean
     pub faults : old.faults ≤ new.faults
+    pub limit : new.step_limit ≡ old.step_limit
 
   -- the connection is open, in a transaction where it was, with the same savepoints; within one nothing was committed
   pub record Stays : Type 0 where
@@ -57,10 +59,18 @@ module _ (old new : State) where
   abbrev pub FellWriting : Type 0
   FellWriting = IsTrue old.in_transaction → Stays ⊎ IsUndone
 
-  -- Where the store gave the transaction up, the failure says why: it wanted memory, or its device failed, which it counts up
-  -- to the greatest number.
+  -- A failure has its cause: it names a want, or the device of the store has failed in the call, which the store counts up to
+  -- the greatest number.
+  abbrev pub IsCaused : Error → Type 0
+  IsCaused error = IsWant error ⊎ (old.faults + 1 < 2 ^ 64 → old.faults < new.faults)
+
+  -- where the store gave the transaction up, the failure has its cause
   abbrev pub SaysWhy : Error → Type 0
-  SaysWhy error = IsTrue old.in_transaction → new.in_transaction ≡ false → IsWant error ⊎ (old.faults + 1 < 2 ^ 64 → old.faults < new.faults)
+  SaysWhy error = IsTrue old.in_transaction → new.in_transaction ≡ false → IsCaused error
+
+  -- where no limit is set on the steps of a query, a failure has its cause
+  abbrev pub ForCause : Error → Type 0
+  ForCause error = old.step_limit ≡ None → IsCaused error
 
 -- how a call ends that only reads
 pub record IsLook {X : Type 0} (result : Result X Error) (old new : State) : Type 0 where

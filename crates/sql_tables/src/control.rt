@@ -1,9 +1,9 @@
 //! What begins and ends a transaction, and the savepoint of a pair in it, by text.
 
-ghost use Rattle.std.specs.Prelude.{◌≡◌, [], ◌∷◌, true, IsTrue, OnOk, OnErr, IfErr};
+ghost use Rattle.std.specs.Prelude.{◌≡◌, [], ◌∷◌, true, false, IsTrue, OnOk, OnErr, IfErr};
 ghost use Rattle.sqlite.specs.State.{HasCleanDisk, Executes, FailsToQuery};
 ghost use Rattle.sqlite.specs.Held.{state};
-ghost use Rattle.sql_tables.specs.Calls.{Looks, Soundly};
+ghost use Rattle.sql_tables.specs.Calls.{FailsForCause, Looks, Soundly};
 ghost use Rattle.sql_tables.specs.Ends.{IsLater, FellLooking, IsUndone, SaysWhy};
 ghost use Rattle.sql_tables.specs.Control.{begin_text, commit_text, roll_back_text, probe_text, save_text, release_text, go_back_text, Begins, Commits, Saves, Releases, GoesBack, mark_at};
 ghost use Rattle.sqlite.specs.Effect.{Database};
@@ -19,6 +19,7 @@ pub fn begin<S: Alter>(conn: &mut Connection<S>) -> Result<usize, Error>
     ensures why { Soundly S.Store conn.old conn.new (IfErr result (SaysWhy (state S.Store conn.old) (state S.Store conn.new))) }
     ensures opened { HasCleanDisk (state S.Store conn.new) → IsTrue (state S.Store conn.new).is_open → IsTrue (state S.Store conn.old).is_open }
     ensures later { IsLater (state S.Store conn.old) (state S.Store conn.new) }
+    ensures blame { Soundly S.Store conn.old conn.new ((state S.Store conn.old).in_transaction ≡ false → FailsForCause S.Store conn.old conn.new result) }
 {
     conn.execute("BEGIN", &[])
 }
@@ -31,6 +32,7 @@ pub fn commit<S: Alter>(conn: &mut Connection<S>) -> Result<usize, Error>
     ensures why { Soundly S.Store conn.old conn.new (IfErr result (SaysWhy (state S.Store conn.old) (state S.Store conn.new))) }
     ensures opened { HasCleanDisk (state S.Store conn.new) → IsTrue (state S.Store conn.new).is_open → IsTrue (state S.Store conn.old).is_open }
     ensures later { IsLater (state S.Store conn.old) (state S.Store conn.new) }
+    ensures blame { Soundly S.Store conn.old conn.new (IsTrue (state S.Store conn.old).in_transaction → FailsForCause S.Store conn.old conn.new result) }
 {
     conn.execute("COMMIT", &[])
 }
@@ -43,6 +45,7 @@ pub fn roll_back<S: Alter>(conn: &mut Connection<S>) -> Result<usize, Error>
     ensures why { Soundly S.Store conn.old conn.new (IfErr result (SaysWhy (state S.Store conn.old) (state S.Store conn.new))) }
     ensures opened { HasCleanDisk (state S.Store conn.new) → IsTrue (state S.Store conn.new).is_open → IsTrue (state S.Store conn.old).is_open }
     ensures later { IsLater (state S.Store conn.old) (state S.Store conn.new) }
+    ensures blame { Soundly S.Store conn.old conn.new (IsTrue (state S.Store conn.old).in_transaction → FailsForCause S.Store conn.old conn.new result) }
 {
     conn.execute("ROLLBACK", &[])
 }
@@ -52,6 +55,7 @@ pub fn probe<S: Alter>(conn: &mut Connection<S>) -> Result<(), Error>
     ensures fails { HasCleanDisk (state S.Store conn.new) → IfErr result (FailsToQuery probe_text [] (state S.Store conn.old) (state S.Store conn.new)) }
     ensures look { Looks S.Store conn.old conn.new result }
     ensures shown { HasCleanDisk (state S.Store conn.new) → OnOk result (IsTrue (state S.Store conn.old).is_open) }
+    ensures blame { Soundly S.Store conn.old conn.new (FailsForCause S.Store conn.old conn.new result) }
 {
     query(conn, "SELECT 1", &[])?;
     Ok(())
@@ -65,6 +69,7 @@ pub fn save<S: Alter>(conn: &mut Connection<S>) -> Result<usize, Error>
     ensures why { Soundly S.Store conn.old conn.new (IfErr result (SaysWhy (state S.Store conn.old) (state S.Store conn.new))) }
     ensures opened { HasCleanDisk (state S.Store conn.new) → IsTrue (state S.Store conn.new).is_open → IsTrue (state S.Store conn.old).is_open }
     ensures later { IsLater (state S.Store conn.old) (state S.Store conn.new) }
+    ensures blame { Soundly S.Store conn.old conn.new (FailsForCause S.Store conn.old conn.new result) }
 {
     conn.execute("SAVEPOINT pair", &[])
 }
@@ -77,6 +82,7 @@ pub fn release<S: Alter>(conn: &mut Connection<S>) -> Result<usize, Error>
     ensures why { Soundly S.Store conn.old conn.new (IfErr result (SaysWhy (state S.Store conn.old) (state S.Store conn.new))) }
     ensures opened { HasCleanDisk (state S.Store conn.new) → IsTrue (state S.Store conn.new).is_open → IsTrue (state S.Store conn.old).is_open }
     ensures later { IsLater (state S.Store conn.old) (state S.Store conn.new) }
+    ensures blame { Soundly S.Store conn.old conn.new ((db : Database) → (state S.Store conn.old).marks ≡ mark_at db ∷ [] → FailsForCause S.Store conn.old conn.new result) }
 {
     conn.execute("RELEASE pair", &[])
 }
@@ -89,6 +95,7 @@ pub fn go_back<S: Alter>(conn: &mut Connection<S>) -> Result<usize, Error>
     ensures why { Soundly S.Store conn.old conn.new (IfErr result (SaysWhy (state S.Store conn.old) (state S.Store conn.new))) }
     ensures opened { HasCleanDisk (state S.Store conn.new) → IsTrue (state S.Store conn.new).is_open → IsTrue (state S.Store conn.old).is_open }
     ensures later { IsLater (state S.Store conn.old) (state S.Store conn.new) }
+    ensures blame { Soundly S.Store conn.old conn.new ((db : Database) → (state S.Store conn.old).marks ≡ mark_at db ∷ [] → FailsForCause S.Store conn.old conn.new result) }
 {
     conn.execute("ROLLBACK TO pair", &[])
 }

@@ -1,11 +1,12 @@
 //! The texts that change or read rows of the tables.
 
-ghost use Rattle.std.specs.Prelude.{IfOk, IfErr};
+ghost use Rattle.std.specs.Prelude.{IfOk, IfErr, IsTrue};
 ghost use Rattle.sqlite.specs.State.{HasCleanDisk, Executes, Shown, FailsToQuery};
+ghost use Rattle.sqlite.specs.Effect.{IsDatabase};
 ghost use Rattle.sqlite.specs.Held.{state};
 ghost use Rattle.sqlite.specs.Values.{bound};
 ghost use Rattle.sql_tables.specs.Statements.{IsEdit, IsQuery};
-ghost use Rattle.sql_tables.specs.Calls.{Looks, Writes};
+ghost use Rattle.sql_tables.specs.Calls.{Looks, Writes, tables};
 
 use sqlite::types::ValueRef;
 use sqlite::{Alter, Connection, Error, Row};
@@ -17,9 +18,11 @@ pub fn execute<S: Alter>(
     params: &[ValueRef<'_>],
 ) -> Result<usize, Error>
     requires edit { IsEdit text.now }
+    ensures obeyed { IsTrue (state S.Store conn.old).is_open → IsDatabase (tables S.Store conn.old) }
     ensures runs { HasCleanDisk (state S.Store conn.new) → Executes text.now (bound params.now) (state S.Store conn.old) (state S.Store conn.new) result }
     ensures write { Writes S.Store conn.old conn.new result }
 {
+    let _obeyed = conn.schema();
     conn.execute(text, params)
 }
 

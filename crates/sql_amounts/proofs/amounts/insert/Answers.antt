@@ -5,6 +5,7 @@ use Rattle.sql_amounts.specs.Keys.{ledger_of}
 use Rattle.sql_amounts.specs.Statements.{first_text}
 use Rattle.sql_amounts.proofs.Meanings.{first_edit}
 use Rattle.sql_amounts.proofs.ClauseLemmas.{inserted}
+use Rattle.sql_amounts.proofs.CauseLemmas.{first_caused}
 use Rattle.sql_amounts.proofs.amounts.insert.Goals as goal
 
 pub execute-requires : goal.execute-requires
@@ -13,4 +14,9 @@ execute-requires g c = record { edit = subst IsEdit (sym (c.first_row-text.ensur
 pub returns-clause-changed : goal.returns-clause-changed
 returns-clause-changed g c clean is_open has amounts absent =
     inserted (state g.S.Store c.args.conn.now) (state g.S.Store c.execute.new.conn) has amounts c.args.key.now c.args.amount absent c.requires.small c.execute.result
+    (rw (c.first_row-text.ensures, c.ledger.ensures, c.first.ensures, c.second.ensures, c.integer.ensures) at (c.execute.ensures.runs clean))
+
+pub returns-clause-blame : goal.returns-clause-blame
+returns-clause-blame g c clean is_open has amounts absent =
+    first_caused (state g.S.Store c.args.conn.now) (state g.S.Store c.execute.new.conn) has is_open (c.execute.ensures.obeyed is_open) c.args.key.now c.args.amount amounts absent c.requires.small c.execute.result
     (rw (c.first_row-text.ensures, c.ledger.ensures, c.first.ensures, c.second.ensures, c.integer.ensures) at (c.execute.ensures.runs clean))

@@ -1,8 +1,12 @@
-use Rattle.std.proofs.Common.{arith, subst}
+use Rattle.std.proofs.Common.{◌≡◌, None, arith, subst}
 use Rattle.sqlite.specs.Held.{state}
 use Rattle.sqlite.specs.State.{HasCleanDisk}
+use Rattle.sql_amounts.specs.Amounts.{AreAmounts, amount_at}
 use Rattle.sql_amounts.specs.Changes.{Raises}
 use Rattle.sql_amounts.proofs.AmountLemmas.{absent_still, amounts_still, first_put}
+use Rattle.sql_tables.specs.Ends.{ForCause}
+use Rattle.sql_tables.proofs.CallLemmas.{caused_then}
+use Rattle.sql_tables.proofs.ResultLemmas.{on_error}
 use Rattle.sql_amounts.proofs.amounts.put.Goals as goal
 
 pub returns-in_ok-insert-clause-changed : goal.returns-in_ok-insert-clause-changed
@@ -16,3 +20,17 @@ returns-in_ok-insert-clause-changed g c clean is_open has amounts fits =
     let none = subst (λ raised. Raises old s1.now key c.args.amount raised) c.if-not-branch.true (c.in_ok-raise.ensures.changed clean1 is_open has amounts fits) in
     first_put old s1.now new key c.args.amount none.0 none.1
     (c.in_ok-insert.ensures.changed clean stays.is_open stays.schema (amounts_still old s1.now new key c.args.amount none.0 none.1 amounts) (absent_still old s1.now new key c.args.amount none.0 none.1))
+
+pub returns-in_err-insert-clause-blame : goal.returns-in_err-insert-clause-blame
+returns-in_err-insert-clause-blame g c clean is_open has amounts fits =
+    let s0 = state g.S.Store c.args.conn.now in
+    let s1 = state g.S.Store c.raise.new.conn in
+    let s2 = state g.S.Store c.insert.new.conn in
+    let key = c.args.key.now in
+    let e = c.in_err-insert.field-0.0 in
+    on_error c.from_residual-in_err-insert.result e (ForCause s0 s2) c.from_residual-in_err-insert.ensures.1
+    (caused_then _ e s0 s1 s2 (AreAmounts s1.now × (amount_at s1.now key ≡ None)) c.in_ok-raise.ensures.write c.in_err-insert.ensures.write.later
+    (λ clean1 open0 has0.
+    let none = subst (λ raised. Raises s0.now s1.now key c.args.amount raised) c.if-not-branch.true (c.in_ok-raise.ensures.changed clean1 open0 has0 amounts fits) in
+    (amounts_still s0.now s1.now s1.now key c.args.amount none.0 none.1 amounts, absent_still s0.now s1.now s1.now key c.args.amount none.0 none.1))
+    (λ clean2 open1 has1 it. c.in_err-insert.ensures.blame clean2 open1 has1 it.0 it.1) clean is_open has)

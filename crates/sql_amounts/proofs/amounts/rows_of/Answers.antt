@@ -5,6 +5,7 @@ use Rattle.sql_amounts.specs.Keys.{ledger_of}
 use Rattle.sql_amounts.specs.Statements.{amount_text}
 use Rattle.sql_amounts.proofs.Meanings.{amount_query}
 use Rattle.sql_amounts.proofs.ClauseLemmas.{looked}
+use Rattle.sql_amounts.proofs.CauseLemmas.{look_caused}
 use Rattle.sql_amounts.proofs.amounts.rows_of.Goals as goal
 
 pub query-requires : goal.query-requires
@@ -14,3 +15,8 @@ pub returns-clause-value : goal.returns-clause-value
 returns-clause-value g c clean is_open has amounts =
     looked (state g.S.Store c.args.conn.now) (state g.S.Store c.query.new.conn) has amounts c.args.key.now c.query.result
     (rw (c.amount_of_key-text.ensures, c.ledger.ensures, c.first.ensures, c.second.ensures) at (c.query.ensures.shown clean))
+
+pub returns-clause-blame : goal.returns-clause-blame
+returns-clause-blame g c clean is_open has =
+    look_caused (state g.S.Store c.args.conn.now) (state g.S.Store c.query.new.conn) has is_open c.args.key.now c.query.result
+    (rw (c.amount_of_key-text.ensures, c.ledger.ensures, c.first.ensures, c.second.ensures) at (c.query.ensures.fails clean))

@@ -1,10 +1,13 @@
-use Rattle.std.proofs.Common.{sym, ap, subst, ◌∙◌}
+use Rattle.std.proofs.Common.{Err, sym, ap, subst, ◌∙◌}
 use Rattle.sqlite.specs.Held.{state}
 use Rattle.sql_tables.specs.Statements.{IsEdit}
 use Rattle.sql_amounts.specs.Keys.{ledger_of}
 use Rattle.sql_amounts.specs.Statements.{take_text}
 use Rattle.sql_amounts.proofs.Meanings.{take_edit}
 use Rattle.sql_amounts.proofs.EffectLemmas.{takes}
+use Rattle.sql_tables.specs.Ends.{ForCause}
+use Rattle.sql_tables.proofs.ResultLemmas.{on_error}
+use Rattle.sql_amounts.proofs.CauseLemmas.{take_caused}
 use Rattle.sql_amounts.proofs.amounts.take.Goals as goal
 
 pub execute-requires : goal.execute-requires
@@ -12,5 +15,13 @@ execute-requires g c = record { edit = subst IsEdit (sym (c.take_off-text.ensure
 
 pub returns-clause-changed : goal.returns-clause-changed
 returns-clause-changed g c clean is_open has amounts =
-    takes (state g.S.Store c.args.conn.now) (state g.S.Store c.execute.new.conn) c.args.key.now c.args.amount c.in_ok-count.count has amounts
+    takes (state g.S.Store c.args.conn.now) c.args.key.now c.args.amount has amounts (state g.S.Store c.execute.new.conn) c.in_ok-count.count
     (rw (c.take_off-text.ensures, c.ledger.ensures, c.first.ensures, c.second.ensures, c.integer.ensures) at (c.in_ok-count.ensures.runs clean))
+
+pub returns-in_err-count-clause-blame : goal.returns-in_err-count-clause-blame
+returns-in_err-count-clause-blame g c clean is_open has amounts =
+    let old = state g.S.Store c.args.conn.now in
+    let new = state g.S.Store c.execute.new.conn in
+    on_error c.from_residual.result c.in_err-count.field-0.0 (ForCause old new) c.from_residual.ensures.1
+    (take_caused old new has is_open (c.in_err-count.ensures.obeyed is_open) c.args.key.now c.args.amount amounts (Err c.in_err-count.field-0.0)
+    (rw (c.take_off-text.ensures, c.ledger.ensures, c.first.ensures, c.second.ensures, c.integer.ensures) at (c.in_err-count.ensures.runs clean)))

@@ -1,6 +1,8 @@
 use Rattle.sqlite.specs.Held.{state}
 use Rattle.sql_amounts.proofs.Meanings.{next_query}
 use Rattle.sql_amounts.proofs.ClauseLemmas.{walked}
+use Rattle.std.proofs.Common.{unwrap_or, []}
+use Rattle.sql_amounts.proofs.CauseLemmas.{walk_caused}
 use Rattle.sql_amounts.proofs.holdings.next_rows.Goals as goal
 
 pub query-requires : goal.query-requires
@@ -10,3 +12,8 @@ pub returns-clause-value : goal.returns-clause-value
 returns-clause-value g c clean is_open has amounts =
     walked (state g.S.Store c.args.conn.now) (state g.S.Store c.query.new.conn) has amounts c.args.account c.args.above c.query.result
     (rw (c.as_bytes.ensures.bytes, c.bytes_of.ensures) at (c.query.ensures.shown clean))
+
+pub returns-clause-blame : goal.returns-clause-blame
+returns-clause-blame g c clean is_open has =
+    walk_caused (state g.S.Store c.args.conn.now) (state g.S.Store c.query.new.conn) has is_open c.args.account (unwrap_or c.args.above []) c.query.result
+    (rw (c.as_bytes.ensures.bytes, c.bytes_of.ensures) at (c.query.ensures.fails clean))

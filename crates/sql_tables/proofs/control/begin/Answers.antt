@@ -1,6 +1,6 @@
 use Rattle.sqlite.specs.Held.{state}
 use Rattle.sql_tables.proofs.EndLemmas.{execute_fell, execute_opened, execute_why, later_from}
-use Rattle.sql_tables.proofs.ControlLemmas.{begun}
+use Rattle.sql_tables.proofs.ControlLemmas.{begun, begin_caused}
 use Rattle.sql_tables.proofs.control.begin.Goals as goal
 
 pub returns-clause-ok : goal.returns-clause-ok
@@ -17,3 +17,6 @@ returns-clause-opened g c clean = execute_opened (state g.S.Store c.args.conn.no
 
 pub returns-clause-later : goal.returns-clause-later
 returns-clause-later g c = later_from (state g.S.Store c.args.conn.now) (state g.S.Store c.execute.new.self) _ c.execute.ensures.survives
+
+pub returns-clause-blame : goal.returns-clause-blame
+returns-clause-blame g c clean is_open has outside = begin_caused (state g.S.Store c.args.conn.now) (state g.S.Store c.execute.new.self) has is_open outside c.execute.result (c.execute.ensures.runs clean)

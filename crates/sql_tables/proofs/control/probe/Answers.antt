@@ -1,6 +1,9 @@
+use Rattle.std.proofs.Common.{Err}
 use Rattle.sqlite.specs.Held.{state}
+use Rattle.sql_tables.specs.Ends.{ForCause}
 use Rattle.sql_tables.proofs.EndLemmas.{show_opened}
-use Rattle.sql_tables.proofs.ControlLemmas.{probes}
+use Rattle.sql_tables.proofs.ControlLemmas.{probes, probe_caused}
+use Rattle.sql_tables.proofs.ResultLemmas.{on_error}
 use Rattle.sql_tables.proofs.control.probe.Goals as goal
 
 pub query-requires : goal.query-requires
@@ -8,3 +11,9 @@ query-requires g c = record { query = probes }
 
 pub returns-clause-shown : goal.returns-clause-shown
 returns-clause-shown g c clean = show_opened (state g.S.Store c.args.conn.now) (state g.S.Store c.query.new.conn) _ _ _ (c.in_ok-query.ensures.shown clean)
+
+pub returns-in_err-query-clause-blame : goal.returns-in_err-query-clause-blame
+returns-in_err-query-clause-blame g c clean is_open has =
+    let old = state g.S.Store c.args.conn.now in
+    let new = state g.S.Store c.query.new.conn in
+    on_error c.from_residual.result c.in_err-query.field-0.0 (ForCause old new) c.from_residual.ensures.1 (probe_caused old new has is_open (Err c.in_err-query.field-0.0) (c.in_err-query.ensures.fails clean))
