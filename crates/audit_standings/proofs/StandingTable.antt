@@ -1,5 +1,5 @@
 -- What the query of `state` shows, and what the table is then.
-use Rattle.std.proofs.Common.{◌≡◌, ◌≢◌, ◌⊎◌, inl, inr, ℕ, zero, suc, ◌+◌, ◌<◌, ◌≤◌, ◌^◌, pos, List, [], ◌∷◌, length, map, cond, IsTrue, codes, refl, sym, ap, subst, ◌∙◌, arith, Bool, Option, Some, None, Ok, Err, Result, IfOk, Vec}
+use Rattle.std.proofs.Common.{◌≡◌, ◌≢◌, ◌⊎◌, inl, inr, ℕ, zero, suc, ◌+◌, ◌<◌, ◌≤◌, ◌^◌, pos, List, [], ◌∷◌, length, map, cond, IsTrue, codes, refl, sym, ap, subst, ◌∙◌, arith, Bool, true, false, if◌then◌else◌, Option, Some, None, Ok, Err, Result, IfOk, Vec}
 use Rattle.std.specs.declared.alloc.Global.{Global}
 use Rattle.sqlite.specs.declared.error.Error.{Error}
 use Rattle.std.specs.List.{AllByRecursion}
@@ -79,6 +79,10 @@ state_back (Matched Money) = refl
 state_back Cancelled = refl
 state_back Settled = refl
 
+asked_once : (asked : Bool) → (if asked then 1 else 0) ≤ 1
+asked_once true = omega arith
+asked_once false = omega arith
+
 pass : (i m : ℕ) (w : Option Row) (rows : List Row) → i ≢ m → standing_among (and_row i w rows) m ≡ standing_among rows m
 pass i m None rows apart = refl
 pass i m (Some values) rows apart = ap (λ b. cond b (standing_written (written_in (row_with i values))) (standing_among rows m)) (ne_eqb i m apart)
@@ -125,6 +129,7 @@ module _ (standing : ℕ → Standing) where
         is = ap (row_with m) it.0;
         small = omega (arith, high, few);
         instruction = λ none. it.1 (sym (state_back s.state) ∙ none);
+        request = asked_once s.cancel_requested;
       })
 
 -- ---- the table

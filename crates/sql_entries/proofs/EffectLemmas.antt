@@ -1,5 +1,5 @@
 -- What the texts do to the register, and what they show of it.
-use Rattle.std.proofs.Common.{◌≡◌, ℕ, ◌+◌, ◌<◌, ◌^◌, zero, suc, pos, List, [], ◌∷◌, length, length-append, Option, None, Some, Ok, Err, Result, IfOk, Vec, option_map, refl, sym, ap, ◌∙◌, arith}
+use Rattle.std.proofs.Common.{◌≡◌, ℕ, ◌+◌, ◌/◌, ◌<◌, ◌^◌, zero, suc, pos, List, [], ◌∷◌, length, length-append, Option, None, Some, Ok, Err, Result, IfOk, Vec, option_map, refl, sym, ap, ◌∙◌, arith}
 use Rattle.std.specs.declared.alloc.Global.{Global}
 use Rattle.std.proofs.lemmas.Option.{slice_get-map, slice_get_past}
 use Rattle.sqlite.specs.Order.{Row}
@@ -9,7 +9,9 @@ use Rattle.sqlite.specs.Cast.{cast}
 use Rattle.sqlite.specs.Kind.TheVariants.{Integer}
 use Rattle.sqlite.specs.Edit.{edit_of, put_all}
 use Rattle.sqlite.specs.Rowids.TheVariants.{Chosen}
-use Rattle.sqlite.specs.Tree.{put_row}
+use Rattle.sqlite.specs.Tree.{Trees, put_row}
+use Rattle.sqlite.specs.Effect.{value_rows}
+use Rattle.sqlite.specs.Rows.{stamped}
 use Rattle.sqlite.specs.Program.{overlay}
 use Rattle.sqlite.specs.Term.{col}
 use Rattle.sqlite.specs.State.{State, Executes, Shown}
@@ -36,6 +38,13 @@ cast_type : (mt : Option ℕ) → cast Integer (type_value mt) ≡ type_value mt
 cast_type None = cast_null
 cast_type (Some mt) = cast_int (pos mt)
 
+-- what is given is the row
+pub given_row : (db : Trees) (number : ℕ) (entry : Entry) (reply : Reply) (rows : List Row) → rows ≡ value_rows (stamped register_table (given number entry reply)) 22 (length insert_terms / 22) insert_terms
+    → (edit_of db register_table [] Chosen 0 rows).news ≡ row_of number entry reply ∷ []
+given_row db number entry reply rows is =
+    ap (λ all. (edit_of db register_table [] Chosen 0 all).news) is
+    ∙ rw (cast_int (pos number), cast_null, cast_int (pos (kind_number entry)), cast_int (pos (columns_of entry).quantity), cast_int (pos (columns_of entry).amount), cast_int (pos (columns_of entry).rule), cast_int (pos (columns_of entry).mt), cast_int (pos reply.status), cast_type reply.mt) refl
+
 module _ (old new : State) (register : List Kept) (has : old.now.schema ≡ desk_schema) (are : AreEntries old.now register) where
   pub added : (entry : Entry) (reply : Reply) (number count : ℕ) → number ≡ length register + 1 → number < 2 ^ 63 → Executes insert_text (given number entry reply) old new (Ok count) → EntryAdded old.now new.now register entry reply
   added entry reply number count is small h =
@@ -43,9 +52,7 @@ module _ (old new : State) (register : List Kept) (has : old.now.schema ≡ desk
       let db = old.now.trees in
       let made = inserts old new has insert_text params count 3 register_table refl insert_edit.plain h insert_terms 22 refl insert_is in
       let edit = edit_of db register_table [] Chosen 0 made.0 in
-      let news : edit.news ≡ row_of number entry reply ∷ [] =
-      ap (λ all. (edit_of db register_table [] Chosen 0 all).news) made.1
-      ∙ rw (cast_int (pos number), cast_null, cast_int (pos (kind_number entry)), cast_int (pos (columns_of entry).quantity), cast_int (pos (columns_of entry).amount), cast_int (pos (columns_of entry).rule), cast_int (pos (columns_of entry).mt), cast_int (pos reply.status), cast_type reply.mt) refl in
+      let news : edit.news ≡ row_of number entry reply ∷ [] = given_row db number entry reply made.0 made.1 in
       let kept : Kept = record { entry = entry; reply = reply } in
       let last : put_row (row_of number entry reply) (db 6) ≡ rows_from 0 (with_entry register entry reply) = ap (put_row (row_of number entry reply)) are.rows ∙ one_more register number kept is in
       let more : length (with_entry register entry reply) ≡ length register + 1 = length-append register (kept ∷ []) in

@@ -12,6 +12,7 @@ use Rattle.sqlite.proofs.Callers.{command_of}
 use Rattle.sql_tables.specs.Schema.{desk_schema}
 use Rattle.sql_tables.specs.Statements.{IsQuery}
 use Rattle.sqlite_value.specs.declared.keys.Key.{Key}
+use Rattle.sql_tables.proofs.BlameLemmas.{IsWhole}
 use Rattle.sql_tables.specs.Queries.{first_of, rising, falling, equals}
 
 -- a column of the table is a literal, or is not, or is above a parameter
@@ -96,3 +97,37 @@ last_run_text = codes "SELECT day FROM register WHERE kind = 10 AND about = '' O
 pub finds_last_run : Finds last_run_text (col 1 0) falling (is_number 4 10 ∷ is_empty 5 ∷ []) (col 1 13 ∷ [])
 unfolding understood everything
 finds_last_run = record { names = codes "day" ∷ []; is = refl; query = record { selects = refl; plain = (refl, refl); unlisted = refl } }
+
+-- ---- each is one whole statement, of so many parameters
+
+pub entry_of_participant_whole : IsWhole entry_of_participant_text 2
+unfolding understood everything
+entry_of_participant_whole = record { plain = (refl, refl); whole = refl; width_is = refl }
+
+pub entry_of_operator_whole : IsWhole entry_of_operator_text 1
+unfolding understood everything
+entry_of_operator_whole = record { plain = (refl, refl); whole = refl; width_is = refl }
+
+pub participant_whole : IsWhole participant_text 1
+unfolding understood everything
+participant_whole = record { plain = (refl, refl); whole = refl; width_is = refl }
+
+pub owner_whole : IsWhole owner_text 1
+unfolding understood everything
+owner_whole = record { plain = (refl, refl); whole = refl; width_is = refl }
+
+pub security_whole : IsWhole security_text 1
+unfolding understood everything
+security_whole = record { plain = (refl, refl); whole = refl; width_is = refl }
+
+pub first_security_whole : IsWhole first_security_text 0
+unfolding understood everything
+first_security_whole = record { plain = (refl, refl); whole = refl; width_is = refl }
+
+pub next_security_whole : IsWhole next_security_text 1
+unfolding understood everything
+next_security_whole = record { plain = (refl, refl); whole = refl; width_is = refl }
+
+pub last_run_whole : IsWhole last_run_text 0
+unfolding understood everything
+last_run_whole = record { plain = (refl, refl); whole = refl; width_is = refl }

@@ -1,6 +1,10 @@
+pub mod AddLemmas
+pub mod CauseLemmas
 pub mod EffectLemmas
 pub mod EntryLemmas
 pub mod FindingTexts
+pub mod FormedLemmas
+pub mod KeyLemmas
 pub mod LookLemmas
 pub mod NumberedLemmas
 pub mod ReadingLemmas

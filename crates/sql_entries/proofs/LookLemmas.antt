@@ -1,5 +1,5 @@
 -- What each text shows of the register.
-use Rattle.std.proofs.Common.{◌≡◌, ◌≢◌, inl, inr, ℕ, List, [], ◌∷◌, Bool, ◌&&◌, nat_eq, option_map, Option, None, Some, Ok, Err, Result, IfOk, Vec, refl, ap, ◌∙◌, arith, length}
+use Rattle.std.proofs.Common.{◌≡◌, ◌≢◌, inl, inr, ℕ, List, [], ◌∷◌, Bool, ◌&&◌, nat_eq, option_map, Option, None, Some, Ok, Err, Result, IfOk, IfSome, Vec, refl, ap, ◌∙◌, arith, length}
 use Rattle.std.specs.declared.alloc.Global.{Global}
 use Rattle.sqlite.specs.Order.{Row}
 use Rattle.sqlite.specs.declared.error.Error.{Error}
@@ -9,21 +9,24 @@ use Rattle.std.specs.Prelude.{if◌then◌else◌}
 use Rattle.std.specs.Str.{bytes_eq}
 use Rattle.std.proofs.lemmas.Iterator.Adapters.{option_map_id}
 use Rattle.desk_codes.specs.Bic.{IsBic}
+use Rattle.desk_codes.specs.Day.{IsDay}
 use Rattle.desk_codes.specs.Number.{number_of}
 use Rattle.desk_msg.specs.Profile.{code_of_kind}
 use Rattle.desk_rules.specs.declared.history.entry.Sender.TheVariants.{Operator, Participant as FromParticipant}
 use Rattle.desk_rules.specs.declared.answers.reply.Kept.{Kept}
 use Rattle.desk_rules.specs.History.{has_key, number_of_key}
 use Rattle.desk_rules.specs.Facts.{adds_participant, is_participant, owner_by, owner_of, kind_by, kind_of, last_said, last_run}
+use Rattle.desk_rules.specs.WellFormed.{AreWellFormed}
 use Rattle.sql_tables.specs.Schema.{desk_schema}
 use Rattle.sql_entries.specs.Columns.{kind_number, about_of}
 use Rattle.sql_entries.specs.Entries.{AreEntries, entries_in}
 use Rattle.sql_tables.specs.Rows.{number_rows, text_rows}
 use Rattle.sql_entries.proofs.FindingTexts.{entry_of_participant_text, finds_entry_of_participant, entry_of_operator_text, finds_entry_of_operator, participant_text, finds_participant, owner_text, finds_owner, security_text, finds_security, last_run_text, finds_last_run}
+use Rattle.sql_entries.proofs.FormedLemmas.{are_spelt, day_is_day}
 use Rattle.sql_entries.proofs.RowLemmas.{participants_test, operators_test, about_test, plain_test}
 use Rattle.sql_entries.proofs.EntryLemmas.{shows_first, shows_last, number_in, numbers_shown, bic_in, participants_found, participants_shown, first_told, last_told, owners_told, unit_in, kinds_told, day_in, day_text, days_told, last_day}
 
-bic_is_some : (bic : List ℕ) → IsBic bic → bic ≢ []
+pub bic_is_some : (bic : List ℕ) → IsBic bic → bic ≢ []
 bic_is_some bic is none = elim is.len [
   | inl eight ↦ absurd (let e : length bic ≡ 0 = ap length none in omega (arith, e, eight))
   | inr eleven ↦ absurd (let e : length bic ≡ 0 = ap length none in omega (arith, e, eleven))
@@ -73,16 +76,20 @@ module _ (old new : State) (has : old.now.schema ≡ desk_schema) (register : Li
       ∙ first_told (kind_by isin) code_of_kind unit_in passes (kinds_told isin) 0 register
   security_shown isin (Err e) h = tt
 
+  last_run_rows : (rows : List Row) → Shown last_run_text [] old new rows → rows ≡ text_rows (last_said day_text (entries_in register))
+  last_run_rows rows h =
+      let passes : Kept → Bool = λ kept. nat_eq (kind_number kept.entry) 10 && bytes_eq (about_of kept.entry) [] in
+      shows_last old new has register are _ _ rows h _ _ passes
+      (λ number kept. plain_test number kept.entry kept.reply 10) day_in (λ it. refl) finds_last_run
+      ∙ last_told day_text (λ day. day) day_in passes days_told 0 register
+      ∙ ap text_rows (option_map_id (last_said day_text (entries_in register)))
+
   pub last_run_shown : (r : Result (Vec Row Global) Error) → IfOk r (λ rows. Shown last_run_text [] old new rows.items)
       → IfOk r (λ rows. (found : Option (List ℕ)) × (rows.items ≡ text_rows found) × (option_map number_of found ≡ last_run (entries_in register)))
-  last_run_shown (Ok rows) h =
-      let passes : Kept → Bool = λ kept. nat_eq (kind_number kept.entry) 10 && bytes_eq (about_of kept.entry) [] in
-      let day = last_said day_text (entries_in register) in (
-        day,
-        shows_last old new has register are _ _ rows.items h _ _ passes
-            (λ number kept. plain_test number kept.entry kept.reply 10) day_in (λ it. refl) finds_last_run
-            ∙ last_told day_text (λ day. day) day_in passes days_told 0 register
-            ∙ ap text_rows (option_map_id day),
-        last_day (entries_in register),
-      )
+  last_run_shown (Ok rows) h = (last_said day_text (entries_in register), last_run_rows rows.items h, last_day (entries_in register))
   last_run_shown (Err e) h = tt
+
+  pub last_run_days : AreWellFormed (entries_in register) → (r : Result (Vec Row Global) Error) → IfOk r (λ rows. Shown last_run_text [] old new rows.items)
+      → IfOk r (λ rows. (found : Option (List ℕ)) × (rows.items ≡ text_rows found) × IfSome found IsDay)
+  last_run_days formed (Ok rows) h = (last_said day_text (entries_in register), last_run_rows rows.items h, day_is_day (entries_in register) (are_spelt (entries_in register) formed))
+  last_run_days formed (Err e) h = tt

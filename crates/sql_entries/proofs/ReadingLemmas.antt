@@ -1,23 +1,25 @@
 -- What is written of an entry reads back as it.
-use Rattle.std.proofs.Common.{◌≡◌, ℕ, pos, List, [], Option, None, Some, option_map, slice_get, refl, sym, ap, subst, ◌∙◌, arith}
+use Rattle.std.proofs.Common.{◌≡◌, ℕ, pos, List, [], Option, None, Some, option_map, slice_get, IfSome, length, ◌<◌, ◌+◌, ◌^◌, lit<, refl, sym, ap, subst, ◌∙◌, arith}
 use Rattle.sqlite.specs.Order.{Row, column}
-use Rattle.sqlite.specs.declared.types.Value.TheVariants.{Int}
+use Rattle.sqlite.specs.declared.types.Value.TheVariants.{Int, Text as Words}
 use Rattle.desk_msg.specs.declared.instruction.Cash.{Cash}
 use Rattle.desk_msg.specs.declared.instruction.Instruction.{Instruction}
 use Rattle.desk_codes.proofs.CurrencyLemmas.{known_by_letters}
 use Rattle.desk_rules.specs.declared.history.entry.Entry.{Entry}
 use Rattle.desk_rules.specs.declared.history.entry.Entry.TheVariants.{Participant, Account, Security, Issue, Redeem, PayIn, PayOut, Instruct, Cancel, Run}
 use Rattle.desk_rules.specs.declared.answers.reply.Kept.{Kept}
+use Rattle.desk_rules.specs.declared.answers.reply.Reply.{Reply}
 use Rattle.desk_rules.specs.declared.history.entry.Movement.{Movement}
 use Rattle.desk_rules.specs.declared.history.entry.Payment.{Payment}
 use Rattle.desk_rules.specs.declared.history.entry.RunRule.{RunRule}
 use Rattle.desk_rules.specs.declared.history.entry.RunRule.TheVariants.{OnePass, Passes}
 use Rattle.desk_rules.proofs.SameContent.{instruction_same, movement_same, order_same, payment_same}
-use Rattle.sql_tables.specs.CashColumns.{currency_of}
+use Rattle.desk_rules.specs.Spelt.{IsSpelt}
+use Rattle.sql_tables.specs.CashColumns.{amount_of, currency_of}
 use Rattle.sql_tables.proofs.ColumnLemmas.{count, one_cash, one_kind, one_type, some_letters, words}
 use Rattle.sql_entries.specs.Columns.{kind_number, number_of_rule}
-use Rattle.sql_entries.specs.Reading.{Says, SaysCash, SaysInstruction, SaysMovement, SaysPayment}
-use Rattle.sql_entries.specs.Shown.{row_if, shown_entry}
+use Rattle.sql_entries.specs.Reading.{Says, SaysCash, SaysInstruction, SaysMovement, SaysPayment, SaysReply}
+use Rattle.sql_entries.specs.Shown.{HasShortNumbers, row_if, shown_entry, shown_reply}
 
 one_rule : (a b : RunRule) → number_of_rule a ≡ number_of_rule b → a ≡ b
 one_rule OnePass OnePass e = refl
@@ -78,3 +80,61 @@ entry_found (Some kept) rows row read is first kind says =
     let one : Some row ≡ Some (shown_entry kept.entry) = first ∙ ap (λ (all : List Row). slice_get all 0) is in
     let same : row ≡ shown_entry kept.entry = cc in
     ap Some (reads_back kept.entry read (subst (λ (r : Row). column r 2 ≡ Int (pos (kind_number read))) same kind) (subst (λ (r : Row). Says r read) same says))
+
+-- ---- what was written is read
+
+says_cash : (sender : List ℕ) (i : Instruction) → SaysCash (shown_entry (Instruct sender i)) i.cash
+says_cash sender i = go i.cash refl
+  where
+    go : (cash : Option Cash) → i.cash ≡ cash → SaysCash (shown_entry (Instruct sender i)) cash
+    go None is = ap (λ cash. Words (currency_of cash)) is
+    go (Some cash) is = record { currency = ap (λ cash. Words (currency_of cash)) is; amount = ap (λ cash. Int (pos (amount_of cash))) is }
+
+-- the row of an entry says it
+says_itself : (entry : Entry) → Says (shown_entry entry) entry
+says_itself (Participant reference bic) = (refl, refl)
+says_itself (Account reference bic account) = (refl, refl, refl)
+says_itself (Security reference isin kind) = (refl, refl, refl)
+says_itself (Issue movement) = record { reference = refl; account = refl; isin = refl; quantity = refl }
+says_itself (Redeem movement) = record { reference = refl; account = refl; isin = refl; quantity = refl }
+says_itself (PayIn payment) = record { reference = refl; bic = refl; currency = refl; amount = refl }
+says_itself (PayOut payment) = record { reference = refl; bic = refl; currency = refl; amount = refl }
+says_itself (Instruct sender i) = (
+  refl,
+  record {
+    mt = refl;
+    reference = refl;
+    day = refl;
+    isin = refl;
+    unit = refl;
+    quantity = refl;
+    account = refl;
+    settlement = refl;
+    counterparty = refl;
+    place = refl;
+    cash = says_cash sender i;
+  },
+)
+says_itself (Cancel sender order) = (refl, refl, refl, refl)
+says_itself (Run reference day rule) = (refl, refl, refl)
+
+-- so what holds of each row that says an entry, holds of the row that is shown
+pub entry_reads : (Holds : Type 0) (kept : Option Kept) (rows : List Row) (row : Row) → rows ≡ row_if (λ k. shown_entry k.entry) kept → Some row ≡ slice_get rows 0 → IfSome kept (λ k. IsSpelt k.entry)
+    → ((entry : Entry) → 15 < length row → column row 2 ≡ Int (pos (kind_number entry)) → Says row entry → IsSpelt entry → Holds) → Holds
+entry_reads Holds None rows row is first spelt all = absurd (let e : Some row ≡ None = first ∙ ap (λ (all : List Row). slice_get all 0) is in cc)
+entry_reads Holds (Some kept) rows row is first spelt all =
+    let one : Some row ≡ Some (shown_entry kept.entry) = first ∙ ap (λ (all : List Row). slice_get all 0) is in
+    let same : row ≡ shown_entry kept.entry = cc in
+    let long : 15 < length (shown_entry kept.entry) = lit< tt in
+    let back : shown_entry kept.entry ≡ row = sym same in
+    all kept.entry (subst (λ (r : Row). 15 < length r) back long) (ap (λ (r : Row). column r 2) same) (subst (λ (r : Row). Says r kept.entry) back (says_itself kept.entry)) spelt
+
+pub reply_reads : (Holds : Type 0) (kept : Option Kept) (rows : List Row) (row : Row) → rows ≡ row_if (λ k. shown_reply k.reply) kept → Some row ≡ slice_get rows 0 → IfSome kept (λ k. HasShortNumbers k.reply)
+    → ((reply : Reply) → 0 + 2 < length row → SaysReply row 0 reply → reply.status < 2 ^ 16 → IfSome reply.mt (λ n. n < 2 ^ 16) → Holds) → Holds
+reply_reads Holds None rows row is first short all = absurd (let e : Some row ≡ None = first ∙ ap (λ (all : List Row). slice_get all 0) is in cc)
+reply_reads Holds (Some kept) rows row is first short all =
+    let one : Some row ≡ Some (shown_reply kept.reply) = first ∙ ap (λ (all : List Row). slice_get all 0) is in
+    let same : row ≡ shown_reply kept.reply = cc in
+    let long : 0 + 2 < length (shown_reply kept.reply) = lit< tt in
+    let back : shown_reply kept.reply ≡ row = sym same in
+    all kept.reply (subst (λ (r : Row). 0 + 2 < length r) back long) (subst (λ (r : Row). SaysReply r 0 kept.reply) back (record { status = refl; mt = refl; text = refl })) short.status short.mt

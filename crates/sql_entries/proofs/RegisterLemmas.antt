@@ -123,7 +123,7 @@ last_shown register held rows is first = go register (subst (λ mine. IsFirst mi
 
 -- ---- one row more
 
-all_below : (n last : ℕ) (register : List Kept) → n + length register < last → AllByRecursion (λ row. value_cmp (rowid row) (Int (pos last)) ≡ Less) (rows_from n register)
+pub all_below : (n last : ℕ) (register : List Kept) → n + length register < last → AllByRecursion (λ row. value_cmp (rowid row) (Int (pos last)) ≡ Less) (rows_from n register)
 all_below n last [] low = tt
 all_below n last (kept ∷ more) low = (number_less (n + 1) last (omega arith), all_below (n + 1) last more (omega arith))
 

@@ -10,6 +10,7 @@ use Rattle.sqlite_tied.specs.Compute.{everything}
 use Rattle.sqlite.proofs.Callers.{IsPlain, command_of}
 use Rattle.sql_tables.specs.Schema.{desk_schema}
 use Rattle.sql_tables.specs.Statements.{IsEdit, IsQuery}
+use Rattle.sql_tables.proofs.BlameLemmas.{IsWhole}
 use Rattle.sql_tables.specs.Queries.{plain, first_of, falling, equals}
 
 abbrev pub insert_text : List ℕ
@@ -86,3 +87,21 @@ entry_is = refl
 pub entries : IsQuery entry_text
 unfolding understood everything
 entries = record { selects = refl; plain = (refl, refl); unlisted = refl }
+
+-- ---- each is one whole statement, of so many parameters
+
+pub insert_whole : IsWhole insert_text 21
+unfolding understood everything
+insert_whole = record { plain = (refl, refl); whole = refl; width_is = refl }
+
+pub last_whole : IsWhole last_text 0
+unfolding understood everything
+last_whole = record { plain = (refl, refl); whole = refl; width_is = refl }
+
+pub entry_whole : IsWhole entry_text 1
+unfolding understood everything
+entry_whole = record { plain = (refl, refl); whole = refl; width_is = refl }
+
+pub reply_whole : IsWhole reply_text 1
+unfolding understood everything
+reply_whole = record { plain = (refl, refl); whole = refl; width_is = refl }

@@ -1,8 +1,10 @@
 -- What is shown of an entry, and of a reply, where they are looked up by number.
-use Rattle.std.specs.Prelude.{ℕ, zero, suc, pos, List, [], ◌∷◌, Option, None, Some}
+use Rattle.std.specs.Prelude.{ℕ, zero, suc, pos, List, [], ◌∷◌, Option, None, Some, ◌<◌, ◌^◌, IfSome}
+use Rattle.std.specs.List.{AllByRecursion}
 use Rattle.sqlite.specs.declared.types.Value.TheVariants.{Int, Text as Words}
 use Rattle.sqlite.specs.Order.{Row}
 use Rattle.desk_rules.specs.declared.history.entry.Entry.{Entry}
+use Rattle.desk_rules.specs.declared.answers.reply.Kept.{Kept}
 use Rattle.desk_rules.specs.declared.answers.reply.Reply.{Reply}
 use Rattle.desk_rules.specs.History.{reference_of, sender_of}
 use Rattle.sql_entries.specs.Columns.{columns_of, kind_number, sender_text}
@@ -27,3 +29,11 @@ row_if shows (Some x) = shows x ∷ []
 abbrev pub count_rows : ℕ → List Row
 count_rows zero = []
 count_rows (suc n) = (Int (pos (suc n)) ∷ []) ∷ []
+
+-- the status of a reply and its message type are numbers of 16 bits
+pub record HasShortNumbers (reply : Reply) : Type 0 where
+  pub status : reply.status < 2 ^ 16
+  pub mt : IfSome reply.mt (λ mt. mt < 2 ^ 16)
+
+abbrev pub HaveShortNumbers : List Kept → Type 0
+HaveShortNumbers = AllByRecursion (λ kept. HasShortNumbers kept.reply)

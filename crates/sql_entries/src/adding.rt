@@ -1,13 +1,22 @@
 //! One entry more.
-ghost use Rattle.std.specs.Prelude.{◌≡◌, ◌+◌, ◌<◌, ◌^◌, List, OnOk, length};
+ghost use Rattle.std.specs.Prelude.{◌≡◌, ◌+◌, ◌<◌, ◌^◌, List, None, OnOk, length};
 ghost use Rattle.desk_rules.specs.declared.answers.reply.Kept.{Kept};
-ghost use Rattle.sql_entries.specs.Entries.{AreEntries, EntryAdded};
-ghost use Rattle.sql_tables.specs.Calls.{Soundly, Writes, tables};
+ghost use Rattle.desk_rules.specs.History.{number_of_key, reference_of, sender_of};
+ghost use Rattle.desk_rules.specs.WellFormed.{AreWellFormed, IsWellFormed};
+ghost use Rattle.sql_entries.specs.Entries.{AreEntries, EntryAdded, entries_in};
+ghost use Rattle.sql_tables.specs.Calls.{FailsForCause, Soundly, Writes, tables};
 
 use crate::values::row_values;
-use desk_rules::{Entry, Reply};
+use desk_rules::{Entry, Reply, well_formed};
 use sql_tables::statement::execute;
 use sqlite::{Alter, Connection, Error};
+
+/// An entry is well formed: whoever sends one has a name.
+fn formed(entry: &Entry)
+    ensures { IsWellFormed entry.now }
+{
+    well_formed(entry);
+}
 
 /// Adds the entry of this number, one above the last, with its reply. It is refused where its sender has used its
 /// reference before.
@@ -20,7 +29,9 @@ pub fn add_entry<S: Alter>(
     requires { number < 2 ^ 63 }
     ensures added { Soundly S.Store conn.old conn.new ((register : List Kept) → AreEntries (tables S.Store conn.old) register → number ≡ length register + 1 → OnOk result (EntryAdded (tables S.Store conn.old) (tables S.Store conn.new) register entry.now reply.now)) }
     ensures write { Writes S.Store conn.old conn.new result }
+    ensures blame { Soundly S.Store conn.old conn.new ((register : List Kept) → AreEntries (tables S.Store conn.old) register → number ≡ length register + 1 → AreWellFormed (entries_in register) → number_of_key (entries_in register) (sender_of entry.now) (reference_of entry.now) ≡ None → FailsForCause S.Store conn.old conn.new result) }
 {
+    formed(entry);
     let row = row_values(number, entry, reply);
     execute(
         conn,

@@ -5,10 +5,11 @@ ghost use Rattle.desk_codes.specs.Number.{number_of};
 ghost use Rattle.desk_rules.specs.declared.answers.reply.Kept.{Kept};
 ghost use Rattle.desk_rules.specs.Facts.{is_participant, owner_of, kind_of, last_run};
 ghost use Rattle.desk_rules.specs.History.{number_of_key};
+ghost use Rattle.desk_rules.specs.WellFormed.{AreWellFormed};
 ghost use Rattle.desk_register.specs.Looked.{IsSecurityAfter};
 ghost use Rattle.sql_entries.specs.Entries.{AreEntries, entries_in};
 ghost use Rattle.sql_tables.specs.Rows.{number_rows, text_rows};
-ghost use Rattle.sql_tables.specs.Calls.{Looks, Soundly, tables};
+ghost use Rattle.sql_tables.specs.Calls.{FailsForCause, Looks, Soundly, tables};
 
 use crate::texts;
 use desk_codes::{AccountId, Bic, Day, Isin, Reference};
@@ -25,6 +26,7 @@ fn rows_of_key<S: Alter>(
 ) -> Result<Vec<Row>, Error>
     ensures shown { Soundly S.Store conn.old conn.new ((register : List Kept) → AreEntries (tables S.Store conn.old) register → IfOk result (λ rows. rows.items ≡ number_rows (number_of_key (entries_in register) sender reference))) }
     ensures look { Looks S.Store conn.old conn.new result }
+    ensures blame { Soundly S.Store conn.old conn.new (FailsForCause S.Store conn.old conn.new result) }
 {
     match sender {
         Sender::Operator => texts::entry_of_operator(conn, reference),
@@ -40,6 +42,7 @@ pub fn number_of<S: Alter>(
 ) -> Result<Option<u64>, Error>
     ensures value { Soundly S.Store conn.old conn.new ((register : List Kept) → AreEntries (tables S.Store conn.old) register → IfOk result (λ r. r ≡ number_of_key (entries_in register) sender reference)) }
     ensures look { Looks S.Store conn.old conn.new result }
+    ensures blame { Soundly S.Store conn.old conn.new ((register : List Kept) → AreEntries (tables S.Store conn.old) register → FailsForCause S.Store conn.old conn.new result) }
 {
     let rows = rows_of_key(conn, sender, reference)?;
     only_number(&rows)
@@ -49,6 +52,7 @@ pub fn number_of<S: Alter>(
 pub fn is_participant<S: Alter>(conn: &mut Connection<S>, bic: Bic) -> Result<bool, Error>
     ensures value { Soundly S.Store conn.old conn.new ((register : List Kept) → AreEntries (tables S.Store conn.old) register → IfOk result (λ r. r ≡ is_participant (entries_in register) bic)) }
     ensures look { Looks S.Store conn.old conn.new result }
+    ensures blame { Soundly S.Store conn.old conn.new ((register : List Kept) → AreEntries (tables S.Store conn.old) register → FailsForCause S.Store conn.old conn.new result) }
 {
     let rows = texts::participant(conn, bic)?;
     is_shown(&rows)
@@ -61,6 +65,7 @@ pub fn owner_of<S: Alter>(
 ) -> Result<Option<Bic>, Error>
     ensures value { Soundly S.Store conn.old conn.new ((register : List Kept) → AreEntries (tables S.Store conn.old) register → IfOk result (λ r. r ≡ owner_of (entries_in register) account)) }
     ensures look { Looks S.Store conn.old conn.new result }
+    ensures blame { Soundly S.Store conn.old conn.new ((register : List Kept) → AreEntries (tables S.Store conn.old) register → AreWellFormed (entries_in register) → FailsForCause S.Store conn.old conn.new result) }
 {
     let rows = texts::owner(conn, account)?;
     only_bic(&rows)
@@ -70,6 +75,7 @@ pub fn owner_of<S: Alter>(
 pub fn kind_of<S: Alter>(conn: &mut Connection<S>, isin: Isin) -> Result<Option<Kind>, Error>
     ensures value { Soundly S.Store conn.old conn.new ((register : List Kept) → AreEntries (tables S.Store conn.old) register → IfOk result (λ r. r ≡ kind_of (entries_in register) isin)) }
     ensures look { Looks S.Store conn.old conn.new result }
+    ensures blame { Soundly S.Store conn.old conn.new ((register : List Kept) → AreEntries (tables S.Store conn.old) register → FailsForCause S.Store conn.old conn.new result) }
 {
     let rows = texts::security(conn, isin)?;
     only_kind(&rows)
@@ -79,6 +85,7 @@ pub fn kind_of<S: Alter>(conn: &mut Connection<S>, isin: Isin) -> Result<Option<
 fn rows_above<S: Alter>(conn: &mut Connection<S>, isin: Option<Isin>) -> Result<Vec<Row>, Error>
     ensures shown { Soundly S.Store conn.old conn.new ((register : List Kept) → AreEntries (tables S.Store conn.old) register → IfOk result (λ rows. (found : Option (List ℕ)) × (rows.items ≡ text_rows found) × IsSecurityAfter (entries_in register) isin found)) }
     ensures look { Looks S.Store conn.old conn.new result }
+    ensures blame { Soundly S.Store conn.old conn.new (FailsForCause S.Store conn.old conn.new result) }
 {
     match isin {
         Some(isin) => texts::security_above(conn, isin),
@@ -93,6 +100,7 @@ pub fn security_after<S: Alter>(
 ) -> Result<Option<Isin>, Error>
     ensures value { Soundly S.Store conn.old conn.new ((register : List Kept) → AreEntries (tables S.Store conn.old) register → IfOk result (λ r. IsSecurityAfter (entries_in register) isin r)) }
     ensures look { Looks S.Store conn.old conn.new result }
+    ensures blame { Soundly S.Store conn.old conn.new ((register : List Kept) → AreEntries (tables S.Store conn.old) register → AreWellFormed (entries_in register) → FailsForCause S.Store conn.old conn.new result) }
 {
     let rows = rows_above(conn, isin)?;
     only_isin(&rows)
@@ -102,6 +110,7 @@ pub fn security_after<S: Alter>(
 pub fn last_run<S: Alter>(conn: &mut Connection<S>) -> Result<Option<Day>, Error>
     ensures value { Soundly S.Store conn.old conn.new ((register : List Kept) → AreEntries (tables S.Store conn.old) register → IfOk result (λ r. option_map number_of r ≡ last_run (entries_in register))) }
     ensures look { Looks S.Store conn.old conn.new result }
+    ensures blame { Soundly S.Store conn.old conn.new ((register : List Kept) → AreEntries (tables S.Store conn.old) register → AreWellFormed (entries_in register) → FailsForCause S.Store conn.old conn.new result) }
 {
     let rows = texts::last_run_day(conn)?;
     only_day(&rows)

@@ -3,13 +3,15 @@ ghost use Rattle.std.specs.Prelude.{◌≡◌, ◌<◌, ◌^◌, ◌+◌, ℕ, L
 ghost use Rattle.sqlite.specs.declared.error.ErrorCode.TheVariants.{OutOfMemory};
 ghost use Rattle.desk_rules.specs.declared.answers.reply.Kept.{Kept};
 ghost use Rattle.desk_rules.specs.History.{entry_at};
+ghost use Rattle.desk_rules.specs.Spelt.{IsSpelt};
+ghost use Rattle.desk_rules.specs.WellFormed.{AreWellFormed};
 ghost use Rattle.desk_register.specs.Looked.{kept_at};
 ghost use Rattle.desk_rules.specs.declared.answers.reply.Reply.{Reply};
 ghost use Rattle.sqlite_value.specs.Order.{column};
 ghost use Rattle.sql_entries.specs.Reading.{SaysReply};
 ghost use Rattle.sql_entries.specs.Entries.{AreEntries, entries_in, type_value};
-ghost use Rattle.sql_entries.specs.Shown.{count_rows, row_if, shown_entry, shown_reply};
-ghost use Rattle.sql_tables.specs.Calls.{Looks, Soundly, tables};
+ghost use Rattle.sql_entries.specs.Shown.{HasShortNumbers, HaveShortNumbers, count_rows, row_if, shown_entry, shown_reply};
+ghost use Rattle.sql_tables.specs.Calls.{FailsForCause, Looks, Soundly, tables};
 
 use crate::entry::entry_in;
 use desk_rules::{Entry, Reply, Text};
@@ -26,6 +28,7 @@ const GREATEST: u64 = i64::MAX as u64;
 fn last_rows<S: Alter>(conn: &mut Connection<S>) -> Result<Vec<Row>, Error>
     ensures shown { Soundly S.Store conn.old conn.new ((register : List Kept) → AreEntries (tables S.Store conn.old) register → IfOk result (λ rows. rows.items ≡ count_rows (length register))) }
     ensures look { Looks S.Store conn.old conn.new result }
+    ensures blame { Soundly S.Store conn.old conn.new (FailsForCause S.Store conn.old conn.new result) }
 {
     query(
         conn,
@@ -38,6 +41,7 @@ fn entry_rows<S: Alter>(conn: &mut Connection<S>, number: u64) -> Result<Vec<Row
     requires { number < 2 ^ 63 }
     ensures shown { Soundly S.Store conn.old conn.new ((register : List Kept) → AreEntries (tables S.Store conn.old) register → IfOk result (λ rows. rows.items ≡ row_if (λ kept. shown_entry kept.entry) (kept_at register number))) }
     ensures look { Looks S.Store conn.old conn.new result }
+    ensures blame { Soundly S.Store conn.old conn.new (FailsForCause S.Store conn.old conn.new result) }
 {
     query(
         conn,
@@ -50,6 +54,7 @@ fn reply_rows<S: Alter>(conn: &mut Connection<S>, number: u64) -> Result<Vec<Row
     requires { number < 2 ^ 63 }
     ensures shown { Soundly S.Store conn.old conn.new ((register : List Kept) → AreEntries (tables S.Store conn.old) register → IfOk result (λ rows. rows.items ≡ row_if (λ kept. shown_reply kept.reply) (kept_at register number))) }
     ensures look { Looks S.Store conn.old conn.new result }
+    ensures blame { Soundly S.Store conn.old conn.new (FailsForCause S.Store conn.old conn.new result) }
 {
     query(
         conn,
@@ -70,7 +75,8 @@ fn count_in(rows: &[Row]) -> Result<u64, Error>
 
 /// The entry in the one row.
 fn first_entry(alloc: Global, rows: &[Row]) -> Result<Option<Entry>, Error>
-    ensures { (kept : Option Kept) → rows.now ≡ row_if (λ kept. shown_entry kept.entry) kept → IfOk result (λ entry. entry ≡ option_map (λ kept. kept.entry) kept) }
+    ensures value { (kept : Option Kept) → rows.now ≡ row_if (λ kept. shown_entry kept.entry) kept → IfOk result (λ entry. entry ≡ option_map (λ kept. kept.entry) kept) }
+    ensures all { (kept : Option Kept) → rows.now ≡ row_if (λ kept. shown_entry kept.entry) kept → IfSome kept (λ kept. IsSpelt kept.entry) → IfErr result (λ e. e ≡ Error.SqliteFailure OutOfMemory) }
 {
     match rows.first() {
         Some(row) => Ok(Some(entry_in(alloc, row)?)),
@@ -109,7 +115,8 @@ pub fn reply_in(alloc: Global, row: &Row, at: usize) -> Result<Reply, Error>
 
 /// The reply in the one row.
 fn first_reply(alloc: Global, rows: &[Row]) -> Result<Option<Reply>, Error>
-    ensures { (kept : Option Kept) → rows.now ≡ row_if (λ kept. shown_reply kept.reply) kept → IfOk result (λ reply. reply ≡ option_map (λ kept. kept.reply) kept) }
+    ensures value { (kept : Option Kept) → rows.now ≡ row_if (λ kept. shown_reply kept.reply) kept → IfOk result (λ reply. reply ≡ option_map (λ kept. kept.reply) kept) }
+    ensures all { (kept : Option Kept) → rows.now ≡ row_if (λ kept. shown_reply kept.reply) kept → IfSome kept (λ kept. HasShortNumbers kept.reply) → IfErr result (λ e. e ≡ Error.SqliteFailure OutOfMemory) }
 {
     match rows.first() {
         Some(row) => Ok(Some(reply_in(alloc, row, 0)?)),
@@ -121,6 +128,7 @@ fn first_reply(alloc: Global, rows: &[Row]) -> Result<Option<Reply>, Error>
 pub fn entry_count<S: Alter>(conn: &mut Connection<S>) -> Result<u64, Error>
     ensures value { Soundly S.Store conn.old conn.new ((register : List Kept) → AreEntries (tables S.Store conn.old) register → IfOk result (λ count. count ≡ length register)) }
     ensures look { Looks S.Store conn.old conn.new result }
+    ensures blame { Soundly S.Store conn.old conn.new ((register : List Kept) → AreEntries (tables S.Store conn.old) register → FailsForCause S.Store conn.old conn.new result) }
 {
     let rows = last_rows(conn)?;
     count_in(&rows)
@@ -135,6 +143,7 @@ pub fn entry_at<S: Alter>(
 ) -> Result<Option<Entry>, Error>
     ensures value { Soundly S.Store conn.old conn.new ((register : List Kept) → AreEntries (tables S.Store conn.old) register → IfOk result (λ entry. entry ≡ entry_at (entries_in register) number)) }
     ensures look { Looks S.Store conn.old conn.new result }
+    ensures blame { Soundly S.Store conn.old conn.new ((register : List Kept) → AreEntries (tables S.Store conn.old) register → AreWellFormed (entries_in register) → FailsForCause S.Store conn.old conn.new result) }
 {
     if number > GREATEST {
         return Ok(None);
@@ -152,6 +161,7 @@ pub fn reply_at<S: Alter>(
 ) -> Result<Option<Reply>, Error>
     ensures value { Soundly S.Store conn.old conn.new ((register : List Kept) → AreEntries (tables S.Store conn.old) register → IfOk result (λ reply. reply ≡ option_map (λ kept. kept.reply) (kept_at register number))) }
     ensures look { Looks S.Store conn.old conn.new result }
+    ensures blame { Soundly S.Store conn.old conn.new ((register : List Kept) → AreEntries (tables S.Store conn.old) register → HaveShortNumbers register → FailsForCause S.Store conn.old conn.new result) }
 {
     if number > GREATEST {
         return Ok(None);

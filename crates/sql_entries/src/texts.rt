@@ -1,14 +1,16 @@
 //! The statements, and what each shows.
-ghost use Rattle.std.specs.Prelude.{◌≡◌, if◌then◌else◌, ℕ, List, Option, option_map, IfOk};
+ghost use Rattle.std.specs.Prelude.{◌≡◌, if◌then◌else◌, ℕ, List, Option, option_map, IfOk, IfSome};
+ghost use Rattle.desk_codes.specs.Day.{IsDay};
 ghost use Rattle.desk_codes.specs.Number.{number_of};
 ghost use Rattle.desk_msg.specs.Profile.{code_of_kind};
 ghost use Rattle.desk_rules.specs.declared.answers.reply.Kept.{Kept};
 ghost use Rattle.desk_rules.specs.Facts.{is_participant, owner_of, kind_of, last_run};
 ghost use Rattle.desk_rules.specs.History.{number_of_key};
+ghost use Rattle.desk_rules.specs.WellFormed.{AreWellFormed};
 ghost use Rattle.desk_register.specs.Looked.{IsSecurityAfter};
 ghost use Rattle.sql_entries.specs.Entries.{AreEntries, entries_in};
 ghost use Rattle.sql_tables.specs.Rows.{number_rows, text_rows};
-ghost use Rattle.sql_tables.specs.Calls.{Looks, Soundly, tables};
+ghost use Rattle.sql_tables.specs.Calls.{FailsForCause, Looks, Soundly, tables};
 
 use desk_codes::{AccountId, Bic, Isin, Reference};
 use desk_rules::Sender;
@@ -24,6 +26,7 @@ pub fn entry_of_participant<S: Alter>(
 ) -> Result<Vec<Row>, Error>
     ensures shown { Soundly S.Store conn.old conn.new ((register : List Kept) → AreEntries (tables S.Store conn.old) register → IfOk result (λ rows. rows.items ≡ number_rows (number_of_key (entries_in register) (Sender.Participant sender) reference))) }
     ensures look { Looks S.Store conn.old conn.new result }
+    ensures blame { Soundly S.Store conn.old conn.new (FailsForCause S.Store conn.old conn.new result) }
 {
     query(
         conn,
@@ -42,6 +45,7 @@ pub fn entry_of_operator<S: Alter>(
 ) -> Result<Vec<Row>, Error>
     ensures shown { Soundly S.Store conn.old conn.new ((register : List Kept) → AreEntries (tables S.Store conn.old) register → IfOk result (λ rows. rows.items ≡ number_rows (number_of_key (entries_in register) Sender.Operator reference))) }
     ensures look { Looks S.Store conn.old conn.new result }
+    ensures blame { Soundly S.Store conn.old conn.new (FailsForCause S.Store conn.old conn.new result) }
 {
     query(
         conn,
@@ -54,6 +58,7 @@ pub fn entry_of_operator<S: Alter>(
 pub fn participant<S: Alter>(conn: &mut Connection<S>, bic: Bic) -> Result<Vec<Row>, Error>
     ensures shown { Soundly S.Store conn.old conn.new ((register : List Kept) → AreEntries (tables S.Store conn.old) register → IfOk result (λ rows. rows.items ≡ text_rows (if is_participant (entries_in register) bic then Option.Some bic else Option.None))) }
     ensures look { Looks S.Store conn.old conn.new result }
+    ensures blame { Soundly S.Store conn.old conn.new (FailsForCause S.Store conn.old conn.new result) }
 {
     query(
         conn,
@@ -66,6 +71,7 @@ pub fn participant<S: Alter>(conn: &mut Connection<S>, bic: Bic) -> Result<Vec<R
 pub fn owner<S: Alter>(conn: &mut Connection<S>, account: AccountId) -> Result<Vec<Row>, Error>
     ensures shown { Soundly S.Store conn.old conn.new ((register : List Kept) → AreEntries (tables S.Store conn.old) register → IfOk result (λ rows. rows.items ≡ text_rows (owner_of (entries_in register) account))) }
     ensures look { Looks S.Store conn.old conn.new result }
+    ensures blame { Soundly S.Store conn.old conn.new (FailsForCause S.Store conn.old conn.new result) }
 {
     query(
         conn,
@@ -78,6 +84,7 @@ pub fn owner<S: Alter>(conn: &mut Connection<S>, account: AccountId) -> Result<V
 pub fn security<S: Alter>(conn: &mut Connection<S>, isin: Isin) -> Result<Vec<Row>, Error>
     ensures shown { Soundly S.Store conn.old conn.new ((register : List Kept) → AreEntries (tables S.Store conn.old) register → IfOk result (λ rows. rows.items ≡ text_rows (option_map code_of_kind (kind_of (entries_in register) isin)))) }
     ensures look { Looks S.Store conn.old conn.new result }
+    ensures blame { Soundly S.Store conn.old conn.new (FailsForCause S.Store conn.old conn.new result) }
 {
     query(
         conn,
@@ -90,6 +97,7 @@ pub fn security<S: Alter>(conn: &mut Connection<S>, isin: Isin) -> Result<Vec<Ro
 pub fn first_security<S: Alter>(conn: &mut Connection<S>) -> Result<Vec<Row>, Error>
     ensures shown { Soundly S.Store conn.old conn.new ((register : List Kept) → AreEntries (tables S.Store conn.old) register → IfOk result (λ rows. (found : Option (List ℕ)) × (rows.items ≡ text_rows found) × IsSecurityAfter (entries_in register) Option.None found)) }
     ensures look { Looks S.Store conn.old conn.new result }
+    ensures blame { Soundly S.Store conn.old conn.new (FailsForCause S.Store conn.old conn.new result) }
 {
     query(
         conn,
@@ -102,6 +110,7 @@ pub fn first_security<S: Alter>(conn: &mut Connection<S>) -> Result<Vec<Row>, Er
 pub fn security_above<S: Alter>(conn: &mut Connection<S>, isin: Isin) -> Result<Vec<Row>, Error>
     ensures shown { Soundly S.Store conn.old conn.new ((register : List Kept) → AreEntries (tables S.Store conn.old) register → IfOk result (λ rows. (found : Option (List ℕ)) × (rows.items ≡ text_rows found) × IsSecurityAfter (entries_in register) (Option.Some isin) found)) }
     ensures look { Looks S.Store conn.old conn.new result }
+    ensures blame { Soundly S.Store conn.old conn.new (FailsForCause S.Store conn.old conn.new result) }
 {
     query(
         conn,
@@ -113,7 +122,9 @@ pub fn security_above<S: Alter>(conn: &mut Connection<S>, isin: Isin) -> Result<
 /// The day of the last run.
 pub fn last_run_day<S: Alter>(conn: &mut Connection<S>) -> Result<Vec<Row>, Error>
     ensures shown { Soundly S.Store conn.old conn.new ((register : List Kept) → AreEntries (tables S.Store conn.old) register → IfOk result (λ rows. (found : Option (List ℕ)) × (rows.items ≡ text_rows found) × (option_map number_of found ≡ last_run (entries_in register)))) }
+    ensures days { Soundly S.Store conn.old conn.new ((register : List Kept) → AreEntries (tables S.Store conn.old) register → AreWellFormed (entries_in register) → IfOk result (λ rows. (found : Option (List ℕ)) × (rows.items ≡ text_rows found) × IfSome found IsDay)) }
     ensures look { Looks S.Store conn.old conn.new result }
+    ensures blame { Soundly S.Store conn.old conn.new (FailsForCause S.Store conn.old conn.new result) }
 {
     query(
         conn,

@@ -1,3 +1,4 @@
+pub mod CauseLemmas
 pub mod CountLemmas
 pub mod InsertLemmas
 pub mod MessageLemmas

@@ -1,6 +1,6 @@
 -- What the texts mean.
-use Rattle.std.proofs.Common.{◌≡◌, ℕ, pos, List, [], ◌∷◌, codes, refl}
-use Rattle.sqlite.specs.declared.types.Value.TheVariants.{Null, Int}
+use Rattle.std.proofs.Common.{◌≡◌, ℕ, ℤ, pos, List, [], ◌∷◌, true, codes, refl}
+use Rattle.sqlite.specs.declared.types.Value.TheVariants.{Null, Int, Text as Words}
 use Rattle.sqlite.specs.Term.{Term, lit, col, op2}
 use Rattle.sqlite.specs.Collation.TheVariants.{Binary}
 use Rattle.sqlite_sql.specs.declared.ops.BinaryOp.TheVariants.{Compare}
@@ -8,11 +8,13 @@ use Rattle.sqlite_sql.specs.declared.ops.CompareOp.TheVariants.{Ge, Le}
 use Rattle.sqlite.specs.Command.TheVariants.{Select, Insert}
 use Rattle.sqlite.specs.Source.TheVariants.{Values}
 use Rattle.sqlite.specs.Listing.{understood}
+use Rattle.sqlite_typing.specs.Types.{accepts_program}
 use Rattle.sqlite_tied.specs.Compute.{everything}
 use Rattle.sqlite.proofs.Callers.{command_of}
 use Rattle.sql_tables.specs.Schema.{desk_schema}
 use Rattle.sql_tables.specs.Statements.{IsEdit, IsQuery}
 use Rattle.sql_tables.specs.Queries.{plain, first_of, rising, falling, equals}
+use Rattle.sql_tables.proofs.BlameLemmas.{IsWhole}
 
 abbrev pub number_text : List ℕ
 number_text = codes "SELECT number FROM sent ORDER BY number DESC LIMIT 1"
@@ -90,3 +92,39 @@ insert_is = refl
 pub insert_edit : IsEdit insert_text
 unfolding understood everything
 insert_edit = record { changes = refl; plain = (refl, refl) }
+
+-- ---- each is one whole statement
+
+pub number_whole : IsWhole number_text 0
+unfolding understood everything
+number_whole = record { plain = (refl, refl); whole = refl; width_is = refl }
+
+pub place_whole : IsWhole place_text 1
+unfolding understood everything
+place_whole = record { plain = (refl, refl); whole = refl; width_is = refl }
+
+pub at_whole : IsWhole at_text 2
+unfolding understood everything
+at_whole = record { plain = (refl, refl); whole = refl; width_is = refl }
+
+pub confirmation_whole : IsWhole confirmation_text 1
+unfolding understood everything
+confirmation_whole = record { plain = (refl, refl); whole = refl; width_is = refl }
+
+pub insert_whole : IsWhole insert_text 6
+unfolding understood everything
+insert_whole = record { plain = (refl, refl); whole = refl; width_is = refl }
+
+-- ---- the parameters are of the kinds that are compared
+
+pub number_typed : accepts_program desk_schema [] (first_of 11 [] (col 1 0 ∷ []) (col 1 0) falling) [] ≡ true
+number_typed = refl
+
+pub place_typed : (bic : List ℕ) → accepts_program desk_schema [] (first_of 11 (by_bic ∷ []) (col 1 3 ∷ []) (col 1 3) falling) (Words bic ∷ []) ≡ true
+place_typed bic = refl
+
+pub at_typed : (bic : List ℕ) (at : ℤ) → accepts_program desk_schema [] (plain 11 (by_bic ∷ by_place ∷ []) message_columns) (Words bic ∷ Int at ∷ []) ≡ true
+at_typed bic at = refl
+
+pub confirmation_typed : (about : ℤ) → accepts_program desk_schema [] (first_of 11 (by_about ∷ from_544 ∷ to_547 ∷ []) message_columns (col 1 0) rising) (Int about ∷ []) ≡ true
+confirmation_typed about = refl

@@ -5,6 +5,7 @@ use Rattle.std.specs.Int.{w64, cast_signed}
 use Rattle.sqlite.specs.Order.{Row}
 use Rattle.sqlite.specs.declared.types.Value.TheVariants.{Null, Int, Text as Words}
 use Rattle.sqlite.specs.Effect.{Database}
+use Rattle.desk_codes.specs.Bic.{IsBic}
 use Rattle.desk_rules.specs.declared.answers.reply.Sent.{Sent}
 use Rattle.sql_tables.specs.Ends.{SparesOthers}
 use Rattle.sql_tables.specs.Rows.{number_rows}
@@ -28,6 +29,11 @@ pub record AreSent (db : Database) (messages : List Sent) : Type 0 where
   pub rows : db.trees 11 ≡ rows_after [] messages
   pub few : length messages < 2 ^ 63
   pub fit : AllByRecursion (λ message. message.about < 2 ^ 64) messages
+
+-- a message that the desk may send: to a participant by its BIC, and of a type of 16 bits
+pub record IsSendable (message : Sent) : Type 0 where
+  pub bic : IsBic message.bic
+  pub mt : message.mt < 2 ^ 16
 
 -- ---- a message more
 

@@ -4,8 +4,8 @@ ghost use Rattle.std.specs.Prelude.{◌≡◌, ◌+◌, ◌<◌, ◌^◌, ℕ, L
 ghost use Rattle.desk_rules.specs.declared.answers.reply.Sent.{Sent as Message};
 ghost use Rattle.desk_rules.specs.Questions.{confirms_it, sent_at};
 ghost use Rattle.std.specs.List.{find};
-ghost use Rattle.sql_sent.specs.Messages.{AreSent, Adds, IsLast, IsMessage, sent_to};
-ghost use Rattle.sql_tables.specs.Calls.{Looks, Soundly, Writes, tables};
+ghost use Rattle.sql_sent.specs.Messages.{AreSent, Adds, IsLast, IsMessage, IsSendable, sent_to};
+ghost use Rattle.sql_tables.specs.Calls.{FailsForCause, Looks, Soundly, Writes, tables};
 
 use crate::counting::{integer, next};
 use crate::reading::message_in;
@@ -21,6 +21,7 @@ use std::alloc::Global;
 pub fn sent_count<S: Alter>(conn: &mut Connection<S>) -> Result<u64, Error>
     ensures value { Soundly S.Store conn.old conn.new ((messages : List Message) → AreSent (tables S.Store conn.old) messages → IfOk result (λ r. r ≡ length messages)) }
     ensures look { Looks S.Store conn.old conn.new result }
+    ensures blame { Soundly S.Store conn.old conn.new ((messages : List Message) → AreSent (tables S.Store conn.old) messages → FailsForCause S.Store conn.old conn.new result) }
 {
     let rows = last_number_rows(conn)?;
     last_in(&rows)
@@ -30,6 +31,7 @@ pub fn sent_count<S: Alter>(conn: &mut Connection<S>) -> Result<u64, Error>
 pub fn last_place<S: Alter>(conn: &mut Connection<S>, bic: Bic) -> Result<u64, Error>
     ensures value { Soundly S.Store conn.old conn.new ((messages : List Message) → AreSent (tables S.Store conn.old) messages → IfOk result (λ r. r ≡ length (sent_to messages bic))) }
     ensures look { Looks S.Store conn.old conn.new result }
+    ensures blame { Soundly S.Store conn.old conn.new ((messages : List Message) → AreSent (tables S.Store conn.old) messages → FailsForCause S.Store conn.old conn.new result) }
 {
     let rows = last_place_rows(conn, bic)?;
     last_in(&rows)
@@ -44,6 +46,7 @@ pub fn sent_at<S: Alter>(
 ) -> Result<Option<Sent>, Error>
     ensures value { Soundly S.Store conn.old conn.new ((messages : List Message) → AreSent (tables S.Store conn.old) messages → IfOk result (λ r. r ≡ sent_at (sent_to messages bic) place)) }
     ensures look { Looks S.Store conn.old conn.new result }
+    ensures blame { Soundly S.Store conn.old conn.new ((messages : List Message) → AreSent (tables S.Store conn.old) messages → IfSome (sent_at (sent_to messages bic) place) IsSendable → FailsForCause S.Store conn.old conn.new result) }
 {
     let rows = rows_at(conn, bic, place)?;
     message_in(alloc, &rows)
@@ -57,6 +60,7 @@ pub fn confirmation_of<S: Alter>(
 ) -> Result<Option<Sent>, Error>
     ensures value { Soundly S.Store conn.old conn.new ((messages : List Message) → AreSent (tables S.Store conn.old) messages → IfOk result (λ r. r ≡ find (confirms_it number) messages)) }
     ensures look { Looks S.Store conn.old conn.new result }
+    ensures blame { Soundly S.Store conn.old conn.new ((messages : List Message) → AreSent (tables S.Store conn.old) messages → IfSome (find (confirms_it number) messages) IsSendable → FailsForCause S.Store conn.old conn.new result) }
 {
     let rows = confirmation_rows(conn, number)?;
     message_in(alloc, &rows)
@@ -66,6 +70,7 @@ pub fn confirmation_of<S: Alter>(
 fn places<S: Alter>(conn: &mut Connection<S>, known: Option<u64>, bic: Bic) -> Result<u64, Error>
     ensures value { Soundly S.Store conn.old conn.new ((messages : List Message) → AreSent (tables S.Store conn.old) messages → IfSome known (λ n. n ≡ length (sent_to messages bic)) → IfOk result (λ r. r ≡ length (sent_to messages bic))) }
     ensures look { Looks S.Store conn.old conn.new result }
+    ensures blame { Soundly S.Store conn.old conn.new ((messages : List Message) → AreSent (tables S.Store conn.old) messages → FailsForCause S.Store conn.old conn.new result) }
 {
     match known {
         Some(places) => Ok(places),
@@ -86,6 +91,7 @@ pub fn add_sent_after<S: Alter>(
     ensures place { Soundly S.Store conn.old conn.new ((messages : List Message) → AreSent (tables S.Store conn.old) messages → IfSome known (λ n. n ≡ length (sent_to messages message.now.bic))
         → IfOk result (λ place. place ≡ length (sent_to messages message.now.bic) + 1)) }
     ensures write { Writes S.Store conn.old conn.new result }
+    ensures blame { Soundly S.Store conn.old conn.new ((messages : List Message) → AreSent (tables S.Store conn.old) messages → count ≡ length messages → IfSome known (λ n. n ≡ length (sent_to messages message.now.bic)) → length messages + 1 < 2 ^ 63 → FailsForCause S.Store conn.old conn.new result) }
 {
     let places = places(conn, known, message.bic)?;
     let number = next(count)?;
@@ -104,6 +110,7 @@ fn last_in(rows: &[Row]) -> Result<u64, Error>
 fn last_number_rows<S: Alter>(conn: &mut Connection<S>) -> Result<Vec<Row>, Error>
     ensures shown { Soundly S.Store conn.old conn.new ((messages : List Message) → AreSent (tables S.Store conn.old) messages → IfOk result (λ rows. IsLast rows.items (length messages))) }
     ensures look { Looks S.Store conn.old conn.new result }
+    ensures blame { Soundly S.Store conn.old conn.new (FailsForCause S.Store conn.old conn.new result) }
 {
     query(
         conn,
@@ -115,6 +122,7 @@ fn last_number_rows<S: Alter>(conn: &mut Connection<S>) -> Result<Vec<Row>, Erro
 fn last_place_rows<S: Alter>(conn: &mut Connection<S>, bic: Bic) -> Result<Vec<Row>, Error>
     ensures shown { Soundly S.Store conn.old conn.new ((messages : List Message) → AreSent (tables S.Store conn.old) messages → IfOk result (λ rows. IsLast rows.items (length (sent_to messages bic)))) }
     ensures look { Looks S.Store conn.old conn.new result }
+    ensures blame { Soundly S.Store conn.old conn.new (FailsForCause S.Store conn.old conn.new result) }
 {
     query(
         conn,
@@ -126,6 +134,7 @@ fn last_place_rows<S: Alter>(conn: &mut Connection<S>, bic: Bic) -> Result<Vec<R
 fn rows_at<S: Alter>(conn: &mut Connection<S>, bic: Bic, place: u64) -> Result<Vec<Row>, Error>
     ensures shown { Soundly S.Store conn.old conn.new ((messages : List Message) → AreSent (tables S.Store conn.old) messages → IfOk result (λ rows. IsMessage rows.items (sent_at (sent_to messages bic) place))) }
     ensures look { Looks S.Store conn.old conn.new result }
+    ensures blame { Soundly S.Store conn.old conn.new (FailsForCause S.Store conn.old conn.new result) }
 {
     query(
         conn,
@@ -137,6 +146,7 @@ fn rows_at<S: Alter>(conn: &mut Connection<S>, bic: Bic, place: u64) -> Result<V
 fn confirmation_rows<S: Alter>(conn: &mut Connection<S>, number: u64) -> Result<Vec<Row>, Error>
     ensures shown { Soundly S.Store conn.old conn.new ((messages : List Message) → AreSent (tables S.Store conn.old) messages → IfOk result (λ rows. IsMessage rows.items (find (confirms_it number) messages))) }
     ensures look { Looks S.Store conn.old conn.new result }
+    ensures blame { Soundly S.Store conn.old conn.new (FailsForCause S.Store conn.old conn.new result) }
 {
     query(
         conn,
@@ -154,6 +164,7 @@ fn insert<S: Alter>(
     requires { number < 2 ^ 63 }
     ensures added { Soundly S.Store conn.old conn.new ((messages : List Message) → AreSent (tables S.Store conn.old) messages → number ≡ length messages + 1 → place ≡ length (sent_to messages message.now.bic) + 1 → OnOk result (Adds (tables S.Store conn.old) (tables S.Store conn.new) messages message.now)) }
     ensures write { Writes S.Store conn.old conn.new result }
+    ensures blame { Soundly S.Store conn.old conn.new ((messages : List Message) → AreSent (tables S.Store conn.old) messages → number ≡ length messages + 1 → place ≡ length (sent_to messages message.now.bic) + 1 → FailsForCause S.Store conn.old conn.new result) }
 {
     execute(
         conn,

@@ -1,9 +1,9 @@
 //! What the rows of a query say.
 
-ghost use Rattle.std.specs.Prelude.{◌≡◌, ◌<◌, ◌^◌, Option, IfOk, IfErr};
+ghost use Rattle.std.specs.Prelude.{◌≡◌, ◌<◌, ◌^◌, Option, IfOk, IfErr, IfSome};
 ghost use Rattle.sqlite.specs.declared.error.ErrorCode.TheVariants.{OutOfMemory};
 ghost use Rattle.desk_rules.specs.declared.answers.reply.Sent.{Sent as Message};
-ghost use Rattle.sql_sent.specs.Messages.{IsMessage, shown};
+ghost use Rattle.sql_sent.specs.Messages.{IsMessage, IsSendable, shown};
 
 use desk_codes::Bic;
 use desk_rules::{Sent, Text};
@@ -13,7 +13,8 @@ use std::alloc::Global;
 
 /// The message that the first row shows; None where there is no row.
 pub fn message_in(alloc: Global, rows: &[Row]) -> Result<Option<Sent>, Error>
-    ensures { (message : Option Message) → IsMessage rows.now message → IfOk result (λ r. r ≡ message) }
+    ensures value { (message : Option Message) → IsMessage rows.now message → IfOk result (λ r. r ≡ message) }
+    ensures all { (message : Option Message) → IsMessage rows.now message → IfSome message IsSendable → IfErr result (λ e. e ≡ Error.SqliteFailure OutOfMemory) }
 {
     match rows.first() {
         Some(row) => Ok(Some(message_of(alloc, row)?)),
@@ -22,7 +23,8 @@ pub fn message_in(alloc: Global, rows: &[Row]) -> Result<Option<Sent>, Error>
 }
 
 fn message_of(alloc: Global, row: &Row) -> Result<Sent, Error>
-    ensures { (message : Message) → message.about < 2 ^ 64 → row.now ≡ shown message → IfOk result (λ r. r ≡ message) }
+    ensures value { (message : Message) → message.about < 2 ^ 64 → row.now ≡ shown message → IfOk result (λ r. r ≡ message) }
+    ensures all { (message : Message) → IsSendable message → row.now ≡ shown message → IfErr result (λ e. e ≡ Error.SqliteFailure OutOfMemory) }
 {
     let bic = bic_at(row, 0)?;
     message_to(alloc, bic, row)

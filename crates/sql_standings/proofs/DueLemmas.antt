@@ -15,10 +15,11 @@ use Rattle.sqlite.specs.Edit.{edit_of, put_all, without_all, id_in}
 use Rattle.sqlite.specs.Rowids.TheVariants.{Chosen, Given}
 use Rattle.sqlite_rules.specs.Calls.{ids_of}
 use Rattle.sqlite.specs.Program.{overlay}
-use Rattle.sqlite.specs.Tree.{IsTable, rowid, put_row, without_rowid, has_rowid}
+use Rattle.sqlite.specs.Tree.{Trees, IsTable, rowid, put_row, without_rowid, has_rowid}
 use Rattle.sqlite_trees.proofs.TreeLemmas.{IsTable-put_row, all-put_row}
 use Rattle.sqlite_trees.proofs.ListLemmas.{all-filter, all-permutation, ascending-filter}
-use Rattle.sqlite.specs.Effect.{Database}
+use Rattle.sqlite.specs.Effect.{Database, value_rows}
+use Rattle.sqlite.specs.Rows.{stamped}
 use Rattle.sqlite.specs.State.{State, Executes, Shown}
 use Rattle.sqlite.proofs.Callers.{reads_as}
 use Rattle.desk_rules.specs.declared.history.pair.Place.{Place}
@@ -55,13 +56,13 @@ place_is p q h =
 
 -- ---- one row
 
-own_place : (r : Row) (it : IsDueRow r) → number_of_row r ≡ it.place
+pub own_place : (r : Row) (it : IsDueRow r) → number_of_row r ≡ it.place
 own_place r it = ap number_of_row it.is
 
-own_rowid : (r : Row) (it : IsDueRow r) → rowid r ≡ Int (pos it.place)
+pub own_rowid : (r : Row) (it : IsDueRow r) → rowid r ≡ Int (pos it.place)
 own_rowid r it = ap rowid it.is
 
-abbrev says : Place → Row → Bool
+abbrev pub says : Place → Row → Bool
 says p row = same_place (place_numbered (number_of_row row)) p
 
 -- ---- a row is put in, or taken out
@@ -171,14 +172,17 @@ left_due n p (id ∷ ids) rows formed all none = ap (λ k. is_due_among (without
 
 -- ---- the statements
 
+-- the row that INSERT makes
+pub fresh_news : (db : Trees) (n : ℕ) (given : List Row) → given ≡ value_rows (stamped due_table (Int (pos n) ∷ [])) 2 1 note_terms → (edit_of db due_table [] Chosen 0 given).news ≡ due_row n ∷ []
+fresh_news db n given is = ap (λ all. (edit_of db due_table [] Chosen 0 all).news) is ∙ rw (cast_int (pos n), cast_null) refl
+
 pub notes_due : (old new : State) (n count : ℕ) → n < 2 ^ 63 → old.now.schema ≡ desk_schema → AreDue old.now → Executes note_text (Int (pos n) ∷ []) old new (Ok count)
     → DueChanged old.now new.now (due_at (is_due_in old.now) (place_numbered n) true)
 notes_due old new n count small has were h =
     let params : Row = Int (pos n) ∷ [] in
     let held = old.now.trees 10 in
     let made = inserts old new has note_text params count 6 due_table refl notes.plain h note_terms 2 refl note_is in
-    let news : (edit_of old.now.trees due_table [] Chosen 0 made.0).news ≡ due_row n ∷ [] =
-    ap (λ all. (edit_of old.now.trees due_table [] Chosen 0 all).news) made.1 ∙ rw (cast_int (pos n), cast_null) refl in
+    let news : (edit_of old.now.trees due_table [] Chosen 0 made.0).news ≡ due_row n ∷ [] = fresh_news old.now.trees n made.0 made.1 in
     let rows_are : new.now.trees 10 ≡ put_row (due_row n) held = made.2.rows ∙ ap (put_all held) news in
     record {
       kept = record {

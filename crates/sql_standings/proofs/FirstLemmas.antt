@@ -1,5 +1,5 @@
 -- What the query for the first opposite instruction shows.
-use Rattle.std.proofs.Common.{◌≡◌, ◌⊎◌, inl, inr, ℕ, ◌<◌, ◌==◌, pos, List, [], ◌∷◌, filter, Bool, true, false, ◌&&◌, None, Some, Option, Ok, Err, Result, IfOk, refl, sym, ap, subst, ◌∙◌}
+use Rattle.std.proofs.Common.{◌≡◌, ◌⊎◌, inl, inr, ℕ, ◌<◌, ◌==◌, pos, List, [], ◌∷◌, filter, Bool, true, false, ◌&&◌, None, Some, Option, Ok, Err, Result, IfOk, IsOk, refl, sym, ap, subst, ◌∙◌}
 use Rattle.std.specs.Prelude.{option_map}
 use Rattle.std.specs.Ordering.{is_lt}
 use Rattle.std.specs.Str.{bytes_eq}
@@ -173,3 +173,8 @@ pub finds_first : (db : Database) (i : Instructed) (rows : List Row) (result : R
     → IfOk result (FindsFirst db i)
 finds_first db i rows (Ok found) shown says = λ noted was. read_first noted i rows found says (shown noted was)
 finds_first db i rows (Err e) shown says = tt
+
+-- without an error
+pub first_reads : (noted : Noted) (i : Instructed) (rows : List Row) (result : Result (Option ℕ) Error) → ((found : Option ℕ) → rows ≡ number_rows found → result ≡ Ok found) → ShowsFirst noted i rows → IsOk result
+first_reads noted i rows result says (inl none) = subst (λ r. IsOk r) (sym (says None none.0)) refl
+first_reads noted i rows result says (inr one) = subst (λ r. IsOk r) (sym (says (Some one.0) one.1)) refl

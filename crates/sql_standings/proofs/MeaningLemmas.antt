@@ -1,5 +1,5 @@
 -- What the texts mean.
-use Rattle.std.proofs.Common.{◌≡◌, ℕ, pos, List, [], ◌∷◌, codes, refl}
+use Rattle.std.proofs.Common.{◌≡◌, ℕ, pos, List, [], ◌∷◌, ℤ, true, codes, refl}
 use Rattle.sqlite.specs.declared.types.Value.TheVariants.{Null, Int}
 use Rattle.sqlite.specs.Term.{Term, lit, col, op2}
 use Rattle.sqlite.specs.Collation.TheVariants.{Binary}
@@ -8,11 +8,13 @@ use Rattle.sqlite_sql.specs.declared.ops.CompareOp.TheVariants.{Gt, Lt}
 use Rattle.sqlite.specs.Command.TheVariants.{Select, Insert, Update, Delete}
 use Rattle.sqlite.specs.Source.TheVariants.{Values}
 use Rattle.sqlite.specs.Listing.{understood}
+use Rattle.sqlite_typing.specs.Types.{accepts_program}
 use Rattle.sqlite_tied.specs.Compute.{everything}
 use Rattle.sqlite.proofs.Callers.{command_of}
 use Rattle.sql_tables.specs.Schema.{desk_schema}
 use Rattle.sql_tables.specs.Statements.{IsEdit, IsQuery}
 use Rattle.sql_tables.specs.Queries.{plain, first_of, rising, equals}
+use Rattle.sql_tables.proofs.BlameLemmas.{IsWhole}
 
 -- ---- where instructions stand
 
@@ -58,6 +60,13 @@ pub read_is : command_of (understood desk_schema read_text) ≡ Select (record {
 unfolding understood everything
 read_is = refl
 
+pub read_whole : IsWhole read_text 1
+unfolding understood everything
+read_whole = record { plain = (refl, refl); whole = refl; width_is = refl }
+
+pub read_typed : (n : ℕ) → accepts_program desk_schema [] (plain 8 (by_number ∷ []) read_shown) (Int (pos n) ∷ []) ≡ true
+read_typed n = refl
+
 pub adds : IsEdit add_text
 unfolding understood everything
 adds = record { changes = refl; plain = (refl, refl) }
@@ -65,6 +74,10 @@ adds = record { changes = refl; plain = (refl, refl) }
 pub add_is : command_of (understood desk_schema add_text) ≡ Insert 4 (Values add_terms 6)
 unfolding understood everything
 add_is = refl
+
+pub add_whole : IsWhole add_text 1
+unfolding understood everything
+add_whole = record { plain = (refl, refl); whole = refl; width_is = refl }
 
 pub stands : IsEdit stand_text
 unfolding understood everything
@@ -74,6 +87,13 @@ pub stand_is : command_of (understood desk_schema stand_text) ≡ Update 4 (reco
 unfolding understood everything
 stand_is = refl
 
+pub stand_whole : IsWhole stand_text 4
+unfolding understood everything
+stand_whole = record { plain = (refl, refl); whole = refl; width_is = refl }
+
+pub stand_typed : (n mate code reason : ℕ) → accepts_program desk_schema [] (plain 8 (by_number ∷ []) stand_shown) (Int (pos n) ∷ Int (pos mate) ∷ Int (pos code) ∷ Int (pos reason) ∷ []) ≡ true
+stand_typed n mate code reason = refl
+
 pub changes_state : IsEdit state_text
 unfolding understood everything
 changes_state = record { changes = refl; plain = (refl, refl) }
@@ -82,6 +102,13 @@ pub state_is : command_of (understood desk_schema state_text) ≡ Update 4 (reco
 unfolding understood everything
 state_is = refl
 
+pub state_whole : IsWhole state_text 3
+unfolding understood everything
+state_whole = record { plain = (refl, refl); whole = refl; width_is = refl }
+
+pub state_typed : (n code reason : ℕ) → accepts_program desk_schema [] (plain 8 (by_number ∷ []) state_shown) (Int (pos n) ∷ Int (pos code) ∷ Int (pos reason) ∷ []) ≡ true
+state_typed n code reason = refl
+
 pub asks : IsEdit ask_text
 unfolding understood everything
 asks = record { changes = refl; plain = (refl, refl) }
@@ -89,6 +116,13 @@ asks = record { changes = refl; plain = (refl, refl) }
 pub ask_is : command_of (understood desk_schema ask_text) ≡ Update 4 (record { lets = []; body = plain 8 (by_number ∷ []) ask_shown })
 unfolding understood everything
 ask_is = refl
+
+pub ask_whole : IsWhole ask_text 1
+unfolding understood everything
+ask_whole = record { plain = (refl, refl); whole = refl; width_is = refl }
+
+pub ask_typed : (n : ℕ) → accepts_program desk_schema [] (plain 8 (by_number ∷ []) ask_shown) (Int (pos n) ∷ []) ≡ true
+ask_typed n = refl
 
 -- ---- which places are due
 
@@ -118,6 +152,10 @@ pub note_is : command_of (understood desk_schema note_text) ≡ Insert 6 (Values
 unfolding understood everything
 note_is = refl
 
+pub note_whole : IsWhole note_text 1
+unfolding understood everything
+note_whole = record { plain = (refl, refl); whole = refl; width_is = refl }
+
 pub forgets : IsEdit forget_text
 unfolding understood everything
 forgets = record { changes = refl; plain = (refl, refl) }
@@ -126,6 +164,13 @@ pub forget_is : command_of (understood desk_schema forget_text) ≡ Delete 6 (re
 unfolding understood everything
 forget_is = refl
 
+pub forget_whole : IsWhole forget_text 1
+unfolding understood everything
+forget_whole = record { plain = (refl, refl); whole = refl; width_is = refl }
+
+pub forget_typed : (n : ℕ) → accepts_program desk_schema [] (plain 10 (by_number ∷ []) (col 1 0 ∷ [])) (Int (pos n) ∷ []) ≡ true
+forget_typed n = refl
+
 pub finds_next : IsQuery next_text
 unfolding understood everything
 finds_next = record { selects = refl; plain = (refl, refl); unlisted = refl }
@@ -133,3 +178,10 @@ finds_next = record { selects = refl; plain = (refl, refl); unlisted = refl }
 pub next_is : command_of (understood desk_schema next_text) ≡ Select (record { lets = []; body = first_of 10 (above ∷ below ∷ []) (col 1 0 ∷ []) (col 1 0) rising }) (codes "place" ∷ [])
 unfolding understood everything
 next_is = refl
+
+pub next_whole : IsWhole next_text 2
+unfolding understood everything
+next_whole = record { plain = (refl, refl); whole = refl; width_is = refl }
+
+pub next_typed : (floor : ℤ) (end : ℕ) → accepts_program desk_schema [] (first_of 10 (above ∷ below ∷ []) (col 1 0 ∷ []) (col 1 0) rising) (Int floor ∷ Int (pos end) ∷ []) ≡ true
+next_typed floor end = refl

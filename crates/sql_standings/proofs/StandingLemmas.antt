@@ -22,7 +22,8 @@ use Rattle.sqlite.specs.Tree.{Trees, IsTable, rowid, put_row, without_rowid, has
 use Rattle.sqlite_trees.proofs.TreeLemmas.{IsTable-put_row, all-put_row}
 use Rattle.sqlite_trees.proofs.ListLemmas.{all-filter, ascending-filter}
 use Rattle.sqlite.specs.Command.TheVariants.{Update}
-use Rattle.sqlite.specs.Effect.{Database}
+use Rattle.sqlite.specs.Effect.{Database, value_rows}
+use Rattle.sqlite.specs.Rows.{stamped}
 use Rattle.sqlite.specs.Listing.{understood}
 use Rattle.sqlite.specs.State.{State, Executes, Shown}
 use Rattle.sqlite.proofs.Callers.{IsPlain, command_of, reads_as, one_permutation}
@@ -31,7 +32,7 @@ use Rattle.desk_rules.specs.declared.history.standing.Standing.{Standing}
 use Rattle.desk_rules.specs.Standing.{no_standing}
 use Rattle.desk_register.specs.Changes.{standing_at}
 use Rattle.sql_tables.specs.Schema.{desk_schema, state_table}
-use Rattle.sql_standings.specs.Standings.{fresh_standing, number_of_row, standing_among, standing_in, standing_row, standing_written, state_written, written_in, AreStandings, IsStandingRow, IsStandingShown, StandingsChanged, Written}
+use Rattle.sql_standings.specs.Standings.{columns_of, fresh_standing, number_of_row, standing_among, standing_in, standing_row, standing_written, state_written, written_in, AreReadable, AreStandings, IsStandingRow, IsStandingShown, StandingsChanged, Written}
 use Rattle.sql_standings.proofs.MeaningLemmas.{by_number, read_text, reads, read_is, read_shown, add_text, adds, add_is, add_terms}
 use Rattle.sql_tables.specs.Queries.{plain, passes_all}
 use Rattle.sql_tables.proofs.QueryLemmas.{plain_rows, same_found}
@@ -40,18 +41,18 @@ use Rattle.sql_tables.proofs.ValueLemmas.{three_ways, number_less, number_equal,
 
 -- ---- one row
 
-own_number : (r : Row) (it : IsStandingRow r) → number_of_row r ≡ it.number
+pub own_number : (r : Row) (it : IsStandingRow r) → number_of_row r ≡ it.number
 own_number r it = ap number_of_row it.is
 
-own_rowid : (r : Row) (it : IsStandingRow r) → rowid r ≡ Int (pos it.number)
+pub own_rowid : (r : Row) (it : IsStandingRow r) → rowid r ≡ Int (pos it.number)
 own_rowid r it = ap rowid it.is
 
-said_at : (r : Row) (it : IsStandingRow r) → standing_written (written_in r) ≡ standing_written it.written
+pub said_at : (r : Row) (it : IsStandingRow r) → standing_written (written_in r) ≡ standing_written it.written
 said_at r it = ap (λ x. standing_written (written_in x)) it.is
 
 -- ---- the rows of a number
 
-abbrev is_at : ℕ → Row → Bool
+abbrev pub is_at : ℕ → Row → Bool
 is_at n row = number_of_row row == n
 
 found_none : (n : ℕ) (rows : List Row) → filter (is_at n) rows ≡ [] → standing_among rows n ≡ no_standing
@@ -179,8 +180,10 @@ number_test n more row it =
 abbrev tests_same : (n : ℕ) (more : Row) (rows : List Row) → AllByRecursion IsStandingRow rows → filter (passes_all (by_number ∷ []) (Int (pos n) ∷ more)) rows ≡ filter (is_at n) rows
 tests_same n more rows formed = same_found IsStandingRow (passes_all (by_number ∷ []) (Int (pos n) ∷ more)) (is_at n) rows (number_test n more) formed
 
-pub shows_standing : (old new : State) (n : ℕ) (rows : List Row) → old.now.schema ≡ desk_schema → AreStandings old.now → Shown read_text (Int (pos n) ∷ []) old new rows → IsStandingShown rows (standing_in old.now n)
-shows_standing old new n rows has were h =
+-- no row is shown, since the number has none, or the columns of its row
+shows_row : (old new : State) (n : ℕ) (rows : List Row) → old.now.schema ≡ desk_schema → AreStandings old.now → Shown read_text (Int (pos n) ∷ []) old new rows
+    → ((rows ≡ []) × (standing_in old.now n ≡ no_standing)) ⊎ ((r : Row) × (it : IsStandingRow r) × (rows ≡ columns_of it.written ∷ []) × (standing_in old.now n ≡ standing_written it.written))
+shows_row old new n rows has were h =
     let params : Row = Int (pos n) ∷ [] in
     let held = old.now.trees 8 in
     let show : Row → Row = λ row. eval_all read_shown (params ∷ row ∷ []) in
@@ -191,16 +194,24 @@ shows_standing old new n rows has were h =
       | inl none ↦ inl (nil_from_length rows (length_permutation [] rows (subst (λ xs. IsPermutation (map show xs) rows) none same)), found_none n held none)
       | inr one ↦ (let it = found_one n held one.0 [] were.formed one.1 in
           inr (
-            it.0.written,
+            one.0,
+            it.0,
             one_permutation (show one.0) rows (subst (λ xs. IsPermutation (map show xs) rows) one.1 same) ∙ ap (λ (r : Row). show r ∷ []) it.0.is,
             it.2,
           ))
     ]
 
+pub shows_standing : (old new : State) (n : ℕ) (rows : List Row) → old.now.schema ≡ desk_schema → AreStandings old.now → Shown read_text (Int (pos n) ∷ []) old new rows → IsStandingShown rows (standing_in old.now n)
+shows_standing old new n rows has were h = elim (shows_row old new n rows has were h) [ inl none ↦ inl none | inr (r, it, is, said) ↦ inr (it.written, is, said) ]
+
+-- and it is read
+pub shows_readable : (old new : State) (n : ℕ) (rows : List Row) → old.now.schema ≡ desk_schema → AreStandings old.now → Shown read_text (Int (pos n) ∷ []) old new rows → AreReadable rows
+shows_readable old new n rows has were h = elim (shows_row old new n rows has were h) [ inl none ↦ inl none.0 | inr (r, it, is, said) ↦ inr (it.written, is, it.instruction, it.request) ]
+
 -- ---- a row is changed
 
 -- what is written of a row
-cast_standing : (n : ℕ) (w : Written) → cast_row state_table (standing_row n w) ≡ standing_row n w
+pub cast_standing : (n : ℕ) (w : Written) → cast_row state_table (standing_row n w) ≡ standing_row n w
 cast_standing n w = rw (cast_int (pos n), cast_null, cast_int (pos w.mate), cast_int (pos w.state), cast_int (pos w.reason), cast_int (pos w.asked)) refl
 
 one_edit : (db : Trees) (n : ℕ) (w : Written)
@@ -211,57 +222,94 @@ one_edit db n w = ap (λ r. put_row r (without_rowid (pos n) (db 8))) (cast_stan
 pub record Changes (shown : List Term) (params : Row) (change : Written → Written) : Type 0 where
   pub shows : (m : ℕ) (w : Written) → eval_all shown (params ∷ standing_row m w ∷ []) ≡ Int (pos m) ∷ standing_row m (change w)
   pub instruction : (w : Written) → state_written w.state w.reason ≢ NoInstruction → state_written (change w).state (change w).reason ≢ NoInstruction
+  pub request : (w : Written) → w.asked ≤ 1 → (change w).asked ≤ 1
 
-pub changes_standing : (old new : State) (text : List ℕ) (shown : List Term) (n : ℕ) (more : Row) (change : Written → Written) (f : Standing → Standing) (count : ℕ)
-    → command_of (understood desk_schema text) ≡ Update 4 (record { lets = []; body = plain 8 (by_number ∷ []) shown }) → IsPlain (understood desk_schema text)
-    → Changes shown (Int (pos n) ∷ more) change → ((w : Written) → standing_written (change w) ≡ f (standing_written w)) → n < 2 ^ 63 → old.now.schema ≡ desk_schema → AreStandings old.now
-    → Executes text (Int (pos n) ∷ more) old new (Ok count) → count ≡ 1 → StandingsChanged old.now new.now (standing_at (standing_in old.now) n (f (standing_in old.now n)))
-changes_standing old new text shown n more change f count is plain' changes reads_so small has were h single =
-    elim (once n held were.rising were.formed) [
-      | inl none ↦ absurd (omega (arith, single, made.2, ap length (nil_from_length made.0 (length_permutation [] made.0 (subst (λ xs. IsPermutation (map show xs) made.0) none found_are)))))
-      | inr one ↦ changed one.0 one.1 (found_one n held one.0 [] were.formed one.1)
-    ]
+-- what is shown of the row once it is changed
+abbrev pub changed_row : ℕ → Written → Row
+changed_row n w = Int (pos n) ∷ standing_row n w
+
+-- What an UPDATE finds: no row, since the number has none, or that of the number with what is written of it changed.
+abbrev pub Finds : List Row → ℕ → (Written → Written) → List Row → Type 0
+Finds held n change found =
+    ((found ≡ []) × (standing_among held n ≡ no_standing)) ⊎ ((r : Row) × (it : IsStandingRow r) × (it.number ≡ n) × (standing_among held n ≡ standing_written it.written) × (found ≡ changed_row n (change it.written) ∷ []))
+
+pub finds : (db : Database) (shown : List Term) (n : ℕ) (more : Row) (change : Written → Written) → AreStandings db → Changes shown (Int (pos n) ∷ more) change → (found : List Row)
+    → IsAnswer (plain 8 (by_number ∷ []) shown) (overlay db.trees []) (Int (pos n) ∷ more) found → Finds (db.trees 8) n change found
+finds db shown n more change were changes found answer = elim (once n held were.rising were.formed) [
+  | inl none ↦ inl (nil_from_length found (length_permutation [] found (subst (λ xs. IsPermutation (map show xs) found) none found_are)), found_none n held none)
+  | inr one ↦ (let it = found_one n held one.0 [] were.formed one.1 in
+      let row_is : one.0 ≡ standing_row n it.0.written = it.0.is ∙ ap (λ k. standing_row k it.0.written) it.1 in
+      inr (
+        one.0,
+        it.0,
+        it.1,
+        it.2,
+        one_permutation (show one.0) found (subst (λ xs. IsPermutation (map show xs) found) one.1 found_are) ∙ ap (λ (x : Row). x ∷ []) (ap show row_is ∙ changes.shows n it.0.written),
+      ))
+]
   where
     params : Row
     params = Int (pos n) ∷ more
 
     held : List Row
-    held = old.now.trees 8
+    held = db.trees 8
 
     show : Row → Row
     show row = eval_all shown (params ∷ row ∷ [])
 
-    made : (rows : List Row) × IsAnswer (plain 8 (by_number ∷ []) shown) (overlay old.now.trees []) params rows × (count ≡ length rows) × IsEdited old.now new.now (edit_of old.now.trees state_table (ids_of rows) Given 1 rows)
-    made = updates old new has text params count 4 state_table refl plain' h (plain 8 (by_number ∷ []) shown) is
+    found_are : IsPermutation (map show (filter (is_at n) held)) found
+    found_are = subst (λ xs. IsPermutation (map show xs) found) (tests_same n more held were.formed) (plain_rows 8 (by_number ∷ []) shown (overlay db.trees []) params found answer)
 
-    found_are : IsPermutation (map show (filter (is_at n) held)) made.0
-    found_are = subst (λ xs. IsPermutation (map show xs) made.0) (tests_same n more held were.formed) (plain_rows 8 (by_number ∷ []) shown (overlay old.now.trees []) params made.0 made.1)
+-- how many rows an UPDATE changes of a number that has one
+pub counts_one : (held : List Row) (n : ℕ) (change : Written → Written) (found : List Row) (count : ℕ) → Finds held n change found → count ≡ length found → (standing_among held n).state ≢ NoInstruction → count ≡ 1
+counts_one held n change found count (inl none) counted some = absurd (some (ap (λ s. s.state) none.1))
+counts_one held n change found count (inr (r, it, same, says, is)) counted some = counted ∙ ap length is
 
-    changed : (r : Row) → filter (is_at n) held ≡ r ∷ [] → (it : IsStandingRow r) × (it.number ≡ n) × (standing_among held n ≡ standing_written it.written)
-        → StandingsChanged old.now new.now (standing_at (standing_in old.now) n (f (standing_in old.now n)))
-    changed r one it =
-        let w = change it.0.written in
-        let row_is : r ≡ standing_row n it.0.written = it.0.is ∙ ap (λ k. standing_row k it.0.written) it.1 in
-        let shows : show r ≡ Int (pos n) ∷ standing_row n w = ap show row_is ∙ changes.shows n it.0.written in
-        let found : made.0 ≡ (Int (pos n) ∷ standing_row n w) ∷ [] = one_permutation (show r) made.0 (subst (λ xs. IsPermutation (map show xs) made.0) one found_are) ∙ ap (λ (x : Row). x ∷ []) shows in
-        let rows_are : new.now.trees 8 ≡ put_row (standing_row n w) (without_rowid (pos n) held) =
-        made.3.rows ∙ ap (λ f. edited old.now.trees (edit_of old.now.trees state_table (ids_of f) Given 1 f)) found ∙ one_edit old.now.trees n w in
-        let left = without_rowid (pos n) held in
-        let row : IsStandingRow (standing_row n w) = record { number = n; written = w; is = refl; small = small; instruction = changes.instruction it.0.written it.0.instruction } in
-        let says : standing_written w ≡ f (standing_in old.now n) = reads_so it.0.written ∙ ap f (sym it.2) in
-        record {
-          kept = record {
-            rising = subst IsTable (sym rows_are) (IsTable-put_row (standing_row n w) left (ascending-filter _ (λ r. not (has_rowid (pos n) r)) held were.rising));
-            formed = subst (AllByRecursion IsStandingRow) (sym rows_are) (all-put_row IsStandingRow (standing_row n w) left row (all-filter IsStandingRow (λ r. not (has_rowid (pos n) r)) held were.formed));
-          };
-          standings_are = ap standing_among rows_are ∙ replaced_standings n w held were.formed ∙ ap (standing_at (standing_among held) n) says;
-          others = spares 8 9 old.now new.now (edit_of old.now.trees state_table (ids_of made.0) Given 1 made.0) (omega arith) (omega arith) made.3;
-        }
+module _ (old new : State) (text : List ℕ) (shown : List Term) (n : ℕ) (more : Row) (change : Written → Written) (count : ℕ)
+    (is : command_of (understood desk_schema text) ≡ Update 4 (record { lets = []; body = plain 8 (by_number ∷ []) shown })) (plain' : IsPlain (understood desk_schema text)) (changes : Changes shown (Int (pos n) ∷ more) change)
+    (has : old.now.schema ≡ desk_schema) (were : AreStandings old.now) (h : Executes text (Int (pos n) ∷ more) old new (Ok count)) where
+  abbrev held : List Row
+  held = old.now.trees 8
+
+  made : (rows : List Row) × IsAnswer (plain 8 (by_number ∷ []) shown) (overlay old.now.trees []) (Int (pos n) ∷ more) rows × (count ≡ length rows)
+      × IsEdited old.now new.now (edit_of old.now.trees state_table (ids_of rows) Given 1 rows)
+  made = updates old new has text (Int (pos n) ∷ more) count 4 state_table refl plain' h (plain 8 (by_number ∷ []) shown) is
+
+  found_so : Finds held n change made.0
+  found_so = finds old.now shown n more change were changes made.0 made.1
+
+  -- the row of a number that stands somewhere is changed
+  pub counts_standing : (standing_in old.now n).state ≢ NoInstruction → count ≡ 1
+  counts_standing some = counts_one held n change made.0 count found_so made.2 some
+
+  pub changes_standing : (f : Standing → Standing) → ((w : Written) → standing_written (change w) ≡ f (standing_written w)) → n < 2 ^ 63 → count ≡ 1 → StandingsChanged old.now new.now (standing_at (standing_in old.now) n (f (standing_in old.now n)))
+  changes_standing f reads_so small single = go found_so
+    where
+      go : Finds held n change made.0 → StandingsChanged old.now new.now (standing_at (standing_in old.now) n (f (standing_in old.now n)))
+      go (inl none) = absurd (omega (arith, single, made.2, ap length none.0))
+      go (inr (r, it, same, said, found)) =
+          let w = change it.written in
+          let left = without_rowid (pos n) held in
+          let rows_are : new.now.trees 8 ≡ put_row (standing_row n w) left = made.3.rows ∙ ap (λ f. edited old.now.trees (edit_of old.now.trees state_table (ids_of f) Given 1 f)) found ∙ one_edit old.now.trees n w in
+          let row : IsStandingRow (standing_row n w) = record { number = n; written = w; is = refl; small = small; instruction = changes.instruction it.written it.instruction; request = changes.request it.written it.request } in
+          let says : standing_written w ≡ f (standing_in old.now n) = reads_so it.written ∙ ap f (sym said) in
+          record {
+            kept = record {
+              rising = subst IsTable (sym rows_are) (IsTable-put_row (standing_row n w) left (ascending-filter _ (λ r. not (has_rowid (pos n) r)) held were.rising));
+              formed = subst (AllByRecursion IsStandingRow) (sym rows_are) (all-put_row IsStandingRow (standing_row n w) left row (all-filter IsStandingRow (λ r. not (has_rowid (pos n) r)) held were.formed));
+            };
+            standings_are = ap standing_among rows_are ∙ replaced_standings n w held were.formed ∙ ap (standing_at (standing_among held) n) says;
+            others = spares 8 9 old.now new.now (edit_of old.now.trees state_table (ids_of made.0) Given 1 made.0) (omega arith) (omega arith) made.3;
+          }
 
 -- ---- a row is put in
 
-abbrev fresh_written : Written
+abbrev pub fresh_written : Written
 fresh_written = record { mate = 0; state = 1; reason = 0; asked = 0 }
+
+-- the row that INSERT makes
+pub fresh_news : (db : Trees) (n : ℕ) (given : List Row) → given ≡ value_rows (stamped state_table (Int (pos n) ∷ [])) 6 1 add_terms → (edit_of db state_table [] Chosen 0 given).news ≡ standing_row n fresh_written ∷ []
+fresh_news db n given is = ap (λ all. (edit_of db state_table [] Chosen 0 all).news) is ∙ rw (cast_int (pos n), cast_null, cast_int (pos 0), cast_int (pos 1)) refl
 
 pub adds_standing : (old new : State) (n count : ℕ) → n < 2 ^ 63 → old.now.schema ≡ desk_schema → AreStandings old.now → Executes add_text (Int (pos n) ∷ []) old new (Ok count)
     → StandingsChanged old.now new.now (standing_at (standing_in old.now) n fresh_standing)
@@ -270,10 +318,9 @@ adds_standing old new n count small has were h =
     let held = old.now.trees 8 in
     let row = standing_row n fresh_written in
     let made = inserts old new has add_text params count 4 state_table refl adds.plain h add_terms 6 refl add_is in
-    let news : (edit_of old.now.trees state_table [] Chosen 0 made.0).news ≡ row ∷ [] =
-    ap (λ all. (edit_of old.now.trees state_table [] Chosen 0 all).news) made.1 ∙ rw (cast_int (pos n), cast_null, cast_int (pos 0), cast_int (pos 1)) refl in
+    let news : (edit_of old.now.trees state_table [] Chosen 0 made.0).news ≡ row ∷ [] = fresh_news old.now.trees n made.0 made.1 in
     let rows_are : new.now.trees 8 ≡ put_row row held = made.2.rows ∙ ap (put_all held) news in
-    let formed : IsStandingRow row = record { number = n; written = fresh_written; is = refl; small = small; instruction = λ e. cc } in
+    let formed : IsStandingRow row = record { number = n; written = fresh_written; is = refl; small = small; instruction = λ e. cc; request = omega arith } in
     record {
       kept = record {
         rising = subst IsTable (sym rows_are) (IsTable-put_row row held were.rising);

@@ -77,7 +77,7 @@ free_from true h = absurd (cc)
 free_from false h = refl
 
 -- the row that INSERT makes
-news_are : (db : Trees) (number : ℕ) (i : Instructed) (given : List Row) → given ≡ (Int (pos number) ∷ Null ∷ key_of i) ∷ [] → (edit_of db unmatched_table [] Chosen 0 given).news ≡ stored number i ∷ []
+pub news_are : (db : Trees) (number : ℕ) (i : Instructed) (given : List Row) → given ≡ (Int (pos number) ∷ Null ∷ key_of i) ∷ [] → (edit_of db unmatched_table [] Chosen 0 given).news ≡ stored number i ∷ []
 news_are db number i given is = ap (λ all. (edit_of db unmatched_table [] Chosen 0 all).news) is ∙ rw (cast_int (pos number), cast_null) (simp cast_int)
 
 pub inserted : (old new : State) (number : ℕ) (i : Instructed) (count : ℕ) → old.now.schema ≡ desk_schema → Executes note_text (Int (pos number) ∷ key_of i) old new (Ok count) → Notes old.now new.now number i

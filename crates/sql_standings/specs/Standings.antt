@@ -1,5 +1,5 @@
 -- The table of where instructions stand: what its rows say, and what is recorded in it.
-use Rattle.std.specs.Prelude.{◌≡◌, ◌≢◌, ℕ, ◌<◌, ◌^◌, ◌==◌, ◌&&◌, ◌⊎◌, pos, false, if◌then◌else◌, List, [], ◌∷◌, Option, Some, None, unwrap_or}
+use Rattle.std.specs.Prelude.{◌≡◌, ◌≢◌, ℕ, ◌<◌, ◌≤◌, ◌^◌, ◌==◌, ◌&&◌, ◌⊎◌, pos, false, if◌then◌else◌, List, [], ◌∷◌, Option, Some, None, unwrap_or}
 use Rattle.std.specs.List.{AllByRecursion, find}
 use Rattle.sqlite.specs.declared.types.Value.{Value}
 use Rattle.sqlite.specs.declared.types.Value.TheVariants.{Null, Int}
@@ -80,6 +80,7 @@ pub record IsStandingRow (row : Row) : Type 0 where
   pub is : row ≡ standing_row number written
   pub small : number < 2 ^ 63
   pub instruction : state_written written.state written.reason ≢ NoInstruction
+  pub request : written.asked ≤ 1
 
 -- each row does, and the numbers rise
 pub record AreStandings (db : Database) : Type 0 where
@@ -103,6 +104,10 @@ fresh_standing = record { mate = None; state = Unmatched; cancel_requested = fal
 -- what the query on a number shows: no row and no standing, or the columns of one
 abbrev pub IsStandingShown : List Row → Standing → Type 0
 IsStandingShown rows standing = ((rows ≡ []) × (standing ≡ no_standing)) ⊎ ((w : Written) × (rows ≡ columns_of w ∷ []) × (standing ≡ standing_written w))
+
+-- what the query shows is read: no row, or the columns of an instruction's standing
+abbrev pub AreReadable : List Row → Type 0
+AreReadable rows = (rows ≡ []) ⊎ ((w : Written) × (rows ≡ columns_of w ∷ []) × (state_written w.state w.reason ≢ NoInstruction) × (w.asked ≤ 1))
 
 -- The table records these standings now; no other table has changed.
 pub record StandingsChanged (old new : Database) (standings : ℕ → Standing) : Type 0 where

@@ -1,9 +1,9 @@
 //! Which matched pairs wait to be settled, by their places.
 
-ghost use Rattle.std.specs.Prelude.{◌<◌, ◌^◌, true, false, IfOk, OnOk};
+ghost use Rattle.std.specs.Prelude.{◌≡◌, ◌<◌, ◌^◌, true, false, IfOk, OnOk};
 ghost use Rattle.desk_codes.specs.Number.{number_of};
 ghost use Rattle.sql_standings.specs.Due.{due_at, is_due_in, place_numbered, AreDue, DueChanged, IsFirstShown, IsNextDue};
-ghost use Rattle.sql_tables.specs.Calls.{Looks, Soundly, Writes, tables};
+ghost use Rattle.sql_tables.specs.Calls.{FailsForCause, Looks, Soundly, Writes, tables};
 
 use crate::places::{end_of, floor_of, place_number, place_shown};
 use desk_codes::Day;
@@ -17,6 +17,7 @@ fn add_row<S: Alter>(conn: &mut Connection<S>, place: u64) -> Result<usize, Erro
     requires { place < 2 ^ 63 }
     ensures changed { Soundly S.Store conn.old conn.new (AreDue (tables S.Store conn.old) → OnOk result (DueChanged (tables S.Store conn.old) (tables S.Store conn.new) (due_at (is_due_in (tables S.Store conn.old)) (place_numbered place) true))) }
     ensures write { Writes S.Store conn.old conn.new result }
+    ensures blame { Soundly S.Store conn.old conn.new (AreDue (tables S.Store conn.old) → is_due_in (tables S.Store conn.old) (place_numbered place) ≡ false → FailsForCause S.Store conn.old conn.new result) }
 {
     execute(
         conn,
@@ -32,6 +33,7 @@ pub fn note_due<S: Alter>(conn: &mut Connection<S>, day: Day, number: u64) -> Re
     ensures changed { Soundly S.Store conn.old conn.new (AreDue (tables S.Store conn.old) → OnOk result (DueChanged (tables S.Store conn.old) (tables S.Store conn.new)
         (due_at (is_due_in (tables S.Store conn.old)) (record { day = number_of day; number = number }) true))) }
     ensures write { Writes S.Store conn.old conn.new result }
+    ensures blame { Soundly S.Store conn.old conn.new (AreDue (tables S.Store conn.old) → is_due_in (tables S.Store conn.old) (record { day = number_of day; number = number }) ≡ false → FailsForCause S.Store conn.old conn.new result) }
 {
     add_row(conn, place_number(day, number))?;
     Ok(())
@@ -42,6 +44,7 @@ fn remove_row<S: Alter>(conn: &mut Connection<S>, place: u64) -> Result<usize, E
     requires { place < 2 ^ 63 }
     ensures changed { Soundly S.Store conn.old conn.new (AreDue (tables S.Store conn.old) → OnOk result (DueChanged (tables S.Store conn.old) (tables S.Store conn.new) (due_at (is_due_in (tables S.Store conn.old)) (place_numbered place) false))) }
     ensures write { Writes S.Store conn.old conn.new result }
+    ensures blame { Soundly S.Store conn.old conn.new (FailsForCause S.Store conn.old conn.new result) }
 {
     execute(conn, "DELETE FROM due WHERE place = ?1", &[integer(place)])
 }
@@ -52,6 +55,7 @@ pub fn forget_due<S: Alter>(conn: &mut Connection<S>, day: Day, number: u64) -> 
     ensures changed { Soundly S.Store conn.old conn.new (AreDue (tables S.Store conn.old) → OnOk result (DueChanged (tables S.Store conn.old) (tables S.Store conn.new)
         (due_at (is_due_in (tables S.Store conn.old)) (record { day = number_of day; number = number }) false))) }
     ensures write { Writes S.Store conn.old conn.new result }
+    ensures blame { Soundly S.Store conn.old conn.new (FailsForCause S.Store conn.old conn.new result) }
 {
     remove_row(conn, place_number(day, number))?;
     Ok(())
@@ -62,6 +66,7 @@ fn first_row<S: Alter>(conn: &mut Connection<S>, floor: i64, end: u64) -> Result
     requires { end < 2 ^ 63 }
     ensures shown { Soundly S.Store conn.old conn.new (AreDue (tables S.Store conn.old) → IfOk result (λ rows. IsFirstShown (tables S.Store conn.old) floor end rows.items)) }
     ensures look { Looks S.Store conn.old conn.new result }
+    ensures blame { Soundly S.Store conn.old conn.new (FailsForCause S.Store conn.old conn.new result) }
 {
     query(
         conn,
@@ -79,6 +84,7 @@ pub fn next_due<S: Alter>(
 ) -> Result<Option<Place>, Error>
     ensures value { Soundly S.Store conn.old conn.new (AreDue (tables S.Store conn.old) → IfOk result (λ r. IsNextDue (tables S.Store conn.old) after (number_of until) r)) }
     ensures look { Looks S.Store conn.old conn.new result }
+    ensures blame { Soundly S.Store conn.old conn.new (AreDue (tables S.Store conn.old) → FailsForCause S.Store conn.old conn.new result) }
 {
     let rows = first_row(conn, floor_of(after), end_of(until))?;
     place_shown(rows.as_slice())

@@ -4,8 +4,8 @@ ghost use Rattle.std.specs.Prelude.{◌≡◌, ◌≢◌, ◌<◌, ◌≤◌, �
 ghost use Rattle.sqlite.specs.Held.{state};
 ghost use Rattle.desk_rules.specs.Standing.{no_standing};
 ghost use Rattle.desk_register.specs.Changes.{standing_at};
-ghost use Rattle.sql_standings.specs.Standings.{fresh_standing, mate_written, standing_in, state_written, AreStandings, IsStandingShown, StandingsChanged};
-ghost use Rattle.sql_tables.specs.Calls.{Looks, Soundly, Writes, tables};
+ghost use Rattle.sql_standings.specs.Standings.{fresh_standing, mate_written, standing_in, state_written, AreReadable, AreStandings, IsStandingShown, StandingsChanged};
+ghost use Rattle.sql_tables.specs.Calls.{FailsForCause, Looks, Soundly, Writes, tables};
 
 use crate::states::{no_standing, reason_code, standing_shown, state_code};
 use desk_rules::{Standing, State};
@@ -21,6 +21,8 @@ fn rows_of<S: Alter>(conn: &mut Connection<S>, number: u64) -> Result<Vec<Row>, 
     requires { number < 2 ^ 63 }
     ensures shown { Soundly S.Store conn.old conn.new (AreStandings (tables S.Store conn.old) → IfOk result (λ rows. IsStandingShown rows.items (standing_in (tables S.Store conn.old) number))) }
     ensures look { Looks S.Store conn.old conn.new result }
+    ensures reads { Soundly S.Store conn.old conn.new (AreStandings (tables S.Store conn.old) → IfOk result (λ rows. AreReadable rows.items)) }
+    ensures blame { Soundly S.Store conn.old conn.new (FailsForCause S.Store conn.old conn.new result) }
 {
     query(
         conn,
@@ -34,6 +36,7 @@ fn rows_of<S: Alter>(conn: &mut Connection<S>, number: u64) -> Result<Vec<Row>, 
 pub fn standing<S: Alter>(conn: &mut Connection<S>, number: u64) -> Result<Standing, Error>
     ensures value { Soundly S.Store conn.old conn.new (AreStandings (tables S.Store conn.old) → IfOk result (λ r. r ≡ standing_in (tables S.Store conn.old) number)) }
     ensures look { Looks S.Store conn.old conn.new result }
+    ensures blame { Soundly S.Store conn.old conn.new (AreStandings (tables S.Store conn.old) → FailsForCause S.Store conn.old conn.new result) }
 {
     if number > MOST {
         return Ok(no_standing());
@@ -47,6 +50,7 @@ fn add_row<S: Alter>(conn: &mut Connection<S>, number: u64) -> Result<usize, Err
     requires { number < 2 ^ 63 }
     ensures changed { Soundly S.Store conn.old conn.new (AreStandings (tables S.Store conn.old) → OnOk result (StandingsChanged (tables S.Store conn.old) (tables S.Store conn.new) (standing_at (standing_in (tables S.Store conn.old)) number fresh_standing))) }
     ensures write { Writes S.Store conn.old conn.new result }
+    ensures blame { Soundly S.Store conn.old conn.new (AreStandings (tables S.Store conn.old) → (standing_in (tables S.Store conn.old) number).state ≡ State.NoInstruction → FailsForCause S.Store conn.old conn.new result) }
 {
     execute(
         conn,
@@ -61,6 +65,7 @@ pub fn add_standing<S: Alter>(conn: &mut Connection<S>, number: u64) -> Result<(
     requires { number < 2 ^ 63 }
     ensures changed { Soundly S.Store conn.old conn.new (AreStandings (tables S.Store conn.old) → OnOk result (StandingsChanged (tables S.Store conn.old) (tables S.Store conn.new) (standing_at (standing_in (tables S.Store conn.old)) number fresh_standing))) }
     ensures write { Writes S.Store conn.old conn.new result }
+    ensures blame { Soundly S.Store conn.old conn.new (AreStandings (tables S.Store conn.old) → (standing_in (tables S.Store conn.old) number).state ≡ State.NoInstruction → FailsForCause S.Store conn.old conn.new result) }
 {
     add_row(conn, number)?;
     Ok(())
@@ -82,6 +87,8 @@ fn write_standing<S: Alter>(
     ensures changed { Soundly S.Store conn.old conn.new (AreStandings (tables S.Store conn.old) → IfOk result (λ count. count ≡ 1
         → StandingsChanged (tables S.Store conn.old) (tables S.Store conn.new) (standing_at (standing_in (tables S.Store conn.old)) number (record (standing_in (tables S.Store conn.old) number) { mate = mate_written mate; state = state_written code reason })))) }
     ensures write { Writes S.Store conn.old conn.new result }
+    ensures counted { Soundly S.Store conn.old conn.new (AreStandings (tables S.Store conn.old) → (standing_in (tables S.Store conn.old) number).state ≢ State.NoInstruction → IfOk result (λ count. count ≡ 1)) }
+    ensures blame { Soundly S.Store conn.old conn.new (AreStandings (tables S.Store conn.old) → FailsForCause S.Store conn.old conn.new result) }
 {
     execute(
         conn,
@@ -110,6 +117,7 @@ pub fn set_standing<S: Alter>(
     ensures changed { Soundly S.Store conn.old conn.new (AreStandings (tables S.Store conn.old) → OnOk result (StandingsChanged (tables S.Store conn.old) (tables S.Store conn.new)
         (standing_at (standing_in (tables S.Store conn.old)) number (record (standing_in (tables S.Store conn.old) number) { mate = Some mate; state = new_state })))) }
     ensures write { Writes S.Store conn.old conn.new result }
+    ensures blame { Soundly S.Store conn.old conn.new (AreStandings (tables S.Store conn.old) → (standing_in (tables S.Store conn.old) number).state ≢ State.NoInstruction → FailsForCause S.Store conn.old conn.new result) }
 {
     let count = write_standing(
         conn,
@@ -135,6 +143,8 @@ fn write_state<S: Alter>(
     ensures changed { Soundly S.Store conn.old conn.new (AreStandings (tables S.Store conn.old) → IfOk result (λ count. count ≡ 1
         → StandingsChanged (tables S.Store conn.old) (tables S.Store conn.new) (standing_at (standing_in (tables S.Store conn.old)) number (record (standing_in (tables S.Store conn.old) number) { state = state_written code reason })))) }
     ensures write { Writes S.Store conn.old conn.new result }
+    ensures counted { Soundly S.Store conn.old conn.new (AreStandings (tables S.Store conn.old) → (standing_in (tables S.Store conn.old) number).state ≢ State.NoInstruction → IfOk result (λ count. count ≡ 1)) }
+    ensures blame { Soundly S.Store conn.old conn.new (AreStandings (tables S.Store conn.old) → FailsForCause S.Store conn.old conn.new result) }
 {
     execute(
         conn,
@@ -155,6 +165,7 @@ pub fn set_state<S: Alter>(
     ensures changed { Soundly S.Store conn.old conn.new (AreStandings (tables S.Store conn.old) → OnOk result (StandingsChanged (tables S.Store conn.old) (tables S.Store conn.new)
         (standing_at (standing_in (tables S.Store conn.old)) number (record (standing_in (tables S.Store conn.old) number) { state = new_state })))) }
     ensures write { Writes S.Store conn.old conn.new result }
+    ensures blame { Soundly S.Store conn.old conn.new (AreStandings (tables S.Store conn.old) → (standing_in (tables S.Store conn.old) number).state ≢ State.NoInstruction → FailsForCause S.Store conn.old conn.new result) }
 {
     let count = write_state(conn, number, state_code(new_state), reason_code(new_state))?;
     one_row(count)
@@ -166,6 +177,8 @@ fn write_request<S: Alter>(conn: &mut Connection<S>, number: u64) -> Result<usiz
     ensures changed { Soundly S.Store conn.old conn.new (AreStandings (tables S.Store conn.old) → IfOk result (λ count. count ≡ 1
         → StandingsChanged (tables S.Store conn.old) (tables S.Store conn.new) (standing_at (standing_in (tables S.Store conn.old)) number (record (standing_in (tables S.Store conn.old) number) { cancel_requested = true })))) }
     ensures write { Writes S.Store conn.old conn.new result }
+    ensures counted { Soundly S.Store conn.old conn.new (AreStandings (tables S.Store conn.old) → (standing_in (tables S.Store conn.old) number).state ≢ State.NoInstruction → IfOk result (λ count. count ≡ 1)) }
+    ensures blame { Soundly S.Store conn.old conn.new (AreStandings (tables S.Store conn.old) → FailsForCause S.Store conn.old conn.new result) }
 {
     execute(
         conn,
@@ -181,6 +194,7 @@ pub fn ask<S: Alter>(conn: &mut Connection<S>, number: u64) -> Result<(), Error>
     ensures changed { Soundly S.Store conn.old conn.new (AreStandings (tables S.Store conn.old) → OnOk result (StandingsChanged (tables S.Store conn.old) (tables S.Store conn.new)
         (standing_at (standing_in (tables S.Store conn.old)) number (record (standing_in (tables S.Store conn.old) number) { cancel_requested = true })))) }
     ensures write { Writes S.Store conn.old conn.new result }
+    ensures blame { Soundly S.Store conn.old conn.new (AreStandings (tables S.Store conn.old) → (standing_in (tables S.Store conn.old) number).state ≢ State.NoInstruction → FailsForCause S.Store conn.old conn.new result) }
 {
     let count = write_request(conn, number)?;
     one_row(count)

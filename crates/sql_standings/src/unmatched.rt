@@ -1,12 +1,12 @@
 //! The calls on the table.
-ghost use Rattle.std.specs.Prelude.{◌<◌, ◌^◌, ◌∷◌, [], pos, IfOk, OnOk};
+ghost use Rattle.std.specs.Prelude.{◌≡◌, ◌<◌, ◌^◌, ◌∷◌, [], pos, None, IfOk, OnOk};
 ghost use Rattle.sqlite.specs.State.{HasCleanDisk, Executes, Shown};
 ghost use Rattle.sqlite.specs.Held.{state};
 ghost use Rattle.sqlite.specs.declared.types.Value.TheVariants.{Int};
 ghost use Rattle.sql_standings.specs.Key.{key_of};
 ghost use Rattle.sql_standings.specs.Texts.{note_text, forget_text, first_text};
-ghost use Rattle.sql_standings.specs.Unmatched.{Notes, Forgets, FindsFirst};
-ghost use Rattle.sql_tables.specs.Calls.{Looks, Soundly, Writes, tables};
+ghost use Rattle.sql_standings.specs.Unmatched.{Noted, AreUnmatched, Notes, Forgets, FindsFirst};
+ghost use Rattle.sql_tables.specs.Calls.{FailsForCause, Looks, Soundly, Writes, tables};
 
 use crate::key::{columns_of, opposite_of};
 use desk_codes::Bic;
@@ -25,6 +25,7 @@ fn put<S: Alter>(
     requires { number < 2 ^ 63 }
     ensures runs { HasCleanDisk (state S.Store conn.new) → Executes note_text (Int (pos number) ∷ key_of instructed.now) (state S.Store conn.old) (state S.Store conn.new) result }
     ensures write { Writes S.Store conn.old conn.new result }
+    ensures blame { Soundly S.Store conn.old conn.new ((noted : Noted) → AreUnmatched (tables S.Store conn.old) noted → noted number ≡ None → FailsForCause S.Store conn.old conn.new result) }
 {
     let columns = columns_of(instructed);
     execute(
@@ -49,6 +50,7 @@ fn take_out<S: Alter>(conn: &mut Connection<S>, number: u64) -> Result<usize, Er
     requires { number < 2 ^ 63 }
     ensures runs { HasCleanDisk (state S.Store conn.new) → Executes forget_text (Int (pos number) ∷ []) (state S.Store conn.old) (state S.Store conn.new) result }
     ensures write { Writes S.Store conn.old conn.new result }
+    ensures blame { Soundly S.Store conn.old conn.new (FailsForCause S.Store conn.old conn.new result) }
 {
     execute(
         conn,
@@ -60,6 +62,7 @@ fn take_out<S: Alter>(conn: &mut Connection<S>, number: u64) -> Result<usize, Er
 fn first_of<S: Alter>(conn: &mut Connection<S>, like: &Instructed) -> Result<Vec<Row>, Error>
     ensures shown { HasCleanDisk (state S.Store conn.new) → IfOk result (λ rows. Shown first_text (key_of like.now) (state S.Store conn.old) (state S.Store conn.new) rows.items) }
     ensures look { Looks S.Store conn.old conn.new result }
+    ensures blame { Soundly S.Store conn.old conn.new (FailsForCause S.Store conn.old conn.new result) }
 {
     let columns = columns_of(like);
     query(
@@ -88,6 +91,7 @@ pub fn note_unmatched<S: Alter>(
     requires { number < 2 ^ 63 }
     ensures changed { Soundly S.Store conn.old conn.new (OnOk result (Notes (tables S.Store conn.old) (tables S.Store conn.new) number instructed.now)) }
     ensures write { Writes S.Store conn.old conn.new result }
+    ensures blame { Soundly S.Store conn.old conn.new ((noted : Noted) → AreUnmatched (tables S.Store conn.old) noted → noted number ≡ None → FailsForCause S.Store conn.old conn.new result) }
 {
     put(conn, number, instructed)?;
     Ok(())
@@ -98,6 +102,7 @@ pub fn forget_unmatched<S: Alter>(conn: &mut Connection<S>, number: u64) -> Resu
     requires { number < 2 ^ 63 }
     ensures changed { Soundly S.Store conn.old conn.new (OnOk result (Forgets (tables S.Store conn.old) (tables S.Store conn.new) number)) }
     ensures write { Writes S.Store conn.old conn.new result }
+    ensures blame { Soundly S.Store conn.old conn.new (FailsForCause S.Store conn.old conn.new result) }
 {
     take_out(conn, number)?;
     Ok(())
@@ -111,6 +116,7 @@ pub fn first_unmatched<S: Alter>(
 ) -> Result<Option<u64>, Error>
     ensures found { Soundly S.Store conn.old conn.new (IfOk result (FindsFirst (tables S.Store conn.old) (record { sender = sender; instruction = instruction.now }))) }
     ensures look { Looks S.Store conn.old conn.new result }
+    ensures blame { Soundly S.Store conn.old conn.new ((noted : Noted) → AreUnmatched (tables S.Store conn.old) noted → FailsForCause S.Store conn.old conn.new result) }
 {
     let rows = first_of(conn, &opposite_of(sender, instruction))?;
     only_number(&rows)

@@ -1,4 +1,6 @@
-use Rattle.std.proofs.Common.{◌≡◌, IfOk, refl, subst, sym, ◌∙◌}
+use Rattle.std.proofs.Common.{◌≡◌, IfErr, IfOk, refl, subst, sym, ◌∙◌}
+use Rattle.sqlite.specs.Held.{state}
+use Rattle.sql_tables.specs.Ends.{ForCause}
 use Rattle.desk_rules.specs.History.{number_of_key}
 use Rattle.sql_entries.specs.Entries.{entries_in}
 use Rattle.sql_entries.proofs.finding.number_of.Goals as goal
@@ -7,3 +9,9 @@ pub returns-clause-value : goal.returns-clause-value
 returns-clause-value g c clean is_open has register are =
     let found = number_of_key (entries_in register) c.args.sender c.args.reference in
     subst (λ r. IfOk r (λ n. n ≡ found)) (sym (c.only_number.ensures found (c.deref.ensures.value ∙ c.in_ok-rows.ensures.shown clean is_open has register are))) refl
+
+pub returns-clause-blame : goal.returns-clause-blame
+returns-clause-blame g c clean is_open has register are =
+    let found = number_of_key (entries_in register) c.args.sender c.args.reference in
+    subst (λ r. IfErr r (ForCause (state g.S.Store c.args.conn.now) (state g.S.Store c.rows_of_key.new.conn)))
+    (sym (c.only_number.ensures found (c.deref.ensures.value ∙ c.in_ok-rows.ensures.shown clean is_open has register are))) tt

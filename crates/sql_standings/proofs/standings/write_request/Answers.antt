@@ -1,7 +1,8 @@
 use Rattle.std.proofs.Common.{arith}
 use Rattle.sqlite.specs.Held.{state}
 use Rattle.sql_standings.proofs.MeaningLemmas.{asks}
-use Rattle.sql_standings.proofs.StandingCalls.{asked}
+use Rattle.sql_standings.proofs.StandingCalls.{asked, asked_one}
+use Rattle.sql_standings.proofs.StandingCauses.{ask_caused}
 use Rattle.sql_standings.proofs.standings.write_request.Goals as goal
 
 pub execute-requires : goal.execute-requires
@@ -10,3 +11,13 @@ execute-requires g c = record { edit = asks }
 pub returns-clause-changed : goal.returns-clause-changed
 returns-clause-changed g c clean is_open has were =
     asked (state g.S.Store c.args.conn.now) (state g.S.Store c.execute.new.conn) c.args.number has were (omega arith) c.execute.result (rw c.integer.ensures at (c.execute.ensures.runs clean))
+
+pub returns-clause-counted : goal.returns-clause-counted
+returns-clause-counted g c clean is_open has were some =
+    asked_one (state g.S.Store c.args.conn.now) (state g.S.Store c.execute.new.conn) c.args.number has were (omega arith) c.execute.result
+    (rw c.integer.ensures at (c.execute.ensures.runs clean)) some
+
+pub returns-clause-blame : goal.returns-clause-blame
+returns-clause-blame g c clean is_open has were =
+    ask_caused (state g.S.Store c.args.conn.now) (state g.S.Store c.execute.new.conn) has is_open (c.execute.ensures.obeyed is_open) were c.args.number c.execute.result
+    (rw c.integer.ensures at (c.execute.ensures.runs clean))

@@ -1,4 +1,6 @@
 use Rattle.sql_standings.proofs.UnmatchedMeanings.{forget_edits}
+use Rattle.sqlite.specs.Held.{state}
+use Rattle.sql_standings.proofs.UnmatchedCauses.{forget_caused}
 use Rattle.sql_standings.proofs.unmatched.take_out.Goals as goal
 
 pub execute-requires : goal.execute-requires
@@ -6,3 +8,7 @@ execute-requires g c = record { edit = forget_edits }
 
 pub returns-clause-runs : goal.returns-clause-runs
 returns-clause-runs g c clean = rw c.integer.ensures at (c.execute.ensures.runs clean)
+
+pub returns-clause-blame : goal.returns-clause-blame
+returns-clause-blame g c clean is_open has =
+    forget_caused (state g.S.Store c.args.conn.now) (state g.S.Store c.execute.new.conn) has is_open (c.execute.ensures.obeyed is_open) c.args.number c.execute.result (rw c.integer.ensures at (c.execute.ensures.runs clean))
