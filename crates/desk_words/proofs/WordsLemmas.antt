@@ -28,7 +28,7 @@ use Rattle.desk_words.proofs.JournalWords.{enters_journal, takes_journal}
 use Rattle.desk_words.proofs.NumberWords.{IsTaken, no_sign, number_taken}
 use Rattle.desk_words.proofs.PlainWords.{IsPlain, no_dashes, no_long, no_short, plain_word}
 use Rattle.desk_words.proofs.ReportWords.{enters_report, enters_several, one_form, takes_report, takes_several}
-use Rattle.desk_words.specs.Words.{ArePartWords, ArePartsOf, CallValue, IsAskable, IsBicText, IsErrorIn, IsFormatOf, IsNoOption, IsNoOptionIn, IsSpelledOut, IsSaid, IsSaidBy, IsSaidIn, IsTypeText, value_of_call, desk_app, IsNumberText, IsTopic, check, explain, holdings, isin, journal, part_words_in, parts_by, play, read, report, report_words, serve, sums, serve_app, words_for, drop_app, folder}
+use Rattle.desk_words.specs.Words.{ArePartWords, ArePartsOf, CallValue, IsAskable, IsBicText, IsErrorIn, IsFormatOf, IsNoOption, IsNoOptionIn, IsSpelledOut, IsSaid, IsSaidBy, IsSaidIn, IsTypeText, value_of_call, desk_app, IsNumberText, IsTopic, check, explain, holdings, isin, journal, part_words_in, parts_by, play, read, report, report_words, serve, sums, serve_app, words_for, drop_app, folder, holdings_app}
 use Rattle.desk_report.specs.declared.part.Parts.{Parts}
 use Rattle.report_rows.specs.declared.format.Format.{Format}
 use Rattle.desk_words.specs.declared.calls.Call.{Call}
@@ -86,13 +86,28 @@ takes_play_on : (program db : List ℕ) → IsPlain db → takes desk_app (progr
 unfolding clap_on_literals
 takes_play_on program db is = rw (is.dashes, is.long, is.short) refl
 
-takes_holdings : (program db bic account : List ℕ) → IsPlain db → IsPlain bic → IsPlain account → takes desk_app (program ∷ words_for (holdings db bic account)) ≡ true
-unfolding clap_on_literals
-takes_holdings program db bic account a b c = rw (a.dashes, a.long, a.short, b.dashes, b.long, b.short, c.dashes, c.long, c.short) refl
-
 takes_sums : (program db : List ℕ) → IsPlain db → takes desk_app (program ∷ words_for (sums db)) ≡ true
 unfolding clap_on_literals
 takes_sums program db is = rw (is.dashes, is.long, is.short) refl
+
+and_true : (x y : Bool) → x ≡ true → y ≡ true → (x && y) ≡ true
+and_true true y is also = also
+and_true false y is also = cc
+
+-- what the parser knows of `holdings`
+holdings_shape : Shape
+holdings_shape = built_leaf holdings_app.top
+
+abbrev words_of_account : List ℕ → List ℕ → List ℕ → List (List ℕ)
+words_of_account db bic account = codes "--db" ∷ db ∷ bic ∷ account ∷ []
+
+passes_account : (db bic account : List ℕ) → IsPlain db → IsPlain bic → IsPlain account → level_passes holdings_shape [] nothing_held (words_of_account db bic account) false ≡ true
+unfolding clap_on_literals holdings_shape
+passes_account db bic account a b c = rw (a.dashes, a.long, a.short) (rw (b.dashes, b.long, b.short) (rw (c.dashes, c.long, c.short) refl))
+
+takes_holdings : (program db bic account : List ℕ) → IsPlain db → IsPlain bic → IsPlain account → takes desk_app (program ∷ codes "holdings" ∷ words_of_account db bic account) ≡ true
+unfolding clap_on_literals holdings_shape
+takes_holdings program db bic account a b c = and_true (level_passes holdings_shape [] nothing_held (words_of_account db bic account) false) _ (passes_account db bic account a b c) refl
 
 -- what the parser knows of `drop`
 drop_shape : Shape
@@ -113,21 +128,23 @@ takes_number : (program text : List ℕ) → IsTaken 99 text → takes desk_app 
 unfolding clap_on_literals
 takes_number program text is = rw (is.dashes, is.long, is.short, is.fits) refl
 
-takes_service : (program port count : List ℕ) → IsTaken 65535 port → IsTaken 1000000 count
-    → takes desk_app (program ∷ codes "serve" ∷ codes "--port" ∷ port ∷ codes "--count" ∷ count ∷ []) ≡ true
-unfolding clap_on_literals
-takes_service program port count a b = rw (a.dashes, a.long, a.short) (rw a.fits (rw (b.dashes, b.long, b.short) (rw b.fits refl)))
-
--- what the parser knows of `serve`, and the words behind it that name a file
+-- what the parser knows of `serve`, and the words behind it, without a file and with one
 serve_shape : Shape
 serve_shape = built_leaf serve_app.top
+
+abbrev words_without : List ℕ → List ℕ → List (List ℕ)
+words_without port count = codes "--port" ∷ port ∷ codes "--count" ∷ count ∷ []
 
 abbrev words_on : List ℕ → List ℕ → List ℕ → List (List ℕ)
 words_on db port count = codes "--db" ∷ db ∷ codes "--port" ∷ port ∷ codes "--count" ∷ count ∷ []
 
-and_true : (x y : Bool) → x ≡ true → y ≡ true → (x && y) ≡ true
-and_true true y is also = also
-and_true false y is also = cc
+passes_service : (port count : List ℕ) → IsTaken 65535 port → IsTaken 1000000 count → level_passes serve_shape [] nothing_held (words_without port count) false ≡ true
+unfolding clap_on_literals serve_shape
+passes_service port count a b = rw (a.dashes, a.long, a.short) (rw a.fits (rw (b.dashes, b.long, b.short) (and_true _ _ (and_true _ _ b.fits refl) refl)))
+
+takes_service : (program port count : List ℕ) → IsTaken 65535 port → IsTaken 1000000 count → takes desk_app (program ∷ codes "serve" ∷ words_without port count) ≡ true
+unfolding clap_on_literals serve_shape
+takes_service program port count a b = and_true (level_passes serve_shape [] nothing_held (words_without port count) false) _ (passes_service port count a b) refl
 
 passes_service_on : (db port count : List ℕ) → IsPlain db → IsTaken 65535 port → IsTaken 1000000 count → level_passes serve_shape [] nothing_held (words_on db port count) false ≡ true
 unfolding clap_on_literals serve_shape
@@ -195,16 +212,21 @@ enters_play_on : (program db : List ℕ) → IsPlain db
 unfolding clap_on_literals
 enters_play_on program db is = (refl, rw (is.dashes, is.long, is.short) refl)
 
-enters_holdings : (program db bic account : List ℕ) → IsPlain db → IsPlain bic → IsPlain account
-    → IsSomeAnd (subcommand_of desk_app (program ∷ words_for (holdings db bic account)))
-    (λ p. (p.0 ≡ codes "holdings") × (first_of (codes "db") p.1 ≡ Some db) × (first_of (codes "bic") p.1 ≡ Some bic) × (first_of (codes "account") p.1 ≡ Some account))
-unfolding clap_on_literals
-enters_holdings program db bic account a b c = (
-  refl,
-  rw (a.dashes, a.long, a.short, b.dashes, b.long, b.short, c.dashes, c.long, c.short) refl,
-  rw (a.dashes, a.long, a.short, b.dashes, b.long, b.short, c.dashes, c.long, c.short) refl,
-  rw (a.dashes, a.long, a.short, b.dashes, b.long, b.short, c.dashes, c.long, c.short) refl,
+rows_of_account : (db bic account : List ℕ) → IsPlain db → IsPlain bic → IsPlain account
+    → (first_of (codes "db") (rows_at holdings_shape (words_of_account db bic account)).1 ≡ Some db) × (first_of (codes "bic") (rows_at holdings_shape (words_of_account db bic account)).1 ≡ Some bic)
+    × (first_of (codes "account") (rows_at holdings_shape (words_of_account db bic account)).1 ≡ Some account)
+unfolding clap_on_literals holdings_shape
+rows_of_account db bic account a b c = (
+  rw (a.dashes, a.long, a.short) (rw (b.dashes, b.long, b.short) (rw (c.dashes, c.long, c.short) refl)),
+  rw (a.dashes, a.long, a.short) (rw (b.dashes, b.long, b.short) (rw (c.dashes, c.long, c.short) refl)),
+  rw (a.dashes, a.long, a.short) (rw (b.dashes, b.long, b.short) (rw (c.dashes, c.long, c.short) refl)),
 )
+
+enters_holdings : (program db bic account : List ℕ) → IsPlain db → IsPlain bic → IsPlain account
+    → IsSomeAnd (subcommand_of desk_app (program ∷ codes "holdings" ∷ words_of_account db bic account))
+    (λ p. (p.0 ≡ codes "holdings") × (first_of (codes "db") p.1 ≡ Some db) × (first_of (codes "bic") p.1 ≡ Some bic) × (first_of (codes "account") p.1 ≡ Some account))
+unfolding clap_on_literals holdings_shape
+enters_holdings program db bic account a b c = let rows = rows_of_account db bic account a b c in (refl, rows.0, rows.1, rows.2)
 
 enters_sums : (program db : List ℕ) → IsPlain db → IsSomeAnd (subcommand_of desk_app (program ∷ words_for (sums db))) (λ p. (p.0 ≡ codes "sums") × (first_of (codes "db") p.1 ≡ Some db))
 unfolding clap_on_literals
@@ -229,16 +251,21 @@ enters_number : (program text : List ℕ) → IsTaken 99 text
 unfolding clap_on_literals
 enters_number program text is = (refl, rw (is.dashes, is.long, is.short) refl, rw (is.dashes, is.long, is.short, is.plain) refl)
 
-enters_service : (program port count : List ℕ) → IsTaken 65535 port → IsTaken 1000000 count
-    → IsSomeAnd (subcommand_of desk_app (program ∷ codes "serve" ∷ codes "--port" ∷ port ∷ codes "--count" ∷ count ∷ []))
-    (λ p. (p.0 ≡ codes "serve") × (first_of (codes "db") p.1 ≡ None) × (one_of (codes "port") p.1 ≡ Some port) × (one_of (codes "count") p.1 ≡ Some count))
-unfolding clap_on_literals
-enters_service program port count a b = (
-  refl,
-  rw (a.dashes, a.long, a.short, b.dashes, b.long, b.short) refl,
-  rw (a.dashes, a.long, a.short, b.dashes, b.long, b.short, a.plain) refl,
-  rw (a.dashes, a.long, a.short, b.dashes, b.long, b.short, b.plain) refl,
+rows_without : (port count : List ℕ) → IsTaken 65535 port → IsTaken 1000000 count
+    → (first_of (codes "db") (rows_at serve_shape (words_without port count)).1 ≡ None) × (one_of (codes "port") (rows_at serve_shape (words_without port count)).1 ≡ Some port)
+    × (one_of (codes "count") (rows_at serve_shape (words_without port count)).1 ≡ Some count)
+unfolding clap_on_literals serve_shape
+rows_without port count a b = (
+  rw (a.dashes, a.long, a.short) (rw (b.dashes, b.long, b.short) refl),
+  rw (a.dashes, a.long, a.short) (rw (b.dashes, b.long, b.short) (ap Some a.plain)),
+  rw (a.dashes, a.long, a.short) (rw (b.dashes, b.long, b.short) (ap Some b.plain)),
 )
+
+enters_service : (program port count : List ℕ) → IsTaken 65535 port → IsTaken 1000000 count
+    → IsSomeAnd (subcommand_of desk_app (program ∷ codes "serve" ∷ words_without port count))
+    (λ p. (p.0 ≡ codes "serve") × (first_of (codes "db") p.1 ≡ None) × (one_of (codes "port") p.1 ≡ Some port) × (one_of (codes "count") p.1 ≡ Some count))
+unfolding clap_on_literals serve_shape
+enters_service program port count a b = let rows = rows_without port count a b in (refl, rows.0, rows.1, rows.2)
 
 rows_on : (db port count : List ℕ) → IsPlain db → IsTaken 65535 port → IsTaken 1000000 count
     → (first_of (codes "db") (rows_at serve_shape (words_on db port count)).1 ≡ Some db) × (one_of (codes "port") (rows_at serve_shape (words_on db port count)).1 ≡ Some port)
