@@ -1,4 +1,4 @@
-//! A desk over plain lists: one that may hold one entry, and several requests at once.
+//! A desk in memory: one that may hold one entry, and several requests at once.
 use crate::made::new_desk;
 use desk_book::*;
 use desk_rules::Reply;
