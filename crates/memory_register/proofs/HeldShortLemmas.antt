@@ -1,5 +1,5 @@
 -- Which pairs of an indexed register are known to stay short, through its calls.
-use Rattle.std.proofs.Common.{◌≡◌, ℕ, true, false, Some, refl, ap, sym, ◌∙◌, subst, arith}
+use Rattle.std.proofs.Common.{◌≡◌, ℕ, true, false, map, Some, refl, ap, sym, ◌∙◌, subst, arith}
 use Rattle.std.specs.Prelude.{Result, Ok, Err, OnOk, OnErr}
 use Rattle.desk_codes.specs.Number.{number_of}
 use Rattle.desk_rules.specs.declared.history.entry.Entry.{Entry}
@@ -11,15 +11,16 @@ use Rattle.desk_msg.specs.declared.writing.status.Reason.TheVariants.{Future}
 use Rattle.desk_rules.specs.Content.{Content, history_of}
 use Rattle.desk_rules.specs.History.{instruction_at}
 use Rattle.desk_register.specs.declared.outcome.Outcome.{Outcome}
+use Rattle.desk_register.specs.declared.outcome.Outcome.TheVariants.{Lacks, Settled}
+use Rattle.desk_rules.specs.declared.answers.reply.Kept.{Kept}
+use Rattle.desk_rules.specs.declared.history.pair.Lack.TheVariants.{Securities, Money}
 use Rattle.desk_register.specs.declared.register.Fault.{Fault}
 use Rattle.desk_register.specs.declared.register.Stage.TheVariants.{Idle, Begun, Failed}
-use Rattle.desk_register.specs.Changes.{CanCancelPair, CanPair, CanSettle, IsPairAt, TriesPair, appended, pair_cancelled, paired, with_sent}
-use Rattle.desk_register.specs.Told.{IsKnownAt}
-use Rattle.desk_register.specs.declared.told.KnownPair.{KnownPair}
+use Rattle.desk_register.specs.Changes.{CanCancelPair, CanPair, CanSettle, IsPairAt, TriesPair, TriesSides, appended, pair_cancelled, paired, with_sent}
 use Rattle.desk_register.specs.View.{View, Begins, Falls, IsRead, fallen}
 use Rattle.memory_rows.specs.declared.rows.Rows.{Rows}
 use Rattle.memory_rows.specs.RowsView.{view_of_rows}
-use Rattle.memory_rows.specs.Transfers.{IsTransferAt, moved_by, transfer_of}
+use Rattle.memory_rows.specs.Transfers.{IsTransferAt, transfer_of}
 use Rattle.memory_short.specs.DuePlaces.{place_at}
 use Rattle.memory_short.specs.Shortages.{Brings, HoldsShort, IsBroughtIfAny, IsNotedTried, KnowsShort, PutsIn, TakesOut}
 use Rattle.memory_short.specs.Wants.{woken_by}
@@ -85,10 +86,6 @@ its_transfer content n m earlier later pair = record {
       ap (λ i. transfer_of i later) one ∙ ap (transfer_of first) other;
 }
 
--- a pair that is known moves what its two instructions move
-transfer_known : (content : Content) (n : ℕ) (pair : KnownPair) → IsKnownAt content n pair → IsTransferAt content n pair.mate (moved_by pair)
-transfer_known content n pair known = its_transfer content n pair.mate pair.earlier pair.later (subst (λ k. IsPairAt content k pair.mate pair.earlier pair.later) known.number known.is_pair)
-
 pub knows_pair_cancelled : (s s' : Shortages) (content : Content) (m n : ℕ) → CanCancelPair content m n
     → (s'.is_known ≡ true → (earlier later : Instructed) → instruction_at (history_of content) m ≡ Some earlier → instruction_at (history_of content) n ≡ Some later → TakesOut (transfer_of earlier later) (place_at (number_of later.instruction.day) n) s s')
     → KnowsShort s content → KnowsShort s' (pair_cancelled m n content)
@@ -104,12 +101,12 @@ pub knows_appended : (s s' : Shortages) (entry : Entry) (reply : Reply) (content
 knows_appended s s' entry reply content noted knows = known_or_not s' (appended entry reply content) (λ known. let parts = noted known in after_appended s s' entry reply content parts.0 parts.1 knows)
 
 -- the pair of a number that can settle, and was tried
-pub has_tried : (old new : Content) (n day : ℕ) (pair : KnownPair) (outcome : Outcome) → IsKnownAt old n pair → CanSettle old n day → TriesPair old n outcome new → (earlier : Instructed) × (later : Instructed) × IsTried old pair.mate n earlier later outcome new
-has_tried old new n day pair outcome known can tries =
+pub has_tried : (old new : Content) (n day mate : ℕ) (outcome : Outcome) → (old.standing n).mate ≡ Some mate → CanSettle old n day → TriesPair old n outcome new → (earlier : Instructed) × (later : Instructed) × IsTried old mate n earlier later outcome new
+has_tried old new n day mate outcome has can tries =
     let mates : Some tries.mate ≡ Some can.mate = sym tries.pair.has_mate ∙ can.pair.has_mate in
     let one : tries.mate ≡ can.mate = cc in
-    let own : Some pair.mate ≡ Some tries.mate = sym (transfer_known old n pair known).has_mate ∙ tries.pair.has_mate in
-    let same : pair.mate ≡ tries.mate = cc in
+    let own : Some mate ≡ Some tries.mate = sym has ∙ tries.pair.has_mate in
+    let same : mate ≡ tries.mate = cc in
     let less = can.two in
     let tried : IsTried old tries.mate n tries.earlier tries.later outcome new = record {
       pair = tries.pair;
@@ -119,8 +116,27 @@ has_tried old new n day pair outcome known can tries =
     } in
     (tries.earlier, tries.later, subst (λ k. IsTried old k n tries.earlier tries.later outcome new) (sym same) tried)
 
-pub knows_tried : (s s' : Shortages) (old new : Content) (n : ℕ) (pair : KnownPair) (outcome : Outcome) (earlier later : Instructed) → IsKnownAt old n pair → IsTried old pair.mate n earlier later outcome new
-    → (s'.is_known ≡ true → IsNotedTried outcome (moved_by pair) (place_at (number_of pair.later.instruction.day) pair.number) s s') → KnowsShort s old → KnowsShort s' new
-knows_tried s s' old new n pair outcome earlier later at tried noted knows = known_or_not s' new (λ known.
-    let here = subst (λ k. IsNotedTried outcome (moved_by pair) (place_at (number_of pair.later.instruction.day) k) s s') at.number (noted known) in
-    after_tried s s' old new pair.mate n earlier later (moved_by pair) (transfer_known old n pair at) knows outcome tried here)
+-- a try changes no entry
+same_register : (old new : Content) (n m : ℕ) (earlier later : Instructed) (outcome : Outcome) → TriesSides old n m earlier later outcome new → new.register ≡ old.register
+same_register old new n m earlier later Settled ends = ap (λ (c : Content). c.register) ends.2
+same_register old new n m earlier later (Lacks Securities) ends = ap (λ (c : Content). c.register) ends.1
+same_register old new n m earlier later (Lacks Money) ends = ap (λ (c : Content). c.register) ends.2
+
+module _ (old new : Content) (n mate : ℕ) (earlier later : Instructed) (outcome : Outcome) (tried : IsTried old mate n earlier later outcome new) where
+  history : history_of new ≡ history_of old
+  history = ap (map (λ (k : Kept). k.entry)) (same_register old new n mate earlier later outcome tried.ends)
+
+  mate_there : instruction_at (history_of new) mate ≡ Some earlier
+  mate_there = ap (λ h. instruction_at h mate) history ∙ tried.pair.is_earlier
+
+  later_there : instruction_at (history_of new) n ≡ Some later
+  later_there = ap (λ h. instruction_at h n) history ∙ tried.pair.is_later
+
+  pub pair_there : (first second : Instructed) × (instruction_at (history_of new) mate ≡ Some first) × (instruction_at (history_of new) n ≡ Some second)
+  pair_there = (earlier, later, mate_there, later_there)
+
+  pub knows_tried : (s s' : Shortages)
+      → (s'.is_known ≡ true → (first second : Instructed) → instruction_at (history_of new) mate ≡ Some first → instruction_at (history_of new) n ≡ Some second → IsNotedTried outcome (transfer_of first second) (place_at (number_of second.instruction.day) n) s s')
+      → KnowsShort s old → KnowsShort s' new
+  knows_tried s s' noted knows = known_or_not s' new (λ known.
+      after_tried s s' old new mate n earlier later (transfer_of earlier later) (its_transfer old n mate earlier later tried.pair) knows outcome tried (noted known earlier later mate_there later_there))

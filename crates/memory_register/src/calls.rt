@@ -319,10 +319,11 @@ impl Register for ListRegister {
                     &mut self.unmatched,
                     &mut self.matched,
                     noted,
+                    number,
                     &tried,
                 );
-                touch_settled(&mut self.touched, tried.pair.mate, number, tried.outcome);
-                self.shortages.note_tried(alloc, &tried);
+                touch_settled(&mut self.touched, tried.mate, number, tried.outcome);
+                self.shortages.note_tried(&self.held, alloc, number, &tried);
                 Ok(tried.outcome)
             }
             Err(fault) => Err(fault),

@@ -159,6 +159,7 @@ pub fn tidy_settled(
     numbers: &mut BTreeSet<(MatchKey, u64)>,
     places: &mut BTreeSet<Place>,
     noted: usize,
+    number: u64,
     tried: &Tried,
 )
     ensures unmatched { HoldsOn (HasOpen numbers.old) (HasOpen numbers.new) (view_of_rows held.now).content noted }
@@ -166,14 +167,7 @@ pub fn tidy_settled(
     ensures fewer { FewerDue places.old places.new }
 {
     if let Outcome::Settled = tried.outcome {
-        tidy_new(
-            held,
-            numbers,
-            places,
-            noted,
-            tried.pair.mate,
-            tried.pair.number,
-        );
+        tidy_new(held, numbers, places, noted, tried.mate, number);
     }
 }
 

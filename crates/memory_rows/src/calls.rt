@@ -1,9 +1,8 @@
 //! What begins, changes, keeps and takes back the rows.
-ghost use Rattle.std.specs.Prelude.{◌≡◌, ◌≢◌, ◌≤◌, IfOk, OnOk};
+ghost use Rattle.std.specs.Prelude.{◌≡◌, ◌≢◌, ◌≤◌, IfOk, OnOk, Some};
 ghost use Rattle.desk_codes.specs.Number.{number_of};
 ghost use Rattle.memory_rows.specs.RowsView.{view_of_rows};
 ghost use Rattle.desk_register.specs.Changes.{CanAppend, CanCancel, CanCancelPair, CanPair, CanSend, CanSettle, TriesPair, appended, cancelled, empty_content, pair_cancelled, paired, with_sent};
-ghost use Rattle.desk_register.specs.Told.{IsKnownAt};
 ghost use Rattle.desk_register.specs.View.{Begins, Commits, GoesBack, IsChange, IsLater, fallen};
 ghost use Rattle.desk_rules.specs.Content.{history_of};
 ghost use Rattle.memory_rows.specs.Named.{number_named};
@@ -172,12 +171,13 @@ impl Rows {
 
     /// Tries the matched pair of a number, which is due by a day: settles it where it is covered, and moves its quantity from
     /// the deliverer's account to the receiver's, and its cash from the receiver to the deliverer; else changes the reason
-    /// alone. Hands on the pair.
+    /// alone. Hands on the number of its
+    /// mate.
     pub fn try_pair(&mut self, number: u64, _day: Day) -> Result<Tried, Fault>
         requires stage { (view_of_rows self.old).stage ≡ Stage.Begun }
         requires fits { CanSettle (view_of_rows self.old).content number (number_of _day) }
         ensures settled { IfOk result (λ tried. TriesPair (view_of_rows self.old).content number tried.outcome (view_of_rows self.new).content) }
-        ensures known { IfOk result (λ tried. IsKnownAt (view_of_rows self.old).content number tried.pair) }
+        ensures mate { IfOk result (λ tried. ((view_of_rows self.old).content.standing number).mate ≡ Some tried.mate) }
         ensures change { IsChange result (view_of_rows self.old) (view_of_rows self.new) }
     {
         match try_settle(&mut self.lists, &mut self.changes, number) {

@@ -5,6 +5,7 @@ use Rattle.std.specs.Ordering.{is_eq}
 use Rattle.std.specs.BTreeMap.{BTreeMap}
 use Rattle.std.specs.BTreeSet.{BTreeSet, contains}
 use Rattle.std.proofs.lemmas.Bool.{cases_lt, false_from_ne_true}
+use Rattle.desk_codes.specs.Number.{number_of}
 use Rattle.desk_codes.specs.declared.day.Day.{Day}
 use Rattle.desk_rules.specs.declared.history.entry.Entry.{Entry}
 use Rattle.desk_rules.specs.declared.history.entry.Instructed.{Instructed}
@@ -16,10 +17,12 @@ use Rattle.desk_rules.specs.Content.{Content}
 use Rattle.desk_rules.specs.History.{instruction_at}
 use Rattle.desk_rules.specs.Standing.{reason_of_lack}
 use Rattle.desk_register.specs.Changes.{empty_content}
-use Rattle.memory_rows.specs.Transfers.{IsTransferAt, Transfer, transfer_of}
+use Rattle.desk_register.specs.declared.outcome.Outcome.{Outcome}
+use Rattle.desk_register.specs.declared.told.KnownPair.{KnownPair}
+use Rattle.memory_rows.specs.Transfers.{IsTransferAt, Transfer, moved_by, transfer_of}
 use Rattle.memory_short.specs.DuePlaces.{AreMatched, HasDue, place_at}
 use Rattle.desk_rules.specs.Places.{place_cmp}
-use Rattle.memory_short.specs.Shortages.{Brings, IsBrought, IsBroughtIfAny, IsNotedLack, IsNotedSettled, IsUncovered, KnowsAt, KnowsShort, PutsIn, TakesOut, is_to_try}
+use Rattle.memory_short.specs.Shortages.{Brings, IsBrought, IsBroughtIfAny, IsNotedLack, IsNotedSettled, IsNotedTried, IsUncovered, KnowsAt, KnowsShort, PutsIn, TakesOut, is_to_try}
 use Rattle.memory_short.specs.Wants.{AreWaiting, FewerWait, IsWantOf, KeepsOtherWaits, Waits, cash_want, is_waiting, less_given, more_taken, want_cmp}
 use Rattle.memory_short.specs.declared.shortages.Shortages.{Shortages}
 use Rattle.memory_short.specs.declared.wants.Want.{Want}
@@ -211,6 +214,15 @@ lacks_and_waits s s' mid t lack here known same brought was out others other_wai
   only = λ is. only;
   was = λ is. was;
 }
+
+-- what is noted of a pair that was looked up, said of its two instructions
+pub noted_of : (s s' : Shortages) (outcome : Outcome) (pair : KnownPair) (here : Place) (mate number : ℕ) (earlier later : Instructed) → pair ≡ record { mate = mate; number = number; earlier = earlier; later = later }
+    → here ≡ place_at (number_of later.instruction.day) number → IsNotedTried outcome (moved_by pair) here s s' → IsNotedTried outcome (transfer_of earlier later) (place_at (number_of later.instruction.day) number) s s'
+noted_of s s' outcome pair here mate number earlier later is at noted =
+    subst (λ p. IsNotedTried outcome (transfer_of earlier later) p s s') at (subst (λ (p : KnownPair). IsNotedTried outcome (moved_by p) here s s') is noted)
+
+pub noted_at : (s s' : Shortages) (t : Transfer) (lack : Lack) (here place : Place) → here ≡ place → IsNotedLack t lack here s s' → IsNotedLack t lack place s s'
+noted_at s s' t lack here place same noted = subst (λ p. IsNotedLack t lack p s s') same noted
 
 -- A pair that settled, once what it brings was put down.
 pub settles_and_brings : (s out one two s' : Shortages) (t : Transfer) (here : Place) → TakesOut t here s out → Brings out one → IsBrought one (more_taken t) → Brings one two → IsBrought two (less_given t) → Brings two s'

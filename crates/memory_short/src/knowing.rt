@@ -69,6 +69,17 @@ fn place_of(pair: &KnownPair) -> Place
     }
 }
 
+/// The place of the pair of a number, which is an instruction's.
+fn numbered_place(held: &Rows, number: u64) -> Place
+    requires { (later : InstructedValue) × (instruction_at (history_of (view_of_rows held.now).content) number ≡ Some later) }
+    ensures { (later : InstructedValue) → instruction_at (history_of (view_of_rows held.now).content) number ≡ Some later → result ≡ place_at (number_of later.instruction.day) number }
+{
+    Place {
+        day: held.day_of(number).unwrap().yyyymmdd(),
+        number,
+    }
+}
+
 impl Shortages {
     /// Of no pairs.
     pub fn new(alloc: Global) -> Shortages
@@ -168,19 +179,26 @@ impl Shortages {
         }
     }
 
-    /// Notes how a pair fared that was tried.
-    pub fn note_tried(&mut self, alloc: Global, tried: &Tried)
-        ensures { self.new.is_known ≡ true → IsNotedTried tried.now.outcome (moved_by tried.now.pair) (place_at (number_of tried.now.pair.later.instruction.day) tried.now.pair.number) self.old self.new }
+    /// Notes how the pair of a number fared that was tried.
+    pub fn note_tried(&mut self, held: &Rows, alloc: Global, number: u64, tried: &Tried)
+        requires { (first second : InstructedValue) × (instruction_at (history_of (view_of_rows held.now).content) tried.now.mate ≡ Some first) × (instruction_at (history_of (view_of_rows held.now).content) number ≡ Some second) }
+        ensures { self.new.is_known ≡ true → (earlier later : InstructedValue) → instruction_at (history_of (view_of_rows held.now).content) tried.now.mate ≡ Some earlier → instruction_at (history_of (view_of_rows held.now).content) number ≡ Some later
+            → IsNotedTried tried.now.outcome (transfer_of earlier later) (place_at (number_of later.instruction.day) number) self.old self.new }
     {
         if !self.is_known {
             self.tries = self.tries.saturating_add(1);
             return;
         }
-        let place = place_of(&tried.pair);
         match tried.outcome {
-            Outcome::Settled => self.note_settled(&tried.pair, place),
+            Outcome::Settled => {
+                let pair = held.pair_of(tried.mate, number);
+                self.note_settled(&pair, place_of(&pair));
+            }
             Outcome::Lacks(lack) => {
-                if self.note_lack(alloc, &tried.pair, place, lack).is_err() {
+                if self
+                    .note_lack(held, alloc, tried.mate, number, lack)
+                    .is_err()
+                {
                     self.forget();
                 }
             }
@@ -211,28 +229,33 @@ impl Shortages {
         self.bring_if_any(cash_want(pair.deliverer().sender, pair.later.instruction.cash));
     }
 
-    /// Notes what the pair of a place lacks, once enough tries in vain have paid for that. Until then it stays to be tried.
+    /// Notes what the pair of a number lacks, once enough tries in vain have paid for that. Until then it stays to be tried.
     fn note_lack(
         &mut self,
+        held: &Rows,
         alloc: Global,
-        pair: &KnownPair,
-        place: Place,
+        mate: u64,
+        number: u64,
         lack: Lack,
     ) -> Result<(), AllocError>
-        requires { self.old.is_known ≡ true }
+        requires known { self.old.is_known ≡ true }
+        requires pair { (first second : InstructedValue) × (instruction_at (history_of (view_of_rows held.now).content) mate ≡ Some first) × (instruction_at (history_of (view_of_rows held.now).content) number ≡ Some second) }
         ensures known { self.new.is_known ≡ true }
-        ensures noted { OnOk result (IsNotedLack (moved_by pair.now) lack place self.old self.new) }
+        ensures noted { OnOk result ((earlier later : InstructedValue) → instruction_at (history_of (view_of_rows held.now).content) mate ≡ Some earlier → instruction_at (history_of (view_of_rows held.now).content) number ≡ Some later
+            → IsNotedLack (transfer_of earlier later) lack (place_at (number_of later.instruction.day) number) self.old self.new) }
     {
+        let place = numbered_place(held, number);
         match count_down(&mut self.to_try, place) {
             // it was known to stay short, and fared otherwise
             None => {
-                self.take_out(pair, place);
+                self.take_out(&held.pair_of(mate, number), place);
                 begin_count(&mut self.to_try, place, TRIES_OF_A_NOTE)
             }
             Some(left) if 0 < left => Ok(()),
             Some(_) => {
                 end_count(&mut self.to_try, place);
-                put_wants(&mut self.waits, alloc, pair, lack, place)
+                let pair = held.pair_of(mate, number);
+                put_wants(&mut self.waits, alloc, &pair, lack, place)
             }
         }
     }

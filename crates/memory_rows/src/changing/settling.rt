@@ -1,7 +1,6 @@
 //! A pair, settled in the lists.
 ghost use Rattle.std.specs.Prelude.{◌≡◌, ◌<◌, ◌≤◌, ◌+◌, ◌^◌, ◌↔◌, ℕ, Some, None, false, length, IfOk, IsTrue, OnOk, true};
 ghost use Rattle.desk_register.specs.Changes.{CanSettle, FitsCash, HasCash, LacksCash, SidesFit, TriesPair, TriesSides, standing_both};
-ghost use Rattle.desk_register.specs.Told.{IsKnownAt};
 ghost use Rattle.memory_rows.specs.Balanced.{IsSound};
 ghost use Rattle.memory_rows.specs.Lists.{balance_in, content_in, listed, standing_in, undone};
 ghost use Rattle.memory_rows.specs.Moves.{with_less, with_more, SameBooks, SameEntries, SameTotals, moved_between, paid_between};
@@ -158,12 +157,12 @@ pub fn try_settle(
     requires fits { (day : ℕ) × CanSettle (content_in (listed lists.old)) number day }
     requires sound { IsSound (listed lists.old) }
     ensures settled { IfOk result (λ tried. TriesPair (content_in (listed lists.old)) number tried.outcome (content_in (listed lists.new))) }
-    ensures known { IfOk result (λ tried. IsKnownAt (content_in (listed lists.old)) number tried.pair) }
+    ensures mate { IfOk result (λ tried. ((content_in (listed lists.old)).standing number).mate ≡ Some tried.mate) }
     ensures sound { OnOk result (IsSound (listed lists.new)) }
     ensures before { undone changes.new.items (listed lists.new) ≡ undone changes.old.items (listed lists.old) }
 {
     let mate = standing(lists, number).mate.unwrap();
     let pair = pair_of(lists, mate, number);
     let outcome = settle_known(lists, changes, &pair)?;
-    Ok(Tried { pair, outcome })
+    Ok(Tried { mate, outcome })
 }

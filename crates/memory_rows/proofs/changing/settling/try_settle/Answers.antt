@@ -45,11 +45,8 @@ returns-clause-settled c =
     let mate : (content.standing c.args.number).mate ≡ Some c.unwrap-mate.result = search rules in
     tries_pair content c.args.number c.requires.fits.0 c.unwrap-mate.result c.requires.fits.1 mate c.pair_of-pair.result c.pair_of-pair.ensures c.in_ok-outcome.outcome (content_in (listed c.settle_known.new.lists)) c.in_ok-outcome.ensures.settled
 
-pub returns-clause-known : goal.returns-clause-known
-returns-clause-known c =
-    let content = content_in (listed c.args.lists.now) in
-    let mate : (content.standing c.args.number).mate ≡ Some c.unwrap-mate.result = search rules in
-    pair_known content c.args.number c.requires.fits.0 c.unwrap-mate.result c.requires.fits.1 mate c.pair_of-pair.result c.pair_of-pair.ensures
+pub returns-clause-mate : goal.returns-clause-mate
+returns-clause-mate c = search rules
 
 pub returns-clause-sound : goal.returns-clause-sound
 returns-clause-sound c = sound_tried {E = AllocError} (Ok c.in_ok-outcome.outcome) (listed c.args.lists.now) (listed c.settle_known.new.lists) c.args.number c.requires.sound (returns-clause-settled c) c.in_ok-outcome.ensures.rest
