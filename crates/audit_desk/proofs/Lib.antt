@@ -4,3 +4,4 @@ pub mod HistoryFacts
 pub mod KeptLemmas
 pub mod PartLemmas
 pub mod RestLemmas
+pub mod WritableFacts

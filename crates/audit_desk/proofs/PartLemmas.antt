@@ -1,7 +1,8 @@
 -- From the parts to the whole.
-use Rattle.std.proofs.Common.{◌≡◌, ℕ, map, unwrap_or, sym, ap, subst, ◌∙◌}
+use Rattle.std.proofs.Common.{◌≡◌, ◌≤◌, ℕ, map, arith, unwrap_or, sym, ap, subst, ◌∙◌}
 use Rattle.sqlite.specs.Effect.{Database}
 use Rattle.desk_rules.specs.declared.history.standing.Standing.{Standing}
+use Rattle.desk_rules.specs.declared.limits.TheConstants.{MOST_ENTRIES}
 use Rattle.desk_rules.specs.Books.{Books}
 use Rattle.desk_rules.specs.Content.{Content}
 use Rattle.desk_rules.specs.WellFormed.{AreWellFormed}
@@ -15,11 +16,12 @@ use Rattle.sql_register.proofs.SaidLemmas.{register_again}
 use Rattle.sql_register.proofs.SentContent.{sent_is}
 use Rattle.audit_desk.specs.Parts.{HasParts}
 use Rattle.audit_desk.proofs.ContentFacts.{had_is, held_is, nothing_unnamed, paid_together, registered, stands_nowhere, stranger_has_none, stranger_holds_none}
+use Rattle.audit_desk.proofs.WritableFacts.{all_formed, sendable, short, stands, within}
 
 every : (f g : ℕ → Standing) → ((n : ℕ) → f n ≡ g n) → f ≡ g
 every f g same = λ k n. same n k
 
-module _ (db : Database) (limit : ℕ) (books : Books) (content : Content) (parts : HasParts db content) (keeps : KeepsBooks limit books content) (formed : AreWellFormed books.history) where
+module _ (db : Database) (limit : ℕ) (books : Books) (content : Content) (parts : HasParts db content) (few : limit ≤ MOST_ENTRIES) (keeps : KeepsBooks limit books content) (formed : AreWellFormed books.history) where
   content_is : content_in db ≡ content
   content_is = by_parts _ _ _ _ _ _ _ _ _ _ (ap (map kept_in) parts.entries.rows ∙ register_again 0 content.register) (every (standing_in db) content.standing parts.standing) parts.positions parts.cash (sent_is db content.sent parts.sent)
 
@@ -48,6 +50,11 @@ module _ (db : Database) (limit : ℕ) (books : Books) (content : Content) (part
     sent = parts.sent;
     totals = totals;
     registered = registered limit books content keeps;
+    stands = stands limit books content keeps formed;
+    within = (let all = within limit books content keeps formed MOST_ENTRIES few in omega (arith, all));
+    formed = all_formed limit books content keeps formed;
+    short = short limit books content keeps formed;
+    sendable = sendable limit books content keeps formed;
     named = nothing_unnamed limit books content keeps formed;
   }
 

@@ -1,11 +1,12 @@
 -- What the audits of tables presume, of an accepted history; and what they show together.
-use Rattle.std.proofs.Common.{◌≡◌, ◌⊎◌, inl, inr, ℕ, zero, suc, ◌<◌, length, Option, None, Some, Ok, Err, Result, IfOk, refl, sym, ap, subst, arith}
+use Rattle.std.proofs.Common.{◌≡◌, ◌⊎◌, inl, inr, ℕ, zero, suc, ◌<◌, ◌≤◌, length, Option, None, Some, Ok, Err, Result, IfOk, refl, sym, ap, subst, arith}
 use Rattle.std.proofs.lemmas.List.{length-map}
 use Rattle.std.proofs.lemmas.Option.{slice_get_past}
 use Rattle.sqlite.specs.Effect.{Database}
 use Rattle.desk_rules.specs.declared.history.entry.Entry.{Entry}
 use Rattle.desk_rules.specs.declared.history.entry.Instructed.{Instructed}
 use Rattle.desk_rules.specs.declared.answers.reply.Kept.{Kept}
+use Rattle.desk_rules.specs.declared.limits.TheConstants.{MOST_ENTRIES}
 use Rattle.desk_rules.specs.Content.{Content, history_of}
 use Rattle.desk_rules.specs.History.{instructed, instruction_at}
 use Rattle.desk_rules.specs.WellFormed.{AreWellFormed}
@@ -62,9 +63,9 @@ parts db limit content schema read rest = record {
   paid = λ ccy. rest.amounts.said (keys.Currency ccy);
 }
 
-pub audited : (db : Database) (limit : ℕ) (content : Content) → db.schema ≡ desk_schema → HasVersion db (Some 3) → IsRead db limit content → SaysRest db content → IsAudited db limit content
-audited db limit content schema version read rest = record {
-  becomes = becomes db limit read.held.books content (parts db limit content schema read rest) read.held.keeps (subst AreWellFormed read.held.keeps.tables.history read.formed);
+pub audited : (db : Database) (limit : ℕ) (content : Content) → limit ≤ MOST_ENTRIES → db.schema ≡ desk_schema → HasVersion db (Some 3) → IsRead db limit content → SaysRest db content → IsAudited db limit content
+audited db limit content few schema version read rest = record {
+  becomes = becomes db limit read.held.books content (parts db limit content schema read rest) few read.held.keeps (subst AreWellFormed read.held.keeps.tables.history read.formed);
   version = version;
   held = read.held;
   formed = read.formed;
@@ -75,9 +76,9 @@ pub filled : (d0 d1 : Database) (limit : ℕ) (c1 c2 : Content) → d1 ≡ d0 �
 filled d0 d1 limit c1 c2 same then read rest = subst (IsFilled d0 limit) (sym then) (record { read = read; rest = subst (λ (d : Database). SaysRest d c1) same rest })
 
 -- and that the schema and the version are the desk's
-pub audit_whole : (d0 d1 : Database) (limit : ℕ) (content : Content) (r : Result Audited AuditFault) → d1 ≡ d0 → d0.schema ≡ desk_schema → HasVersion d0 (Some 3) → IfOk r (λ found. found ≡ Whole → IsFilled d1 limit content)
+pub audit_whole : (d0 d1 : Database) (limit : ℕ) (content : Content) (r : Result Audited AuditFault) → limit ≤ MOST_ENTRIES → d1 ≡ d0 → d0.schema ≡ desk_schema → HasVersion d0 (Some 3) → IfOk r (λ found. found ≡ Whole → IsFilled d1 limit content)
     → IfOk r (λ found. found ≡ Whole → IsAudited d0 limit content)
-audit_whole d0 d1 limit content (Ok found) same schema version fills = λ whole.
+audit_whole d0 d1 limit content (Ok found) few same schema version fills = λ whole.
     let it = subst (λ (d : Database). IsFilled d limit content) same (fills whole) in
-    audited d0 limit content schema version it.read it.rest
-audit_whole d0 d1 limit content (Err fault) same schema version fills = tt
+    audited d0 limit content few schema version it.read it.rest
+audit_whole d0 d1 limit content (Err fault) few same schema version fills = tt

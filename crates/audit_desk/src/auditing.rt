@@ -1,10 +1,11 @@
 //! A database beside a register in memory that is filled from it.
-ghost use Rattle.std.specs.Prelude.{◌≡◌, ◌≢◌, [], true, IfOk, IsTrue, OnOk};
+ghost use Rattle.std.specs.Prelude.{◌≡◌, ◌≢◌, ◌≤◌, [], true, IfOk, IsTrue, OnOk};
 ghost use Rattle.sqlite.specs.Held.{state};
 ghost use Rattle.sqlite.specs.State.{HasCleanDisk};
 ghost use Rattle.desk_engine.specs.Accepting.{IsDone};
 ghost use Rattle.desk_register.specs.View.{IfTrusted, IsLater};
 ghost use Rattle.desk_engine.specs.KeptHistory.{HoldsKept};
+ghost use Rattle.desk_rules.specs.declared.limits.TheConstants.{MOST_ENTRIES};
 ghost use Rattle.sql_tables.specs.Calls.{Soundly, tables};
 ghost use Rattle.sql_tables.specs.Making.{KeepsCommitted};
 ghost use Rattle.sql_tables.specs.Schema.{desk_schema};
@@ -81,7 +82,7 @@ pub fn audit<S: Alter, R: Messages, P: Progress>(
     requires stage { (R.Register.view register.old).stage ≡ Stage.Idle }
     requires empty { IfTrusted (R.Register.view register.old) (R.Register.view register.old) (HoldsKept (R.Register.view register.old).room [] (R.Register.view register.old).content) }
     ensures whole { HasCleanDisk (state S.Store conn.new) → IsTrue (state S.Store conn.old).is_open → IfTrusted (R.Register.view register.old) (R.Register.view register.new)
-        (AreInOrder (tables S.Store conn.old).schema (tables S.Store conn.old).trees
+        (AreInOrder (tables S.Store conn.old).schema (tables S.Store conn.old).trees → (R.Register.view register.old).room ≤ MOST_ENTRIES
         → IfOk result (λ audited. audited ≡ Audited.Whole → IsAudited (tables S.Store conn.old) (R.Register.view register.old).room (R.Register.view register.new).content)) }
     ensures holds { IfTrusted (R.Register.view register.old) (R.Register.view register.new) (IfOk result (λ audited. audited ≡ Audited.Whole → HoldsFormed (R.Register.view register.old).room (R.Register.view register.new).content)) }
     ensures kept { HasCleanDisk (state S.Store conn.new) → IsTrue (state S.Store conn.old).is_open → KeepsCommitted (state S.Store conn.old) (state S.Store conn.new) }

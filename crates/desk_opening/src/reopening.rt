@@ -1,6 +1,6 @@
 //! A connection is given up and made anew of its store.
 ghost use Rattle.std.specs.Prelude.{◌≡◌, IfErr, IfOk, IsTrue};
-ghost use Rattle.sqlite.specs.Held.{state};
+ghost use Rattle.sqlite.specs.Held.{IsNew, state};
 ghost use Rattle.sqlite.specs.State.{HasCleanDisk};
 ghost use Rattle.sqlite_trees.specs.View.{IsClean};
 ghost use Rattle.desk_opening.specs.Opened.{IsHandedBack, StandsOpen};
@@ -25,6 +25,7 @@ pub fn reopen<S: Alter + Drop>(
     conn: Connection<S>,
 ) -> Result<Connection<S>, (Error, S)>
     ensures open { IfOk result (λ c. HasCleanDisk (state S.Store c) → StandsOpen (state S.Store c)) }
+    ensures fresh { IfOk result IsNew }
     ensures same { IfOk result (λ c. HasCleanDisk (state S.Store c) → (state S.Store c).committed ≡ (state S.Store conn).committed) }
     ensures back { IfErr result (λ e. IsClean (S.Store.view e.1) → IsTrue (S.Store.view e.1).is_open → IsHandedBack (S.Store.view e.1) (state S.Store conn)) }
 {

@@ -1,5 +1,5 @@
 //! A database that was opened is made the desk's, or found to be.
-ghost use Rattle.std.specs.Prelude.{◌≡◌, ◌≤◌, IfErr, IfOk, IsTrue};
+ghost use Rattle.std.specs.Prelude.{◌≡◌, ◌≤◌, IfErr, IfOk, IsTrue, None};
 ghost use Rattle.sqlite.specs.Held.{state};
 ghost use Rattle.sqlite.specs.State.{HasCleanDisk};
 ghost use Rattle.memory_register.specs.ListsView.{view_of_lists};
@@ -37,6 +37,7 @@ fn make<S: Alter + Drop>(
     limit: u64,
 ) -> Result<MirroredRegister<ListRegister, SqlRegister<S>>, (OpenFault, Connection<S>)>
     requires limit { limit ≤ MOST_ENTRIES }
+    requires unlimited { (state S.Store conn).step_limit ≡ None }
     requires open { HasCleanDisk (state S.Store conn) → StandsOpen (state S.Store conn) }
     ensures opened { IfOk result (IsOpened S.Store limit) }
     ensures which { IfOk result (λ both. HasCleanDisk (state S.Store both.tables.connection) → Finds (state S.Store conn).committed (state S.Store both.tables.connection).committed (view_of_lists both.memory).content) }
@@ -58,6 +59,7 @@ fn find<S: Alter + Drop, P: Progress>(
     progress: &mut P,
 ) -> Result<MirroredRegister<ListRegister, SqlRegister<S>>, (OpenFault, Connection<S>)>
     requires limit { limit ≤ MOST_ENTRIES }
+    requires unlimited { (state S.Store conn).step_limit ≡ None }
     requires open { HasCleanDisk (state S.Store conn) → StandsOpen (state S.Store conn) }
     ensures opened { IfOk result (IsOpened S.Store limit) }
     ensures which { IfOk result (λ both. HasCleanDisk (state S.Store both.tables.connection) → Finds (state S.Store conn).committed (state S.Store both.tables.connection).committed (view_of_lists both.memory).content) }
@@ -82,7 +84,7 @@ fn find<S: Alter + Drop, P: Progress>(
     }
 }
 
-/// Takes a database over that was just opened. One with no table gets the desk's.
+/// Takes a database over that was just opened, so that no limit is set on the steps of a query. One with no table gets the desk's.
 pub fn take_over<S: Alter + Drop, P: Progress>(
     alloc: Global,
     conn: Connection<S>,
@@ -90,6 +92,7 @@ pub fn take_over<S: Alter + Drop, P: Progress>(
     progress: &mut P,
 ) -> Result<MirroredRegister<ListRegister, SqlRegister<S>>, (OpenFault, Connection<S>)>
     requires limit { limit ≤ MOST_ENTRIES }
+    requires unlimited { (state S.Store conn).step_limit ≡ None }
     requires open { HasCleanDisk (state S.Store conn) → StandsOpen (state S.Store conn) }
     ensures opened { IfOk result (IsOpened S.Store limit) }
     ensures which { IfOk result (λ both. HasCleanDisk (state S.Store both.tables.connection) → Finds (state S.Store conn).committed (state S.Store both.tables.connection).committed (view_of_lists both.memory).content) }

@@ -1,5 +1,5 @@
 //! A day over tables in SQL, in a file that is kept in memory, with its log; and over a register in memory beside them.
-ghost use Rattle.std.specs.Prelude.{◌≡◌, IsTrue, false};
+ghost use Rattle.std.specs.Prelude.{◌≡◌, IsTrue, None, false};
 ghost use Rattle.sqlite.specs.Held.{state};
 ghost use Rattle.sqlite.specs.State.{HasCleanDisk};
 ghost use Rattle.desk_engine.specs.Ready.{IsReady};
@@ -73,7 +73,8 @@ fn play_on<S: Alter + Drop>(
     requests: u32,
     digest: &mut Digest,
 ) -> Result<(), Failure>
-    requires { HasCleanDisk (state S.Store conn) → IsTrue (state S.Store conn).is_open }
+    requires open { HasCleanDisk (state S.Store conn) → IsTrue (state S.Store conn).is_open }
+    requires unlimited { (state S.Store conn).step_limit ≡ None }
 {
     match SqlRegister::new(conn, MOST_ENTRIES) {
         Ok(tables) => match registers {

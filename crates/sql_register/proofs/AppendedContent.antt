@@ -1,13 +1,17 @@
 -- What the tables have become says the content with one entry more.
-use Rattle.std.proofs.Common.{◌≡◌, sym, ap, subst, ◌∙◌, ℕ, List, [], map, true}
+use Rattle.std.proofs.Common.{◌≡◌, sym, ap, subst, ◌∙◌, ℕ, ◌+◌, ◌<◌, List, [], ◌∷◌, length, length-append, map, true, arith}
 use Rattle.sqlite.specs.Effect.{Database}
 use Rattle.sql_amounts.specs.Amounts.{AreAmounts}
 use Rattle.desk_codes.specs.declared.currency.Ccy.{Ccy}
 use Rattle.sql_entries.specs.Entries.{AreEntries, with_entry}
+use Rattle.sql_entries.specs.Shown.{HasShortNumbers}
 use Rattle.desk_register.specs.Changes.{CanAppend, appended, cash_after, positions_after}
 use Rattle.desk_rules.specs.declared.history.entry.Entry.{Entry}
 use Rattle.desk_rules.specs.declared.answers.reply.Reply.{Reply}
 use Rattle.desk_rules.specs.Content.{history_of}
+use Rattle.desk_rules.specs.WellFormed.{AreWellFormed, IsWellFormed}
+use Rattle.desk_rules.proofs.WellFormedLemmas.{formed_push}
+use Rattle.sql_sent.proofs.RowLemmas.{all_more}
 use Rattle.sql_sent.proofs.TableLemmas.{same_sent}
 use Rattle.sql_standings.proofs.DueLemmas.{same_due, same_due_in}
 use Rattle.sql_standings.specs.Standings.{AreStandings, standing_in}
@@ -17,9 +21,10 @@ use Rattle.sql_register.specs.Content.{content_in}
 use Rattle.desk_rules.specs.Unmatched.{unmatched_in}
 use Rattle.sql_register.specs.Holds.{Becomes, IsDesk, Keeps}
 use Rattle.sql_register.specs.RowsSaid.{kept_in, sent_in}
-use Rattle.sql_register.proofs.AppendedHistory.{instructions_more, pair_after, pair_before}
+use Rattle.sql_register.proofs.AppendedHistory.{instructions_more, pair_after, pair_before, stands_more}
 use Rattle.sql_register.proofs.AppendedTotals.{TotalsMore, registered_more, totals_more}
 use Rattle.sql_register.proofs.ContentLemmas.{by_parts}
+use Rattle.desk_register.proofs.AddsUpLemmas.{longer}
 use Rattle.desk_register.proofs.RegisteredLemmas.{IsFounded, founded}
 use Rattle.sql_register.proofs.SaidLemmas.{register_again}
 
@@ -37,6 +42,9 @@ pub record TakesEntry (old new : Database) (entry : Entry) (reply : Reply) : Typ
   pub unmatched : AreUnmatched new (unmatched_in (appended entry reply (content_in old)))
   pub due : new.trees 10 ≡ old.trees 10
   pub messages : new.trees 11 ≡ old.trees 11
+  pub within : length (content_in old).register + 1 < 1_000_000_000
+  pub formed : IsWellFormed entry
+  pub short : HasShortNumbers reply
 
 pub takes_entry : (old new : Database) (entry : Entry) (reply : Reply) (room : ℕ) → IsDesk old → CanAppend room entry reply (content_in old) → TakesEntry old new entry reply → Becomes new (appended entry reply (content_in old))
 takes_entry old new entry reply room desk can takes =
@@ -58,6 +66,11 @@ takes_entry old new entry reply room desk can takes =
       sent = same_sent old new takes.messages before.sent desk.sent;
       totals = totals_more old new before desk.totals desk.registered entry reply well can.balances takes.totals;
       registered = registered_more old new before desk.totals desk.registered entry reply well can.balances takes.totals;
+      stands = stands_more before entry reply desk.stands;
+      within = (let grows = length-append before.register (record { entry = entry; reply = reply } ∷ []) in omega (arith, grows, takes.within));
+      formed = subst AreWellFormed (sym (longer before entry reply)) (formed_push (history_of before) entry desk.formed takes.formed);
+      short = all_more (λ kept. HasShortNumbers kept.reply) before.register (record { entry = entry; reply = reply }) desk.short takes.short;
+      sendable = desk.sendable;
       named = takes.named;
     } in
     record { desk = subst (Keeps new) (sym content) keeps; content_is = content }

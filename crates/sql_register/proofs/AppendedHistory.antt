@@ -96,6 +96,19 @@ first_none (Instruct sender instruction) is = absurd (cc)
 first_none (Cancel sender order) is = refl
 first_none (Run reference day rule) is = refl
 
+-- an instruction stands from the first
+first_some : (e : Entry) (i : Instructed) → instructed e ≡ Some i → (first_standing e).state ≢ NoInstruction
+first_some (Participant reference bic) i is = absurd (cc)
+first_some (Account reference bic account) i is = absurd (cc)
+first_some (Security reference isin kind) i is = absurd (cc)
+first_some (Issue movement) i is = absurd (cc)
+first_some (Redeem movement) i is = absurd (cc)
+first_some (PayIn payment) i is = absurd (cc)
+first_some (PayOut payment) i is = absurd (cc)
+first_some (Instruct sender instruction) i is = λ none. cc
+first_some (Cancel sender order) i is = absurd (cc)
+first_some (Run reference day rule) i is = absurd (cc)
+
 module _ (content : Content) (e : Entry) (reply : Reply) where
   abbrev h : List Entry
   h = history_of content
@@ -125,7 +138,7 @@ module _ (content : Content) (e : Entry) (reply : Reply) where
         beyond (h ++ e ∷ []) n further ∙ sym (beyond h n past)
   ]
 
-  none_last : instruction_at h last ≡ None
+  pub none_last : instruction_at h last ≡ None
   none_last = beyond h last (omega (arith, size))
 
   stands_last : (n : ℕ) → (n == last) ≡ true → after.standing n ≡ first_standing e
@@ -191,6 +204,13 @@ module _ (content : Content) (e : Entry) (reply : Reply) where
           matched = ap (λ (s : Standing). s.state) stands ∙ noted_part content.standing (λ s. s.state) (λ s. refl) (requested_by h e) place.number ∙ pair.matched;
           day = pair.day;
         }
+  ]
+
+  -- each instruction stands somewhere
+  pub stands_more : ((n : ℕ) (i : Instructed) → instruction_at h n ≡ Some i → (content.standing n).state ≢ NoInstruction) → (n : ℕ) (i : Instructed) → instruction_at (history_of after) n ≡ Some i → (after.standing n).state ≢ NoInstruction
+  stands_more all n i is none = elim (cases_Bool (n == last)) [
+    | inl here ↦ first_some e i (sym at_last ∙ ap (instruction_at (history_of after)) (sym (eqb-true n last here)) ∙ is) (sym (ap (λ (s : Standing). s.state) (stands_last n here)) ∙ none)
+    | inr apart ↦ all n i (sym (at_front n apart) ∙ is) (sym (ap (λ (s : Standing). s.state) (stands_front n apart) ∙ noted_part content.standing (λ s. s.state) (λ s. refl) (requested_by h e) n) ∙ none)
   ]
 
   -- where what is no instruction stands

@@ -3,7 +3,8 @@ use Rattle.std.proofs.Common.{◌≡◌, inl, inr, refl, sym, ap, ◌∙◌, ℕ
 use Rattle.std.proofs.lemmas.Bool.{cases_Bool}
 use Rattle.sqlite.specs.Effect.{Database}
 use Rattle.sql_amounts.proofs.AmountLemmas.{SameAmounts, same_amounts}
-use Rattle.sql_entries.specs.Entries.{EntryAdded, with_entry}
+use Rattle.sql_entries.specs.Entries.{with_entry}
+use Rattle.sql_register.specs.Appending.{RowAdded}
 use Rattle.sql_entries.proofs.SameLemmas.{same_entries}
 use Rattle.desk_register.specs.Changes.{CanAppend, appended, standing_at}
 use Rattle.desk_rules.specs.declared.history.entry.Entry.{Entry}
@@ -11,17 +12,19 @@ use Rattle.desk_rules.specs.declared.history.entry.Entry.TheVariants.{Instruct}
 use Rattle.desk_rules.specs.declared.history.entry.Instructed.{Instructed}
 use Rattle.desk_rules.specs.declared.answers.reply.Reply.{Reply}
 use Rattle.desk_rules.specs.Content.{Content}
+use Rattle.desk_rules.specs.declared.history.standing.Standing.{Standing}
+use Rattle.desk_rules.specs.declared.history.standing.State.TheVariants.{NoInstruction}
 use Rattle.sql_standings.proofs.StandingLemmas.{same_standings, same_standing_in}
 use Rattle.sql_standings.specs.Standings.{AreStandings, StandingsChanged, fresh_standing, standing_in}
 use Rattle.sql_tables.specs.Schema.{desk_schema}
-use Rattle.sql_standings.specs.Unmatched.{Notes, noting}
+use Rattle.sql_standings.specs.Unmatched.{AreUnmatched, Notes, noting}
 use Rattle.sql_standings.proofs.UnmatchedLaws.{noted_same, same_unmatched}
 use Rattle.sql_register.specs.Content.{content_in}
 use Rattle.desk_rules.specs.Unmatched.{unmatched_in}
 use Rattle.sql_register.specs.Holds.{Becomes, IsDesk}
 use Rattle.sql_register.proofs.AppendedAmounts.{cash_same, securities_same, totals_of}
 use Rattle.sql_register.proofs.AppendedContent.{takes_entry}
-use Rattle.sql_register.proofs.AppendedHistory.{unmatched_front, unmatched_last}
+use Rattle.sql_register.proofs.AppendedHistory.{none_last, unmatched_front, unmatched_last}
 use Rattle.sql_register.proofs.AppendedRow.{row_moves}
 use Rattle.sql_register.proofs.ContentLemmas.{same_totals}
 use Rattle.sql_register.proofs.FrameLemmas.{balance_spared, cash_spared, total_spared, register_spared, state_spared, unmatched_spared, due_spared, sent_spared}
@@ -42,9 +45,18 @@ module _ (old d1 : Database) (i : Instructed) (reply : Reply) (room : ℕ) (desk
     | inr apart ↦ ap (λ b. cond b (Some i) (unmatched_in before n)) apart ∙ sym (unmatched_front before entry reply n apart)
   ]
 
-  module _ (can : CanAppend room entry reply before) (added : EntryAdded old d1 before.register entry reply) where
+  module _ (can : CanAppend room entry reply before) (added : RowAdded old d1 before.register entry reply) where
     pub row_standings : AreStandings d1
     row_standings = same_standings old d1 (sym (row_moves old d1 entry reply added).standings) desk.standings
+
+    -- its number stands nowhere yet, and is not noted
+    pub none_yet : (standing_in d1 last).state ≡ NoInstruction
+    none_yet =
+        ap (λ (f : ℕ → Standing). (f last).state) (same_standing_in d1 old (row_moves old d1 entry reply added).standings) ∙ ap (λ (s : Standing). s.state) (desk.instructions last (none_last before entry reply))
+
+    pub row_unmatched : (d2 : Database) (standings : ℕ → Standing) → StandingsChanged d1 d2 standings → AreUnmatched d2 (unmatched_in before)
+    row_unmatched d2 standings stood =
+        same_unmatched old d2 (unmatched_in before) (sym (unmatched_spared d1 d2 8 9 stood.others (inr (omega arith)) ∙ (row_moves old d1 entry reply added).unmatched)) desk.unmatched
 
     pub instruct_becomes : (d2 new : Database) → StandingsChanged d1 d2 (standing_at (standing_in d1) last fresh_standing) → Notes d2 new last i → new.schema ≡ desk_schema → Becomes new (appended entry reply before)
     instruct_becomes d2 new stood noted schema =
@@ -71,4 +83,7 @@ module _ (old d1 : Database) (i : Instructed) (reply : Reply) (room : ℕ) (desk
               (noted.notes (unmatched_in before) (same_unmatched old d2 (unmatched_in before) (sym (unmatched_spared d1 d2 8 9 stood.others (inr (omega arith)) ∙ row.unmatched)) desk.unmatched)).1;
           due = due_spared d2 new 9 10 noted.spares (inr (omega arith)) ∙ due_spared d1 d2 8 9 stood.others (inr (omega arith)) ∙ row.due;
           messages = sent_spared d2 new 9 10 noted.spares (inr (omega arith)) ∙ sent_spared d1 d2 8 9 stood.others (inr (omega arith)) ∙ row.messages;
+          within = added.within;
+          formed = added.formed;
+          short = added.short;
         })

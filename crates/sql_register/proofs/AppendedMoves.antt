@@ -9,7 +9,8 @@ use Rattle.sql_amounts.specs.declared.key.AmountKey.TheVariants as keys
 use Rattle.sql_amounts.specs.declared.key.Ledger.TheVariants.{Balance, Cash}
 use Rattle.sql_amounts.proofs.AmountLemmas.{same_amounts, same_recorded}
 use Rattle.desk_codes.specs.Currency.{letters_of}
-use Rattle.sql_entries.specs.Entries.{EntryAdded, with_entry}
+use Rattle.sql_entries.specs.Entries.{with_entry}
+use Rattle.sql_register.specs.Appending.{RowAdded}
 use Rattle.sql_entries.proofs.SameLemmas.{same_entries}
 use Rattle.desk_register.specs.Changes.{CanAppend, appended, cash_at, moved_to}
 use Rattle.desk_rules.specs.declared.history.entry.Entry.TheVariants.{Issue, Redeem, PayIn, PayOut}
@@ -44,7 +45,7 @@ module _ (d1 d2 new : Database) (first : SparesOthers 0 6 d1 d2) (second : Spare
   }
 
 module _ (old d1 : Database) (m : Movement) (reply : Reply) (room : ℕ) (desk : IsDesk old) where
-  module _ (can : CanAppend room (Issue m) reply (content_in old)) (added : EntryAdded old d1 (content_in old).register (Issue m) reply) where
+  module _ (can : CanAppend room (Issue m) reply (content_in old)) (added : RowAdded old d1 (content_in old).register (Issue m) reply) where
     pub issue_amounts : AreAmounts d1
     issue_amounts = same_amounts old d1 (row_amounts old d1 (Issue m) reply added) desk.amounts
 
@@ -73,18 +74,27 @@ module _ (old d1 : Database) (m : Movement) (reply : Reply) (room : ℕ) (desk :
           (moves_securities old d1 d2 new same m.account m.isin _ _ a b (Issue m) m.quantity 0 (ap (λ z. moved_to (content_in old).position m.account m.isin (z + m.quantity)) (sym held_is))
           (λ i. refl) (λ i. sym (nothing_if (bytes_eq m.isin i))) (omega (arith, total_is)) (named_isin m.isin len) desk.named)
           (no_cash old new (Issue m) (record { cash = λ c. refl; paid = λ f c. refl }) (cash_still old d1 d2 new same m.account m.isin _ _ a b) (paid_still old d1 d2 new same m.account m.isin _ _ a b))
-          (moves_still d1 d2 new a.spares b.spares old (row_moves old d1 (Issue m) reply added))
+          (moves_still d1 d2 new a.spares b.spares old (row_moves old d1 (Issue m) reply added)) added.within added.formed added.short
 
-  module _ (can : CanAppend room (Redeem m) reply (content_in old)) (added : EntryAdded old d1 (content_in old).register (Redeem m) reply) where
+  module _ (can : CanAppend room (Redeem m) reply (content_in old)) (added : RowAdded old d1 (content_in old).register (Redeem m) reply) where
     pub redeem_amounts : AreAmounts d1
     redeem_amounts = same_amounts old d1 (row_amounts old d1 (Redeem m) reply added) desk.amounts
 
     redeem_held : had d1 (keys.Balance m.account m.isin) ≡ (content_in old).position m.account m.isin
     redeem_held = ap (λ o. unwrap_or o 0) (same_recorded old d1 (row_amounts old d1 (Redeem m) reply added) Balance m.account m.isin)
 
+    pub redeem_enough : m.quantity ≤ had d1 (keys.Balance m.account m.isin)
+    redeem_enough = let enough = can.balances.0 in omega (arith, enough, redeem_held)
+
     module _ (d2 : Database) (a : SetsAmount d1 d2 (keys.Balance m.account m.isin) (had d1 (keys.Balance m.account m.isin) - m.quantity)) where
       redeem_total : had d2 (SecurityTotal m.isin) ≡ outstanding_in old m.isin
       redeem_total = outstanding_before old d1 d2 d2 (row_amounts old d1 (Redeem m) reply added) m.account m.isin _ 0 a
+
+      pub redeem_enough_total : m.quantity ≤ had d2 (SecurityTotal m.isin)
+      redeem_enough_total =
+          let whole = desk.totals.outstanding m.isin in
+          let within = can.balances.1 in
+          omega (arith, redeem_total, whole, within)
 
       pub redeem_becomes : (new : Database) → SetsAmount d2 new (SecurityTotal m.isin) (had d2 (SecurityTotal m.isin) - m.quantity) → m.quantity ≤ had d2 (SecurityTotal m.isin) → new.schema ≡ desk_schema → length m.isin ≡ 12 → Becomes new (appended (Redeem m) reply (content_in old))
       redeem_becomes new b enough schema len =
@@ -94,10 +104,10 @@ module _ (old d1 : Database) (m : Movement) (reply : Reply) (room : ℕ) (desk :
           (moves_securities old d1 d2 new same m.account m.isin _ _ a b (Redeem m) 0 m.quantity (ap (λ z. moved_to (content_in old).position m.account m.isin (z - m.quantity)) (sym redeem_held))
           (λ i. sym (nothing_if (bytes_eq m.isin i))) (λ i. refl) (omega (arith, redeem_total, enough)) (named_isin m.isin len) desk.named)
           (no_cash old new (Redeem m) (record { cash = λ c. refl; paid = λ f c. refl }) (cash_still old d1 d2 new same m.account m.isin _ _ a b) (paid_still old d1 d2 new same m.account m.isin _ _ a b))
-          (moves_still d1 d2 new a.spares b.spares old (row_moves old d1 (Redeem m) reply added))
+          (moves_still d1 d2 new a.spares b.spares old (row_moves old d1 (Redeem m) reply added)) added.within added.formed added.short
 
 module _ (old d1 : Database) (p : Payment) (reply : Reply) (room : ℕ) (desk : IsDesk old) where
-  module _ (can : CanAppend room (PayIn p) reply (content_in old)) (added : EntryAdded old d1 (content_in old).register (PayIn p) reply) where
+  module _ (can : CanAppend room (PayIn p) reply (content_in old)) (added : RowAdded old d1 (content_in old).register (PayIn p) reply) where
     pub pay_in_amounts : AreAmounts d1
     pay_in_amounts = same_amounts old d1 (row_amounts old d1 (PayIn p) reply added) desk.amounts
 
@@ -125,18 +135,27 @@ module _ (old d1 : Database) (p : Payment) (reply : Reply) (room : ℕ) (desk : 
           (same_entries d1 new (with_entry (content_in old).register (PayIn p) reply) (entries_still d1 d2 new a.spares b.spares) added.entries) b.kept
           (no_securities old new (PayIn p) (record { positions = λ c. refl; issued = λ i. refl; redeemed = λ i. refl }) (positions_still old d1 d2 new same p.bic p.ccy _ _ a b) (outstanding_still old d1 d2 new same p.bic p.ccy _ _ a b) desk.named)
           (moves_cash old d1 d2 new same p.bic p.ccy _ _ a b (PayIn p) (ap (λ z. cash_at (content_in old).cash p.bic p.ccy (z + p.amount)) (sym had_is)) (λ c. ap (λ z. cond (same_ccy p.ccy c) (Some (z + p.amount)) (paid_in_table old c)) (sym paid_is)))
-          (moves_still d1 d2 new a.spares b.spares old (row_moves old d1 (PayIn p) reply added))
+          (moves_still d1 d2 new a.spares b.spares old (row_moves old d1 (PayIn p) reply added)) added.within added.formed added.short
 
-  module _ (can : CanAppend room (PayOut p) reply (content_in old)) (added : EntryAdded old d1 (content_in old).register (PayOut p) reply) where
+  module _ (can : CanAppend room (PayOut p) reply (content_in old)) (added : RowAdded old d1 (content_in old).register (PayOut p) reply) where
     pub pay_out_amounts : AreAmounts d1
     pay_out_amounts = same_amounts old d1 (row_amounts old d1 (PayOut p) reply added) desk.amounts
 
     pay_out_had : had d1 (keys.Cash p.bic p.ccy) ≡ (content_in old).cash p.bic p.ccy
     pay_out_had = ap (λ o. unwrap_or o 0) (same_recorded old d1 (row_amounts old d1 (PayOut p) reply added) Cash p.bic (letters_of p.ccy))
 
+    pub pay_out_enough : p.amount ≤ had d1 (keys.Cash p.bic p.ccy)
+    pay_out_enough = let enough = can.balances.0 in omega (arith, enough, pay_out_had)
+
     module _ (d2 : Database) (a : SetsAmount d1 d2 (keys.Cash p.bic p.ccy) (had d1 (keys.Cash p.bic p.ccy) - p.amount)) where
       pay_out_paid : had d2 (Currency p.ccy) ≡ unwrap_or (paid_in_table old p.ccy) 0
       pay_out_paid = paid_before old d1 d2 d2 (row_amounts old d1 (PayOut p) reply added) p.bic p.ccy _ 0 a
+
+      pub pay_out_enough_total : p.amount ≤ had d2 (Currency p.ccy)
+      pay_out_enough_total =
+          let whole = desk.totals.paid_sum p.ccy in
+          let within = can.balances.1 in
+          omega (arith, pay_out_paid, whole, within)
 
       pub pay_out_becomes : (new : Database) → SetsAmount d2 new (Currency p.ccy) (had d2 (Currency p.ccy) - p.amount) → new.schema ≡ desk_schema → Becomes new (appended (PayOut p) reply (content_in old))
       pay_out_becomes new b schema =
@@ -145,4 +164,4 @@ module _ (old d1 : Database) (p : Payment) (reply : Reply) (room : ℕ) (desk : 
           (same_entries d1 new (with_entry (content_in old).register (PayOut p) reply) (entries_still d1 d2 new a.spares b.spares) added.entries) b.kept
           (no_securities old new (PayOut p) (record { positions = λ c. refl; issued = λ i. refl; redeemed = λ i. refl }) (positions_still old d1 d2 new same p.bic p.ccy _ _ a b) (outstanding_still old d1 d2 new same p.bic p.ccy _ _ a b) desk.named)
           (moves_cash old d1 d2 new same p.bic p.ccy _ _ a b (PayOut p) (ap (λ z. cash_at (content_in old).cash p.bic p.ccy (z - p.amount)) (sym pay_out_had)) (λ c. ap (λ z. cond (same_ccy p.ccy c) (Some (z - p.amount)) (paid_in_table old c)) (sym pay_out_paid)))
-          (moves_still d1 d2 new a.spares b.spares old (row_moves old d1 (PayOut p) reply added))
+          (moves_still d1 d2 new a.spares b.spares old (row_moves old d1 (PayOut p) reply added)) added.within added.formed added.short

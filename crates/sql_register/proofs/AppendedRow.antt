@@ -1,19 +1,22 @@
 -- An entry that stands nowhere and requests nothing: its row, and what it moves.
-use Rattle.std.proofs.Common.{◌≡◌, inl, inr, refl, sym, ap, ◌∙◌, ℕ, List, None, arith}
+use Rattle.std.proofs.Common.{◌≡◌, inl, inr, refl, sym, ap, ◌∙◌, ℕ, ◌+◌, ◌<◌, List, length, None, arith}
 use Rattle.sqlite.specs.Effect.{Database}
 use Rattle.sql_amounts.specs.Amounts.{AreAmounts}
 use Rattle.sql_amounts.proofs.AmountLemmas.{SameAmounts, same_amounts}
 use Rattle.sql_entries.specs.Entries.{AreEntries, EntryAdded, with_entry}
+use Rattle.sql_entries.specs.Shown.{HasShortNumbers}
+use Rattle.desk_rules.specs.WellFormed.{IsWellFormed}
 use Rattle.desk_register.specs.Changes.{CanAppend, appended, first_standing, requested_by, with_request}
 use Rattle.desk_rules.specs.declared.history.entry.Entry.{Entry}
 use Rattle.desk_rules.specs.declared.history.entry.Entry.TheVariants.{Participant, Account, Security, Issue, Redeem, PayIn, PayOut, Instruct, Cancel, Run}
+use Rattle.desk_rules.specs.declared.answers.reply.Kept.{Kept}
 use Rattle.desk_rules.specs.declared.answers.reply.Reply.{Reply}
 use Rattle.desk_rules.specs.Content.{history_of}
 use Rattle.desk_rules.specs.History.{instructed}
 use Rattle.sql_standings.proofs.StandingLemmas.{same_standings, same_standing_in}
 use Rattle.sql_tables.specs.Schema.{desk_schema}
 use Rattle.sql_standings.proofs.UnmatchedLaws.{noted_same, same_unmatched}
-use Rattle.sql_register.specs.Appending.{IsAlone}
+use Rattle.sql_register.specs.Appending.{IsAlone, RowAdded}
 use Rattle.sql_register.specs.Content.{content_in}
 use Rattle.desk_rules.specs.Unmatched.{if_unmatched, unmatched_in}
 use Rattle.sql_register.specs.Holds.{Becomes, IsDesk}
@@ -49,8 +52,8 @@ pub record OnlyMoves (old new : Database) : Type 0 where
   pub messages : new.trees 11 ≡ old.trees 11
 
 pub row_becomes : (old new : Database) (e : Entry) (reply : Reply) (room : ℕ) → IsDesk old → StandsNowhere e → CanAppend room e reply (content_in old) → new.schema ≡ desk_schema
-    → AreEntries new (with_entry (content_in old).register e reply) → AreAmounts new → SecuritiesMove old new e → CashMoves old new e → OnlyMoves old new → Becomes new (appended e reply (content_in old))
-row_becomes old new e reply room desk nowhere can schema entries amounts securities cash same =
+    → AreEntries new (with_entry (content_in old).register e reply) → AreAmounts new → SecuritiesMove old new e → CashMoves old new e → OnlyMoves old new → length (content_in old).register + 1 < 1_000_000_000 → IsWellFormed e → HasShortNumbers reply → Becomes new (appended e reply (content_in old))
+row_becomes old new e reply room desk nowhere can schema entries amounts securities cash same within formed short =
     let before = content_in old in
     let noted : (n : ℕ) → before.standing n ≡ with_request (requested_by (history_of before) e) before.standing n = (λ n. ap (λ o. with_request o before.standing n) (sym (nowhere.request (history_of before)))) in
     takes_entry old new e reply room desk can (record {
@@ -66,10 +69,17 @@ row_becomes old new e reply room desk nowhere can schema entries amounts securit
       unmatched = noted_same new (unmatched_in before) (unmatched_in (appended e reply before)) (unmatched_same before e reply nowhere.unmatched) (same_unmatched old new (unmatched_in before) (sym same.unmatched) desk.unmatched);
       due = same.due;
       messages = same.messages;
+      within = within;
+      formed = formed;
+      short = short;
     })
 
+-- a row that was put in where there was room
+pub row_added : (old new : Database) (register : List Kept) (e : Entry) (reply : Reply) (n : ℕ) → (n ≡ length register + 1) × EntryAdded old new register e reply → n < 1_000_000_000 → IsWellFormed e → HasShortNumbers reply → RowAdded old new register e reply
+row_added old new register e reply n both small formed short = (let is = both.0 in record { entries = both.1.entries; spares = both.1.spares; within = omega (arith, is, small); formed = formed; short = short })
+
 -- the row alone
-module _ (old new : Database) (e : Entry) (reply : Reply) (added : EntryAdded old new (content_in old).register e reply) where
+module _ (old new : Database) (e : Entry) (reply : Reply) (added : RowAdded old new (content_in old).register e reply) where
   pub row_amounts : SameAmounts old new
   row_amounts = same_totals old new (balance_spared old new 6 8 added.spares (inl (omega arith))) (cash_spared old new 6 8 added.spares (inl (omega arith))) (total_spared old new 6 8 added.spares (inl (omega arith)))
 
@@ -84,4 +94,4 @@ module _ (old new : Database) (e : Entry) (reply : Reply) (added : EntryAdded ol
   pub alone_becomes : (room : ℕ) → IsDesk old → IsAlone e → CanAppend room e reply (content_in old) → new.schema ≡ desk_schema → Becomes new (appended e reply (content_in old))
   alone_becomes room desk is can schema =
       row_becomes old new e reply room desk (alone_nowhere e is) can schema added.entries (same_amounts old new row_amounts desk.amounts)
-      (securities_same old new e (alone_no_securities e is) row_amounts desk.named) (cash_same old new e (alone_no_cash e is) row_amounts) row_moves
+      (securities_same old new e (alone_no_securities e is) row_amounts desk.named) (cash_same old new e (alone_no_cash e is) row_amounts) row_moves added.within added.formed added.short

@@ -1,5 +1,5 @@
 -- Both instructions of a pair stand otherwise: what is unmatched, and which pairs are due, then.
-use Rattle.std.proofs.Common.{◌≡◌, inl, inr, refl, sym, ap, subst, ◌∙◌, ℕ, ◌<◌, ◌==◌, ◌&&◌, cond, Bool, true, false, None, Some, Result, Ok, Err, OnOk, arith, eq-eqb, eqb-true}
+use Rattle.std.proofs.Common.{◌≡◌, ◌≢◌, inl, inr, refl, sym, ap, subst, ◌∙◌, ℕ, ◌<◌, ◌==◌, ◌&&◌, cond, Bool, true, false, None, Some, Result, Ok, Err, OnOk, arith, eq-eqb, eqb-true}
 use Rattle.std.proofs.lemmas.Bool.{cases_Bool, and_parts}
 use Rattle.sqlite.specs.Effect.{Database}
 use Rattle.sqlite.specs.declared.error.Error.{Error}
@@ -12,7 +12,7 @@ use Rattle.desk_rules.specs.declared.history.entry.Instructed.{Instructed}
 use Rattle.desk_rules.specs.declared.history.pair.Place.{Place}
 use Rattle.desk_rules.specs.declared.history.standing.Standing.{Standing}
 use Rattle.desk_rules.specs.declared.history.standing.State.{State}
-use Rattle.desk_rules.specs.declared.history.standing.State.TheVariants.{Matched}
+use Rattle.desk_rules.specs.declared.history.standing.State.TheVariants.{Matched, NoInstruction}
 use Rattle.desk_rules.specs.History.{instruction_at}
 use Rattle.desk_rules.specs.Standing.{no_standing}
 use Rattle.sql_standings.specs.Due.{DueChanged, due_at, is_due_in, same_place}
@@ -64,6 +64,12 @@ which k m n first second other = elim (cases_Bool (k == m)) [
     | inr not_n ↦ other (λ e. let t = sym not_m ∙ eq-eqb k m e in cc) (λ e. let t = sym not_n ∙ eq-eqb k n e in cc)
   ]
 ]
+
+pub both_stand : (s : ℕ → Standing) (m n : ℕ) → m < n → (state : State) → state ≢ NoInstruction → (k : ℕ) → (s k).state ≢ NoInstruction → (standing_both s m n state k).state ≢ NoInstruction
+both_stand s m n two state some k stood none = which k m n
+    (λ e. some (sym (ap (λ (t : Standing). t.state) (ap (standing_both s m n state) e ∙ earlier_stands s m n two state)) ∙ none))
+    (λ e. some (sym (ap (λ (t : Standing). t.state) (ap (standing_both s m n state) e ∙ later_stands s m n two state)) ∙ none))
+    (λ not_m not_n. stood (sym (ap (λ (t : Standing). t.state) (other_stands s m n two state k not_m not_n)) ∙ none))
 
 place_by : (p q : Place) → p.day ≡ q.day → p.number ≡ q.number → p ≡ q
 place_by p q day number = λ k. record { day = day k; number = number k }
@@ -187,6 +193,7 @@ pairs old s2 s3 new m n desk can schema stood forgot noted =
       unmatched = same_unmatched s3 new (unmatched_in (standing_so content f)) (sym (unmatched_spared s3 new 10 11 noted.others (inl (omega arith))))
           (subst (AreUnmatched s3) (λ j k. pair_forgotten content m n can k j)
           (forgot.forgets (unmatched_in content) (same_unmatched old s2 (unmatched_in content) (sym (unmatched_spared old s2 8 9 stood.others (inr (omega arith)))) desk.unmatched)));
+      stands = λ k i is. both_stand content.standing m n can.two (Matched Future) (λ e. cc) k (desk.stands k i is);
       due_rows = noted.kept;
       due = λ place is. pair_due content m n can (is_due_in s3) (λ p it. desk.due p (subst (λ g. g p ≡ true) dues it)) place (subst (λ g. g place ≡ true) noted.due_are is);
       due_all = λ place pair. subst (λ g. g place ≡ true) (sym noted.due_are) (pair_due_all content m n can (is_due_in s3) (λ p it. subst (λ g. g p ≡ true) (sym dues) (desk.due_all p it)) place pair);

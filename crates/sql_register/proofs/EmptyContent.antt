@@ -1,5 +1,5 @@
 -- Tables with no row say the empty content.
-use Rattle.std.proofs.Common.{◌≡◌, inl, refl, sym, ap, subst, ◌∙◌, ℕ, zero, suc, List, [], map, Bool, false, codes, unwrap_or, None, Some, Result, Ok, Err, OnOk, arith}
+use Rattle.std.proofs.Common.{◌≡◌, lit<, inl, refl, sym, ap, subst, ◌∙◌, ℕ, zero, suc, List, [], map, Bool, false, codes, unwrap_or, None, Some, Result, Ok, Err, OnOk, arith}
 use Rattle.sqlite.specs.Effect.{Database}
 use Rattle.sqlite.specs.declared.error.Error.{Error}
 use Rattle.sqlite.specs.Command.TheVariants.{Begin}
@@ -31,6 +31,7 @@ use Rattle.sql_standings.proofs.UnmatchedLaws.{empty_unmatched}
 use Rattle.sql_register.specs.Content.{content_in}
 use Rattle.sql_register.specs.Holds.{Becomes, Keeps, outstanding_in, paid_in_table}
 use Rattle.sql_register.specs.RowsSaid.{kept_in, sent_in}
+use Rattle.desk_rules.proofs.WellFormedLemmas.{formed_none}
 use Rattle.sql_register.proofs.ContentLemmas.{by_parts}
 use Rattle.sql_register.proofs.FrameLemmas.{balance_spared, cash_spared, total_spared, register_spared, state_spared, unmatched_spared, due_spared, sent_spared}
 
@@ -114,6 +115,11 @@ module _ (db : Database) (empty : AreEmpty db) where
       no_stranger_pays = λ bic ccy none. refl;
     };
     registered = record { accounts = λ account. refl; participants = λ bic. refl; instructions = λ n i is. absurd (no_such n i is) };
+    stands = λ n i is. absurd (no_such n i is);
+    within = lit< tt;
+    formed = formed_none;
+    short = tt;
+    sendable = tt;
     named = λ account. refl;
   }
 

@@ -11,7 +11,7 @@ use Rattle.desk_rules.specs.declared.history.entry.Instructed.{Instructed}
 use Rattle.desk_rules.specs.declared.history.pair.Place.{Place}
 use Rattle.desk_rules.specs.declared.history.standing.Standing.{Standing}
 use Rattle.desk_rules.specs.declared.history.standing.State.{State}
-use Rattle.desk_rules.specs.declared.history.standing.State.TheVariants.{Cancelled, Matched}
+use Rattle.desk_rules.specs.declared.history.standing.State.TheVariants.{Cancelled, Matched, NoInstruction}
 use Rattle.desk_rules.specs.History.{instruction_at}
 use Rattle.desk_rules.specs.Standing.{no_standing}
 use Rattle.sql_standings.specs.Due.{DueChanged, due_at, is_due_in, same_place}
@@ -26,7 +26,7 @@ use Rattle.sql_register.specs.Holds.{Becomes, IsDesk}
 use Rattle.sql_register.specs.Pairs.{StandBoth}
 use Rattle.sql_register.proofs.FrameLemmas.{balance_spared, cash_spared, total_spared, register_spared, state_spared, unmatched_spared, due_spared, sent_spared}
 use Rattle.sql_register.proofs.StandingContent.{pair_at, pair_still, standing_so, standings_alone}
-use Rattle.sql_register.proofs.BothContent.{earlier_stands, later_stands, other_stands, place_itself, same_is_place, which}
+use Rattle.sql_register.proofs.BothContent.{both_stand, earlier_stands, later_stands, other_stands, place_itself, same_is_place, which}
 
 -- a matched pair, by the numbers of its two instructions; each is the other's mate
 pub record IsMatchedAt (content : Content) (m n : ℕ) (earlier later : Instructed) : Type 0 where
@@ -140,7 +140,7 @@ module _ (content : Content) (m n : ℕ) (earlier later : Instructed) (can : IsM
       })
       (λ not_m not_n. pair_at content stood p (other_stands content.standing m n can.two state p.number not_m not_n) pair))
 
-module _ (old s2 new : Database) (m n : ℕ) (earlier later : Instructed) (desk : IsDesk old) (can : IsMatchedAt (content_in old) m n earlier later) (state : State) (paired : IsPaired state) (schema : new.schema ≡ desk_schema)
+module _ (old s2 new : Database) (m n : ℕ) (earlier later : Instructed) (desk : IsDesk old) (can : IsMatchedAt (content_in old) m n earlier later) (state : State) (paired : IsPaired state) (some : state ≢ NoInstruction) (schema : new.schema ≡ desk_schema)
     (stand : StandBoth old s2 m n state) where
   abbrev content : Content
   content = content_in old
@@ -167,6 +167,7 @@ module _ (old s2 new : Database) (m n : ℕ) (earlier later : Instructed) (desk 
     standing_is = sym (same_standing_in s2 new (sym (state_spared s2 new 10 11 noted.others (inl (omega arith))))) ∙ stand.standings_are;
     instructions = still_instructions content m n earlier later can state desk.instructions;
     unmatched = same_unmatched s2 new (unmatched_in (standing_so content f)) (sym (unmatched_spared s2 new 10 11 noted.others (inl (omega arith)))) still_noted;
+    stands = λ k i is. both_stand content.standing m n can.two state some k (desk.stands k i is);
     due_rows = noted.kept;
     due = λ place is. ended_due content m n earlier later can state (is_due_in s2) (λ p it. desk.due p (subst (λ g. g p ≡ true) dues it)) place (subst (λ g. g place ≡ true) noted.due_are is);
     due_all = λ place pair. subst (λ g. g place ≡ true) (sym noted.due_are)
@@ -185,6 +186,7 @@ module _ (old s2 new : Database) (m n : ℕ) (earlier later : Instructed) (desk 
     standing_is = stand.standings_are;
     instructions = still_instructions content m n earlier later can state desk.instructions;
     unmatched = still_noted;
+    stands = λ k i is. both_stand content.standing m n can.two state some k (desk.stands k i is);
     due_rows = same_due old s2 (sym (due_spared old s2 8 9 stand.others (inr (omega arith)))) desk.due_rows;
     due = λ place is. waits_due content m n earlier later can state reason waits (is_due_in s2) (λ p it. desk.due p (subst (λ g. g p ≡ true) dues it)) place is;
     due_all = λ place pair. waits_due_all content m n earlier later can state (is_due_in s2) (λ p it. subst (λ g. g p ≡ true) (sym dues) (desk.due_all p it)) place pair;
@@ -206,4 +208,4 @@ cancellable before m n can = record {
 pub drops_pair : (old s2 new : Database) (m n : ℕ) → IsDesk old → (can : CanCancelPair (content_in old) m n) → new.schema ≡ desk_schema → StandBoth old s2 m n Cancelled
     → DueChanged s2 new (due_at (is_due_in s2) (record { day = number_of can.later.instruction.day; number = n }) false) → Becomes new (pair_cancelled m n (content_in old))
 drops_pair old s2 new m n desk can schema both noted =
-    ends_pair old s2 new m n can.earlier can.later desk (cancellable (content_in old) m n can) Cancelled (λ o. refl) schema both (λ reason e. cc) noted
+    ends_pair old s2 new m n can.earlier can.later desk (cancellable (content_in old) m n can) Cancelled (λ o. refl) (λ e. cc) schema both (λ reason e. cc) noted

@@ -1,5 +1,5 @@
 -- What a register knows of its tables stays so over its calls.
-use Rattle.std.proofs.Common.{◌≡◌, ◌≢◌, refl, sym, ap, subst, ◌∙◌, ℕ, ◌≤◌, List, IsTrue, Result, Ok, Err, IfOk, OnOk, OnErr}
+use Rattle.std.proofs.Common.{◌≡◌, ◌≢◌, refl, sym, ap, subst, ◌∙◌, ℕ, List, IsTrue, Result, Ok, Err, IfOk, OnOk, OnErr}
 use Rattle.sqlite.specs.declared.error.Error.{Error}
 use Rattle.sqlite.specs.State.{State, HasCleanDisk}
 use Rattle.desk_register.specs.Changes.{TriesPair, TriesSides}
@@ -12,12 +12,11 @@ use Rattle.desk_rules.specs.declared.answers.reply.Kept.{Kept}
 use Rattle.desk_rules.specs.declared.answers.reply.Sent.{Sent}
 use Rattle.desk_rules.specs.declared.history.entry.Instructed.{Instructed}
 use Rattle.desk_rules.specs.declared.history.pair.Lack.TheVariants.{Money, Securities}
-use Rattle.desk_rules.specs.declared.limits.TheConstants.{MOST_ENTRIES}
 use Rattle.desk_rules.specs.Content.{Content}
 use Rattle.sql_tables.specs.Ends.{IfSound, IsLater, IsSame, IsLook, IsWrite}
 use Rattle.sql_register.specs.Content.{content_in}
 use Rattle.sql_register.specs.Holds.{Becomes, IsDesk}
-use Rattle.sql_register.specs.Kept.{IsKept}
+use Rattle.sql_register.specs.Kept.{IsBounded, IsKept}
 use Rattle.sql_register.specs.Known.{IsKnown, IsKnownOf, KnowsNothing}
 use Rattle.sql_register.specs.Told.{IsTold}
 use Rattle.sql_register.specs.declared.known.Known.{Known}
@@ -80,27 +79,31 @@ module _ (old new : State) (stage new_stage : Stage) (failures new_failures room
       same (Ok x) becomes of = known_same new_known content (content_in new.now) becomes.content_is of
       same (Err e) becomes of = tt
 
+-- no call sets a limit on the steps of a query
+pub bounded_later : (old new : State) (room : ℕ) → IsBounded old room → IsLater old new → IsBounded new room
+bounded_later old new room was later = record { few = was.few; unlimited = later.limit ∙ was.unlimited }
+
 -- a look, told of the register, leaves it what it must be
 pub holds_told : (old new : State) (stage new_stage : Stage) (failures new_failures room : ℕ) (known new_known : Known) {X : Type 0} (given : Result X Error) (result : Result X Fault)
-    → IsKept old stage × (room ≤ MOST_ENTRIES) × IsKnown old stage known → IsLook given old new → IsTold given result stage new_stage failures new_failures
+    → IsKept old stage × IsBounded old room × IsKnown old stage known → IsLook given old new → IsTold given result stage new_stage failures new_failures
     → ((register : List Kept) (sent : List Sent) → IsKnownOf known register sent → OnOk given (IsKnownOf new_known register sent)) → OnErr given (KnowsNothing new_known)
-    → IsKept new new_stage × (room ≤ MOST_ENTRIES) × IsKnown new new_stage new_known
+    → IsKept new new_stage × IsBounded new room × IsKnown new new_stage new_known
 holds_told old new stage new_stage failures new_failures room known new_known given result held look told stays nothing = (
   kept_told old new stage new_stage failures new_failures room given result held.0 look told,
-  held.1,
+  bounded_later old new room held.1 look.later,
   known_looked old new stage new_stage failures new_failures room given result told new_known held.0 look nothing
       (λ clean was_open goes. stays (content_in old.now).register (content_in old.now).sent (held.2 (was_clean old new look.later clean) was_open goes)),
 )
 
 -- and so does one that finds out more of it
 module _ (old new : State) (stage new_stage : Stage) (failures new_failures room : ℕ) (known : Known) {X : Type 0} (given : Result X Error) (result : Result X Fault) (P : List Kept → List Sent → X → Type 0)
-    (held : IsKept old stage × (room ≤ MOST_ENTRIES) × IsKnown old stage known) (look : IsLook given old new) (told : IsTold given result stage new_stage failures new_failures)
+    (held : IsKept old stage × IsBounded old room × IsKnown old stage known) (look : IsLook given old new) (told : IsTold given result stage new_stage failures new_failures)
     (value : IfSound old new (IsDesk old.now → IsKnownOf known (content_in old.now).register (content_in old.now).sent → IfOk given (P (content_in old.now).register (content_in old.now).sent))) where
   pub holds_found : (new_known : Known) → ((register : List Kept) (sent : List Sent) → IsKnownOf known register sent → IfOk given (P register sent) → OnOk given (IsKnownOf new_known register sent)) → OnErr given (KnowsNothing new_known)
-      → IsKept new new_stage × (room ≤ MOST_ENTRIES) × IsKnown new new_stage new_known
+      → IsKept new new_stage × IsBounded new room × IsKnown new new_stage new_known
   holds_found new_known stays nothing = (
     kept_told old new stage new_stage failures new_failures room given result held.0 look told,
-    held.1,
+    bounded_later old new room held.1 look.later,
     known_looked old new stage new_stage failures new_failures room given result told new_known held.0 look nothing (λ clean was_open goes.
         (let was = was_clean old new look.later clean in
         let desk = held.0 was was_open in
@@ -121,12 +124,12 @@ begun_goes stage begun failed = (let e : Begun ≡ Failed = sym begun ∙ failed
 
 -- and so does a change
 pub holds_changed : (old new : State) (stage new_stage : Stage) (failures new_failures room : ℕ) (known new_known : Known) {X : Type 0} (given : Result X Error) (result : Result X Fault) (content : Content)
-    → stage ≡ Begun → IsKept old stage × (room ≤ MOST_ENTRIES) × IsKnown old stage known → IsWrite given old new → IsTold given result stage new_stage failures new_failures
+    → stage ≡ Begun → IsKept old stage × IsBounded old room × IsKnown old stage known → IsWrite given old new → IsTold given result stage new_stage failures new_failures
     → IfSound old new (IsDesk old.now → IsKnownOf known (content_in old.now).register (content_in old.now).sent → OnOk given (Becomes new.now content)) → OnErr given (KnowsNothing new_known)
-    → IfSound old new (IsDesk old.now → IsKnownOf known (content_in old.now).register (content_in old.now).sent → OnOk given (IsKnownOf new_known content.register content.sent)) → IsKept new new_stage × (room ≤ MOST_ENTRIES) × IsKnown new new_stage new_known
+    → IfSound old new (IsDesk old.now → IsKnownOf known (content_in old.now).register (content_in old.now).sent → OnOk given (IsKnownOf new_known content.register content.sent)) → IsKept new new_stage × IsBounded new room × IsKnown new new_stage new_known
 holds_changed old new stage new_stage failures new_failures room known new_known {X = X} given result content begun held write told becomes nothing well = (
   changed_kept old new stage new_stage failures new_failures room given result begun held.0 write told (λ clean is_open has desk. on_becomes new.now content given (is clean is_open has desk)),
-  held.1,
+  bounded_later old new room held.1 write.later,
   known_becomes old new stage new_stage failures new_failures room given result told new_known content held.0 write.later write.opened nothing is
       (λ clean is_open goes. (let desk = held.0 (was_clean old new write.later clean) is_open in well clean is_open desk.schema (desk.now goes) (of clean is_open))),
 )
@@ -139,7 +142,7 @@ holds_changed old new stage new_stage failures new_failures room known new_known
 
 -- what the tables became is what the register holds
 pub content_changed : (old new : State) (stage new_stage : Stage) (failures new_failures room : ℕ) (known : Known) {X : Type 0} (given : Result X Error) (result : Result X Fault) (content : Content)
-    → stage ≡ Begun → IsKept old stage × (room ≤ MOST_ENTRIES) × IsKnown old stage known → IsWrite given old new → IsTold given result stage new_stage failures new_failures
+    → stage ≡ Begun → IsKept old stage × IsBounded old room × IsKnown old stage known → IsWrite given old new → IsTold given result stage new_stage failures new_failures
     → IfSound old new (IsDesk old.now → IsKnownOf known (content_in old.now).register (content_in old.now).sent → OnOk given (Becomes new.now content)) → HasCleanDisk new → IsTrue old.is_open → OnOk result (content_in new.now ≡ content)
 content_changed old new stage new_stage failures new_failures room known {X = X} given result content begun held write told becomes =
     told_content old new stage new_stage failures new_failures room given result content begun held.0 write told

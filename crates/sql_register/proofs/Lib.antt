@@ -1,6 +1,8 @@
 pub mod SaidLemmas
 pub mod StageLemmas
 pub mod LookLemmas
+pub mod CauseLemmas
+pub mod PairCauses
 pub mod MadeLemmas
 pub mod ReadLemmas
 pub mod FactLemmas

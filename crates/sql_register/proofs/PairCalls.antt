@@ -59,7 +59,7 @@ cancel_call old mid s2 s2' new m n day (Err e) same desk can its stood stays not
 pub wait_call : (old : Database) (old' new : State) (m n : ℕ) (lack : Lack) (r : Result (Unit {0}) Error) → IsDesk old → CanCancelPair (content_in old) m n → OnOk r (Stays old' new) → OnOk r (StandBoth old new.now m n (state_then (Lacks lack)))
     → OnOk r (Becomes new.now (waiting m n lack (content_in old)))
 wait_call old old' new m n Securities (Ok tt) desk can stays stood =
-    waits_pair old new.now new.now m n can.earlier can.later desk (cancellable (content_in old) m n can) (state_then (Lacks Securities)) (λ o. refl) stays.schema stood LackOfUnits refl refl
+    waits_pair old new.now new.now m n can.earlier can.later desk (cancellable (content_in old) m n can) (state_then (Lacks Securities)) (λ o. refl) (λ e. cc) stays.schema stood LackOfUnits refl refl
 wait_call old old' new m n Money (Ok tt) desk can stays stood =
-    waits_pair old new.now new.now m n can.earlier can.later desk (cancellable (content_in old) m n can) (state_then (Lacks Money)) (λ o. refl) stays.schema stood LackOfMoney refl refl
+    waits_pair old new.now new.now m n can.earlier can.later desk (cancellable (content_in old) m n can) (state_then (Lacks Money)) (λ o. refl) (λ e. cc) stays.schema stood LackOfMoney refl refl
 wait_call old old' new m n lack (Err e) desk can stays stood = tt

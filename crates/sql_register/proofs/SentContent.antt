@@ -9,7 +9,8 @@ use Rattle.desk_register.specs.Changes.{with_sent}
 use Rattle.sql_tables.specs.Schema.{desk_schema}
 use Rattle.desk_rules.specs.declared.answers.reply.Sent.{Sent}
 use Rattle.sql_entries.proofs.SameLemmas.{same_entries}
-use Rattle.sql_sent.specs.Messages.{AreSent, Adds, rows_after, sent_to, stored}
+use Rattle.sql_sent.specs.Messages.{AreSent, Adds, IsSendable, rows_after, sent_to, stored}
+use Rattle.sql_sent.proofs.RowLemmas.{all_more}
 use Rattle.sql_standings.proofs.DueLemmas.{same_due, same_due_in}
 use Rattle.sql_standings.proofs.StandingLemmas.{same_standings, same_standing_in}
 use Rattle.sql_standings.proofs.UnmatchedLaws.{same_unmatched}
@@ -35,7 +36,7 @@ messages_again before (message ∷ more) all =
 pub sent_is : (db : Database) (messages : List Sent) → AreSent db messages → (content_in db).sent ≡ messages
 sent_is db messages are = ap (map sent_in) are.rows ∙ messages_again [] messages are.fit
 
-module _ (old new : Database) (message : Sent) (desk : IsDesk old) (adds : Adds old new (content_in old).sent message) where
+module _ (old new : Database) (message : Sent) (desk : IsDesk old) (adds : Adds old new (content_in old).sent message) (sendable : IsSendable message) where
   amounts : SameAmounts old new
   amounts = same_totals old new (balance_spared old new 11 13 adds.others (inl (omega arith))) (cash_spared old new 11 13 adds.others (inl (omega arith))) (total_spared old new 11 13 adds.others (inl (omega arith)))
 
@@ -68,6 +69,11 @@ module _ (old new : Database) (message : Sent) (desk : IsDesk old) (adds : Adds 
     sent = adds.sent;
     totals = same_sums new (content_in old) (with_sent message (content_in old)) refl refl refl (same_total_parts old new amounts (content_in old) desk.totals);
     registered = desk.registered;
+    stands = desk.stands;
+    within = desk.within;
+    formed = desk.formed;
+    short = desk.short;
+    sendable = all_more IsSendable (content_in old).sent message desk.sendable sendable;
     named = desk.named;
   }
 

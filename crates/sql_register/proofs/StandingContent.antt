@@ -1,14 +1,15 @@
 -- Where instructions stand changes alone: the other parts of the content stay.
-use Rattle.std.proofs.Common.{◌≡◌, inl, inr, refl, sym, ap, subst, ◌∙◌, ℕ, ◌==◌, cond, true, false, map, None, arith, eq-eqb, eqb-true}
+use Rattle.std.proofs.Common.{◌≡◌, ◌≢◌, inl, inr, refl, sym, ap, subst, ◌∙◌, ℕ, ◌==◌, cond, true, false, map, None, Some, arith, eq-eqb, eqb-true}
 use Rattle.std.proofs.lemmas.Bool.{cases_Bool}
 use Rattle.sqlite.specs.Effect.{Database}
 use Rattle.sql_amounts.proofs.AmountLemmas.{same_amounts}
 use Rattle.desk_register.specs.Looked.{IsMatchedPair}
 use Rattle.desk_register.specs.Changes.{CanCancel, cancelled, standing_at}
 use Rattle.desk_rules.specs.Content.{Content, history_of}
+use Rattle.desk_rules.specs.declared.history.entry.Instructed.{Instructed}
 use Rattle.desk_rules.specs.declared.history.pair.Place.{Place}
 use Rattle.desk_rules.specs.declared.history.standing.Standing.{Standing}
-use Rattle.desk_rules.specs.declared.history.standing.State.TheVariants.{Cancelled, Unmatched}
+use Rattle.desk_rules.specs.declared.history.standing.State.TheVariants.{Cancelled, NoInstruction, Unmatched}
 use Rattle.desk_rules.specs.History.{instruction_at}
 use Rattle.desk_rules.specs.Standing.{no_standing}
 use Rattle.sql_entries.proofs.SameLemmas.{same_entries}
@@ -46,6 +47,7 @@ pub record StandsSo (old new : Database) (standing : ℕ → Standing) : Type 0 
   pub due_rows : AreDue new
   pub due : (place : Place) → is_due_in new place ≡ true → IsMatchedPair (standing_so (content_in old) standing) place
   pub due_all : (place : Place) → IsMatchedPair (standing_so (content_in old) standing) place → is_due_in new place ≡ true
+  pub stands : (n : ℕ) (i : Instructed) → instruction_at (history_of (content_in old)) n ≡ Some i → (standing n).state ≢ NoInstruction
 
 pub standings_alone : (old new : Database) (standing : ℕ → Standing) → IsDesk old → StandsSo old new standing → Becomes new (standing_so (content_in old) standing)
 standings_alone old new standing desk so =
@@ -65,6 +67,11 @@ standings_alone old new standing desk so =
       sent = same_sent old new so.messages (content_in old).sent desk.sent;
       totals = same_sums new (content_in old) (standing_so (content_in old) standing) refl refl refl (same_total_parts old new amounts (content_in old) desk.totals);
       registered = desk.registered;
+      stands = so.stands;
+      within = desk.within;
+      formed = desk.formed;
+      short = desk.short;
+      sendable = desk.sendable;
       named = desk.named;
     } in
     record { desk = subst (Keeps new) (sym content) keeps; content_is = content }
@@ -126,6 +133,12 @@ module _ (content : Content) (n : ℕ) (can : CanCancel content n) where
     | inr apart ↦ at_other content.standing n gone k apart ∙ all k none
   ]
 
+  stands_still : ((k : ℕ) (i : Instructed) → instruction_at (history_of content) k ≡ Some i → (content.standing k).state ≢ NoInstruction) → (k : ℕ) (i : Instructed) → instruction_at (history_of content) k ≡ Some i → (after k).state ≢ NoInstruction
+  stands_still all k i is none = elim (cases_Bool (k == n)) [
+    | inl here ↦ (let e = sym (ap (λ b. (cond b gone (content.standing k)).state) here) ∙ none in cc)
+    | inr apart ↦ all k i is (sym (ap (λ (s : Standing). s.state) (at_other content.standing n gone k apart)) ∙ none)
+  ]
+
   pair_before : (place : Place) → IsMatchedPair (standing_so content after) place → IsMatchedPair content place
   pair_before place pair = elim (cases_Bool (place.number == n)) [
     | inl here ↦ absurd (let e = sym (ap (λ b. (cond b gone (content.standing place.number)).state) here) ∙ pair.matched in cc)
@@ -158,6 +171,7 @@ cancels old mid new n desk can schema stood forgot =
       due_rows = same_due old new (sym due_same) desk.due_rows;
       due = λ place is. pair_after content n can place (desk.due place (subst (λ g. g place ≡ true) (same_due_in new old due_same) is));
       due_all = λ place pair. subst (λ g. g place ≡ true) (sym (same_due_in new old due_same)) (desk.due_all place (pair_before content n can place pair));
+      stands = stands_still content n can desk.stands;
     })
   where
     due_same : new.trees 10 ≡ old.trees 10

@@ -79,9 +79,9 @@ module _ (old mid : Database) (m n : ℕ) (earlier later : Instructed) (outcome 
   then_matched = subst (λ c. IsMatchedAt c m n earlier later) (sym moved_desk.content_is) (matched_still content m n earlier later outcome can)
 
   closed : (new : Database) → new.schema ≡ desk_schema → (o : Outcome) → Closes mid new m n (number_of later.instruction.day) o → Becomes new (standing_so (content_in mid) (standing_both (content_in mid).standing m n (state_then o)))
-  closed new schema Settled closes = ends_pair mid closes.mid new m n earlier later moved_desk.desk then_matched (state_then Settled) (λ o. refl) schema closes.stood (λ reason e. cc) closes.freed
-  closed new schema (Lacks Securities) closes = waits_pair mid closes.mid new m n earlier later moved_desk.desk then_matched (state_then (Lacks Securities)) (λ o. refl) schema closes.stood Lack refl closes.freed
-  closed new schema (Lacks Money) closes = waits_pair mid closes.mid new m n earlier later moved_desk.desk then_matched (state_then (Lacks Money)) (λ o. refl) schema closes.stood LackOfMoney refl closes.freed
+  closed new schema Settled closes = ends_pair mid closes.mid new m n earlier later moved_desk.desk then_matched (state_then Settled) (λ o. refl) (λ e. cc) schema closes.stood (λ reason e. cc) closes.freed
+  closed new schema (Lacks Securities) closes = waits_pair mid closes.mid new m n earlier later moved_desk.desk then_matched (state_then (Lacks Securities)) (λ o. refl) (λ e. cc) schema closes.stood Lack refl closes.freed
+  closed new schema (Lacks Money) closes = waits_pair mid closes.mid new m n earlier later moved_desk.desk then_matched (state_then (Lacks Money)) (λ o. refl) (λ e. cc) schema closes.stood LackOfMoney refl closes.freed
 
   tried_desk : (new : Database) → new.schema ≡ desk_schema → Closes mid new m n (number_of later.instruction.day) outcome → Becomes new (tried_so content earlier later m n outcome)
   tried_desk new schema closes = subst (Becomes new) (ap (λ (c : Content). standing_so c (standing_both c.standing m n (state_then outcome))) moved_desk.content_is) (closed new schema outcome closes)

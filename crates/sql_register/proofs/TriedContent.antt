@@ -177,6 +177,11 @@ module _ (old new : Database) (position : Positions) (cash : CashBalances) (desk
     sent = same_sent old new sent_kept (content_in old).sent desk.sent;
     totals = totals stay;
     registered = desk.registered;
+    stands = desk.stands;
+    within = desk.within;
+    formed = desk.formed;
+    short = desk.short;
+    sendable = desk.sendable;
     named = stay.named;
   }
 

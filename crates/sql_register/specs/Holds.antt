@@ -1,20 +1,25 @@
 -- What the desk's tables keep true.
-use Rattle.std.specs.Prelude.{◌≡◌, ℕ, ◌+◌, true, false, [], codes, List, Option, None, Some, unwrap_or}
+use Rattle.std.specs.Prelude.{◌≡◌, ◌≢◌, ℕ, ◌+◌, ◌<◌, length, true, false, [], codes, List, Option, None, Some, unwrap_or}
+use Rattle.std.specs.List.{AllByRecursion}
 use Rattle.sqlite.specs.Effect.{Database}
 use Rattle.desk_codes.specs.declared.currency.Ccy.{Ccy}
 use Rattle.desk_codes.specs.Currency.{letters_of}
+use Rattle.desk_rules.specs.declared.history.entry.Instructed.{Instructed}
 use Rattle.desk_rules.specs.declared.history.pair.Place.{Place}
+use Rattle.desk_rules.specs.declared.history.standing.State.TheVariants.{NoInstruction}
 use Rattle.desk_rules.specs.Balances.{issued, paid_in, paid_out, redeemed}
 use Rattle.desk_rules.specs.Content.{Content, history_of}
 use Rattle.desk_rules.specs.Facts.{is_participant, owner_of}
 use Rattle.desk_rules.specs.History.{instruction_at}
 use Rattle.desk_rules.specs.Standing.{no_standing}
+use Rattle.desk_rules.specs.WellFormed.{AreWellFormed}
 use Rattle.desk_register.specs.Looked.{held_cash_of, held_of, IsMatchedPair, IsPaid}
 use Rattle.desk_register.specs.declared.holding.Holding.{Holding}
 use Rattle.sql_amounts.specs.declared.key.Ledger.TheVariants.{Total}
 use Rattle.sql_amounts.specs.Amounts.{AreAmounts, amount_in}
 use Rattle.sql_entries.specs.Entries.{AreEntries}
-use Rattle.sql_sent.specs.Messages.{AreSent}
+use Rattle.sql_entries.specs.Shown.{HaveShortNumbers}
+use Rattle.sql_sent.specs.Messages.{AreSent, IsSendable}
 use Rattle.sql_standings.specs.Due.{AreDue, is_due_in}
 use Rattle.sql_standings.specs.Standings.{AreStandings}
 use Rattle.sql_standings.specs.Unmatched.{AreUnmatched}
@@ -56,6 +61,13 @@ pub record Keeps (db : Database) (content : Content) : Type 0 where
   pub sent : AreSent db content.sent
   pub totals : AreTotals db content
   pub registered : AreRegisteredOnce (history_of content)
+  -- each instruction stands somewhere
+  pub stands : (n : ℕ) (i : Instructed) → instruction_at (history_of content) n ≡ Some i → (content.standing n).state ≢ NoInstruction
+  -- there are no more entries than a register can have, and each entry, each reply and each message is one that the desk can write
+  pub within : length content.register < 1_000_000_000
+  pub formed : AreWellFormed (history_of content)
+  pub short : HaveShortNumbers content.register
+  pub sendable : AllByRecursion IsSendable content.sent
   -- nothing is held of a security without a name
   pub named : (account : List ℕ) → content.position account [] ≡ 0
 

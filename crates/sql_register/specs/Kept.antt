@@ -1,5 +1,5 @@
 -- What a register in SQL keeps true, and what contracts see of it.
-use Rattle.std.specs.Prelude.{◌≡◌, ◌≢◌, ℕ, [], true, false, IsTrue, refl}
+use Rattle.std.specs.Prelude.{◌≡◌, ◌≢◌, ◌≤◌, ℕ, [], true, false, None, IsTrue, refl}
 use Rattle.std.specs.Coded.{Coded, code_by, coded×, coded_ℕ}
 use Rattle.sqlite.specs.Held.{Held, held_code, state}
 use Rattle.sqlite.specs.State.{State, HasCleanDisk}
@@ -8,6 +8,7 @@ use Rattle.desk_register.specs.declared.register.Stage.{Stage}
 use Rattle.desk_register.specs.contracts.register.Stage as stage
 use Rattle.desk_register.specs.declared.register.Stage.TheVariants.{Idle, Begun, Failed}
 use Rattle.desk_register.specs.View.{View}
+use Rattle.desk_rules.specs.declared.limits.TheConstants.{MOST_ENTRIES}
 use Rattle.sql_tables.specs.Schema.{desk_schema}
 use Rattle.sql_register.specs.Content.{content_in}
 use Rattle.sql_register.specs.Holds.{IsDesk}
@@ -36,6 +37,11 @@ pub record IsOpenDesk (s : State) (stage : Stage) : Type 0 where
   pub begun : stage ≡ Begun → s.in_transaction ≡ true
   pub unmarked : stage ≡ Begun → s.marks ≡ []
   pub outside : s.in_transaction ≡ false → s.marks ≡ []
+
+-- it has room for no more entries than a register can have, and no limit is set on the steps of a query
+pub record IsBounded (s : State) (room : ℕ) : Type 0 where
+  pub few : room ≤ MOST_ENTRIES
+  pub unlimited : s.step_limit ≡ None
 
 abbrev pub IsKept : State → Stage → Type 0
 IsKept s stage = HasCleanDisk s → IsTrue s.is_open → IsOpenDesk s stage

@@ -1,27 +1,62 @@
 //! One entry more, with what it moves.
-ghost use Rattle.std.specs.Prelude.{◌≡◌, ℕ, ◌+◌, ◌-◌, ◌<◌, ◌≤◌, ◌^◌, List, length, IfOk, IfSome, OnOk};
+ghost use Rattle.std.specs.Prelude.{◌≡◌, ℕ, ◌+◌, ◌-◌, ◌<◌, ◌≤◌, ◌^◌, List, length, None, IfOk, IfSome, IsOk, OnOk};
 ghost use Rattle.desk_rules.specs.declared.answers.reply.Kept.{Kept};
 ghost use Rattle.desk_rules.specs.declared.history.entry.Entry.TheVariants.{Cancel, Instruct, Issue, PayIn, PayOut, Redeem};
 ghost use Rattle.sql_amounts.specs.Amounts.{AreAmounts};
 ghost use Rattle.sql_amounts.specs.Changes.{SetsAmount, had};
-ghost use Rattle.sql_entries.specs.Entries.{AreEntries, EntryAdded};
+ghost use Rattle.desk_rules.specs.History.{number_of_key, reference_of, sender_of};
+ghost use Rattle.desk_rules.specs.WellFormed.{AreWellFormed, IsWellFormed};
+ghost use Rattle.sql_entries.specs.Entries.{AreEntries, EntryAdded, entries_in};
+ghost use Rattle.sql_entries.specs.Shown.{HasShortNumbers};
 ghost use Rattle.desk_register.specs.Changes.{CanAppend, appended};
 ghost use Rattle.sql_register.specs.Appending.{IsAlone};
 ghost use Rattle.sql_register.specs.Content.{content_in};
 ghost use Rattle.sql_register.specs.Holds.{Becomes, IsDesk};
-ghost use Rattle.sql_tables.specs.Calls.{Soundly, Writes, tables};
+ghost use Rattle.sql_tables.specs.Calls.{FailsForCause, Soundly, Writes, tables};
 
 use crate::counting::count_entries;
 use crate::numbers::checked;
 use desk_codes::{Bic, Isin};
 use desk_msg::CancelOrder;
-use desk_rules::{Entry, Instructed, Movement, Payment, Reply, Sender};
+use desk_rules::{Entry, Instructed, Movement, Payment, Reply, Sender, well_formed};
 use sql_amounts::{AmountKey, put, take};
 use sql_entries::{add_entry, number_of};
 use sql_standings::standings::{add_standing, ask};
 use sql_standings::unmatched::note_unmatched;
 use sql_tables::values::CORRUPT;
 use sqlite::{Alter, Connection, Error};
+
+/// An entry is well formed: whoever sends one has a name.
+fn formed(entry: &Entry)
+    ensures { IsWellFormed entry.now }
+{
+    well_formed(entry);
+}
+
+/// A number of 16 bits is below 65,536.
+fn bounded(number: u16)
+    ensures { number < 2 ^ 16 }
+{}
+
+/// The status of a reply, and its message type, are numbers of 16 bits.
+fn short(reply: &Reply)
+    ensures { HasShortNumbers reply.now }
+{
+    bounded(reply.status);
+    match reply.mt {
+        Some(mt) => bounded(mt),
+        None => (),
+    }
+}
+
+/// The number of the next entry, where there are so many.
+fn number_after(count: u64) -> Result<u64, Error>
+    ensures next { IfOk result (λ n. n ≡ count + 1) }
+    ensures small { IfOk result (λ n. n < 1_000_000_000) }
+    ensures all { count + 1 < 1_000_000_000 → IsOk result }
+{
+    checked(count.saturating_add(1))
+}
 
 /// Adds the row of an entry with its reply, where so many entries are known of, and gives its number.
 fn add_row<S: Alter>(
@@ -31,11 +66,18 @@ fn add_row<S: Alter>(
     reply: &Reply,
 ) -> Result<u64, Error>
     ensures added { Soundly S.Store conn.old conn.new ((register : List Kept) → AreEntries (tables S.Store conn.old) register → IfSome known (λ n. n ≡ length register) → IfOk result (λ number. (number ≡ length register + 1) × EntryAdded (tables S.Store conn.old) (tables S.Store conn.new) register entry.now reply.now)) }
+    ensures within { IfOk result (λ number. number < 1_000_000_000) }
     ensures small { IfOk result (λ number. number < 2 ^ 63) }
+    ensures formed { IsWellFormed entry.now }
+    ensures short { HasShortNumbers reply.now }
     ensures write { Writes S.Store conn.old conn.new result }
+    ensures blame { Soundly S.Store conn.old conn.new ((register : List Kept) → AreEntries (tables S.Store conn.old) register → IfSome known (λ n. n ≡ length register) → length register + 1 < 1_000_000_000 → AreWellFormed (entries_in register)
+        → number_of_key (entries_in register) (sender_of entry.now) (reference_of entry.now) ≡ None → FailsForCause S.Store conn.old conn.new result) }
 {
+    formed(entry);
+    short(reply);
     let count = count_entries(conn, known)?;
-    let number = checked(count.saturating_add(1))?;
+    let number = number_after(count)?;
     add_entry(conn, number, entry, reply)?;
     Ok(number)
 }
@@ -49,6 +91,7 @@ fn append_alone<S: Alter>(
 ) -> Result<(), Error>
     ensures changed { Soundly S.Store conn.old conn.new (IsDesk (tables S.Store conn.old) → IfSome known (λ n. n ≡ length (content_in (tables S.Store conn.old)).register) → IsAlone entry.now → (room : ℕ) → CanAppend room entry.now reply.now (content_in (tables S.Store conn.old)) → OnOk result (Becomes (tables S.Store conn.new) (appended entry.now reply.now (content_in (tables S.Store conn.old))))) }
     ensures write { Writes S.Store conn.old conn.new result }
+    ensures blame { Soundly S.Store conn.old conn.new (IsDesk (tables S.Store conn.old) → IfSome known (λ n. n ≡ length (content_in (tables S.Store conn.old)).register) → (room : ℕ) → room < 1_000_000_000 → CanAppend room entry.now reply.now (content_in (tables S.Store conn.old)) → FailsForCause S.Store conn.old conn.new result) }
 {
     add_row(conn, known, entry, reply)?;
     Ok(())
@@ -59,6 +102,7 @@ fn take_off<S: Alter>(conn: &mut Connection<S>, key: &AmountKey, amount: u64) ->
     requires small { amount < 2 ^ 63 }
     ensures changed { Soundly S.Store conn.old conn.new (AreAmounts (tables S.Store conn.old) → OnOk result ((amount ≤ had (tables S.Store conn.old) key.now) × SetsAmount (tables S.Store conn.old) (tables S.Store conn.new) key.now (had (tables S.Store conn.old) key.now - amount))) }
     ensures write { Writes S.Store conn.old conn.new result }
+    ensures blame { Soundly S.Store conn.old conn.new (AreAmounts (tables S.Store conn.old) → 0 < amount → amount ≤ had (tables S.Store conn.old) key.now → FailsForCause S.Store conn.old conn.new result) }
 {
     if take(conn, key, amount)? {
         Ok(())
@@ -83,6 +127,7 @@ fn append_issue<S: Alter>(
 ) -> Result<(), Error>
     ensures changed { Soundly S.Store conn.old conn.new (IsDesk (tables S.Store conn.old) → IfSome known (λ n. n ≡ length (content_in (tables S.Store conn.old)).register) → (room : ℕ) → CanAppend room (Issue movement.now) reply.now (content_in (tables S.Store conn.old)) → OnOk result (Becomes (tables S.Store conn.new) (appended (Issue movement.now) reply.now (content_in (tables S.Store conn.old))))) }
     ensures write { Writes S.Store conn.old conn.new result }
+    ensures blame { Soundly S.Store conn.old conn.new (IsDesk (tables S.Store conn.old) → IfSome known (λ n. n ≡ length (content_in (tables S.Store conn.old)).register) → (room : ℕ) → room < 1_000_000_000 → CanAppend room (Issue movement.now) reply.now (content_in (tables S.Store conn.old)) → FailsForCause S.Store conn.old conn.new result) }
 {
     named(movement.isin);
     let held = AmountKey::Balance(movement.account, movement.isin);
@@ -101,6 +146,7 @@ fn append_redeem<S: Alter>(
 ) -> Result<(), Error>
     ensures changed { Soundly S.Store conn.old conn.new (IsDesk (tables S.Store conn.old) → IfSome known (λ n. n ≡ length (content_in (tables S.Store conn.old)).register) → (room : ℕ) → CanAppend room (Redeem movement.now) reply.now (content_in (tables S.Store conn.old)) → OnOk result (Becomes (tables S.Store conn.new) (appended (Redeem movement.now) reply.now (content_in (tables S.Store conn.old))))) }
     ensures write { Writes S.Store conn.old conn.new result }
+    ensures blame { Soundly S.Store conn.old conn.new (IsDesk (tables S.Store conn.old) → IfSome known (λ n. n ≡ length (content_in (tables S.Store conn.old)).register) → (room : ℕ) → room < 1_000_000_000 → CanAppend room (Redeem movement.now) reply.now (content_in (tables S.Store conn.old)) → FailsForCause S.Store conn.old conn.new result) }
 {
     named(movement.isin);
     let held = AmountKey::Balance(movement.account, movement.isin);
@@ -119,6 +165,7 @@ fn append_pay_in<S: Alter>(
 ) -> Result<(), Error>
     ensures changed { Soundly S.Store conn.old conn.new (IsDesk (tables S.Store conn.old) → IfSome known (λ n. n ≡ length (content_in (tables S.Store conn.old)).register) → (room : ℕ) → CanAppend room (PayIn payment.now) reply.now (content_in (tables S.Store conn.old)) → OnOk result (Becomes (tables S.Store conn.new) (appended (PayIn payment.now) reply.now (content_in (tables S.Store conn.old))))) }
     ensures write { Writes S.Store conn.old conn.new result }
+    ensures blame { Soundly S.Store conn.old conn.new (IsDesk (tables S.Store conn.old) → IfSome known (λ n. n ≡ length (content_in (tables S.Store conn.old)).register) → (room : ℕ) → room < 1_000_000_000 → CanAppend room (PayIn payment.now) reply.now (content_in (tables S.Store conn.old)) → FailsForCause S.Store conn.old conn.new result) }
 {
     let cash = AmountKey::Cash(payment.bic, payment.ccy);
     let paid = AmountKey::Currency(payment.ccy);
@@ -136,6 +183,7 @@ fn append_pay_out<S: Alter>(
 ) -> Result<(), Error>
     ensures changed { Soundly S.Store conn.old conn.new (IsDesk (tables S.Store conn.old) → IfSome known (λ n. n ≡ length (content_in (tables S.Store conn.old)).register) → (room : ℕ) → CanAppend room (PayOut payment.now) reply.now (content_in (tables S.Store conn.old)) → OnOk result (Becomes (tables S.Store conn.new) (appended (PayOut payment.now) reply.now (content_in (tables S.Store conn.old))))) }
     ensures write { Writes S.Store conn.old conn.new result }
+    ensures blame { Soundly S.Store conn.old conn.new (IsDesk (tables S.Store conn.old) → IfSome known (λ n. n ≡ length (content_in (tables S.Store conn.old)).register) → (room : ℕ) → room < 1_000_000_000 → CanAppend room (PayOut payment.now) reply.now (content_in (tables S.Store conn.old)) → FailsForCause S.Store conn.old conn.new result) }
 {
     let cash = AmountKey::Cash(payment.bic, payment.ccy);
     let paid = AmountKey::Currency(payment.ccy);
@@ -153,6 +201,7 @@ fn append_instruct<S: Alter>(
 ) -> Result<(), Error>
     ensures changed { Soundly S.Store conn.old conn.new (IsDesk (tables S.Store conn.old) → IfSome known (λ n. n ≡ length (content_in (tables S.Store conn.old)).register) → (room : ℕ) → CanAppend room (Instruct instructed.now.sender instructed.now.instruction) reply.now (content_in (tables S.Store conn.old)) → OnOk result (Becomes (tables S.Store conn.new) (appended (Instruct instructed.now.sender instructed.now.instruction) reply.now (content_in (tables S.Store conn.old))))) }
     ensures write { Writes S.Store conn.old conn.new result }
+    ensures blame { Soundly S.Store conn.old conn.new (IsDesk (tables S.Store conn.old) → IfSome known (λ n. n ≡ length (content_in (tables S.Store conn.old)).register) → (room : ℕ) → room < 1_000_000_000 → CanAppend room (Instruct instructed.now.sender instructed.now.instruction) reply.now (content_in (tables S.Store conn.old)) → FailsForCause S.Store conn.old conn.new result) }
 {
     let entry = Entry::Instruct {
         sender: instructed.sender,
@@ -174,6 +223,7 @@ fn append_cancel<S: Alter>(
 ) -> Result<(), Error>
     ensures changed { Soundly S.Store conn.old conn.new (IsDesk (tables S.Store conn.old) → IfSome known (λ n. n ≡ length (content_in (tables S.Store conn.old)).register) → (room : ℕ) → CanAppend room (Cancel sender order.now) reply.now (content_in (tables S.Store conn.old)) → OnOk result (Becomes (tables S.Store conn.new) (appended (Cancel sender order.now) reply.now (content_in (tables S.Store conn.old))))) }
     ensures write { Writes S.Store conn.old conn.new result }
+    ensures blame { Soundly S.Store conn.old conn.new (IsDesk (tables S.Store conn.old) → IfSome known (λ n. n ≡ length (content_in (tables S.Store conn.old)).register) → (room : ℕ) → room < 1_000_000_000 → CanAppend room (Cancel sender order.now) reply.now (content_in (tables S.Store conn.old)) → FailsForCause S.Store conn.old conn.new result) }
 {
     let Some(number) = number_of(conn, Sender::Participant(sender), order.previous)? else {
         return Err(CORRUPT);
@@ -196,6 +246,7 @@ pub fn append<S: Alter>(
 ) -> Result<(), Error>
     ensures changed { Soundly S.Store conn.old conn.new (IsDesk (tables S.Store conn.old) → IfSome known (λ n. n ≡ length (content_in (tables S.Store conn.old)).register) → (room : ℕ) → CanAppend room entry.now reply.now (content_in (tables S.Store conn.old)) → OnOk result (Becomes (tables S.Store conn.new) (appended entry.now reply.now (content_in (tables S.Store conn.old))))) }
     ensures write { Writes S.Store conn.old conn.new result }
+    ensures blame { Soundly S.Store conn.old conn.new (IsDesk (tables S.Store conn.old) → IfSome known (λ n. n ≡ length (content_in (tables S.Store conn.old)).register) → (room : ℕ) → room < 1_000_000_000 → CanAppend room entry.now reply.now (content_in (tables S.Store conn.old)) → FailsForCause S.Store conn.old conn.new result) }
 {
     match entry {
         Entry::Participant { .. }

@@ -4,6 +4,7 @@ ghost use Rattle.desk_rules.specs.Content.{history_of};
 ghost use Rattle.desk_rules.specs.Balances.{issued, redeemed};
 ghost use Rattle.desk_rules.specs.Facts.{is_participant, kind_of, owner_of};
 ghost use Rattle.desk_rules.specs.History.{entry_at, instructed, instruction_at};
+ghost use Rattle.desk_rules.specs.WellFormed.{AreWellFormed};
 ghost use Rattle.desk_rules.specs.declared.answers.reply.Kept.{Kept};
 ghost use Rattle.desk_rules.specs.declared.history.entry.Instructed.{Instructed};
 ghost use Rattle.desk_codes.specs.Number.{number_of};
@@ -12,7 +13,7 @@ ghost use Rattle.sql_entries.specs.Entries.{AreEntries, entries_in};
 ghost use Rattle.sql_register.specs.Content.{content_in};
 ghost use Rattle.sql_register.specs.Facts.{AreFactsOf};
 ghost use Rattle.sql_register.specs.Holds.{IsDesk, holding_found};
-ghost use Rattle.sql_tables.specs.Calls.{Looks, Soundly, tables};
+ghost use Rattle.sql_tables.specs.Calls.{FailsForCause, Looks, Soundly, tables};
 
 use crate::facts::Facts;
 use desk_codes::{AccountId, Bic, Ccy, Day, Isin};
@@ -35,6 +36,7 @@ pub fn participant<S: Alter>(
 ) -> Result<bool, Error>
     ensures value { Soundly S.Store conn.old conn.new ((register : List Kept) → AreEntries (tables S.Store conn.old) register → AreFactsOf facts.now register → IfOk result (λ r. r ≡ is_participant (entries_in register) bic)) }
     ensures look { Looks S.Store conn.old conn.new result }
+    ensures blame { Soundly S.Store conn.old conn.new ((register : List Kept) → AreEntries (tables S.Store conn.old) register → FailsForCause S.Store conn.old conn.new result) }
 {
     if facts.has_participant(&bic) {
         return Ok(true);
@@ -50,6 +52,7 @@ pub fn owner<S: Alter>(
 ) -> Result<Option<Bic>, Error>
     ensures value { Soundly S.Store conn.old conn.new ((register : List Kept) → AreEntries (tables S.Store conn.old) register → AreFactsOf facts.now register → IfOk result (λ r. r ≡ owner_of (entries_in register) account)) }
     ensures look { Looks S.Store conn.old conn.new result }
+    ensures blame { Soundly S.Store conn.old conn.new ((register : List Kept) → AreEntries (tables S.Store conn.old) register → AreWellFormed (entries_in register) → FailsForCause S.Store conn.old conn.new result) }
 {
     match facts.owner(&account) {
         Some(bic) => Ok(Some(bic)),
@@ -65,6 +68,7 @@ pub fn security<S: Alter>(
 ) -> Result<Option<Kind>, Error>
     ensures value { Soundly S.Store conn.old conn.new ((register : List Kept) → AreEntries (tables S.Store conn.old) register → AreFactsOf facts.now register → IfOk result (λ r. r ≡ kind_of (entries_in register) isin)) }
     ensures look { Looks S.Store conn.old conn.new result }
+    ensures blame { Soundly S.Store conn.old conn.new ((register : List Kept) → AreEntries (tables S.Store conn.old) register → FailsForCause S.Store conn.old conn.new result) }
 {
     match facts.kind(&isin) {
         Some(kind) => Ok(Some(kind)),
@@ -80,6 +84,7 @@ pub fn position<S: Alter>(
 ) -> Result<u64, Error>
     ensures value { Soundly S.Store conn.old conn.new (IsDesk (tables S.Store conn.old) → IfOk result (λ r. r ≡ (content_in (tables S.Store conn.old)).position account isin)) }
     ensures look { Looks S.Store conn.old conn.new result }
+    ensures blame { Soundly S.Store conn.old conn.new (IsDesk (tables S.Store conn.old) → FailsForCause S.Store conn.old conn.new result) }
 {
     Ok(amount(conn, &AmountKey::Balance(account, isin))?.unwrap_or(0))
 }
@@ -88,6 +93,7 @@ pub fn position<S: Alter>(
 pub fn cash<S: Alter>(conn: &mut Connection<S>, bic: Bic, ccy: Ccy) -> Result<u64, Error>
     ensures value { Soundly S.Store conn.old conn.new (IsDesk (tables S.Store conn.old) → IfOk result (λ r. r ≡ (content_in (tables S.Store conn.old)).cash bic ccy)) }
     ensures look { Looks S.Store conn.old conn.new result }
+    ensures blame { Soundly S.Store conn.old conn.new (IsDesk (tables S.Store conn.old) → FailsForCause S.Store conn.old conn.new result) }
 {
     Ok(amount(conn, &AmountKey::Cash(bic, ccy))?.unwrap_or(0))
 }
@@ -96,6 +102,7 @@ pub fn cash<S: Alter>(conn: &mut Connection<S>, bic: Bic, ccy: Ccy) -> Result<u6
 pub fn outstanding<S: Alter>(conn: &mut Connection<S>, isin: Isin) -> Result<u64, Error>
     ensures value { Soundly S.Store conn.old conn.new (IsDesk (tables S.Store conn.old) → IfOk result (λ r. redeemed (history_of (content_in (tables S.Store conn.old))) isin + r ≡ issued (history_of (content_in (tables S.Store conn.old))) isin)) }
     ensures look { Looks S.Store conn.old conn.new result }
+    ensures blame { Soundly S.Store conn.old conn.new (IsDesk (tables S.Store conn.old) → FailsForCause S.Store conn.old conn.new result) }
 {
     Ok(amount(conn, &AmountKey::Security(isin))?.unwrap_or(0))
 }
@@ -105,6 +112,7 @@ pub fn outstanding<S: Alter>(conn: &mut Connection<S>, isin: Isin) -> Result<u64
 pub fn held<S: Alter>(conn: &mut Connection<S>, isin: Isin) -> Result<u64, Error>
     ensures value { Soundly S.Store conn.old conn.new (IsDesk (tables S.Store conn.old) → IfOk result (λ r. r ≡ held_of (content_in (tables S.Store conn.old)) isin)) }
     ensures look { Looks S.Store conn.old conn.new result }
+    ensures blame { Soundly S.Store conn.old conn.new (IsDesk (tables S.Store conn.old) → FailsForCause S.Store conn.old conn.new result) }
 {
     Ok(amount(conn, &AmountKey::Security(isin))?.unwrap_or(0))
 }
@@ -113,6 +121,7 @@ pub fn held<S: Alter>(conn: &mut Connection<S>, isin: Isin) -> Result<u64, Error
 pub fn paid<S: Alter>(conn: &mut Connection<S>, ccy: Ccy) -> Result<Option<u64>, Error>
     ensures value { Soundly S.Store conn.old conn.new (IsDesk (tables S.Store conn.old) → IfOk result (λ r. IsPaid (history_of (content_in (tables S.Store conn.old))) ccy r)) }
     ensures look { Looks S.Store conn.old conn.new result }
+    ensures blame { Soundly S.Store conn.old conn.new (IsDesk (tables S.Store conn.old) → FailsForCause S.Store conn.old conn.new result) }
 {
     amount(conn, &AmountKey::Currency(ccy))
 }
@@ -121,6 +130,7 @@ pub fn paid<S: Alter>(conn: &mut Connection<S>, ccy: Ccy) -> Result<Option<u64>,
 pub fn held_cash<S: Alter>(conn: &mut Connection<S>, ccy: Ccy) -> Result<u64, Error>
     ensures value { Soundly S.Store conn.old conn.new (IsDesk (tables S.Store conn.old) → IfOk result (λ r. r ≡ held_cash_of (content_in (tables S.Store conn.old)) ccy)) }
     ensures look { Looks S.Store conn.old conn.new result }
+    ensures blame { Soundly S.Store conn.old conn.new (IsDesk (tables S.Store conn.old) → FailsForCause S.Store conn.old conn.new result) }
 {
     Ok(amount(conn, &AmountKey::Currency(ccy))?.unwrap_or(0))
 }
@@ -133,6 +143,7 @@ pub fn first_opposite<S: Alter>(
 ) -> Result<Option<u64>, Error>
     ensures value { Soundly S.Store conn.old conn.new (IsDesk (tables S.Store conn.old) → IfOk result (λ r. IsFirstOpposite (content_in (tables S.Store conn.old)) (record { sender = sender; instruction = instruction.now }) r)) }
     ensures look { Looks S.Store conn.old conn.new result }
+    ensures blame { Soundly S.Store conn.old conn.new (IsDesk (tables S.Store conn.old) → FailsForCause S.Store conn.old conn.new result) }
 {
     first_unmatched(conn, sender, instruction)
 }
@@ -154,6 +165,7 @@ pub fn holding_after<S: Alter>(
 ) -> Result<Option<Holding>, Error>
     ensures value { Soundly S.Store conn.old conn.new (IsDesk (tables S.Store conn.old) → IfOk result (λ r. IsHoldingAfter (content_in (tables S.Store conn.old)) account isin r)) }
     ensures look { Looks S.Store conn.old conn.new result }
+    ensures blame { Soundly S.Store conn.old conn.new (IsDesk (tables S.Store conn.old) → FailsForCause S.Store conn.old conn.new result) }
 {
     let found = next_holding(conn, account, isin)?;
     Ok(holding_of(found))
@@ -179,6 +191,7 @@ pub fn entry<S: Alter>(
     ensures value { Soundly S.Store conn.old conn.new ((register : List Kept) → AreEntries (tables S.Store conn.old) register → AreFactsOf facts.old register → IfOk result (λ entry. entry ≡ entry_at (entries_in register) number)) }
     ensures noted { Soundly S.Store conn.old conn.new ((register : List Kept) → AreEntries (tables S.Store conn.old) register → AreFactsOf facts.old register → OnOk result (AreFactsOf facts.new register)) }
     ensures look { Looks S.Store conn.old conn.new result }
+    ensures blame { Soundly S.Store conn.old conn.new ((register : List Kept) → AreEntries (tables S.Store conn.old) register → AreWellFormed (entries_in register) → FailsForCause S.Store conn.old conn.new result) }
 {
     if let Some(known) = facts.entry(number) {
         return Ok(Some(known));
@@ -198,6 +211,7 @@ pub fn instruction<S: Alter>(
     ensures value { Soundly S.Store conn.old conn.new (IsDesk (tables S.Store conn.old) → AreFactsOf facts.old (content_in (tables S.Store conn.old)).register → IfOk result (λ i. instruction_at (history_of (content_in (tables S.Store conn.old))) number ≡ Some i)) }
     ensures noted { Soundly S.Store conn.old conn.new (IsDesk (tables S.Store conn.old) → AreFactsOf facts.old (content_in (tables S.Store conn.old)).register → OnOk result (AreFactsOf facts.new (content_in (tables S.Store conn.old)).register)) }
     ensures look { Looks S.Store conn.old conn.new result }
+    ensures blame { Soundly S.Store conn.old conn.new (IsDesk (tables S.Store conn.old) → AreFactsOf facts.old (content_in (tables S.Store conn.old)).register → (i : Instructed) → instruction_at (history_of (content_in (tables S.Store conn.old))) number ≡ Some i → FailsForCause S.Store conn.old conn.new result) }
 {
     let found = entry(conn, facts, alloc, number)?;
     instructed_by(found)
@@ -211,6 +225,7 @@ pub fn due_pair_after<S: Alter>(
 ) -> Result<Option<Place>, Error>
     ensures value { Soundly S.Store conn.old conn.new (IsDesk (tables S.Store conn.old) → IfOk result (λ r. IsDuePairAfter (content_in (tables S.Store conn.old)) (number_of day) place r)) }
     ensures look { Looks S.Store conn.old conn.new result }
+    ensures blame { Soundly S.Store conn.old conn.new (IsDesk (tables S.Store conn.old) → FailsForCause S.Store conn.old conn.new result) }
 {
     next_due(conn, place, day)
 }

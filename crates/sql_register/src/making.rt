@@ -1,7 +1,7 @@
 //! A register is made in a database that has no table, or over tables that are a desk's.
 ghost use Rattle.sql_tables.specs.declared.version.TheConstants.{VERSION};
 ghost use Rattle.sql_tables.specs.Version.{HasVersion};
-ghost use Rattle.std.specs.Prelude.{Some, ◌≡◌, ◌≤◌, [], false, IsTrue, IfErr, IfOk, OnErr, OnOk};
+ghost use Rattle.std.specs.Prelude.{None, Some, ◌≡◌, ◌≤◌, [], false, IsTrue, IfErr, IfOk, OnErr, OnOk};
 ghost use Rattle.sqlite.specs.State.{HasCleanDisk};
 ghost use Rattle.sqlite.specs.Held.{state};
 ghost use Rattle.sqlite.specs.Steps.{over_memory};
@@ -68,13 +68,15 @@ impl<S: Alter + Drop> SqlRegister<S> {
     ghost use Rattle.sqlite.specs.Held.{state};
 
     /// A register for at most `limit` entries, which are `MOST_ENTRIES` at most, in a database that has no table, index or
-    /// view; any other, one in which a transaction is open too, is refused. Where the tables cannot be made, the connection
-    /// is handed back, and what is committed is as it was: a transaction that is still open should be given up.
+    /// view; any other, one in which a transaction is open too, is refused. No limit is set on the steps of a query. Where the
+    /// tables cannot be made, the connection is handed back, and what is committed is as it was: a transaction that is still
+    /// open should be given up.
     pub fn new(
         mut conn: Connection<S>,
         limit: u64,
     ) -> Result<SqlRegister<S>, (Error, Connection<S>)>
         requires limit { limit ≤ MOST_ENTRIES }
+        requires unlimited { (state S.Store conn).step_limit ≡ None }
         requires open { HasCleanDisk (state S.Store conn) → IsTrue (state S.Store conn).is_open }
         ensures empty { IfOk result (λ r. HasCleanDisk (state S.Store r.connection) → (shown (state S.Store r.connection) r.stage r.failures r.room).content ≡ empty_content) }
         ensures desk { IfOk result (λ r. HasCleanDisk (state S.Store r.connection) → Becomes (tables S.Store r.connection) empty_content) }
@@ -101,9 +103,10 @@ impl<S: Alter + Drop> SqlRegister<S> {
     }
 
     /// A register for at most `limit` entries, which are `MOST_ENTRIES` at most, over tables that are a desk's, where no
-    /// transaction is open.
+    /// transaction is open, and no limit is set on the steps of a query.
     pub fn over(conn: Connection<S>, limit: u64) -> SqlRegister<S>
         requires limit { limit ≤ MOST_ENTRIES }
+        requires unlimited { (state S.Store conn).step_limit ≡ None }
         requires desk { IsKept (state S.Store conn) Idle }
         ensures connection { result.connection ≡ conn }
         ensures limit { result.room ≡ limit }
@@ -125,6 +128,7 @@ impl<S: Alter + Drop> SqlRegister<S> {
     pub fn into_connection(self) -> Connection<S>
         ensures connection { result ≡ self.connection }
         ensures kept { IsKept (state S.Store result) self.stage }
+        ensures unlimited { (state S.Store result).step_limit ≡ None }
     {
         self.conn
     }

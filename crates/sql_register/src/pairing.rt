@@ -1,12 +1,15 @@
 //! Two instructions become a pair, or a pair is cancelled.
-ghost use Rattle.std.specs.Prelude.{◌≢◌, ◌<◌, ◌^◌, OnOk, IfOk};
+ghost use Rattle.std.specs.Prelude.{◌≡◌, ◌≢◌, ◌<◌, ◌^◌, Some, OnOk, IfOk};
 ghost use Rattle.desk_register.specs.Changes.{CanCancelPair, CanPair, pair_cancelled, paired};
+ghost use Rattle.desk_rules.specs.Content.{history_of};
+ghost use Rattle.desk_rules.specs.History.{instruction_at};
+ghost use Rattle.desk_rules.specs.declared.history.entry.Instructed.{Instructed};
 ghost use Rattle.sql_standings.specs.Standings.{AreStandings};
 ghost use Rattle.sql_register.specs.Content.{content_in};
 ghost use Rattle.sql_register.specs.Facts.{AreFactsOf};
 ghost use Rattle.sql_register.specs.Holds.{Becomes, IsDesk};
-ghost use Rattle.sql_register.specs.Pairs.{ForgetsBoth, IsItsDay, StandBoth};
-ghost use Rattle.sql_tables.specs.Calls.{Looks, Soundly, Writes, tables};
+ghost use Rattle.sql_register.specs.Pairs.{ForgetsBoth, IsItsDay, StandAlready, StandBoth};
+ghost use Rattle.sql_tables.specs.Calls.{FailsForCause, Looks, Soundly, Writes, tables};
 
 use crate::facts::Facts;
 use crate::looking::instruction;
@@ -33,6 +36,7 @@ pub fn stand_both<S: Alter>(
     requires instruction { new_state ≢ State.NoInstruction }
     ensures changed { Soundly S.Store conn.old conn.new (AreStandings (tables S.Store conn.old) → OnOk result (StandBoth (tables S.Store conn.old) (tables S.Store conn.new) earlier later new_state)) }
     ensures write { Writes S.Store conn.old conn.new result }
+    ensures blame { Soundly S.Store conn.old conn.new (StandAlready (tables S.Store conn.old) earlier later → FailsForCause S.Store conn.old conn.new result) }
 {
     set_standing(conn, earlier, later, new_state)?;
     set_standing(conn, later, earlier, new_state)
@@ -44,6 +48,7 @@ fn forget_both<S: Alter>(conn: &mut Connection<S>, earlier: u64, later: u64) -> 
     requires later { later < 2 ^ 63 }
     ensures changed { Soundly S.Store conn.old conn.new (OnOk result (ForgetsBoth (tables S.Store conn.old) (tables S.Store conn.new) earlier later)) }
     ensures write { Writes S.Store conn.old conn.new result }
+    ensures blame { Soundly S.Store conn.old conn.new (FailsForCause S.Store conn.old conn.new result) }
 {
     forget_unmatched(conn, earlier)?;
     forget_unmatched(conn, later)
@@ -63,6 +68,7 @@ fn later_day<S: Alter>(
     ensures value { Soundly S.Store conn.old conn.new (IsDesk (tables S.Store conn.old) → AreFactsOf facts.old (content_in (tables S.Store conn.old)).register → IfOk result (IsItsDay (content_in (tables S.Store conn.old)) later)) }
     ensures noted { Soundly S.Store conn.old conn.new (IsDesk (tables S.Store conn.old) → AreFactsOf facts.old (content_in (tables S.Store conn.old)).register → OnOk result (AreFactsOf facts.new (content_in (tables S.Store conn.old)).register)) }
     ensures look { Looks S.Store conn.old conn.new result }
+    ensures blame { Soundly S.Store conn.old conn.new (IsDesk (tables S.Store conn.old) → AreFactsOf facts.old (content_in (tables S.Store conn.old)).register → (i : Instructed) → instruction_at (history_of (content_in (tables S.Store conn.old))) later ≡ Some i → 0 < earlier → earlier < later → FailsForCause S.Store conn.old conn.new result) }
 {
     in_order(earlier, later)?;
     let instructed = instruction(conn, facts, alloc, later)?;
@@ -80,6 +86,7 @@ pub fn pair<S: Alter>(
     ensures changed { Soundly S.Store conn.old conn.new (IsDesk (tables S.Store conn.old) → AreFactsOf facts.old (content_in (tables S.Store conn.old)).register → CanPair (content_in (tables S.Store conn.old)) earlier later → OnOk result (Becomes (tables S.Store conn.new) (paired earlier later (content_in (tables S.Store conn.old))))) }
     ensures noted { Soundly S.Store conn.old conn.new (IsDesk (tables S.Store conn.old) → AreFactsOf facts.old (content_in (tables S.Store conn.old)).register → OnOk result (AreFactsOf facts.new (content_in (tables S.Store conn.old)).register)) }
     ensures write { Writes S.Store conn.old conn.new result }
+    ensures blame { Soundly S.Store conn.old conn.new (IsDesk (tables S.Store conn.old) → AreFactsOf facts.old (content_in (tables S.Store conn.old)).register → CanPair (content_in (tables S.Store conn.old)) earlier later → FailsForCause S.Store conn.old conn.new result) }
 {
     let day = later_day(conn, facts, alloc, earlier, later)?;
     stand_both(conn, earlier, later, State::Matched(Reason::Future))?;
@@ -98,6 +105,7 @@ pub fn cancel_pair<S: Alter>(
     ensures changed { Soundly S.Store conn.old conn.new (IsDesk (tables S.Store conn.old) → AreFactsOf facts.old (content_in (tables S.Store conn.old)).register → CanCancelPair (content_in (tables S.Store conn.old)) earlier later → OnOk result (Becomes (tables S.Store conn.new) (pair_cancelled earlier later (content_in (tables S.Store conn.old))))) }
     ensures noted { Soundly S.Store conn.old conn.new (IsDesk (tables S.Store conn.old) → AreFactsOf facts.old (content_in (tables S.Store conn.old)).register → OnOk result (AreFactsOf facts.new (content_in (tables S.Store conn.old)).register)) }
     ensures write { Writes S.Store conn.old conn.new result }
+    ensures blame { Soundly S.Store conn.old conn.new (IsDesk (tables S.Store conn.old) → AreFactsOf facts.old (content_in (tables S.Store conn.old)).register → CanCancelPair (content_in (tables S.Store conn.old)) earlier later → FailsForCause S.Store conn.old conn.new result) }
 {
     let day = later_day(conn, facts, alloc, earlier, later)?;
     stand_both(conn, earlier, later, State::Cancelled)?;

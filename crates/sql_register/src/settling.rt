@@ -2,7 +2,8 @@
 ghost use Rattle.std.specs.Prelude.{◌≡◌, ◌≢◌, ℕ, ◌+◌, ◌<◌, ◌^◌, [], true, Some, IfOk, OnOk};
 ghost use Rattle.sqlite.specs.Held.{state};
 ghost use Rattle.desk_codes.specs.Number.{number_of};
-ghost use Rattle.sql_tables.specs.Calls.{Looks, Soundly, Writes, tables};
+ghost use Rattle.desk_rules.specs.declared.history.entry.Instructed.{Instructed};
+ghost use Rattle.sql_tables.specs.Calls.{FailsForCause, Looks, Soundly, Writes, tables};
 ghost use Rattle.sql_tables.specs.Ends.{Stays};
 ghost use Rattle.sql_amounts.specs.Amounts.{AreAmounts};
 ghost use Rattle.desk_register.specs.Changes.{CanCancelPair, CanSettle, FitsCash, IsPairAt, SidesFit, TriesPair};
@@ -12,6 +13,7 @@ ghost use Rattle.sql_standings.specs.Standings.{AreStandings};
 ghost use Rattle.sql_register.specs.Content.{content_in};
 ghost use Rattle.sql_register.specs.Facts.{AreFactsOf};
 ghost use Rattle.sql_register.specs.Holds.{Becomes, IsDesk};
+ghost use Rattle.sql_register.specs.Pairs.{StandAlready};
 ghost use Rattle.sql_register.specs.Settling.{state_then, more_held, more_cash, AmountsSo, Closes, Frees, IsMarked, IsTrial, MovesBoth, MovesLegs, TakesCash, TakesHeld};
 
 use crate::facts::Facts;
@@ -41,6 +43,7 @@ fn take_held<S: Alter>(
     requires small { quantity < 2 ^ 63 }
     ensures changed { Soundly S.Store conn.old conn.new (AreAmounts (tables S.Store conn.old) → IfOk result (TakesHeld (tables S.Store conn.old) (tables S.Store conn.new) account isin quantity)) }
     ensures write { Writes S.Store conn.old conn.new result }
+    ensures blame { Soundly S.Store conn.old conn.new (AreAmounts (tables S.Store conn.old) → FailsForCause S.Store conn.old conn.new result) }
 {
     take(conn, &AmountKey::Balance(account, isin), quantity)
 }
@@ -56,6 +59,7 @@ fn put_held<S: Alter>(
     ensures changed { Soundly S.Store conn.old conn.new (AreAmounts (tables S.Store conn.old) → (content_in (tables S.Store conn.old)).position account isin + quantity < 2 ^ 63
         → OnOk result (AmountsSo (tables S.Store conn.old) (tables S.Store conn.new) (more_held (content_in (tables S.Store conn.old)).position account isin quantity) (content_in (tables S.Store conn.old)).cash)) }
     ensures write { Writes S.Store conn.old conn.new result }
+    ensures blame { Soundly S.Store conn.old conn.new (AreAmounts (tables S.Store conn.old) → (content_in (tables S.Store conn.old)).position account isin + quantity < 2 ^ 63 → FailsForCause S.Store conn.old conn.new result) }
 {
     put(conn, &AmountKey::Balance(account, isin), quantity)
 }
@@ -68,6 +72,7 @@ fn take_cash<S: Alter>(
 ) -> Result<bool, Error>
     ensures changed { Soundly S.Store conn.old conn.new (AreAmounts (tables S.Store conn.old) → IfOk result (TakesCash (tables S.Store conn.old) (tables S.Store conn.new) bic asked)) }
     ensures write { Writes S.Store conn.old conn.new result }
+    ensures blame { Soundly S.Store conn.old conn.new (AreAmounts (tables S.Store conn.old) → FailsForCause S.Store conn.old conn.new result) }
 {
     match asked {
         None => Ok(true),
@@ -80,6 +85,7 @@ fn put_cash<S: Alter>(conn: &mut Connection<S>, bic: Bic, asked: Option<Cash>) -
     ensures changed { Soundly S.Store conn.old conn.new (AreAmounts (tables S.Store conn.old) → FitsCash (content_in (tables S.Store conn.old)).cash bic asked
         → OnOk result (AmountsSo (tables S.Store conn.old) (tables S.Store conn.new) (content_in (tables S.Store conn.old)).position (more_cash (content_in (tables S.Store conn.old)).cash bic asked))) }
     ensures write { Writes S.Store conn.old conn.new result }
+    ensures blame { Soundly S.Store conn.old conn.new (AreAmounts (tables S.Store conn.old) → FitsCash (content_in (tables S.Store conn.old)).cash bic asked → FailsForCause S.Store conn.old conn.new result) }
 {
     match asked {
         None => Ok(()),
@@ -93,6 +99,7 @@ fn move_legs<S: Alter>(conn: &mut Connection<S>, pair: &KnownPair) -> Result<Out
     ensures changed { Soundly S.Store conn.old conn.new (AreAmounts (tables S.Store conn.old) → SidesFit (content_in (tables S.Store conn.old)) pair.now.earlier pair.now.later
         → IfOk result (MovesLegs (tables S.Store conn.old) (tables S.Store conn.new) pair.now.earlier pair.now.later)) }
     ensures write { Writes S.Store conn.old conn.new result }
+    ensures blame { Soundly S.Store conn.old conn.new (AreAmounts (tables S.Store conn.old) → SidesFit (content_in (tables S.Store conn.old)) pair.now.earlier pair.now.later → FailsForCause S.Store conn.old conn.new result) }
 {
     let from = pair.deliverer();
     let to = pair.receiver();
@@ -115,6 +122,7 @@ fn move_both<S: Alter>(conn: &mut Connection<S>, pair: &KnownPair) -> Result<Out
     ensures changed { Soundly S.Store conn.old conn.new (AreAmounts (tables S.Store conn.old) → SidesFit (content_in (tables S.Store conn.old)) pair.now.earlier pair.now.later
         → (state S.Store conn.old).in_transaction ≡ true → (state S.Store conn.old).marks ≡ [] → IfOk result (MovesBoth (tables S.Store conn.old) (tables S.Store conn.new) pair.now.earlier pair.now.later)) }
     ensures trial { IsTrial result (state S.Store conn.old) (state S.Store conn.new) (IsMarked (state S.Store conn.old) (state S.Store conn.new)) }
+    ensures blame { Soundly S.Store conn.old conn.new (AreAmounts (tables S.Store conn.old) → SidesFit (content_in (tables S.Store conn.old)) pair.now.earlier pair.now.later → (state S.Store conn.old).in_transaction ≡ true → (state S.Store conn.old).marks ≡ [] → FailsForCause S.Store conn.old conn.new result) }
 {
     save(conn)?;
     let outcome = move_legs(conn, pair)?;
@@ -146,6 +154,7 @@ fn free<S: Alter>(
     requires { number < 1_000_000_000 }
     ensures changed { Soundly S.Store conn.old conn.new (AreDue (tables S.Store conn.old) → OnOk result (Frees (tables S.Store conn.old) (tables S.Store conn.new) (number_of day) number outcome)) }
     ensures write { Writes S.Store conn.old conn.new result }
+    ensures blame { Soundly S.Store conn.old conn.new (FailsForCause S.Store conn.old conn.new result) }
 {
     match outcome {
         Outcome::Settled => forget_due(conn, day, number),
@@ -157,6 +166,7 @@ fn free<S: Alter>(
 fn mate_of<S: Alter>(conn: &mut Connection<S>, number: u64) -> Result<u64, Error>
     ensures value { Soundly S.Store conn.old conn.new (IsDesk (tables S.Store conn.old) → IfOk result (λ mate. ((content_in (tables S.Store conn.old)).standing number).mate ≡ Some mate)) }
     ensures look { Looks S.Store conn.old conn.new result }
+    ensures blame { Soundly S.Store conn.old conn.new (IsDesk (tables S.Store conn.old) → (mate : ℕ) → ((content_in (tables S.Store conn.old)).standing number).mate ≡ Some mate → FailsForCause S.Store conn.old conn.new result) }
 {
     let standing = standing(conn, number)?;
     match standing.mate {
@@ -175,6 +185,7 @@ fn pair_at<S: Alter>(
     ensures value { Soundly S.Store conn.old conn.new (IsDesk (tables S.Store conn.old) → AreFactsOf facts.old (content_in (tables S.Store conn.old)).register → IfOk result (λ p. (p.number ≡ number) × IsPairAt (content_in (tables S.Store conn.old)) number p.mate p.earlier p.later)) }
     ensures noted { Soundly S.Store conn.old conn.new (IsDesk (tables S.Store conn.old) → AreFactsOf facts.old (content_in (tables S.Store conn.old)).register → OnOk result (AreFactsOf facts.new (content_in (tables S.Store conn.old)).register)) }
     ensures look { Looks S.Store conn.old conn.new result }
+    ensures blame { Soundly S.Store conn.old conn.new (IsDesk (tables S.Store conn.old) → AreFactsOf facts.old (content_in (tables S.Store conn.old)).register → (mate : ℕ) (earlier later : Instructed) → IsPairAt (content_in (tables S.Store conn.old)) number mate earlier later → FailsForCause S.Store conn.old conn.new result) }
 {
     let later = instruction(conn, facts, alloc, number)?;
     let mate = mate_of(conn, number)?;
@@ -199,6 +210,7 @@ fn close<S: Alter>(
     ensures changed { Soundly S.Store conn.old conn.new (AreStandings (tables S.Store conn.old) → AreDue (tables S.Store conn.old)
         → OnOk result (Closes (tables S.Store conn.old) (tables S.Store conn.new) pair.now.mate pair.now.number (number_of pair.now.later.instruction.day) outcome)) }
     ensures write { Writes S.Store conn.old conn.new result }
+    ensures blame { Soundly S.Store conn.old conn.new (StandAlready (tables S.Store conn.old) pair.now.mate pair.now.number → FailsForCause S.Store conn.old conn.new result) }
 {
     stand_both(conn, pair.mate, pair.number, state_then(outcome))?;
     free(conn, pair.later.instruction.day, pair.number, outcome)
@@ -212,6 +224,8 @@ fn settle_found<S: Alter>(conn: &mut Connection<S>, pair: &KnownPair) -> Result<
         → IsPairAt (content_in (tables S.Store conn.old)) pair.now.number pair.now.mate pair.now.earlier pair.now.later
         → (state S.Store conn.old).in_transaction ≡ true → (state S.Store conn.old).marks ≡ [] → IfOk result (λ outcome. IsDesk (tables S.Store conn.new) × TriesPair (content_in (tables S.Store conn.old)) pair.now.number outcome (content_in (tables S.Store conn.new)))) }
     ensures trial { IsTrial result (state S.Store conn.old) (state S.Store conn.new) (Stays (state S.Store conn.old) (state S.Store conn.new)) }
+    ensures blame { Soundly S.Store conn.old conn.new (IsDesk (tables S.Store conn.old) → (day : ℕ) → CanSettle (content_in (tables S.Store conn.old)) pair.now.number day
+        → IsPairAt (content_in (tables S.Store conn.old)) pair.now.number pair.now.mate pair.now.earlier pair.now.later → (state S.Store conn.old).in_transaction ≡ true → (state S.Store conn.old).marks ≡ [] → FailsForCause S.Store conn.old conn.new result) }
 {
     in_order(pair.mate, pair.number)?;
     let outcome = move_both(conn, pair)?;
@@ -232,6 +246,7 @@ pub fn settle_pair<S: Alter>(
         → (state S.Store conn.old).in_transaction ≡ true → (state S.Store conn.old).marks ≡ [] → IfOk result (λ outcome. IsDesk (tables S.Store conn.new) × TriesPair (content_in (tables S.Store conn.old)) number outcome (content_in (tables S.Store conn.new)))) }
     ensures noted { Soundly S.Store conn.old conn.new (IsDesk (tables S.Store conn.old) → AreFactsOf facts.old (content_in (tables S.Store conn.old)).register → OnOk result (AreFactsOf facts.new (content_in (tables S.Store conn.old)).register)) }
     ensures trial { IsTrial result (state S.Store conn.old) (state S.Store conn.new) (Stays (state S.Store conn.old) (state S.Store conn.new)) }
+    ensures blame { Soundly S.Store conn.old conn.new (IsDesk (tables S.Store conn.old) → AreFactsOf facts.old (content_in (tables S.Store conn.old)).register → CanSettle (content_in (tables S.Store conn.old)) number (number_of day) → (state S.Store conn.old).in_transaction ≡ true → (state S.Store conn.old).marks ≡ [] → FailsForCause S.Store conn.old conn.new result) }
 {
     let pair = pair_at(conn, facts, alloc, number)?;
     settle_found(conn, &pair)
@@ -243,6 +258,8 @@ pub fn settle_told<S: Alter>(conn: &mut Connection<S>, told: &KnownPair) -> Resu
         → IsKnownAt (content_in (tables S.Store conn.old)) told.now.number told.now
         → (state S.Store conn.old).in_transaction ≡ true → (state S.Store conn.old).marks ≡ [] → IfOk result (λ outcome. IsDesk (tables S.Store conn.new) × TriesPair (content_in (tables S.Store conn.old)) told.now.number outcome (content_in (tables S.Store conn.new)))) }
     ensures trial { IsTrial result (state S.Store conn.old) (state S.Store conn.new) (Stays (state S.Store conn.old) (state S.Store conn.new)) }
+    ensures blame { Soundly S.Store conn.old conn.new (IsDesk (tables S.Store conn.old) → (day : ℕ) → CanSettle (content_in (tables S.Store conn.old)) told.now.number day
+        → IsKnownAt (content_in (tables S.Store conn.old)) told.now.number told.now → (state S.Store conn.old).in_transaction ≡ true → (state S.Store conn.old).marks ≡ [] → FailsForCause S.Store conn.old conn.new result) }
 {
     settle_found(conn, told)
 }
@@ -256,6 +273,7 @@ pub fn wait_for<S: Alter>(
 ) -> Result<(), Error>
     ensures changed { Soundly S.Store conn.old conn.new (IsDesk (tables S.Store conn.old) → CanCancelPair (content_in (tables S.Store conn.old)) earlier later → OnOk result (Becomes (tables S.Store conn.new) (waiting earlier later lack (content_in (tables S.Store conn.old))))) }
     ensures write { Writes S.Store conn.old conn.new result }
+    ensures blame { Soundly S.Store conn.old conn.new (IsDesk (tables S.Store conn.old) → CanCancelPair (content_in (tables S.Store conn.old)) earlier later → FailsForCause S.Store conn.old conn.new result) }
 {
     in_order(earlier, later)?;
     stand_both(conn, earlier, later, state_then(Outcome::Lacks(lack)))

@@ -1,7 +1,4 @@
 //! A register that keeps its content in SQL tables.
-ghost use Rattle.std.specs.Prelude.{◌≤◌};
-ghost use Rattle.desk_rules.specs.declared.limits.TheConstants.{MOST_ENTRIES};
-
 use crate::fault::Course;
 use sqlite::{Alter, Connection};
 use std::marker::Model;
@@ -17,10 +14,8 @@ pub struct SqlRegister<S: Alter> {
 }
 
 impl<S: Alter> Model for SqlRegister<S> {
-    ghost use Rattle.std.specs.Prelude.{◌≤◌};
-    ghost use Rattle.sql_register.specs.Kept.{Kept, kept_code, IsKept};
+    ghost use Rattle.sql_register.specs.Kept.{Kept, kept_code, IsBounded, IsKept};
     ghost use Rattle.sql_register.specs.Known.{IsKnown};
-    ghost use Rattle.desk_rules.specs.declared.limits.TheConstants.{MOST_ENTRIES};
     ghost use Rattle.sqlite.specs.Held.{state};
 
     ghost Value = { Kept S };
@@ -29,5 +24,5 @@ impl<S: Alter> Model for SqlRegister<S> {
 
     ghost view = { λ r. record { connection = r.conn; stage = r.course.stage; failures = r.course.failures; room = r.limit } };
 
-    ghost invariant = { λ r. IsKept (state S.Store r.conn) r.course.stage × (r.limit ≤ MOST_ENTRIES) × IsKnown (state S.Store r.conn) r.course.stage r.course.known };
+    ghost invariant = { λ r. IsKept (state S.Store r.conn) r.course.stage × IsBounded (state S.Store r.conn) r.limit × IsKnown (state S.Store r.conn) r.course.stage r.course.known };
 }

@@ -2,7 +2,7 @@
 ghost use Rattle.std.specs.Prelude.{◌≡◌, [], false, IsTrue, OnOk, OnErr};
 ghost use Rattle.sqlite.specs.State.{HasCleanDisk};
 ghost use Rattle.sqlite.specs.Held.{state};
-ghost use Rattle.sql_tables.specs.Calls.{tables};
+ghost use Rattle.sql_tables.specs.Calls.{FailsForCause, Soundly, tables};
 ghost use Rattle.sql_tables.specs.Ends.{IsLater};
 ghost use Rattle.sql_tables.specs.Schema.{desk_schema};
 ghost use Rattle.sql_register.specs.Undone.{IsTakenBack, IsNotTakenBack};
@@ -19,9 +19,11 @@ pub fn take_back<S: Alter>(conn: &mut Connection<S>) -> Result<(), Error>
     ensures err { HasCleanDisk (state S.Store conn.new) → IsTrue (state S.Store conn.new).is_open → OnErr result (IsNotTakenBack (state S.Store conn.old) (state S.Store conn.new)) }
     ensures opened { HasCleanDisk (state S.Store conn.new) → IsTrue (state S.Store conn.new).is_open → IsTrue (state S.Store conn.old).is_open }
     ensures later { IsLater (state S.Store conn.old) (state S.Store conn.new) }
+    ensures blame { Soundly S.Store conn.old conn.new (IsTrue (state S.Store conn.new).is_open → FailsForCause S.Store conn.old conn.new result) }
 {
-    if !conn.is_autocommit() {
-        roll_back(conn)?;
+    if conn.is_autocommit() {
+        return probe(conn);
     }
+    roll_back(conn)?;
     probe(conn)
 }

@@ -11,7 +11,7 @@ use Rattle.audit_desk.proofs.RestLemmas.{audit_whole}
 use Rattle.audit_desk.proofs.auditing.audit.Goals as goal
 
 pub returns-clause-whole : goal.returns-clause-whole
-returns-clause-whole g c = λ clean is_open honest sure order.
+returns-clause-whole g c = λ clean is_open honest sure order few.
     let s0 = state g.S.Store c.args.conn.now in
     let s1 = state g.S.Store c.has_version.new.conn in
     let v0 = g.R.Register.view c.args.register.now in
@@ -28,4 +28,4 @@ returns-clause-whole g c = λ clean is_open honest sure order.
     let version = e1.says clean1 is_open schema formed0 c.if-not-branch.false in
     let order1 = subst (λ (d : Database). AreInOrder desk_schema d.trees) (sym same.now) order0 in
     let formed1 = subst (λ (d : Database). AreAllFormed d.trees) (sym same.now) formed0 in
-    audit_whole s0.now s1.now v0.room v2.content c.fill.result same.now schema version (e2.filled clean same.is_open schema1 honest sure order1 formed1)
+    audit_whole s0.now s1.now v0.room v2.content c.fill.result few same.now schema version (e2.filled clean same.is_open schema1 honest sure order1 formed1)

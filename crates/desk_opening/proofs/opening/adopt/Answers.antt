@@ -6,6 +6,9 @@ use Rattle.memory_register.specs.ListsView.{view_of_lists}
 use Rattle.desk_opening.specs.Opened.{Finds}
 use Rattle.desk_opening.proofs.opening.adopt.Goals as goal
 
+pub take_over-requires-clause-unlimited : goal.take_over-requires-clause-unlimited
+take_over-requires-clause-unlimited g c = c.in-Ok.ensures.fresh.unlimited
+
 pub returns-in-Ok-take_over-clause-which : goal.returns-in-Ok-take_over-clause-which
 returns-in-Ok-take_over-clause-which g c = λ clean.
     let s1 = state g.S.Store c.in-Ok.conn in

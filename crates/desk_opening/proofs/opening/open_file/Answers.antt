@@ -6,6 +6,9 @@ use Rattle.desk_opening.proofs.opening.open_file.Goals as goal
 pub take_over-requires-clause-open : goal.take_over-requires-clause-open
 take_over-requires-clause-open g c = λ clean. record { opens = (c.in-Ok.ensures.opened clean).0; order = c.in-Ok.ensures.order clean }
 
+pub take_over-requires-clause-unlimited : goal.take_over-requires-clause-unlimited
+take_over-requires-clause-unlimited g c = c.in-Ok.ensures.fresh.unlimited
+
 pub returns-in-Ok-take_over-clause-which : goal.returns-in-Ok-take_over-clause-which
 returns-in-Ok-take_over-clause-which g c = λ clean.
     let s1 = file_state c.in-Ok.conn in

@@ -15,6 +15,9 @@ use Rattle.desk_opening.proofs.taking.find.Goals as goal
 pub audit-requires-clause-empty : goal.audit-requires-clause-empty
 audit-requires-clause-empty g c = λ honest sure. holds_none _ _ c.new-memory.ensures.empty
 
+pub over-requires-clause-unlimited : goal.over-requires-clause-unlimited
+over-requires-clause-unlimited g c = c.in-Ok-Whole.ensures.look.later.limit ∙ c.requires.unlimited
+
 pub new-requires-clause-same : goal.new-requires-clause-same
 new-requires-clause-same g c =
     let s0 = state g.S.Store c.args.conn in
@@ -23,7 +26,7 @@ new-requires-clause-same g c =
     let content = (view_of_lists c.audit.new.register).content in
     let stood : HasCleanDisk s1 → StandsOpen s0 = λ clean. c.requires.open (omega (arith, clean, a.look.later.clean)) in
     let audited : HasCleanDisk s1 → IsAudited s0.now c.args.limit content = λ clean.
-    (let stands = stood clean in subst (λ r. IsAudited s0.now r content) c.new-memory.ensures.limit (a.whole clean stands.opens.is_open tt tt (order_now s0 stands) c.in-Ok-Whole.field-0-is)) in
+    (let stands = stood clean in subst (λ r. IsAudited s0.now r content) c.new-memory.ensures.limit (a.whole clean stands.opens.is_open tt tt (order_now s0 stands) (omega (arith, c.new-memory.ensures.limit, c.requires.limit)) c.in-Ok-Whole.field-0-is)) in
     let same : HasCleanDisk s1 → IsSame s0 s1 = λ clean. a.look.ok clean (stood clean).opens.is_open (audited clean).becomes.desk.schema in
     subst (λ (h : Held g.row.S.Denot). HasCleanDisk (state g.S.Store h) → IsTrue (state g.S.Store h).is_open → content ≡ content_in (state g.S.Store h).now) (sym c.over.ensures.connection)
     (λ clean is_open. same_content s0 s1 (stood clean) (same clean) c.args.limit content (audited clean))
@@ -36,7 +39,7 @@ returns-in-Ok-Whole-clause-opened g c =
     let content = (view_of_lists c.audit.new.register).content in
     let stood : HasCleanDisk s1 → StandsOpen s0 = λ clean. c.requires.open (omega (arith, clean, a.look.later.clean)) in
     let audited : HasCleanDisk s1 → IsAudited s0.now c.args.limit content = λ clean.
-    (let stands = stood clean in subst (λ r. IsAudited s0.now r content) c.new-memory.ensures.limit (a.whole clean stands.opens.is_open tt tt (order_now s0 stands) c.in-Ok-Whole.field-0-is)) in
+    (let stands = stood clean in subst (λ r. IsAudited s0.now r content) c.new-memory.ensures.limit (a.whole clean stands.opens.is_open tt tt (order_now s0 stands) (omega (arith, c.new-memory.ensures.limit, c.requires.limit)) c.in-Ok-Whole.field-0-is)) in
     let same : HasCleanDisk s1 → IsSame s0 s1 = λ clean. a.look.ok clean (stood clean).opens.is_open (audited clean).becomes.desk.schema in
     let both = c.new in
     opened_as g.S.Store c.args.limit both.result c.audit.new.register c.over.result both.ensures.memory both.ensures.tables both.ensures.stage both.ensures.no_failure
@@ -54,7 +57,7 @@ returns-in-Ok-Whole-clause-which g c =
     let content = (view_of_lists c.audit.new.register).content in
     let stood : HasCleanDisk s1 → StandsOpen s0 = λ clean. c.requires.open (omega (arith, clean, a.look.later.clean)) in
     let audited : HasCleanDisk s1 → IsAudited s0.now c.args.limit content = λ clean.
-    (let stands = stood clean in subst (λ r. IsAudited s0.now r content) c.new-memory.ensures.limit (a.whole clean stands.opens.is_open tt tt (order_now s0 stands) c.in-Ok-Whole.field-0-is)) in
+    (let stands = stood clean in subst (λ r. IsAudited s0.now r content) c.new-memory.ensures.limit (a.whole clean stands.opens.is_open tt tt (order_now s0 stands) (omega (arith, c.new-memory.ensures.limit, c.requires.limit)) c.in-Ok-Whole.field-0-is)) in
     let same : HasCleanDisk s1 → IsSame s0 s1 = λ clean. a.look.ok clean (stood clean).opens.is_open (audited clean).becomes.desk.schema in
     let both = c.new in
     found_as g.S.Store c.args.limit both.result c.audit.new.register c.over.result both.ensures.memory both.ensures.tables s0.committed

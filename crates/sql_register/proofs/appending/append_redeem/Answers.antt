@@ -1,22 +1,27 @@
-use Rattle.std.proofs.Common.{Ok, Err, Result, OnOk, ◌≡◌, ℕ, ◌-◌, ◌≤◌, length, arith}
+use Rattle.std.proofs.Common.{Ok, Err, Result, OnOk, ◌≡◌, ℕ, ◌-◌, ◌≤◌, length, arith, ◌+◌, ◌<◌}
+use Rattle.std.proofs.lemmas.Result.{err_from_is_err_and}
 use Rattle.sqlite.specs.Held.{state}
 use Rattle.sqlite.specs.State.{State, HasCleanDisk}
 use Rattle.sqlite.specs.declared.error.Error.{Error}
 use Rattle.sql_amounts.specs.Changes.{SetsAmount, had}
 use Rattle.sql_amounts.specs.declared.key.AmountKey.TheVariants.{Security as SecurityTotal}
-use Rattle.sql_amounts.specs.declared.key.AmountKey.TheVariants as keys
-use Rattle.sql_entries.specs.Entries.{EntryAdded}
+use Rattle.sql_register.specs.Appending.{RowAdded}
 use Rattle.desk_register.specs.Changes.{CanAppend, appended}
 use Rattle.desk_rules.specs.declared.history.entry.Entry.TheVariants.{Redeem}
 use Rattle.desk_rules.specs.declared.history.entry.Movement.{Movement}
 use Rattle.desk_rules.specs.declared.answers.reply.Reply.{Reply}
-use Rattle.sql_tables.specs.Ends.{Stays}
+use Rattle.sql_tables.specs.Ends.{Stays, ForCause}
 use Rattle.sql_register.specs.Content.{content_in}
 use Rattle.sql_register.specs.Holds.{Becomes, IsDesk}
-use Rattle.sql_register.proofs.AppendedMoves.{redeem_amounts, redeem_becomes}
+use Rattle.sql_register.proofs.AppendedMoves.{redeem_amounts, redeem_becomes, redeem_enough, redeem_enough_total}
+use Rattle.sql_register.proofs.AppendedRow.{row_added}
+use Rattle.sql_tables.proofs.CallLemmas.{later_then, write_err, write_then}
+use Rattle.sql_tables.proofs.ResultLemmas.{on_error}
+use Rattle.sql_register.proofs.CauseLemmas.{caused_error, caused_from, wrote, wrote_then}
+use Rattle.sql_amounts.specs.declared.key.AmountKey.TheVariants as keys
 use Rattle.sql_register.proofs.appending.append_redeem.Goals as goal
 
-becomes : (old d1 d2 new : State) (m : Movement) (reply : Reply) (room : ℕ) (r : Result (Unit {0}) Error) → (desk : IsDesk old.now) → (can : CanAppend room (Redeem m) reply (content_in old.now)) → EntryAdded old.now d1.now (content_in old.now).register (Redeem m) reply
+becomes : (old d1 d2 new : State) (m : Movement) (reply : Reply) (room : ℕ) (r : Result (Unit {0}) Error) → (desk : IsDesk old.now) → (can : CanAppend room (Redeem m) reply (content_in old.now)) → RowAdded old.now d1.now (content_in old.now).register (Redeem m) reply
     → SetsAmount d1.now d2.now (keys.Balance m.account m.isin) (had d1.now (keys.Balance m.account m.isin) - m.quantity) → length m.isin ≡ 12 → OnOk r (Stays d2 new)
     → OnOk r ((m.quantity ≤ had d2.now (SecurityTotal m.isin)) × SetsAmount d2.now new.now (SecurityTotal m.isin) (had d2.now (SecurityTotal m.isin) - m.quantity)) → OnOk r (Becomes new.now (appended (Redeem m) reply (content_in old.now)))
 becomes old d1 d2 new m reply room (Ok tt) desk can added first len stays second = redeem_becomes old.now d1.now m reply room desk can added d2.now first new.now second.1 second.0 stays.schema len
@@ -32,8 +37,65 @@ returns-clause-changed g c clean is_open has desk known room can =
     let clean2 : HasCleanDisk d2 = omega (arith, clean, c.take_off-2.ensures.write.later.clean) in
     let clean1 : HasCleanDisk d1 = omega (arith, clean2, c.in_ok-take_off.ensures.write.later.clean) in
     let stays1 = c.in_ok-add_row.ensures.write.ok clean1 is_open has in
-    let added = (c.in_ok-add_row.ensures.added clean1 is_open has (content_in old.now).register desk.entries known).1 in
+    let added = row_added old.now d1.now (content_in old.now).register (Redeem m) reply c.in_ok-add_row.field-0 (c.in_ok-add_row.ensures.added clean1 is_open has (content_in old.now).register desk.entries known) c.in_ok-add_row.ensures.within c.in_ok-add_row.ensures.formed c.in_ok-add_row.ensures.short in
     let stays2 = c.in_ok-take_off.ensures.write.ok clean2 stays1.is_open stays1.schema in
     let first = c.in_ok-take_off.ensures.changed clean2 stays1.is_open stays1.schema (redeem_amounts old.now d1.now m reply room desk can added) in
     let second = c.take_off-2.ensures.changed clean stays2.is_open stays2.schema first.1.kept in
     becomes old d1 d2 (state g.S.Store c.take_off-2.new.conn) m reply room c.take_off-2.result desk can added first.1 c.named.ensures (c.take_off-2.ensures.write.ok clean stays2.is_open stays2.schema) second
+
+pub returns-in_err-add_row-clause-blame : goal.returns-in_err-add_row-clause-blame
+returns-in_err-add_row-clause-blame g c clean is_open has desk known room small can =
+    let s0 = state g.S.Store c.args.conn.now in
+    let e = c.in_err-add_row.field-0.0 in
+    let has_room = can.has_room in
+    let fits : length (content_in s0.now).register + 1 < 1_000_000_000 = omega (arith, has_room, small) in
+    on_error c.from_residual.result e (ForCause s0 (state g.S.Store c.add_row.new.conn)) c.from_residual.ensures.1
+    (c.in_err-add_row.ensures.blame clean is_open has (content_in s0.now).register desk.entries known fits desk.formed can.new_key)
+
+pub returns-in_err-take_off-clause-blame : goal.returns-in_err-take_off-clause-blame
+returns-in_err-take_off-clause-blame g c clean is_open has desk known room small can =
+    let s0 = state g.S.Store c.args.conn.now in
+    let s1 = state g.S.Store c.add_row.new.conn in
+    let s2 = state g.S.Store c.take_off.new.conn in
+    let m = c.args.movement.now in
+    let reply = c.args.reply.now in
+    let e = c.in_err-take_off.field-0.0 in
+    let Row : Type 0 = RowAdded s0.now s1.now (content_in s0.now).register (Redeem m) reply in
+    let first = wrote c.in_ok-add_row.field-0 s0 s1 Row c.in_ok-add_row.ensures.write (λ clean1 open0 has0.
+    row_added s0.now s1.now (content_in s0.now).register (Redeem m) reply c.in_ok-add_row.field-0 (c.in_ok-add_row.ensures.added clean1 open0 has0 (content_in s0.now).register desk.entries known) c.in_ok-add_row.ensures.within c.in_ok-add_row.ensures.formed c.in_ok-add_row.ensures.short) in
+    on_error c.from_residual-in_err-take_off.result e (ForCause s0 s2) c.from_residual-in_err-take_off.ensures.1
+    (caused_error e s0 s1 s2 Row c.in_ok-add_row.ensures.write.later c.in_err-take_off.ensures.write.later first
+    (λ clean2 open1 has1 added. c.in_err-take_off.ensures.blame clean2 open1 has1 (redeem_amounts s0.now s1.now m reply room desk can added) added.formed.some (redeem_enough s0.now s1.now m reply room desk can added)) clean is_open has)
+
+pub returns-clause-blame : goal.returns-clause-blame
+returns-clause-blame g c clean is_open has desk known room small can =
+    let s0 = state g.S.Store c.args.conn.now in
+    let s1 = state g.S.Store c.add_row.new.conn in
+    let s2 = state g.S.Store c.take_off.new.conn in
+    let s3 = state g.S.Store c.take_off-2.new.conn in
+    let m = c.args.movement.now in
+    let reply = c.args.reply.now in
+    let Row : Type 0 = RowAdded s0.now s1.now (content_in s0.now).register (Redeem m) reply in
+    let Sets : Type 0 = SetsAmount s1.now s2.now (keys.Balance m.account m.isin) (had s1.now (keys.Balance m.account m.isin) - m.quantity) in
+    let first = wrote c.in_ok-add_row.field-0 s0 s1 Row c.in_ok-add_row.ensures.write (λ clean1 open0 has0.
+    row_added s0.now s1.now (content_in s0.now).register (Redeem m) reply c.in_ok-add_row.field-0 (c.in_ok-add_row.ensures.added clean1 open0 has0 (content_in s0.now).register desk.entries known) c.in_ok-add_row.ensures.within c.in_ok-add_row.ensures.formed c.in_ok-add_row.ensures.short) in
+    let second = wrote_then c.in_ok-take_off.field-0 s0 s1 s2 Row (Row × Sets) first c.in_ok-take_off.ensures.write (λ clean2 open1 has1 added.
+    (added, (c.in_ok-take_off.ensures.changed clean2 open1 has1 (redeem_amounts s0.now s1.now m reply room desk can added)).1)) in
+    caused_from c.take_off-2.result s0 s2 s3 (Row × Sets) (later_then s0 s1 s2 c.in_ok-add_row.ensures.write.later c.in_ok-take_off.ensures.write.later) c.take_off-2.ensures.write.later second
+    (λ clean3 open2 has2 it. c.take_off-2.ensures.blame clean3 open2 has2 it.1.kept it.0.formed.some (redeem_enough_total s0.now s1.now m reply room desk can it.0 s2.now it.1)) clean is_open has
+
+pub returns-in_err-take_off-clause-write : goal.returns-in_err-take_off-clause-write
+returns-in_err-take_off-clause-write g c =
+    let s0 = state g.S.Store c.args.conn.now in
+    let s1 = state g.S.Store c.add_row.new.conn in
+    let s2 = state g.S.Store c.take_off.new.conn in
+    let p = err_from_is_err_and c.from_residual-in_err-take_off.result c.from_residual-in_err-take_off.ensures.1 in
+    rw (p.1, p.2) (write_then c.in_ok-add_row.field-0 (Err c.in_err-take_off.field-0.0) s0 s1 s2 c.in_ok-add_row.ensures.write (write_err c.in_err-take_off.field-0.0 s1 s2 c.in_err-take_off.ensures.write))
+
+pub returns-clause-write : goal.returns-clause-write
+returns-clause-write g c =
+    let s0 = state g.S.Store c.args.conn.now in
+    let s1 = state g.S.Store c.add_row.new.conn in
+    let s2 = state g.S.Store c.take_off.new.conn in
+    let s3 = state g.S.Store c.take_off-2.new.conn in
+    write_then c.in_ok-take_off.field-0 c.take_off-2.result s0 s2 s3 (write_then c.in_ok-add_row.field-0 (Ok c.in_ok-take_off.field-0) s0 s1 s2 c.in_ok-add_row.ensures.write c.in_ok-take_off.ensures.write) c.take_off-2.ensures.write

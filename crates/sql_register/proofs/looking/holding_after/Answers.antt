@@ -3,9 +3,19 @@ use Rattle.sqlite.specs.Held.{state}
 use Rattle.desk_register.specs.Looked.{IsHoldingAfter}
 use Rattle.sql_register.specs.Content.{content_in}
 use Rattle.sql_register.proofs.LookLemmas.{found_holding}
+use Rattle.sql_tables.specs.Ends.{ForCause}
+use Rattle.sql_tables.proofs.ResultLemmas.{on_error}
+use Rattle.sql_register.proofs.CauseLemmas.{holds_isins}
 use Rattle.sql_register.proofs.looking.holding_after.Goals as goal
 
 pub returns-clause-value : goal.returns-clause-value
 returns-clause-value g c clean is_open has desk =
     subst (IsHoldingAfter (content_in (state g.S.Store c.args.conn.now).now) c.args.account c.args.isin) (sym c.holding_of.ensures)
     (found_holding (state g.S.Store c.args.conn.now).now desk c.args.account c.args.isin c.in_ok-found.found (c.in_ok-found.ensures.value clean is_open has desk.amounts))
+
+pub returns-in_err-found-clause-blame : goal.returns-in_err-found-clause-blame
+returns-in_err-found-clause-blame g c clean is_open has desk =
+    let s0 = state g.S.Store c.args.conn.now in
+    let e = c.in_err-found.field-0.0 in
+    on_error c.from_residual.result e (ForCause s0 (state g.S.Store c.next_holding.new.conn)) c.from_residual.ensures.1
+    (c.in_err-found.ensures.blame clean is_open has desk.amounts (holds_isins s0.now desk c.args.account))

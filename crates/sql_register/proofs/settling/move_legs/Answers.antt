@@ -1,11 +1,15 @@
-use Rattle.std.proofs.Common.{rules, Bool, ◌<◌, ◌^◌, arith, lit<, subst}
+use Rattle.std.proofs.Common.{rules, Bool, ◌<◌, ◌^◌, arith, lit<, subst, true}
 use Rattle.std.proofs.lemmas.Result.{err_from_is_err_and}
 use Rattle.sqlite.specs.Held.{state}
 use Rattle.sqlite.specs.State.{HasCleanDisk}
 use Rattle.desk_rules.proofs.ShortNumbers.{short_quantity}
-use Rattle.sql_tables.proofs.CallLemmas.{write_err, write_then}
-use Rattle.sql_register.specs.Settling.{TakesCash, TakesHeld}
+use Rattle.sql_tables.proofs.CallLemmas.{write_err, write_then, later_then}
+use Rattle.sql_register.specs.Settling.{TakesCash, TakesHeld, AmountsSo, more_held}
 use Rattle.sql_register.proofs.LegLemmas.{legs_settled, pay_fits, put_fits}
+use Rattle.sql_tables.specs.Ends.{ForCause}
+use Rattle.sql_tables.proofs.ResultLemmas.{on_error}
+use Rattle.sql_register.specs.Content.{content_in}
+use Rattle.sql_register.proofs.CauseLemmas.{caused_error, wrote, wrote_then}
 use Rattle.sql_register.proofs.settling.move_legs.Goals as goal
 
 pub take_held-requires-clause-small : goal.take_held-requires-clause-small
@@ -76,3 +80,64 @@ returns-in_err-put_cash-clause-write g c =
     let taken = write_then _ _ s0 s1 s2 c.in_ok-take_held.ensures.write c.in_ok-take_cash.ensures.write in
     let held = write_then _ _ s0 s2 s3 taken c.in_ok-put_held.ensures.write in
     rw (p.1, p.2) (write_then _ _ s0 s3 s4 held (write_err _ s3 s4 c.in_err-put_cash.ensures.write))
+
+pub returns-in_err-take_cash-clause-blame : goal.returns-in_err-take_cash-clause-blame
+returns-in_err-take_cash-clause-blame g c clean is_open has amounts fits =
+    let s0 = state g.S.Store c.args.conn.now in
+    let s1 = state g.S.Store c.take_held.new.conn in
+    let s2 = state g.S.Store c.take_cash.new.conn in
+    let e = c.in_err-take_cash.field-0.0 in
+    let later = c.args.pair.now.later in
+    let from = c.deliverer-from.result.now in
+    let Takes = TakesHeld s0.now s1.now from.instruction.account later.instruction.isin later.instruction.quantity true in
+    let first = wrote _ s0 s1 Takes c.in_ok-take_held.ensures.write (λ clean1 open0 has0.
+    subst (λ (r : Bool). TakesHeld s0.now s1.now from.instruction.account later.instruction.isin later.instruction.quantity r) c.if-not-branch.false (c.in_ok-take_held.ensures.changed clean1 open0 has0 amounts)) in
+    on_error c.from_residual-in_err-take_cash.result e (ForCause s0 s2) c.from_residual-in_err-take_cash.ensures.1
+    (caused_error e s0 s1 s2 Takes c.in_ok-take_held.ensures.write.later c.in_err-take_cash.ensures.write.later first (λ clean2 open1 has1 takes. c.in_err-take_cash.ensures.blame clean2 open1 has1 takes.1.kept) clean is_open has)
+
+pub returns-in_err-put_held-clause-blame : goal.returns-in_err-put_held-clause-blame
+returns-in_err-put_held-clause-blame g c clean is_open has amounts fits =
+    let s0 = state g.S.Store c.args.conn.now in
+    let s1 = state g.S.Store c.take_held.new.conn in
+    let s2 = state g.S.Store c.take_cash.new.conn in
+    let s3 = state g.S.Store c.put_held.new.conn in
+    let e = c.in_err-put_held.field-0.0 in
+    let earlier = c.args.pair.now.earlier in
+    let later = c.args.pair.now.later in
+    let from = c.deliverer-from.result.now in
+    let to = c.receiver-to.result.now in
+    let Takes = TakesHeld s0.now s1.now from.instruction.account later.instruction.isin later.instruction.quantity true in
+    let Pays = TakesCash s1.now s2.now to.sender later.instruction.cash true in
+    let first = wrote _ s0 s1 Takes c.in_ok-take_held.ensures.write (λ clean1 open0 has0.
+    subst (λ (r : Bool). TakesHeld s0.now s1.now from.instruction.account later.instruction.isin later.instruction.quantity r) c.if-not-branch.false (c.in_ok-take_held.ensures.changed clean1 open0 has0 amounts)) in
+    let second = wrote_then _ s0 s1 s2 Takes (Takes × Pays) first c.in_ok-take_cash.ensures.write (λ clean2 open1 has1 takes.
+    (takes, subst (λ (r : Bool). TakesCash s1.now s2.now to.sender later.instruction.cash r) c.if-not-branch-2.false (c.in_ok-take_cash.ensures.changed clean2 open1 has1 takes.1.kept))) in
+    on_error c.from_residual-in_err-put_held.result e (ForCause s0 s3) c.from_residual-in_err-put_held.ensures.1
+    (caused_error e s0 s2 s3 (Takes × Pays) (later_then s0 s1 s2 c.in_ok-take_held.ensures.write.later c.in_ok-take_cash.ensures.write.later) c.in_err-put_held.ensures.write.later second
+    (λ clean3 open2 has2 it. c.in_err-put_held.ensures.blame clean3 open2 has2 it.1.1.kept (put_fits s0.now s1.now s2.now s3.now s3.now earlier later from to c.deliverer-from.ensures c.receiver-to.ensures fits it.0 it.1)) clean is_open has)
+
+pub returns-in_err-put_cash-clause-blame : goal.returns-in_err-put_cash-clause-blame
+returns-in_err-put_cash-clause-blame g c clean is_open has amounts fits =
+    let s0 = state g.S.Store c.args.conn.now in
+    let s1 = state g.S.Store c.take_held.new.conn in
+    let s2 = state g.S.Store c.take_cash.new.conn in
+    let s3 = state g.S.Store c.put_held.new.conn in
+    let s4 = state g.S.Store c.put_cash.new.conn in
+    let e = c.in_err-put_cash.field-0.0 in
+    let earlier = c.args.pair.now.earlier in
+    let later = c.args.pair.now.later in
+    let from = c.deliverer-from.result.now in
+    let to = c.receiver-to.result.now in
+    let Takes = TakesHeld s0.now s1.now from.instruction.account later.instruction.isin later.instruction.quantity true in
+    let Pays = TakesCash s1.now s2.now to.sender later.instruction.cash true in
+    let Gives = AmountsSo s2.now s3.now (more_held (content_in s2.now).position to.instruction.account later.instruction.isin later.instruction.quantity) (content_in s2.now).cash in
+    let first = wrote _ s0 s1 Takes c.in_ok-take_held.ensures.write (λ clean1 open0 has0.
+    subst (λ (r : Bool). TakesHeld s0.now s1.now from.instruction.account later.instruction.isin later.instruction.quantity r) c.if-not-branch.false (c.in_ok-take_held.ensures.changed clean1 open0 has0 amounts)) in
+    let second = wrote_then _ s0 s1 s2 Takes (Takes × Pays) first c.in_ok-take_cash.ensures.write (λ clean2 open1 has1 takes.
+    (takes, subst (λ (r : Bool). TakesCash s1.now s2.now to.sender later.instruction.cash r) c.if-not-branch-2.false (c.in_ok-take_cash.ensures.changed clean2 open1 has1 takes.1.kept))) in
+    let third = wrote_then _ s0 s2 s3 (Takes × Pays) ((Takes × Pays) × Gives) second c.in_ok-put_held.ensures.write (λ clean3 open2 has2 it.
+    (it, c.in_ok-put_held.ensures.changed clean3 open2 has2 it.1.1.kept (put_fits s0.now s1.now s2.now s3.now s4.now earlier later from to c.deliverer-from.ensures c.receiver-to.ensures fits it.0 it.1))) in
+    let before = later_then s0 s2 s3 (later_then s0 s1 s2 c.in_ok-take_held.ensures.write.later c.in_ok-take_cash.ensures.write.later) c.in_ok-put_held.ensures.write.later in
+    on_error c.from_residual-in_err-put_cash.result e (ForCause s0 s4) c.from_residual-in_err-put_cash.ensures.1
+    (caused_error e s0 s3 s4 ((Takes × Pays) × Gives) before c.in_err-put_cash.ensures.write.later third
+    (λ clean4 open3 has3 it. c.in_err-put_cash.ensures.blame clean4 open3 has3 it.1.kept (pay_fits s0.now s1.now s2.now s3.now s4.now earlier later from to c.deliverer-from.ensures c.receiver-to.ensures fits it.0.0 it.0.1 it.1)) clean is_open has)

@@ -1,6 +1,8 @@
 use Rattle.std.proofs.Common.{sym}
 use Rattle.sqlite.specs.Held.{state}
 use Rattle.sql_register.proofs.PairCalls.{wait_call}
+use Rattle.sql_register.proofs.CauseLemmas.{above, below}
+use Rattle.sql_register.proofs.PairCauses.{cancel_stands}
 use Rattle.sql_register.proofs.settling.wait_for.Goals as goal
 
 pub returns-clause-changed : goal.returns-clause-changed
@@ -8,3 +10,11 @@ returns-clause-changed g c clean is_open has desk can =
     let s0 = state g.S.Store c.args.conn.now in
     let s1 = state g.S.Store c.stand_both.new.conn in
     wait_call s0.now s0 s1 c.args.earlier c.args.later c.args.lack c.stand_both.result desk can (c.stand_both.ensures.write.ok clean is_open has) (rw (sym c.state_then.ensures.same) (c.stand_both.ensures.changed clean is_open has desk.standings))
+
+pub returns-in_err-in_order-clause-blame : goal.returns-in_err-in_order-clause-blame
+returns-in_err-in_order-clause-blame g c clean is_open has desk can =
+    let db = (state g.S.Store c.args.conn.now).now in
+    absurd (let ok = c.in_err-in_order.ensures.all (above db desk c.args.earlier can.earlier can.pair.is_earlier) can.two (below db desk c.args.later can.later can.pair.is_later) in let bad = ok in cc)
+
+pub returns-clause-blame : goal.returns-clause-blame
+returns-clause-blame g c clean is_open has desk can = c.stand_both.ensures.blame clean is_open has (cancel_stands (state g.S.Store c.args.conn.now).now desk c.args.earlier c.args.later can)

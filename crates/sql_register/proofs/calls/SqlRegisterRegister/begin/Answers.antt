@@ -2,7 +2,7 @@ use Rattle.std.proofs.Common.{rules, ap, subst, ◌∙◌}
 use Rattle.sqlite.specs.Held.{state}
 use Rattle.sql_register.specs.Content.{content_in}
 use Rattle.sql_register.specs.Kept.{IsOpenDesk}
-use Rattle.sql_register.proofs.KnownLemmas.{idle_goes, known_same}
+use Rattle.sql_register.proofs.KnownLemmas.{idle_goes, known_same, bounded_later}
 use Rattle.sql_register.proofs.ReadLemmas.{was_clean}
 use Rattle.sql_register.proofs.StageLemmas.{begun_desk}
 use Rattle.sql_register.proofs.calls.SqlRegisterRegister.begin.Goals as goal
@@ -17,7 +17,7 @@ invariant_of-self g c =
           let was_open = c.begin.ensures.opened clean is_open in
           let desk = c.self.invariant.0 (was clean) was_open in
           begun_desk old new (subst (IsOpenDesk old) idle desk) (c.in-Ok.ensures.ok clean was_open desk.schema),
-      c.self.invariant.1,
+      bounded_later old new c.self.inside.limit c.self.invariant.1 c.begin.ensures.later,
       λ clean is_open goes.
           let was_open = c.begin.ensures.opened clean is_open in
           let desk = c.self.invariant.0 (was clean) was_open in
@@ -26,4 +26,4 @@ invariant_of-self g c =
     )
 
 pub invariant_of-self-in-Err : goal.invariant_of-self-in-Err
-invariant_of-self-in-Err g c = (search rules, search rules, λ clean is_open goes. c.fault_of.ensures.nothing _ _)
+invariant_of-self-in-Err g c = (search rules, bounded_later (state g.S.Store c.self.inside.conn) (state g.S.Store c.begin.new.conn) c.self.inside.limit c.self.invariant.1 c.begin.ensures.later, λ clean is_open goes. c.fault_of.ensures.nothing _ _)

@@ -9,7 +9,7 @@ use Rattle.sql_register.specs.Holds.{IsDesk}
 use Rattle.sql_register.specs.Kept.{Kept}
 use Rattle.sql_register.specs.Known.{IsKnownOf}
 use Rattle.sql_register.proofs.FactLemmas.{ok_then}
-use Rattle.sql_register.proofs.KnownLemmas.{begun_goes, known_told, ok_first, tries_known}
+use Rattle.sql_register.proofs.KnownLemmas.{begun_goes, known_told, ok_first, tries_known, bounded_later}
 use Rattle.sql_register.proofs.ReadLemmas.{was_clean}
 use Rattle.sql_register.proofs.ChangeLemmas.{tried_kept}
 use Rattle.sql_register.proofs.calls.SqlRegisterRegister.settle_pair.Goals as goal
@@ -26,7 +26,7 @@ invariant_of-self g c =
       tried_kept (state g.S.Store c.self.inside.conn) (state g.S.Store c.settle_pair-tried.new.conn) c.self.inside.course.stage c.told.new.self.stage c.self.inside.course.failures c.told.new.self.failures c.self.inside.limit c.settle_pair-tried.result c.told.result
           begun c.self.invariant.0 c.settle_pair-tried.ensures.trial c.told.ensures.told
           (λ clean is_open has desk inside none. ok_first _ _ c.settle_pair-tried.result (c.settle_pair-tried.ensures.changed clean is_open has desk (facts clean is_open) (can (was clean) is_open) inside none)),
-      c.self.invariant.1,
+      bounded_later old new c.self.inside.limit c.self.invariant.1 c.settle_pair-tried.ensures.trial.later,
       known_told (state g.S.Store c.self.inside.conn) (state g.S.Store c.settle_pair-tried.new.conn) c.self.inside.course.stage c.told.new.self.stage c.self.inside.course.failures c.told.new.self.failures c.self.inside.limit c.settle_pair-tried.result c.told.result c.told.ensures.told c.told.new.self.known
           c.settle_pair-tried.ensures.trial.opened c.told.ensures.nothing
           (λ clean is_open goes.

@@ -7,7 +7,7 @@ use Rattle.desk_register.specs.Changes.{CanSettle}
 use Rattle.sql_register.specs.Content.{content_in}
 use Rattle.sql_register.specs.Holds.{IsDesk}
 use Rattle.sql_register.specs.Kept.{Kept}
-use Rattle.sql_register.proofs.KnownLemmas.{begun_goes, known_told, ok_first, tries_known}
+use Rattle.sql_register.proofs.KnownLemmas.{begun_goes, known_told, ok_first, tries_known, bounded_later}
 use Rattle.sql_register.proofs.ReadLemmas.{was_clean}
 use Rattle.sql_register.proofs.ChangeLemmas.{tried_kept}
 use Rattle.sql_register.proofs.calls.SqlRegisterToldRegister.settle_told.Goals as goal
@@ -25,7 +25,7 @@ invariant_of-self g c =
       tried_kept old new c.self.inside.course.stage c.told.new.self.stage c.self.inside.course.failures c.told.new.self.failures c.self.inside.limit c.settle_told.result c.told.result
           begun c.self.invariant.0 c.settle_told.ensures.trial c.told.ensures.told
           (λ clean is_open has desk inside none. ok_first _ _ c.settle_told.result (c.settle_told.ensures.changed clean is_open has desk (number_of c.args._day) (can (was clean) is_open) (is (was clean) is_open) inside none)),
-      c.self.invariant.1,
+      bounded_later old new c.self.inside.limit c.self.invariant.1 c.settle_told.ensures.trial.later,
       known_told old new c.self.inside.course.stage c.told.new.self.stage c.self.inside.course.failures c.told.new.self.failures c.self.inside.limit c.settle_told.result c.told.result c.told.ensures.told c.told.new.self.known
           c.settle_told.ensures.trial.opened c.told.ensures.nothing
           (λ clean is_open goes.

@@ -1,0 +1,22 @@
+use Rattle.std.proofs.Common.{◌∙◌, ap, Option}
+use Rattle.std.specs.Prelude.{option_and_then}
+use Rattle.sqlite.specs.Held.{state}
+use Rattle.desk_rules.specs.History.{instructed}
+use Rattle.desk_rules.specs.declared.history.entry.Entry.{Entry}
+use Rattle.sql_tables.specs.Ends.{ForCause}
+use Rattle.sql_tables.proofs.ResultLemmas.{no_error, on_error}
+use Rattle.sql_register.specs.Content.{content_in}
+use Rattle.sql_register.proofs.looking.instruction.Goals as goal
+
+pub returns-in_err-found-clause-blame : goal.returns-in_err-found-clause-blame
+returns-in_err-found-clause-blame g c clean is_open has desk facts i is =
+    let s0 = state g.S.Store c.args.conn.now in
+    let e = c.in_err-found.field-0.0 in
+    on_error c.from_residual.result e (ForCause s0 (state g.S.Store c.entry.new.conn)) c.from_residual.ensures.1
+    (c.in_err-found.ensures.blame clean is_open has (content_in s0.now).register desk.entries desk.formed)
+
+pub returns-clause-blame : goal.returns-clause-blame
+returns-clause-blame g c clean is_open has desk facts i is =
+    let s0 = state g.S.Store c.args.conn.now in
+    let found = c.in_ok-found.ensures.value clean is_open has (content_in s0.now).register desk.entries facts in
+    no_error c.instructed_by.result (ForCause s0 (state g.S.Store c.entry.new.conn)) (c.instructed_by.ensures.all i (ap (λ (o : Option Entry). option_and_then instructed o) found ∙ is))
